@@ -1,0 +1,62 @@
+//! Numbers of economic operators.
+ghost use Rattle.std.specs.Prelude.{◌≡◌, ◌↔◌, IsTrue, Some, SomeIff};
+ghost use Rattle.td_base.specs.Eori.{IsEori};
+
+use std::fmt;
+use std::marker::Model;
+
+/// An EORI: two capital letters and 1 to 15 digits or capital letters. Contracts see it as its text.
+#[derive(Clone, Copy, Debug, PartialEq, Eq, PartialOrd, Ord)]
+pub struct Eori {
+    bytes: [u8; 17],
+    len: usize,
+}
+
+impl Model for Eori {
+    ghost use Rattle.std.specs.Prelude.{List, ℕ, take, length, replicate, ◌++◌, ◌-◌};
+    ghost use Rattle.td_base.specs.Eori.{IsKeptEori};
+
+    ghost Value = { List ℕ };
+
+    ghost view = { λ e. take e.len e.bytes };
+
+    ghost invariant = { λ e. IsKeptEori e.bytes e.len };
+
+    ghost inverse = { λ l. record { bytes = l ++ replicate (17 - length l) 0; len = length l } };
+
+    ghost use Rattle.td_base.specs.EoriKept.{kept_back};
+
+    ghost inverse_ok = { λ a h. kept_back a h };
+}
+
+impl Eori {
+    /// Reads exactly the texts of that form.
+    pub fn read(text: &[u8]) -> Option<Self>
+        ensures { SomeIff result (IsEori text.now) text.now }
+    {
+        if !is_eori(text) {
+            return None;
+        }
+        let mut bytes = [0; 17];
+        let len = text.len();
+        bytes[..len].copy_from_slice(text);
+        Some(Eori { bytes, len })
+    }
+
+    /// The text.
+    pub fn as_bytes(&self) -> &[u8]
+        ensures value { result.now ≡ self.now }
+        ensures form { IsEori self.now }
+    {
+        &self.bytes[..self.len]
+    }
+}
+
+fn is_eori(text: &[u8]) -> bool
+    ensures { IsTrue result ↔ IsEori text.now }
+{
+    text.len() >= 3
+        && text.len() <= 17
+        && text[..2].iter().all(|c| c.is_ascii_uppercase())
+        && text[2..].iter().all(|c| c.is_ascii_digit() || c.is_ascii_uppercase())
+}

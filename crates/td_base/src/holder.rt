@@ -1,0 +1,87 @@
+//! Numbers of holders.
+ghost use Rattle.std.specs.Prelude.{◌≡◌, ℕ, ◌+◌, ◌%◌, ◌≤◌, Some, SomeIff};
+ghost use Rattle.td_base.specs.Holder.{IsHolderNumber, IsHolderText, digits_value, holder_text};
+
+use std::fmt;
+use std::marker::Model;
+
+/// The number of a holder, 1 to 999999. Contracts see it as that number. It is printed in six digits.
+#[derive(Clone, Copy, Debug, PartialEq, Eq, PartialOrd, Ord)]
+pub struct HolderNo {
+    number: u32,
+}
+
+impl Model for HolderNo {
+    ghost Value = { ℕ };
+
+    ghost view = { λ h. h.number };
+
+    ghost invariant = { λ h. IsHolderNumber h.number };
+
+    ghost inverse = { λ n. record { number = n } };
+}
+
+impl HolderNo {
+    /// The holder of that number: `None` for 0, and above 999999.
+    pub fn new(number: u32) -> Option<Self>
+        ensures { SomeIff result (IsHolderNumber number) number }
+    {
+        if number >= 1 && number <= 999_999 {
+            Some(HolderNo { number })
+        } else {
+            None
+        }
+    }
+
+    /// The number.
+    pub fn number(self) -> u32
+        ensures value { result ≡ self }
+        ensures range { IsHolderNumber self }
+    {
+        self.number
+    }
+
+    /// Reads exactly six digits that aren't all 0.
+    pub fn read(text: &[u8]) -> Option<Self>
+        ensures { SomeIff result (IsHolderText text.now) (digits_value text.now) }
+    {
+        if text.len() != 6 || !text.iter().all(|c| c.is_ascii_digit()) {
+            return None;
+        }
+        let mut number: u32 = 0;
+        for c in text {
+            number = 10 * number + u32::from(*c - b'0');
+        }
+        HolderNo::new(number)
+    }
+}
+
+/// The text that is printed for a holder is read back as that holder.
+pub fn holder_reads_back(holder: HolderNo)
+    ensures form { IsHolderText (holder_text holder) }
+    ensures value { digits_value (holder_text holder) ≡ holder }
+{
+    let _number = holder.number;
+}
+
+// The last digit of a number.
+fn last_digit(n: u32) -> char
+    ensures { result ≡ 48 + n % 10 }
+{
+    char::from(b'0' + (n % 10) as u8)
+}
+
+impl fmt::Display for HolderNo {
+    ghost output = { λ h. Some (holder_text h) };
+
+    fn fmt<W: fmt::Write>(&self, f: &mut fmt::Formatter<W>) -> fmt::Result {
+        let n = self.number;
+        let a = last_digit(n / 100_000);
+        let b = last_digit(n / 10_000);
+        let c = last_digit(n / 1_000);
+        let d = last_digit(n / 100);
+        let e = last_digit(n / 10);
+        let g = last_digit(n);
+        write!(f, "{a}{b}{c}{d}{e}{g}")
+    }
+}

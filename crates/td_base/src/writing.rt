@@ -1,0 +1,26 @@
+//! All bytes to a writer.
+ghost use Rattle.std.specs.Prelude.{◌≡◌, ◌≤◌, ℕ, length, take, true, false};
+ghost use Rattle.std.specs.Io.KnownBytes.{Appends};
+ghost use Rattle.td_base.specs.Counted.{calls_of, has_failed, known_bytes, HasCalled};
+
+use crate::counted::Counted;
+use std::io::Write;
+
+/// Writes the bytes, and answers whether all of them were taken. Otherwise a write failed or took nothing,
+/// and those before it were taken.
+pub fn write_whole<W: Write>(writer: &mut Counted<W>, bytes: &[u8]) -> bool
+    ensures written { (n : ℕ) × (n ≤ length bytes.now)
+        × Appends (known_bytes W.contents writer.old) (known_bytes W.contents writer.new) (take n bytes.now)
+        × (result ≡ true → n ≡ length bytes.now) }
+    ensures failed { result ≡ false → has_failed writer.new ≡ true }
+    ensures called { result ≡ false → HasCalled (calls_of writer.old) (calls_of writer.new) }
+{
+    let mut sent = 0;
+    while sent < bytes.len() {
+        match writer.write(&bytes[sent..]) {
+            Ok(0) | Err(_) => return false,
+            Ok(n) => sent += n,
+        }
+    }
+    true
+}
