@@ -1,13 +1,14 @@
-// A library with one function.
+//! What is asked of the desk and what it says: commands, answers and refusals, the rows of one holder, and the verdict on a
+//! command over these rows. The model that the verdict is proved to meet stands in `specs/`.
 #![tactic(auto)]
 
-ghost use Rattle.std.specs.Prelude.{◌≡◌};
-ghost use Rattle.td_acts.specs.Echo.{echo_of};
+mod command;
+mod laws;
+mod rows;
+mod said;
+pub mod table;
 
-// The `ensures` clause is the contract: what `echo` returns is `echo_of` of its argument, a definition
-// in `specs/Echo.antt`, which a caller's clause can cite too.
-pub fn echo(x: usize) -> usize
-    ensures { result ≡ echo_of x }
-{
-    x
-}
+pub use command::{Command, Stamped, known, owner};
+pub use laws::{fresh_book_says_its_account, writes_what_is_accepted, writes_what_the_book_says};
+pub use rows::{Change, HolderRow, Loaded, Verdict};
+pub use said::{Answer, Refusal, Said};

@@ -1,0 +1,81 @@
+-- A holder's book: what was kept at the start, and the changes that were accepted since. Everything that a desk says of the
+-- holder is read from the book alone, from its beginning, in passes in which a later act overrides what earlier ones said.
+use Rattle.std.specs.Prelude.{◌≡◌, ℕ, ◌+◌, List, [], ◌∷◌, Option, Some, None}
+use Rattle.std.specs.Option.{option_map, option_map_or}
+use Rattle.td_acts.specs.declared.rows.HolderRow.{HolderRow}
+use Rattle.td_acts.specs.declared.command.Command.{Command}
+use Rattle.td_acts.specs.declared.command.Command.TheVariants.{Register, SeeHolder}
+use Rattle.td_acts.specs.Account.{Account}
+
+-- an accepted change and its moment
+pub record Act : Type 0 where
+  pub at : ℕ
+  pub command : Command
+
+pub record Book : Type 0 where
+  pub opening : Account
+  pub acts : List Act
+
+-- the EORI under which the command registers the holder, else the one known before
+abbrev pub eori_after : Option (List ℕ) → Command → Option (List ℕ)
+eori_after known (Register holder eori) = Some eori
+eori_after known (SeeHolder holder) = known
+
+-- the holder's EORI after all acts: none where nobody was registered
+abbrev pub eori_in : Option (List ℕ) → List Act → Option (List ℕ)
+eori_in known [] = known
+eori_in known (a ∷ acts) = eori_in (eori_after known a.command) acts
+
+-- the moment of the last act
+abbrev pub last_in : ℕ → List Act → ℕ
+last_in at [] = at
+last_in at (a ∷ acts) = last_in a.at acts
+
+-- how many guarantees the command opens
+abbrev pub openings : Command → ℕ
+openings (Register holder eori) = 0
+openings (SeeHolder holder) = 0
+
+-- how many movements the command declares
+abbrev pub declarations : Command → ℕ
+declarations (Register holder eori) = 0
+declarations (SeeHolder holder) = 0
+
+-- the serial that is reached after all acts, where each act uses up so many
+abbrev pub serial_in : (Command → ℕ) → ℕ → List Act → ℕ
+serial_in uses n [] = n
+serial_in uses n (a ∷ acts) = serial_in uses (n + uses a.command) acts
+
+abbrev pub eori_of : Book → Option (List ℕ)
+eori_of book = eori_in (option_map (λ (r : HolderRow). r.eori) book.opening.holder) book.acts
+
+-- the moment of the holder's last accepted change
+abbrev pub last_of : Book → ℕ
+last_of book = last_in (option_map_or (λ (r : HolderRow). r.last_at) book.opening.holder 0) book.acts
+
+-- the last serial of the holder's guarantees
+abbrev pub grn_count_of : Book → ℕ
+grn_count_of book = serial_in openings (option_map_or (λ (r : HolderRow). r.grn_count) book.opening.holder 0) book.acts
+
+-- the last serial of the holder's movements
+abbrev pub mrn_count_of : Book → ℕ
+mrn_count_of book = serial_in declarations (option_map_or (λ (r : HolderRow). r.mrn_count) book.opening.holder 0) book.acts
+
+-- the account of these parts
+abbrev pub account_made : ℕ → List ℕ → Option (List ℕ) → ℕ → ℕ → ℕ → Account
+account_made H country eori at guarantees movements = record {
+  country = country;
+  holder = option_map (λ e. record { holder = H; eori = e; last_at = at; grn_count = guarantees; mrn_count = movements }) eori;
+}
+
+-- what the book says of holder H
+abbrev pub account_of : ℕ → Book → Account
+account_of H book = account_made H book.opening.country (eori_of book) (last_of book) (grn_count_of book) (mrn_count_of book)
+
+-- the book that begins with an account
+abbrev pub fresh_book : Account → Book
+fresh_book account = record { opening = account; acts = [] }
+
+-- the book of a holder who isn't registered is empty: no change of that number was ever accepted
+abbrev pub IsBegun : Book → Type 0
+IsBegun book = eori_of book ≡ None → (book.acts ≡ []) × (book.opening.holder ≡ None)

@@ -1,0 +1,21 @@
+-- Commands: whose they are, and what their parts keep to.
+use Rattle.std.specs.Prelude.{ℕ, List, Option, Some, Bool, true, false}
+use Rattle.td_base.specs.Holder.{IsHolderNumber}
+use Rattle.td_base.specs.Eori.{IsEori}
+use Rattle.td_acts.specs.declared.command.Command.{Command}
+use Rattle.td_acts.specs.declared.command.Command.TheVariants.{Register, SeeHolder}
+
+-- The holder whose command it is, at a desk of that country: the holder field, else the owner of the reference that it names.
+abbrev pub owner_of : List ℕ → Command → Option ℕ
+owner_of country (Register holder eori) = Some holder
+owner_of country (SeeHolder holder) = Some holder
+
+-- the command changes something where it is answered; the others are views
+abbrev pub is_changing : Command → Bool
+is_changing (Register holder eori) = true
+is_changing (SeeHolder holder) = false
+
+-- its parts are in the ranges of their types
+abbrev pub IsProper : Command → Type 0
+IsProper (Register holder eori) = IsHolderNumber holder × IsEori eori
+IsProper (SeeHolder holder) = IsHolderNumber holder

@@ -1,0 +1,17 @@
+//! Laws of the model, as contracts of functions that do nothing.
+ghost use Rattle.td_acts.specs.Laws.{WritesWhatIsAccepted, WritesWhatTheBookSays, FreshBookSaysItsAccount};
+
+/// Something is written exactly where the model accepts a change.
+pub fn writes_what_is_accepted()
+    ensures { WritesWhatIsAccepted }
+{}
+
+/// What is written for a command turns the owner's account into the account of the owner's book after the command.
+pub fn writes_what_the_book_says()
+    ensures { WritesWhatTheBookSays }
+{}
+
+/// A book that begins with an account says that account.
+pub fn fresh_book_says_its_account()
+    ensures { FreshBookSaysItsAccount }
+{}

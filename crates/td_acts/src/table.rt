@@ -1,0 +1,91 @@
+//! The table of refusals and answers, over the rows of a command's owner: a function for each command.
+ghost use Rattle.std.specs.Prelude.{◌≡◌, ℕ, IfOk};
+ghost use Rattle.td_acts.specs.Deciding.{IsVerdict, IsVerdictAt};
+
+use crate::command::Command;
+use crate::rows::{Change, HolderRow, Loaded, Verdict};
+use crate::said::{Answer, Refusal, Said};
+use std::alloc::{AllocError, Global};
+use td_base::{Eori, HolderNo, Moment};
+
+/// The verdict on a command at a number of seconds since 1970, over what was loaded of its owner's rows. Where that is just
+/// what the verdict needs of the owner's account, it is the table's; else it is only some verdict. `AllocError`: want of memory.
+pub fn verdict(
+    alloc: Global,
+    loaded: &Loaded,
+    at: i64,
+    command: &Command,
+) -> Result<Verdict, AllocError>
+    ensures { IfOk result (IsVerdict loaded.now at command.now) }
+{
+    match Moment::new(at) {
+        Ok(at) => verdict_at(alloc, loaded, at, command),
+        Err(_) => Ok(refused(Refusal::ClockRange)),
+    }
+}
+
+fn verdict_at(
+    _alloc: Global,
+    loaded: &Loaded,
+    at: Moment,
+    command: &Command,
+) -> Result<Verdict, AllocError>
+    ensures { IfOk result (IsVerdictAt loaded.now at command.now) }
+{
+    match *command {
+        Command::Register { holder, eori } => Ok(register(loaded, at, holder, eori)),
+        Command::SeeHolder { holder } => Ok(see_holder(loaded, holder)),
+    }
+}
+
+fn register(loaded: &Loaded, at: Moment, holder: HolderNo, eori: Eori) -> Verdict
+    ensures { IsVerdictAt loaded.now at (Command.Register holder eori) result }
+{
+    if loaded.holder.is_some() {
+        return refused(Refusal::HolderKnown);
+    }
+    let row = HolderRow {
+        holder,
+        eori,
+        last_at: at,
+        grn_count: 0,
+        mrn_count: 0,
+    };
+    Verdict {
+        said: Said::Answered(holder_answer(&row)),
+        change: Change::Registered(row),
+    }
+}
+
+fn see_holder(loaded: &Loaded, holder: HolderNo) -> Verdict
+    ensures { (at : ℕ) → IsVerdictAt loaded.now at (Command.SeeHolder holder) result }
+{
+    match &loaded.holder {
+        None => refused(Refusal::NoHolder),
+        Some(row) => Verdict {
+            said: Said::Answered(holder_answer(row)),
+            change: Change::Nothing,
+        },
+    }
+}
+
+fn holder_answer(row: &HolderRow) -> Answer
+    ensures { result ≡ Answer.Holder row.now.holder row.now.eori row.now.grn_count row.now.mrn_count }
+{
+    Answer::Holder {
+        holder: row.holder,
+        eori: row.eori,
+        guarantees: row.grn_count,
+        movements: row.mrn_count,
+    }
+}
+
+fn refused(why: Refusal) -> Verdict
+    ensures said { result.said ≡ Said.Refused why }
+    ensures change { result.change ≡ Change.Nothing }
+{
+    Verdict {
+        said: Said::Refused(why),
+        change: Change::Nothing,
+    }
+}
