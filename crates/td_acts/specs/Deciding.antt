@@ -9,7 +9,7 @@ use Rattle.td_acts.specs.declared.command.Command.{Command}
 use Rattle.td_acts.specs.declared.command.Command.TheVariants.{Register, SeeHolder}
 use Rattle.td_acts.specs.Account.{Account}
 use Rattle.td_acts.specs.Table.{said, said_at}
-use Rattle.td_acts.specs.Acceptance.{is_accepted_in, is_accepted_at}
+use Rattle.td_acts.specs.Acceptance.{is_accepted_at}
 
 -- what was loaded is what the verdict on the command asks of the account
 pub record IsLoaded (account : Account) (command : Command) (loaded : Loaded) : Type 0 where

@@ -5,7 +5,7 @@ use Rattle.td_base.specs.Moment.{moment_of}
 use Rattle.td_acts.specs.declared.command.Command.{Command}
 use Rattle.td_acts.specs.declared.command.Stamped.{Stamped}
 use Rattle.td_acts.specs.declared.said.Said.{Said}
-use Rattle.td_acts.specs.Book.{Book, Act, account_of}
+use Rattle.td_acts.specs.Book.{Book, account_of}
 use Rattle.td_acts.specs.Table.{said}
 use Rattle.td_acts.specs.Acceptance.{is_accepted_at}
 

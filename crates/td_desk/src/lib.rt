@@ -1,13 +1,17 @@
-// A library with one function.
+//! The desk: its content, what it promises to weigh and to carry, the plain desk in memory, and runs of commands.
 #![tactic(auto)]
 
-ghost use Rattle.std.specs.Prelude.{◌≡◌};
-ghost use Rattle.td_desk.specs.Echo.{echo_of};
+mod decision;
+mod desk;
+mod fault;
+mod laws;
+mod plain;
+mod running;
 
-// The `ensures` clause is the contract: what `echo` returns is `echo_of` of its argument, a definition
-// in `specs/Echo.antt`, which a caller's clause can cite too.
-pub fn echo(x: usize) -> usize
-    ensures { result ≡ echo_of x }
-{
-    x
-}
+pub use decision::Decision;
+pub use desk::Desk;
+pub use fault::Fault;
+pub use laws::{agreeing_runs_tell_the_same, empty_desk_is_tied, fresh_books_are_tied};
+pub use plain::PlainDesk;
+pub use running::{Outcome, perform, run};
+pub use td_acts::{Answer, Change, Command, HolderRow, Loaded, Refusal, Said, Stamped, Verdict};

@@ -1,0 +1,96 @@
+-- What one more accepted change does to what a book says.
+use Rattle.std.proofs.Common.{◌≡◌, ℕ, ◌+◌, Bool, true, false, List, [], ◌∷◌, ◌++◌, Option, Some, None, refl, sym, ◌∙◌}
+use Rattle.std.proofs.lemmas.Bool.{false≢true}
+use Rattle.std.specs.Prelude.{IfSome, if◌then◌else◌}
+use Rattle.td_base.specs.Moment.{moment_of}
+use Rattle.td_acts.specs.declared.rows.HolderRow.{HolderRow}
+use Rattle.td_acts.specs.declared.command.Command.{Command}
+use Rattle.td_acts.specs.declared.command.Command.TheVariants.{Register, SeeHolder}
+use Rattle.td_acts.specs.declared.command.Stamped.{Stamped}
+use Rattle.td_acts.specs.declared.rows.Change.TheVariants as change
+use Rattle.td_acts.specs.Account.{Account, IsAccountOf}
+use Rattle.td_acts.specs.Book.{Book, Act, eori_after, eori_in, last_in, serial_in, openings, declarations, eori_of, last_of, grn_count_of, mrn_count_of, account_made, account_of, fresh_book, IsBegun}
+use Rattle.td_acts.specs.Commands.{owner_of}
+use Rattle.td_acts.specs.Acceptance.{is_accepted_at}
+use Rattle.td_acts.specs.Machine.{appended, book_after, book_after_at}
+use Rattle.td_acts.specs.Deciding.{decided, rows_written, change_in, applied}
+
+eori_in-append : (known : Option (List ℕ)) (acts : List Act) (a : Act) → eori_in known (acts ++ a ∷ []) ≡ eori_after (eori_in known acts) a.command
+eori_in-append known [] a = refl
+eori_in-append known (b ∷ acts) a = eori_in-append (eori_after known b.command) acts a
+
+last_in-append : (at : ℕ) (acts : List Act) (a : Act) → last_in at (acts ++ a ∷ []) ≡ a.at
+last_in-append at [] a = refl
+last_in-append at (b ∷ acts) a = last_in-append b.at acts a
+
+serial_in-append : (uses : Command → ℕ) (n : ℕ) (acts : List Act) (a : Act) → serial_in uses n (acts ++ a ∷ []) ≡ serial_in uses n acts + uses a.command
+serial_in-append uses n [] a = refl
+serial_in-append uses n (b ∷ acts) a = serial_in-append uses (n + uses b.command) acts a
+
+-- what the book with one more act says
+account_of-appended : (H : ℕ) (book : Book) (t : ℕ) (command : Command) → account_of H (appended book t command)
+    ≡ account_made H book.opening.country (eori_after (eori_of book) command) t (grn_count_of book + openings command) (mrn_count_of book + declarations command)
+account_of-appended H book t command =
+    let a : Act = record { at = t; command = command } in
+    rw (eori_in-append _ book.acts a, last_in-append _ book.acts a, serial_in-append openings _ book.acts a, serial_in-append declarations _ book.acts a) refl
+
+-- The parts of the account grow by the rows of an accepted command. Where nobody is registered, no serial was used.
+step_made : (H : ℕ) (country : List ℕ) (e : Option (List ℕ)) (at g m t : ℕ) (command : Command) → (e ≡ None → (g ≡ 0) × (m ≡ 0))
+    → owner_of country command ≡ Some H → is_accepted_at (account_made H country e at g m) t command ≡ true
+    → account_made H country (eori_after e command) t (g + openings command) (m + declarations command) ≡ applied (rows_written t command) (account_made H country e at g m)
+step_made H country None at g m t (Register h x) none own accepted =
+    let same : h ≡ H = cc in
+    let zero = none refl in
+    rw (same, zero.0, zero.1) refl
+step_made H country (Some e) at g m t (Register h x) none own accepted = absurd (false≢true accepted)
+step_made H country e at g m t (SeeHolder h) none own accepted = absurd (false≢true accepted)
+
+-- who isn't registered has used no serial
+none_used : (book : Book) → IsBegun book → eori_of book ≡ None → (grn_count_of book ≡ 0) × (mrn_count_of book ≡ 0)
+none_used book begun none = let h = begun none in (rw (h.0, h.1) refl, rw (h.0, h.1) refl)
+
+-- what the book with an accepted command says is the account with the rows of the command
+account_step : (H : ℕ) (book : Book) (t : ℕ) (command : Command) → IsBegun book → owner_of book.opening.country command ≡ Some H
+    → is_accepted_at (account_of H book) t command ≡ true → account_of H (appended book t command) ≡ applied (rows_written t command) (account_of H book)
+account_step H book t command begun own accepted =
+    account_of-appended H book t command
+    ∙ step_made H book.opening.country (eori_of book) (last_of book) (grn_count_of book) (mrn_count_of book) t command (none_used book begun) own accepted
+
+account_after_at : (H : ℕ) (book : Book) (m : Option ℕ) (command : Command) → IsBegun book → owner_of book.opening.country command ≡ Some H
+    → account_of H (book_after_at H book m command) ≡ applied (change_in m (account_of H book) command) (account_of H book)
+account_after_at H book None command begun own = refl
+account_after_at H book (Some t) command begun own = by_test (is_accepted_at (account_of H book) t command) refl
+  where
+    by_test : (b : Bool) → is_accepted_at (account_of H book) t command ≡ b → account_of H (if b then appended book t command else book) ≡ applied (if b then rows_written t command else change.Nothing) (account_of H book)
+    by_test true accepted = account_step H book t command begun own accepted
+    by_test false other = refl
+
+-- what the book says after a command is the account with what is written for it
+pub account_after : (H : ℕ) (book : Book) (s : Stamped) → IsBegun book → owner_of book.opening.country s.command ≡ Some H
+    → account_of H (book_after H book s) ≡ applied (decided (account_of H book) s.at s.command).change (account_of H book)
+account_after H book s begun own = account_after_at H book (moment_of s.at) s.command begun own
+
+-- who changes something is registered then
+registered_made : (H : ℕ) (country : List ℕ) (e : Option (List ℕ)) (at g m t : ℕ) (command : Command) → is_accepted_at (account_made H country e at g m) t command ≡ true → eori_after e command ≡ None → ⊥
+registered_made H country e at g m t (Register h x) accepted none = cc
+registered_made H country e at g m t (SeeHolder h) accepted none = false≢true accepted
+
+begun_after_at : (H : ℕ) (book : Book) (m : Option ℕ) (command : Command) → IsBegun book → IsBegun (book_after_at H book m command)
+begun_after_at H book None command begun = begun
+begun_after_at H book (Some t) command begun = by_test (is_accepted_at (account_of H book) t command) refl
+  where
+    by_test : (b : Bool) → is_accepted_at (account_of H book) t command ≡ b → IsBegun (if b then appended book t command else book)
+    by_test true accepted = λ none. absurd (registered_made H book.opening.country (eori_of book) (last_of book) (grn_count_of book) (mrn_count_of book) t command accepted (sym (eori_in-append _ book.acts (record { at = t; command = command })) ∙ none))
+    by_test false other = begun
+
+-- a book stays begun
+pub begun_after : (H : ℕ) (book : Book) (s : Stamped) → IsBegun book → IsBegun (book_after H book s)
+begun_after H book s begun = begun_after_at H book (moment_of s.at) s.command begun
+
+fresh_made : (H : ℕ) (country : List ℕ) (o : Option HolderRow) → IfSome o (λ row. row.holder ≡ H) → account_of H (fresh_book (record { country = country; holder = o })) ≡ record { country = country; holder = o }
+fresh_made H country None is = refl
+fresh_made H country (Some row) is = rw (← is) refl
+
+-- a book that begins with an account says that account
+pub account_fresh_book : (H : ℕ) (account : Account) → IsAccountOf H account → account_of H (fresh_book account) ≡ account
+account_fresh_book H account is = fresh_made H account.country account.holder is.number

@@ -1,0 +1,6 @@
+pub mod Keyed
+mod Places
+pub mod Fresh
+pub mod Turns
+pub mod Carrying
+pub mod Weighed

@@ -1,0 +1,123 @@
+-- What one more command adds to a run. No command and no list of rows is named here.
+use Rattle.std.proofs.Common.{◌≡◌, ◌≢◌, ℕ, Bool, true, false, List, [], ◌∷◌, ◌++◌, length, Option, Some, None, refl, sym, ◌∙◌, ap, subst, arith}
+use Rattle.std.specs.Prelude.{if◌then◌else◌}
+use Rattle.std.proofs.lemmas.Bool.Decides.{nat_tests}
+use borrow.Author.Tests.{eqb-true, eq-eqb, both_ways}
+use Rattle.std.proofs.lemmas.List.{append-nil, length-append}
+use Rattle.td_acts.specs.declared.command.Stamped.{Stamped}
+use Rattle.td_acts.specs.declared.said.Said.{Said}
+use Rattle.td_acts.specs.Account.{Account}
+use Rattle.td_acts.specs.Book.{Book, account_of, IsBegun}
+use Rattle.td_acts.specs.Commands.{owner_of}
+use Rattle.td_acts.specs.Table.{said}
+use Rattle.td_acts.specs.Machine.{verdict, book_after, machine_says, machine_book}
+use Rattle.td_acts.specs.Deciding.{decided, applied}
+use Rattle.td_acts.proofs.Growing.{account_after}
+use Rattle.td_acts.proofs.Machines.{machine_says-append, machine_book-append, machine_begun}
+use Rattle.td_desk.specs.declared.fault.Fault.{Fault}
+use Rattle.td_desk.specs.declared.running.Outcome.{Outcome}
+use Rattle.td_desk.specs.declared.running.Outcome.TheVariants as outcome
+use Rattle.td_desk.specs.Content.{Content, account_in, fresh}
+use Rattle.td_desk.specs.Weighing.{owner_account, account_for, Carries}
+use Rattle.td_desk.specs.Runs.{is_holder, heard, told, Performs, IsStep, IsRun}
+use Rattle.td_desk.proofs.Fresh.{account_fresh, begun_fresh}
+
+heard-append : (c : List ℕ) (H : ℕ) (list : List Stamped) (outcomes : List Outcome) (s : Stamped) (o : Outcome) → length outcomes ≡ length list → heard c H (list ++ s ∷ []) (outcomes ++ o ∷ []) ≡ heard c H list outcomes ++ heard c H (s ∷ []) (o ∷ [])
+heard-append c H [] [] s o same = refl
+heard-append c H [] (p ∷ outcomes) s o same = absurd (omega arith)
+heard-append c H (r ∷ list) [] s o same = absurd (omega arith)
+heard-append c H (r ∷ list) (outcome.Said words ∷ outcomes) s o same = grind (arith, nat_tests, heard-append c H list outcomes s o (omega arith))
+heard-append c H (r ∷ list) (outcome.Failed fault ∷ outcomes) s o same = heard-append c H list outcomes s o (omega arith)
+
+told-append : (c : List ℕ) (H : ℕ) (list : List Stamped) (outcomes : List Outcome) (s : Stamped) (o : Outcome) → length outcomes ≡ length list → told c H (list ++ s ∷ []) (outcomes ++ o ∷ []) ≡ told c H list outcomes ++ told c H (s ∷ []) (o ∷ [])
+told-append c H [] [] s o same = refl
+told-append c H [] (p ∷ outcomes) s o same = absurd (omega arith)
+told-append c H (r ∷ list) [] s o same = absurd (omega arith)
+told-append c H (r ∷ list) (outcome.Said words ∷ outcomes) s o same = grind (arith, nat_tests, told-append c H list outcomes s o (omega arith))
+told-append c H (r ∷ list) (outcome.Failed fault ∷ outcomes) s o same = told-append c H list outcomes s o (omega arith)
+
+is_holder_true : (H : ℕ) (o : Option ℕ) → is_holder H o ≡ true → o ≡ Some H
+is_holder_true H None h = cc
+is_holder_true H (Some owner) h = ap (λ n. Some n) (eqb-true owner H h)
+
+is_holder_false : (H : ℕ) (o : Option ℕ) → is_holder H o ≡ false → o ≢ Some H
+is_holder_false H None h = λ e. cc
+is_holder_false H (Some owner) h = λ e. let same : owner ≡ H = cc in both_ways _ h (eq-eqb owner H same)
+
+-- the books after one more answered command
+module _ (c : List ℕ) (books : ℕ → Book) (list : List Stamped) (outcomes : List Outcome) (s : Stamped) (old new : Content) (runs : IsRun c books list outcomes old) where
+  -- the book of H so far
+  book : ℕ → Book
+  book H = machine_book H (books H) (heard c H list outcomes)
+
+  -- the owner at the desk's country
+  owner : (H : ℕ) → owner_of c s.command ≡ Some H → owner_of old.country s.command ≡ Some H
+  owner H own = rw runs.country_stays own
+
+  -- H's fresh book says what H's book says
+  same_account : (H : ℕ) → account_of H (fresh H old) ≡ account_of H (book H)
+  unfolding book
+  same_account H = account_fresh H old ∙ runs.tied.each H
+
+  -- the owner's answer is that of the owner's book
+  said_by_book : (H : ℕ) → owner_of c s.command ≡ Some H → said (owner_account old s.command) s.at s.command ≡ verdict H (book H) s.at s.command
+  said_by_book H own =
+      ap (λ o. said (account_for o old) s.at s.command) (owner H own) ∙ ap (λ (a : Account). said a s.at s.command) (same_account H)
+
+  -- the owner's rows are those of the owner's book after the command
+  own_after : (H : ℕ) → owner_of c s.command ≡ Some H → Carries old s new → account_in H new ≡ account_of H (book_after H (book H) s)
+  unfolding book
+  own_after H own carries =
+      let e = same_account H in
+      let country : (book H).opening.country ≡ old.country = ap (λ (a : Account). a.country) (sym e) in
+      carries.own H (owner H own)
+      ∙ account_after H (fresh H old) s (begun_fresh H old) (owner H own)
+      ∙ ap (λ (a : Account). applied (decided a s.at s.command).change a) e
+      ∙ sym (account_after H (book H) s (runs.tied.begun H) (rw country (owner H own)))
+
+  answers_failed : (H : ℕ) (f : Fault) → told c H (list ++ s ∷ []) (outcomes ++ outcome.Failed f ∷ []) ≡ machine_says H (books H) (heard c H (list ++ s ∷ []) (outcomes ++ outcome.Failed f ∷ []))
+  answers_failed H f = rw (told-append c H list outcomes s (outcome.Failed f) runs.one_each, heard-append c H list outcomes s (outcome.Failed f) runs.one_each, append-nil, append-nil) (runs.answers H)
+
+  each_failed : (H : ℕ) (f : Fault) → new ≡ old → account_in H new ≡ account_of H (machine_book H (books H) (heard c H (list ++ s ∷ []) (outcomes ++ outcome.Failed f ∷ [])))
+  each_failed H f same = rw (same, heard-append c H list outcomes s (outcome.Failed f) runs.one_each, append-nil) (runs.tied.each H)
+
+  answers_by : (H : ℕ) (words : Said) (b : Bool) → is_holder H (owner_of c s.command) ≡ b → words ≡ said (owner_account old s.command) s.at s.command → told c H list outcomes ++ (if b then words ∷ [] else []) ≡ machine_says H (books H) (heard c H list outcomes ++ (if b then s ∷ [] else []))
+  unfolding book
+  answers_by H words true own says =
+      ap (λ l. l ++ words ∷ []) (runs.answers H)
+      ∙ ap (λ x. machine_says H (books H) (heard c H list outcomes) ++ x ∷ []) (says ∙ said_by_book H (is_holder_true H (owner_of c s.command) own))
+      ∙ sym (machine_says-append H (books H) (heard c H list outcomes) s)
+  answers_by H words false other says = rw (append-nil, append-nil) (runs.answers H)
+
+  each_by : (H : ℕ) (b : Bool) → is_holder H (owner_of c s.command) ≡ b → Carries old s new → account_in H new ≡ account_of H (machine_book H (books H) (heard c H list outcomes ++ (if b then s ∷ [] else [])))
+  unfolding book
+  each_by H true own carries = own_after H (is_holder_true H (owner_of c s.command) own) carries ∙ ap (account_of H) (sym (machine_book-append H (books H) (heard c H list outcomes) s))
+  each_by H false other carries = rw append-nil (carries.others H (λ own. is_holder_false H (owner_of c s.command) other (rw (← runs.country_stays) own)) ∙ runs.tied.each H)
+
+  -- a run goes on by one command
+  pub run_more : ((H : ℕ) → IsBegun (books H)) → (o : Outcome) → Performs old s o new → IsRun c books (list ++ s ∷ []) (outcomes ++ o ∷ []) new
+  run_more begun (outcome.Failed f) same = record {
+    one_each = simp length-append (omega (arith, runs.one_each));
+    answers = λ H. answers_failed H f;
+    country_stays = rw same runs.country_stays;
+    sound = rw same runs.sound;
+    tied = record { each = λ H. each_failed H f same; begun = λ H. machine_begun H (books H) (heard c H (list ++ s ∷ []) (outcomes ++ outcome.Failed f ∷ [])) (begun H) };
+  }
+  run_more begun (outcome.Said words) performs = record {
+    one_each = simp length-append (omega (arith, runs.one_each));
+    answers = λ H. rw (told-append c H list outcomes s (outcome.Said words) runs.one_each, heard-append c H list outcomes s (outcome.Said words) runs.one_each) (answers_by H words (is_holder H (owner_of c s.command)) refl performs.0);
+    country_stays = performs.1.country ∙ runs.country_stays;
+    sound = performs.1.sound;
+    tied = record { each = λ H. rw (heard-append c H list outcomes s (outcome.Said words) runs.one_each) (each_by H (is_holder H (owner_of c s.command)) refl performs.1); begun = λ H. machine_begun H (books H) (heard c H (list ++ s ∷ []) (outcomes ++ outcome.Said words ∷ [])) (begun H) };
+  }
+
+-- the same at a desk that may be shut, where rows is the content up to the shutting
+pub run_on : (c : List ℕ) (books : ℕ → Book) (list : List Stamped) (outcomes : List Outcome) (s : Stamped) (rows old new : Content) (was_live is_live : Type 0)
+    → IsRun c books list outcomes rows → (was_live → old ≡ rows) → (is_live → was_live) → ((H : ℕ) → IsBegun (books H)) → (o : Outcome)
+    → IsStep was_live is_live old s o new
+    → (content : Content) × IsRun c books (list ++ s ∷ []) (outcomes ++ o ∷ []) content × (is_live → new ≡ content)
+run_on c books list outcomes s rows old new was_live is_live runs same back begun (outcome.Said words) step =
+    let at_old : IsRun c books list outcomes old = subst (λ content. IsRun c books list outcomes content) (sym (same step.0)) runs in
+    (new, run_more c books list outcomes s old new at_old begun (outcome.Said words) (step.2 at_old.sound), λ live. refl)
+run_on c books list outcomes s rows old new was_live is_live runs same back begun (outcome.Failed f) step =
+    (rows, run_more c books list outcomes s rows rows runs begun (outcome.Failed f) refl, λ live. step live ∙ same (back live))

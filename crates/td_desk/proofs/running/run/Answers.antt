@@ -1,0 +1,22 @@
+use Rattle.std.proofs.Common.{ap, ◌++◌, ◌∷◌, [], take, arith, ◌+◌, ◌≡◌, ◌∙◌, sym}
+use Rattle.std.proofs.lemmas.List.{take_more}
+use Rattle.std.proofs.lemmas.Grind.{common_steps}
+use Rattle.td_desk.proofs.Turns.{run_on}
+use Rattle.td_desk.proofs.running.run.Goals as goal
+
+pub loop-stamped-preserved : goal.loop-stamped-preserved
+loop-stamped-preserved g c =
+    let is_live = g.D.Desk.is_live in
+    let content = g.D.Desk.content in
+    let before = take c.loop-stamped.stamped-index c.args.list.now in
+    let more : take (c.loop-stamped.stamped-index + 1) c.args.list.now ≡ before ++ c.stamped-item.result ∷ [] =
+    take_more c.args.list.now c.loop-stamped.stamped-index c.stamped-item.result c.loop-stamped-test.true ∙ ap (λ s. before ++ s ∷ []) (sym c.stamped-item.is) in
+    record {
+      room = grind (arith, common_steps);
+      one_each = grind (arith, common_steps);
+      clean = λ h. c.loop-stamped.invariant.clean (c.perform-outcome.ensures.clean h);
+      live = λ h now. c.loop-stamped.invariant.live (c.perform-outcome.ensures.clean h) (c.perform-outcome.ensures.live h now);
+      runs = λ h was_live sound books tied.
+          let was = c.loop-stamped.invariant.runs (c.perform-outcome.ensures.clean h) was_live sound books tied in
+          rw (more, c.push_reserved.ensures.items) (run_on (content c.args.desk.now).country books before c.loop-stamped.outcomes.items c.stamped-item.result was.0 (content c.loop-stamped.desk) (content c.perform-outcome.new.desk) (is_live c.loop-stamped.desk) (is_live c.perform-outcome.new.desk) was.1 was.2 (c.perform-outcome.ensures.live h) tied.begun c.perform-outcome.result (c.perform-outcome.ensures.performs h));
+    }

@@ -1,0 +1,20 @@
+use Rattle.std.proofs.Common.{◌≡◌, ℕ, ◌≤◌, length, take, vec_len}
+use Rattle.std.specs.Prelude.{vec_capacity}
+use Rattle.td_acts.specs.Book.{Book}
+use Rattle.td_desk.specs.Content.{Content, IsSound}
+use Rattle.td_desk.specs.Runs.{IsTied, IsRun}
+use Rattle.td_desk.proofs.running.run.Given as goal
+
+abbrev pub invariant-loop-stamped : goal.invariant-loop-stamped
+invariant-loop-stamped g l =
+    let is_clean = g.D.Desk.is_clean in
+    let is_live = g.D.Desk.is_live in
+    let content = g.D.Desk.content in
+    record {
+      room : length l.list ≤ vec_capacity l.outcomes;
+      one_each : vec_len l.outcomes ≡ l.stamped-index;
+      clean : is_clean l.desk → is_clean l.fn.desk;
+      live : is_clean l.desk → is_live l.desk → is_live l.fn.desk;
+      runs : is_clean l.desk → is_live l.fn.desk → IsSound (content l.fn.desk) → (books : ℕ → Book) → IsTied (content l.fn.desk) books →
+          (c : Content) × IsRun (content l.fn.desk).country books (take l.stamped-index l.list) l.outcomes.items c × (is_live l.desk → content l.desk ≡ c);
+    }

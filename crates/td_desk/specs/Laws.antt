@@ -1,0 +1,26 @@
+-- Laws of contents, books and runs.
+use Rattle.std.specs.Prelude.{◌≡◌, ℕ, List}
+use Rattle.td_base.specs.Country.{IsCountry}
+use Rattle.td_acts.specs.declared.command.Stamped.{Stamped}
+use Rattle.td_acts.specs.Account.{empty_account}
+use Rattle.td_acts.specs.Book.{Book, fresh_book}
+use Rattle.td_desk.specs.declared.running.Outcome.{Outcome}
+use Rattle.td_desk.specs.Content.{Content, fresh, IsSound, empty_content}
+use Rattle.td_desk.specs.Runs.{heard, told, IsTied, IsRun}
+
+-- an empty desk is sound, and tied to empty books
+abbrev pub EmptyDeskIsTied : Type 0
+EmptyDeskIsTied = (country : List ℕ) → IsCountry country → IsSound (empty_content country) × IsTied (empty_content country) (λ H. fresh_book (empty_account country))
+
+-- every content is tied to the books that begin with it
+abbrev pub FreshBooksAreTied : Type 0
+FreshBooksAreTied = (rows : Content) → IsTied rows (λ H. fresh H rows)
+
+-- The headline. Two runs at desks of one country, from starts that are equal for H and as different as one likes for all others: where
+-- H's parts of the two lists, moments included and failed calls left out, are equal, H was told the same.
+abbrev pub AgreeingRunsTellTheSame : Type 0
+AgreeingRunsTellTheSame =
+    (country : List ℕ) (H : ℕ) (books others : ℕ → Book) (list other_list : List Stamped) (outcomes other_outcomes : List Outcome) (end other_end : Content)
+    → IsRun country books list outcomes end → IsRun country others other_list other_outcomes other_end
+    → books H ≡ others H → heard country H list outcomes ≡ heard country H other_list other_outcomes
+    → told country H list outcomes ≡ told country H other_list other_outcomes

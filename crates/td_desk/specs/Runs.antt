@@ -1,0 +1,54 @@
+-- A run of commands, as each holder sees it.
+use Rattle.std.specs.Prelude.{◌≡◌, ℕ, ◌==◌, Bool, false, List, [], ◌∷◌, Option, Some, None, length, if◌then◌else◌}
+use Rattle.td_acts.specs.declared.command.Stamped.{Stamped}
+use Rattle.td_acts.specs.declared.said.Said.{Said}
+use Rattle.td_acts.specs.Book.{Book, account_of, IsBegun}
+use Rattle.td_acts.specs.Commands.{owner_of}
+use Rattle.td_acts.specs.Table.{said}
+use Rattle.td_acts.specs.Machine.{machine_says, machine_book}
+use Rattle.td_desk.specs.declared.running.Outcome.{Outcome}
+use Rattle.td_desk.specs.declared.running.Outcome.TheVariants as outcome
+use Rattle.td_desk.specs.Content.{Content, account_in, IsSound}
+use Rattle.td_desk.specs.Weighing.{owner_account, Carries}
+
+abbrev pub is_holder : ℕ → Option ℕ → Bool
+is_holder H None = false
+is_holder H (Some owner) = owner == H
+
+-- H's commands that did not fail, in order: H's part of the list
+abbrev pub heard : List ℕ → ℕ → List Stamped → List Outcome → List Stamped
+heard country H [] outcomes = []
+heard country H (s ∷ list) [] = []
+heard country H (s ∷ list) (outcome.Said said ∷ outcomes) = if is_holder H (owner_of country s.command) then s ∷ heard country H list outcomes else heard country H list outcomes
+heard country H (s ∷ list) (outcome.Failed fault ∷ outcomes) = heard country H list outcomes
+
+-- what was said to them
+abbrev pub told : List ℕ → ℕ → List Stamped → List Outcome → List Said
+told country H [] outcomes = []
+told country H (s ∷ list) [] = []
+told country H (s ∷ list) (outcome.Said said ∷ outcomes) = if is_holder H (owner_of country s.command) then said ∷ told country H list outcomes else told country H list outcomes
+told country H (s ∷ list) (outcome.Failed fault ∷ outcomes) = told country H list outcomes
+
+-- Each holder's rows are what the holder's book says. A number that isn't registered has an empty book, and no rows.
+pub record IsTied (rows : Content) (books : ℕ → Book) : Type 0 where
+  pub each : (H : ℕ) → account_in H rows ≡ account_of H (books H)
+  pub begun : (H : ℕ) → IsBegun (books H)
+
+-- the outcome of one command, and the content after it: what is said is the model's verdict, and a failure changes nothing
+abbrev pub Performs : Content → Stamped → Outcome → Content → Type 0
+Performs old s (outcome.Said words) new = (words ≡ said (owner_account old s.command) s.at s.command) × Carries old s new
+Performs old s (outcome.Failed fault) new = new ≡ old
+
+-- The same at a desk that a fault may shut: an answer shows that the desk was live and is; a failure leaves the content of a live one.
+abbrev pub IsStep : Type 0 → Type 0 → Content → Stamped → Outcome → Content → Type 0
+IsStep was_live is_live old s (outcome.Said words) new = was_live × is_live × (IsSound old → Performs old s (outcome.Said words) new)
+IsStep was_live is_live old s (outcome.Failed fault) new = is_live → new ≡ old
+
+-- To each holder at once, what was said is what the holder's own machine says to the holder's part of the list; in the end the
+-- content is sound, and tied to the books that the machines end with.
+pub record IsRun (country : List ℕ) (books : ℕ → Book) (list : List Stamped) (outcomes : List Outcome) (new : Content) : Type 0 where
+  pub one_each : length outcomes ≡ length list
+  pub answers : (H : ℕ) → told country H list outcomes ≡ machine_says H (books H) (heard country H list outcomes)
+  pub country_stays : new.country ≡ country
+  pub sound : IsSound new
+  pub tied : IsTied new (λ H. machine_book H (books H) (heard country H list outcomes))
