@@ -7,6 +7,8 @@ mod fault;
 mod laws;
 mod plain;
 mod running;
+#[cfg(test)]
+mod tests;
 
 pub use decision::Decision;
 pub use desk::Desk;

@@ -34,7 +34,7 @@ impl PlainDesk {
     }
 
     // What the verdict on a command needs: the rows of its owner, or none.
-    fn load(&self, holder: Option<HolderNo>) -> Loaded
+    pub(crate) fn load(&self, holder: Option<HolderNo>) -> Loaded
         ensures country { result.country ≡ self.now.country }
         ensures owned { (H : ℕ) → holder ≡ Some H → result.holder ≡ holder_in H self.now.holders.items }
         ensures unowned { holder ≡ None → result.holder ≡ None }
@@ -69,7 +69,7 @@ impl PlainDesk {
     }
 
     // Writes the rows of a change, or nothing where there is no room for them.
-    fn apply(&mut self, change: Change) -> Result<(), AllocError>
+    pub(crate) fn apply(&mut self, change: Change) -> Result<(), AllocError>
         ensures ok { OnOk result (rows_in self.new ≡ changed change (rows_in self.old)) }
         ensures err { OnErr result (HasSameRows self.old self.new) }
         ensures quiet { change ≡ Change.Nothing → IsOk result }

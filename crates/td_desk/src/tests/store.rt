@@ -1,0 +1,162 @@
+//! A desk over a store that a fault may shut, as a desk over a file is.
+ghost use Rattle.std.specs.Prelude.{◌≡◌, ℕ, true, IfOk, OnOk, OnErr, IsTrue};
+ghost use Rattle.td_acts.specs.Book.{Book};
+ghost use Rattle.td_desk.specs.Content.{Content, IsSound, holder_in, changed};
+ghost use Rattle.td_desk.specs.Runs.{IsTied, IsRun};
+
+use crate::{Decision, Desk, Fault, Outcome, PlainDesk, run};
+use std::alloc::{AllocError, Global};
+use td_acts::table::verdict;
+use td_acts::{Change, Command, Loaded, Said, Stamped, Verdict, known, owner};
+use td_base::{Country, HolderNo};
+
+/// A store that may fail, that may shut as it fails, and that may have been tampered with.
+pub trait Store: Drop {
+    /// It returned what was written, and nobody else wrote.
+    ghost is_kept: { Self → Type 0 };
+
+    /// No fault has shut it.
+    ghost is_open: { Self → Type 0 };
+
+    /// Its rows, while it is open.
+    ghost rows: { Self → Content };
+
+    fn country(&self) -> Country
+        ensures { is_kept self.now → is_open self.now → result ≡ (rows self.now).country };
+
+    /// What a verdict needs of a holder's rows, or of none.
+    fn load(&mut self, holder: Option<HolderNo>) -> Result<Loaded, Fault>
+        ensures kept { is_kept self.new → is_kept self.old }
+        ensures open { is_kept self.new → is_open self.new → is_open self.old }
+        ensures shown { is_kept self.new → OnOk result (is_open self.old × is_open self.new) }
+        ensures same { is_kept self.new → is_open self.new → rows self.new ≡ rows self.old }
+        ensures country { is_kept self.new → is_open self.old → IfOk result (λ l. l.country ≡ (rows self.old).country) }
+        ensures owned { is_kept self.new → is_open self.old → IfOk result (λ l. (H : ℕ) → holder ≡ Some H → l.holder ≡ holder_in H (rows self.old).holders) }
+        ensures unowned { IfOk result (λ l. holder ≡ None → l.holder ≡ None) };
+
+    /// A failure leaves the rows, or shuts the store.
+    fn write(&mut self, change: Change) -> Result<(), Fault>
+        ensures kept { is_kept self.new → is_kept self.old }
+        ensures open { is_kept self.new → is_open self.new → is_open self.old }
+        ensures shown { is_kept self.new → OnOk result (is_open self.old × is_open self.new) }
+        ensures written { is_kept self.new → is_open self.new → OnOk result (rows self.new ≡ changed change (rows self.old)) }
+        ensures err { is_kept self.new → is_open self.new → OnErr result (rows self.new ≡ rows self.old) };
+}
+
+/// A desk over a store.
+#[derive(Drop)]
+pub struct StoreDesk<S: Store> {
+    store: S,
+}
+
+impl<S: Store> StoreDesk<S> {
+    pub fn new(store: S) -> StoreDesk<S>
+        ensures { result.store ≡ store }
+    {
+        StoreDesk { store }
+    }
+}
+
+impl<S: Store> Desk for StoreDesk<S> {
+    ghost content = { λ d. S.rows d.store };
+
+    ghost is_clean = { λ d. S.is_kept d.store };
+
+    ghost is_live = { λ d. S.is_open d.store };
+
+    ghost has_store = { Unit {0} };
+
+    fn country(&self) -> Country {
+        self.store.country()
+    }
+
+    fn weigh(&mut self, alloc: Global, at: i64, command: &Command) -> Result<Decision, Fault> {
+        let _known = known(command);
+        let holder = owner(self.store.country(), command);
+        let loaded = self.store.load(holder)?;
+        let verdict = verdict(alloc, &loaded, at, command)?;
+        Ok(Decision::new(verdict))
+    }
+
+    fn carry(&mut self, _alloc: Global, decision: Decision) -> Result<Said, Fault> {
+        let Verdict { said, change } = decision.into_verdict();
+        if let Change::Nothing = change {
+            return Ok(said);
+        }
+        self.store.write(change)?;
+        Ok(said)
+    }
+}
+
+/// A run over a store that may shut: the run's theorem, at this desk.
+pub fn run_stored<S: Store>(
+    alloc: Global,
+    desk: &mut StoreDesk<S>,
+    list: &[Stamped],
+) -> Result<Vec<Outcome>, AllocError>
+    ensures private { S.is_kept desk.new.store → S.is_open desk.old.store → IsSound (S.rows desk.old.store) → (books : ℕ → Book) → IsTied (S.rows desk.old.store) books →
+        IfOk result (λ outcomes. (c : Content) × IsRun (S.rows desk.old.store).country books list.now outcomes.items c × (S.is_open desk.new.store → S.rows desk.new.store ≡ c)) }
+{
+    run(alloc, desk, list)
+}
+
+/// A store in memory that serves so many calls, and shuts at the next.
+#[derive(Drop)]
+pub struct FaultyStore {
+    rows: PlainDesk,
+    good_calls: u32,
+    open: bool,
+}
+
+impl FaultyStore {
+    pub fn new(alloc: Global, country: Country, good_calls: u32) -> Result<Self, AllocError> {
+        Ok(FaultyStore {
+            rows: PlainDesk::new(alloc, country)?,
+            good_calls,
+            open: true,
+        })
+    }
+
+    // Whether this call is served; else the store is shut.
+    fn serve(&mut self) -> bool
+        ensures same { self.new.rows ≡ self.old.rows }
+        ensures open { self.new.open ≡ result }
+        ensures was_open { IsTrue result → IsTrue self.old.open }
+    {
+        self.open = self.open && self.good_calls > 0;
+        if self.open {
+            self.good_calls -= 1;
+        }
+        self.open
+    }
+}
+
+impl Store for FaultyStore {
+    ghost use Rattle.std.specs.Prelude.{IsTrue};
+    ghost use Rattle.td_desk.specs.Plain.{rows_in};
+
+    ghost is_kept = { λ _. Unit {0} };
+
+    ghost is_open = { λ s. IsTrue s.open };
+
+    ghost rows = { λ s. rows_in s.rows };
+
+    fn country(&self) -> Country {
+        self.rows.country()
+    }
+
+    fn load(&mut self, holder: Option<HolderNo>) -> Result<Loaded, Fault> {
+        if !self.serve() {
+            return Err(Fault::Store);
+        }
+        Ok(self.rows.load(holder))
+    }
+
+    fn write(&mut self, change: Change) -> Result<(), Fault> {
+        if !self.serve() {
+            return Err(Fault::Store);
+        }
+        self.rows.apply(change)?;
+        Ok(())
+    }
+}
