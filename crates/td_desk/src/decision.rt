@@ -23,7 +23,7 @@ impl Decision {
     pub fn new(verdict: Verdict) -> Self
         ensures { result ≡ verdict }
     {
-        Decision { verdict }
+        Self { verdict }
     }
 
     /// What is said to the command once the decision is carried.
