@@ -1,0 +1,95 @@
+//! The jobs of the program.
+use crate::clock::{FixedClock, MachineClock};
+use crate::words::{Job, NoJob, read_words};
+use std::alloc::Global;
+use std::io;
+use std::io::{ErrorKind, Read, Write};
+use td_base::{Counted, Country, write_whole};
+use td_desk::PlainDesk;
+use td_http::{Clock, Service, StreamEnd, serve_stream};
+
+/// The status of a job that is done.
+const DONE: u8 = 0;
+/// The status of a job that a fault ended.
+const FAULT: u8 = 1;
+/// The status of wrong words.
+const WRONG_WORDS: u8 = 2;
+
+/// Does what the words ask for, and gives the program's status. The first word is the program's name; replies go to `out`, and the
+/// text of wrong words, or one line for a fault, to `errors`. A text that can't be written is dropped.
+pub fn perform<R: Read, W: Write, E: Write>(
+    rt: &(impl AllocGlobal + std::rt::Clock),
+    words: &[String],
+    input: &mut Counted<R>,
+    out: &mut Counted<W>,
+    errors: &mut Counted<E>,
+) -> u8 {
+    let alloc = rt.alloc();
+    match read_words(alloc, words) {
+        Ok(Job::Pipe { country, at: Some(at) }) => {
+            let end = pipe(alloc, country, FixedClock { at }, input, out);
+            status_of(end, errors)
+        }
+        Ok(Job::Pipe { country, at: None }) => {
+            let end = pipe(alloc, country, MachineClock { rt }, input, out);
+            status_of(end, errors)
+        }
+        Err(NoJob::Help(text)) => told(out, &text),
+        Err(NoJob::Wrong(text)) => {
+            let _told = write_whole(errors, text.as_bytes());
+            WRONG_WORDS
+        }
+        Err(NoJob::NoMemory) => fault(errors, "transit-desk: no-memory\n"),
+    }
+}
+
+/// The status where the words themselves couldn't be read: there was no memory for them, or they aren't text.
+pub fn unread_words<E: Write>(error: &io::Error, errors: &mut Counted<E>) -> u8 {
+    if error.kind() == ErrorKind::OutOfMemory {
+        return fault(errors, "transit-desk: no-memory\n");
+    }
+    let _told = write_whole(errors, b"error: the words of the command line aren't UTF-8 text\n");
+    WRONG_WORDS
+}
+
+// Help that was asked for: it is a fault if it can't be written.
+fn told<W: Write>(out: &mut Counted<W>, text: &String) -> u8 {
+    if write_whole(out, text.as_bytes()) {
+        DONE
+    } else {
+        FAULT
+    }
+}
+
+// Says a fault, and gives its status.
+fn fault<E: Write>(errors: &mut Counted<E>, line: &str) -> u8 {
+    let _said = write_whole(errors, line.as_bytes());
+    FAULT
+}
+
+/// Serves one stream of requests on a new desk in memory. `None`: there was no memory for the desk.
+fn pipe<R: Read, W: Write, C: Clock + Drop>(
+    alloc: Global,
+    country: Country,
+    mut clock: C,
+    input: &mut Counted<R>,
+    out: &mut Counted<W>,
+) -> Option<StreamEnd> {
+    let desk = PlainDesk::new(alloc, country).ok()?;
+    let mut service = Service::new(desk);
+    Some(serve_stream(alloc, input, out, &mut clock, &mut service))
+}
+
+// The status of a stream that ended so; how it ended is said unless it is done.
+fn status_of<E: Write>(end: Option<StreamEnd>, errors: &mut Counted<E>) -> u8 {
+    match end {
+        Some(StreamEnd::Closed | StreamEnd::Asked | StreamEnd::Served) => DONE,
+        Some(StreamEnd::Refused) => fault(errors, "transit-desk: stream refused\n"),
+        Some(StreamEnd::Cut) => fault(errors, "transit-desk: stream cut\n"),
+        Some(StreamEnd::ReadsSpent) => fault(errors, "transit-desk: stream reads-spent\n"),
+        Some(StreamEnd::ReadFault) => fault(errors, "transit-desk: stream read-fault\n"),
+        Some(StreamEnd::WriteFault) => fault(errors, "transit-desk: stream write-fault\n"),
+        Some(StreamEnd::Failed) => fault(errors, "transit-desk: stream failed\n"),
+        None => fault(errors, "transit-desk: no-memory\n"),
+    }
+}
