@@ -1,13 +1,19 @@
-// A library with one function.
+//! Requests and replies as bytes, and streams of them.
 #![tactic(auto)]
 
-ghost use Rattle.std.specs.Prelude.{◌≡◌};
-ghost use Rattle.td_http.specs.Echo.{echo_of};
+mod clock;
+mod framing;
+mod input;
+mod next;
+mod reading;
+mod reply;
+mod request;
+mod sending;
+mod stream;
 
-// The `ensures` clause is the contract: what `echo` returns is `echo_of` of its argument, a definition
-// in `specs/Echo.antt`, which a caller's clause can cite too.
-pub fn echo(x: usize) -> usize
-    ensures { result ≡ echo_of x }
-{
-    x
-}
+pub use clock::Clock;
+pub use framing::FramingError;
+pub use next::{Next, next_request};
+pub use reply::{Reply, error_body, head_reply, json_reply};
+pub use request::Request;
+pub use stream::{Handler, StreamEnd, serve_requests};

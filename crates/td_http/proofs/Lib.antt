@@ -1,0 +1,11 @@
+mod Digits
+mod Fields
+mod Heads
+mod Lengths
+mod Refused
+mod Slices
+mod Calls
+mod Readings
+mod Serving
+mod Ends
+mod Farewells
