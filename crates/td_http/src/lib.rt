@@ -1,13 +1,14 @@
-// A library with one function.
+//! The bytes of the desk: requests read into commands, and what the desk says written as replies.
 #![tactic(auto)]
 
-ghost use Rattle.std.specs.Prelude.{◌≡◌};
-ghost use Rattle.td_http.specs.Echo.{echo_of};
+mod answers;
+mod bodies;
+mod fault;
+mod request;
+pub mod routes;
+mod table;
 
-// The `ensures` clause is the contract: what `echo` returns is `echo_of` of its argument, a definition
-// in `specs/Echo.antt`, which a caller's clause can cite too.
-pub fn echo(x: usize) -> usize
-    ensures { result ≡ echo_of x }
-{
-    x
-}
+pub use bodies::read_command;
+pub use fault::{Allowed, Field, WebFault};
+pub use request::Request;
+pub use table::Route;
