@@ -9,3 +9,13 @@ mod Readings
 mod Serving
 mod Ends
 mod Farewells
+mod Filled
+mod PartFacts
+mod Fitting
+mod PathTexts
+mod RouteFacts
+mod BodyFacts
+mod EoriText
+mod Handling
+mod Served
+mod Streamed

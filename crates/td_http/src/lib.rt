@@ -1,19 +1,34 @@
-//! Requests and replies as bytes, and streams of them.
+//! Requests and replies as bytes, and streams of them at a desk.
 #![tactic(auto)]
 
+mod answers;
+mod bodies;
 mod clock;
+mod desk_stream;
+mod fault;
 mod framing;
 mod input;
 mod next;
 mod reading;
+mod replies;
 mod reply;
 mod request;
+mod routes;
 mod sending;
+mod service;
 mod stream;
+mod table;
 
+pub use bodies::read_command;
 pub use clock::Clock;
+pub use desk_stream::serve_stream;
+pub use fault::{Allowed, Field, WebFault};
 pub use framing::FramingError;
 pub use next::{Next, next_request};
+pub use replies::{fault_bytes, reply_bytes};
 pub use reply::{Reply, error_body, head_reply, json_reply};
 pub use request::Request;
+pub use routes::route;
+pub use service::Service;
 pub use stream::{Handler, StreamEnd, serve_requests};
+pub use table::Route;

@@ -1,0 +1,13 @@
+use Rattle.std.proofs.Common.{◌≡◌, ap}
+use Rattle.td_http.specs.Request.{asked}
+use Rattle.td_http.specs.Serving.{command_in}
+use Rattle.td_http.proofs.Handling.{unread_handled, unread_stores_nothing}
+use Rattle.td_http.proofs.service.Service.handle.Goals as goal
+
+pub returns-in-Err : goal.returns-in-Err
+returns-in-Err g c = record {
+  clean = λ clean. clean;
+  live = λ clean live. live;
+  handled = λ clean. unread_handled (g.D.Desk.is_live c.args.self.now.desk) (g.D.Desk.is_live c.args.self.now.desk) (g.D.Desk.content c.args.self.now.desk) c.args.at (command_in (asked c.args.request.now)) c.args.request.now.close c.in-Err.fault c.unread.result c.in-Err.ensures c.unread.ensures.memory c.unread.ensures.told;
+  store = λ h. absurd (unread_stores_nothing c.in-Err.fault c.args.request.now.close c.unread.result c.unread.ensures.told h);
+}

@@ -1,0 +1,69 @@
+-- The JSON of what the desk says, and the status of it. Keys stand in ascending order of bytes; `serde_json` writes the text, with no space.
+use Rattle.std.specs.Prelude.{ℕ, List, codes}
+use Rattle.serde_json.specs.Data.{Data, number, unsigned, string, object, member, no_members}
+use Rattle.serde_json.specs.Written.{compact_text}
+use Rattle.td_base.specs.Holder.{holder_text}
+use Rattle.td_acts.specs.Names.{refusal_name}
+use Rattle.td_acts.specs.declared.said.Answer.TheVariants.{Holder}
+use Rattle.td_acts.specs.declared.said.Refusal.{Refusal}
+use Rattle.td_acts.specs.declared.said.Refusal.TheVariants.{ClockRange, NoHolder, HolderKnown}
+use Rattle.td_acts.specs.declared.said.Said.{Said}
+use Rattle.td_acts.specs.declared.said.Said.TheVariants.{Answered, Refused}
+use Rattle.td_http.specs.Faults.{fault_name, field_name}
+use Rattle.td_http.specs.declared.fault.WebFault.{WebFault}
+use Rattle.td_http.specs.declared.fault.WebFault.TheVariants.{NoRoute, NoMethod, BadHolder, BadBody, BadField, NoMemory}
+
+-- what is told of a holder
+abbrev pub holder_data : List ℕ → ℕ → List ℕ → ℕ → Data
+holder_data eori guarantees holder movements =
+    object (member (codes "eori") (string eori)
+    (member (codes "guarantees") (number (unsigned guarantees))
+    (member (codes "holder") (string holder)
+    (member (codes "movements") (number (unsigned movements)) no_members))))
+
+-- an error, told by its name alone
+abbrev pub error_data : List ℕ → Data
+error_data name = object (member (codes "error") (string name) no_members)
+
+-- an error and the field that it is about
+abbrev pub field_data : List ℕ → List ℕ → Data
+field_data name field = object (member (codes "error") (string name) (member (codes "field") (string field) no_members))
+
+-- what is said
+abbrev pub said_data : Said → Data
+said_data (Answered (Holder holder eori guarantees movements)) = holder_data eori guarantees (holder_text holder) movements
+said_data (Refused refusal) = error_data (refusal_name refusal)
+
+-- why a request can't be read
+abbrev pub fault_data : WebFault → Data
+fault_data NoRoute = error_data (fault_name NoRoute)
+fault_data (NoMethod allow) = error_data (fault_name (NoMethod allow))
+fault_data BadHolder = error_data (fault_name BadHolder)
+fault_data BadBody = error_data (fault_name BadBody)
+fault_data (BadField field) = field_data (fault_name (BadField field)) (field_name field)
+fault_data NoMemory = error_data (fault_name NoMemory)
+
+-- the bodies of replies
+abbrev pub said_body : Said → List ℕ
+said_body said = compact_text (said_data said)
+
+abbrev pub fault_body : WebFault → List ℕ
+fault_body fault = compact_text (fault_data fault)
+
+-- the statuses of replies (RFC 9110, section 15)
+abbrev pub refusal_status : Refusal → ℕ
+refusal_status ClockRange = 503
+refusal_status NoHolder = 404
+refusal_status HolderKnown = 409
+
+abbrev pub said_status : Said → ℕ
+said_status (Answered answer) = 200
+said_status (Refused refusal) = refusal_status refusal
+
+abbrev pub fault_status : WebFault → ℕ
+fault_status NoRoute = 404
+fault_status (NoMethod allow) = 405
+fault_status BadHolder = 400
+fault_status BadBody = 400
+fault_status (BadField field) = 400
+fault_status NoMemory = 503

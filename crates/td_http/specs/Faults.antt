@@ -1,0 +1,45 @@
+-- Why a request can't be read: names, and what the reply says beside them.
+use Rattle.std.specs.Prelude.{◌≡◌, ◌⊎◌, ℕ, List, codes, Option, Some, None, Result, Ok, Err}
+use Rattle.td_http.specs.declared.fault.Allowed.{Allowed}
+use Rattle.td_http.specs.declared.fault.Allowed.TheVariants.{Get, Put}
+use Rattle.td_http.specs.declared.fault.Field.{Field}
+use Rattle.td_http.specs.declared.fault.Field.TheVariants.{Eori}
+use Rattle.td_http.specs.declared.fault.WebFault.{WebFault}
+use Rattle.td_http.specs.declared.fault.WebFault.TheVariants.{NoRoute, NoMethod, BadHolder, BadBody, BadField, NoMemory}
+
+-- the methods of a path, as `Allow` lists them
+abbrev pub allowed_text : Allowed → List ℕ
+allowed_text Get = codes "GET"
+allowed_text Put = codes "PUT"
+
+-- a field's key in the body
+abbrev pub field_name : Field → List ℕ
+field_name Eori = codes "eori"
+
+-- the name that the reply gives
+abbrev pub fault_name : WebFault → List ℕ
+fault_name NoRoute = codes "no-route"
+fault_name (NoMethod allow) = codes "no-method"
+fault_name BadHolder = codes "bad-holder"
+fault_name BadBody = codes "bad-body"
+fault_name (BadField field) = codes "bad-field"
+fault_name NoMemory = codes "no-memory"
+
+-- the methods that the reply lists
+abbrev pub fault_allowed : WebFault → Option Allowed
+fault_allowed NoRoute = None
+fault_allowed (NoMethod allow) = Some allow
+fault_allowed BadHolder = None
+fault_allowed BadBody = None
+fault_allowed (BadField field) = None
+fault_allowed NoMemory = None
+
+-- what is wanted, want of memory aside
+abbrev pub OrNoMemory : {T : Type 0} → Result T WebFault → Result T WebFault → Type 0
+OrNoMemory result wanted = (result ≡ Err NoMemory) ⊎ (result ≡ wanted)
+
+-- the next step of a reading: the first fault stays
+infixl 10 ◌>>=◌
+abbrev pub ◌>>=◌ : {A B : Type 0} → Result A WebFault → (A → Result B WebFault) → Result B WebFault
+Ok a >>= next = next a
+Err e >>= next = Err e

@@ -1,0 +1,106 @@
+-- What the desk's service does with a request, and what a stream of requests tells each holder.
+use Rattle.std.specs.Prelude.{◌≡◌, ℕ, ℤ, ◌+◌, ◌⊎◌, Bool, true, false, if◌then◌else◌, List, [], ◌∷◌, ◌++◌, map, Option, None, Result, Ok, Err, option_map}
+use Rattle.td_acts.specs.declared.command.Command.{Command}
+use Rattle.td_acts.specs.declared.command.Stamped.{Stamped}
+use Rattle.td_acts.specs.declared.said.Said.{Said}
+use Rattle.td_acts.specs.Book.{Book}
+use Rattle.td_acts.specs.Commands.{owner_of}
+use Rattle.td_acts.specs.Machine.{verdict, book_after, machine_book}
+use Rattle.td_desk.specs.declared.fault.Fault.TheVariants as fault
+use Rattle.td_desk.specs.declared.running.Outcome.{Outcome}
+use Rattle.td_desk.specs.declared.running.Outcome.TheVariants as outcome
+use Rattle.td_desk.specs.Content.{Content, IsSound}
+use Rattle.td_desk.specs.Runs.{IsStep, IsTied, is_holder}
+use Rattle.td_http.specs.declared.fault.WebFault.{WebFault}
+use Rattle.td_http.specs.declared.reply.Reply.{Reply}
+use Rattle.td_http.specs.declared.reply.Reply.TheVariants.{NoMemory, Store}
+use Rattle.td_http.specs.Request.{Asked}
+use Rattle.td_http.specs.ReplyText.{reply_text, reply_bytes, is_made}
+use Rattle.td_http.specs.Answers.{said_status, said_body, fault_status, fault_body}
+use Rattle.td_http.specs.Faults.{allowed_text, fault_allowed}
+use Rattle.td_http.specs.Bodies.{command_of}
+use Rattle.td_http.specs.Stream.{Exchange, question}
+
+-- the reply to a command, by what is said to it
+unfoldable pub said_reply : Said → Bool → List ℕ
+said_reply said close = reply_text (said_status said) None close (said_body said)
+
+-- the reply to a request that can't be read
+unfoldable pub fault_reply : WebFault → Bool → List ℕ
+fault_reply fault close = reply_text (fault_status fault) (option_map allowed_text (fault_allowed fault)) close (fault_body fault)
+
+-- what a request asks: a command, or why it can't be read
+abbrev pub command_in : Asked → Result Command WebFault
+command_in a = command_of a.method a.target a.body
+
+-- the reply that tells how a command ended
+abbrev pub IsReplyTo : Outcome → Bool → Reply → Type 0
+IsReplyTo (outcome.Said words) close reply = (is_made reply ≡ true) × (reply_bytes reply ≡ said_reply words close)
+IsReplyTo (outcome.Failed fault.NoMemory) close reply = reply ≡ NoMemory
+IsReplyTo (outcome.Failed fault.Store) close reply = reply ≡ Store
+
+-- the reply to a request that can't be read, want of memory aside
+abbrev pub IsFaultReply : WebFault → Bool → Reply → Type 0
+IsFaultReply why close reply = (reply ≡ NoMemory) ⊎ ((is_made reply ≡ true) × (reply_bytes reply ≡ fault_reply why close))
+
+-- What a request does to a desk. A command is one step of the desk, and the reply tells how it ended; a request that can't be read changes
+-- nothing, and its reply depends on the request alone.
+abbrev pub HandledAs : Type 0 → Type 0 → Content → ℤ → Result Command WebFault → Bool → Reply → Content → Type 0
+HandledAs was_live is_live old at (Ok command) close reply new = (o : Outcome) × IsStep was_live is_live old (record { at = at; command = command }) o new × IsReplyTo o close reply
+HandledAs was_live is_live old at (Err why) close reply new = (is_live → new ≡ old) × IsFaultReply why close reply
+
+-- The same at a service whose desk has this content, is clean and live so, and may have a store.
+pub record IsHandled {S : Type 0} (content : S → Content) (is_clean is_live : S → Type 0) (has_store : Type 0) (old : S) (at : ℤ) (asked : Asked) (reply : Reply) (new : S) : Type 0 where
+  pub clean : is_clean new → is_clean old
+  pub live : is_clean new → is_live new → is_live old
+  pub handled : is_clean new → HandledAs (is_live old) (is_live new) (content old) at (command_in asked) asked.close reply (content new)
+  pub store : reply ≡ Store → has_store
+
+-- a command that a holder's request asked, at its moment, and whether the reply tells that the stream stops
+abbrev pub Request : Type 0
+Request = Stamped × Bool
+
+-- H's requests among the exchanges that come after so many: those that can be read and whose reply isn't a fixed one of a fault
+abbrev pub heard_by : List ℕ → ℕ → Result Command WebFault → ℤ → Bool → Bool → List Request
+heard_by country H (Ok command) at close true = if is_holder H (owner_of country command) then (record { at = at; command = command }, close) ∷ [] else []
+heard_by country H (Ok command) at close false = []
+heard_by country H (Err why) at close made = []
+
+abbrev pub heard_in : List ℕ → ℕ → ℕ → List Exchange → List Request
+heard_in country H before [] = []
+heard_in country H before (e ∷ es) =
+    heard_by country H (command_in (question before e.wire)) e.at (question before e.wire).close (is_made e.reply) ++ heard_in country H (before + 1) es
+
+-- the bytes of the replies to them
+abbrev pub told_by : List ℕ → ℕ → Result Command WebFault → List ℕ → Bool → List (List ℕ)
+told_by country H (Ok command) bytes true = if is_holder H (owner_of country command) then bytes ∷ [] else []
+told_by country H (Ok command) bytes false = []
+told_by country H (Err why) bytes made = []
+
+abbrev pub told_in : List ℕ → ℕ → ℕ → List Exchange → List (List ℕ)
+told_in country H before [] = []
+told_in country H before (e ∷ es) =
+    told_by country H (command_in (question before e.wire)) (reply_bytes e.reply) (is_made e.reply) ++ told_in country H (before + 1) es
+
+-- the commands of requests
+abbrev pub commands_of : List Request → List Stamped
+commands_of list = map (λ r. r.0) list
+
+-- the replies of H's own machine to a list of H's requests
+abbrev pub machine_replies : ℕ → Book → List Request → List (List ℕ)
+machine_replies H book [] = []
+machine_replies H book (r ∷ list) = said_reply (verdict H book r.0.at r.0.command) r.1 ∷ machine_replies H (book_after H book r.0) list
+
+-- the reply to each request that can't be read is that of its fault
+abbrev pub FaultsAreTold : ℕ → List Exchange → Type 0
+FaultsAreTold before [] = Unit {0}
+FaultsAreTold before (e ∷ es) = ((why : WebFault) → command_in (question before e.wire) ≡ Err why → IsFaultReply why (question before e.wire).close e.reply) × FaultsAreTold (before + 1) es
+
+-- To each holder at once, the bytes of the replies to the holder's requests are those of the holder's own machine; in the end the content is
+-- sound, and tied to the books that the machines end with.
+pub record IsServed (country : List ℕ) (books : ℕ → Book) (before : ℕ) (es : List Exchange) (new : Content) : Type 0 where
+  pub answers : (H : ℕ) → told_in country H before es ≡ machine_replies H (books H) (heard_in country H before es)
+  pub faults : FaultsAreTold before es
+  pub country_stays : new.country ≡ country
+  pub sound : IsSound new
+  pub tied : IsTied new (λ H. machine_book H (books H) (commands_of (heard_in country H before es)))

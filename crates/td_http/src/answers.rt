@@ -1,0 +1,105 @@
+//! What the desk says, as JSON.
+ghost use Rattle.std.specs.Prelude.{◌≡◌, IfOk, string_bytes};
+ghost use Rattle.serde_json.specs.View.{view};
+ghost use Rattle.td_http.specs.Answers.{error_data, fault_body, fault_data, fault_status, field_data, holder_data, refusal_status, said_body, said_data, said_status};
+
+use crate::fault::WebFault;
+use http::StatusCode;
+use serde_json::{Value, json};
+use std::alloc::{AllocError, Global};
+use td_acts::{Answer, Refusal, Said};
+use td_base::Eori;
+
+fn eori_text(eori: &Eori) -> &str
+    ensures { result.now ≡ eori.now }
+{
+    str::from_utf8(eori.as_bytes()).unwrap()
+}
+
+fn holder_value(
+    alloc: Global,
+    eori: &str,
+    guarantees: u32,
+    holder: &str,
+    movements: u32,
+) -> Result<Value, AllocError>
+    ensures { IfOk result (λ v. view v ≡ holder_data eori.now guarantees holder.now movements) }
+{
+    json!(in alloc; {"eori": eori, "guarantees": guarantees, "holder": holder, "movements": movements})
+}
+
+fn error_value(alloc: Global, name: &str) -> Result<Value, AllocError>
+    ensures { IfOk result (λ v. view v ≡ error_data name.now) }
+{
+    json!(in alloc; {"error": name})
+}
+
+fn field_value(alloc: Global, name: &str, field: &str) -> Result<Value, AllocError>
+    ensures { IfOk result (λ v. view v ≡ field_data name.now field.now) }
+{
+    json!(in alloc; {"error": name, "field": field})
+}
+
+fn said_value(alloc: Global, said: &Said) -> Result<Value, AllocError>
+    ensures { IfOk result (λ v. view v ≡ said_data said.now) }
+{
+    match said {
+        Said::Answered(
+            Answer::Holder {
+                holder,
+                eori,
+                guarantees,
+                movements,
+            },
+        ) => {
+            let number = format!(in alloc; "{holder}")?;
+            holder_value(alloc, eori_text(eori), *guarantees, &number, *movements)
+        }
+        Said::Refused(refusal) => error_value(alloc, refusal.name()),
+    }
+}
+
+fn fault_value(alloc: Global, fault: &WebFault) -> Result<Value, AllocError>
+    ensures { IfOk result (λ v. view v ≡ fault_data fault.now) }
+{
+    match fault {
+        WebFault::BadField(field) => field_value(alloc, fault.name(), field.name()),
+        _ => error_value(alloc, fault.name()),
+    }
+}
+
+pub(crate) fn said_text(alloc: Global, said: &Said) -> Result<String, AllocError>
+    ensures { IfOk result (λ s. string_bytes s ≡ said_body said.now) }
+{
+    let value = said_value(alloc, said)?;
+    value.to_string(alloc)
+}
+
+pub(crate) fn fault_text(alloc: Global, fault: &WebFault) -> Result<String, AllocError>
+    ensures { IfOk result (λ s. string_bytes s ≡ fault_body fault.now) }
+{
+    let value = fault_value(alloc, fault)?;
+    value.to_string(alloc)
+}
+
+pub(crate) fn status_of(said: &Said) -> StatusCode
+    ensures { result ≡ said_status said.now }
+{
+    match said {
+        Said::Answered(_) => StatusCode::OK,
+        Said::Refused(Refusal::ClockRange) => StatusCode::SERVICE_UNAVAILABLE,
+        Said::Refused(Refusal::NoHolder) => StatusCode::NOT_FOUND,
+        Said::Refused(Refusal::HolderKnown) => StatusCode::CONFLICT,
+    }
+}
+
+pub(crate) fn fault_status_of(fault: &WebFault) -> StatusCode
+    ensures { result ≡ fault_status fault.now }
+{
+    match fault {
+        WebFault::NoRoute => StatusCode::NOT_FOUND,
+        WebFault::NoMethod { .. } => StatusCode::METHOD_NOT_ALLOWED,
+        WebFault::BadHolder | WebFault::BadBody | WebFault::BadField(_) => StatusCode::BAD_REQUEST,
+        WebFault::NoMemory => StatusCode::SERVICE_UNAVAILABLE,
+    }
+}

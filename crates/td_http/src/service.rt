@@ -1,0 +1,148 @@
+//! The desk as a service: a request is read, weighed, its reply is built, and only then it is carried.
+ghost use Rattle.std.specs.Prelude.{◌≡◌, ◌⊎◌, Bool, true, MatchResult, option_map};
+ghost use Rattle.td_http.specs.Faults.{allowed_text};
+ghost use Rattle.td_http.specs.ReplyText.{head_text, is_made, reply_bytes as made_bytes};
+ghost use Rattle.td_acts.specs.declared.command.Stamped.{Stamped};
+ghost use Rattle.td_acts.specs.declared.said.Said.{Said};
+ghost use Rattle.td_desk.specs.declared.fault.Fault.TheVariants as fault;
+ghost use Rattle.td_desk.specs.declared.running.Outcome.TheVariants as outcome;
+ghost use Rattle.td_desk.specs.Runs.{IsStep};
+ghost use Rattle.td_http.specs.Request.{asked};
+ghost use Rattle.td_http.specs.Serving.{said_reply, IsReplyTo, IsFaultReply, HandledAs};
+
+use crate::bodies::{path, read_command_by};
+use crate::fault::{Allowed, WebFault};
+use crate::replies::{fault_bytes, reply_bytes};
+use crate::reply::{Reply, head_reply};
+use crate::request::Request;
+use crate::routes::Routes;
+use std::alloc::Global;
+use td_acts::Command;
+use td_desk::{Desk, Fault};
+
+/// A desk that answers HTTP requests.
+#[derive(Drop)]
+pub struct Service<D: Desk + Drop> {
+    desk: D,
+    routes: Routes,
+}
+
+// Weighs a command, builds the bytes of the reply, and carries the decision, in this order: what could not be told isn't done.
+fn answer<D: Desk>(
+    alloc: Global,
+    desk: &mut D,
+    at: i64,
+    command: &Command,
+    close: bool,
+) -> Result<Vec<u8>, Fault>
+    ensures clean { D.is_clean desk.new → D.is_clean desk.old }
+    ensures live { D.is_clean desk.new → D.is_live desk.new → D.is_live desk.old }
+    ensures answered { D.is_clean desk.new → MatchResult result
+        (λ bytes. (words : Said) × (bytes.items ≡ said_reply words close) × IsStep (D.is_live desk.old) (D.is_live desk.new) (D.content desk.old) (record { at = at; command = command.now }) (outcome.Said words) (D.content desk.new))
+        (λ why. IsStep (D.is_live desk.old) (D.is_live desk.new) (D.content desk.old) (record { at = at; command = command.now }) (outcome.Failed why) (D.content desk.new)) }
+    ensures store { result ≡ Err fault.Store → D.has_store }
+{
+    let decision = desk.weigh(alloc, at, command)?;
+    let bytes = match reply_bytes(alloc, decision.said(), close) {
+        Ok(bytes) => bytes,
+        Err(error) => {
+            decision.waive();
+            return Err(Fault::from(error));
+        }
+    };
+    let _said = desk.carry(alloc, decision)?;
+    Ok(bytes)
+}
+
+// The fixed reply to a command that failed: it changed nothing.
+fn failed(fault: Fault) -> Reply
+    ensures fixed { (close : Bool) → IsReplyTo (outcome.Failed fault) close result }
+    ensures store { result ≡ Reply.Store → fault ≡ Fault.Store }
+{
+    match fault {
+        Fault::NoMemory => Reply::NoMemory,
+        Fault::Store => Reply::Store,
+    }
+}
+
+// The reply to a command.
+fn reply_to<D: Desk>(alloc: Global, desk: &mut D, at: i64, command: &Command, close: bool) -> Reply
+    ensures clean { D.is_clean desk.new → D.is_clean desk.old }
+    ensures live { D.is_clean desk.new → D.is_live desk.new → D.is_live desk.old }
+    ensures handled { D.is_clean desk.new → HandledAs (D.is_live desk.old) (D.is_live desk.new) (D.content desk.old) at (Ok command.now) close result (D.content desk.new) }
+    ensures store { result ≡ Reply.Store → D.has_store }
+{
+    match answer(alloc, desk, at, command, close) {
+        Ok(bytes) => Reply::Made(bytes),
+        Err(fault) => failed(fault),
+    }
+}
+
+// The reply to a request that can't be read: it changes nothing.
+fn unread(alloc: Global, fault: &WebFault, close: bool) -> Reply
+    ensures memory { fault.now ≡ WebFault.NoMemory → result ≡ Reply.NoMemory }
+    ensures told { IsFaultReply fault.now close result }
+{
+    if let WebFault::NoMemory = fault {
+        return Reply::NoMemory;
+    }
+    match fault_bytes(alloc, fault, close) {
+        Ok(bytes) => Reply::Made(bytes),
+        Err(_) => Reply::NoMemory,
+    }
+}
+
+impl<D: Desk + Drop> Service<D> {
+    ghost use Rattle.td_http.specs.Served.{desk_of, IsHandledBy, IsHeadHandledBy};
+
+    /// A service of the desk. It takes no memory.
+    pub fn new(desk: D) -> Service<D>
+        ensures { desk_of result ≡ desk }
+    {
+        Service {
+            desk,
+            routes: Routes::new(),
+        }
+    }
+
+    /// The desk itself.
+    pub fn into_desk(self) -> D
+        ensures { result ≡ desk_of self }
+    {
+        self.desk
+    }
+
+    /// The reply to a request that comes at that number of seconds since 1970. A fixed reply is of a fault: the request changed nothing.
+    pub fn handle(&mut self, alloc: Global, at: i64, request: &Request) -> Reply
+        ensures { IsHandledBy D.content D.is_clean D.is_live D.has_store self.old at (asked request.now) result self.new }
+    {
+        match read_command_by(alloc, &mut self.routes, request) {
+            Ok(command) => reply_to(alloc, &mut self.desk, at, &command, request.close),
+            Err(fault) => unread(alloc, &fault, request.close),
+        }
+    }
+
+    /// The reply to a HEAD request for a target: a head alone, which tells the methods of the path where the desk has it. The desk stays as it is.
+    pub fn head(&mut self, alloc: Global, target: &[u8]) -> Reply
+        ensures { IsHeadHandledBy self.old target.now result self.new }
+    {
+        match self.routes.methods(alloc, path(target)) {
+            Ok(methods) => told_head(alloc, methods),
+            Err(_) => Reply::NoMemory,
+        }
+    }
+}
+
+// A head that tells methods.
+fn told_head(alloc: Global, methods: Option<Allowed>) -> Reply
+    ensures { (result ≡ Reply.NoMemory) ⊎ ((is_made result ≡ true) × (made_bytes result ≡ head_text (option_map allowed_text methods))) }
+{
+    let allow = match methods {
+        Some(methods) => Some(methods.text()),
+        None => None,
+    };
+    match head_reply(alloc, allow) {
+        Ok(bytes) => Reply::Made(bytes),
+        Err(_) => Reply::NoMemory,
+    }
+}

@@ -1,0 +1,25 @@
+//! The table of requests: paths, their methods, and the parts that they name.
+use td_base::HolderNo;
+
+/// A path of the table.
+#[derive(Clone, Copy, Debug, PartialEq, Eq)]
+pub(crate) enum Place {
+    OfficeHolder,
+    Holder,
+}
+
+/// A line of the table: a path and a method of it, named like its command.
+#[derive(Clone, Copy, Debug, PartialEq, Eq)]
+pub(crate) enum Line {
+    Register,
+    SeeHolder,
+}
+
+/// A line of the table with the parts of its path.
+#[derive(Clone, Copy, Debug, PartialEq, Eq)]
+pub enum Route {
+    /// `PUT /office/holders/H`
+    Register { holder: HolderNo },
+    /// `GET /holders/H`
+    SeeHolder { holder: HolderNo },
+}
