@@ -24,22 +24,44 @@ pub fn perform<R: Read, W: Write, E: Write>(
     out: &mut Counted<W>,
     errors: &mut Counted<E>,
 ) -> u8 {
-    let alloc = rt.alloc();
-    match read_words(alloc, words) {
-        Ok(Job::Pipe { country, at: Some(at) }) => {
-            let end = pipe(alloc, country, FixedClock { at }, input, out);
+    match read_words(rt.alloc(), words) {
+        Ok(job) => {
+            let end = done(rt, &job, input, out);
             status_of(end, errors)
         }
-        Ok(Job::Pipe { country, at: None }) => {
-            let end = pipe(alloc, country, MachineClock { rt }, input, out);
-            status_of(end, errors)
+        Err(no_job) => told(&no_job, out, errors),
+    }
+}
+
+// Does a job, and answers how its stream ended. `None`: there was no memory for the desk.
+fn done<R: Read, W: Write>(
+    rt: &(impl AllocGlobal + std::rt::Clock),
+    job: &Job,
+    input: &mut Counted<R>,
+    out: &mut Counted<W>,
+) -> Option<StreamEnd> {
+    let Job::Pipe { country, at } = job;
+    match at {
+        Some(at) => pipe(rt.alloc(), *country, FixedClock { at: *at }, input, out),
+        None => pipe(rt.alloc(), *country, MachineClock { rt }, input, out),
+    }
+}
+
+// Says why the words ask for no job, and gives the status of it. Help that was asked for goes to `out`.
+fn told<W: Write, E: Write>(no_job: &NoJob, out: &mut Counted<W>, errors: &mut Counted<E>) -> u8 {
+    match no_job {
+        NoJob::Help(text) => {
+            if write_whole(out, text.as_bytes()) {
+                DONE
+            } else {
+                fault(errors, "transit-desk: write\n")
+            }
         }
-        Err(NoJob::Help(text)) => told(out, &text),
-        Err(NoJob::Wrong(text)) => {
+        NoJob::Wrong(text) => {
             let _told = write_whole(errors, text.as_bytes());
             WRONG_WORDS
         }
-        Err(NoJob::NoMemory) => fault(errors, "transit-desk: no-memory\n"),
+        NoJob::NoMemory => fault(errors, "transit-desk: no-memory\n"),
     }
 }
 
@@ -48,17 +70,11 @@ pub fn unread_words<E: Write>(error: &io::Error, errors: &mut Counted<E>) -> u8 
     if error.kind() == ErrorKind::OutOfMemory {
         return fault(errors, "transit-desk: no-memory\n");
     }
-    let _told = write_whole(errors, b"error: the words of the command line aren't UTF-8 text\n");
+    let _told = write_whole(
+        errors,
+        b"error: the words of the command line aren't UTF-8 text\n",
+    );
     WRONG_WORDS
-}
-
-// Help that was asked for: it is a fault if it can't be written.
-fn told<W: Write>(out: &mut Counted<W>, text: &String) -> u8 {
-    if write_whole(out, text.as_bytes()) {
-        DONE
-    } else {
-        FAULT
-    }
 }
 
 // Says a fault, and gives its status.

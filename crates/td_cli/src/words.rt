@@ -32,6 +32,7 @@ impl From<AllocError> for NoJob {
 }
 
 const COUNTRY: &str = "country";
+
 const AT: &str = "at";
 
 fn option<'a>(alloc: Global, name: &'a str, value: &'a str, help: &'a str) -> Arg<'a> {
@@ -45,8 +46,19 @@ fn option<'a>(alloc: Global, name: &'a str, value: &'a str, help: &'a str) -> Ar
 fn pipe_command<'a>(alloc: Global) -> Result<Command<'a>, AllocError> {
     Command::new(alloc, "pipe")
         .about("Serves one stream of HTTP requests, from standard input to standard output")
-        .arg(option(alloc, COUNTRY, "CC", "The country of the office, two capital letters").required(true))?
-        .arg(option(alloc, AT, "SECONDS", "The moment of all requests, in seconds since 1970; without it the clock is asked"))
+        .arg(option(
+            alloc,
+            COUNTRY,
+            "CC",
+            "The country of the office, two capital letters",
+        )
+        .required(true))?
+        .arg(option(
+            alloc,
+            AT,
+            "SECONDS",
+            "The moment of all requests, in seconds since 1970; without it the clock is asked",
+        ))
 }
 
 fn program<'a>(alloc: Global) -> Result<Command<'a>, AllocError> {
@@ -90,7 +102,12 @@ fn country_in(alloc: Global, matches: &ArgMatches<'_>) -> Result<Country, NoJob>
     let text = matches.get_str(COUNTRY).unwrap_or("");
     match Country::read(text.as_bytes()) {
         Some(country) => Ok(country),
-        None => Err(NoJob::Wrong(wrong_value(alloc, text, "--country <CC>", "two capital letters")?)),
+        None => Err(NoJob::Wrong(wrong_value(
+            alloc,
+            text,
+            "--country <CC>",
+            "two capital letters",
+        )?)),
     }
 }
 
@@ -100,7 +117,12 @@ fn seconds_in(alloc: Global, matches: &ArgMatches<'_>) -> Result<Option<i64>, No
     };
     match decimal(text) {
         Some(seconds) => Ok(Some(seconds)),
-        None => Err(NoJob::Wrong(wrong_value(alloc, text, "--at <SECONDS>", "a whole number of seconds from 0 to 9223372036854775807")?)),
+        None => Err(NoJob::Wrong(wrong_value(
+            alloc,
+            text,
+            "--at <SECONDS>",
+            "a whole number of seconds from 0 to 9223372036854775807",
+        )?)),
     }
 }
 
@@ -113,6 +135,13 @@ fn decimal(text: &str) -> Option<i64> {
     }
 }
 
-fn wrong_value(alloc: Global, value: &str, option: &str, wanted: &str) -> Result<String, AllocError> {
-    format!(in alloc; "error: invalid value '{value}' for '{option}': it must be {wanted}\n\nUsage: transit-desk pipe --country <CC> [--at <SECONDS>]\n")
+fn wrong_value(
+    alloc: Global,
+    value: &str,
+    option: &str,
+    wanted: &str,
+) -> Result<String, AllocError> {
+    format!(in alloc;
+        "error: invalid value '{value}' for '{option}': it must be {wanted}\n\nUsage: transit-desk pipe --country <CC> [--at <SECONDS>]\n"
+    )
 }
