@@ -5,3 +5,4 @@ mod PathTexts
 mod RouteFacts
 mod BodyFacts
 mod EoriText
+mod PlainText

@@ -1,9 +1,10 @@
 -- The JSON of what the desk says, and the status of it. Keys stand in ascending order of bytes; `serde_json` writes the text, with no space.
-use Rattle.std.specs.Prelude.{ℕ, List, codes}
+use Rattle.std.specs.Prelude.{ℕ, List, ◌++◌, codes, decimal}
 use Rattle.serde_json.specs.Data.{Data, number, unsigned, string, object, member, no_members}
 use Rattle.serde_json.specs.Written.{compact_text}
 use Rattle.td_base.specs.Holder.{holder_text}
 use Rattle.td_acts.specs.Names.{refusal_name}
+use Rattle.td_acts.specs.declared.said.Answer.{Answer}
 use Rattle.td_acts.specs.declared.said.Answer.TheVariants.{Holder}
 use Rattle.td_acts.specs.declared.said.Refusal.{Refusal}
 use Rattle.td_acts.specs.declared.said.Refusal.TheVariants.{ClockRange, NoHolder, HolderKnown}
@@ -49,6 +50,12 @@ said_body said = compact_text (said_data said)
 
 abbrev pub fault_body : WebFault → List ℕ
 fault_body fault = compact_text (fault_data fault)
+
+-- the bytes of an answer's body: nothing in it is escaped
+abbrev pub answer_body : Answer → List ℕ
+answer_body (Holder holder eori guarantees movements) =
+    codes "{\"eori\":\"" ++ (eori ++ (codes "\",\"guarantees\":" ++ (decimal guarantees
+    ++ (codes ",\"holder\":\"" ++ (holder_text holder ++ (codes "\",\"movements\":" ++ (decimal movements ++ codes "}")))))))
 
 -- the statuses of replies (RFC 9110, section 15)
 abbrev pub refusal_status : Refusal → ℕ

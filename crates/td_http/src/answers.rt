@@ -1,14 +1,16 @@
 //! What the desk says, as JSON.
 ghost use Rattle.std.specs.Prelude.{◌≡◌, IfOk, string_bytes};
 ghost use Rattle.serde_json.specs.View.{view};
-ghost use Rattle.td_http.specs.Answers.{error_data, fault_body, fault_data, fault_status, field_data, holder_data, refusal_status, said_body, said_data, said_status};
+ghost use Rattle.td_acts.specs.declared.said.Answer.TheVariants.{Holder};
+ghost use Rattle.td_acts.specs.declared.said.Said.TheVariants.{Answered};
+ghost use Rattle.td_http.specs.Answers.{answer_body, error_data, fault_body, fault_data, fault_status, field_data, holder_data, refusal_status, said_body, said_data, said_status};
 
 use crate::fault::WebFault;
 use http::StatusCode;
 use serde_json::{Value, json};
 use std::alloc::{AllocError, Global};
 use td_acts::{Answer, Refusal, Said};
-use td_base::Eori;
+use td_base::{Eori, HolderNo};
 
 fn eori_text(eori: &Eori) -> &str
     ensures { result.now ≡ eori.now }
@@ -102,4 +104,17 @@ fn fault_status_of(fault: &WebFault) -> StatusCode
         WebFault::BadHolder | WebFault::BadBody | WebFault::BadField(_) => StatusCode::BAD_REQUEST,
         WebFault::NoMemory => StatusCode::SERVICE_UNAVAILABLE,
     }
+}
+
+/// The body that tells of a holder is these very bytes: nothing in it is escaped.
+pub fn holder_is_told_in(holder: HolderNo, eori: Eori, guarantees: u32, movements: u32)
+    ensures { said_body (Answered (Holder holder eori guarantees movements)) ≡ answer_body (Holder holder eori guarantees movements) }
+{
+    let _answer = Answer::Holder {
+        holder,
+        eori,
+        guarantees,
+        movements,
+    };
+    let _text = eori.as_bytes();
 }
