@@ -1,3 +1,14 @@
+mod Digits
+mod Fields
+mod Heads
+mod Lengths
+mod Refused
+mod Slices
+mod Calls
+mod Readings
+mod Serving
+mod Ends
+mod Farewells
 mod Filled
 mod PartFacts
 mod Fitting

@@ -3,9 +3,10 @@ ghost use Rattle.std.specs.Prelude.{◌≡◌, IfOk, string_bytes};
 ghost use Rattle.serde_json.specs.View.{view};
 ghost use Rattle.td_acts.specs.declared.said.Answer.TheVariants.{Holder};
 ghost use Rattle.td_acts.specs.declared.said.Said.TheVariants.{Answered};
-ghost use Rattle.td_http.specs.Answers.{answer_body, error_data, fault_body, fault_data, fault_status, field_data, holder_data, refusal_status, said_body, said_data, said_status};
+ghost use Rattle.td_http.specs.Answers.{answer_body, error_data, fault_body, fault_data, fault_reply, fault_status, field_data, holder_data, refusal_status, said_body, said_data, said_reply, said_status};
 
 use crate::fault::WebFault;
+use crate::reply::json_reply;
 use http::StatusCode;
 use serde_json::{Value, json};
 use std::alloc::{AllocError, Global};
@@ -104,6 +105,22 @@ fn fault_status_of(fault: &WebFault) -> StatusCode
         WebFault::BadHolder | WebFault::BadBody | WebFault::BadField(_) => StatusCode::BAD_REQUEST,
         WebFault::NoMemory => StatusCode::SERVICE_UNAVAILABLE,
     }
+}
+
+/// The whole reply to a command on which the desk says that. `close` tells that the stream stops after it.
+pub fn reply_bytes(alloc: Global, said: &Said, close: bool) -> Result<Vec<u8>, AllocError>
+    ensures { IfOk result (λ v. v.items ≡ said_reply said.now close) }
+{
+    let body = said_text(alloc, said)?;
+    json_reply(alloc, status_of(said), None, close, &body)
+}
+
+/// The whole reply to a request that can't be read. `close` tells that the stream stops after it.
+pub fn fault_bytes(alloc: Global, fault: &WebFault, close: bool) -> Result<Vec<u8>, AllocError>
+    ensures { IfOk result (λ v. v.items ≡ fault_reply fault.now close) }
+{
+    let body = fault_text(alloc, fault)?;
+    json_reply(alloc, fault_status_of(fault), fault.allow(), close, &body)
 }
 
 /// The body that tells of a holder is these very bytes: nothing in it is escaped.

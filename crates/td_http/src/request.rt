@@ -1,14 +1,12 @@
-//! Requests, as they come out of a stream.
+//! A request as it was read.
 use http::Method;
 
-/// A request that was read whole from a stream.
+/// A request that came whole.
 #[derive(Drop)]
 pub struct Request {
-    /// The method, compared by exact case.
     pub method: Method,
-    /// The target in origin form: a path, and what follows its first `?`.
+    /// The request target as it was sent, a query included.
     pub target: Vec<u8>,
-    /// The body, which commands without fields don't look at.
     pub body: Vec<u8>,
     /// Whether the stream stops after the reply.
     pub close: bool,

@@ -1,0 +1,16 @@
+use Rattle.std.proofs.Common.{◌≡◌, ◌++◌, rules, Err}
+use Rattle.td_http.proofs.Readings.{ReadsOn-trans, StopsAs-after, joined}
+use Rattle.td_http.proofs.reading.read_request.Goals as goal
+
+pub loop-wanted-preserved : goal.loop-wanted-preserved
+loop-wanted-preserved g c =
+    let inv = c.loop-wanted.invariant in
+    let call = c.in_ok-read_up_to.ensures in
+    (inv.0 ++ call.0, ReadsOn-trans _ _ _ _ _ _ _ _ _ inv.1 call.1, joined _ _ _ _ _ inv.2 call.2.0)
+
+pub returns-in_err-read_up_to : goal.returns-in_err-read_up_to
+returns-in_err-read_up_to g c =
+    let inv = c.loop-wanted.invariant in
+    let call = c.in_err-read_up_to.ensures in
+    let same : c.from_residual.result ≡ Err c.in_err-read_up_to.field-0.0 = search rules in
+    rw same (inv.0 ++ call.0, ReadsOn-trans _ _ _ _ _ _ _ _ _ inv.1 call.1, StopsAs-after _ _ _ _ _ _ _ _ _ _ inv.1.spent inv.2 call.2)
