@@ -19,3 +19,4 @@ mod EoriText
 mod Handling
 mod Served
 mod Streamed
+mod PlainText

@@ -24,7 +24,7 @@ le_decided a b = (λ h. grind (arith, nat_tests), λ h. grind (arith, nat_tests)
 range_decided : (low high c : ℕ) → Decides (is_in_range low high c) (IsInRange low high c)
 range_decided low high c = Decides-and _ _ (le_decided low c) (le_decided c high)
 
-all_decided : {X : Type 0} (p : X → Bool) (P : X → Type 0) → ((x : X) → Decides (p x) (P x)) → (xs : List X) → Decides (list_all p xs) (All P xs)
+pub all_decided : {X : Type 0} (p : X → Bool) (P : X → Type 0) → ((x : X) → Decides (p x) (P x)) → (xs : List X) → Decides (list_all p xs) (All P xs)
 all_decided p P each xs = Decides-by_and p P (list_all p) each refl (λ _ _. refl) xs
 
 holder_decided : (text : List ℕ) → Decides (is_holder_text text) (IsHolderText text)
@@ -35,7 +35,7 @@ holder_decided text =
     (Decides-and _ _ (Decides-eqb (length text) 6)
     (Decides-and _ _ (all_decided is_ascii_digit IsAsciiDigit (range_decided 48 57) text) (le_decided 1 (digits_value text))))
 
-mark_decided : (c : ℕ) → Decides (is_mark c) (IsMark c)
+pub mark_decided : (c : ℕ) → Decides (is_mark c) (IsMark c)
 mark_decided c = Decides-or _ _ (range_decided 48 57 c) (range_decided 65 90 c)
 
 eori_decided : (text : List ℕ) → Decides (is_eori text) (IsEori text)

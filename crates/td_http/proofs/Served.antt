@@ -21,7 +21,8 @@ use Rattle.td_http.specs.declared.reply.Reply.TheVariants.{NoMemory, Store}
 use Rattle.td_http.specs.Request.{Asked}
 use Rattle.td_http.specs.ReplyText.{reply_bytes, is_made}
 use Rattle.td_http.specs.Stream.{Exchange, Chain, question}
-use Rattle.td_http.specs.Serving.{said_reply, command_in, IsReplyTo, IsFaultReply, HandledAs, IsHandled, Request, heard_by, heard_in, told_by, told_in, commands_of, machine_replies, FaultsAreTold, IsServed}
+use Rattle.td_http.specs.Answers.{said_reply}
+use Rattle.td_http.specs.Serving.{command_in, IsReplyTo, IsFaultReply, HandledAs, IsHandled, Request, heard_by, heard_in, told_by, told_in, commands_of, machine_replies, FaultsAreTold, IsServed}
 
 -- a machine goes on where it stopped
 machine_book-++ : (H : ℕ) (book : Book) (xs ys : List Stamped) → machine_book H book (xs ++ ys) ≡ machine_book H (machine_book H book xs) ys

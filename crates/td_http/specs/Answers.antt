@@ -1,15 +1,17 @@
 -- The JSON of what the desk says, and the status of it. Keys stand in ascending order of bytes; `serde_json` writes the text, with no space.
-use Rattle.std.specs.Prelude.{ℕ, List, codes}
+use Rattle.std.specs.Prelude.{ℕ, Bool, List, ◌++◌, codes, decimal, None}
 use Rattle.serde_json.specs.Data.{Data, number, unsigned, string, object, member, no_members}
 use Rattle.serde_json.specs.Written.{compact_text}
 use Rattle.td_base.specs.Holder.{holder_text}
 use Rattle.td_acts.specs.Names.{refusal_name}
+use Rattle.td_acts.specs.declared.said.Answer.{Answer}
 use Rattle.td_acts.specs.declared.said.Answer.TheVariants.{Holder}
 use Rattle.td_acts.specs.declared.said.Refusal.{Refusal}
 use Rattle.td_acts.specs.declared.said.Refusal.TheVariants.{ClockRange, NoHolder, HolderKnown}
 use Rattle.td_acts.specs.declared.said.Said.{Said}
 use Rattle.td_acts.specs.declared.said.Said.TheVariants.{Answered, Refused}
-use Rattle.td_http.specs.Faults.{fault_name, field_name}
+use Rattle.td_http.specs.Faults.{fault_allow, fault_name, field_name}
+use Rattle.td_http.specs.ReplyText.{reply_text}
 use Rattle.td_http.specs.declared.fault.WebFault.{WebFault}
 use Rattle.td_http.specs.declared.fault.WebFault.TheVariants.{NoRoute, NoMethod, BadHolder, BadBody, BadField, NoMemory}
 
@@ -50,6 +52,12 @@ said_body said = compact_text (said_data said)
 abbrev pub fault_body : WebFault → List ℕ
 fault_body fault = compact_text (fault_data fault)
 
+-- the bytes of an answer's body: nothing in it is escaped
+abbrev pub answer_body : Answer → List ℕ
+answer_body (Holder holder eori guarantees movements) =
+    codes "{\"eori\":\"" ++ (eori ++ (codes "\",\"guarantees\":" ++ (decimal guarantees
+    ++ (codes ",\"holder\":\"" ++ (holder_text holder ++ (codes "\",\"movements\":" ++ (decimal movements ++ codes "}")))))))
+
 -- the statuses of replies (RFC 9110, section 15)
 abbrev pub refusal_status : Refusal → ℕ
 refusal_status ClockRange = 503
@@ -67,3 +75,10 @@ fault_status BadHolder = 400
 fault_status BadBody = 400
 fault_status (BadField field) = 400
 fault_status NoMemory = 503
+
+-- whole replies; the stream stops after one with `close`
+unfoldable pub said_reply : Said → Bool → List ℕ
+said_reply said close = reply_text (said_status said) None close (said_body said)
+
+unfoldable pub fault_reply : WebFault → Bool → List ℕ
+fault_reply fault close = reply_text (fault_status fault) (fault_allow fault) close (fault_body fault)

@@ -25,14 +25,14 @@ fault_name BadBody = codes "bad-body"
 fault_name (BadField field) = codes "bad-field"
 fault_name NoMemory = codes "no-memory"
 
--- the methods that the reply lists
-abbrev pub fault_allowed : WebFault → Option Allowed
-fault_allowed NoRoute = None
-fault_allowed (NoMethod allow) = Some allow
-fault_allowed BadHolder = None
-fault_allowed BadBody = None
-fault_allowed (BadField field) = None
-fault_allowed NoMemory = None
+-- what the reply's line `Allow` lists
+abbrev pub fault_allow : WebFault → Option (List ℕ)
+fault_allow NoRoute = None
+fault_allow (NoMethod allow) = Some (allowed_text allow)
+fault_allow BadHolder = None
+fault_allow BadBody = None
+fault_allow (BadField field) = None
+fault_allow NoMemory = None
 
 -- what is wanted, want of memory aside
 abbrev pub OrNoMemory : {T : Type 0} → Result T WebFault → Result T WebFault → Type 0

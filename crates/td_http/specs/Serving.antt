@@ -1,5 +1,5 @@
 -- What the desk's service does with a request, and what a stream of requests tells each holder.
-use Rattle.std.specs.Prelude.{◌≡◌, ℕ, ℤ, ◌+◌, ◌⊎◌, Bool, true, false, if◌then◌else◌, List, [], ◌∷◌, ◌++◌, map, Option, None, Result, Ok, Err, option_map}
+use Rattle.std.specs.Prelude.{◌≡◌, ℕ, ℤ, ◌+◌, ◌⊎◌, Bool, true, false, if◌then◌else◌, List, [], ◌∷◌, ◌++◌, map, Option, Result, Ok, Err}
 use Rattle.td_acts.specs.declared.command.Command.{Command}
 use Rattle.td_acts.specs.declared.command.Stamped.{Stamped}
 use Rattle.td_acts.specs.declared.said.Said.{Said}
@@ -15,19 +15,10 @@ use Rattle.td_http.specs.declared.fault.WebFault.{WebFault}
 use Rattle.td_http.specs.declared.reply.Reply.{Reply}
 use Rattle.td_http.specs.declared.reply.Reply.TheVariants.{NoMemory, Store}
 use Rattle.td_http.specs.Request.{Asked}
-use Rattle.td_http.specs.ReplyText.{reply_text, reply_bytes, is_made}
-use Rattle.td_http.specs.Answers.{said_status, said_body, fault_status, fault_body}
-use Rattle.td_http.specs.Faults.{allowed_text, fault_allowed}
+use Rattle.td_http.specs.ReplyText.{reply_bytes, is_made}
+use Rattle.td_http.specs.Answers.{said_reply, fault_reply}
 use Rattle.td_http.specs.Bodies.{command_of}
 use Rattle.td_http.specs.Stream.{Exchange, question}
-
--- the reply to a command, by what is said to it
-unfoldable pub said_reply : Said → Bool → List ℕ
-said_reply said close = reply_text (said_status said) None close (said_body said)
-
--- the reply to a request that can't be read
-unfoldable pub fault_reply : WebFault → Bool → List ℕ
-fault_reply fault close = reply_text (fault_status fault) (option_map allowed_text (fault_allowed fault)) close (fault_body fault)
 
 -- what a request asks: a command, or why it can't be read
 abbrev pub command_in : Asked → Result Command WebFault

@@ -1,14 +1,17 @@
 //! What the desk says, as JSON.
 ghost use Rattle.std.specs.Prelude.{◌≡◌, IfOk, string_bytes};
 ghost use Rattle.serde_json.specs.View.{view};
-ghost use Rattle.td_http.specs.Answers.{error_data, fault_body, fault_data, fault_status, field_data, holder_data, refusal_status, said_body, said_data, said_status};
+ghost use Rattle.td_acts.specs.declared.said.Answer.TheVariants.{Holder};
+ghost use Rattle.td_acts.specs.declared.said.Said.TheVariants.{Answered};
+ghost use Rattle.td_http.specs.Answers.{answer_body, error_data, fault_body, fault_data, fault_reply, fault_status, field_data, holder_data, refusal_status, said_body, said_data, said_reply, said_status};
 
 use crate::fault::WebFault;
+use crate::reply::json_reply;
 use http::StatusCode;
 use serde_json::{Value, json};
 use std::alloc::{AllocError, Global};
 use td_acts::{Answer, Refusal, Said};
-use td_base::Eori;
+use td_base::{Eori, HolderNo};
 
 fn eori_text(eori: &Eori) -> &str
     ensures { result.now ≡ eori.now }
@@ -68,21 +71,21 @@ fn fault_value(alloc: Global, fault: &WebFault) -> Result<Value, AllocError>
     }
 }
 
-pub(crate) fn said_text(alloc: Global, said: &Said) -> Result<String, AllocError>
+fn said_text(alloc: Global, said: &Said) -> Result<String, AllocError>
     ensures { IfOk result (λ s. string_bytes s ≡ said_body said.now) }
 {
     let value = said_value(alloc, said)?;
     value.to_string(alloc)
 }
 
-pub(crate) fn fault_text(alloc: Global, fault: &WebFault) -> Result<String, AllocError>
+fn fault_text(alloc: Global, fault: &WebFault) -> Result<String, AllocError>
     ensures { IfOk result (λ s. string_bytes s ≡ fault_body fault.now) }
 {
     let value = fault_value(alloc, fault)?;
     value.to_string(alloc)
 }
 
-pub(crate) fn status_of(said: &Said) -> StatusCode
+fn status_of(said: &Said) -> StatusCode
     ensures { result ≡ said_status said.now }
 {
     match said {
@@ -93,7 +96,7 @@ pub(crate) fn status_of(said: &Said) -> StatusCode
     }
 }
 
-pub(crate) fn fault_status_of(fault: &WebFault) -> StatusCode
+fn fault_status_of(fault: &WebFault) -> StatusCode
     ensures { result ≡ fault_status fault.now }
 {
     match fault {
@@ -102,4 +105,33 @@ pub(crate) fn fault_status_of(fault: &WebFault) -> StatusCode
         WebFault::BadHolder | WebFault::BadBody | WebFault::BadField(_) => StatusCode::BAD_REQUEST,
         WebFault::NoMemory => StatusCode::SERVICE_UNAVAILABLE,
     }
+}
+
+/// The whole reply to a command on which the desk says that. `close` tells that the stream stops after it.
+pub fn reply_bytes(alloc: Global, said: &Said, close: bool) -> Result<Vec<u8>, AllocError>
+    ensures { IfOk result (λ v. v.items ≡ said_reply said.now close) }
+{
+    let body = said_text(alloc, said)?;
+    json_reply(alloc, status_of(said), None, close, &body)
+}
+
+/// The whole reply to a request that can't be read. `close` tells that the stream stops after it.
+pub fn fault_bytes(alloc: Global, fault: &WebFault, close: bool) -> Result<Vec<u8>, AllocError>
+    ensures { IfOk result (λ v. v.items ≡ fault_reply fault.now close) }
+{
+    let body = fault_text(alloc, fault)?;
+    json_reply(alloc, fault_status_of(fault), fault.allow(), close, &body)
+}
+
+/// The body that tells of a holder is these very bytes: nothing in it is escaped.
+pub fn holder_is_told_in(holder: HolderNo, eori: Eori, guarantees: u32, movements: u32)
+    ensures { said_body (Answered (Holder holder eori guarantees movements)) ≡ answer_body (Holder holder eori guarantees movements) }
+{
+    let _answer = Answer::Holder {
+        holder,
+        eori,
+        guarantees,
+        movements,
+    };
+    let _text = eori.as_bytes();
 }

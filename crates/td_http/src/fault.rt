@@ -63,8 +63,9 @@ impl Field {
 }
 
 impl WebFault {
-    ghost use Rattle.std.specs.Prelude.{◌≡◌, option_map};
-    ghost use Rattle.td_http.specs.Faults.{fault_name, fault_allowed};
+    ghost use Rattle.std.specs.Prelude.{◌≡◌};
+    ghost use Rattle.std.specs.Option.{option_copied};
+    ghost use Rattle.td_http.specs.Faults.{fault_name, fault_allow};
 
     /// The name that the reply gives the fault.
     pub fn name(&self) -> &'static str
@@ -81,11 +82,11 @@ impl WebFault {
     }
 
     /// What the reply's line `Allow` lists: only where the path has other methods.
-    pub fn allowed(&self) -> Option<Allowed>
-        ensures { result ≡ fault_allowed self.now }
+    pub fn allow(&self) -> Option<&'static str>
+        ensures { option_copied result ≡ fault_allow self.now }
     {
         match self {
-            WebFault::NoMethod { allow } => Some(*allow),
+            WebFault::NoMethod { allow } => Some(allow.text()),
             _ => None,
         }
     }

@@ -35,12 +35,9 @@ fn line_for(place: Place, method: &Method) -> Result<Line, WebFault>
 {
     match (place, method.as_str()) {
         (Place::OfficeHolder, "PUT") => Ok(Line::Register),
-        (Place::OfficeHolder, _) => Err(WebFault::NoMethod {
-            allow: methods_for(place),
-        }),
         (Place::Holder, "GET") => Ok(Line::SeeHolder),
-        (Place::Holder, _) => Err(WebFault::NoMethod {
-            allow: Allowed::Get,
+        _ => Err(WebFault::NoMethod {
+            allow: methods_for(place),
         }),
     }
 }

@@ -8,11 +8,12 @@ ghost use Rattle.td_desk.specs.declared.fault.Fault.TheVariants as fault;
 ghost use Rattle.td_desk.specs.declared.running.Outcome.TheVariants as outcome;
 ghost use Rattle.td_desk.specs.Runs.{IsStep};
 ghost use Rattle.td_http.specs.Request.{asked};
-ghost use Rattle.td_http.specs.Serving.{said_reply, IsReplyTo, IsFaultReply, HandledAs};
+ghost use Rattle.td_http.specs.Serving.{IsReplyTo, IsFaultReply, HandledAs};
+ghost use Rattle.td_http.specs.Answers.{said_reply};
 
+use crate::answers::{fault_bytes, reply_bytes};
 use crate::bodies::{path, read_command_by};
 use crate::fault::{Allowed, WebFault};
-use crate::replies::{fault_bytes, reply_bytes};
 use crate::reply::{Reply, head_reply};
 use crate::request::Request;
 use crate::routes::Routes;
