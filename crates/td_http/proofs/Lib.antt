@@ -9,3 +9,5 @@ mod Readings
 mod Serving
 mod Ends
 mod Farewells
+mod Unique
+mod Standings

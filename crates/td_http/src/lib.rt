@@ -4,6 +4,7 @@
 mod clock;
 mod framing;
 mod input;
+mod laws;
 mod next;
 mod reading;
 mod reply;
@@ -13,6 +14,7 @@ mod stream;
 
 pub use clock::Clock;
 pub use framing::FramingError;
+pub use laws::one_reading;
 pub use next::{Next, next_request};
 pub use reply::{Reply, error_body, head_reply, json_reply};
 pub use request::Request;
