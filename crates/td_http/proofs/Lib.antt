@@ -20,3 +20,5 @@ mod Handling
 mod Served
 mod Streamed
 mod PlainText
+mod Unique
+mod Standings

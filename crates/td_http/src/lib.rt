@@ -8,6 +8,7 @@ mod desk_stream;
 mod fault;
 mod framing;
 mod input;
+mod laws;
 mod next;
 mod reading;
 mod reply;
@@ -24,6 +25,7 @@ pub use clock::Clock;
 pub use desk_stream::serve_stream;
 pub use fault::{Allowed, Field, WebFault};
 pub use framing::FramingError;
+pub use laws::one_reading;
 pub use next::{Next, next_request};
 pub use reply::{Reply, error_body, head_reply, json_reply};
 pub use request::Request;
@@ -31,3 +33,6 @@ pub use routes::route;
 pub use service::Service;
 pub use stream::{Handler, StreamEnd, serve_requests};
 pub use table::Route;
+
+#[cfg(test)]
+mod tests;
