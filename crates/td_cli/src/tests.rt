@@ -1,3 +1,59 @@
-//! The program's jobs on readers and writers in memory.
-#[test]
-fn nothing() {}
+//! The program's jobs, over readers and writers in memory. Expected bytes are those of the desk's formats, written out.
+mod devices;
+mod first_requests;
+mod wrong_words;
+
+use crate::perform::perform;
+use std::alloc::{AllocError, Global};
+use std::io::Read;
+use std::test::Fail;
+use td_base::Counted;
+
+/// What a job left: its status, and what it wrote.
+#[derive(Drop)]
+struct Done {
+    status: u8,
+    out: Vec<u8>,
+    errors: Vec<u8>,
+}
+
+fn words_of(alloc: Global, words: &[&str]) -> Result<Vec<String>, AllocError> {
+    let mut owned = Vec::new(alloc);
+    for word in words {
+        owned.push(String::from_str(alloc, word)?)?;
+    }
+    Ok(owned)
+}
+
+/// Does the job of the words over any reader.
+fn perform_over<R: Read>(rt: &HostRuntime, words: &[&str], reader: R) -> Result<Done, Fail>
+where
+    R: Drop,
+{
+    let words = words_of(rt.alloc(), words)?;
+    let mut input = Counted::new(reader);
+    let mut out = Counted::new(Vec::new(rt.alloc()));
+    let mut errors = Counted::new(Vec::new(rt.alloc()));
+    let status = perform(rt, &words, &mut input, &mut out, &mut errors);
+    Ok(Done {
+        status,
+        out: out.into_inner(),
+        errors: errors.into_inner(),
+    })
+}
+
+/// `transit-desk pipe --country CH --at 1740819600` on these bytes.
+fn pipe(rt: &HostRuntime, input: &[u8]) -> Result<Done, Fail> {
+    perform_over(
+        rt,
+        &[
+            "transit-desk",
+            "pipe",
+            "--country",
+            "CH",
+            "--at",
+            "1740819600",
+        ],
+        input,
+    )
+}

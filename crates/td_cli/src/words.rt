@@ -63,6 +63,7 @@ fn pipe_command<'a>(alloc: Global) -> Result<Command<'a>, AllocError> {
 
 fn program<'a>(alloc: Global) -> Result<Command<'a>, AllocError> {
     Command::new(alloc, "transit-desk")
+        .bin_name("transit-desk")?
         .about("The desk of a transit office")
         .subcommand_required(true)
         .subcommand(pipe_command(alloc)?)
