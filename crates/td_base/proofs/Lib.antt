@@ -1,3 +1,5 @@
 mod Filled
 pub mod Counts
 mod Slices
+mod Sums
+mod Ascii

@@ -1,16 +1,25 @@
 //! The vocabulary of the desk: holders, countries, moments, and readers and writers that are counted.
 #![tactic(auto)]
 
+mod checking;
+mod codes;
 mod counted;
 mod country;
 mod eori;
 mod holder;
+mod lrn;
 mod moment;
+mod money;
+mod text;
 mod writing;
 
+pub use checking::{check_digit, letter_values_skip_elevens};
+pub use codes::{AccessCode, OfficeNo};
 pub use counted::Counted;
 pub use country::Country;
 pub use eori::Eori;
 pub use holder::HolderNo;
+pub use lrn::Lrn;
 pub use moment::{ClockRange, Moment};
+pub use money::{Cents, Cover, Reference};
 pub use writing::write_whole;
