@@ -3,3 +3,5 @@ pub mod Counts
 mod Slices
 mod Sums
 mod Ascii
+mod Decimals
+mod Amounts

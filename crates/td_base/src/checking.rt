@@ -26,8 +26,7 @@ pub fn check_digit(text: &[u8]) -> Option<u8>
 /// The letters have the numbers from 10 to 38 in order, but for the multiples of 11.
 pub fn letter_values_skip_elevens()
     ensures { letter_values ≡ filter (λ n. not (n % 11 == 0)) (range_with_len 10 29) }
-{
-}
+{}
 
 // The value of a character in the sum.
 fn value(c: u8) -> Option<u8>

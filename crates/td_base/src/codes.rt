@@ -27,7 +27,11 @@ impl AccessCode {
     pub fn read(text: &[u8]) -> Option<Self>
         ensures { SomeIff result (IsAccessCode text.now) text.now }
     {
-        if text.len() != 4 || !text.iter().all(|c| c.is_ascii_digit() || c.is_ascii_uppercase()) {
+        if text.len() != 4
+            || !text
+                .iter()
+                .all(|c| c.is_ascii_digit() || c.is_ascii_uppercase())
+        {
             return None;
         }
         let mut bytes = [0; 4];
@@ -76,7 +80,9 @@ impl OfficeNo {
     {
         if text.len() != 8
             || !text[..2].iter().all(|c| c.is_ascii_uppercase())
-            || !text[2..].iter().all(|c| c.is_ascii_digit() || c.is_ascii_uppercase())
+            || !text[2..]
+                .iter()
+                .all(|c| c.is_ascii_digit() || c.is_ascii_uppercase())
         {
             return None;
         }

@@ -66,5 +66,7 @@ fn is_eori(text: &[u8]) -> bool
     text.len() >= 3
         && text.len() <= 17
         && text[..2].iter().all(|c| c.is_ascii_uppercase())
-        && text[2..].iter().all(|c| c.is_ascii_digit() || c.is_ascii_uppercase())
+        && text[2..]
+            .iter()
+            .all(|c| c.is_ascii_digit() || c.is_ascii_uppercase())
 }

@@ -1,7 +1,8 @@
 //! Numbers of holders.
-ghost use Rattle.std.specs.Prelude.{◌≡◌, ℕ, ◌+◌, ◌%◌, ◌≤◌, Some, SomeIff};
+ghost use Rattle.std.specs.Prelude.{◌≡◌, ℕ, ◌≤◌, Some, SomeIff};
 ghost use Rattle.td_base.specs.Holder.{IsHolderNumber, IsHolderText, digits_value, holder_text};
 
+use crate::digits::last_digit;
 use std::fmt;
 use std::marker::Model;
 
@@ -64,18 +65,11 @@ pub fn holder_reads_back(holder: HolderNo)
     let _number = holder.number;
 }
 
-// The last digit of a number.
-fn last_digit(n: u32) -> char
-    ensures { result ≡ 48 + n % 10 }
-{
-    char::from(b'0' + (n % 10) as u8)
-}
-
 impl fmt::Display for HolderNo {
     ghost output = { λ h. Some (holder_text h) };
 
     fn fmt<W: fmt::Write>(&self, f: &mut fmt::Formatter<W>) -> fmt::Result {
-        let n = self.number;
+        let n = u64::from(self.number);
         let a = last_digit(n / 100_000);
         let b = last_digit(n / 10_000);
         let c = last_digit(n / 1_000);

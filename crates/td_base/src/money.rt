@@ -1,7 +1,8 @@
 //! Amounts of money, reference amounts and covers.
-ghost use Rattle.std.specs.Prelude.{◌≡◌, ℕ, ◌+◌, ◌*◌, ◌<◌, ◌≤◌, Some, SomeIff};
-ghost use Rattle.td_base.specs.Money.{IsCents, IsReference, IsCover, share_of};
+ghost use Rattle.std.specs.Prelude.{◌≡◌, ℕ, ◌+◌, ◌*◌, ◌<◌, ◌≤◌, ◌↔◌, IsTrue, Some, SomeIff};
+ghost use Rattle.td_base.specs.Money.{IsCents, IsReference, IsCover, IsWhole, IsCentsText, share_of, cents_value, cents_text};
 
+use crate::digits::{last_digit, read_digits};
 use std::fmt;
 use std::marker::Model;
 
@@ -34,6 +35,21 @@ impl Cents {
         }
     }
 
+    /// Reads exactly a whole number with no needless 0 in front, a point and two digits: `0.01` and `1234.56`,
+    /// but not `00.01`, `.01`, `1` or `1.0`.
+    pub fn read(text: &[u8]) -> Option<Self>
+        ensures { SomeIff result (IsCentsText text.now) (cents_value text.now) }
+    {
+        let point = text.len().checked_sub(3)?;
+        // More than 14 digits in front are above the greatest amount.
+        if point > 14 || text[point] != b'.' || !is_whole(&text[..point]) {
+            return None;
+        }
+        let whole = read_digits(&text[..point])?;
+        let cents = read_digits(&text[point + 1..])?;
+        Cents::new(100 * whole + cents)
+    }
+
     /// The cents.
     pub fn get(self) -> u64
         ensures value { result ≡ self }
@@ -59,6 +75,34 @@ impl Cents {
             cents: (self.cents * cover.get()).div_ceil(100),
         }
     }
+}
+
+// Whether it is a whole number with no needless 0 in front.
+fn is_whole(text: &[u8]) -> bool
+    ensures { IsTrue result ↔ IsWhole text.now }
+{
+    !text.is_empty()
+        && (text[0] != b'0' || text.len() == 1)
+        && text.iter().all(|c| c.is_ascii_digit())
+}
+
+impl fmt::Display for Cents {
+    ghost output = { λ a. Some (cents_text a) };
+
+    fn fmt<W: fmt::Write>(&self, f: &mut fmt::Formatter<W>) -> fmt::Result {
+        let whole = self.cents / 100;
+        let tens = last_digit(self.cents / 10);
+        let ones = last_digit(self.cents);
+        write!(f, "{whole}.{tens}{ones}")
+    }
+}
+
+/// The text that is printed for an amount is read back as that amount.
+pub fn cents_read_back(amount: Cents)
+    ensures form { IsCentsText (cents_text amount) }
+    ensures value { cents_value (cents_text amount) ≡ amount }
+{
+    let _cents = amount.cents;
 }
 
 /// The reference amount of a guarantee in cents, 1 to 10^15. Contracts see it as that number.
