@@ -1,12 +1,20 @@
 -- Numbers in a fixed number of digits: what they show.
-use Rattle.std.proofs.Common.{◌≡◌, ℕ, suc, ◌+◌, ◌-◌, ◌*◌, ◌/◌, ◌%◌, ◌^◌, ◌<◌, ◌≤◌, List, [], ◌∷◌, ◌++◌, length, take, drop, set, get_or, All, arith, refl, ap, sym, ◌∙◌, add-one, lit<}
+use Rattle.std.proofs.Common.{◌≡◌, ℕ, suc, ◌+◌, ◌-◌, ◌*◌, ◌/◌, ◌%◌, ◌^◌, ◌<◌, ◌≤◌, List, [], ◌∷◌, ◌++◌, length, fold, zero, take, drop, set, get_or, All, arith, refl, ap, sym, ◌∙◌, add-one, lit<}
 use Rattle.std.proofs.Math.Nat.{pow-suc, pow-le-pow_right, div-div-eq-div-mul}
 use Rattle.std.proofs.lemmas.List.{drop-set, drop_all}
+use Rattle.std.proofs.Math.Arith.{mod-mul}
+use Rattle.std.proofs.Math.Nat.{pow-succ', mul_assoc, mul_comm}
+use Rattle.std.proofs.lemmas.List.Elements.{All-nil, All-cons}
+use Rattle.std.specs.Char.{IsAsciiDigit}
 use Rattle.td_base.specs.Digits.{fixed_decimal}
+use Rattle.td_base.specs.Holder.{digits_value}
 
 -- powers of 10 rise
 pub ten_power_small : (i n : ℕ) → i ≤ n → 10 ^ i ≤ 10 ^ n
 ten_power_small i n small = pow-le-pow_right {n = 10} (lit< tt) small
+
+pow_positive : (n : ℕ) → 0 < 10 ^ n
+pow_positive n = omega (arith, ten_power_small 0 n (omega arith))
 
 -- one more digit in front
 pub fixed_decimal-suc : (width n : ℕ) → fixed_decimal (width + 1) n ≡ (48 + n / 10 ^ width % 10) ∷ fixed_decimal width n
@@ -37,3 +45,34 @@ pub next_rest : (size place n rest : ℕ) → 0 < place → place ≤ size → r
 next_rest size place n rest some within e =
     let wider : size - (place - 1) ≡ suc (size - place) = omega arith in
     rw (wider, pow-suc, e, div-div-eq-div-mul) refl
+
+-- it has that many digits
+pub length-fixed_decimal : (width n : ℕ) → length (fixed_decimal width n) ≡ width
+unfolding fixed_decimal
+length-fixed_decimal zero n = refl
+length-fixed_decimal (suc width) n = ap suc (length-fixed_decimal width n)
+
+pub fixed_decimal_digits : (width n : ℕ) → All IsAsciiDigit (fixed_decimal width n)
+unfolding fixed_decimal
+fixed_decimal_digits zero n = All-nil IsAsciiDigit
+fixed_decimal_digits (suc width) n =
+    All-cons IsAsciiDigit (48 + n / 10 ^ width % 10) (fixed_decimal width n) (omega arith, omega arith) (fixed_decimal_digits width n)
+
+regroup : (a digit power rest : ℕ) → (10 * a + (48 + digit - 48)) * power + rest ≡ a * (10 * power) + (digit * power + rest)
+regroup a digit power rest =
+    let same : 48 + digit - 48 ≡ digit = omega arith in
+    rw same (grind arith)
+
+-- behind a number they show that number and the last digits of n
+shown_behind : (a width n : ℕ) → fold (λ n c. 10 * n + (c - 48)) a (fixed_decimal width n) ≡ a * 10 ^ width + n % 10 ^ width
+unfolding fixed_decimal
+shown_behind a zero n = omega arith
+shown_behind a (suc width) n =
+    let digit = n / 10 ^ width % 10 in
+    let rest = shown_behind (10 * a + (48 + digit - 48)) width n in
+    let low = mod-mul n {m = 10} {c = 10 ^ width} (lit< tt) (pow_positive width) in
+    rest ∙ regroup a digit (10 ^ width) (n % 10 ^ width) ∙ rw (pow-succ', low) refl
+
+-- they show the number's last digits
+pub digits_value-fixed_decimal : (width n : ℕ) → digits_value (fixed_decimal width n) ≡ n % 10 ^ width
+digits_value-fixed_decimal width n = shown_behind 0 width n ∙ omega arith

@@ -5,3 +5,8 @@ mod Sums
 mod Ascii
 mod Decimals
 mod Amounts
+mod ReferenceParts
+mod Owners
+mod Checked
+mod MadeReferences
+mod Written

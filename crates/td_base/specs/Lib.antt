@@ -8,4 +8,5 @@ pub mod Codes
 pub mod Moment
 pub mod Digits
 pub mod Money
+pub mod References
 pub mod Counted

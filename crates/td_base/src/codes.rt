@@ -2,7 +2,7 @@
 ghost use Rattle.std.specs.Prelude.{◌≡◌, ℕ, List, Some, SomeIff};
 ghost use Rattle.td_base.specs.Codes.{IsAccessCode, IsOfficeNo};
 
-use crate::text::write_ascii;
+use crate::text::{is_capitals, is_marks, write_ascii};
 use std::fmt;
 use std::marker::Model;
 

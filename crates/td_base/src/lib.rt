@@ -11,6 +11,7 @@ mod holder;
 mod lrn;
 mod moment;
 mod money;
+mod references;
 mod text;
 mod writing;
 
@@ -23,4 +24,7 @@ pub use holder::HolderNo;
 pub use lrn::Lrn;
 pub use moment::{ClockRange, Moment};
 pub use money::{Cents, Cover, Reference, cents_read_back};
+pub use references::{
+    Grn, Mrn, RefFault, made_grn_reads_back, made_mrn_reads_back, made_references_differ,
+};
 pub use writing::write_whole;

@@ -3,6 +3,7 @@ ghost use Rattle.std.specs.Prelude.{◌≡◌, ℕ, ◌+◌, ◌*◌, ◌<◌, �
 ghost use Rattle.td_base.specs.Money.{IsCents, IsReference, IsCover, IsWhole, IsCentsText, share_of, cents_value, cents_text};
 
 use crate::digits::{last_digit, read_digits};
+use crate::text::is_digits;
 use std::fmt;
 use std::marker::Model;
 
@@ -81,9 +82,7 @@ impl Cents {
 fn is_whole(text: &[u8]) -> bool
     ensures { IsTrue result ↔ IsWhole text.now }
 {
-    !text.is_empty()
-        && (text[0] != b'0' || text.len() == 1)
-        && text.iter().all(|c| c.is_ascii_digit())
+    !text.is_empty() && (text[0] != b'0' || text.len() == 1) && is_digits(text)
 }
 
 impl fmt::Display for Cents {
