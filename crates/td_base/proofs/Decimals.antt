@@ -76,3 +76,12 @@ shown_behind a (suc width) n =
 -- they show the number's last digits
 pub digits_value-fixed_decimal : (width n : ℕ) → digits_value (fixed_decimal width n) ≡ n % 10 ^ width
 digits_value-fixed_decimal width n = shown_behind 0 width n ∙ omega arith
+
+-- two and four of them, one by one
+pub two_digits : (n : ℕ) → fixed_decimal 2 n ≡ (48 + n / 10 % 10) ∷ (48 + n % 10) ∷ []
+unfolding fixed_decimal
+two_digits n = let whole : n / 1 ≡ n = omega arith in rw whole refl
+
+pub four_digits : (n : ℕ) → fixed_decimal 4 n ≡ (48 + n / 1000 % 10) ∷ (48 + n / 100 % 10) ∷ (48 + n / 10 % 10) ∷ (48 + n % 10) ∷ []
+unfolding fixed_decimal
+four_digits n = let whole : n / 1 ≡ n = omega arith in rw whole refl

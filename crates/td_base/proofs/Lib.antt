@@ -10,3 +10,5 @@ mod Owners
 mod Checked
 mod MadeReferences
 mod Written
+mod Calendar
+mod DayTexts

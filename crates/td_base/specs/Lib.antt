@@ -8,5 +8,6 @@ pub mod Codes
 pub mod Moment
 pub mod Digits
 pub mod Money
+pub mod Days
 pub mod References
 pub mod Counted

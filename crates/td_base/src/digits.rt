@@ -21,10 +21,10 @@ pub fn read_digits(text: &[u8]) -> Option<u64>
 }
 
 /// The last digit of a number.
-pub fn last_digit(number: u64) -> char
+pub fn last_digit(number: u64) -> u8
     ensures { result ≡ 48 + number % 10 }
 {
-    char::from(b'0' + (number % 10) as u8)
+    b'0' + (number % 10) as u8
 }
 
 /// Fills the bytes with the last digits of a number.

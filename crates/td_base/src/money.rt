@@ -90,8 +90,8 @@ impl fmt::Display for Cents {
 
     fn fmt<W: fmt::Write>(&self, f: &mut fmt::Formatter<W>) -> fmt::Result {
         let whole = self.cents / 100;
-        let tens = last_digit(self.cents / 10);
-        let ones = last_digit(self.cents);
+        let tens = char::from(last_digit(self.cents / 10));
+        let ones = char::from(last_digit(self.cents));
         write!(f, "{whole}.{tens}{ones}")
     }
 }
