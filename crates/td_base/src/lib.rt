@@ -1,4 +1,5 @@
-//! The vocabulary of the desk: holders, countries, moments, and readers and writers that are counted.
+//! The vocabulary of the desk: holders, references and check digits, money, days, codes, and readers and writers
+//! that are counted.
 #![tactic(auto)]
 
 mod checking;
@@ -9,10 +10,13 @@ mod day;
 mod digits;
 mod eori;
 mod holder;
+mod laws;
 mod lrn;
 mod moment;
 mod money;
 mod references;
+#[cfg(test)]
+mod tests;
 mod text;
 mod writing;
 
@@ -20,9 +24,10 @@ pub use checking::{check_digit, letter_values_skip_elevens};
 pub use codes::{AccessCode, OfficeNo};
 pub use counted::Counted;
 pub use country::Country;
-pub use day::Day;
+pub use day::{Day, day_reads_back};
 pub use eori::Eori;
-pub use holder::HolderNo;
+pub use holder::{HolderNo, holder_reads_back};
+pub use laws::texts_read_back;
 pub use lrn::Lrn;
 pub use moment::{ClockRange, Moment};
 pub use money::{Cents, Cover, Reference, cents_read_back};

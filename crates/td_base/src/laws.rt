@@ -1,0 +1,38 @@
+//! What holds of all texts that are printed.
+ghost use Rattle.td_base.specs.Codes.{IsAccessCode, IsLrn, IsOfficeNo};
+ghost use Rattle.td_base.specs.Country.{IsCountry};
+ghost use Rattle.td_base.specs.Eori.{IsEori};
+ghost use Rattle.td_base.specs.References.{IsGrn, IsMrn};
+
+use crate::codes::{AccessCode, OfficeNo};
+use crate::country::Country;
+use crate::eori::Eori;
+use crate::lrn::Lrn;
+use crate::references::{Grn, Mrn};
+
+/// Each value that is seen as its text is printed as a text that its `read` accepts, and reads as that text.
+pub fn texts_read_back(
+    country: Country,
+    eori: Eori,
+    code: AccessCode,
+    lrn: Lrn,
+    office: OfficeNo,
+    grn: Grn,
+    mrn: Mrn,
+)
+    ensures country { IsCountry country }
+    ensures eori { IsEori eori }
+    ensures code { IsAccessCode code }
+    ensures lrn { IsLrn lrn }
+    ensures office { IsOfficeNo office }
+    ensures grn { IsGrn grn }
+    ensures mrn { IsMrn mrn }
+{
+    let _country = country.as_bytes();
+    let _eori = eori.as_bytes();
+    let _code = code.as_bytes();
+    let _lrn = lrn.as_bytes();
+    let _office = office.as_bytes();
+    let _grn = grn.as_bytes();
+    let _mrn = mrn.as_bytes();
+}
