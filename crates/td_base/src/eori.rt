@@ -2,7 +2,7 @@
 ghost use Rattle.std.specs.Prelude.{◌≡◌, ◌↔◌, IsTrue, Some, SomeIff};
 ghost use Rattle.td_base.specs.Eori.{IsEori};
 
-use crate::text::write_ascii;
+use crate::text::{is_capitals, is_marks, write_ascii};
 use std::fmt;
 use std::marker::Model;
 
@@ -63,10 +63,5 @@ impl fmt::Display for Eori {
 fn is_eori(text: &[u8]) -> bool
     ensures { IsTrue result ↔ IsEori text.now }
 {
-    text.len() >= 3
-        && text.len() <= 17
-        && text[..2].iter().all(|c| c.is_ascii_uppercase())
-        && text[2..]
-            .iter()
-            .all(|c| c.is_ascii_digit() || c.is_ascii_uppercase())
+    text.len() >= 3 && text.len() <= 17 && is_capitals(&text[..2]) && is_marks(&text[2..])
 }

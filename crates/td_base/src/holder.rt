@@ -2,7 +2,7 @@
 ghost use Rattle.std.specs.Prelude.{◌≡◌, ℕ, ◌≤◌, Some, SomeIff};
 ghost use Rattle.td_base.specs.Holder.{IsHolderNumber, IsHolderText, digits_value, holder_text};
 
-use crate::digits::last_digit;
+use crate::digits::{last_digit, read_digits};
 use crate::text::write_ascii;
 use std::fmt;
 use std::marker::Model;
@@ -62,14 +62,10 @@ impl HolderNo {
     pub fn read(text: &[u8]) -> Option<Self>
         ensures { SomeIff result (IsHolderText text.now) (digits_value text.now) }
     {
-        if text.len() != 6 || !text.iter().all(|c| c.is_ascii_digit()) {
+        if text.len() != 6 {
             return None;
         }
-        let mut number: u32 = 0;
-        for c in text {
-            number = 10 * number + u32::from(*c - b'0');
-        }
-        HolderNo::new(number)
+        HolderNo::new(read_digits(text)? as u32)
     }
 }
 

@@ -4,11 +4,13 @@ ghost use Rattle.td_base.specs.Country.{IsCountry};
 ghost use Rattle.td_base.specs.Eori.{IsEori};
 ghost use Rattle.td_base.specs.References.{IsGrn, IsMrn};
 
-use crate::codes::{AccessCode, OfficeNo};
+use crate::access_code::AccessCode;
 use crate::country::Country;
 use crate::eori::Eori;
+use crate::grn::Grn;
 use crate::lrn::Lrn;
-use crate::references::{Grn, Mrn};
+use crate::mrn::Mrn;
+use crate::office::OfficeNo;
 
 /// Each value that is seen as its text is printed as a text that its `read` accepts, and reads as that text.
 pub fn texts_read_back(
