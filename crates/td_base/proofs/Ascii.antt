@@ -1,5 +1,5 @@
 -- Texts of the desk are ASCII.
-use Rattle.std.proofs.Common.{ℕ, ◌-◌, ◌<◌, ◌≤◌, List, length, take, drop, All, arith, inl, inr, sym, subst, lit<}
+use Rattle.std.proofs.Common.{ℕ, ◌-◌, ◌<◌, ◌≤◌, List, length, take, drop, All, arith, inl, inr, sym, lit<}
 use Rattle.std.specs.Char.{IsAsciiDigit, IsAsciiUppercase}
 use Rattle.std.specs.Str.{IsAscii}
 use Rattle.std.proofs.lemmas.Bool.{cases_lt}

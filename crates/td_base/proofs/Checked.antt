@@ -1,5 +1,5 @@
 -- The check digit of a reference.
-use Rattle.std.proofs.Common.{◌≡◌, ℕ, ◌+◌, ◌-◌, ◌%◌, ◌<◌, ◌≤◌, ◌==◌, Bool, true, false, not, List, [], ◌∷◌, ◌++◌, if◌then◌else◌, length, take, drop, get_or, All, Option, Some, None, nat_eq, arith, refl, ap, sym, ◌∙◌, inl, inr, add-zero}
+use Rattle.std.proofs.Common.{◌≡◌, ℕ, ◌+◌, ◌-◌, ◌%◌, ◌<◌, ◌≤◌, ◌==◌, true, false, not, List, ◌++◌, if◌then◌else◌, length, take, drop, get_or, All, Option, Some, None, nat_eq, arith, ap, sym, ◌∙◌, inl, inr, add-zero}
 use Rattle.std.specs.Char.{IsAsciiDigit, IsAsciiUppercase}
 use Rattle.std.specs.Option.{SomeIff, option_eq}
 use Rattle.std.proofs.lemmas.Bool.{not-false, not-true, eqb-true, eq-eqb, false≢true}

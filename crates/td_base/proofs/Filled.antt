@@ -1,5 +1,5 @@
 -- An array whose front is replaced by a text.
-use Rattle.std.proofs.Common.{◌≡◌, ◌++◌, ◌≤◌, ℕ, List, arith, length, drop, take, replicate, refl}
+use Rattle.std.proofs.Common.{◌≡◌, ◌++◌, ℕ, List, arith, length, drop, replicate}
 use Rattle.std.proofs.lemmas.List.{drop-replicate, length-append}
 use Rattle.std.proofs.Math.Seq.{take-append_seam, drop-append_seam}
 use Rattle.td_base.specs.Kept.{IsKept}

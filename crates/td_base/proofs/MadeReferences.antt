@@ -1,14 +1,14 @@
 -- What a made reference is, and what it says.
-use Rattle.std.proofs.Common.{◌≡◌, ℕ, ◌+◌, ◌-◌, ◌%◌, ◌^◌, ◌<◌, ◌≤◌, Bool, true, false, List, [], ◌∷◌, ◌++◌, length, take, drop, All, Option, Some, None, arith, refl, ap, sym, ◌∙◌, inl, inr, mod-eq_of_lt}
-use Rattle.std.specs.Char.{IsAsciiDigit, IsAsciiUppercase}
+use Rattle.std.proofs.Common.{◌≡◌, ℕ, ◌+◌, ◌^◌, ◌<◌, ◌≤◌, true, List, [], ◌++◌, length, take, drop, All, Some, arith, ap, sym, ◌∙◌, inl, mod-eq_of_lt}
+use Rattle.std.specs.Char.{IsAsciiDigit}
 use Rattle.std.proofs.lemmas.List.{take_at, drop_at, length-append}
-use Rattle.std.proofs.lemmas.List.Elements.{All-nil, All-cons, All-append, All-same, All-weaker}
+use Rattle.std.proofs.lemmas.List.Elements.{All-nil, All-cons, All-append, All-weaker}
 use Rattle.td_base.specs.Country.{IsCountry}
 use Rattle.td_base.specs.CheckDigit.{check_of, IsCheckable}
 use Rattle.td_base.specs.Digits.{fixed_decimal}
-use Rattle.td_base.specs.Holder.{IsHolderNumber, digits_value}
+use Rattle.td_base.specs.Holder.{IsHolderNumber}
 use Rattle.td_base.specs.Letters.{IsMark}
-use Rattle.td_base.specs.References.{identifier_of, country_of, holder_part, serial_part, is_owned, owner_of, serial_of, reference_text, HasForm, IsReferenceText}
+use Rattle.td_base.specs.References.{holder_part, serial_part, is_owned, owner_of, serial_of, reference_text, IsReferenceText}
 use Rattle.td_base.proofs.Checked.{check_small, front_checkable}
 use Rattle.td_base.proofs.Decimals.{length-fixed_decimal, fixed_decimal_digits, digits_value-fixed_decimal}
 use Rattle.td_base.proofs.Owners.{owned_from, owner_is, serial_is}

@@ -1,13 +1,10 @@
 -- The parts of a reference.
-use Rattle.std.proofs.Common.{◌≡◌, ℕ, ◌+◌, ◌-◌, ◌<◌, ◌≤◌, Bool, true, false, List, [], ◌∷◌, ◌++◌, length, take, drop, get_or, All, Option, Some, None, arith, refl, ap, sym, ◌∙◌, inl, inr, append_assoc}
-use Rattle.std.specs.Char.{IsAsciiDigit, IsAsciiUppercase}
-use Rattle.std.specs.List.{slice_get, slice_range}
+use Rattle.std.proofs.Common.{◌≡◌, ℕ, ◌+◌, ◌-◌, List, [], ◌∷◌, ◌++◌, length, take, drop, Some, arith, refl, ap, ◌∙◌, append_assoc}
+use Rattle.std.specs.List.{slice_get}
 use Rattle.std.proofs.lemmas.List.{take_at, drop_at, length-append}
 use Rattle.std.proofs.lemmas.Option.{slice_get-get_or}
 use Rattle.std.proofs.Math.Seq.{get_or-append_seam}
-use Rattle.td_base.specs.References.{front_of, country_of, identifier_of, HasForm, HasCheckDigit, IsReferenceText}
-use Rattle.td_base.specs.CheckDigit.{check_of, weighted_sum}
-use Rattle.td_base.specs.Letters.{IsMark}
+use Rattle.td_base.specs.References.{front_of, country_of, identifier_of}
 
 -- what a text is made of
 pub record IsMadeOf (y c i : List ℕ) (l : ℕ) (text : List ℕ) : Type 0 where

@@ -1,5 +1,5 @@
 -- Days, by their number from 1970-01-01. What a date is and which number it has is the calendar's of `jiff`.
-use Rattle.std.specs.Prelude.{◌≡◌, ℕ, zero, suc, ◌+◌, ◌-◌, ◌/◌, ◌%◌, ◌≤◌, ◌&&◌, nat_le, if◌then◌else◌, ℤ, pos, negsuc, unsigned_abs, List, [], ◌∷◌, ◌++◌, length, take, drop, slice_range, slice_get, Option, Some, None, All}
+use Rattle.std.specs.Prelude.{◌≡◌, ℕ, zero, suc, ◌+◌, ◌-◌, ◌/◌, ◌≤◌, ◌&&◌, nat_le, if◌then◌else◌, ℤ, pos, negsuc, unsigned_abs, List, ◌∷◌, ◌++◌, length, take, drop, slice_range, slice_get, Option, Some, None, All}
 use Rattle.std.specs.Char.{IsAsciiDigit}
 use Rattle.jiff_core.specs.Calendar.{days_from_civil, IsDate}
 use Rattle.td_base.specs.Digits.{fixed_decimal}

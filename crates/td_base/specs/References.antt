@@ -1,5 +1,5 @@
 -- References: the MRN of a movement and the GRN of a guarantee (NCTS).
-use Rattle.std.specs.Prelude.{◌≡◌, ◌≢◌, ℕ, ◌+◌, ◌-◌, ◌≤◌, ◌&&◌, Bool, nat_lt, if◌then◌else◌, List, [], ◌∷◌, ◌++◌, length, take, drop, slice_range, slice_get, Option, Some, None, All}
+use Rattle.std.specs.Prelude.{◌≡◌, ◌≢◌, ℕ, ◌+◌, ◌-◌, ◌≤◌, ◌&&◌, Bool, nat_lt, if◌then◌else◌, List, [], ◌∷◌, ◌++◌, length, take, drop, slice_range, slice_get, Option, Some, None, All, codes}
 use Rattle.std.specs.Char.{IsAsciiDigit, IsAsciiUppercase}
 use Rattle.std.specs.Str.{bytes_eq, all_ascii_digits}
 use Rattle.td_base.specs.CheckDigit.{check_of}
@@ -51,6 +51,12 @@ abbrev pub IsFirstFault : ℕ → List ℕ → RefFault → Type 0
 IsFirstFault places text Length = length text ≢ places
 IsFirstFault places text Form = (length text ≡ places) × ¬ (HasForm text)
 IsFirstFault places text CheckDigit = (length text ≡ places) × HasForm text × ¬ (HasCheckDigit text)
+
+-- how it is told
+abbrev pub fault_text : RefFault → List ℕ
+fault_text Length = codes "wrong length"
+fault_text Form = codes "wrong form"
+fault_text CheckDigit = codes "wrong check digit"
 
 -- the numbers in an identifier of digits: the holder in the first six, the holder's serial in the others
 abbrev pub holder_part : List ℕ → ℕ

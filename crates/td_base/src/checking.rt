@@ -1,5 +1,5 @@
 //! Check digits.
-ghost use Rattle.std.specs.Prelude.{◌≡◌, ◌≤◌, ℕ, ◌%◌, ◌==◌, not, filter, SomeIff, IfSome};
+ghost use Rattle.std.specs.Prelude.{◌≡◌, ◌≤◌, ◌%◌, ◌==◌, not, filter, SomeIff, IfSome};
 ghost use Rattle.std.specs.List.{range_with_len};
 ghost use Rattle.td_base.specs.Letters.{IsMark};
 ghost use Rattle.td_base.specs.CheckDigit.{letter_values, value_of, check_of, IsCheckable};

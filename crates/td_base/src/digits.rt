@@ -1,5 +1,5 @@
 //! Numbers in digits.
-ghost use Rattle.std.specs.Prelude.{◌≡◌, ℕ, ◌+◌, ◌%◌, ◌^◌, ◌<◌, ◌≤◌, length, All, SomeIff, IfSome};
+ghost use Rattle.std.specs.Prelude.{◌≡◌, ◌+◌, ◌%◌, ◌^◌, ◌<◌, ◌≤◌, length, All, SomeIff, IfSome};
 ghost use Rattle.std.specs.Char.{IsAsciiDigit};
 ghost use Rattle.td_base.specs.Digits.{fixed_decimal};
 ghost use Rattle.td_base.specs.Holder.{digits_value};

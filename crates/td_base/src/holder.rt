@@ -1,5 +1,5 @@
 //! Numbers of holders.
-ghost use Rattle.std.specs.Prelude.{◌≡◌, ℕ, ◌≤◌, Some, SomeIff};
+ghost use Rattle.std.specs.Prelude.{◌≡◌, ℕ, Some, SomeIff};
 ghost use Rattle.td_base.specs.Holder.{IsHolderNumber, IsHolderText, digits_value, holder_text};
 
 use crate::digits::{last_digit, read_digits};

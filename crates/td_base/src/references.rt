@@ -1,8 +1,8 @@
 //! References: what prints, owns and numbers them. The texts of MRN and GRN differ in their length alone.
-ghost use Rattle.std.specs.Prelude.{◌≡◌, ℕ, ◌+◌, ◌-◌, ◌≤◌, ◌++◌, length, IsTrue, ◌↔◌, MatchResult};
+ghost use Rattle.std.specs.Prelude.{◌≡◌, ◌+◌, ◌-◌, ◌≤◌, ◌++◌, length, IsTrue, ◌↔◌, Some, MatchResult};
 ghost use Rattle.td_base.specs.Country.{IsCountry};
 ghost use Rattle.td_base.specs.Digits.{fixed_decimal};
-ghost use Rattle.td_base.specs.References.{IsReferenceText, IsFirstFault, HasForm, owner_of as owner_in, serial_of as serial_in};
+ghost use Rattle.td_base.specs.References.{fault_text, IsReferenceText, IsFirstFault, HasForm, owner_of as owner_in, serial_of as serial_in};
 ghost use Rattle.td_base.specs.References.{reference_text, grn_text, mrn_text, IsGrnSerial, IsMrnSerial, TellsApart};
 
 use crate::checking::check_digit;
@@ -25,6 +25,8 @@ pub enum RefFault {
 }
 
 impl fmt::Display for RefFault {
+    ghost output = { λ fault. Some (fault_text fault) };
+
     fn fmt<W: fmt::Write>(&self, f: &mut fmt::Formatter<W>) -> fmt::Result {
         match self {
             RefFault::Length => write!(f, "wrong length"),

@@ -1,6 +1,6 @@
-use Rattle.std.proofs.Common.{◌≡◌, ℕ, zero, suc, ◌+◌, ◌-◌, ◌<◌, ◌≤◌, arith, refl, inr, slice_index, ap, sym, ◌∙◌}
+use Rattle.std.proofs.Common.{◌≡◌, ℕ, zero, suc, ◌+◌, ◌-◌, ◌<◌, arith, refl, inr, slice_index, ap, ◌∙◌}
 use Rattle.std.proofs.lemmas.Bool.Decides.{nat_tests}
-use Rattle.td_base.specs.CheckDigit.{letter_values, value_of}
+use Rattle.td_base.specs.CheckDigit.{letter_values}
 use Rattle.td_base.proofs.checking.value.Goals as goal
 
 -- the letters from V on

@@ -1,7 +1,7 @@
 use Rattle.jiff_core.proofs.CalendarLemmas.{days_in_month_bounds}
 use Rattle.jiff_core.proofs.DateLemmas.{civil}
 use Rattle.jiff.proofs.SpanFacts.{signed_arith}
-use Rattle.std.proofs.Common.{◌≡◌, ap, sym, unsigned_abs, arith, FitsSigned, w8, w16, ◌∙◌}
+use Rattle.std.proofs.Common.{◌≡◌, ap, unsigned_abs, arith, FitsSigned, w8, w16, ◌∙◌}
 use Rattle.std.proofs.lemmas.Int.{to_z-of_z}
 use Rattle.td_base.proofs.Calendar.{year_is, month_is, day_is, date_from}
 use Rattle.td_base.proofs.day.civil_of.Goals as goal

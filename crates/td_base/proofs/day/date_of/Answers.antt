@@ -1,6 +1,5 @@
-use Rattle.std.proofs.Common.{◌≡◌, ℕ, pos, ◌+ℤ◌, FitsSigned, w64, arith, refl, ◌∙◌}
+use Rattle.std.proofs.Common.{◌≡◌, FitsSigned, w64, arith, ◌∙◌}
 use Rattle.std.proofs.lemmas.Int.{ints, to_z-of_z}
-use Rattle.jiff.specs.Words.{epoch_day, IsEpochDay}
 use Rattle.jiff.proofs.SpanFacts.{signed_arith, date_add-days, can_add-days}
 use Rattle.td_base.proofs.Calendar.{epoch_is_zero}
 use Rattle.td_base.proofs.day.date_of.Goals as goal

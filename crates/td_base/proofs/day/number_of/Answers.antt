@@ -1,8 +1,7 @@
-use Rattle.std.proofs.Common.{◌≡◌, ℕ, pos, ℤ, unsigned_abs, to_z, w8, w16, w32, FitsSigned, arith, ap, refl, ◌∙◌}
+use Rattle.std.proofs.Common.{◌≡◌, unsigned_abs, w8, w16, w32, FitsSigned, arith, ap, refl, ◌∙◌}
 use Rattle.std.proofs.lemmas.Int.{to_z_pos, to_z-of_z}
 use Rattle.jiff.proofs.SpanFacts.{signed_arith}
-use Rattle.jiff_core.specs.Date.{epoch_day}
-use Rattle.td_base.specs.Days.{IsDateOfDesk, IsDay, day_number}
+use Rattle.td_base.specs.Days.{IsDateOfDesk, day_number}
 use Rattle.td_base.proofs.Calendar.{number_by_parts, number_range}
 use Rattle.td_base.proofs.day.number_of.Goals as goal
 

@@ -1,4 +1,4 @@
-use Rattle.std.proofs.Common.{arith, sym}
+use Rattle.std.proofs.Common.{arith}
 use Rattle.std.proofs.lemmas.Bool.{false≢true}
 use Rattle.td_base.proofs.Owners.{no_owner, owner_read, owned_gives, length-identifier, other_country, same_country}
 use Rattle.td_base.specs.References.{country_of}

@@ -1,5 +1,4 @@
-use Rattle.std.proofs.Common.{◌-◌, ℕ, List, length, take, get_or, arith, sym, refl}
-use Rattle.td_base.specs.References.{front_of}
+use Rattle.std.proofs.Common.{arith}
 use Rattle.td_base.proofs.Checked.{check_fits, check_differs}
 use Rattle.td_base.proofs.references.test_reference.Goals as goal
 

@@ -1,10 +1,5 @@
-use Rattle.std.proofs.Common.{◌≡◌, ◌-◌, ◌+◌, ◌++◌, ◌∷◌, [], ℕ, List, length, take, drop, Some, arith, refl, ap, sym, ◌∙◌, rules}
-use Rattle.std.specs.Option.{IsSome}
-use Rattle.std.proofs.lemmas.List.{length-take-le, take_at}
+use Rattle.std.proofs.Common.{◌≡◌, ◌+◌, arith, refl, ◌∙◌, rules}
 use Rattle.td_base.specs.CheckDigit.{check_of}
-use Rattle.td_base.specs.Digits.{fixed_decimal}
-use Rattle.td_base.proofs.Checked.{some_of}
-use Rattle.td_base.proofs.MadeReferences.{numbers, made_checkable}
 use Rattle.td_base.proofs.Written.{front_is, front_size, found_digit, last_written}
 use Rattle.td_base.proofs.references.write_reference.Goals as goal
 

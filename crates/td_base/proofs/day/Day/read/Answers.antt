@@ -1,5 +1,4 @@
-use Rattle.std.proofs.Common.{◌≡◌, refl, ◌∙◌}
-use Rattle.td_base.specs.Days.{number_in}
+use Rattle.std.proofs.Common.{refl, ◌∙◌}
 use Rattle.td_base.proofs.DayTexts.{is_day_text}
 use Rattle.td_base.proofs.Slices.{rest_is}
 use Rattle.td_base.proofs.day.Day.read.Goals as goal

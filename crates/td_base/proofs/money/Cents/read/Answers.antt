@@ -1,9 +1,7 @@
-use Rattle.std.proofs.Common.{◌≡◌, ℕ, ◌+◌, ◌-◌, ◌*◌, ◌^◌, ◌≤◌, ◌<◌, length, take, drop, arith, rules, refl, sym}
+use Rattle.std.proofs.Common.{◌+◌, length, take, drop, arith, refl, sym}
 use Rattle.std.proofs.lemmas.Bool.{false≢true}
 use Rattle.std.proofs.lemmas.List.{length-take-le, length-drop}
 use Rattle.std.proofs.lemmas.Option.{get_or_from_slice_get}
-use Rattle.td_base.specs.Holder.{digits_value}
-use Rattle.td_base.specs.Money.{IsCents, IsCentsText, cents_value, point_of}
 use Rattle.td_base.proofs.Amounts.{too_long, is_cents_text, SomeIff-same}
 use Rattle.td_base.proofs.Decimals.{ten_power_small}
 use Rattle.td_base.proofs.Slices.{rest_is}

@@ -1,4 +1,3 @@
-use Rattle.std.proofs.Common.{rules}
 use Rattle.td_base.proofs.MadeReferences.{made_is_reference}
 use Rattle.td_base.proofs.mrn.Mrn.make.Goals as goal
 
