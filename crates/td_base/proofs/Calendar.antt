@@ -5,7 +5,8 @@ use Rattle.std.proofs.lemmas.Int.{ints}
 use Rattle.jiff_core.specs.Calendar.{day_count, days_from_civil, IsCivilDate}
 use Rattle.jiff_core.proofs.SignedLemmas.{signed_arith}
 use Rattle.jiff_core.proofs.MarchLemmas.{day_count-early}
-use Rattle.jiff_core.proofs.CalendarLemmas.{days_in_month_bounds, days_from_civil-day_count, day_count-lt_year, day_count-lt_month, day_count-day, day_count-day_of_year, day_count-epoch}
+use Rattle.jiff_core.proofs.CalendarLemmas.{days_in_month_bounds, days_from_civil-day_count, day_count-lt_year, day_count-lt_month, day_count-day, day_count-day_of_year, day_count-epoch, day_count-next_year, day_count-last_of_year}
+use borrow.Author.Differences.{up, down}
 use Rattle.td_base.specs.Days.{IsDay, IsDateOfDesk, day_number, last_begun, year_of, month_of, day_of}
 
 -- 1970-01-01 is day 0
@@ -154,6 +155,16 @@ number_range year month day h =
     let number = number_from year month day (omega (arith, start_2000)) in
     (omega (arith, start_2000), omega (arith, start_2101))
 
+-- the first day and the last one
+pub first_day : day_number 2000 1 1 ≡ 10957
+first_day = omega (arith, start_2000, number_from 2000 1 1 (omega (arith, start_2000)))
+
+pub last_day : day_number 2100 12 31 ≡ 47846
+last_day =
+    let next = day_count-next_year (pos 2100) (pos 2101) (omega (arith, ints)) refl in
+    let before = day_count-last_of_year (pos 2100) in
+    omega (arith, start_2101, number_from 2100 12 31 (omega (arith, start_2101)))
+
 -- the parts of a day's date
 pub date_from : (y : ℤ) (m d n : ℕ) → IsCivilDate y m d → days_from_civil y m d ≡ pos n → IsDay n → IsDateOfDesk (unsigned_abs y) m d × (day_number (unsigned_abs y) m d ≡ n)
 unfolding day_number
@@ -167,3 +178,22 @@ date_from (pos y) m d n date number day =
       },
       ap unsigned_abs number,
     )
+
+-- a number whose count is late enough isn't negative
+positive : (z : ℤ) (before count : ℕ) → up z + before ≡ down z + count → before ≤ count → z ≡ pos (unsigned_abs z)
+positive (pos n) before count e late = refl
+positive (negsuc n) before count e late = absurd (omega (arith, signed_arith, e))
+
+-- a date of the desk is that of its number
+number_positive : (year month day : ℕ) → 4371953 ≤ day_count (pos year) month day → days_from_civil (pos year) month day ≡ pos (day_number year month day)
+unfolding day_number
+number_positive year month day late =
+    positive (days_from_civil (pos year) month day) 4371953 (day_count (pos year) month day) (days_from_civil-day_count (pos year) month day) late
+
+pub parts_again : (year month day : ℕ) → IsDateOfDesk year month day → (year_of (day_number year month day) ≡ year) × (month_of (day_number year month day) ≡ month) × (day_of (day_number year month day) ≡ day)
+parts_again year month day h =
+    let date = civil_from year month day h in
+    let late = new_year_before 2000 year month day h.first (omega arith) date.2.0 in
+    let number = number_positive year month day (omega (arith, start_2000)) in
+    let range = number_range year month day h in
+    (sym (year_is (pos year) month day _ date number range), sym (month_is (pos year) month day _ date number range), sym (day_is (pos year) month day _ date number range))

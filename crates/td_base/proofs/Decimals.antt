@@ -13,7 +13,7 @@ use Rattle.td_base.specs.Holder.{digits_value}
 pub ten_power_small : (i n : ℕ) → i ≤ n → 10 ^ i ≤ 10 ^ n
 ten_power_small i n small = pow-le-pow_right {n = 10} (lit< tt) small
 
-pow_positive : (n : ℕ) → 0 < 10 ^ n
+pub pow_positive : (n : ℕ) → 0 < 10 ^ n
 pow_positive n = omega (arith, ten_power_small 0 n (omega arith))
 
 -- one more digit in front

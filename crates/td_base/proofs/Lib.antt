@@ -12,3 +12,4 @@ mod MadeReferences
 mod Written
 mod Calendar
 mod DayTexts
+mod Printed

@@ -111,6 +111,12 @@ pub fn day_reads_back(day: Day)
     let _civil = civil_of(day.number);
 }
 
+/// The numbers of days are those from 2000-01-01 to 2100-12-31.
+pub fn days_begin_and_end()
+    ensures first { day_number 2000 1 1 ≡ 10957 }
+    ensures last { day_number 2100 12 31 ≡ 47846 }
+{}
+
 // The number of a date in the years of the desk.
 fn number_of(year: u64, month: u64, day: u64) -> Option<u32>
     requires { (year ≤ 9999) × (month ≤ 99) × (day ≤ 99) }
@@ -134,6 +140,7 @@ struct Civil {
     day: u64,
 }
 
+// The date of a day's number.
 fn civil_of(number: u32) -> Civil
     requires { IsDay number }
     ensures year { result.year ≡ year_of number }
@@ -150,6 +157,7 @@ fn civil_of(number: u32) -> Civil
     }
 }
 
+// Ten characters, as `2025-03-01`.
 fn text_of(civil: &Civil) -> [u8; 10]
     ensures { result
         ≡ fixed_decimal 4 civil.now.year
@@ -170,6 +178,7 @@ fn text_of(civil: &Civil) -> [u8; 10]
     ]
 }
 
+// The same as jiff has it.
 fn date_of(number: u32) -> Date
     requires { number ≤ 47846 }
     ensures { epoch_day result ≡ pos number }

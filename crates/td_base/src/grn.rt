@@ -9,7 +9,8 @@ use crate::text::write_ascii;
 use std::fmt;
 use std::marker::Model;
 
-/// A guarantee reference number (GRN): 17 characters, the last their check digit. Contracts see it as its text.
+/// A guarantee reference number (GRN) of NCTS: two digits of a year, two capital letters of a country, 12 digits or
+/// capital letters and a check digit. Contracts see it as its text.
 #[derive(Clone, Copy, Debug, PartialEq, Eq, PartialOrd, Ord)]
 pub struct Grn {
     bytes: [u8; 17],
@@ -41,8 +42,8 @@ impl Grn {
         Ok(Grn { bytes })
     }
 
-    /// The GRN of that serial of a holder's guarantees, in the two digits of a year: `None` for a year above 99,
-    /// and for a serial outside 1 to 999999.
+    /// The GRN of that serial of a holder's guarantees, in the two digits of a year: the holder in six digits, then
+    /// the serial in six. `None` for a year above 99, and for a serial outside 1 to 999999.
     pub fn make(year2: u8, country: Country, holder: HolderNo, serial: u32) -> Option<Self>
         ensures { SomeIff result ((year2 ≤ 99) × IsGrnSerial serial) (grn_text year2 country holder serial) }
     {

@@ -1,6 +1,10 @@
 //! What holds of all texts that are printed.
 ghost use Rattle.td_base.specs.Codes.{IsAccessCode, IsLrn, IsOfficeNo};
 ghost use Rattle.td_base.specs.Country.{IsCountry};
+ghost use Rattle.std.specs.Prelude.{◌≡◌};
+ghost use Rattle.td_base.specs.Holder.{IsHolderText, digits_value, holder_text};
+ghost use Rattle.td_base.specs.Days.{IsDayText, day_text, number_in};
+ghost use Rattle.td_base.specs.Money.{IsCentsText, cents_text, cents_value};
 ghost use Rattle.td_base.specs.Eori.{IsEori};
 ghost use Rattle.td_base.specs.References.{IsGrn, IsMrn};
 
@@ -37,4 +41,13 @@ pub fn texts_read_back(
     let _office = office.as_bytes();
     let _grn = grn.as_bytes();
     let _mrn = mrn.as_bytes();
+}
+
+/// What is read is printed as it was: a holder, an amount and a day have one text each.
+pub fn read_texts_are_printed(text: &[u8])
+    ensures holder { IsHolderText text.now → holder_text (digits_value text.now) ≡ text.now }
+    ensures cents { IsCentsText text.now → cents_text (cents_value text.now) ≡ text.now }
+    ensures day { IsDayText text.now → day_text (number_in text.now) ≡ text.now }
+{
+    let _text = text.len();
 }

@@ -9,7 +9,8 @@ use crate::text::write_ascii;
 use std::fmt;
 use std::marker::Model;
 
-/// A movement reference number (MRN): 18 characters, the last their check digit. Contracts see it as its text.
+/// A movement reference number (MRN) of NCTS: two digits of a year, two capital letters of a country, 13 digits or
+/// capital letters and a check digit. Contracts see it as its text.
 #[derive(Clone, Copy, Debug, PartialEq, Eq, PartialOrd, Ord)]
 pub struct Mrn {
     bytes: [u8; 18],
@@ -41,8 +42,8 @@ impl Mrn {
         Ok(Mrn { bytes })
     }
 
-    /// The MRN of that serial of a holder's movements, in the two digits of a year: `None` for a year above 99,
-    /// and for a serial outside 1 to 9999999.
+    /// The MRN of that serial of a holder's movements, in the two digits of a year: the holder in six digits, then
+    /// the serial in seven. `None` for a year above 99, and for a serial outside 1 to 9999999.
     pub fn make(year2: u8, country: Country, holder: HolderNo, serial: u32) -> Option<Self>
         ensures { SomeIff result ((year2 ≤ 99) × IsMrnSerial serial) (mrn_text year2 country holder serial) }
     {

@@ -172,6 +172,7 @@ fn days(rt: HostRuntime) -> Result<(), Fail> {
         let day = Day::new(number).expect(&rt, "a day");
         assert_eq!(rt; day.plus_days(days).map(|d| d.number()), sum);
     }
+    days_begin_and_end();
     assert!(rt; Day::new(10_956).is_none());
     assert!(rt; Day::new(47_847).is_none());
     Ok(())
@@ -242,6 +243,7 @@ fn names(rt: HostRuntime) -> Result<(), Fail> {
     assert_eq!(rt; text.as_str(), "000001 CH1234567 AB12 aZ-0/9. CH001251");
     assert_eq!(rt; holder.as_bytes(), *b"000001");
     holder_reads_back(holder);
+    read_texts_are_printed(b"000001");
     assert_eq!(rt; code.as_bytes(), b"AB12".as_slice());
     assert_eq!(rt; lrn.as_bytes(), b"aZ-0/9.".as_slice());
     assert_eq!(rt; office.as_bytes(), b"CH001251".as_slice());
