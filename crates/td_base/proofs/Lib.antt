@@ -1,3 +1,15 @@
 mod Filled
 pub mod Counts
 mod Slices
+mod Sums
+mod Ascii
+mod Decimals
+mod Amounts
+mod ReferenceParts
+mod Owners
+mod Checked
+mod MadeReferences
+mod Written
+mod Calendar
+mod DayTexts
+mod Printed

@@ -1,7 +1,13 @@
 pub mod Letters
+pub mod CheckDigit
 pub mod Holder
 pub mod Country
 pub mod Eori
-pub mod EoriKept
+pub mod Kept
+pub mod Codes
 pub mod Moment
+pub mod Digits
+pub mod Money
+pub mod Days
+pub mod References
 pub mod Counted

@@ -1,5 +1,5 @@
 //! Codes of countries.
-ghost use Rattle.std.specs.Prelude.{◌≡◌, ◌≤◌, ℕ, List, ◌∷◌, [], Some, SomeIff, slice_index};
+ghost use Rattle.std.specs.Prelude.{◌≡◌, ℕ, List, Some, SomeIff};
 ghost use Rattle.td_base.specs.Country.{IsCountry};
 
 use std::fmt;

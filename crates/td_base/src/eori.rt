@@ -2,6 +2,7 @@
 ghost use Rattle.std.specs.Prelude.{◌≡◌, ◌↔◌, IsTrue, Some, SomeIff};
 ghost use Rattle.td_base.specs.Eori.{IsEori};
 
+use crate::text::{is_capitals, is_marks, write_ascii};
 use std::fmt;
 use std::marker::Model;
 
@@ -14,19 +15,18 @@ pub struct Eori {
 
 impl Model for Eori {
     ghost use Rattle.std.specs.Prelude.{List, ℕ, take, length, replicate, ◌++◌, ◌-◌};
-    ghost use Rattle.td_base.specs.Eori.{IsKeptEori};
+    ghost use Rattle.td_base.specs.Eori.{IsEori};
+    ghost use Rattle.td_base.specs.Kept.{IsKept, kept_back};
 
     ghost Value = { List ℕ };
 
     ghost view = { λ e. take e.len e.bytes };
 
-    ghost invariant = { λ e. IsKeptEori e.bytes e.len };
+    ghost invariant = { λ e. IsKept IsEori 17 e.bytes e.len };
 
     ghost inverse = { λ l. record { bytes = l ++ replicate (17 - length l) 0; len = length l } };
 
-    ghost use Rattle.td_base.specs.EoriKept.{kept_back};
-
-    ghost inverse_ok = { λ a h. kept_back a h };
+    ghost inverse_ok = { λ a h. kept_back IsEori 17 (λ bytes len. record { bytes = bytes; len = len }) a.bytes a.len h };
 }
 
 impl Eori {
@@ -52,11 +52,16 @@ impl Eori {
     }
 }
 
+impl fmt::Display for Eori {
+    ghost output = { λ e. Some e };
+
+    fn fmt<W: fmt::Write>(&self, f: &mut fmt::Formatter<W>) -> fmt::Result {
+        write_ascii(f, self.as_bytes())
+    }
+}
+
 fn is_eori(text: &[u8]) -> bool
     ensures { IsTrue result ↔ IsEori text.now }
 {
-    text.len() >= 3
-        && text.len() <= 17
-        && text[..2].iter().all(|c| c.is_ascii_uppercase())
-        && text[2..].iter().all(|c| c.is_ascii_digit() || c.is_ascii_uppercase())
+    text.len() >= 3 && text.len() <= 17 && is_capitals(&text[..2]) && is_marks(&text[2..])
 }

@@ -1,7 +1,9 @@
 //! Numbers of holders.
-ghost use Rattle.std.specs.Prelude.{◌≡◌, ℕ, ◌+◌, ◌%◌, ◌≤◌, Some, SomeIff};
+ghost use Rattle.std.specs.Prelude.{◌≡◌, ℕ, Some, SomeIff};
 ghost use Rattle.td_base.specs.Holder.{IsHolderNumber, IsHolderText, digits_value, holder_text};
 
+use crate::digits::{last_digit, read_digits};
+use crate::text::write_ascii;
 use std::fmt;
 use std::marker::Model;
 
@@ -41,18 +43,29 @@ impl HolderNo {
         self.number
     }
 
+    /// The number in six digits.
+    pub fn as_bytes(&self) -> [u8; 6]
+        ensures { result ≡ holder_text self.now }
+    {
+        let n = u64::from(self.number);
+        [
+            last_digit(n / 100_000),
+            last_digit(n / 10_000),
+            last_digit(n / 1_000),
+            last_digit(n / 100),
+            last_digit(n / 10),
+            last_digit(n),
+        ]
+    }
+
     /// Reads exactly six digits that aren't all 0.
     pub fn read(text: &[u8]) -> Option<Self>
         ensures { SomeIff result (IsHolderText text.now) (digits_value text.now) }
     {
-        if text.len() != 6 || !text.iter().all(|c| c.is_ascii_digit()) {
+        if text.len() != 6 {
             return None;
         }
-        let mut number: u32 = 0;
-        for c in text {
-            number = 10 * number + u32::from(*c - b'0');
-        }
-        HolderNo::new(number)
+        HolderNo::new(read_digits(text)? as u32)
     }
 }
 
@@ -64,24 +77,10 @@ pub fn holder_reads_back(holder: HolderNo)
     let _number = holder.number;
 }
 
-// The last digit of a number.
-fn last_digit(n: u32) -> char
-    ensures { result ≡ 48 + n % 10 }
-{
-    char::from(b'0' + (n % 10) as u8)
-}
-
 impl fmt::Display for HolderNo {
     ghost output = { λ h. Some (holder_text h) };
 
     fn fmt<W: fmt::Write>(&self, f: &mut fmt::Formatter<W>) -> fmt::Result {
-        let n = self.number;
-        let a = last_digit(n / 100_000);
-        let b = last_digit(n / 10_000);
-        let c = last_digit(n / 1_000);
-        let d = last_digit(n / 100);
-        let e = last_digit(n / 10);
-        let g = last_digit(n);
-        write!(f, "{a}{b}{c}{d}{e}{g}")
+        write_ascii(f, &self.as_bytes())
     }
 }

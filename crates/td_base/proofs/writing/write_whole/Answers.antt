@@ -1,4 +1,4 @@
-use Rattle.std.proofs.Common.{◌≡◌, ℕ, ◌+◌, ◌≤◌, ◌<◌, ◌++◌, length, take, drop, arith, rules, List, subst, sym}
+use Rattle.std.proofs.Common.{ℕ, subst, sym}
 use Rattle.std.proofs.KnownBytes.{Appends-trans}
 use Rattle.td_base.specs.Counted.{calls_of, HasCalled}
 use Rattle.td_base.proofs.Counts.{called_more, not_fallen}

@@ -1,0 +1,80 @@
+-- Texts of days.
+use Rattle.std.proofs.Common.{◌≡◌, ℕ, ◌^◌, ◌<◌, List, ◌∷◌, ◌++◌, length, take, drop, slice_range, slice_get, get_or, All, Some, pos, arith, refl, ap, ◌∙◌, mod-eq_of_lt}
+use Rattle.std.specs.Char.{IsAsciiDigit}
+use Rattle.std.specs.Str.{IsAscii}
+use Rattle.std.proofs.lemmas.Int.{ints}
+use Rattle.std.proofs.lemmas.List.Elements.{All-append, All-cons, All-weaker}
+use Rattle.std.proofs.lemmas.Option.{slice_get-get_or}
+use Rattle.jiff_core.proofs.CalendarLemmas.{days_in_month_bounds}
+use Rattle.td_base.specs.Days.{IsDateOfDesk, IsDayText, day_number, number_in, year_in, month_in, day_in}
+use Rattle.td_base.specs.Digits.{fixed_decimal}
+use Rattle.td_base.specs.Holder.{digits_value}
+use Rattle.td_base.proofs.Ascii.{IsAscii-from}
+use Rattle.td_base.proofs.Decimals.{two_digits, four_digits, fixed_decimal_digits, digits_value-fixed_decimal}
+
+-- a date in digits
+abbrev pub date_text : ℕ → ℕ → ℕ → List ℕ
+date_text year month day = fixed_decimal 4 year ++ 45 ∷ fixed_decimal 2 month ++ 45 ∷ fixed_decimal 2 day
+
+-- what stands where in it
+record HasDateParts (year month day : ℕ) (text : List ℕ) : Type 0 where
+  size : length text ≡ 10
+  first : take 4 text ≡ fixed_decimal 4 year
+  dash : slice_get text 4 ≡ Some 45
+  second : slice_range text 5 7 ≡ fixed_decimal 2 month
+  second_dash : slice_get text 7 ≡ Some 45
+  third : drop 8 text ≡ fixed_decimal 2 day
+
+date_parts : (year month day : ℕ) → HasDateParts year month day (date_text year month day)
+date_parts year month day = record {
+  size = rw (four_digits year, two_digits month, two_digits day) refl;
+  first = rw (four_digits year) refl;
+  dash = rw (four_digits year) refl;
+  second = rw (four_digits year, two_digits month) refl;
+  second_dash = rw (four_digits year, two_digits month) refl;
+  third = rw (four_digits year, two_digits month, two_digits day) refl;
+}
+
+shown : (width n : ℕ) → n < 10 ^ width → digits_value (fixed_decimal width n) ≡ n
+shown width n small = digits_value-fixed_decimal width n ∙ mod-eq_of_lt small
+
+-- the text of a date reads back
+pub date_reads : (year month day : ℕ) → IsDateOfDesk year month day → IsDayText (date_text year month day) × (number_in (date_text year month day) ≡ day_number year month day)
+date_reads year month day h =
+    let text = date_text year month day in
+    let parts = date_parts year month day in
+    let short = days_in_month_bounds (pos year) month in
+    let first : year_in text ≡ year = ap digits_value parts.first ∙ shown 4 year (omega (arith, h.last)) in
+    let second : month_in text ≡ month = ap digits_value parts.second ∙ shown 2 month (omega (arith, ints, h.date.1.1)) in
+    let third : day_in text ≡ day = ap digits_value parts.third ∙ shown 2 day (omega (arith, ints, h.date.2.1)) in (
+      record {
+        size = parts.size;
+        year = rw parts.first (fixed_decimal_digits 4 year);
+        dash = parts.dash;
+        month = rw parts.second (fixed_decimal_digits 2 month);
+        second_dash = parts.second_dash;
+        day = rw parts.third (fixed_decimal_digits 2 day);
+        date = rw (first, second, third) h;
+      },
+      rw (first, second, third) refl,
+    )
+
+-- it is ASCII
+pub date_is_ascii : (year month day : ℕ) → IsAscii (date_text year month day)
+date_is_ascii year month day =
+    let Small : ℕ → Type 0 = λ c. c < 128 in
+    let digits : (width n : ℕ) → All Small (fixed_decimal width n) = λ width n. All-weaker IsAsciiDigit Small (λ c h. omega arith) (fixed_decimal width n) (fixed_decimal_digits width n) in
+    let front = All-append Small (fixed_decimal 4 year) (45 ∷ fixed_decimal 2 month) (digits 4 year) (All-cons Small 45 (fixed_decimal 2 month) (omega arith) (digits 2 month)) in
+    IsAscii-from Small (λ c h. h) (date_text year month day) (All-append Small (fixed_decimal 4 year ++ 45 ∷ fixed_decimal 2 month) (45 ∷ fixed_decimal 2 day) front (All-cons Small 45 (fixed_decimal 2 day) (omega arith) (digits 2 day)))
+
+-- what is found in a text of ten characters is what such a text is made of
+pub is_day_text : (text : List ℕ) (year month day : ℕ) → length text ≡ 10 → get_or text 4 0 ≡ 45 → get_or text 7 0 ≡ 45 → All IsAsciiDigit (take 4 text) × (year ≡ year_in text) → All IsAsciiDigit (slice_range text 5 7) × (month ≡ month_in text) → All IsAsciiDigit (drop 8 text) × (day ≡ day_in text) → IsDateOfDesk year month day → IsDayText text
+is_day_text text year month day size dash second_dash y m d date = record {
+  size = size;
+  year = y.0;
+  dash = slice_get-get_or text 4 0 (omega arith) ∙ ap Some dash;
+  month = m.0;
+  second_dash = slice_get-get_or text 7 0 (omega arith) ∙ ap Some second_dash;
+  day = d.0;
+  date = rw (← y.1, ← m.1, ← d.1) date;
+}

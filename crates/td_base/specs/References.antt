@@ -1,0 +1,109 @@
+-- References: the MRN of a movement and the GRN of a guarantee (NCTS).
+use Rattle.std.specs.Prelude.{◌≡◌, ◌≢◌, ℕ, ◌+◌, ◌-◌, ◌≤◌, ◌&&◌, Bool, nat_lt, if◌then◌else◌, List, [], ◌∷◌, ◌++◌, length, take, drop, slice_range, slice_get, Option, Some, None, All, codes}
+use Rattle.std.specs.Char.{IsAsciiDigit, IsAsciiUppercase}
+use Rattle.std.specs.Str.{bytes_eq, all_ascii_digits}
+use Rattle.td_base.specs.CheckDigit.{check_of}
+use Rattle.td_base.specs.Country.{IsCountry}
+use Rattle.td_base.specs.Digits.{fixed_decimal}
+use Rattle.td_base.specs.Holder.{IsHolderNumber, digits_value}
+use Rattle.td_base.specs.Letters.{IsMark}
+use Rattle.td_base.specs.declared.references.RefFault.{RefFault}
+use Rattle.td_base.specs.declared.references.RefFault.TheVariants.{Length, Form, CheckDigit}
+
+-- all but the check digit
+abbrev pub front_of : List ℕ → List ℕ
+front_of text = take (length text - 1) text
+
+-- the country, behind the two digits of the year
+abbrev pub country_of : List ℕ → List ℕ
+country_of text = slice_range text 2 4
+
+-- the identifier, between the country and the check digit
+abbrev pub identifier_of : List ℕ → List ℕ
+identifier_of text = slice_range text 4 (length text - 1)
+
+-- each place has a character of its class, and the last is a digit
+pub record HasForm (text : List ℕ) : Type 0 where
+  pub year : All IsAsciiDigit (take 2 text)
+  pub country : All IsAsciiUppercase (country_of text)
+  pub identifier : All IsMark (identifier_of text)
+  pub last : All IsAsciiDigit (drop (length text - 1) text)
+
+-- the last is the check digit of all before it
+abbrev pub HasCheckDigit : List ℕ → Type 0
+HasCheckDigit text = slice_get text (length text - 1) ≡ Some (48 + check_of (front_of text))
+
+-- a reference of so many characters
+pub record IsReferenceText (places : ℕ) (text : List ℕ) : Type 0 where
+  pub size : length text ≡ places
+  pub form : HasForm text
+  pub check : HasCheckDigit text
+
+-- a GRN, and an MRN
+abbrev pub IsGrn : List ℕ → Type 0
+IsGrn = IsReferenceText 17
+
+abbrev pub IsMrn : List ℕ → Type 0
+IsMrn = IsReferenceText 18
+
+-- the first of these that a text isn't
+abbrev pub IsFirstFault : ℕ → List ℕ → RefFault → Type 0
+IsFirstFault places text Length = length text ≢ places
+IsFirstFault places text Form = (length text ≡ places) × ¬ (HasForm text)
+IsFirstFault places text CheckDigit = (length text ≡ places) × HasForm text × ¬ (HasCheckDigit text)
+
+-- how it is told
+abbrev pub fault_text : RefFault → List ℕ
+fault_text Length = codes "wrong length"
+fault_text Form = codes "wrong form"
+fault_text CheckDigit = codes "wrong check digit"
+
+-- the numbers in an identifier of digits: the holder in the first six, the holder's serial in the others
+abbrev pub holder_part : List ℕ → ℕ
+holder_part text = digits_value (take 6 (identifier_of text))
+
+abbrev pub serial_part : List ℕ → ℕ
+serial_part text = digits_value (drop 6 (identifier_of text))
+
+-- whether a reference is a holder's of this country, by its text alone
+abbrev pub is_owned : List ℕ → List ℕ → Bool
+is_owned country text =
+    bytes_eq (country_of text) country && all_ascii_digits (identifier_of text) && nat_lt 0 (holder_part text)
+
+-- the holder who owns a reference, and the holder's serial in it
+abbrev pub owner_of : List ℕ → List ℕ → Option ℕ
+owner_of country text = if is_owned country text then Some (holder_part text) else None
+
+abbrev pub serial_of : List ℕ → List ℕ → Option ℕ
+serial_of country text = if is_owned country text then Some (serial_part text) else None
+
+-- the text of a year in two digits, a country and an identifier, with its check digit
+abbrev pub reference_text : ℕ → List ℕ → List ℕ → List ℕ
+reference_text year country identifier =
+    let front = fixed_decimal 2 year ++ country ++ identifier in
+    front ++ (48 + check_of front) ∷ []
+
+-- the GRN that is made for a holder: the holder in six digits, the serial in six
+abbrev pub grn_text : ℕ → List ℕ → ℕ → ℕ → List ℕ
+grn_text year country holder serial =
+    reference_text year country (fixed_decimal 6 holder ++ fixed_decimal 6 serial)
+
+-- the MRN that is made for a holder: the holder in six digits, the serial in seven
+abbrev pub mrn_text : ℕ → List ℕ → ℕ → ℕ → List ℕ
+mrn_text year country holder serial =
+    reference_text year country (fixed_decimal 6 holder ++ fixed_decimal 7 serial)
+
+-- what they can be made of
+abbrev pub IsGrnSerial : ℕ → Type 0
+IsGrnSerial serial = (1 ≤ serial) × (serial ≤ 999999)
+
+abbrev pub IsMrnSerial : ℕ → Type 0
+IsMrnSerial serial = (1 ≤ serial) × (serial ≤ 9999999)
+
+-- references that are made for different holders, or of different serials, differ
+abbrev pub TellsApart : (ℕ → List ℕ → ℕ → ℕ → List ℕ) → (ℕ → Type 0) → Type 0
+TellsApart made IsSerial =
+    (year year' : ℕ) (country country' : List ℕ) (holder holder' serial serial' : ℕ)
+    → IsCountry country → IsCountry country' → IsHolderNumber holder → IsHolderNumber holder' → IsSerial serial → IsSerial serial'
+    → made year country holder serial ≡ made year' country' holder' serial'
+    → (holder ≡ holder') × (serial ≡ serial')

@@ -1,0 +1,126 @@
+//! References: what prints, owns and numbers them. The texts of MRN and GRN differ in their length alone.
+ghost use Rattle.std.specs.Prelude.{◌≡◌, ◌+◌, ◌-◌, ◌≤◌, ◌++◌, length, IsTrue, ◌↔◌, Some, MatchResult};
+ghost use Rattle.td_base.specs.Country.{IsCountry};
+ghost use Rattle.td_base.specs.Digits.{fixed_decimal};
+ghost use Rattle.td_base.specs.References.{fault_text, IsReferenceText, IsFirstFault, HasForm, owner_of as owner_in, serial_of as serial_in};
+ghost use Rattle.td_base.specs.References.{reference_text, grn_text, mrn_text, IsGrnSerial, IsMrnSerial, TellsApart};
+
+use crate::checking::check_digit;
+use crate::country::Country;
+use crate::digits::{read_digits, write_digits};
+use crate::holder::HolderNo;
+use crate::text::{is_capitals, is_digits, is_marks};
+use std::error::Error;
+use std::fmt;
+
+/// What a text that isn't a reference is refused for: the first of these, in this order.
+#[derive(Clone, Copy, Debug, PartialEq, Eq)]
+pub enum RefFault {
+    /// It hasn't the length of such a reference.
+    Length,
+    /// A place has a character of another class.
+    Form,
+    /// The last digit isn't the check digit of all before it.
+    CheckDigit,
+}
+
+impl fmt::Display for RefFault {
+    ghost output = { λ fault. Some (fault_text fault) };
+
+    fn fmt<W: fmt::Write>(&self, f: &mut fmt::Formatter<W>) -> fmt::Result {
+        match self {
+            RefFault::Length => write!(f, "wrong length"),
+            RefFault::Form => write!(f, "wrong form"),
+            RefFault::CheckDigit => write!(f, "wrong check digit"),
+        }
+    }
+}
+
+impl Error for RefFault {}
+
+/// Tests the length, then each place, then the check digit.
+pub fn test_reference(text: &[u8], places: usize) -> Result<(), RefFault>
+    requires { (5 ≤ places) × (places ≤ 41) }
+    ensures { MatchResult result (λ _. IsReferenceText places text.now) (IsFirstFault places text.now) }
+{
+    if text.len() != places {
+        return Err(RefFault::Length);
+    }
+    if !has_form(text) {
+        return Err(RefFault::Form);
+    }
+    let last = places - 1;
+    if check_digit(&text[..last]) != Some(text[last] - b'0') {
+        return Err(RefFault::CheckDigit);
+    }
+    Ok(())
+}
+
+fn has_form(text: &[u8]) -> bool
+    requires { 5 ≤ length text.now }
+    ensures { IsTrue result ↔ HasForm text.now }
+{
+    let last = text.len() - 1;
+    is_digits(&text[..2])
+        && is_capitals(&text[2..4])
+        && is_marks(&text[4..last])
+        && is_digits(&text[last..])
+}
+
+/// The holder in the first six of the identifier's digits, where the country is this one and all of it is digits.
+pub fn owner_of(text: &[u8], country: Country) -> Option<HolderNo>
+    requires { (17 ≤ length text.now) × (length text.now ≤ 18) }
+    ensures { result ≡ owner_in country text.now }
+{
+    let identifier = &text[4..text.len() - 1];
+    if &text[2..4] != country.as_bytes() {
+        return None;
+    }
+    if !is_digits(identifier) {
+        return None;
+    }
+    HolderNo::read(&identifier[..6])
+}
+
+/// The serial in the other digits of the identifier, where there is an owner.
+pub fn serial_of(text: &[u8], country: Country) -> Option<u32>
+    requires { (17 ≤ length text.now) × (length text.now ≤ 18) }
+    ensures { result ≡ serial_in country text.now }
+{
+    owner_of(text, country)?;
+    let serial = read_digits(&text[10..text.len() - 1])?;
+    Some(serial as u32)
+}
+
+/// Writes a reference of that length: year, country, holder and serial in digits, and the check digit.
+pub fn write_reference(text: &mut [u8], year2: u8, country: Country, holder: HolderNo, serial: u32)
+    requires { (11 ≤ length text.old) × (length text.old ≤ 41) }
+    ensures text { text.new
+        ≡ reference_text year2 country (fixed_decimal 6 holder ++ fixed_decimal (length text.old - 11) serial) }
+    ensures country { IsCountry country }
+{
+    let last = text.len() - 1;
+    write_front(&mut text[..last], year2, country, holder, serial);
+    let check = check_digit(&text[..last]).unwrap();
+    text[last] = b'0' + check;
+}
+
+// All but the check digit.
+fn write_front(text: &mut [u8], year2: u8, country: Country, holder: HolderNo, serial: u32)
+    requires { 10 ≤ length text.old }
+    ensures text { text.new
+        ≡ fixed_decimal 2 year2 ++ country
+        ++ (fixed_decimal 6 holder ++ fixed_decimal (length text.old - 10) serial) }
+    ensures country { IsCountry country }
+{
+    write_digits(&mut text[..2], u64::from(year2));
+    text[2..4].copy_from_slice(country.as_bytes());
+    write_digits(&mut text[4..10], u64::from(holder.number()));
+    write_digits(&mut text[10..], u64::from(serial));
+}
+
+/// References that are made for different holders, or of different serials, differ.
+pub fn made_references_differ()
+    ensures grn { TellsApart grn_text IsGrnSerial }
+    ensures mrn { TellsApart mrn_text IsMrnSerial }
+{}

@@ -1,0 +1,39 @@
+//! Texts kept as ASCII bytes.
+ghost use Rattle.std.specs.Prelude.{◌↔◌, IsTrue, All};
+ghost use Rattle.std.specs.Char.{IsAsciiDigit, IsAsciiUppercase};
+ghost use Rattle.std.specs.Str.{IsAscii};
+ghost use Rattle.std.specs.Fmt.{WritesOnOk};
+ghost use Rattle.td_base.specs.Letters.{IsMark};
+
+use std::fmt;
+
+/// Writes ASCII bytes as text.
+pub fn write_ascii<W: fmt::Write>(f: &mut fmt::Formatter<W>, bytes: &[u8]) -> fmt::Result
+    requires { IsAscii bytes.now }
+    ensures { WritesOnOk W.write_str_gives f.old result bytes.now f.new }
+{
+    let text = std::str::from_utf8(bytes).unwrap();
+    write!(f, "{text}")
+}
+
+/// Whether all of it is digits.
+pub fn is_digits(text: &[u8]) -> bool
+    ensures { IsTrue result ↔ All IsAsciiDigit text.now }
+{
+    text.iter().all(|c| c.is_ascii_digit())
+}
+
+/// Whether all of it is capital letters.
+pub fn is_capitals(text: &[u8]) -> bool
+    ensures { IsTrue result ↔ All IsAsciiUppercase text.now }
+{
+    text.iter().all(|c| c.is_ascii_uppercase())
+}
+
+/// Whether all of it is digits or capital letters.
+pub fn is_marks(text: &[u8]) -> bool
+    ensures { IsTrue result ↔ All IsMark text.now }
+{
+    text.iter()
+        .all(|c| c.is_ascii_digit() || c.is_ascii_uppercase())
+}
