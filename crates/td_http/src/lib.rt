@@ -26,3 +26,6 @@ pub use reply::{Reply, error_body, head_reply, json_reply};
 pub use request::Request;
 pub use stream::{Handler, StreamEnd, serve_requests};
 pub use table::Route;
+
+#[cfg(test)]
+mod tests;
