@@ -17,3 +17,5 @@ mod RouteFacts
 mod BodyFacts
 mod EoriText
 mod PlainText
+mod Unique
+mod Standings
