@@ -93,6 +93,11 @@ impl WebFault {
 }
 
 impl fmt::Display for WebFault {
+    ghost use Rattle.std.specs.Prelude.{Some};
+    ghost use Rattle.td_http.specs.Faults.{fault_name};
+
+    ghost output = { λ f. Some (fault_name f) };
+
     fn fmt<W: fmt::Write>(&self, f: &mut fmt::Formatter<W>) -> fmt::Result {
         write!(f, "{}", self.name())
     }

@@ -1,2 +1,4 @@
 //! The public calls, with ample memory.
+mod replies;
+mod requests;
 mod streams;

@@ -1,0 +1,73 @@
+//! Replies, byte for byte.
+use crate::{Allowed, Field, WebFault, fault_bytes, reply_bytes};
+use std::test::Fail;
+use td_acts::{Answer, Refusal, Said};
+use td_base::{Eori, HolderNo};
+
+#[test]
+fn writes_what_is_said(rt: HostRuntime) -> Result<(), Fail> {
+    let answer = Answer::Holder {
+        holder: HolderNo::new(1).ok_or("a number")?,
+        eori: Eori::read(b"CH1234567").ok_or("an EORI")?,
+        guarantees: 0,
+        movements: 0,
+    };
+    for (said, close, want) in [
+        (
+            Said::Answered(answer),
+            false,
+            "HTTP/1.1 200 OK\r\nContent-Type: application/json\r\nContent-Length: 67\r\n\r\n{\"eori\":\"CH1234567\",\"guarantees\":0,\"holder\":\"000001\",\"movements\":0}",
+        ),
+        (
+            Said::Refused(Refusal::ClockRange),
+            false,
+            "HTTP/1.1 503 Service Unavailable\r\nContent-Type: application/json\r\nContent-Length: 23\r\n\r\n{\"error\":\"clock-range\"}",
+        ),
+        (
+            Said::Refused(Refusal::NoHolder),
+            false,
+            "HTTP/1.1 404 Not Found\r\nContent-Type: application/json\r\nContent-Length: 21\r\n\r\n{\"error\":\"no-holder\"}",
+        ),
+        (
+            Said::Refused(Refusal::HolderKnown),
+            true,
+            "HTTP/1.1 409 Conflict\r\nContent-Type: application/json\r\nContent-Length: 24\r\nConnection: close\r\n\r\n{\"error\":\"holder-known\"}",
+        ),
+    ] {
+        let reply = reply_bytes(rt.alloc(), &said, close)?;
+        assert!(rt; reply.as_slice() == want.as_bytes(), "{want}");
+    }
+    Ok(())
+}
+
+#[test]
+fn writes_faults(rt: HostRuntime) -> Result<(), Fail> {
+    for (fault, want) in [
+        (
+            WebFault::NoRoute,
+            "HTTP/1.1 404 Not Found\r\nContent-Type: application/json\r\nContent-Length: 20\r\n\r\n{\"error\":\"no-route\"}",
+        ),
+        (
+            WebFault::NoMethod {
+                allow: Allowed::Put,
+            },
+            "HTTP/1.1 405 Method Not Allowed\r\nContent-Type: application/json\r\nContent-Length: 21\r\nAllow: PUT\r\n\r\n{\"error\":\"no-method\"}",
+        ),
+        (
+            WebFault::BadHolder,
+            "HTTP/1.1 400 Bad Request\r\nContent-Type: application/json\r\nContent-Length: 22\r\n\r\n{\"error\":\"bad-holder\"}",
+        ),
+        (
+            WebFault::BadBody,
+            "HTTP/1.1 400 Bad Request\r\nContent-Type: application/json\r\nContent-Length: 20\r\n\r\n{\"error\":\"bad-body\"}",
+        ),
+        (
+            WebFault::BadField(Field::Eori),
+            "HTTP/1.1 400 Bad Request\r\nContent-Type: application/json\r\nContent-Length: 36\r\n\r\n{\"error\":\"bad-field\",\"field\":\"eori\"}",
+        ),
+    ] {
+        let reply = fault_bytes(rt.alloc(), &fault, false)?;
+        assert!(rt; reply.as_slice() == want.as_bytes(), "{want}");
+    }
+    Ok(())
+}
