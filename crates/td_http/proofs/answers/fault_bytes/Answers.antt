@@ -1,9 +1,5 @@
-<<<<<<< HEAD
 use Rattle.std.proofs.Common.{◌≡◌, ◌∙◌, ap}
 use Rattle.td_http.specs.Answers.{fault_reply}
-=======
-use Rattle.std.proofs.Common.{◌∙◌}
->>>>>>> dd231b3a8a45788082b2e68642eb1ccef8428680
 use Rattle.td_http.proofs.answers.fault_bytes.Goals as goal
 
 pub returns : goal.returns
