@@ -1,5 +1,5 @@
 //! The paths of the desk, and the route of a request.
-ghost use Rattle.std.specs.Prelude.{◌≡◌, [], IfOk, IfErr, map};
+ghost use Rattle.std.specs.Prelude.{◌≡◌, [], IfOk, IfErr, IsSome, OnOk, None, map};
 ghost use Rattle.std.specs.Option.{ForSome};
 ghost use Rattle.matchit.specs.Seek.{first};
 ghost use Rattle.td_http.specs.Faults.{OrNoMemory};
@@ -93,7 +93,7 @@ fn find(router: &Router<Place>, method: &Method, path: &str) -> Result<Route, We
 fn table_router(alloc: Global, at_hand: Option<Router<Place>>) -> Result<Router<Place>, WebFault>
     requires { ForSome at_hand (λ r. r ≡ filled table []) }
     ensures ok { IfOk result (λ r. r ≡ filled table []) }
-    ensures err { IfErr result (λ e. e ≡ NoMemory) }
+    ensures err { IfErr result (λ e. (e ≡ NoMemory) × (at_hand ≡ None)) }
 {
     match at_hand {
         Some(router) => Ok(router),
@@ -124,7 +124,11 @@ impl Routes {
         method: &Method,
         path: &[u8],
     ) -> Result<Route, WebFault>
-        ensures { OrNoMemory result (route_of method.now path.now) }
+        ensures route { OrNoMemory result (route_of method.now path.now) }
+        // Once the router is made it stays, and no memory is needed.
+        ensures ready { IsSome self.old.router → result ≡ route_of method.now path.now }
+        ensures kept { IsSome self.old.router → IsSome self.new.router }
+        ensures made { OnOk result (IsSome self.new.router) }
     {
         let Ok(path) = str::from_utf8(path) else {
             return Err(WebFault::NoRoute);
