@@ -62,8 +62,8 @@ fn next_holder(parts: &mut ParamsIter<'_, '_, '_>) -> Result<HolderNo, WebFault>
 }
 
 fn read_parts(line: Line, params: &Params<'_, '_>) -> Result<Route, WebFault>
-    ensures { AreTexts (walk params.now.pattern.now params.now.text.now params.now.path.now params.now.names.now 0 0)
-        → result ≡ route_with (map (λ p. p.1) (walk params.now.pattern.now params.now.text.now params.now.path.now params.now.names.now 0 0)) line }
+    ensures { let parts = walk params.now.pattern.now params.now.text.now params.now.path.now params.now.names.now 0 0 in
+        AreTexts parts → result ≡ route_with (map (λ p. p.1) parts) line }
 {
     let mut parts = params.iter();
     match line {
@@ -78,7 +78,8 @@ fn read_parts(line: Line, params: &Params<'_, '_>) -> Result<Route, WebFault>
 
 // The route of a path in a router.
 fn find(router: &Router<Place>, method: &Method, path: &str) -> Result<Route, WebFault>
-    ensures { PartsAreTexts (first router.now path.now) path.now → result ≡ route_by (first router.now path.now) method.now path.now }
+    ensures { PartsAreTexts (first router.now path.now) path.now
+        → result ≡ route_by (first router.now path.now) method.now path.now }
 {
     match router.at(path) {
         Ok(found) => {
