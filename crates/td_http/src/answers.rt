@@ -125,7 +125,8 @@ pub fn fault_bytes(alloc: Global, fault: &WebFault, close: bool) -> Result<Vec<u
 
 /// The body that tells of a holder is these very bytes: nothing in it is escaped.
 pub fn holder_is_told_in(holder: HolderNo, eori: Eori, guarantees: u32, movements: u32)
-    ensures { said_body (Answered (Holder holder eori guarantees movements)) ≡ answer_body (Holder holder eori guarantees movements) }
+    ensures { let answer = Holder holder eori guarantees movements in
+        said_body (Answered answer) ≡ answer_body answer }
 {
     let _answer = Answer::Holder {
         holder,

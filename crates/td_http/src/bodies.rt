@@ -19,7 +19,8 @@ use td_base::Eori;
 /// A command without fields doesn't look at the body; of one with fields, unknown keys of the body are ignored, and where
 /// it has a key twice, the last stands.
 pub fn read_command(alloc: Global, request: &Request) -> Result<Command, WebFault>
-    ensures { OrNoMemory result (command_of request.now.method request.now.target.items request.now.body.items) }
+    ensures { OrNoMemory result
+        (command_of request.now.method request.now.target.items request.now.body.items) }
 {
     read_command_by(alloc, &mut Routes::new(), request)
 }
@@ -30,7 +31,8 @@ pub(crate) fn read_command_by(
     routes: &mut Routes,
     request: &Request,
 ) -> Result<Command, WebFault>
-    ensures { OrNoMemory result (command_of request.now.method request.now.target.items request.now.body.items) }
+    ensures { OrNoMemory result
+        (command_of request.now.method request.now.target.items request.now.body.items) }
 {
     match routes.route(alloc, &request.method, path(&request.target))? {
         Route::Register { holder } => {

@@ -1,5 +1,5 @@
 //! The paths of the desk, and the route of a request.
-ghost use Rattle.std.specs.Prelude.{◌≡◌, [], IfOk, IfErr, MatchResult, map, option_map};
+ghost use Rattle.std.specs.Prelude.{◌≡◌, [], IfOk, IfErr, IsSome, MatchResult, OnOk, None, map, option_map};
 ghost use Rattle.std.specs.Option.{ForSome};
 ghost use Rattle.matchit.specs.Seek.{first};
 ghost use Rattle.td_http.specs.Faults.{OrNoMemory};
@@ -59,8 +59,8 @@ fn next_holder(parts: &mut ParamsIter<'_, '_, '_>) -> Result<HolderNo, WebFault>
 }
 
 fn read_parts(line: Line, params: &Params<'_, '_>) -> Result<Route, WebFault>
-    ensures { AreTexts (walk params.now.pattern.now params.now.text.now params.now.path.now params.now.names.now 0 0)
-        → result ≡ route_with (map (λ p. p.1) (walk params.now.pattern.now params.now.text.now params.now.path.now params.now.names.now 0 0)) line }
+    ensures { let parts = walk params.now.pattern.now params.now.text.now params.now.path.now params.now.names.now 0 0 in
+        AreTexts parts → result ≡ route_with (map (λ p. p.1) parts) line }
 {
     let mut parts = params.iter();
     match line {
@@ -75,7 +75,8 @@ fn read_parts(line: Line, params: &Params<'_, '_>) -> Result<Route, WebFault>
 
 // The route of a path in a router.
 fn find(router: &Router<Place>, method: &Method, path: &str) -> Result<Route, WebFault>
-    ensures { PartsAreTexts (first router.now path.now) path.now → result ≡ route_by (first router.now path.now) method.now path.now }
+    ensures { PartsAreTexts (first router.now path.now) path.now
+        → result ≡ route_by (first router.now path.now) method.now path.now }
 {
     match router.at(path) {
         Ok(found) => {
@@ -110,7 +111,7 @@ fn find_methods(router: &Router<Place>, path: &str) -> Option<Allowed>
 fn table_router(alloc: Global, at_hand: Option<Router<Place>>) -> Result<Router<Place>, WebFault>
     requires { ForSome at_hand (λ r. r ≡ filled table []) }
     ensures ok { IfOk result (λ r. r ≡ filled table []) }
-    ensures err { IfErr result (λ e. e ≡ NoMemory) }
+    ensures err { IfErr result (λ e. (e ≡ NoMemory) × (at_hand ≡ None)) }
 {
     match at_hand {
         Some(router) => Ok(router),
@@ -141,7 +142,11 @@ impl Routes {
         method: &Method,
         path: &[u8],
     ) -> Result<Route, WebFault>
-        ensures { OrNoMemory result (route_of method.now path.now) }
+        ensures route { OrNoMemory result (route_of method.now path.now) }
+        // Once the router is made it stays, and no memory is needed.
+        ensures ready { IsSome self.old.router → result ≡ route_of method.now path.now }
+        ensures kept { IsSome self.old.router → IsSome self.new.router }
+        ensures made { OnOk result (IsSome self.new.router) }
     {
         let Ok(path) = str::from_utf8(path) else {
             return Err(WebFault::NoRoute);
