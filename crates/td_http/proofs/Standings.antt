@@ -119,7 +119,7 @@ large_or_bad bytes large bad =
     let size = large.size in
     let small = bad.size in
     let first : large.front ≡ take 8192 bytes =
-      sym (ap (take 8192) large.bytes_are ∙ (take-append-le 8192 large.front large.more (omega arith) ∙ take_all 8192 large.front (omega arith))) in
+    sym (ap (take 8192) large.bytes_are ∙ (take-append-le 8192 large.front large.more (omega arith) ∙ take_all 8192 large.front (omega arith))) in
     let within = front_of large.front large.more bad.front bad.more (sym large.bytes_are ∙ bad.bytes_are) (omega arith) in
     unsettled bytes large.front bad.front (drop (length bad.front) large.front) first within bad.refused large.may
 

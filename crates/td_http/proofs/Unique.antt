@@ -30,9 +30,9 @@ wire_first bytes w v r q iw iv ew ev =
     let same = one_head bytes w.head v.head (w.body ++ r) (v.body ++ q) (wire_head bytes w r iw ew) (wire_head bytes v q iv ev) in
     let len : length w.body ≡ length v.body = same_length _ _ _ iw.body (ap (λ h. body_length (fields_of h)) same.0 ∙ iv.body) in
     let body : w.body ≡ v.body =
-      sym (take-append_seam w.body r) ∙ (ap (take (length w.body)) same.1 ∙ (ap (λ (n : ℕ). take n (v.body ++ q)) len ∙ take-append_seam v.body q)) in
+    sym (take-append_seam w.body r) ∙ (ap (take (length w.body)) same.1 ∙ (ap (λ (n : ℕ). take n (v.body ++ q)) len ∙ take-append_seam v.body q)) in
     let rest : r ≡ q =
-      sym (drop-append_seam w.body r) ∙ (ap (drop (length w.body)) same.1 ∙ (ap (λ (n : ℕ). drop n (v.body ++ q)) len ∙ drop-append_seam v.body q)) in
+    sym (drop-append_seam w.body r) ∙ (ap (drop (length w.body)) same.1 ∙ (ap (λ (n : ℕ). drop n (v.body ++ q)) len ∙ drop-append_seam v.body q)) in
     (λ i. record { head = same.0 i; body = body i }, rest)
 
 -- the first of the requests
@@ -53,7 +53,7 @@ splits_unique bytes (w ∷ ws) [] r q a b nr nq =
     absurd (nq w (flat_map wire_bytes ws ++ r) (All-head IsWire w ws a.each) (sym b.whole ∙ first_of bytes w ws r a))
 splits_unique bytes (w ∷ ws) (v ∷ vs) r q a b nr nq =
     let first = wire_first bytes w v (flat_map wire_bytes ws ++ r) (flat_map wire_bytes vs ++ q) (All-head IsWire w ws a.each) (All-head IsWire v vs b.each)
-      (first_of bytes w ws r a) (first_of bytes v vs q b) in
+    (first_of bytes w ws r a) (first_of bytes v vs q b) in
     let more = splits_unique (flat_map wire_bytes ws ++ r) ws vs r q (others_of bytes w ws r a) (record { whole = first.1; each = All-tail IsWire v vs b.each }) nr nq in
     (λ i. first.0 i ∷ more.0 i, more.1)
 
@@ -64,6 +64,6 @@ splits_front bytes [] vs r q a b fewer = refl
 splits_front bytes (w ∷ ws) [] r q a b fewer = absurd (omega arith)
 splits_front bytes (w ∷ ws) (v ∷ vs) r q a b fewer =
     let first = wire_first bytes w v (flat_map wire_bytes ws ++ r) (flat_map wire_bytes vs ++ q) (All-head IsWire w ws a.each) (All-head IsWire v vs b.each)
-      (first_of bytes w ws r a) (first_of bytes v vs q b) in
+    (first_of bytes w ws r a) (first_of bytes v vs q b) in
     let more = splits_front (flat_map wire_bytes ws ++ r) ws vs r q (others_of bytes w ws r a) (record { whole = first.1; each = All-tail IsWire v vs b.each }) (omega arith) in
     λ i. first.0 i ∷ more i

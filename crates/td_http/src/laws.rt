@@ -19,5 +19,4 @@ pub fn one_reading()
     ensures ends { (rest : List ℕ) (s : Standing) → StandsIn rest s → HasNoWire rest }
     ensures empty { HasNoWire [] }
     ensures apart { (rest : List ℕ) (s t : Standing) → StandsIn rest s → StandsIn rest t → (s ≡ t) ⊎ IsUnsettled rest }
-{
-}
+{}

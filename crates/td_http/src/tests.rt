@@ -1,7 +1,10 @@
 //! The public calls at concrete types, with ample memory. The expected bytes are those of the wire format.
 ghost use Rattle.std.specs.Prelude.{◌≡◌, ⊤, drop, Some};
 
-use crate::{Clock, FramingError, Handler, Next, Reply, Request, StreamEnd, error_body, head_reply, json_reply, next_request, one_reading, serve_requests};
+use crate::{
+    Clock, FramingError, Handler, Next, Reply, Request, StreamEnd, error_body, head_reply,
+    json_reply, next_request, one_reading, serve_requests,
+};
 use http::StatusCode;
 use std::alloc::{AllocError, Global};
 use std::io;
@@ -66,25 +69,80 @@ impl Read for Drip<'_> {
     }
 }
 
-const OK: &[u8] = b"HTTP/1.1 200 OK\r\nContent-Type: application/json\r\nContent-Length: 2\r\n\r\n{}";
-const OK_CLOSE: &[u8] = b"HTTP/1.1 200 OK\r\nContent-Type: application/json\r\nContent-Length: 2\r\nConnection: close\r\n\r\n{}";
+const OK: &[u8] =
+    b"HTTP/1.1 200 OK\r\nContent-Type: application/json\r\nContent-Length: 2\r\n\r\n{}";
+
+const OK_CLOSE: &[u8] =
+    b"HTTP/1.1 200 OK\r\nContent-Type: application/json\r\nContent-Length: 2\r\nConnection: close\r\n\r\n{}";
 
 /// Inputs, what is written for them, and how the stream ends.
 const ROWS: [(&[u8], &[u8], StreamEnd); 14] = [
     (b"", b"", StreamEnd::Closed),
-    (b"PUT /a HTTP/1.1\r\nContent-Length: 2\r\n\r\nhi", OK, StreamEnd::Closed),
-    (b"PUT /a HTTP/1.1\r\ncontent-length: 0002\r\n\r\nh", b"", StreamEnd::Cut),
-    (b"GET / HTTP/1.0\r\nConnection: keep-alive\r\n\r\nGET", OK_CLOSE, StreamEnd::Asked),
-    (b"GET / HTTP/1.1\r\nConnection: keep-alive\r\nCONNECTION: a ,\tClose\r\n\r\n", OK_CLOSE, StreamEnd::Asked),
-    (b"GET /\r\n\r\n", b"HTTP/1.1 400 Bad Request\r\nContent-Type: application/json\r\nContent-Length: 20\r\nConnection: close\r\n\r\n{\"error\":\"bad-head\"}", StreamEnd::Refused),
-    (b"PUT / HTTP/1.1\r\nContent-Length: +5\r\nTransfer-encoding: chunked\r\n\r\n", b"HTTP/1.1 501 Not Implemented\r\nContent-Type: application/json\r\nContent-Length: 29\r\nConnection: close\r\n\r\n{\"error\":\"transfer-encoding\"}", StreamEnd::Refused),
-    (b"PUT / HTTP/1.1\r\nContent-Length: +5\r\n\r\n", b"HTTP/1.1 400 Bad Request\r\nContent-Type: application/json\r\nContent-Length: 22\r\nConnection: close\r\n\r\n{\"error\":\"bad-length\"}", StreamEnd::Refused),
-    (b"PUT / HTTP/1.1\r\nContent-Length: 99999\r\nContent-Length: 99999\r\n\r\n", b"HTTP/1.1 400 Bad Request\r\nContent-Type: application/json\r\nContent-Length: 22\r\nConnection: close\r\n\r\n{\"error\":\"bad-length\"}", StreamEnd::Refused),
-    (b"PUT / HTTP/1.1\r\nContent-Length: 65537\r\n\r\n", b"HTTP/1.1 413 Payload Too Large\r\nContent-Type: application/json\r\nContent-Length: 26\r\nConnection: close\r\n\r\n{\"error\":\"body-too-large\"}", StreamEnd::Refused),
-    (b"PUT / HTTP/1.1\r\nContent-Length: 99999999999999999999999\r\n\r\n", b"HTTP/1.1 413 Payload Too Large\r\nContent-Type: application/json\r\nContent-Length: 26\r\nConnection: close\r\n\r\n{\"error\":\"body-too-large\"}", StreamEnd::Refused),
-    (b"PUT / HTTP/1.1\r\nContent-Length: 65536\r\n\r\n", b"", StreamEnd::Cut),
-    (b"HEAD /a HTTP/1.1\r\nContent-Length: 3\r\n\r\nGET", b"HTTP/1.1 405 Method Not Allowed\r\nAllow: GET\r\nConnection: close\r\n\r\n", StreamEnd::Refused),
-    (b"GET / HTTP/1.1\r\n\r\nHEAD / HTTP/1.1\r\nContent-Length: \r\n\r\n", b"HTTP/1.1 200 OK\r\nContent-Type: application/json\r\nContent-Length: 2\r\n\r\n{}HTTP/1.1 400 Bad Request\r\nContent-Type: application/json\r\nContent-Length: 22\r\nConnection: close\r\n\r\n{\"error\":\"bad-length\"}", StreamEnd::Refused),
+    (
+        b"PUT /a HTTP/1.1\r\nContent-Length: 2\r\n\r\nhi",
+        OK,
+        StreamEnd::Closed,
+    ),
+    (
+        b"PUT /a HTTP/1.1\r\ncontent-length: 0002\r\n\r\nh",
+        b"",
+        StreamEnd::Cut,
+    ),
+    (
+        b"GET / HTTP/1.0\r\nConnection: keep-alive\r\n\r\nGET",
+        OK_CLOSE,
+        StreamEnd::Asked,
+    ),
+    (
+        b"GET / HTTP/1.1\r\nConnection: keep-alive\r\nCONNECTION: a ,\tClose\r\n\r\n",
+        OK_CLOSE,
+        StreamEnd::Asked,
+    ),
+    (
+        b"GET /\r\n\r\n",
+        b"HTTP/1.1 400 Bad Request\r\nContent-Type: application/json\r\nContent-Length: 20\r\nConnection: close\r\n\r\n{\"error\":\"bad-head\"}",
+        StreamEnd::Refused,
+    ),
+    (
+        b"PUT / HTTP/1.1\r\nContent-Length: +5\r\nTransfer-encoding: chunked\r\n\r\n",
+        b"HTTP/1.1 501 Not Implemented\r\nContent-Type: application/json\r\nContent-Length: 29\r\nConnection: close\r\n\r\n{\"error\":\"transfer-encoding\"}",
+        StreamEnd::Refused,
+    ),
+    (
+        b"PUT / HTTP/1.1\r\nContent-Length: +5\r\n\r\n",
+        b"HTTP/1.1 400 Bad Request\r\nContent-Type: application/json\r\nContent-Length: 22\r\nConnection: close\r\n\r\n{\"error\":\"bad-length\"}",
+        StreamEnd::Refused,
+    ),
+    (
+        b"PUT / HTTP/1.1\r\nContent-Length: 99999\r\nContent-Length: 99999\r\n\r\n",
+        b"HTTP/1.1 400 Bad Request\r\nContent-Type: application/json\r\nContent-Length: 22\r\nConnection: close\r\n\r\n{\"error\":\"bad-length\"}",
+        StreamEnd::Refused,
+    ),
+    (
+        b"PUT / HTTP/1.1\r\nContent-Length: 65537\r\n\r\n",
+        b"HTTP/1.1 413 Payload Too Large\r\nContent-Type: application/json\r\nContent-Length: 26\r\nConnection: close\r\n\r\n{\"error\":\"body-too-large\"}",
+        StreamEnd::Refused,
+    ),
+    (
+        b"PUT / HTTP/1.1\r\nContent-Length: 99999999999999999999999\r\n\r\n",
+        b"HTTP/1.1 413 Payload Too Large\r\nContent-Type: application/json\r\nContent-Length: 26\r\nConnection: close\r\n\r\n{\"error\":\"body-too-large\"}",
+        StreamEnd::Refused,
+    ),
+    (
+        b"PUT / HTTP/1.1\r\nContent-Length: 65536\r\n\r\n",
+        b"",
+        StreamEnd::Cut,
+    ),
+    (
+        b"HEAD /a HTTP/1.1\r\nContent-Length: 3\r\n\r\nGET",
+        b"HTTP/1.1 405 Method Not Allowed\r\nAllow: GET\r\nConnection: close\r\n\r\n",
+        StreamEnd::Refused,
+    ),
+    (
+        b"GET / HTTP/1.1\r\n\r\nHEAD / HTTP/1.1\r\nContent-Length: \r\n\r\n",
+        b"HTTP/1.1 200 OK\r\nContent-Type: application/json\r\nContent-Length: 2\r\n\r\n{}HTTP/1.1 400 Bad Request\r\nContent-Type: application/json\r\nContent-Length: 22\r\nConnection: close\r\n\r\n{\"error\":\"bad-length\"}",
+        StreamEnd::Refused,
+    ),
 ];
 
 #[test]
@@ -92,7 +150,13 @@ fn streams_are_served(rt: HostRuntime) -> Result<(), Fail> {
     for (input, written, end) in &ROWS {
         let mut reader = Counted::new(*input);
         let mut writer = Counted::new(Vec::new(rt.alloc()));
-        let got = serve_requests(rt.alloc(), &mut reader, &mut writer, &mut Still(0), &mut Same);
+        let got = serve_requests(
+            rt.alloc(),
+            &mut reader,
+            &mut writer,
+            &mut Still(0),
+            &mut Same,
+        );
         assert_eq!(rt; writer.into_inner().as_slice(), *written);
         assert_eq!(rt; got, *end);
     }
@@ -101,9 +165,17 @@ fn streams_are_served(rt: HostRuntime) -> Result<(), Fail> {
 
 #[test]
 fn bytes_come_one_by_one(rt: HostRuntime) -> Result<(), Fail> {
-    let mut reader = Counted::new(Drip { left: b"PUT /a HTTP/1.1\r\nContent-Length: 2\r\n\r\nhiGET / HT" });
+    let mut reader = Counted::new(Drip {
+        left: b"PUT /a HTTP/1.1\r\nContent-Length: 2\r\n\r\nhiGET / HT",
+    });
     let mut writer = Counted::new(Vec::new(rt.alloc()));
-    let end = serve_requests(rt.alloc(), &mut reader, &mut writer, &mut Still(0), &mut Same);
+    let end = serve_requests(
+        rt.alloc(),
+        &mut reader,
+        &mut writer,
+        &mut Still(0),
+        &mut Same,
+    );
     assert_eq!(rt; writer.into_inner().as_slice(), OK);
     assert_eq!(rt; end, StreamEnd::ReadFault);
     assert_eq!(rt; reader.calls(), 49);
@@ -113,13 +185,39 @@ fn bytes_come_one_by_one(rt: HostRuntime) -> Result<(), Fail> {
 #[test]
 fn parts_are_made(rt: HostRuntime) -> Result<(), Fail> {
     let alloc = rt.alloc();
-    let refused = json_reply(alloc, StatusCode::METHOD_NOT_ALLOWED, Some("GET, PUT"), true, error_body(alloc, "no-method")?.as_str())?;
-    assert_eq!(rt; refused.as_slice(), b"HTTP/1.1 405 Method Not Allowed\r\nContent-Type: application/json\r\nContent-Length: 21\r\nAllow: GET, PUT\r\nConnection: close\r\n\r\n{\"error\":\"no-method\"}".as_slice());
-    assert_eq!(rt; head_reply(alloc, None)?.as_slice(), b"HTTP/1.1 405 Method Not Allowed\r\nConnection: close\r\n\r\n".as_slice());
-    assert_eq!(rt; Reply::NoMemory.as_bytes(), b"HTTP/1.1 503 Service Unavailable\r\nContent-Type: application/json\r\nContent-Length: 21\r\nConnection: close\r\n\r\n{\"error\":\"no-memory\"}".as_slice());
-    assert_eq!(rt; Reply::Store.as_bytes(), b"HTTP/1.1 500 Internal Server Error\r\nContent-Type: application/json\r\nContent-Length: 17\r\nConnection: close\r\n\r\n{\"error\":\"store\"}".as_slice());
-    assert_eq!(rt; FramingError::HeadTooLarge.reply(), b"HTTP/1.1 431 Request Header Fields Too Large\r\nContent-Type: application/json\r\nContent-Length: 26\r\nConnection: close\r\n\r\n{\"error\":\"head-too-large\"}".as_slice());
-    assert!(rt; matches!(next_request(alloc, b"PUT / HTTP/1.1\r\nContent-Length: 9\r\n\r\n1")?, Next::More(46)));
+    let refused = json_reply(
+        alloc,
+        StatusCode::METHOD_NOT_ALLOWED,
+        Some("GET, PUT"),
+        true,
+        error_body(alloc, "no-method")?.as_str(),
+    )?;
+    assert_eq!(rt;
+        refused.as_slice(),
+        b"HTTP/1.1 405 Method Not Allowed\r\nContent-Type: application/json\r\nContent-Length: 21\r\nAllow: GET, PUT\r\nConnection: close\r\n\r\n{\"error\":\"no-method\"}".as_slice()
+    );
+    assert_eq!(rt;
+        head_reply(alloc, None)?.as_slice(),
+        b"HTTP/1.1 405 Method Not Allowed\r\nConnection: close\r\n\r\n".as_slice()
+    );
+    assert_eq!(rt;
+        Reply::NoMemory.as_bytes(),
+        b"HTTP/1.1 503 Service Unavailable\r\nContent-Type: application/json\r\nContent-Length: 21\r\nConnection: close\r\n\r\n{\"error\":\"no-memory\"}".as_slice()
+    );
+    assert_eq!(rt;
+        Reply::Store.as_bytes(),
+        b"HTTP/1.1 500 Internal Server Error\r\nContent-Type: application/json\r\nContent-Length: 17\r\nConnection: close\r\n\r\n{\"error\":\"store\"}".as_slice()
+    );
+    assert_eq!(rt;
+        FramingError::HeadTooLarge.reply(),
+        b"HTTP/1.1 431 Request Header Fields Too Large\r\nContent-Type: application/json\r\nContent-Length: 26\r\nConnection: close\r\n\r\n{\"error\":\"head-too-large\"}".as_slice()
+    );
+    assert!(rt;
+        matches!(
+            next_request(alloc, b"PUT / HTTP/1.1\r\nContent-Length: 9\r\n\r\n1")?,
+            Next::More(46)
+        )
+    );
     one_reading();
     Ok(())
 }
