@@ -9,14 +9,14 @@ use Rattle.td_http.specs.declared.stream.StreamEnd.TheVariants.{Asked, Served, W
 use Rattle.td_http.specs.Request as request
 use Rattle.td_http.specs.ReplyText.{reply_bytes, is_made}
 use Rattle.td_http.specs.Sending.{IsCutShort, MadeWrites}
-use Rattle.td_http.specs.Stream.{replies_of, silence, Ends, Run, Serves}
+use Rattle.td_http.specs.Stream.{replies_of, silence, Sides, Run, Serves}
 use Rattle.td_http.proofs.Calls.{made_on}
 use Rattle.td_http.proofs.Serving.{Serving, Handled, replies_sent, no_parting, count_push}
 
 -- the run whose last request is the one that was handled
 abbrev run_of : {R W C H : Type 0} {remaining : R → Option (List ℕ)} {contents : W → Option (List ℕ)}
     {ticks : C → ℤ → C → Type 0} {answers : H → ℤ → request.Asked → Reply → H → Type 0}
-    {old now : Ends R W C H} {unread : List ℕ} {left served : ℕ} {close : Bool} {reply : Reply}
+    {old now : Sides R W C H} {unread : List ℕ} {left served : ℕ} {close : Bool} {reply : Reply}
     → Handled remaining contents ticks answers old now unread left served close reply → List ℕ → Run H
 run_of {now = now} {unread = unread} {left = left} h written =
     record { given = h.given; exchanges = h.before ++ h.last ∷ []; rest = unread; handler = now.handler; parting = silence; written = written; reads = 100000 - left }
@@ -24,7 +24,7 @@ run_of {now = now} {unread = unread} {left = left} h written =
 -- the last reply wasn't written whole
 pub cut_reply : {R W C H : Type 0} (remaining : R → Option (List ℕ)) (contents : W → Option (List ℕ))
     (ticks : C → ℤ → C → Type 0) (answers : H → ℤ → request.Asked → Reply → H → Type 0) (heads : H → List ℕ → Reply → H → Type 0)
-    (old now : Ends R W C H) (unread : List ℕ) (left served : ℕ) (close : Bool) (reply : Reply)
+    (old now : Sides R W C H) (unread : List ℕ) (left served : ℕ) (close : Bool) (reply : Reply)
     → Handled remaining contents ticks answers old now unread left served close reply → served < 1000
     → (writer : Counted W) → IsCutShort contents now.writer writer (reply_bytes reply) → MadeWrites now.writer writer false
     → Serves remaining contents ticks answers heads old (record now { writer = writer }) WriteFault
@@ -61,7 +61,7 @@ cut_reply remaining contents ticks answers heads old now unread left served clos
 -- the last reply was written whole, and is a fixed one
 pub fixed_reply : {R W C H : Type 0} (remaining : R → Option (List ℕ)) (contents : W → Option (List ℕ))
     (ticks : C → ℤ → C → Type 0) (answers : H → ℤ → request.Asked → Reply → H → Type 0) (heads : H → List ℕ → Reply → H → Type 0)
-    (old now : Ends R W C H) (unread : List ℕ) (left served : ℕ) (close : Bool) (reply : Reply)
+    (old now : Sides R W C H) (unread : List ℕ) (left served : ℕ) (close : Bool) (reply : Reply)
     → Handled remaining contents ticks answers old now unread left served close reply → served < 1000
     → (writer : Counted W) → Appends (known_bytes contents now.writer) (known_bytes contents writer) (reply_bytes reply)
     → is_made reply ≡ false → Serves remaining contents ticks answers heads old (record now { writer = writer }) Failed
@@ -84,7 +84,7 @@ fixed_reply remaining contents ticks answers heads old now unread left served cl
 -- the last reply was written whole, and its request asked to close
 pub asked_reply : {R W C H : Type 0} (remaining : R → Option (List ℕ)) (contents : W → Option (List ℕ))
     (ticks : C → ℤ → C → Type 0) (answers : H → ℤ → request.Asked → Reply → H → Type 0) (heads : H → List ℕ → Reply → H → Type 0)
-    (old now : Ends R W C H) (unread : List ℕ) (left served : ℕ) (close : Bool) (reply : Reply)
+    (old now : Sides R W C H) (unread : List ℕ) (left served : ℕ) (close : Bool) (reply : Reply)
     → Handled remaining contents ticks answers old now unread left served close reply → served < 1000
     → (writer : Counted W) → Appends (known_bytes contents now.writer) (known_bytes contents writer) (reply_bytes reply)
     → is_made reply ≡ true → close ≡ true → Serves remaining contents ticks answers heads old (record now { writer = writer }) Asked
@@ -113,7 +113,7 @@ asked_reply remaining contents ticks answers heads old now unread left served cl
 -- all 1,000 requests were answered
 pub served_all : {R W C H : Type 0} (remaining : R → Option (List ℕ)) (contents : W → Option (List ℕ))
     (ticks : C → ℤ → C → Type 0) (answers : H → ℤ → request.Asked → Reply → H → Type 0) (heads : H → List ℕ → Reply → H → Type 0)
-    (old now : Ends R W C H) (unread : List ℕ) (left served : ℕ)
+    (old now : Sides R W C H) (unread : List ℕ) (left served : ℕ)
     → Serving remaining contents ticks answers old now unread left served → served ≡ 1000
     → Serves remaining contents ticks answers heads old now Served
 served_all remaining contents ticks answers heads old now unread left served s all =

@@ -13,7 +13,7 @@ use Rattle.td_http.specs.Request as request
 use Rattle.td_http.specs.ReplyText.{is_made}
 use Rattle.td_http.specs.Reading.{ReadsOn, StopsAs}
 use Rattle.td_http.specs.Farewell.{SendsLast, Farewell}
-use Rattle.td_http.specs.Stream.{replies_of, Parting, silence, refusal, to_head, no_memory, parting_bytes, IsParting, Ends, Run, WentOn, EndsAs, Serves}
+use Rattle.td_http.specs.Stream.{replies_of, Parting, silence, refusal, to_head, no_memory, parting_bytes, IsParting, Sides, Run, WentOn, EndsAs, Serves}
 use Rattle.td_http.proofs.Calls.{made_on}
 use Rattle.td_http.proofs.Readings.{ReadsOn-trans}
 use Rattle.td_http.proofs.Serving.{Serving, Splits-more}
@@ -21,7 +21,7 @@ use Rattle.td_http.proofs.Serving.{Serving, Splits-more}
 -- the run that ends after some more bytes, with so much written of what parts with them
 abbrev run_after : {R W C H : Type 0} {remaining : R → Option (List ℕ)} {contents : W → Option (List ℕ)}
     {ticks : C → ℤ → C → Type 0} {answers : H → ℤ → request.Asked → Reply → H → Type 0}
-    {old now : Ends R W C H} {unread : List ℕ} {left served : ℕ}
+    {old now : Sides R W C H} {unread : List ℕ} {left served : ℕ}
     → Serving remaining contents ticks answers old now unread left served → List ℕ → ℕ → Parting → List ℕ → Run H
 run_after {now = now} {unread = unread} s more fewer parting tail =
     record { given = s.given ++ more; exchanges = s.exchanges; rest = unread ++ more; handler = now.handler; parting = parting; written = replies_of s.exchanges ++ tail; reads = 100000 - fewer }
@@ -29,7 +29,7 @@ run_after {now = now} {unread = unread} s more fewer parting tail =
 -- the stream, where its end is known
 finish : {R W C H : Type 0} (remaining : R → Option (List ℕ)) (contents : W → Option (List ℕ))
     (ticks : C → ℤ → C → Type 0) (answers : H → ℤ → request.Asked → Reply → H → Type 0) (heads : H → List ℕ → Reply → H → Type 0)
-    (old now : Ends R W C H) (unread : List ℕ) (left served : ℕ) → (s : Serving remaining contents ticks answers old now unread left served) → served < 1000
+    (old now : Sides R W C H) (unread : List ℕ) (left served : ℕ) → (s : Serving remaining contents ticks answers old now unread left served) → served < 1000
     → (reader : Counted R) (more : List ℕ) (fewer : ℕ) → ReadsOn remaining now.reader reader more left fewer
     → (writer : Counted W) (handler : H) (parting : Parting) → IsParting heads now.handler handler (unread ++ more) parting
     → (tail : List ℕ) → Appends (known_bytes contents now.writer) (known_bytes contents writer) tail
@@ -56,7 +56,7 @@ finish remaining contents ticks answers heads old now unread left served s few r
 -- a message of some kind was written last, or cut short
 sent_last : {R W C H : Type 0} (remaining : R → Option (List ℕ)) (contents : W → Option (List ℕ))
     (ticks : C → ℤ → C → Type 0) (answers : H → ℤ → request.Asked → Reply → H → Type 0) (heads : H → List ℕ → Reply → H → Type 0)
-    (old now : Ends R W C H) (unread : List ℕ) (left served : ℕ) → (s : Serving remaining contents ticks answers old now unread left served) → served < 1000
+    (old now : Sides R W C H) (unread : List ℕ) (left served : ℕ) → (s : Serving remaining contents ticks answers old now unread left served) → served < 1000
     → (reader : Counted R) (more : List ℕ) (fewer : ℕ) → ReadsOn remaining now.reader reader more left fewer
     → (writer : Counted W) (handler : H) (parting : Parting) → IsParting heads now.handler handler (unread ++ more) parting
     → (good end : StreamEnd) → good ≢ WriteFault
@@ -79,7 +79,7 @@ sent_last remaining contents ticks answers heads old now unread left served s fe
 -- what is left of the stream, and how it ends, for each stop of the reading
 pub stopped : {R W C H : Type 0} (remaining : R → Option (List ℕ)) (contents : W → Option (List ℕ))
     (ticks : C → ℤ → C → Type 0) (answers : H → ℤ → request.Asked → Reply → H → Type 0) (heads : H → List ℕ → Reply → H → Type 0)
-    (old now : Ends R W C H) (unread : List ℕ) (left served : ℕ) → Serving remaining contents ticks answers old now unread left served → served < 1000
+    (old now : Sides R W C H) (unread : List ℕ) (left served : ℕ) → Serving remaining contents ticks answers old now unread left served → served < 1000
     → (reader : Counted R) (more : List ℕ) (fewer : ℕ) → ReadsOn remaining now.reader reader more left fewer
     → (writer : Counted W) (handler : H) (end : StreamEnd) (why : Stop) → StopsAs remaining reader left fewer (unread ++ more) why
     → Farewell contents heads now.writer writer now.handler handler why end
@@ -112,7 +112,7 @@ stopped remaining contents ticks answers heads old now unread left served s few 
     (record { on = record { each = s.each; few = omega arith }; silent = refl; still = why.0 }, why.1, omega arith))
 stopped remaining contents ticks answers heads old now unread left served s few reader more fewer reads writer handler end stop.NoMemory why f =
     let count = s.count in
-    sent_last remaining contents ticks answers heads old now unread left served s few reader more fewer reads writer handler no_memory f.1 Failed end (λ h. cc)
+    sent_last remaining contents ticks answers heads old now unread left served s few reader more fewer reads writer handler no_memory (f.1, why) Failed end (λ h. cc)
     (inr (record { each = s.each; few = omega arith }, tt)) f.0
 stopped remaining contents ticks answers heads old now unread left served s few reader more fewer reads writer handler end (stop.Refused e) why f =
     let count = s.count in

@@ -17,7 +17,7 @@ use Rattle.td_http.specs.Reading.{ReadsOn, Takes}
 use Rattle.td_http.specs.Calls.{HasMade}
 use Rattle.td_http.specs.Sending.{MadeWrites}
 use Rattle.td_http.specs.Wire.{Wire, IsWire, IsRequestOn, wire_bytes, Splits, asks_close}
-use Rattle.td_http.specs.Stream.{Exchange, question, Chain, wires_of, replies_of, GoesOn, silence, parting_bytes, Ends}
+use Rattle.td_http.specs.Stream.{Exchange, question, Chain, wires_of, replies_of, GoesOn, silence, parting_bytes, Sides}
 use Rattle.td_http.proofs.Calls.{made_none, made_on}
 use Rattle.td_http.proofs.Readings.{ReadsOn-trans}
 
@@ -73,7 +73,7 @@ replies_push es e =
 -- what holds between two requests
 pub record Serving {R W C H : Type 0} (remaining : R → Option (List ℕ)) (contents : W → Option (List ℕ))
     (ticks : C → ℤ → C → Type 0) (answers : H → ℤ → request.Asked → Reply → H → Type 0)
-    (old now : Ends R W C H) (unread : List ℕ) (left served : ℕ) : Type 0 where
+    (old now : Sides R W C H) (unread : List ℕ) (left served : ℕ) : Type 0 where
   pub given : List ℕ
   pub exchanges : List Exchange
   pub read : ReadsOn remaining old.reader now.reader given 100000 left
@@ -87,7 +87,7 @@ pub record Serving {R W C H : Type 0} (remaining : R → Option (List ℕ)) (con
 
 -- at the beginning
 pub serving_first : {R W C H : Type 0} (remaining : R → Option (List ℕ)) (contents : W → Option (List ℕ))
-    (ticks : C → ℤ → C → Type 0) (answers : H → ℤ → request.Asked → Reply → H → Type 0) (old : Ends R W C H) (unread : List ℕ)
+    (ticks : C → ℤ → C → Type 0) (answers : H → ℤ → request.Asked → Reply → H → Type 0) (old : Sides R W C H) (unread : List ℕ)
     → unread ≡ [] → Serving remaining contents ticks answers old old unread 100000 0
 serving_first remaining contents ticks answers old unread none =
     record {
@@ -106,7 +106,7 @@ serving_first remaining contents ticks answers old unread none =
 -- what holds once a request came whole and was handled, before anything of its reply is written
 pub record Handled {R W C H : Type 0} (remaining : R → Option (List ℕ)) (contents : W → Option (List ℕ))
     (ticks : C → ℤ → C → Type 0) (answers : H → ℤ → request.Asked → Reply → H → Type 0)
-    (old now : Ends R W C H) (unread : List ℕ) (left served : ℕ) (close : Bool) (reply : Reply) : Type 0 where
+    (old now : Sides R W C H) (unread : List ℕ) (left served : ℕ) (close : Bool) (reply : Reply) : Type 0 where
   pub given : List ℕ
   pub before : List Exchange
   pub last : Exchange
@@ -130,7 +130,7 @@ asked_is served w r is =
 -- a request is read, the clock ticks, and the handler replies
 pub handled : {R W C H : Type 0} (remaining : R → Option (List ℕ)) (contents : W → Option (List ℕ))
     (ticks : C → ℤ → C → Type 0) (answers : H → ℤ → request.Asked → Reply → H → Type 0)
-    (old now : Ends R W C H) (unread : List ℕ) (left served : ℕ) → Serving remaining contents ticks answers old now unread left served
+    (old now : Sides R W C H) (unread : List ℕ) (left served : ℕ) → Serving remaining contents ticks answers old now unread left served
     → (reader : Counted R) (more rest : List ℕ) (fewer : ℕ) (r : Request) → ReadsOn remaining now.reader reader more left fewer
     → Takes (unread ++ more) rest r
     → (at : ℤ) (clock : C) → ticks now.clock at clock
@@ -183,7 +183,7 @@ no_parting es = sym (append-nil (replies_of es))
 -- the reply was written whole, and the handler goes on
 pub goes_on : {R W C H : Type 0} (remaining : R → Option (List ℕ)) (contents : W → Option (List ℕ))
     (ticks : C → ℤ → C → Type 0) (answers : H → ℤ → request.Asked → Reply → H → Type 0)
-    (old now : Ends R W C H) (unread : List ℕ) (left served : ℕ) (close : Bool) (reply : Reply)
+    (old now : Sides R W C H) (unread : List ℕ) (left served : ℕ) (close : Bool) (reply : Reply)
     → Handled remaining contents ticks answers old now unread left served close reply
     → (writer : Counted W) → Appends (known_bytes contents now.writer) (known_bytes contents writer) (reply_bytes reply) → MadeWrites now.writer writer true
     → is_made reply ≡ true → close ≡ false

@@ -14,7 +14,7 @@ parting_stays : {D : Type 0} (old new : Service D) (rest : List ℕ) (parting : 
 parting_stays old new rest silence is = ap desk_of is
 parting_stays old new rest (refusal e) is = ap desk_of is.0
 parting_stays old new rest (to_head target reply) is = is.0.stays
-parting_stays old new rest no_memory is = ap desk_of is
+parting_stays old new rest no_memory is = ap desk_of is.0
 
 -- a stream's chain of requests, and what parted with the rest
 pub stream_private : {C D : Type 0} (ticks : C → ℤ → C → Type 0) (content : D → Content) (is_clean is_live : D → Type 0) (has_store : Type 0)

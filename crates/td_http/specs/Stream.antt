@@ -12,7 +12,7 @@ use Rattle.td_http.specs.Request as request
 use Rattle.td_http.specs.ReplyText.{framing_reply, no_memory_reply, reply_bytes, is_made}
 use Rattle.td_http.specs.Calls.{HasMade}
 use Rattle.td_http.specs.Sending.{MadeWrites}
-use Rattle.td_http.specs.Wire.{Wire, Splits, asks_close, IsOpen, IsRefusedFor, IsHeadRequest}
+use Rattle.td_http.specs.Wire.{Wire, Splits, asks_close, IsOpen, IsRefusedFor, IsHeadRequest, BeginsServed}
 
 -- a request on the wire, the moment at which it was handled, and the reply
 pub record Exchange : Type 0 where
@@ -65,10 +65,10 @@ abbrev pub IsParting : {H : Type 0} → (H → List ℕ → Reply → H → Type
 IsParting heads old new rest silence = new ≡ old
 IsParting heads old new rest (refusal e) = (new ≡ old) × IsRefusedFor e rest
 IsParting heads old new rest (to_head target reply) = heads old target reply new × IsHeadRequest target rest
-IsParting heads old new rest no_memory = new ≡ old
+IsParting heads old new rest no_memory = (new ≡ old) × (IsOpen rest ⊎ BeginsServed rest)
 
--- the things that a stream is served with
-pub record Ends (R W C H : Type 0) : Type 0 where
+-- the sides of a stream: where it is read, where replies are written, who tells the time, who answers
+pub record Sides (R W C H : Type 0) : Type 0 where
   pub reader : Counted R
   pub writer : Counted W
   pub clock : C
@@ -157,7 +157,7 @@ pub record CutAtParting {H : Type 0} (run : Run H) : Type 0 where
   pub breaks : BreaksOff (replies_of run.exchanges) (parting_bytes run.parting) run.written
 
 -- what each way to end says
-abbrev pub EndsAs : {R W C H : Type 0} → (R → Option (List ℕ)) → Ends R W C H → Ends R W C H → Run H → StreamEnd → Type 0
+abbrev pub EndsAs : {R W C H : Type 0} → (R → Option (List ℕ)) → Sides R W C H → Sides R W C H → Run H → StreamEnd → Type 0
 EndsAs remaining old new run Closed = MetEnd (known_bytes remaining new.reader) run × (run.rest ≡ [])
 EndsAs remaining old new run Cut = MetEnd (known_bytes remaining new.reader) run × LeftOpen run × (0 < length run.rest)
 EndsAs remaining old new run ReadsSpent = LeftOpen run × (run.reads ≡ 100000)
@@ -173,7 +173,7 @@ EndsAs remaining old new run WriteFault =
 -- one reply of the handler, and the replies were written in order and nothing else but what parts with the rest.
 pub record Serves {R W C H : Type 0} (remaining : R → Option (List ℕ)) (contents : W → Option (List ℕ))
     (ticks : C → ℤ → C → Type 0) (answers : H → ℤ → request.Asked → Reply → H → Type 0) (heads : H → List ℕ → Reply → H → Type 0)
-    (old new : Ends R W C H) (end : StreamEnd) : Type 0 where
+    (old new : Sides R W C H) (end : StreamEnd) : Type 0 where
   pub run : Run H
   pub consumed : Consumes (known_bytes remaining old.reader) (known_bytes remaining new.reader) run.given
   pub reading : Splits run.given (wires_of run.exchanges) run.rest

@@ -120,6 +120,12 @@ pub record IsOpenBelow (n : ℕ) (bytes : List ℕ) : Type 0 where
   pub bound : n ≤ 8192 + 65536
   pub still : (more : List ℕ) → length (bytes ++ more) < n → IsOpen (bytes ++ more)
 
+-- a request stands in front that is served: a whole one, or the head of a HEAD request
+abbrev pub BeginsServed : List ℕ → Type 0
+BeginsServed bytes =
+    ((w : Wire) × (rest : List ℕ) × IsWire w × (bytes ≡ wire_bytes w ++ rest))
+    ⊎ ((target : List ℕ) × IsHeadRequest target bytes)
+
 -- the bytes begin with this request, of so many bytes
 pub record BeginsWith (bytes : List ℕ) (len : ℕ) (r : Request) : Type 0 where
   pub wire : Wire

@@ -1,7 +1,7 @@
 //! The next request at the front of the bytes that were read.
-ghost use Rattle.std.specs.Prelude.{◌≡◌, IfOk};
+ghost use Rattle.std.specs.Prelude.{◌≡◌, IfOk, OnErr};
 ghost use Rattle.td_http.specs.Request.{asked};
-ghost use Rattle.td_http.specs.Wire.{IsNext};
+ghost use Rattle.td_http.specs.Wire.{IsNext, BeginsServed};
 
 use crate::framing::{FramingError, asks_close, read_body_length};
 use crate::request::Request;
@@ -52,9 +52,11 @@ fn copy_request(
     })
 }
 
-/// What stands at the front of the bytes, of which a head takes at most 8,192. It fails where memory is missing.
+/// What stands at the front of the bytes, of which a head takes at most 8,192. It fails where memory is missing for the
+/// parts of a request that is served; a refusal takes none.
 pub fn next_request(alloc: Global, buf: &[u8]) -> Result<Next, AllocError>
-    ensures { IfOk result (IsNext buf.now) }
+    ensures next { IfOk result (IsNext buf.now) }
+    ensures memory { OnErr result (BeginsServed buf.now) }
 {
     let window = &buf[..buf.len().min(MAX_HEAD)];
     let mut headers = [EMPTY_HEADER_SPAN; MAX_FIELDS];

@@ -1,4 +1,5 @@
-use Rattle.std.proofs.Common.{◌≡◌, ℕ, ◌+◌, ◌-◌, length, drop, take, arith, rules, codes, sym, ◌∙◌, ap, Err}
+use Rattle.std.proofs.Common.{Result, Ok, inl, inr, refl, ◌≡◌, ℕ, ◌+◌, ◌-◌, length, drop, take, arith, rules, codes, sym, ◌∙◌, ap, Err}
+use Rattle.std.specs.Prelude.{OnErr}
 use Rattle.std.proofs.lemmas.List.{take-append-drop, take_all, length-take-le}
 use Rattle.td_http.specs.Framing.{body_length, closes}
 use Rattle.td_http.specs.Wire.{fields_of}
@@ -8,8 +9,13 @@ use Rattle.td_http.proofs.Refused.{refused_by}
 use Rattle.td_http.proofs.next.next_request.Goals as goal
 use Rattle.td_http.proofs.next.next_request.Goals.{then-window-lt-MAX_HEAD, else-window-lt-MAX_HEAD}
 
-pub returns-in-Err : goal.returns-in-Err
-returns-in-Err c =
+-- what holds anyway holds where an error is returned
+at_err : {T E : Type 0} {P : Type 0} (r : Result T E) → P → OnErr r P
+at_err (Ok x) p = tt
+at_err (Err e) p = p
+
+pub returns-in-Err-clause-next : goal.returns-in-Err-clause-next
+returns-in-Err-clause-next c =
     let size : length (take c.min.result c.args.buf.now) ≡ c.min.result = length-take-le _ _ (omega arith) in
     record {
       front = take c.min.result c.args.buf.now;
@@ -20,8 +26,8 @@ returns-in-Err c =
       never_good = c.in-Err.ensures.no_room;
     }
 
-pub returns-in-Ok-Partial : goal.returns-in-Ok-Partial
-returns-in-Ok-Partial c =
+pub returns-in-Ok-Partial-clause-next : goal.returns-in-Ok-Partial-clause-next
+returns-in-Ok-Partial-clause-next c =
     let none = rw c.in-Ok-Partial.field-0-is at c.in-Ok-Partial.ensures.partial in
     let may = rw c.in-Ok-Partial.field-0-is at c.in-Ok-Partial.ensures.unfinished in
     let size : length (take c.min.result c.args.buf.now) ≡ c.min.result = length-take-le _ _ (omega arith) in
@@ -40,15 +46,15 @@ returns-in-Ok-Partial c =
           })
     ]
 
-pub returns-in-Err-read_body_length : goal.returns-in-Err-read_body_length
-returns-in-Err-read_body_length c =
+pub returns-in-Err-read_body_length-clause-next : goal.returns-in-Err-read_body_length-clause-next
+returns-in-Err-read_body_length-clause-next c =
     let found = rw c.in-Ok-Complete.field-0-is at c.in-Ok-Complete.ensures.complete in
     let within = rw c.in-Ok-Complete.field-0-is at c.in-Ok-Complete.ensures.within in
     let has = good_head c.args.buf.now c.min.result _ c.in-Ok-Complete.head found.0 within found.1 (search rules) (omega arith) (omega arith) in
     refused_body c.args.buf.now _ found.0 _ has (sym (ap body_length found.1.fields) ∙ (sym c.read_body_length.ensures ∙ c.in-Err-read_body_length.is))
 
-pub returns-then-eq : goal.returns-then-eq
-returns-then-eq c =
+pub returns-then-eq-clause-next : goal.returns-then-eq-clause-next
+returns-then-eq-clause-next c =
     let found = rw c.in-Ok-Complete.field-0-is at c.in-Ok-Complete.ensures.complete in
     let within = rw c.in-Ok-Complete.field-0-is at c.in-Ok-Complete.ensures.within in
     let has = good_head c.args.buf.now c.min.result _ c.in-Ok-Complete.head found.0 within found.1 (search rules) (omega arith) (omega arith) in
@@ -70,8 +76,8 @@ overflow_add-result-then-buf-head c =
     let says = sym (ap body_length found.1.fields) ∙ (sym c.read_body_length.ensures ∙ c.in-Ok.is) in
     omega (arith, within.section.len_fits, length_limit (fields_of found.0) c.in-Ok.len says)
 
-pub returns-then-buf-head : goal.returns-then-buf-head
-returns-then-buf-head c =
+pub returns-then-buf-head-clause-next : goal.returns-then-buf-head-clause-next
+returns-then-buf-head-clause-next c =
     let found = rw c.in-Ok-Complete.field-0-is at c.in-Ok-Complete.ensures.complete in
     let within = rw c.in-Ok-Complete.field-0-is at c.in-Ok-Complete.ensures.within in
     let has = good_head c.args.buf.now c.min.result _ c.in-Ok-Complete.head found.0 within found.1 (search rules) (omega arith) (omega arith) in
@@ -83,8 +89,8 @@ returns-then-buf-head c =
     says (length_limit (fields_of found.0) c.in-Ok.len says)
     (omega (arith, within.section.len_fits)) c.if-buf-head.true
 
-pub returns : goal.returns
-returns c =
+pub returns-clause-next : goal.returns-clause-next
+returns-clause-next c =
     let found = rw c.in-Ok-Complete.field-0-is at c.in-Ok-Complete.ensures.complete in
     let within = rw c.in-Ok-Complete.field-0-is at c.in-Ok-Complete.ensures.within in
     let has = good_head c.args.buf.now c.min.result _ c.in-Ok-Complete.head found.0 within found.1 (search rules) (omega arith) (omega arith) in
@@ -105,3 +111,26 @@ returns c =
       bytes_are = body_in c.args.buf.now c.in-Ok-Complete.head.len c.in-Ok.len found.0 has.bytes_are;
       len_is = wire_len c.args.buf.now c.in-Ok-Complete.head.len c.in-Ok.len found.0 found.1.len (omega arith);
     }
+
+pub returns-in_err-from_slice-clause-memory : goal.returns-in_err-from_slice-clause-memory
+returns-in_err-from_slice-clause-memory c =
+    let found = rw c.in-Ok-Complete.field-0-is at c.in-Ok-Complete.ensures.complete in
+    let within = rw c.in-Ok-Complete.field-0-is at c.in-Ok-Complete.ensures.within in
+    let has = good_head c.args.buf.now c.min.result _ c.in-Ok-Complete.head found.0 within found.1 (search rules) (omega arith) (omega arith) in
+    let method : c.of.result.now ≡ codes "HEAD" = search rules in
+    let says = sym (ap body_length found.1.fields) ∙ (sym c.read_body_length.ensures ∙ c.in-Ok.is) in
+    at_err _ (inr (found.0.target, (found.0, drop c.in-Ok-Complete.head.len c.args.buf.now, c.in-Ok.len, has, sym found.1.method ∙ (sym c.of.ensures ∙ method), refl, says)))
+
+pub returns-in_err-request-clause-memory : goal.returns-in_err-request-clause-memory
+returns-in_err-request-clause-memory c =
+    let found = rw c.in-Ok-Complete.field-0-is at c.in-Ok-Complete.ensures.complete in
+    let within = rw c.in-Ok-Complete.field-0-is at c.in-Ok-Complete.ensures.within in
+    let has = good_head c.args.buf.now c.min.result _ c.in-Ok-Complete.head found.0 within found.1 (search rules) (omega arith) (omega arith) in
+    let other : ¬ (c.of.result.now ≡ codes "HEAD") = search rules in
+    let says = sym (ap body_length found.1.fields) ∙ (sym c.read_body_length.ensures ∙ c.in-Ok.is) in
+    at_err _ (inl (
+      record { head = found.0; body = take c.in-Ok.len (drop c.in-Ok-Complete.head.len c.args.buf.now) },
+      drop c.in-Ok.len (drop c.in-Ok-Complete.head.len c.args.buf.now),
+      wire_of c.args.buf.now c.in-Ok-Complete.head.len c.in-Ok.len found.0 has (λ is. other (c.of.ensures ∙ (found.1.method ∙ is))) says (omega arith),
+      body_in c.args.buf.now c.in-Ok-Complete.head.len c.in-Ok.len found.0 has.bytes_are,
+    ))

@@ -1,4 +1,5 @@
-use Rattle.std.proofs.Common.{◌≡◌, ◌++◌, rules, Err}
+use Rattle.std.proofs.Common.{◌≡◌, ◌++◌, ◌∙◌, rules, Err, inr, subst}
+use Rattle.td_http.specs.Wire.{BeginsServed}
 use Rattle.td_http.proofs.Readings.{ReadsOn-trans, StopsAs-after, joined}
 use Rattle.td_http.proofs.reading.read_request.Goals as goal
 
@@ -14,3 +15,6 @@ returns-in_err-read_up_to g c =
     let call = c.in_err-read_up_to.ensures in
     let same : c.from_residual.result ≡ Err c.in_err-read_up_to.field-0.0 = search rules in
     rw same (inv.0 ++ call.0, ReadsOn-trans _ _ _ _ _ _ _ _ _ inv.1 call.1, StopsAs-after _ _ _ _ _ _ _ _ _ _ inv.1.spent inv.2 call.2)
+
+pub returns-in-Err : goal.returns-in-Err
+returns-in-Err g c = let inv = c.loop-wanted.invariant in (inv.0, inv.1, inr (subst BeginsServed (c.bytes.ensures ∙ inv.2) c.in-Err.ensures.memory))
