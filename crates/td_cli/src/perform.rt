@@ -1,4 +1,8 @@
 //! The jobs of the program.
+ghost use Rattle.std.specs.Prelude.{◌≡◌, IfSome};
+ghost use Rattle.td_cli.specs.Piped.{IsPiped};
+ghost use Rattle.td_cli.specs.Statuses.{status_of_end};
+
 use crate::clock::{FixedClock, MachineClock};
 use crate::words::{Job, NoJob, read_words};
 use std::alloc::Global;
@@ -66,7 +70,7 @@ fn told<W: Write, E: Write>(no_job: &NoJob, out: &mut Counted<W>, errors: &mut C
 }
 
 /// The status where the words themselves couldn't be read: there was no memory for them, or they aren't text.
-pub fn unread_words<E: Write>(error: &io::Error, errors: &mut Counted<E>) -> u8 {
+pub(crate) fn unread_words<E: Write>(error: &io::Error, errors: &mut Counted<E>) -> u8 {
     if error.kind() == ErrorKind::OutOfMemory {
         return fault(errors, "transit-desk: no-memory\n");
     }
@@ -78,26 +82,34 @@ pub fn unread_words<E: Write>(error: &io::Error, errors: &mut Counted<E>) -> u8 
 }
 
 // Says a fault, and gives its status.
-fn fault<E: Write>(errors: &mut Counted<E>, line: &str) -> u8 {
+fn fault<E: Write>(errors: &mut Counted<E>, line: &str) -> u8
+    ensures { result ≡ 1 }
+{
     let _said = write_whole(errors, line.as_bytes());
     FAULT
 }
 
-/// Serves one stream of requests on a new desk in memory. `None`: there was no memory for the desk.
+// Serves one stream of requests on a new desk in memory, which is gone after it. `None`: there was no memory for the desk.
 fn pipe<R: Read, W: Write, C: Clock + Drop>(
     alloc: Global,
     country: Country,
     mut clock: C,
     input: &mut Counted<R>,
     out: &mut Counted<W>,
-) -> Option<StreamEnd> {
-    let desk = PlainDesk::new(alloc, country).ok()?;
+) -> Option<StreamEnd>
+    ensures { IfSome result (λ end. IsPiped R.remaining W.contents C.ticks country input.old input.new out.old out.new clock end) }
+{
+    let Ok(desk) = PlainDesk::new(alloc, country) else {
+        return None;
+    };
     let mut service = Service::new(desk);
     Some(serve_stream(alloc, input, out, &mut clock, &mut service))
 }
 
 // The status of a stream that ended so; how it ended is said unless it is done.
-fn status_of<E: Write>(end: Option<StreamEnd>, errors: &mut Counted<E>) -> u8 {
+fn status_of<E: Write>(end: Option<StreamEnd>, errors: &mut Counted<E>) -> u8
+    ensures { result ≡ status_of_end end }
+{
     match end {
         Some(StreamEnd::Closed | StreamEnd::Asked | StreamEnd::Served) => DONE,
         Some(StreamEnd::Refused) => fault(errors, "transit-desk: stream refused\n"),

@@ -6,7 +6,7 @@ use td_base::Country;
 
 /// What the words ask for.
 #[derive(Clone, Copy, Debug, PartialEq, Eq)]
-pub enum Job {
+pub(crate) enum Job {
     /// One stream of requests, from standard input to standard output.
     Pipe {
         country: Country,
@@ -17,7 +17,7 @@ pub enum Job {
 
 /// Why the words ask for no job.
 #[derive(Debug, Drop)]
-pub enum NoJob {
+pub(crate) enum NoJob {
     /// They ask for help, which is this text.
     Help(String),
     /// They are wrong words: this text says what was wrong, and how the program is used.
@@ -70,7 +70,7 @@ fn program<'a>(alloc: Global) -> Result<Command<'a>, AllocError> {
 }
 
 /// The job that the words ask for; the first of them is the program's name.
-pub fn read_words(alloc: Global, words: &[String]) -> Result<Job, NoJob> {
+pub(crate) fn read_words(alloc: Global, words: &[String]) -> Result<Job, NoJob> {
     match program(alloc)?.try_get_matches_from(words) {
         Ok(matches) => match matches.subcommand() {
             Some(("pipe", matches)) => pipe_job(alloc, matches),
