@@ -73,6 +73,7 @@ record IsDecimalOf (n : ℕ) (text : List ℕ) : Type 0 where
   single : n ≡ 0 → length text ≡ 1
   value : digits_value text ≡ n
 
+-- one digit is the decimal text of a number below 10
 one_digit : (n : ℕ) → n < 10 → IsDecimalOf n ((48 + n) ∷ [])
 one_digit n small = record {
   size = lit≤ tt;
@@ -82,6 +83,7 @@ one_digit n small = record {
   value = omega arith;
 }
 
+-- one more digit at the end
 more_digits : (n : ℕ) (text : List ℕ) → 10 ≤ n → IsDecimalOf (n / 10) text → IsDecimalOf n (text ++ (48 + n % 10) ∷ [])
 more_digits n text big h = record {
   size = simp length-append (omega arith);
@@ -91,10 +93,12 @@ more_digits n text big h = record {
   value = rw (fold-append, h.value) (omega arith);
 }
 
+-- it has no needless 0 in front
 shortest_decimal : (n : ℕ) (text : List ℕ) → IsDecimalOf n text → slice_get text 0 ≡ Some 48 → length text ≡ 1
 shortest_decimal n text h e =
     elim (cases_lt 0 n) [ inl some ↦ absurd (h.first some (get_or_from_slice_get text 0 48 0 e)) | inr none ↦ h.single (omega arith) ]
 
+-- so is what `{}` prints
 decimal_is : (n : ℕ) → n < 2 ^ 64 → IsDecimalOf n (decimal n)
 decimal_is n small = decimal_by_steps IsDecimalOf one_digit more_digits n small
 

@@ -14,6 +14,7 @@ pub IsAscii-from : (P : ℕ → Type 0) → ((c : ℕ) → P c → c < 128) → 
 IsAscii-from P small text all i =
     elim (cases_lt i (length text)) [ inl lt ↦ small _ (all i 0 lt) | inr ge ↦ rw (get_or_past text i 0 ge) (lit< tt) ]
 
+-- digits and capital letters are below 128
 mark_small : (c : ℕ) → IsMark c → c < 128
 mark_small c (inl digit) = omega arith
 mark_small c (inr letter) = omega arith

@@ -18,16 +18,20 @@ epoch_is_zero y m d ey em ed =
 pub count_from : (y : ℤ) (m d n : ℕ) → days_from_civil y m d ≡ pos n → day_count y m d ≡ n + 4371953
 count_from y m d n e = omega (arith, ints, signed_arith, days_from_civil-day_count y m d)
 
+-- a day number from the count, from 1970 on
 pub number_from : (y m d : ℕ) → 4371953 ≤ day_count (pos y) m d → day_number y m d + 4371953 ≡ day_count (pos y) m d
 unfolding day_number
 number_from y m d late = omega (arith, ints, signed_arith, days_from_civil-day_count (pos y) m d)
 
+-- the count of 2000-01-01
 start_2000 : day_count (pos 2000) 1 1 ≡ 4382910
 start_2000 = day_count-early (pos 2000) 11999 1 1 refl (omega arith) (omega arith) (omega arith)
 
+-- and of 2101-01-01
 start_2101 : day_count (pos 2101) 1 1 ≡ 4419800
 start_2101 = day_count-early (pos 2101) 12100 1 1 refl (omega arith) (omega arith) (omega arith)
 
+-- each year has a first of January
 new_year : (y : ℕ) → y ≤ 9999 → IsCivilDate (pos y) 1 1
 new_year y small = ((omega (arith, ints), omega (arith, ints)), (omega arith, omega arith), (omega arith, omega arith))
 
@@ -94,6 +98,7 @@ month_before y k m d some le date =
       | inr ge ↦ let same : k ≡ m = omega arith in rw same (omega (arith, day_count-day (pos y) m d 1 date.2.0 (omega arith)))
     ]
 
+-- the month is found as the year is
 month_found : (y m d n : ℕ) → 2000 ≤ y → IsCivilDate (pos y) m d → day_count (pos y) m d ≡ n + 4371953 → last_begun (λ (month : ℕ). day_number y month 1) 11 1 n ≡ m
 month_found y m d n low date count =
     let before : (k : ℕ) → 1 < k → k ≤ m → day_number y k 1 ≤ n = λ k above within. omega (arith, month_number y k low, month_before y k m d (omega arith) within date) in
@@ -116,6 +121,7 @@ year_is (pos y) m d n date number day =
     let range = year_range (pos y) m d n date count day in
     year_found y m d n range.0 range.1 date count
 
+-- the month
 pub month_is : (y : ℤ) (m d n : ℕ) → IsCivilDate y m d → days_from_civil y m d ≡ pos n → IsDay n → m ≡ month_of n
 unfolding month_of
 month_is (negsuc y) m d n date number day = never_negative y m d n date number day
@@ -125,6 +131,7 @@ month_is (pos y) m d n date number day =
     let year : y ≡ year_of n = year_is (pos y) m d n date number day in
     rw (← year) (sym (month_found y m d n range.0 date count))
 
+-- the day of the month
 pub day_is : (y : ℤ) (m d n : ℕ) → IsCivilDate y m d → days_from_civil y m d ≡ pos n → IsDay n → d ≡ day_of n
 unfolding day_of
 day_is (negsuc y) m d n date number day = never_negative y m d n date number day
@@ -147,6 +154,7 @@ civil_from : (year month day : ℕ) → IsDateOfDesk year month day → IsCivilD
 civil_from year month day h =
     ((omega (arith, ints, h.first), omega (arith, ints, h.last)), (omega (arith, ints, h.date.1.0), omega (arith, ints, h.date.1.1)), (omega (arith, ints, h.date.2.0), omega (arith, ints, h.date.2.1)))
 
+-- and the number of a date of the desk is a day's
 pub number_range : (year month day : ℕ) → IsDateOfDesk year month day → IsDay (day_number year month day)
 number_range year month day h =
     let date = civil_from year month day h in
@@ -159,6 +167,7 @@ number_range year month day h =
 pub first_day : day_number 2000 1 1 ≡ 10957
 first_day = omega (arith, start_2000, number_from 2000 1 1 (omega (arith, start_2000)))
 
+-- 2100-12-31
 pub last_day : day_number 2100 12 31 ≡ 47846
 last_day =
     let next = day_count-next_year (pos 2100) (pos 2101) (omega (arith, ints)) refl in
@@ -190,6 +199,7 @@ unfolding day_number
 number_positive year month day late =
     positive (days_from_civil (pos year) month day) 4371953 (day_count (pos year) month day) (days_from_civil-day_count (pos year) month day) late
 
+-- the parts of that number are those of the date
 pub parts_again : (year month day : ℕ) → IsDateOfDesk year month day → (year_of (day_number year month day) ≡ year) × (month_of (day_number year month day) ≡ month) × (day_of (day_number year month day) ≡ day)
 parts_again year month day h =
     let date = civil_from year month day h in

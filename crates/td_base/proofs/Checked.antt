@@ -16,6 +16,7 @@ use Rattle.td_base.specs.References.{front_of, country_of, identifier_of, HasFor
 small_rest : (rest : ℕ) → rest < 11 → (if rest == 10 then 0 else rest) ≤ 9
 small_rest rest small = grind (arith, nat_tests)
 
+-- 10 is written 0, so one digit is enough
 pub check_small : (text : List ℕ) → check_of text ≤ 9
 check_small text = small_rest (weighted_sum 0 text % 11) (omega arith)
 
@@ -31,6 +32,7 @@ front_marks text some form =
     let joined : front_of text ≡ take 2 text ++ (country_of text ++ identifier_of text) = ap (λ (n : ℕ). take n text) places ∙ take-add 2 _ text ∙ ap (λ (ys : List ℕ). take 2 text ++ ys) rest in
     All-same IsMark (front_of text) _ joined all
 
+-- so they have a check digit
 pub front_checkable : (text : List ℕ) → 5 ≤ length text → length text ≤ 41 → HasForm text → IsCheckable (front_of text)
 front_checkable text some short form = record {
   size = omega (arith, length-take-le (length text - 1) text (omega arith));
@@ -48,6 +50,7 @@ pub some_of : {T : Type 0} (r : Option T) (P : Type 0) (v : T) → SomeIff r P v
 some_of None P v h p = absurd (h p)
 some_of (Some x) P v h p = ap Some h.1
 
+-- the last character is the check digit
 pub check_fits : (text : List ℕ) (r : Option ℕ) → 5 ≤ length text → length text ≤ 41 → HasForm text → SomeIff r (IsCheckable (front_of text)) (check_of (front_of text)) → false ≡ not (option_eq nat_eq r (Some (get_or text (length text - 1) 0 - 48))) → HasCheckDigit text
 check_fits text r some short form found e =
     let known = some_of r _ _ found (front_checkable text some short form) in
@@ -55,6 +58,7 @@ check_fits text r some short form found e =
     let digit = last_is_digit text (omega arith) form in
     slice_get-get_or text (length text - 1) 0 (omega arith) ∙ ap Some (omega arith)
 
+-- or it isn't
 pub check_differs : (text : List ℕ) (r : Option ℕ) → 5 ≤ length text → length text ≤ 41 → HasForm text → SomeIff r (IsCheckable (front_of text)) (check_of (front_of text)) → true ≡ not (option_eq nat_eq r (Some (get_or text (length text - 1) 0 - 48))) → ¬ (HasCheckDigit text)
 check_differs text r some short form found e check =
     let known = some_of r _ _ found (front_checkable text some short form) in

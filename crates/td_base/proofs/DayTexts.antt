@@ -25,6 +25,7 @@ record HasDateParts (year month day : ℕ) (text : List ℕ) : Type 0 where
   second_dash : slice_get text 7 ≡ Some 45
   third : drop 8 text ≡ fixed_decimal 2 day
 
+-- the ten characters, place by place
 date_parts : (year month day : ℕ) → HasDateParts year month day (date_text year month day)
 date_parts year month day = record {
   size = rw (four_digits year, two_digits month, two_digits day) refl;
@@ -35,6 +36,7 @@ date_parts year month day = record {
   third = rw (four_digits year, two_digits month, two_digits day) refl;
 }
 
+-- a number in enough digits is shown whole
 shown : (width n : ℕ) → n < 10 ^ width → digits_value (fixed_decimal width n) ≡ n
 shown width n small = digits_value-fixed_decimal width n ∙ mod-eq_of_lt small
 

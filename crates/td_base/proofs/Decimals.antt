@@ -13,6 +13,7 @@ use Rattle.td_base.specs.Holder.{digits_value}
 pub ten_power_small : (i n : ℕ) → i ≤ n → 10 ^ i ≤ 10 ^ n
 ten_power_small i n small = pow-le-pow_right {n = 10} (lit< tt) small
 
+-- they are positive
 pub pow_positive : (n : ℕ) → 0 < 10 ^ n
 pow_positive n = omega (arith, ten_power_small 0 n (omega arith))
 
@@ -41,6 +42,7 @@ one_more_written bytes place n rest some within e written =
     let wider : length bytes - (place - 1) ≡ length bytes - place + 1 = omega arith in
     rw (drop-set bytes (place - 1) (48 + rest % 10) (omega arith), here, wider, fixed_decimal-suc, sym e, written) refl
 
+-- and what is left is divided once more
 pub next_rest : (size place n rest : ℕ) → 0 < place → place ≤ size → rest ≡ n / 10 ^ (size - place) → rest / 10 ≡ n / 10 ^ (size - (place - 1))
 next_rest size place n rest some within e =
     let wider : size - (place - 1) ≡ suc (size - place) = omega arith in
@@ -52,12 +54,14 @@ unfolding fixed_decimal
 length-fixed_decimal zero n = refl
 length-fixed_decimal (suc width) n = ap suc (length-fixed_decimal width n)
 
+-- all of them are digits
 pub fixed_decimal_digits : (width n : ℕ) → All IsAsciiDigit (fixed_decimal width n)
 unfolding fixed_decimal
 fixed_decimal_digits zero n = All-nil IsAsciiDigit
 fixed_decimal_digits (suc width) n =
     All-cons IsAsciiDigit (48 + n / 10 ^ width % 10) (fixed_decimal width n) (omega arith, omega arith) (fixed_decimal_digits width n)
 
+-- a digit joins the number before it
 regroup : (a digit power rest : ℕ) → (10 * a + (48 + digit - 48)) * power + rest ≡ a * (10 * power) + (digit * power + rest)
 regroup a digit power rest =
     let same : 48 + digit - 48 ≡ digit = omega arith in
@@ -82,6 +86,7 @@ pub two_digits : (n : ℕ) → fixed_decimal 2 n ≡ (48 + n / 10 % 10) ∷ (48 
 unfolding fixed_decimal
 two_digits n = let whole : n / 1 ≡ n = omega arith in rw whole refl
 
+-- four of them
 pub four_digits : (n : ℕ) → fixed_decimal 4 n ≡ (48 + n / 1000 % 10) ∷ (48 + n / 100 % 10) ∷ (48 + n / 10 % 10) ∷ (48 + n % 10) ∷ []
 unfolding fixed_decimal
 four_digits n = let whole : n / 1 ≡ n = omega arith in rw whole refl

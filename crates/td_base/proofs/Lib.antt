@@ -8,7 +8,7 @@ mod Amounts
 mod ReferenceParts
 mod Owners
 mod Checked
-mod MadeReferences
+pub mod MadeReferences
 mod Written
 mod Calendar
 mod DayTexts

@@ -18,13 +18,16 @@ use Rattle.td_base.proofs.ReferenceParts.{IsMadeOf, made_of}
 abbrev pub numbers : ℕ → ℕ → ℕ → List ℕ
 numbers width holder serial = fixed_decimal 6 holder ++ fixed_decimal width serial
 
+-- a reference with so many digits of serial
 abbrev pub made : ℕ → ℕ → List ℕ → ℕ → ℕ → List ℕ
 made width year country holder serial = reference_text year country (numbers width holder serial)
 
+-- how long they are
 pub length-numbers : (width holder serial : ℕ) → length (numbers width holder serial) ≡ width + 6
 length-numbers width holder serial =
     omega (arith, length-append (fixed_decimal 6 holder) (fixed_decimal width serial), length-fixed_decimal 6 holder, length-fixed_decimal width serial)
 
+-- they are digits
 numbers_digits : (width holder serial : ℕ) → All IsAsciiDigit (numbers width holder serial)
 numbers_digits width holder serial =
     All-append IsAsciiDigit (fixed_decimal 6 holder) (fixed_decimal width serial) (fixed_decimal_digits 6 holder) (fixed_decimal_digits width serial)
@@ -65,6 +68,7 @@ made_holder width year country holder serial form number =
     let first : take 6 (numbers width holder serial) ≡ fixed_decimal 6 holder = take_at (fixed_decimal 6 holder) (fixed_decimal width serial) 6 (length-fixed_decimal 6 holder) in
     rw (parts.identifier, first, digits_value-fixed_decimal) (omega arith)
 
+-- the serial, where its digits are enough
 pub made_serial : (width year : ℕ) (country : List ℕ) (holder serial : ℕ) → IsCountry country → serial < 10 ^ width → serial_part (made width year country holder serial) ≡ serial
 made_serial width year country holder serial form small =
     let parts = made_parts width year country holder serial form in
@@ -78,10 +82,12 @@ made_owned width year country holder serial form number =
     let text = made width year country holder serial in
     owned_from country text parts.country (rw parts.identifier (numbers_digits width holder serial)) (omega (arith, made_holder width year country holder serial form number))
 
+-- its owner is the holder
 pub made_owner : (width year : ℕ) (country : List ℕ) (holder serial : ℕ) → IsCountry country → IsHolderNumber holder → owner_of country (made width year country holder serial) ≡ Some holder
 made_owner width year country holder serial form number =
     owner_is country (made width year country holder serial) (made_owned width year country holder serial form number) ∙ ap Some (made_holder width year country holder serial form number)
 
+-- and its serial that serial
 pub made_serial_is : (width year : ℕ) (country : List ℕ) (holder serial : ℕ) → IsCountry country → IsHolderNumber holder → serial < 10 ^ width → serial_of country (made width year country holder serial) ≡ Some serial
 made_serial_is width year country holder serial form number small =
     serial_is country (made width year country holder serial) (made_owned width year country holder serial form number) ∙ ap Some (made_serial width year country holder serial form small)

@@ -19,6 +19,7 @@ digits_from_test (c ∷ text) e =
     let ends = and_parts _ _ parts.0 in
     All-cons IsAsciiDigit c text (leb-true _ _ ends.0, leb-true _ _ ends.1) (digits_from_test text parts.1)
 
+-- and the fact, as a test
 digits_pass : (text : List ℕ) → All IsAsciiDigit text → all_ascii_digits text ≡ true
 digits_pass [] h = refl
 digits_pass (c ∷ text) h =
@@ -30,25 +31,31 @@ pub owned_from : (country text : List ℕ) → country_of text ≡ country → A
 owned_from country text same digits positive =
     and_from _ _ (and_from _ _ ((bytes_eq-Decides (country_of text) country).1 same) (digits_pass (identifier_of text) digits)) (lt-ltb 0 (holder_part text) positive)
 
+-- what an owned reference shows
 pub owned_gives : (country text : List ℕ) → is_owned country text ≡ true → (country_of text ≡ country) × All IsAsciiDigit (identifier_of text) × (0 < holder_part text)
 owned_gives country text e =
     let parts = and_parts _ _ e in
     let front = and_parts _ _ parts.0 in
     ((bytes_eq-Decides (country_of text) country).0 front.0, digits_from_test (identifier_of text) front.1, ltb-true 0 (holder_part text) parts.1)
 
+-- the owner of an owned reference
 pub owner_is : (country text : List ℕ) → is_owned country text ≡ true → owner_of country text ≡ Some (holder_part text)
 owner_is country text e = rw e refl
 
+-- and its serial
 pub serial_is : (country text : List ℕ) → is_owned country text ≡ true → serial_of country text ≡ Some (serial_part text)
 serial_is country text e = rw e refl
 
+-- a reference that isn't owned has no owner
 pub no_owner : (country text : List ℕ) → (is_owned country text ≡ true → ⊥) → None ≡ owner_of country text
 no_owner country text never =
     elim (cases_Bool (is_owned country text)) [ inl own ↦ absurd (never own) | inr foreign ↦ rw foreign refl ]
 
+-- something isn't nothing
 unlike : (x : ℕ) → Some x ≡ None → ⊥
 unlike x e = cc
 
+-- one that has an owner is owned
 pub owned_since : (country text : List ℕ) (x : ℕ) → Some x ≡ owner_of country text → is_owned country text ≡ true
 owned_since country text x e =
     elim (cases_Bool (is_owned country text)) [ inl own ↦ own | inr foreign ↦ absurd (unlike x (rw foreign at e)) ]
@@ -75,5 +82,6 @@ length-identifier text some =
 pub other_country : (a b : List ℕ) → true ≡ not (bytes_eq a b) → a ≡ b → ⊥
 other_country a b e same = false≢true (rw ((bytes_eq-Decides a b).1 same) at (sym e))
 
+-- the country is this one
 pub same_country : (a b : List ℕ) → false ≡ not (bytes_eq a b) → a ≡ b
 same_country a b e = (bytes_eq-Decides a b).0 (not-false (bytes_eq a b) (sym e))

@@ -1,9 +1,9 @@
 -- What is read is printed as it was.
-use Rattle.std.proofs.Common.{◌≡◌, ℕ, zero, suc, ◌+◌, ◌-◌, ◌*◌, ◌/◌, ◌%◌, ◌^◌, ◌<◌, ◌≤◌, List, [], ◌∷◌, ◌++◌, length, take, drop, slice_range, slice_get, get_or, fold, All, Some, pos, ℤ, unsigned_abs, arith, refl, ap, sym, ◌∙◌, lit<, rules, add-one, append_assoc, mod-eq_of_lt}
+use Rattle.std.proofs.Common.{◌≡◌, ℕ, zero, suc, ◌+◌, ◌-◌, ◌*◌, ◌/◌, ◌%◌, ◌^◌, ◌<◌, ◌≤◌, List, [], ◌∷◌, ◌++◌, length, take, drop, slice_range, slice_get, get_or, fold, All, Some, arith, refl, ap, sym, ◌∙◌, lit<, rules, add-one, append_assoc, mod-eq_of_lt}
 use Rattle.std.specs.Char.{IsAsciiDigit}
 use Rattle.std.specs.Fmt.{decimal}
 use Rattle.std.proofs.Math.Arith.{mod-mul}
-use Rattle.std.proofs.Math.Nat.{pow-succ', mul_comm, mul_assoc, add-mul}
+use Rattle.std.proofs.Math.Nat.{pow-succ'}
 use Rattle.std.proofs.lemmas.Nat.{same_from_place, mod_below, div-mul-add, mod-mul-add, mul-le}
 use Rattle.std.proofs.lemmas.List.Elements.{All-head, All-tail}
 use Rattle.td_base.specs.Digits.{fixed_decimal}
@@ -31,6 +31,7 @@ same_digits (suc width) n m e =
     let parts = same_from_place (n / power % 10) (n % power) (m / power % 10) (m % power) power (mod_below n power (pow_positive width)) (mod_below m power (pow_positive width)) joined in
     rw (parts.0, same_digits width n m parts.1) refl
 
+-- a digit joins the number before it
 joined_digits : (a d power rest : ℕ) → (10 * a + d) * power + rest ≡ a * (10 * power) + (d * power + rest)
 joined_digits a d power rest = grind arith
 
@@ -74,10 +75,12 @@ digits_again (c ∷ text) digits =
     let first : 48 + digits_value (c ∷ text) / power % 10 ≡ c = rw high (omega arith) in
     rw (first, same_digits (length text) (digits_value (c ∷ text)) value low ∙ digits_again text tail) refl
 
+-- a holder's text in six digits
 six_digits : (n : ℕ) → holder_text n ≡ fixed_decimal 6 n
 unfolding fixed_decimal
 six_digits n = let whole : n / 1 ≡ n = omega arith in rw whole refl
 
+-- the text of a holder
 pub holder_again : (text : List ℕ) → IsHolderText text → holder_text (digits_value text) ≡ text
 holder_again text h =
     six_digits (digits_value text) ∙ ap (λ (width : ℕ). fixed_decimal width (digits_value text)) (sym h.size) ∙ digits_again text h.digits
@@ -93,6 +96,7 @@ around text place c e =
 own : IsNumeralModel (λ ds. (i : ℕ) → i < length ds → IsInRange 48 57 (get_or ds i 0)) digits_value
 own = numerals_by_fold _ tells_by_index (λ n text. fold (λ n c. 10 * n + (c - 48)) n text) (search rules)
 
+-- is printed as it was
 whole_again : (text : List ℕ) → IsWhole text → digits_value text < 2 ^ 64 → decimal (digits_value text) ≡ text
 whole_again text h small =
     decimal-digits_value own text (λ i within. h.digits i 0 within) h.size (λ e. h.shortest (slice_get-get_or text 0 0 h.size ∙ ap Some e)) small
@@ -102,6 +106,7 @@ two_again : (text : List ℕ) → length text ≡ 2 → All IsAsciiDigit text �
 two_again text size digits =
     sym (two_digits (digits_value text)) ∙ ap (λ (width : ℕ). fixed_decimal width (digits_value text)) (sym size) ∙ digits_again text digits
 
+-- an amount from its parts
 cents_parts : (n whole cents : ℕ) → cents < 100 → n ≡ 100 * whole + cents → cents_text n ≡ decimal whole ++ 46 ∷ (48 + cents / 10 % 10) ∷ (48 + cents % 10) ∷ []
 cents_parts n whole cents small e =
     let high : n / 100 ≡ whole = omega arith in
@@ -109,6 +114,7 @@ cents_parts n whole cents small e =
     let ones : n % 10 ≡ cents % 10 = omega arith in
     rw (high, tens, ones) refl
 
+-- the text of an amount
 pub cents_again : (text : List ℕ) → IsCentsText text → cents_text (cents_value text) ≡ text
 cents_again text h =
     let point = point_of text in
@@ -131,6 +137,7 @@ ten_again text dash second =
     let middle : drop 5 text ≡ slice_range text 5 7 ++ 45 ∷ drop 8 text = around (drop 5 text) 2 45 found ∙ ap (λ (xs : List ℕ). slice_range text 5 7 ++ 45 ∷ xs) (drop-drop 3 5 text) in
     append_assoc (take 4 text) (45 ∷ slice_range text 5 7) (45 ∷ drop 8 text) ∙ ap (λ (xs : List ℕ). take 4 text ++ 45 ∷ xs) (sym middle) ∙ sym (around text 4 45 dash)
 
+-- the text of a day
 pub day_again : (text : List ℕ) → IsDayText text → day_text (number_in text) ≡ text
 day_again text h =
     let year = year_in text in

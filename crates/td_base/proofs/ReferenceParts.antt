@@ -16,6 +16,7 @@ pub record IsMadeOf (y c i : List ℕ) (l : ℕ) (text : List ℕ) : Type 0 wher
   pub size : length text ≡ length i + 5
   pub check : slice_get text (length text - 1) ≡ Some l
 
+-- a year, a country, an identifier and a last character make such a text
 pub made_of : (year country identifier : List ℕ) (last : ℕ) → length year ≡ 2 → length country ≡ 2 → IsMadeOf year country identifier last (year ++ country ++ identifier ++ last ∷ [])
 made_of year country identifier last two two' =
     let text = year ++ country ++ identifier ++ last ∷ [] in

@@ -13,6 +13,7 @@ weighted_push place (x ∷ text) c =
     let e : place + 1 + length text ≡ place + length (x ∷ text) = omega arith in
     rw (rest, e) (sym (add_assoc (value_of x * 2 ^ place) (weighted_sum (place + 1) text) _))
 
+-- one more turn of the loop
 pub weighted_more : (text : List ℕ) (i : ℕ) → i < length text → weighted_sum 0 (take (i + 1) text) ≡ weighted_sum 0 (take i text) + value_of (get_or text i 0) * 2 ^ i
 weighted_more text i small =
     let at : 0 + length (take i text) ≡ i = omega (arith, length-take-le i text) in

@@ -72,6 +72,7 @@ front_is b front year country holder serial some e =
     let size : length (take (length b - 1) b) - 10 ≡ length b - 11 = omega (arith, length-take-le (length b - 1) b (omega arith)) in
     e ∙ ap (λ (w : ℕ). fixed_decimal 2 year ++ country ++ numbers w holder serial) size
 
+-- how long it is
 pub front_size : (b front : List ℕ) (year : ℕ) (country : List ℕ) (holder serial : ℕ) → 11 ≤ length b → IsCountry country → front ≡ fixed_decimal 2 year ++ country ++ numbers (length b - 11) holder serial → length front ≡ length b - 1
 front_size b front year country holder serial some form e =
     let all = length-append (fixed_decimal 2 year ++ country) (numbers (length b - 11) holder serial) in

@@ -28,13 +28,15 @@ last_begun start zero first n = first
 last_begun start (suc more) first n =
     if nat_le (start (first + 1)) n then last_begun start more (first + 1) n else first
 
--- the year of a day, its month, and its place in the month
+-- the year of a day
 unfoldable pub year_of : ℕ → ℕ
 year_of n = last_begun (λ year. day_number year 1 1) 100 2000 n
 
+-- the month of a day
 unfoldable pub month_of : ℕ → ℕ
 month_of n = last_begun (λ month. day_number (year_of n) month 1) 11 1 n
 
+-- its place in the month
 unfoldable pub day_of : ℕ → ℕ
 day_of n = n + 1 - day_number (year_of n) (month_of n) 1
 
@@ -42,13 +44,15 @@ day_of n = n + 1 - day_number (year_of n) (month_of n) 1
 abbrev pub day_text : ℕ → List ℕ
 day_text n = fixed_decimal 4 (year_of n) ++ 45 ∷ fixed_decimal 2 (month_of n) ++ 45 ∷ fixed_decimal 2 (day_of n)
 
--- the numbers in such a text
+-- the year in such a text
 abbrev pub year_in : List ℕ → ℕ
 year_in text = digits_value (take 4 text)
 
+-- the month
 abbrev pub month_in : List ℕ → ℕ
 month_in text = digits_value (slice_range text 5 7)
 
+-- and the day
 abbrev pub day_in : List ℕ → ℕ
 day_in text = digits_value (drop 8 text)
 

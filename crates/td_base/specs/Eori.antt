@@ -3,6 +3,7 @@ use Rattle.std.specs.Prelude.{ℕ, ◌≤◌, List, length, take, drop, All}
 use Rattle.std.specs.Char.{IsAsciiUppercase}
 use Rattle.td_base.specs.Letters.{IsMark}
 
+-- an EORI
 pub record IsEori (text : List ℕ) : Type 0 where
   pub low : 3 ≤ length text
   pub high : length text ≤ 17

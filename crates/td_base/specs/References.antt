@@ -39,10 +39,11 @@ pub record IsReferenceText (places : ℕ) (text : List ℕ) : Type 0 where
   pub form : HasForm text
   pub check : HasCheckDigit text
 
--- a GRN, and an MRN
+-- a GRN
 abbrev pub IsGrn : List ℕ → Type 0
 IsGrn = IsReferenceText 17
 
+-- an MRN
 abbrev pub IsMrn : List ℕ → Type 0
 IsMrn = IsReferenceText 18
 
@@ -58,10 +59,11 @@ fault_text Length = codes "wrong length"
 fault_text Form = codes "wrong form"
 fault_text CheckDigit = codes "wrong check digit"
 
--- the numbers in an identifier of digits: the holder in the first six, the holder's serial in the others
+-- the holder in the first six digits of an identifier of digits
 abbrev pub holder_part : List ℕ → ℕ
 holder_part text = digits_value (take 6 (identifier_of text))
 
+-- the serial in the others
 abbrev pub serial_part : List ℕ → ℕ
 serial_part text = digits_value (drop 6 (identifier_of text))
 
@@ -70,10 +72,11 @@ abbrev pub is_owned : List ℕ → List ℕ → Bool
 is_owned country text =
     bytes_eq (country_of text) country && all_ascii_digits (identifier_of text) && nat_lt 0 (holder_part text)
 
--- the holder who owns a reference, and the holder's serial in it
+-- the holder who owns a reference
 abbrev pub owner_of : List ℕ → List ℕ → Option ℕ
 owner_of country text = if is_owned country text then Some (holder_part text) else None
 
+-- the holder's serial in it
 abbrev pub serial_of : List ℕ → List ℕ → Option ℕ
 serial_of country text = if is_owned country text then Some (serial_part text) else None
 
@@ -93,10 +96,11 @@ abbrev pub mrn_text : ℕ → List ℕ → ℕ → ℕ → List ℕ
 mrn_text year country holder serial =
     reference_text year country (fixed_decimal 6 holder ++ fixed_decimal 7 serial)
 
--- what they can be made of
+-- the serials of guarantees
 abbrev pub IsGrnSerial : ℕ → Type 0
 IsGrnSerial serial = (1 ≤ serial) × (serial ≤ 999999)
 
+-- the serials of movements
 abbrev pub IsMrnSerial : ℕ → Type 0
 IsMrnSerial serial = (1 ≤ serial) × (serial ≤ 9999999)
 
