@@ -1,15 +1,14 @@
 -- What each way to end says, from what holds when the stream ends.
-use Rattle.std.proofs.Common.{◌≡◌, ℕ, ◌+◌, ◌-◌, ◌<◌, ℤ, Bool, true, false, List, [], ◌∷◌, ◌++◌, length, take, Option, arith, refl, sym, ap, subst, ◌∙◌, inl}
+use Rattle.std.proofs.Common.{◌≡◌, ℕ, ◌+◌, ◌-◌, ◌<◌, Bool, true, false, List, [], ◌∷◌, ◌++◌, length, take, arith, refl, sym, ap, subst, ◌∙◌, inl}
 use Rattle.std.specs.Io.KnownBytes.{Appends}
 use Rattle.std.proofs.KnownBytes.{Appends-trans}
 use Rattle.td_base.specs.declared.counted.Counted.{Counted}
 use Rattle.td_base.specs.Counted.{known_bytes}
 use Rattle.td_http.specs.declared.reply.Reply.{Reply}
 use Rattle.td_http.specs.declared.stream.StreamEnd.TheVariants.{Asked, Served, WriteFault, Failed}
-use Rattle.td_http.specs.Request as request
 use Rattle.td_http.specs.ReplyText.{reply_bytes, is_made}
 use Rattle.td_http.specs.Sending.{IsCutShort, MadeWrites}
-use Rattle.td_http.specs.Stream.{replies_of, silence, Sides, Run, Serves}
+use Rattle.td_http.specs.Stream.{replies_of, silence, Sides, Run}
 use Rattle.td_http.proofs.Calls.{made_on}
 use Rattle.td_http.proofs.Serving.{Words, IsServed, Serving, Handled, replies_sent, no_parting, count_push}
 
@@ -21,12 +20,12 @@ run_of {now = now} {unread = unread} {left = left} h written =
     record { given = h.given; exchanges = h.before ++ h.last ∷ []; rest = unread; handler = now.handler; parting = silence; written = written; reads = 100000 - left }
 
 -- the last reply wasn't written whole
-pub cut_reply : {R W C H : Type 0} (k : Words R W C H)
-    (old now : Sides R W C H) (unread : List ℕ) (left served : ℕ) (close : Bool) (reply : Reply)
+pub cut_reply : {R W C H : Type 0} {k : Words R W C H}
+    {old now : Sides R W C H} {unread : List ℕ} {left served : ℕ} {close : Bool} {reply : Reply}
     → Handled k old now unread left served close reply → served < 1000
     → (writer : Counted W) → IsCutShort k.contents now.writer writer (reply_bytes reply) → MadeWrites now.writer writer false
     → IsServed k old (record now { writer = writer }) WriteFault
-cut_reply k old now unread left served close reply h few writer cut writes =
+cut_reply {reply = reply} h few writer cut writes =
     let written = replies_of h.before ++ take cut.taken (reply_bytes reply) in
     let count = h.count in
     record {
@@ -57,12 +56,12 @@ cut_reply k old now unread left served close reply h few writer cut writes =
     }
 
 -- the last reply was written whole, and is a fixed one
-pub fixed_reply : {R W C H : Type 0} (k : Words R W C H)
-    (old now : Sides R W C H) (unread : List ℕ) (left served : ℕ) (close : Bool) (reply : Reply)
+pub fixed_reply : {R W C H : Type 0} {k : Words R W C H}
+    {old now : Sides R W C H} {unread : List ℕ} {left served : ℕ} {close : Bool} {reply : Reply}
     → Handled k old now unread left served close reply → served < 1000
     → (writer : Counted W) → Appends (known_bytes k.contents now.writer) (known_bytes k.contents writer) (reply_bytes reply)
     → is_made reply ≡ false → IsServed k old (record now { writer = writer }) Failed
-fixed_reply k old now unread left served close reply h few writer sent fixed =
+fixed_reply {k = k} {old = old} {now = now} {reply = reply} h few writer sent fixed =
     let count = h.count in
     record {
       run = run_of h (replies_of (h.before ++ h.last ∷ []));
@@ -79,12 +78,12 @@ fixed_reply k old now unread left served close reply h few writer sent fixed =
     }
 
 -- the last reply was written whole, and its request asked to close
-pub asked_reply : {R W C H : Type 0} (k : Words R W C H)
-    (old now : Sides R W C H) (unread : List ℕ) (left served : ℕ) (close : Bool) (reply : Reply)
+pub asked_reply : {R W C H : Type 0} {k : Words R W C H}
+    {old now : Sides R W C H} {unread : List ℕ} {left served : ℕ} {close : Bool} {reply : Reply}
     → Handled k old now unread left served close reply → served < 1000
     → (writer : Counted W) → Appends (known_bytes k.contents now.writer) (known_bytes k.contents writer) (reply_bytes reply)
     → is_made reply ≡ true → close ≡ true → IsServed k old (record now { writer = writer }) Asked
-asked_reply k old now unread left served close reply h few writer sent made asks =
+asked_reply {k = k} {old = old} {now = now} {reply = reply} h few writer sent made asks =
     let count = h.count in
     record {
       run = run_of h (replies_of (h.before ++ h.last ∷ []));
@@ -107,11 +106,11 @@ asked_reply k old now unread left served close reply h few writer sent made asks
     }
 
 -- all 1,000 requests were answered
-pub served_all : {R W C H : Type 0} (k : Words R W C H)
-    (old now : Sides R W C H) (unread : List ℕ) (left served : ℕ)
+pub served_all : {R W C H : Type 0} {k : Words R W C H}
+    {old now : Sides R W C H} {unread : List ℕ} {left served : ℕ}
     → Serving k old now unread left served → served ≡ 1000
     → IsServed k old now Served
-served_all k old now unread left served s all =
+served_all {now = now} {unread = unread} {left = left} s all =
     let count : length s.exchanges ≡ 1000 = s.count ∙ all in
     record {
       run = record { given = s.given; exchanges = s.exchanges; rest = unread; handler = now.handler; parting = silence; written = replies_of s.exchanges; reads = 100000 - left };

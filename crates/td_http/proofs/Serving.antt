@@ -142,14 +142,14 @@ asked_is served w r is =
     λ i. record { method = is.method i; target = is.target i; body = is.body i; close = is.close i || (served + 1 == 1000) }
 
 -- a request is read, the clock ticks, and the handler replies
-pub handled : {R W C H : Type 0} (k : Words R W C H)
-    (old now : Sides R W C H) (unread : List ℕ) (left served : ℕ) → Serving k old now unread left served
+pub handled : {R W C H : Type 0} {k : Words R W C H}
+    {old now : Sides R W C H} {unread : List ℕ} {left served : ℕ} → Serving k old now unread left served
     → (reader : Counted R) (more rest : List ℕ) (fewer : ℕ) (r : Request) → ReadsOn k.remaining now.reader reader more left fewer
     → Takes (unread ++ more) rest r
     → (at : ℤ) (clock : C) → k.ticks now.clock at clock
     → (reply : Reply) (handler : H) → k.answers now.handler at (record (request.asked r) { close = r.close || (served + 1 == 1000) }) reply handler
     → Handled k old (record { reader = reader; writer = now.writer; clock = clock; handler = handler }) rest fewer served r.close reply
-handled k old now unread left served s reader more rest fewer r reads takes at clock tick reply handler answer =
+handled {k = k} {old = old} {now = now} {unread = unread} {served = served} s reader more rest fewer r reads takes at clock tick reply handler answer =
     let last : Exchange = record { wire = takes.wire; at = at; reply = reply } in
     let asked = asked_is served takes.wire r takes.request in
     let count = s.count in
@@ -194,13 +194,13 @@ pub no_parting : (es : List Exchange) → replies_of es ≡ replies_of es ++ par
 no_parting es = sym (append-nil (replies_of es))
 
 -- the reply was written whole, and the handler goes on
-pub goes_on : {R W C H : Type 0} (k : Words R W C H)
-    (old now : Sides R W C H) (unread : List ℕ) (left served : ℕ) (close : Bool) (reply : Reply)
+pub goes_on : {R W C H : Type 0} {k : Words R W C H}
+    {old now : Sides R W C H} {unread : List ℕ} {left served : ℕ} {close : Bool} {reply : Reply}
     → Handled k old now unread left served close reply
     → (writer : Counted W) → Appends (known_bytes k.contents now.writer) (known_bytes k.contents writer) (reply_bytes reply) → MadeWrites now.writer writer true
     → is_made reply ≡ true → close ≡ false
     → Serving k old (record now { writer = writer }) unread left (served + 1)
-goes_on k old now unread left served close reply h writer sent writes made stays =
+goes_on {k = k} {old = old} {now = now} {reply = reply} h writer sent writes made stays =
     let count = h.count in
     record {
       given = h.given;
