@@ -1,34 +1,31 @@
 -- What each way to end says, from what holds when the stream ends.
-use Rattle.std.proofs.Common.{◌≡◌, ℕ, ◌+◌, ◌-◌, ◌<◌, ℤ, Bool, true, false, List, [], ◌∷◌, ◌++◌, length, take, Option, arith, refl, sym, ap, subst, ◌∙◌, inl}
+use Rattle.std.proofs.Common.{◌≡◌, ℕ, ◌+◌, ◌-◌, ◌<◌, Bool, true, false, List, [], ◌∷◌, ◌++◌, length, take, arith, refl, sym, ap, subst, ◌∙◌, inl}
 use Rattle.std.specs.Io.KnownBytes.{Appends}
 use Rattle.std.proofs.KnownBytes.{Appends-trans}
 use Rattle.td_base.specs.declared.counted.Counted.{Counted}
 use Rattle.td_base.specs.Counted.{known_bytes}
 use Rattle.td_http.specs.declared.reply.Reply.{Reply}
 use Rattle.td_http.specs.declared.stream.StreamEnd.TheVariants.{Asked, Served, WriteFault, Failed}
-use Rattle.td_http.specs.Request as request
 use Rattle.td_http.specs.ReplyText.{reply_bytes, is_made}
 use Rattle.td_http.specs.Sending.{IsCutShort, MadeWrites}
-use Rattle.td_http.specs.Stream.{replies_of, silence, Sides, Run, Serves}
+use Rattle.td_http.specs.Stream.{replies_of, silence, Sides, Run}
 use Rattle.td_http.proofs.Calls.{made_on}
-use Rattle.td_http.proofs.Serving.{Serving, Handled, replies_sent, no_parting, count_push}
+use Rattle.td_http.proofs.Serving.{Words, IsServed, Serving, Handled, replies_sent, no_parting, count_push}
 
 -- the run whose last request is the one that was handled
-abbrev run_of : {R W C H : Type 0} {remaining : R → Option (List ℕ)} {contents : W → Option (List ℕ)}
-    {ticks : C → ℤ → C → Type 0} {answers : H → ℤ → request.Asked → Reply → H → Type 0}
+abbrev run_of : {R W C H : Type 0} {k : Words R W C H}
     {old now : Sides R W C H} {unread : List ℕ} {left served : ℕ} {close : Bool} {reply : Reply}
-    → Handled remaining contents ticks answers old now unread left served close reply → List ℕ → Run H
+    → Handled k old now unread left served close reply → List ℕ → Run H
 run_of {now = now} {unread = unread} {left = left} h written =
     record { given = h.given; exchanges = h.before ++ h.last ∷ []; rest = unread; handler = now.handler; parting = silence; written = written; reads = 100000 - left }
 
 -- the last reply wasn't written whole
-pub cut_reply : {R W C H : Type 0} (remaining : R → Option (List ℕ)) (contents : W → Option (List ℕ))
-    (ticks : C → ℤ → C → Type 0) (answers : H → ℤ → request.Asked → Reply → H → Type 0) (heads : H → List ℕ → Reply → H → Type 0)
-    (old now : Sides R W C H) (unread : List ℕ) (left served : ℕ) (close : Bool) (reply : Reply)
-    → Handled remaining contents ticks answers old now unread left served close reply → served < 1000
-    → (writer : Counted W) → IsCutShort contents now.writer writer (reply_bytes reply) → MadeWrites now.writer writer false
-    → Serves remaining contents ticks answers heads old (record now { writer = writer }) WriteFault
-cut_reply remaining contents ticks answers heads old now unread left served close reply h few writer cut writes =
+pub cut_reply : {R W C H : Type 0} {k : Words R W C H}
+    {old now : Sides R W C H} {unread : List ℕ} {left served : ℕ} {close : Bool} {reply : Reply}
+    → Handled k old now unread left served close reply → served < 1000
+    → (writer : Counted W) → IsCutShort k.contents now.writer writer (reply_bytes reply) → MadeWrites now.writer writer false
+    → IsServed k old (record now { writer = writer }) WriteFault
+cut_reply {reply = reply} h few writer cut writes =
     let written = replies_of h.before ++ take cut.taken (reply_bytes reply) in
     let count = h.count in
     record {
@@ -59,13 +56,12 @@ cut_reply remaining contents ticks answers heads old now unread left served clos
     }
 
 -- the last reply was written whole, and is a fixed one
-pub fixed_reply : {R W C H : Type 0} (remaining : R → Option (List ℕ)) (contents : W → Option (List ℕ))
-    (ticks : C → ℤ → C → Type 0) (answers : H → ℤ → request.Asked → Reply → H → Type 0) (heads : H → List ℕ → Reply → H → Type 0)
-    (old now : Sides R W C H) (unread : List ℕ) (left served : ℕ) (close : Bool) (reply : Reply)
-    → Handled remaining contents ticks answers old now unread left served close reply → served < 1000
-    → (writer : Counted W) → Appends (known_bytes contents now.writer) (known_bytes contents writer) (reply_bytes reply)
-    → is_made reply ≡ false → Serves remaining contents ticks answers heads old (record now { writer = writer }) Failed
-fixed_reply remaining contents ticks answers heads old now unread left served close reply h few writer sent fixed =
+pub fixed_reply : {R W C H : Type 0} {k : Words R W C H}
+    {old now : Sides R W C H} {unread : List ℕ} {left served : ℕ} {close : Bool} {reply : Reply}
+    → Handled k old now unread left served close reply → served < 1000
+    → (writer : Counted W) → Appends (known_bytes k.contents now.writer) (known_bytes k.contents writer) (reply_bytes reply)
+    → is_made reply ≡ false → IsServed k old (record now { writer = writer }) Failed
+fixed_reply {k = k} {old = old} {now = now} {reply = reply} h few writer sent fixed =
     let count = h.count in
     record {
       run = run_of h (replies_of (h.before ++ h.last ∷ []));
@@ -74,7 +70,7 @@ fixed_reply remaining contents ticks answers heads old now unread left served cl
       at_most = let n = count_push h.before h.last in omega arith;
       chain = h.chain;
       parting = refl;
-      appended = replies_sent contents old.writer now.writer writer h.before h.last reply h.appended sent h.reply_is;
+      appended = replies_sent k.contents old.writer now.writer writer h.before h.last reply h.appended sent h.reply_is;
       whole = λ _. no_parting (h.before ++ h.last ∷ []);
       counted = h.read.counted;
       reads_at_most = omega arith;
@@ -82,13 +78,12 @@ fixed_reply remaining contents ticks answers heads old now unread left served cl
     }
 
 -- the last reply was written whole, and its request asked to close
-pub asked_reply : {R W C H : Type 0} (remaining : R → Option (List ℕ)) (contents : W → Option (List ℕ))
-    (ticks : C → ℤ → C → Type 0) (answers : H → ℤ → request.Asked → Reply → H → Type 0) (heads : H → List ℕ → Reply → H → Type 0)
-    (old now : Sides R W C H) (unread : List ℕ) (left served : ℕ) (close : Bool) (reply : Reply)
-    → Handled remaining contents ticks answers old now unread left served close reply → served < 1000
-    → (writer : Counted W) → Appends (known_bytes contents now.writer) (known_bytes contents writer) (reply_bytes reply)
-    → is_made reply ≡ true → close ≡ true → Serves remaining contents ticks answers heads old (record now { writer = writer }) Asked
-asked_reply remaining contents ticks answers heads old now unread left served close reply h few writer sent made asks =
+pub asked_reply : {R W C H : Type 0} {k : Words R W C H}
+    {old now : Sides R W C H} {unread : List ℕ} {left served : ℕ} {close : Bool} {reply : Reply}
+    → Handled k old now unread left served close reply → served < 1000
+    → (writer : Counted W) → Appends (known_bytes k.contents now.writer) (known_bytes k.contents writer) (reply_bytes reply)
+    → is_made reply ≡ true → close ≡ true → IsServed k old (record now { writer = writer }) Asked
+asked_reply {k = k} {old = old} {now = now} {reply = reply} h few writer sent made asks =
     let count = h.count in
     record {
       run = run_of h (replies_of (h.before ++ h.last ∷ []));
@@ -97,7 +92,7 @@ asked_reply remaining contents ticks answers heads old now unread left served cl
       at_most = let n = count_push h.before h.last in omega arith;
       chain = h.chain;
       parting = refl;
-      appended = replies_sent contents old.writer now.writer writer h.before h.last reply h.appended sent h.reply_is;
+      appended = replies_sent k.contents old.writer now.writer writer h.before h.last reply h.appended sent h.reply_is;
       whole = λ _. no_parting (h.before ++ h.last ∷ []);
       counted = h.read.counted;
       reads_at_most = omega arith;
@@ -111,12 +106,11 @@ asked_reply remaining contents ticks answers heads old now unread left served cl
     }
 
 -- all 1,000 requests were answered
-pub served_all : {R W C H : Type 0} (remaining : R → Option (List ℕ)) (contents : W → Option (List ℕ))
-    (ticks : C → ℤ → C → Type 0) (answers : H → ℤ → request.Asked → Reply → H → Type 0) (heads : H → List ℕ → Reply → H → Type 0)
-    (old now : Sides R W C H) (unread : List ℕ) (left served : ℕ)
-    → Serving remaining contents ticks answers old now unread left served → served ≡ 1000
-    → Serves remaining contents ticks answers heads old now Served
-served_all remaining contents ticks answers heads old now unread left served s all =
+pub served_all : {R W C H : Type 0} {k : Words R W C H}
+    {old now : Sides R W C H} {unread : List ℕ} {left served : ℕ}
+    → Serving k old now unread left served → served ≡ 1000
+    → IsServed k old now Served
+served_all {now = now} {unread = unread} {left = left} s all =
     let count : length s.exchanges ≡ 1000 = s.count ∙ all in
     record {
       run = record { given = s.given; exchanges = s.exchanges; rest = unread; handler = now.handler; parting = silence; written = replies_of s.exchanges; reads = 100000 - left };

@@ -1,42 +1,38 @@
 -- What each stop of the reading says of the stream.
-use Rattle.std.proofs.Common.{◌≡◌, ◌≢◌, ℕ, ◌+◌, ◌-◌, ◌<◌, ℤ, Bool, true, false, List, [], ◌++◌, Option, arith, refl, ap, inl, inr}
+use Rattle.std.proofs.Common.{◌≡◌, ◌≢◌, ℕ, ◌+◌, ◌-◌, ◌<◌, Bool, true, false, List, [], ◌++◌, arith, refl, ap, inl, inr}
 use Rattle.std.specs.Io.KnownBytes.{Appends}
 use Rattle.std.proofs.KnownBytes.{Appends-trans, Appends-nil}
 use Rattle.td_base.specs.declared.counted.Counted.{Counted}
 use Rattle.td_base.specs.Counted.{known_bytes}
 use Rattle.td_http.specs.declared.reading.Stop.{Stop}
 use Rattle.td_http.specs.declared.reading.Stop.TheVariants as stop
-use Rattle.td_http.specs.declared.reply.Reply.{Reply}
 use Rattle.td_http.specs.declared.stream.StreamEnd.{StreamEnd}
 use Rattle.td_http.specs.declared.stream.StreamEnd.TheVariants.{Closed, Refused, Cut, ReadsSpent, ReadFault, WriteFault, Failed}
-use Rattle.td_http.specs.Request as request
 use Rattle.td_http.specs.ReplyText.{is_made}
 use Rattle.td_http.specs.Reading.{ReadsOn, StopsAs}
 use Rattle.td_http.specs.Farewell.{SendsLast, Farewell}
-use Rattle.td_http.specs.Stream.{replies_of, Parting, silence, refusal, to_head, no_memory, parting_bytes, IsParting, Sides, Run, WentOn, EndsAs, Serves}
+use Rattle.td_http.specs.Stream.{replies_of, Parting, silence, refusal, to_head, no_memory, parting_bytes, IsParting, Sides, Run, WentOn, EndsAs}
 use Rattle.td_http.proofs.Calls.{made_on}
 use Rattle.td_http.proofs.Readings.{ReadsOn-trans}
-use Rattle.td_http.proofs.Serving.{Serving, Splits-more}
+use Rattle.td_http.proofs.Serving.{Words, IsServed, Serving, Splits-more}
 
 -- the run that ends after some more bytes, with so much written of what parts with them
-abbrev run_after : {R W C H : Type 0} {remaining : R → Option (List ℕ)} {contents : W → Option (List ℕ)}
-    {ticks : C → ℤ → C → Type 0} {answers : H → ℤ → request.Asked → Reply → H → Type 0}
+abbrev run_after : {R W C H : Type 0} {k : Words R W C H}
     {old now : Sides R W C H} {unread : List ℕ} {left served : ℕ}
-    → Serving remaining contents ticks answers old now unread left served → List ℕ → ℕ → Parting → List ℕ → Run H
+    → Serving k old now unread left served → List ℕ → ℕ → Parting → List ℕ → Run H
 run_after {now = now} {unread = unread} s more fewer parting tail =
     record { given = s.given ++ more; exchanges = s.exchanges; rest = unread ++ more; handler = now.handler; parting = parting; written = replies_of s.exchanges ++ tail; reads = 100000 - fewer }
 
 -- the stream, where its end is known
-finish : {R W C H : Type 0} (remaining : R → Option (List ℕ)) (contents : W → Option (List ℕ))
-    (ticks : C → ℤ → C → Type 0) (answers : H → ℤ → request.Asked → Reply → H → Type 0) (heads : H → List ℕ → Reply → H → Type 0)
-    (old now : Sides R W C H) (unread : List ℕ) (left served : ℕ) → (s : Serving remaining contents ticks answers old now unread left served) → served < 1000
-    → (reader : Counted R) (more : List ℕ) (fewer : ℕ) → ReadsOn remaining now.reader reader more left fewer
-    → (writer : Counted W) (handler : H) (parting : Parting) → IsParting heads now.handler handler (unread ++ more) parting
-    → (tail : List ℕ) → Appends (known_bytes contents now.writer) (known_bytes contents writer) tail
+finish : {R W C H : Type 0} {k : Words R W C H}
+    {old now : Sides R W C H} {unread : List ℕ} {left served : ℕ} → (s : Serving k old now unread left served) → served < 1000
+    → (reader : Counted R) (more : List ℕ) (fewer : ℕ) → ReadsOn k.remaining now.reader reader more left fewer
+    → (writer : Counted W) (handler : H) (parting : Parting) → IsParting k.heads now.handler handler (unread ++ more) parting
+    → (tail : List ℕ) → Appends (known_bytes k.contents now.writer) (known_bytes k.contents writer) tail
     → (end : StreamEnd) → (end ≢ WriteFault → tail ≡ parting_bytes parting)
-    → EndsAs remaining old (record { reader = reader; writer = writer; clock = now.clock; handler = handler }) (run_after s more fewer parting tail) end
-    → Serves remaining contents ticks answers heads old (record { reader = reader; writer = writer; clock = now.clock; handler = handler }) end
-finish remaining contents ticks answers heads old now unread left served s few reader more fewer reads writer handler parting parts tail sent end whole ends =
+    → EndsAs k.remaining old (record { reader = reader; writer = writer; clock = now.clock; handler = handler }) (run_after s more fewer parting tail) end
+    → IsServed k old (record { reader = reader; writer = writer; clock = now.clock; handler = handler }) end
+finish {unread = unread} s few reader more fewer reads writer handler parting parts tail sent end whole ends =
     let read = ReadsOn-trans _ _ _ _ _ _ _ _ _ s.read reads in
     let count = s.count in
     record {
@@ -54,20 +50,19 @@ finish remaining contents ticks answers heads old now unread left served s few r
     }
 
 -- a message of some kind was written last, or cut short
-sent_last : {R W C H : Type 0} (remaining : R → Option (List ℕ)) (contents : W → Option (List ℕ))
-    (ticks : C → ℤ → C → Type 0) (answers : H → ℤ → request.Asked → Reply → H → Type 0) (heads : H → List ℕ → Reply → H → Type 0)
-    (old now : Sides R W C H) (unread : List ℕ) (left served : ℕ) → (s : Serving remaining contents ticks answers old now unread left served) → served < 1000
-    → (reader : Counted R) (more : List ℕ) (fewer : ℕ) → ReadsOn remaining now.reader reader more left fewer
-    → (writer : Counted W) (handler : H) (parting : Parting) → IsParting heads now.handler handler (unread ++ more) parting
+sent_last : {R W C H : Type 0} {k : Words R W C H}
+    {old now : Sides R W C H} {unread : List ℕ} {left served : ℕ} → (s : Serving k old now unread left served) → served < 1000
+    → (reader : Counted R) (more : List ℕ) (fewer : ℕ) → ReadsOn k.remaining now.reader reader more left fewer
+    → (writer : Counted W) (handler : H) (parting : Parting) → IsParting k.heads now.handler handler (unread ++ more) parting
     → (good end : StreamEnd) → good ≢ WriteFault
-    → EndsAs remaining old (record { reader = reader; writer = writer; clock = now.clock; handler = handler }) (run_after s more fewer parting (parting_bytes parting)) good
-    → SendsLast contents now.writer writer (parting_bytes parting) good end
-    → Serves remaining contents ticks answers heads old (record { reader = reader; writer = writer; clock = now.clock; handler = handler }) end
-sent_last remaining contents ticks answers heads old now unread left served s few reader more fewer reads writer handler parting parts good end other ends (inl h) =
-    rw h.0 (finish remaining contents ticks answers heads old now unread left served s few reader more fewer reads writer handler parting parts _ h.1 good (λ _. refl) ends)
-sent_last remaining contents ticks answers heads old now unread left served s few reader more fewer reads writer handler parting parts good end other ends (inr h) =
+    → EndsAs k.remaining old (record { reader = reader; writer = writer; clock = now.clock; handler = handler }) (run_after s more fewer parting (parting_bytes parting)) good
+    → SendsLast k.contents now.writer writer (parting_bytes parting) good end
+    → IsServed k old (record { reader = reader; writer = writer; clock = now.clock; handler = handler }) end
+sent_last s few reader more fewer reads writer handler parting parts good end other ends (inl h) =
+    rw h.0 (finish s few reader more fewer reads writer handler parting parts _ h.1 good (λ _. refl) ends)
+sent_last s few reader more fewer reads writer handler parting parts good end other ends (inr h) =
     let count = s.count in
-    rw h.0 (finish remaining contents ticks answers heads old now unread left served s few reader more fewer reads writer handler parting parts _ h.1.appended WriteFault (λ no. absurd (no refl)) (
+    rw h.0 (finish s few reader more fewer reads writer handler parting parts _ h.1.appended WriteFault (λ no. absurd (no refl)) (
       h.1.failed,
       record { writes = s.writes + h.2.writes; made = made_on _ _ _ _ _ s.made h.2.made; some = λ e. let n = h.2.some e in omega arith },
       inr (record {
@@ -77,57 +72,56 @@ sent_last remaining contents ticks answers heads old now unread left served s fe
     ))
 
 -- what is left of the stream, and how it ends, for each stop of the reading
-pub stopped : {R W C H : Type 0} (remaining : R → Option (List ℕ)) (contents : W → Option (List ℕ))
-    (ticks : C → ℤ → C → Type 0) (answers : H → ℤ → request.Asked → Reply → H → Type 0) (heads : H → List ℕ → Reply → H → Type 0)
-    (old now : Sides R W C H) (unread : List ℕ) (left served : ℕ) → Serving remaining contents ticks answers old now unread left served → served < 1000
-    → (reader : Counted R) (more : List ℕ) (fewer : ℕ) → ReadsOn remaining now.reader reader more left fewer
-    → (writer : Counted W) (handler : H) (end : StreamEnd) (why : Stop) → StopsAs remaining reader left fewer (unread ++ more) why
-    → Farewell contents heads now.writer writer now.handler handler why end
-    → Serves remaining contents ticks answers heads old (record { reader = reader; writer = writer; clock = now.clock; handler = handler }) end
-stopped remaining contents ticks answers heads old now unread left served s few reader more fewer reads writer handler end stop.Closed why f =
+pub stopped : {R W C H : Type 0} {k : Words R W C H}
+    {old now : Sides R W C H} {unread : List ℕ} {left served : ℕ} → Serving k old now unread left served → served < 1000
+    → (reader : Counted R) (more : List ℕ) (fewer : ℕ) → ReadsOn k.remaining now.reader reader more left fewer
+    → (writer : Counted W) (handler : H) (end : StreamEnd) (why : Stop) → StopsAs k.remaining reader left fewer (unread ++ more) why
+    → Farewell k.contents k.heads now.writer writer now.handler handler why end
+    → IsServed k old (record { reader = reader; writer = writer; clock = now.clock; handler = handler }) end
+stopped {now = now} s few reader more fewer reads writer handler end stop.Closed why f =
     let spent = s.read.spent in
     let read = why.1.read in
     let count = s.count in
-    rw (f.0, f.1, f.2) (finish remaining contents ticks answers heads old now unread left served s few reader more fewer reads now.writer now.handler silence refl [] (Appends-nil _) Closed (λ _. refl)
+    rw (f.0, f.1, f.2) (finish s few reader more fewer reads now.writer now.handler silence refl [] (Appends-nil _) Closed (λ _. refl)
     (record { on = record { each = s.each; few = omega arith }; silent = refl; end = why.1.end; read = omega arith }, why.0))
-stopped remaining contents ticks answers heads old now unread left served s few reader more fewer reads writer handler end stop.Cut why f =
+stopped {now = now} s few reader more fewer reads writer handler end stop.Cut why f =
     let spent = s.read.spent in
     let read = why.2.read in
     let count = s.count in
-    rw (f.0, f.1, f.2) (finish remaining contents ticks answers heads old now unread left served s few reader more fewer reads now.writer now.handler silence refl [] (Appends-nil _) Cut (λ _. refl) (
+    rw (f.0, f.1, f.2) (finish s few reader more fewer reads now.writer now.handler silence refl [] (Appends-nil _) Cut (λ _. refl) (
       record { on = record { each = s.each; few = omega arith }; silent = refl; end = why.2.end; read = omega arith },
       record { on = record { each = s.each; few = omega arith }; silent = refl; still = why.1 },
       why.0,
     ))
-stopped remaining contents ticks answers heads old now unread left served s few reader more fewer reads writer handler end stop.ReadsSpent why f =
+stopped {now = now} s few reader more fewer reads writer handler end stop.ReadsSpent why f =
     let none = why.1 in
     let count = s.count in
-    rw (f.0, f.1, f.2) (finish remaining contents ticks answers heads old now unread left served s few reader more fewer reads now.writer now.handler silence refl [] (Appends-nil _) ReadsSpent (λ _. refl)
+    rw (f.0, f.1, f.2) (finish s few reader more fewer reads now.writer now.handler silence refl [] (Appends-nil _) ReadsSpent (λ _. refl)
     (record { on = record { each = s.each; few = omega arith }; silent = refl; still = why.0 }, omega arith))
-stopped remaining contents ticks answers heads old now unread left served s few reader more fewer reads writer handler end stop.ReadFault why f =
+stopped {now = now} s few reader more fewer reads writer handler end stop.ReadFault why f =
     let spent = s.read.spent in
     let read = why.2 in
     let count = s.count in
-    rw (f.0, f.1, f.2) (finish remaining contents ticks answers heads old now unread left served s few reader more fewer reads now.writer now.handler silence refl [] (Appends-nil _) ReadFault (λ _. refl)
+    rw (f.0, f.1, f.2) (finish s few reader more fewer reads now.writer now.handler silence refl [] (Appends-nil _) ReadFault (λ _. refl)
     (record { on = record { each = s.each; few = omega arith }; silent = refl; still = why.0 }, why.1, omega arith))
-stopped remaining contents ticks answers heads old now unread left served s few reader more fewer reads writer handler end stop.NoMemory why f =
+stopped s few reader more fewer reads writer handler end stop.NoMemory why f =
     let count = s.count in
-    sent_last remaining contents ticks answers heads old now unread left served s few reader more fewer reads writer handler no_memory (f.1, why) Failed end (λ h. cc)
+    sent_last s few reader more fewer reads writer handler no_memory (f.1, why) Failed end (λ h. cc)
     (inr (record { each = s.each; few = omega arith }, tt)) f.0
-stopped remaining contents ticks answers heads old now unread left served s few reader more fewer reads writer handler end (stop.Refused e) why f =
+stopped s few reader more fewer reads writer handler end (stop.Refused e) why f =
     let count = s.count in
-    sent_last remaining contents ticks answers heads old now unread left served s few reader more fewer reads writer handler (refusal e) (f.1, why) Refused end (λ h. cc)
+    sent_last s few reader more fewer reads writer handler (refusal e) (f.1, why) Refused end (λ h. cc)
     (record { each = s.each; few = omega arith }, tt) f.0
-stopped remaining contents ticks answers heads old now unread left served s few reader more fewer reads writer handler end (stop.Head target) why f =
+stopped {k = k} {old = old} {now = now} s few reader more fewer reads writer handler end (stop.Head target) why f =
     let count = s.count in
     let on : WentOn s.exchanges = record { each = s.each; few = omega arith } in
     by_reply on (is_made f.0) refl
   where
     by_reply : WentOn s.exchanges → (made : Bool) → is_made f.0 ≡ made
-        → Serves remaining contents ticks answers heads old (record { reader = reader; writer = writer; clock = now.clock; handler = handler }) end
+        → IsServed k old (record { reader = reader; writer = writer; clock = now.clock; handler = handler }) end
     by_reply on true made =
-        sent_last remaining contents ticks answers heads old now unread left served s few reader more fewer reads writer handler (to_head target.items f.0) (f.1, why) Refused end (λ h. cc)
+        sent_last s few reader more fewer reads writer handler (to_head target.items f.0) (f.1, why) Refused end (λ h. cc)
         (on, made) (rw made at f.2)
     by_reply on false made =
-        sent_last remaining contents ticks answers heads old now unread left served s few reader more fewer reads writer handler (to_head target.items f.0) (f.1, why) Failed end (λ h. cc)
+        sent_last s few reader more fewer reads writer handler (to_head target.items f.0) (f.1, why) Failed end (λ h. cc)
         (inr (on, made)) (rw made at f.2)

@@ -1,3 +1,4 @@
+mod Tokens
 mod Digits
 mod Fields
 mod Heads

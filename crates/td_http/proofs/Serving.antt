@@ -11,13 +11,14 @@ use Rattle.td_base.specs.declared.counted.Counted.{Counted}
 use Rattle.td_base.specs.Counted.{calls_of, known_bytes}
 use Rattle.td_http.specs.declared.request.Request.{Request}
 use Rattle.td_http.specs.declared.reply.Reply.{Reply}
+use Rattle.td_http.specs.declared.stream.StreamEnd.{StreamEnd}
 use Rattle.td_http.specs.Request as request
 use Rattle.td_http.specs.ReplyText.{reply_bytes, is_made}
 use Rattle.td_http.specs.Reading.{ReadsOn, Takes}
 use Rattle.td_http.specs.Calls.{HasMade}
 use Rattle.td_http.specs.Sending.{MadeWrites}
 use Rattle.td_http.specs.Wire.{Wire, IsWire, IsRequestOn, wire_bytes, Splits, asks_close}
-use Rattle.td_http.specs.Stream.{Exchange, question, Chain, wires_of, replies_of, GoesOn, silence, parting_bytes, Sides}
+use Rattle.td_http.specs.Stream.{Exchange, question, Chain, wires_of, replies_of, GoesOn, silence, parting_bytes, Sides, Serves}
 use Rattle.td_http.proofs.Calls.{made_none, made_on}
 use Rattle.td_http.proofs.Readings.{ReadsOn-trans}
 
@@ -70,26 +71,40 @@ replies_push : (es : List Exchange) (e : Exchange) → replies_of (es ++ e ∷ [
 replies_push es e =
     flat_map-append (λ (x : Exchange). reply_bytes x.reply) es (e ∷ []) ∙ ap (λ (b : List ℕ). replies_of es ++ b) (append-nil (reply_bytes e.reply))
 
+-- what is known of the bytes of a reader and a writer, and what a clock and a handler may do
+pub record Words (R W C H : Type 0) : Type 1 where
+  pub remaining : R → Option (List ℕ)
+  pub contents : W → Option (List ℕ)
+  pub ticks : C → ℤ → C → Type 0
+  pub answers : H → ℤ → request.Asked → Reply → H → Type 0
+  pub heads : H → List ℕ → Reply → H → Type 0
+
+-- the sides, one after the other
+abbrev pub sides : {R W C H : Type 0} → Counted R → Counted W → C → H → Sides R W C H
+sides reader writer clock handler = record { reader = reader; writer = writer; clock = clock; handler = handler }
+
+-- the stream was served, in these words
+abbrev pub IsServed : {R W C H : Type 0} → Words R W C H → Sides R W C H → Sides R W C H → StreamEnd → Type 0
+IsServed k old new end = Serves k.remaining k.contents k.ticks k.answers k.heads old new end
+
 -- what holds between two requests
-pub record Serving {R W C H : Type 0} (remaining : R → Option (List ℕ)) (contents : W → Option (List ℕ))
-    (ticks : C → ℤ → C → Type 0) (answers : H → ℤ → request.Asked → Reply → H → Type 0)
+pub record Serving {R W C H : Type 0} (k : Words R W C H)
     (old now : Sides R W C H) (unread : List ℕ) (left served : ℕ) : Type 0 where
   pub given : List ℕ
   pub exchanges : List Exchange
-  pub read : ReadsOn remaining old.reader now.reader given 100000 left
+  pub read : ReadsOn k.remaining old.reader now.reader given 100000 left
   pub reading : Splits given (wires_of exchanges) unread
-  pub chain : Chain ticks answers 0 (old.clock, old.handler) exchanges (now.clock, now.handler)
-  pub appended : Appends (known_bytes contents old.writer) (known_bytes contents now.writer) (replies_of exchanges)
+  pub chain : Chain k.ticks k.answers 0 (old.clock, old.handler) exchanges (now.clock, now.handler)
+  pub appended : Appends (known_bytes k.contents old.writer) (known_bytes k.contents now.writer) (replies_of exchanges)
   pub writes : ℕ
   pub made : HasMade writes (calls_of old.writer) (calls_of now.writer)
   pub each : All GoesOn exchanges
   pub count : length exchanges ≡ served
 
 -- at the beginning
-pub serving_first : {R W C H : Type 0} (remaining : R → Option (List ℕ)) (contents : W → Option (List ℕ))
-    (ticks : C → ℤ → C → Type 0) (answers : H → ℤ → request.Asked → Reply → H → Type 0) (old : Sides R W C H) (unread : List ℕ)
-    → unread ≡ [] → Serving remaining contents ticks answers old old unread 100000 0
-serving_first remaining contents ticks answers old unread none =
+pub serving_first : {R W C H : Type 0} (k : Words R W C H) (old : Sides R W C H) (unread : List ℕ)
+    → unread ≡ [] → Serving k old old unread 100000 0
+serving_first k old unread none =
     record {
       given = [];
       exchanges = [];
@@ -104,16 +119,15 @@ serving_first remaining contents ticks answers old unread none =
     }
 
 -- what holds once a request came whole and was handled, before anything of its reply is written
-pub record Handled {R W C H : Type 0} (remaining : R → Option (List ℕ)) (contents : W → Option (List ℕ))
-    (ticks : C → ℤ → C → Type 0) (answers : H → ℤ → request.Asked → Reply → H → Type 0)
+pub record Handled {R W C H : Type 0} (k : Words R W C H)
     (old now : Sides R W C H) (unread : List ℕ) (left served : ℕ) (close : Bool) (reply : Reply) : Type 0 where
   pub given : List ℕ
   pub before : List Exchange
   pub last : Exchange
-  pub read : ReadsOn remaining old.reader now.reader given 100000 left
+  pub read : ReadsOn k.remaining old.reader now.reader given 100000 left
   pub reading : Splits given (wires_of (before ++ last ∷ [])) unread
-  pub chain : Chain ticks answers 0 (old.clock, old.handler) (before ++ last ∷ []) (now.clock, now.handler)
-  pub appended : Appends (known_bytes contents old.writer) (known_bytes contents now.writer) (replies_of before)
+  pub chain : Chain k.ticks k.answers 0 (old.clock, old.handler) (before ++ last ∷ []) (now.clock, now.handler)
+  pub appended : Appends (known_bytes k.contents old.writer) (known_bytes k.contents now.writer) (replies_of before)
   pub writes : ℕ
   pub made : HasMade writes (calls_of old.writer) (calls_of now.writer)
   pub each : All GoesOn before
@@ -128,28 +142,27 @@ asked_is served w r is =
     λ i. record { method = is.method i; target = is.target i; body = is.body i; close = is.close i || (served + 1 == 1000) }
 
 -- a request is read, the clock ticks, and the handler replies
-pub handled : {R W C H : Type 0} (remaining : R → Option (List ℕ)) (contents : W → Option (List ℕ))
-    (ticks : C → ℤ → C → Type 0) (answers : H → ℤ → request.Asked → Reply → H → Type 0)
-    (old now : Sides R W C H) (unread : List ℕ) (left served : ℕ) → Serving remaining contents ticks answers old now unread left served
-    → (reader : Counted R) (more rest : List ℕ) (fewer : ℕ) (r : Request) → ReadsOn remaining now.reader reader more left fewer
+pub handled : {R W C H : Type 0} {k : Words R W C H}
+    {old now : Sides R W C H} {unread : List ℕ} {left served : ℕ} → Serving k old now unread left served
+    → (reader : Counted R) (more rest : List ℕ) (fewer : ℕ) (r : Request) → ReadsOn k.remaining now.reader reader more left fewer
     → Takes (unread ++ more) rest r
-    → (at : ℤ) (clock : C) → ticks now.clock at clock
-    → (reply : Reply) (handler : H) → answers now.handler at (record (request.asked r) { close = r.close || (served + 1 == 1000) }) reply handler
-    → Handled remaining contents ticks answers old (record { reader = reader; writer = now.writer; clock = clock; handler = handler }) rest fewer served r.close reply
-handled remaining contents ticks answers old now unread left served s reader more rest fewer r reads takes at clock tick reply handler answer =
+    → (at : ℤ) (clock : C) → k.ticks now.clock at clock
+    → (reply : Reply) (handler : H) → k.answers now.handler at (record (request.asked r) { close = r.close || (served + 1 == 1000) }) reply handler
+    → Handled k old (record { reader = reader; writer = now.writer; clock = clock; handler = handler }) rest fewer served r.close reply
+handled {k = k} {old = old} {now = now} {unread = unread} {served = served} s reader more rest fewer r reads takes at clock tick reply handler answer =
     let last : Exchange = record { wire = takes.wire; at = at; reply = reply } in
     let asked = asked_is served takes.wire r takes.request in
     let count = s.count in
     let place : 0 + length s.exchanges ≡ served = omega arith in
-    let question_is : answers now.handler at (question (0 + length s.exchanges) takes.wire) reply handler =
-    rw place (subst (λ (a : request.Asked). answers now.handler at a reply handler) asked answer) in
+    let question_is : k.answers now.handler at (question (0 + length s.exchanges) takes.wire) reply handler =
+    rw place (subst (λ (a : request.Asked). k.answers now.handler at a reply handler) asked answer) in
     record {
       given = s.given ++ more;
       before = s.exchanges;
       last = last;
       read = ReadsOn-trans _ _ _ _ _ _ _ _ _ s.read reads;
       reading = Splits-push s.given more unread rest s.exchanges last s.reading takes.whole takes.is_wire;
-      chain = Chain-push ticks answers 0 (old.clock, old.handler) (now.clock, now.handler) s.exchanges last clock handler s.chain tick question_is;
+      chain = Chain-push k.ticks k.answers 0 (old.clock, old.handler) (now.clock, now.handler) s.exchanges last clock handler s.chain tick question_is;
       appended = s.appended;
       writes = s.writes;
       made = s.made;
@@ -181,14 +194,13 @@ pub no_parting : (es : List Exchange) → replies_of es ≡ replies_of es ++ par
 no_parting es = sym (append-nil (replies_of es))
 
 -- the reply was written whole, and the handler goes on
-pub goes_on : {R W C H : Type 0} (remaining : R → Option (List ℕ)) (contents : W → Option (List ℕ))
-    (ticks : C → ℤ → C → Type 0) (answers : H → ℤ → request.Asked → Reply → H → Type 0)
-    (old now : Sides R W C H) (unread : List ℕ) (left served : ℕ) (close : Bool) (reply : Reply)
-    → Handled remaining contents ticks answers old now unread left served close reply
-    → (writer : Counted W) → Appends (known_bytes contents now.writer) (known_bytes contents writer) (reply_bytes reply) → MadeWrites now.writer writer true
+pub goes_on : {R W C H : Type 0} {k : Words R W C H}
+    {old now : Sides R W C H} {unread : List ℕ} {left served : ℕ} {close : Bool} {reply : Reply}
+    → Handled k old now unread left served close reply
+    → (writer : Counted W) → Appends (known_bytes k.contents now.writer) (known_bytes k.contents writer) (reply_bytes reply) → MadeWrites now.writer writer true
     → is_made reply ≡ true → close ≡ false
-    → Serving remaining contents ticks answers old (record now { writer = writer }) unread left (served + 1)
-goes_on remaining contents ticks answers old now unread left served close reply h writer sent writes made stays =
+    → Serving k old (record now { writer = writer }) unread left (served + 1)
+goes_on {k = k} {old = old} {now = now} {reply = reply} h writer sent writes made stays =
     let count = h.count in
     record {
       given = h.given;
@@ -196,7 +208,7 @@ goes_on remaining contents ticks answers old now unread left served close reply 
       read = h.read;
       reading = h.reading;
       chain = h.chain;
-      appended = replies_sent contents old.writer now.writer writer h.before h.last reply h.appended sent h.reply_is;
+      appended = replies_sent k.contents old.writer now.writer writer h.before h.last reply h.appended sent h.reply_is;
       writes = h.writes + writes.writes;
       made = made_on _ _ _ _ _ h.made writes.made;
       each = each_push h.before h.last h.each (record { made = ap is_made h.reply_is ∙ made; asks = h.asks ∙ stays });

@@ -1,14 +1,14 @@
 -- What stands where no whole request does is one thing.
-use Rattle.std.proofs.Common.{◌≡◌, ℕ, ◌+◌, ◌-◌, ◌≤◌, ◌<◌, List, [], ◌∷◌, ◌++◌, length, take, drop, refl, sym, ◌∙◌, ap, subst, append_assoc, arith, inl, inr, Ok, Err, Result}
+use Rattle.std.proofs.Common.{◌≡◌, ℕ, ◌+◌, ◌≤◌, List, [], ◌++◌, length, take, drop, refl, sym, ◌∙◌, ap, subst, append_assoc, arith, inl, inr, Ok, Err, Result}
 use Rattle.std.specs.Prelude.{◌⊎◌}
 use Rattle.std.proofs.Math.Seq.{take-append_seam}
-use Rattle.std.proofs.lemmas.List.{take_all, take-append-le, take-append-drop, length-append, length-take-le}
-use Rattle.httparse.specs.Grammar.{RequestHead, ReadsRequest, print_request, HasNoRequest, NeverHasRequest, MayBecomeRequest, EndsInTarget}
+use Rattle.std.proofs.lemmas.List.{take_all, take-append-le, take-append-drop, length-append}
+use Rattle.httparse.specs.Grammar.{RequestHead, print_request, NeverHasRequest, MayBecomeRequest, EndsInTarget}
 use Rattle.httparse.specs.Spans.{RequestExceeds}
 use Rattle.td_http.specs.declared.framing.FramingError.{FramingError}
 use Rattle.td_http.specs.declared.framing.FramingError.TheVariants.{BadHead, HeadTooLarge, TransferEncoding, BadLength, BodyTooLarge}
 use Rattle.td_http.specs.Framing.{body_length}
-use Rattle.td_http.specs.Wire.{Wire, IsWire, wire_bytes, fields_of, HasHead, IsHeadMethod, IsBadHead, IsHeadTooLarge, HasBadBody, IsRefusedFor, IsHeadRequest, IsHeadOpen, IsBodyOpen, IsOpen}
+use Rattle.td_http.specs.Wire.{wire_bytes, fields_of, HasHead, IsBadHead, IsHeadTooLarge, HasBadBody, IsRefusedFor, IsHeadRequest, IsHeadOpen, IsOpen}
 use Rattle.td_http.specs.OneReading.{HasNoWire, Standing, unfinished, refused, head_for, StandsIn, IsUnsettled}
 use Rattle.td_http.proofs.Unique.{one_head, wire_head, same_length}
 

@@ -1,11 +1,13 @@
 //! The next request at the front of the bytes that were read.
 ghost use Rattle.std.specs.Prelude.{◌≡◌, IfOk, OnErr};
+ghost use Rattle.httparse.specs.Grammar.{IsToken};
 ghost use Rattle.td_http.specs.Request.{asked};
 ghost use Rattle.td_http.specs.Wire.{IsNext, BeginsServed};
 
 use crate::framing::{FramingError, asks_close, read_body_length};
 use crate::request::Request;
 use http::Method;
+use http::method::MethodError;
 use httparse::Status;
 use httparse::spans::{EMPTY_HEADER_SPAN, parse_request};
 use std::alloc::{AllocError, Global};
@@ -29,7 +31,7 @@ pub enum Next {
     More(usize),
 }
 
-/// A request of these parts, of which the method is a token.
+/// A request of these parts.
 fn copy_request(
     alloc: Global,
     method: &[u8],
@@ -37,10 +39,13 @@ fn copy_request(
     body: &[u8],
     close: bool,
 ) -> Result<Request, AllocError>
+    requires token { IsToken method.now }
     ensures { IfOk result (λ r. asked r ≡ record { method = method.now; target = target.now; body = body.now; close = close }) }
 {
-    let Ok(method) = Method::from_bytes(alloc, method) else {
-        return Err(AllocError);
+    let method = match Method::from_bytes(alloc, method) {
+        Ok(method) => method,
+        Err(MethodError::OutOfMemory) => return Err(AllocError),
+        Err(MethodError::Invalid) => unreachable!(),
     };
     let target = Vec::from_slice(alloc, target)?;
     let body = Vec::from_slice(alloc, body)?;
