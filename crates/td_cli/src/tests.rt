@@ -1,6 +1,7 @@
 //! The program's jobs, over readers and writers in memory. Expected bytes are those of the desk's formats, written out.
 mod devices;
 mod first_requests;
+mod streams;
 mod wrong_words;
 
 use crate::perform::perform;
@@ -42,18 +43,17 @@ where
     })
 }
 
+/// The words of the worked rows.
+const WORDS: [&str; 6] = [
+    "transit-desk",
+    "pipe",
+    "--country",
+    "CH",
+    "--at",
+    "1740819600",
+];
+
 /// `transit-desk pipe --country CH --at 1740819600` on these bytes.
 fn pipe(rt: &HostRuntime, input: &[u8]) -> Result<Done, Fail> {
-    perform_over(
-        rt,
-        &[
-            "transit-desk",
-            "pipe",
-            "--country",
-            "CH",
-            "--at",
-            "1740819600",
-        ],
-        input,
-    )
+    perform_over(rt, &WORDS, input)
 }

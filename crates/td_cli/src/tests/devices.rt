@@ -1,6 +1,6 @@
-//! Readers for the tests.
+//! Readers and writers for the tests.
 use std::io;
-use std::io::{ErrorKind, Read};
+use std::io::{ErrorKind, Read, Write};
 
 /// Gives the bytes one a read, and then the end or a failure.
 #[derive(Drop)]
@@ -20,5 +20,54 @@ impl Read for Drip<'_> {
             [] if self.fails => Err(ErrorKind::Other.into()),
             _ => Ok(0),
         }
+    }
+}
+
+/// Gives the same bytes again and again, one a read, without end.
+#[derive(Drop)]
+pub struct Endless<'a> {
+    pub bytes: &'a [u8],
+    pub left: &'a [u8],
+}
+
+impl Read for Endless<'_> {
+    fn read(&mut self, buf: &mut [u8]) -> io::Result<usize> {
+        if self.left.is_empty() {
+            self.left = self.bytes;
+        }
+        match self.left {
+            [first, rest @ ..] if !buf.is_empty() => {
+                buf[0] = *first;
+                self.left = rest;
+                Ok(1)
+            }
+            _ => Ok(0),
+        }
+    }
+}
+
+/// Takes so many bytes, one a write, and then fails or takes nothing.
+#[derive(Drop)]
+pub struct Narrow {
+    pub taken: Vec<u8>,
+    pub left: usize,
+    pub fails: bool,
+}
+
+impl Write for Narrow {
+    fn write(&mut self, buf: &[u8]) -> io::Result<usize> {
+        match buf {
+            [first, ..] if self.left > 0 => {
+                self.left -= 1;
+                self.taken.push(*first)?;
+                Ok(1)
+            }
+            _ if self.fails => Err(ErrorKind::Other.into()),
+            _ => Ok(0),
+        }
+    }
+
+    fn flush(&mut self) -> io::Result<()> {
+        Ok(())
     }
 }

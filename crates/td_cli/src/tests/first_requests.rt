@@ -1,6 +1,6 @@
 //! A holder registered and shown.
 use super::devices::Drip;
-use super::{perform_over, pipe};
+use super::{WORDS, perform_over, pipe};
 use std::test::Fail;
 
 const REGISTER: &[u8] =
@@ -10,15 +10,6 @@ const SEE: &[u8] = b"GET /holders/000001 HTTP/1.1\r\n\r\n";
 
 const SHOWN: &[u8] =
     b"HTTP/1.1 200 OK\r\nContent-Type: application/json\r\nContent-Length: 67\r\n\r\n{\"eori\":\"CH1234567\",\"guarantees\":0,\"holder\":\"000001\",\"movements\":0}";
-
-const WORDS: [&str; 6] = [
-    "transit-desk",
-    "pipe",
-    "--country",
-    "CH",
-    "--at",
-    "1740819600",
-];
 
 #[test]
 fn empty_input_has_no_reply(rt: HostRuntime) -> Result<(), Fail> {

@@ -18,5 +18,5 @@ returns g c =
       clock_left = c.serve_stream.new.clock;
       empty = empty;
       served = served;
-      private = private_from_empty c.args.country opened left served.run.exchanges empty sound c.serve_stream.ensures.1
+      private = private_from_empty c.args.country opened left served.run.exchanges empty sound c.serve_stream.ensures.1;
     }
