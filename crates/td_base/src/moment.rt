@@ -1,5 +1,5 @@
 //! Moments.
-ghost use Rattle.std.specs.Prelude.{◌≡◌, ℕ, pos};
+ghost use Rattle.std.specs.Prelude.{◌≡◌, ℕ, pos, Some, codes};
 ghost use Rattle.std.specs.Result.{result_ok};
 ghost use Rattle.td_base.specs.Moment.{IsMoment, moment_of};
 
@@ -19,6 +19,8 @@ pub struct Moment {
 pub struct ClockRange;
 
 impl fmt::Display for ClockRange {
+    ghost output = { λ _. Some (codes "the moment is out of range") };
+
     fn fmt<W: fmt::Write>(&self, f: &mut fmt::Formatter<W>) -> fmt::Result {
         write!(f, "the moment is out of range")
     }

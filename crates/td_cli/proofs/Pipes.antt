@@ -1,6 +1,5 @@
 -- A stream at a new desk.
-use Rattle.std.proofs.Common.{◌≡◌, ◌∙◌, ℕ, ℤ, List, Option, sym, refl, subst, ap}
-use Rattle.td_base.specs.declared.counted.Counted.{Counted}
+use Rattle.std.proofs.Common.{◌≡◌, ℕ, List, sym, refl, subst}
 use Rattle.td_acts.specs.Account.{empty_account}
 use Rattle.td_acts.specs.Book.{fresh_book}
 use Rattle.td_desk.specs.declared.plain.PlainDesk.{PlainDesk}

@@ -1,7 +1,6 @@
 -- What a request does, by how it was read.
 use Rattle.std.proofs.Common.{◌≡◌, ℤ, Bool, Result, Ok, Err, refl, sym, ◌∙◌, ap, subst, inl, inr}
 use Rattle.std.proofs.lemmas.Bool.{false≢true}
-use Rattle.std.specs.Prelude.{◌⊎◌}
 use Rattle.td_acts.specs.declared.command.Command.{Command}
 use Rattle.td_desk.specs.declared.fault.Fault.TheVariants as fault
 use Rattle.td_desk.specs.declared.running.Outcome.TheVariants as outcome

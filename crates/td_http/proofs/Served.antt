@@ -1,7 +1,6 @@
 -- What a chain of handled requests tells each holder.
-use Rattle.std.proofs.Common.{◌≡◌, ℕ, ℤ, ◌+◌, Bool, true, false, List, [], ◌∷◌, ◌++◌, map, Option, Some, None, Result, Ok, Err, refl, sym, ◌∙◌, ap, subst, inl, inr, append-nil}
-use Rattle.std.specs.Prelude.{if◌then◌else◌, ◌⊎◌}
-use Rattle.std.proofs.lemmas.List.{map-append}
+use Rattle.std.proofs.Common.{◌≡◌, ℕ, ℤ, ◌+◌, Bool, true, false, List, [], ◌∷◌, ◌++◌, Result, Ok, Err, refl, sym, ◌∙◌, ap, subst}
+use Rattle.std.specs.Prelude.{if◌then◌else◌}
 use Rattle.td_acts.specs.declared.command.Command.{Command}
 use Rattle.td_acts.specs.declared.command.Stamped.{Stamped}
 use Rattle.td_acts.specs.declared.said.Said.{Said}
@@ -13,16 +12,15 @@ use Rattle.td_desk.specs.declared.fault.Fault.TheVariants as fault
 use Rattle.td_desk.specs.declared.running.Outcome.{Outcome}
 use Rattle.td_desk.specs.declared.running.Outcome.TheVariants as outcome
 use Rattle.td_desk.specs.Content.{Content, IsSound}
-use Rattle.td_desk.specs.Runs.{IsRun, IsStep, IsTied, Performs, is_holder, heard}
+use Rattle.td_desk.specs.Runs.{IsRun, IsStep, IsTied, is_holder, heard}
 use Rattle.td_desk.proofs.Turns.{run_more}
 use Rattle.td_http.specs.declared.fault.WebFault.{WebFault}
 use Rattle.td_http.specs.declared.reply.Reply.{Reply}
-use Rattle.td_http.specs.declared.reply.Reply.TheVariants.{NoMemory, Store}
 use Rattle.td_http.specs.Request.{Asked}
 use Rattle.td_http.specs.ReplyText.{reply_bytes, is_made}
 use Rattle.td_http.specs.Stream.{Exchange, Chain, question}
 use Rattle.td_http.specs.Answers.{said_reply}
-use Rattle.td_http.specs.Serving.{command_in, IsReplyTo, IsFaultReply, HandledAs, IsHandled, Request, heard_by, heard_in, told_by, told_in, commands_of, machine_replies, FaultsAreTold, IsServed}
+use Rattle.td_http.specs.Serving.{command_in, IsReplyTo, IsFaultReply, HandledAs, IsHandled, heard_by, heard_in, told_by, told_in, commands_of, machine_replies, IsServed}
 
 -- a machine goes on where it stopped
 machine_book-++ : (H : ℕ) (book : Book) (xs ys : List Stamped) → machine_book H book (xs ++ ys) ≡ machine_book H (machine_book H book xs) ys

@@ -1,9 +1,6 @@
 -- What a stream at a desk tells each holder.
-use Rattle.std.proofs.Common.{◌≡◌, ℕ, ℤ, List, Option, Result, sym, ◌∙◌, ap, subst, refl}
-use Rattle.td_acts.specs.Book.{Book}
-use Rattle.td_desk.specs.Content.{Content, IsSound}
-use Rattle.td_desk.specs.Runs.{IsTied}
-use Rattle.td_http.specs.declared.reply.Reply.{Reply}
+use Rattle.std.proofs.Common.{◌≡◌, ℕ, ℤ, List, ◌∙◌, ap, subst, refl}
+use Rattle.td_desk.specs.Content.{Content}
 use Rattle.td_http.specs.declared.service.Service.{Service}
 use Rattle.td_http.specs.Served.{desk_of, IsHandledBy, IsHeadHandledBy, IsPrivate}
 use Rattle.td_http.specs.Stream.{Exchange, Chain, Parting, silence, refusal, to_head, no_memory, IsParting}

@@ -1,4 +1,4 @@
-use Rattle.std.proofs.Common.{◌≡◌, ◌∙◌, sym, subst, ap}
+use Rattle.std.proofs.Common.{◌∙◌, sym, subst, ap}
 use Rattle.td_desk.specs.Content.{IsSound}
 use Rattle.td_desk.specs.Plain.{rows_in}
 use Rattle.td_cli.proofs.Pipes.{private_from_empty}

@@ -1,4 +1,4 @@
-use Rattle.std.proofs.Common.{◌≡◌, ◌∙◌, ap}
+use Rattle.std.proofs.Common.{◌∙◌}
 use Rattle.td_http.specs.Answers.{fault_reply}
 use Rattle.td_http.proofs.answers.fault_bytes.Goals as goal
 

@@ -1,4 +1,4 @@
-use Rattle.std.proofs.Common.{◌≡◌, ap, refl, Err, w64}
+use Rattle.std.proofs.Common.{ap, refl, Err, w64}
 use Rattle.std.proofs.lemmas.Int.{to_z-of_z}
 use Rattle.td_desk.specs.declared.running.Outcome.TheVariants as outcome
 use Rattle.td_http.proofs.service.reply_to.Goals as goal

@@ -1,4 +1,3 @@
-use Rattle.std.proofs.Common.{sym}
 use Rattle.td_http.proofs.RouteFacts.{no_methods, methods_found}
 use Rattle.td_http.proofs.routes.Routes.methods.Goals as goal
 

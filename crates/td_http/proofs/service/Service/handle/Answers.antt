@@ -1,4 +1,3 @@
-use Rattle.std.proofs.Common.{◌≡◌, ap}
 use Rattle.td_http.specs.Request.{asked}
 use Rattle.td_http.specs.Serving.{command_in}
 use Rattle.td_http.proofs.Handling.{unread_handled, unread_stores_nothing}

@@ -13,7 +13,7 @@ returns-clause-decision g c = λ clean live sound.
     let kept = c.in_ok-loaded.ensures.kept clean in
     let owned = c.owner-holder.ensures ∙ ap (λ (country : List ℕ). owner_of country command) (c.country.ensures kept live) in
     let loaded : IsLoaded (owner_account rows command) command c.in_ok-loaded.loaded =
-      loaded_for rows command (owner_of rows.country command) c.in_ok-loaded.loaded (c.in_ok-loaded.ensures.country clean live)
-        (λ H own. c.in_ok-loaded.ensures.owned clean live H (owned ∙ own)) (λ none. c.in_ok-loaded.ensures.unowned (owned ∙ none)) in
+    loaded_for rows command (owner_of rows.country command) c.in_ok-loaded.loaded (c.in_ok-loaded.ensures.country clean live)
+    (λ H own. c.in_ok-loaded.ensures.owned clean live H (owned ∙ own)) (λ none. c.in_ok-loaded.ensures.unowned (owned ∙ none)) in
     weighed_by rows c.args.at command c.new.result
-      (c.new.ensures ∙ (rw (to_z-of_z w64 c.args.at c.ranges.at) at c.in_ok-verdict.ensures (owner_account rows command) loaded))
+    (c.new.ensures ∙ (rw (to_z-of_z w64 c.args.at c.ranges.at) at c.in_ok-verdict.ensures (owner_account rows command) loaded))
