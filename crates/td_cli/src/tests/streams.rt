@@ -1,10 +1,13 @@
 //! The framing of a stream and each way in which it ends, through the program.
-use super::devices::{Endless, Narrow};
+use super::devices::{Drip, Endless, Narrow};
 use super::{WORDS, perform_over, pipe, words_of};
+use crate::clock::FixedClock;
 use crate::perform::perform;
 use std::alloc::{AllocError, Global};
 use std::test::Fail;
-use td_base::Counted;
+use td_base::{Counted, Country};
+use td_desk::PlainDesk;
+use td_http::{Service, StreamEnd, serve_stream};
 
 const SEE: &[u8] = b"GET /holders/000002 HTTP/1.1\r\n\r\n";
 
@@ -324,5 +327,69 @@ fn writers_fail_at_each_byte(rt: HostRuntime) -> Result<(), Fail> {
             assert_eq!(rt; status, 1, "{end}");
         }
     }
+    Ok(())
+}
+
+const REGISTER: &[u8] =
+    b"PUT /office/holders/000002 HTTP/1.1\r\nContent-Length: 14\r\n\r\n{\"eori\":\"DE2\"}";
+
+const SHOWN: &[u8] =
+    b"HTTP/1.1 200 OK\r\nContent-Type: application/json\r\nContent-Length: 61\r\n\r\n{\"eori\":\"DE2\",\"guarantees\":0,\"holder\":\"000002\",\"movements\":0}";
+
+const NO_MEMORY: &[u8] =
+    b"HTTP/1.1 503 Service Unavailable\r\nContent-Type: application/json\r\nContent-Length: 21\r\nConnection: close\r\n\r\n{\"error\":\"no-memory\"}";
+
+const NO_METHOD: &[u8] =
+    b"HTTP/1.1 405 Method Not Allowed\r\nContent-Type: application/json\r\nContent-Length: 21\r\nAllow: PUT\r\n\r\n{\"error\":\"no-method\"}";
+
+// A registration and two views: no fault; a fault at each request, which then changed nothing; a fault before each of them was read; and a
+// fault after the first byte, which is lost with its stream, so that the next one begins with the method `UT`.
+const REPLIES: [&[&[u8]]; 9] = [
+    &[SHOWN, SHOWN, SHOWN],
+    &[NO_MEMORY, NO_HOLDER, NO_HOLDER],
+    &[SHOWN, NO_MEMORY, SHOWN],
+    &[SHOWN, SHOWN, NO_MEMORY],
+    &[NO_MEMORY, SHOWN, SHOWN, SHOWN],
+    &[SHOWN, NO_MEMORY, SHOWN, SHOWN],
+    &[SHOWN, SHOWN, NO_MEMORY, SHOWN],
+    &[SHOWN, SHOWN, SHOWN, NO_MEMORY],
+    &[NO_MEMORY, NO_METHOD, NO_HOLDER, NO_HOLDER],
+];
+
+fn joined(alloc: Global, replies: &[&[u8]]) -> Result<Vec<u8>, AllocError> {
+    let mut bytes = Vec::new(alloc);
+    for reply in replies {
+        bytes.extend_from_slice(reply)?;
+    }
+    Ok(bytes)
+}
+
+// After a fault the rest of the input is served as the next stream, at the same desk. To be run with each allocation refused in turn, where
+// one request or the stream's own buffer meets the fault, and all others have their replies.
+#[test]
+fn the_rest_is_served_after_a_fault(rt: HostRuntime) -> Result<(), Fail> {
+    let alloc = rt.alloc();
+    let mut wanted = Vec::new(alloc);
+    for replies in &REPLIES {
+        wanted.push(joined(alloc, replies)?)?;
+    }
+    let input = many(alloc, REGISTER, SEE, 2, b"")?;
+    let country = Country::read(b"CH").ok_or("country")?;
+    let mut service = Service::new(PlainDesk::new(alloc, country)?);
+    let mut reader = Counted::new(Drip {
+        left: &input,
+        fails: false,
+    });
+    let mut writer = Counted::new(Vec::with_capacity(alloc, 1024)?);
+    let mut clock = FixedClock { at: 1_740_819_600 };
+    let mut end = StreamEnd::Failed;
+    for _ in 0..3 {
+        if end == StreamEnd::Failed {
+            end = serve_stream(alloc, &mut reader, &mut writer, &mut clock, &mut service);
+        }
+    }
+    assert_eq!(rt; end, StreamEnd::Closed);
+    let out = writer.into_inner();
+    assert!(rt; wanted.iter().any(|replies| replies.as_slice() == out.as_slice()), "{out:?}");
     Ok(())
 }
