@@ -390,6 +390,11 @@ fn the_rest_is_served_after_a_fault(rt: HostRuntime) -> Result<(), Fail> {
     }
     assert_eq!(rt; end, StreamEnd::Closed);
     let out = writer.into_inner();
-    assert!(rt; wanted.iter().any(|replies| replies.as_slice() == out.as_slice()), "{out:?}");
+    assert!(rt;
+        wanted
+            .iter()
+            .any(|replies| replies.as_slice() == out.as_slice()),
+        "{out:?}"
+    );
     Ok(())
 }
