@@ -339,12 +339,8 @@ const SHOWN: &[u8] =
 const NO_MEMORY: &[u8] =
     b"HTTP/1.1 503 Service Unavailable\r\nContent-Type: application/json\r\nContent-Length: 21\r\nConnection: close\r\n\r\n{\"error\":\"no-memory\"}";
 
-const NO_METHOD: &[u8] =
-    b"HTTP/1.1 405 Method Not Allowed\r\nContent-Type: application/json\r\nContent-Length: 21\r\nAllow: PUT\r\n\r\n{\"error\":\"no-method\"}";
-
-// A registration and two views: no fault; a fault at each request, which then changed nothing; a fault before each of them was read; and a
-// fault after the first byte, which is lost with its stream, so that the next one begins with the method `UT`.
-const REPLIES: [&[&[u8]]; 9] = [
+// A registration and two views: no fault; a fault at each request, which then changed nothing; and a fault before each of them was read.
+const REPLIES: [&[&[u8]]; 8] = [
     &[SHOWN, SHOWN, SHOWN],
     &[NO_MEMORY, NO_HOLDER, NO_HOLDER],
     &[SHOWN, NO_MEMORY, SHOWN],
@@ -353,7 +349,6 @@ const REPLIES: [&[&[u8]]; 9] = [
     &[SHOWN, NO_MEMORY, SHOWN, SHOWN],
     &[SHOWN, SHOWN, NO_MEMORY, SHOWN],
     &[SHOWN, SHOWN, SHOWN, NO_MEMORY],
-    &[NO_MEMORY, NO_METHOD, NO_HOLDER, NO_HOLDER],
 ];
 
 fn joined(alloc: Global, replies: &[&[u8]]) -> Result<Vec<u8>, AllocError> {
