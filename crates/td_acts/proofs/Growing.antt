@@ -1,49 +1,74 @@
 -- What one more accepted change does to what a book says.
-use Rattle.std.proofs.Common.{◌≡◌, ℕ, ◌+◌, Bool, true, false, List, [], ◌∷◌, ◌++◌, Option, Some, None, refl, sym, ◌∙◌}
+use Rattle.std.proofs.Common.{◌≡◌, ℕ, ◌+◌, Bool, true, false, List, [], ◌∷◌, ◌++◌, Option, Some, None, refl, sym, ◌∙◌, ap, arith, append_assoc}
 use Rattle.std.proofs.lemmas.Bool.{false≢true}
-use Rattle.std.specs.Prelude.{IfSome, if◌then◌else◌}
+use Rattle.std.proofs.lemmas.Bool.Decides.{nat_tests}
+use Rattle.std.proofs.lemmas.List.{append-nil}
+use Rattle.std.proofs.Math.Nat.{add-zero}
+use Rattle.std.specs.Prelude.{IfSome, if◌then◌else◌, nat_lt, nat_le}
 use Rattle.td_base.specs.Moment.{moment_of}
 use Rattle.td_acts.specs.declared.rows.HolderRow.{HolderRow}
+use Rattle.td_acts.specs.declared.rows.Guarantee.{Guarantee}
+use Rattle.td_acts.specs.declared.rows.Movement.{Movement}
 use Rattle.td_acts.specs.declared.command.Command.{Command}
-use Rattle.td_acts.specs.declared.command.Command.TheVariants.{Register, SeeHolder}
+use Rattle.td_acts.specs.declared.command.Command.TheVariants.{Register, OpenGuarantee, Ie015, SeeHolder}
 use Rattle.td_acts.specs.declared.command.Stamped.{Stamped}
 use Rattle.td_acts.specs.declared.rows.Change.TheVariants as change
 use Rattle.td_acts.specs.Account.{Account, IsAccountOf}
-use Rattle.td_acts.specs.Book.{Book, Act, eori_after, eori_in, last_in, serial_in, openings, declarations, eori_of, last_of, grn_count_of, mrn_count_of, account_made, account_of, fresh_book, IsBegun}
+use Rattle.td_acts.specs.Book.{Book, Act, eori_after, eori_in, last_in, serial_in, made_in, openings, declarations, opened_by, declared_by, eori_of, last_of, grn_count_before, mrn_count_before, grn_count_of, mrn_count_of, guarantees_of, movements_of, account_made, account_of, fresh_book, IsBegun}
 use Rattle.td_acts.specs.Commands.{owner_of}
 use Rattle.td_acts.specs.Acceptance.{is_accepted_at}
 use Rattle.td_acts.specs.Machine.{appended, book_after, book_after_at}
 use Rattle.td_acts.specs.Deciding.{decided, rows_written, change_in, applied}
 
+-- the EORI after one more act
 eori_in-append : (known : Option (List ℕ)) (acts : List Act) (a : Act) → eori_in known (acts ++ a ∷ []) ≡ eori_after (eori_in known acts) a.command
 eori_in-append known [] a = refl
 eori_in-append known (b ∷ acts) a = eori_in-append (eori_after known b.command) acts a
 
+-- the last moment is that of the last act
 last_in-append : (at : ℕ) (acts : List Act) (a : Act) → last_in at (acts ++ a ∷ []) ≡ a.at
 last_in-append at [] a = refl
 last_in-append at (b ∷ acts) a = last_in-append b.at acts a
 
+-- one more act uses up its serials
 serial_in-append : (uses : Command → ℕ) (n : ℕ) (acts : List Act) (a : Act) → serial_in uses n (acts ++ a ∷ []) ≡ serial_in uses n acts + uses a.command
 serial_in-append uses n [] a = refl
 serial_in-append uses n (b ∷ acts) a = serial_in-append uses (n + uses b.command) acts a
 
+-- one more act makes what it makes behind all before
+made_in-append : {R : Type 0} (made : ℕ → ℕ → Command → List R) (uses : Command → ℕ) (n : ℕ) (acts : List Act) (a : Act) → made_in made uses n (acts ++ a ∷ []) ≡ made_in made uses n acts ++ made (serial_in uses n acts) a.at a.command
+made_in-append made uses n [] a = rw append-nil refl
+made_in-append made uses n (b ∷ acts) a = rw (made_in-append made uses (n + uses b.command) acts a, append_assoc) refl
+
 -- what the book with one more act says
 account_of-appended : (H : ℕ) (book : Book) (t : ℕ) (command : Command) → account_of H (appended book t command)
     ≡ account_made H book.opening.country (eori_after (eori_of book) command) t (grn_count_of book + openings command) (mrn_count_of book + declarations command)
+    (guarantees_of H book ++ opened_by book.opening.country H (grn_count_of book) t command) (movements_of H book ++ declared_by book.opening.country H (mrn_count_of book) t command)
 account_of-appended H book t command =
     let a : Act = record { at = t; command = command } in
-    rw (eori_in-append _ book.acts a, last_in-append _ book.acts a, serial_in-append openings _ book.acts a, serial_in-append declarations _ book.acts a) refl
+    let country = book.opening.country in
+    rw (eori_in-append _ book.acts a, last_in-append _ book.acts a, serial_in-append openings _ book.acts a, serial_in-append declarations _ book.acts a,
+      made_in-append (opened_by country H) openings (grn_count_before book) book.acts a, made_in-append (declared_by country H) declarations (mrn_count_before book) book.acts a, append_assoc, append_assoc) refl
 
 -- The parts of the account grow by the rows of an accepted command. Where nobody is registered, no serial was used.
-step_made : (H : ℕ) (country : List ℕ) (e : Option (List ℕ)) (at g m t : ℕ) (command : Command) → (e ≡ None → (g ≡ 0) × (m ≡ 0))
-    → owner_of country command ≡ Some H → is_accepted_at (account_made H country e at g m) t command ≡ true
-    → account_made H country (eori_after e command) t (g + openings command) (m + declarations command) ≡ applied (rows_written t command) (account_made H country e at g m)
-step_made H country None at g m t (Register h x) none own accepted =
+step_made : (H : ℕ) (country : List ℕ) (e : Option (List ℕ)) (at g m t : ℕ) (gs : List Guarantee) (ms : List Movement) (command : Command) → (e ≡ None → (g ≡ 0) × (m ≡ 0))
+    → owner_of country command ≡ Some H → is_accepted_at (account_made H country e at g m gs ms) t command ≡ true
+    → account_made H country (eori_after e command) t (g + openings command) (m + declarations command) (gs ++ opened_by country H g t command) (ms ++ declared_by country H m t command)
+    ≡ applied (rows_written (account_made H country e at g m gs ms) t command) (account_made H country e at g m gs ms)
+step_made H country None at g m t gs ms (Register h x) none own accepted =
     let same : h ≡ H = cc in
     let zero = none refl in
-    rw (same, zero.0, zero.1) refl
-step_made H country (Some e) at g m t (Register h x) none own accepted = absurd (false≢true accepted)
-step_made H country e at g m t (SeeHolder h) none own accepted = absurd (false≢true accepted)
+    rw (same, zero.0, zero.1, append-nil, append-nil) refl
+step_made H country (Some e) at g m t gs ms (Register h x) none own accepted = absurd (false≢true accepted)
+step_made H country None at g m t gs ms (OpenGuarantee h reference cover code) none own accepted = absurd (false≢true accepted)
+step_made H country (Some e) at g m t gs ms (OpenGuarantee h reference cover code) none own accepted =
+    let same : h ≡ H = cc in
+    rw (same, add-zero, append-nil) refl
+step_made H country None at g m t gs ms (Ie015 h lrn departure destination lines) none own accepted = absurd (false≢true accepted)
+step_made H country (Some e) at g m t gs ms (Ie015 h lrn departure destination lines) none own accepted =
+    let same : h ≡ H = cc in
+    rw (same, add-zero, append-nil) refl
+step_made H country e at g m t gs ms (SeeHolder h) none own accepted = absurd (false≢true accepted)
 
 -- who isn't registered has used no serial
 none_used : (book : Book) → IsBegun book → eori_of book ≡ None → (grn_count_of book ≡ 0) × (mrn_count_of book ≡ 0)
@@ -51,17 +76,18 @@ none_used book begun none = let h = begun none in (rw (h.0, h.1) refl, rw (h.0, 
 
 -- what the book with an accepted command says is the account with the rows of the command
 account_step : (H : ℕ) (book : Book) (t : ℕ) (command : Command) → IsBegun book → owner_of book.opening.country command ≡ Some H
-    → is_accepted_at (account_of H book) t command ≡ true → account_of H (appended book t command) ≡ applied (rows_written t command) (account_of H book)
+    → is_accepted_at (account_of H book) t command ≡ true → account_of H (appended book t command) ≡ applied (rows_written (account_of H book) t command) (account_of H book)
 account_step H book t command begun own accepted =
     account_of-appended H book t command
-    ∙ step_made H book.opening.country (eori_of book) (last_of book) (grn_count_of book) (mrn_count_of book) t command (none_used book begun) own accepted
+    ∙ step_made H book.opening.country (eori_of book) (last_of book) (grn_count_of book) (mrn_count_of book) t (guarantees_of H book) (movements_of H book) command (none_used book begun) own accepted
 
+-- the same where there may be no moment
 account_after_at : (H : ℕ) (book : Book) (m : Option ℕ) (command : Command) → IsBegun book → owner_of book.opening.country command ≡ Some H
     → account_of H (book_after_at H book m command) ≡ applied (change_in m (account_of H book) command) (account_of H book)
 account_after_at H book None command begun own = refl
 account_after_at H book (Some t) command begun own = by_test (is_accepted_at (account_of H book) t command) refl
   where
-    by_test : (b : Bool) → is_accepted_at (account_of H book) t command ≡ b → account_of H (if b then appended book t command else book) ≡ applied (if b then rows_written t command else change.Nothing) (account_of H book)
+    by_test : (b : Bool) → is_accepted_at (account_of H book) t command ≡ b → account_of H (if b then appended book t command else book) ≡ applied (if b then rows_written (account_of H book) t command else change.Nothing) (account_of H book)
     by_test true accepted = account_step H book t command begun own accepted
     by_test false other = refl
 
@@ -71,26 +97,32 @@ pub account_after : (H : ℕ) (book : Book) (s : Stamped) → IsBegun book → o
 account_after H book s begun own = account_after_at H book (moment_of s.at) s.command begun own
 
 -- who changes something is registered then
-registered_made : (H : ℕ) (country : List ℕ) (e : Option (List ℕ)) (at g m t : ℕ) (command : Command) → is_accepted_at (account_made H country e at g m) t command ≡ true → eori_after e command ≡ None → ⊥
-registered_made H country e at g m t (Register h x) accepted none = cc
-registered_made H country e at g m t (SeeHolder h) accepted none = false≢true accepted
+registered_made : (H : ℕ) (country : List ℕ) (e : Option (List ℕ)) (at g m t : ℕ) (gs : List Guarantee) (ms : List Movement) (command : Command) → is_accepted_at (account_made H country e at g m gs ms) t command ≡ true → eori_after e command ≡ None → ⊥
+registered_made H country e at g m t gs ms (Register h x) accepted none = cc
+registered_made H country None at g m t gs ms (OpenGuarantee h reference cover code) accepted none = false≢true accepted
+registered_made H country (Some e) at g m t gs ms (OpenGuarantee h reference cover code) accepted none = cc
+registered_made H country None at g m t gs ms (Ie015 h lrn departure destination lines) accepted none = false≢true accepted
+registered_made H country (Some e) at g m t gs ms (Ie015 h lrn departure destination lines) accepted none = cc
+registered_made H country e at g m t gs ms (SeeHolder h) accepted none = false≢true accepted
 
+-- the same where there may be no moment
 begun_after_at : (H : ℕ) (book : Book) (m : Option ℕ) (command : Command) → IsBegun book → IsBegun (book_after_at H book m command)
 begun_after_at H book None command begun = begun
 begun_after_at H book (Some t) command begun = by_test (is_accepted_at (account_of H book) t command) refl
   where
     by_test : (b : Bool) → is_accepted_at (account_of H book) t command ≡ b → IsBegun (if b then appended book t command else book)
-    by_test true accepted = λ none. absurd (registered_made H book.opening.country (eori_of book) (last_of book) (grn_count_of book) (mrn_count_of book) t command accepted (sym (eori_in-append _ book.acts (record { at = t; command = command })) ∙ none))
+    by_test true accepted = λ none. absurd (registered_made H book.opening.country (eori_of book) (last_of book) (grn_count_of book) (mrn_count_of book) t (guarantees_of H book) (movements_of H book) command accepted (sym (eori_in-append _ book.acts (record { at = t; command = command })) ∙ none))
     by_test false other = begun
 
 -- a book stays begun
 pub begun_after : (H : ℕ) (book : Book) (s : Stamped) → IsBegun book → IsBegun (book_after H book s)
 begun_after H book s begun = begun_after_at H book (moment_of s.at) s.command begun
 
-fresh_made : (H : ℕ) (country : List ℕ) (o : Option HolderRow) → IfSome o (λ row. row.holder ≡ H) → account_of H (fresh_book (record { country = country; holder = o })) ≡ record { country = country; holder = o }
-fresh_made H country None is = refl
-fresh_made H country (Some row) is = rw (← is) refl
+fresh_made : (H : ℕ) (country : List ℕ) (o : Option HolderRow) (gs : List Guarantee) (ms : List Movement) → IfSome o (λ row. row.holder ≡ H)
+    → account_of H (fresh_book (record { country = country; holder = o; guarantees = gs; movements = ms })) ≡ record { country = country; holder = o; guarantees = gs; movements = ms }
+fresh_made H country None gs ms is = rw (append-nil, append-nil) refl
+fresh_made H country (Some row) gs ms is = rw (append-nil, append-nil, ← is) refl
 
 -- a book that begins with an account says that account
 pub account_fresh_book : (H : ℕ) (account : Account) → IsAccountOf H account → account_of H (fresh_book account) ≡ account
-account_fresh_book H account is = fresh_made H account.country account.holder is.number
+account_fresh_book H account is = fresh_made H account.country account.holder account.guarantees account.movements is.number

@@ -1,16 +1,29 @@
 -- What a desk keeps of one holder: the model's only view of the records.
-use Rattle.std.specs.Prelude.{◌≡◌, ℕ, List, Option, None, IfSome}
+use Rattle.std.specs.Prelude.{◌≡◌, ℕ, List, [], Option, None, IfSome, find}
+use Rattle.std.specs.Str.{bytes_eq}
 use Rattle.td_acts.specs.declared.rows.HolderRow.{HolderRow}
+use Rattle.td_acts.specs.declared.rows.Guarantee.{Guarantee}
+use Rattle.td_acts.specs.declared.rows.Movement.{Movement}
 
--- the desk's country, and the holder's row if the holder is registered
+-- the desk's country, the holder's row if the holder is registered, and the holder's guarantees and movements by serial
 pub record Account : Type 0 where
   pub country : List ℕ
   pub holder : Option HolderRow
+  pub guarantees : List Guarantee
+  pub movements : List Movement
 
 -- nothing is kept: the account of a number that isn't registered, and of a command that nobody owns
 abbrev pub empty_account : List ℕ → Account
-empty_account country = record { country = country; holder = None }
+empty_account country = record { country = country; holder = None; guarantees = []; movements = [] }
 
--- the rows are those of that number
+-- the row is that of that number
 pub record IsAccountOf (H : ℕ) (account : Account) : Type 0 where
   pub number : IfSome account.holder (λ row. row.holder ≡ H)
+
+-- the guarantee with exactly this GRN
+abbrev pub guarantee_with : List ℕ → List Guarantee → Option Guarantee
+guarantee_with grn guarantees = find (λ g. bytes_eq g.grn grn) guarantees
+
+-- the movement with this LRN
+abbrev pub movement_with : List ℕ → List Movement → Option Movement
+movement_with lrn movements = find (λ m. bytes_eq m.lrn lrn) movements

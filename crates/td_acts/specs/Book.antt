@@ -1,11 +1,16 @@
 -- A holder's book: what was kept at the start, and the changes that were accepted since. Everything that a desk says of the
 -- holder is read from the book alone, from its beginning, in passes in which a later act overrides what earlier ones said.
-use Rattle.std.specs.Prelude.{◌≡◌, ℕ, ◌+◌, List, [], ◌∷◌, Option, Some, None}
+use Rattle.std.specs.Prelude.{◌≡◌, ℕ, ◌+◌, ◌%◌, List, [], ◌∷◌, ◌++◌, map, Option, Some, None}
 use Rattle.std.specs.Option.{option_map, option_map_or}
+use Rattle.td_base.specs.Days.{day_of_moment, year_of}
+use Rattle.td_base.specs.References.{grn_text, mrn_text}
 use Rattle.td_acts.specs.declared.rows.HolderRow.{HolderRow}
+use Rattle.td_acts.specs.declared.rows.Guarantee.{Guarantee}
+use Rattle.td_acts.specs.declared.rows.Movement.{Movement}
 use Rattle.td_acts.specs.declared.command.Command.{Command}
-use Rattle.td_acts.specs.declared.command.Command.TheVariants.{Register, SeeHolder}
+use Rattle.td_acts.specs.declared.command.Command.TheVariants.{Register, OpenGuarantee, Ie015, SeeHolder}
 use Rattle.td_acts.specs.Account.{Account}
+use Rattle.td_acts.specs.Lines.{line_of}
 
 -- an accepted change and its moment
 pub record Act : Type 0 where
@@ -19,6 +24,8 @@ pub record Book : Type 0 where
 -- the EORI under which the command registers the holder, else the one known before
 abbrev pub eori_after : Option (List ℕ) → Command → Option (List ℕ)
 eori_after known (Register holder eori) = Some eori
+eori_after known (OpenGuarantee holder reference cover code) = known
+eori_after known (Ie015 holder lrn departure destination lines) = known
 eori_after known (SeeHolder holder) = known
 
 -- the holder's EORI after all acts: none where nobody was registered
@@ -34,17 +41,44 @@ last_in at (a ∷ acts) = last_in a.at acts
 -- how many guarantees the command opens
 abbrev pub openings : Command → ℕ
 openings (Register holder eori) = 0
+openings (OpenGuarantee holder reference cover code) = 1
+openings (Ie015 holder lrn departure destination lines) = 0
 openings (SeeHolder holder) = 0
 
 -- how many movements the command declares
 abbrev pub declarations : Command → ℕ
 declarations (Register holder eori) = 0
+declarations (OpenGuarantee holder reference cover code) = 0
+declarations (Ie015 holder lrn departure destination lines) = 1
 declarations (SeeHolder holder) = 0
 
 -- the serial that is reached after all acts, where each act uses up so many
 abbrev pub serial_in : (Command → ℕ) → ℕ → List Act → ℕ
 serial_in uses n [] = n
 serial_in uses n (a ∷ acts) = serial_in uses (n + uses a.command) acts
+
+-- the year of a moment, in two digits
+abbrev pub year2_at : ℕ → ℕ
+year2_at t = year_of (day_of_moment t) % 100
+
+-- the guarantee that the command opens at moment t for holder H, after n others
+abbrev pub opened_by : List ℕ → ℕ → ℕ → ℕ → Command → List Guarantee
+opened_by country H n t (Register holder eori) = []
+opened_by country H n t (OpenGuarantee holder reference cover code) = record { grn = grn_text (year2_at t) country H (n + 1); reference = reference; cover = cover; ends = None; codes = code ∷ [] } ∷ []
+opened_by country H n t (Ie015 holder lrn departure destination lines) = []
+opened_by country H n t (SeeHolder holder) = []
+
+-- the movement that the command declares at moment t for holder H, after n others
+abbrev pub declared_by : List ℕ → ℕ → ℕ → ℕ → Command → List Movement
+declared_by country H n t (Register holder eori) = []
+declared_by country H n t (OpenGuarantee holder reference cover code) = []
+declared_by country H n t (Ie015 holder lrn departure destination lines) = record { mrn = mrn_text (year2_at t) country H (n + 1); lrn = lrn; departure = departure; destination = destination; accepted = day_of_moment t; lines = map line_of lines } ∷ []
+declared_by country H n t (SeeHolder holder) = []
+
+-- what the acts make, one after the other, where made says what an act makes after n others and uses how many serials it uses up
+abbrev pub made_in : {R : Type 0} → (ℕ → ℕ → Command → List R) → (Command → ℕ) → ℕ → List Act → List R
+made_in made uses n [] = []
+made_in made uses n (a ∷ acts) = made n a.at a.command ++ made_in made uses (n + uses a.command) acts
 
 abbrev pub eori_of : Book → Option (List ℕ)
 eori_of book = eori_in (option_map (λ (r : HolderRow). r.eori) book.opening.holder) book.acts
@@ -53,24 +87,41 @@ eori_of book = eori_in (option_map (λ (r : HolderRow). r.eori) book.opening.hol
 abbrev pub last_of : Book → ℕ
 last_of book = last_in (option_map_or (λ (r : HolderRow). r.last_at) book.opening.holder 0) book.acts
 
+-- the last serials at the start
+abbrev pub grn_count_before : Book → ℕ
+grn_count_before book = option_map_or (λ (r : HolderRow). r.grn_count) book.opening.holder 0
+
+abbrev pub mrn_count_before : Book → ℕ
+mrn_count_before book = option_map_or (λ (r : HolderRow). r.mrn_count) book.opening.holder 0
+
 -- the last serial of the holder's guarantees
 abbrev pub grn_count_of : Book → ℕ
-grn_count_of book = serial_in openings (option_map_or (λ (r : HolderRow). r.grn_count) book.opening.holder 0) book.acts
+grn_count_of book = serial_in openings (grn_count_before book) book.acts
 
 -- the last serial of the holder's movements
 abbrev pub mrn_count_of : Book → ℕ
-mrn_count_of book = serial_in declarations (option_map_or (λ (r : HolderRow). r.mrn_count) book.opening.holder 0) book.acts
+mrn_count_of book = serial_in declarations (mrn_count_before book) book.acts
+
+-- guarantee n: that of the start, else the n-th opening
+abbrev pub guarantees_of : ℕ → Book → List Guarantee
+guarantees_of H book = book.opening.guarantees ++ made_in (opened_by book.opening.country H) openings (grn_count_before book) book.acts
+
+-- movement n: that of the start, else the n-th declaration
+abbrev pub movements_of : ℕ → Book → List Movement
+movements_of H book = book.opening.movements ++ made_in (declared_by book.opening.country H) declarations (mrn_count_before book) book.acts
 
 -- the account of these parts
-abbrev pub account_made : ℕ → List ℕ → Option (List ℕ) → ℕ → ℕ → ℕ → Account
-account_made H country eori at guarantees movements = record {
+abbrev pub account_made : ℕ → List ℕ → Option (List ℕ) → ℕ → ℕ → ℕ → List Guarantee → List Movement → Account
+account_made H country eori at grns mrns guarantees movements = record {
   country = country;
-  holder = option_map (λ e. record { holder = H; eori = e; last_at = at; grn_count = guarantees; mrn_count = movements }) eori;
+  holder = option_map (λ e. record { holder = H; eori = e; last_at = at; grn_count = grns; mrn_count = mrns }) eori;
+  guarantees = guarantees;
+  movements = movements;
 }
 
 -- what the book says of holder H
 abbrev pub account_of : ℕ → Book → Account
-account_of H book = account_made H book.opening.country (eori_of book) (last_of book) (grn_count_of book) (mrn_count_of book)
+account_of H book = account_made H book.opening.country (eori_of book) (last_of book) (grn_count_of book) (mrn_count_of book) (guarantees_of H book) (movements_of H book)
 
 -- the book that begins with an account
 abbrev pub fresh_book : Account → Book

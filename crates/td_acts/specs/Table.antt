@@ -1,15 +1,23 @@
 -- The table of refusals and answers: for each command the refusals in the order in which they are tested, then the answer.
 -- It speaks of the owner's account alone; a command that nobody owns is judged over an account with nothing in it.
-use Rattle.std.specs.Prelude.{ℕ, ℤ, List, Option, Some, None}
+use Rattle.std.specs.Prelude.{ℕ, ℤ, ◌+◌, nat_lt, nat_le, if◌then◌else◌, Bool, List, map, Option, Some, None}
+use Rattle.td_base.specs.Days.{day_of_moment}
 use Rattle.td_base.specs.Moment.{moment_of}
+use Rattle.td_base.specs.References.{grn_text, mrn_text}
+use Rattle.td_acts.specs.declared.lines.Line.{Line}
 use Rattle.td_acts.specs.declared.rows.HolderRow.{HolderRow}
+use Rattle.td_acts.specs.declared.rows.Movement.{Movement}
 use Rattle.td_acts.specs.declared.command.Command.{Command}
-use Rattle.td_acts.specs.declared.command.Command.TheVariants.{Register, SeeHolder}
+use Rattle.td_acts.specs.declared.command.Command.TheVariants.{Register, OpenGuarantee, Ie015, SeeHolder}
 use Rattle.td_acts.specs.declared.said.Answer.TheVariants as answer
-use Rattle.td_acts.specs.declared.said.Refusal.TheVariants.{ClockRange, NoHolder, HolderKnown}
+use Rattle.td_acts.specs.declared.said.Refusal.{Refusal}
+use Rattle.td_acts.specs.declared.said.Refusal.TheVariants.{ClockRange, NoHolder, HolderKnown, ClockBack, LrnUsed, SerialsSpent}
 use Rattle.td_acts.specs.declared.said.Said.{Said}
 use Rattle.td_acts.specs.declared.said.Said.TheVariants.{Answered, Refused}
-use Rattle.td_acts.specs.Account.{Account}
+use Rattle.td_acts.specs.Account.{Account, movement_with}
+use Rattle.td_acts.specs.Book.{year2_at}
+use Rattle.td_acts.specs.Lines.{line_of}
+use Rattle.td_acts.specs.Declaring.{has_contents, first_refusal}
 
 -- holder-known, else this
 abbrev pub if_unknown : Option HolderRow → Said → Said
@@ -21,9 +29,46 @@ abbrev pub if_registered : Option HolderRow → (HolderRow → Said) → Said
 if_registered None said_of = Refused NoHolder
 if_registered (Some row) said_of = said_of row
 
+-- clock-back where the moment is before the holder's own last change, else this
+abbrev pub if_not_back : ℕ → HolderRow → Said → Said
+if_not_back t row said = if nat_lt t row.last_at then Refused ClockBack else said
+
+-- serials-spent where the last serial is the greatest that there is, else this
+abbrev pub if_serials_left : ℕ → ℕ → Said → Said
+if_serials_left greatest last said = if nat_le greatest last then Refused SerialsSpent else said
+
+-- The LRN rule: a declaration under a known LRN is a repeat where the contents are the same, and answered with its first answer, else
+-- it is refused as lrn-used. Under a new LRN it is this.
+abbrev pub if_lrn_new : Option Movement → (Movement → Bool) → Said → Said
+if_lrn_new None is_repeat said = said
+if_lrn_new (Some m) is_repeat said = if is_repeat m then Answered (answer.Ie028 m.lrn m.mrn) else Refused LrnUsed
+
+-- the refusal, else this
+abbrev pub if_not_refused : Option Refusal → Said → Said
+if_not_refused None said = said
+if_not_refused (Some refusal) said = Refused refusal
+
 -- Registration (an act of the office): refused where the number is registered; a new holder has no guarantees and no movements.
 abbrev pub said_on_register : Account → ℕ → List ℕ → Said
 said_on_register account holder eori = if_unknown account.holder (Answered (answer.Holder holder eori 0 0))
+
+-- The opening of a guarantee (an act of the office): its GRN has the year of the moment and the holder's next serial.
+abbrev pub said_on_open : Account → ℕ → ℕ → Said
+said_on_open account t holder =
+    if_registered account.holder (λ row.
+      if_not_back t row
+      (if_serials_left 999999 row.grn_count
+      (Answered (answer.Opened (grn_text (year2_at t) account.country holder (row.grn_count + 1))))))
+
+-- A declaration (IE015): answered with the MRN of the year of the moment and the holder's next serial (IE028).
+abbrev pub said_on_ie015 : Account → ℕ → ℕ → List ℕ → List ℕ → List ℕ → List (Line × List ℕ) → Said
+said_on_ie015 account t holder lrn departure destination lines =
+    if_registered account.holder (λ row.
+      if_not_back t row
+      (if_lrn_new (movement_with lrn account.movements) (has_contents departure destination (map line_of lines))
+      (if_serials_left 9999999 row.mrn_count
+      (if_not_refused (first_refusal (day_of_moment t) account.guarantees lines)
+      (Answered (answer.Ie028 lrn (mrn_text (year2_at t) account.country holder (row.mrn_count + 1))))))))
 
 -- A view of a holder: the EORI and the holder's own counts.
 abbrev pub said_on_see_holder : Account → Said
@@ -32,6 +77,8 @@ said_on_see_holder account = if_registered account.holder (λ row. Answered (ans
 -- what is said at a moment
 abbrev pub said_at : Account → ℕ → Command → Said
 said_at account t (Register holder eori) = said_on_register account holder eori
+said_at account t (OpenGuarantee holder reference cover code) = said_on_open account t holder
+said_at account t (Ie015 holder lrn departure destination lines) = said_on_ie015 account t holder lrn departure destination lines
 said_at account t (SeeHolder holder) = said_on_see_holder account
 
 -- what is said at a moment, where the clock shows one

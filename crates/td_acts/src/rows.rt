@@ -1,6 +1,11 @@
 //! The rows of one holder, and the rows that a verdict writes.
-use crate::said::Said;
-use td_base::{Country, Eori, HolderNo, Moment};
+ghost use Rattle.std.specs.Prelude.{◌≡◌, IfOk};
+
+use crate::codes::Codes;
+use crate::lines::MovementLines;
+use crate::said::{Refusal, Said};
+use std::alloc::{AllocError, Global};
+use td_base::{Cents, Country, Cover, Day, Eori, Grn, HolderNo, Lrn, Moment, Mrn, OfficeNo};
 
 /// The row of a registered holder.
 #[derive(Clone, Copy, Debug, PartialEq, Eq)]
@@ -15,20 +20,86 @@ pub struct HolderRow {
     pub mrn_count: u32,
 }
 
+/// A comprehensive guarantee (Common Transit Convention, Appendix I).
+#[derive(Debug, Drop)]
+pub struct Guarantee {
+    pub grn: Grn,
+    /// The reference amount, in cents: the amount in use never exceeds it.
+    pub reference: Cents,
+    /// The percentage of the reference amount that is guaranteed.
+    pub cover: Cover,
+    /// The day from which on nothing is lodged on it.
+    pub ends: Option<Day>,
+    pub codes: Codes,
+}
+
+impl Guarantee {
+    /// The same guarantee in other memory. `AllocError`: want of memory.
+    pub fn copy(&self, alloc: Global) -> Result<Self, AllocError>
+        ensures { IfOk result (λ guarantee. guarantee ≡ self.now) }
+    {
+        Ok(Guarantee {
+            grn: self.grn,
+            reference: self.reference,
+            cover: self.cover,
+            ends: self.ends,
+            codes: self.codes.copy(alloc)?,
+        })
+    }
+}
+
+/// A transit movement, as it was declared.
+#[derive(Debug, Drop)]
+pub struct Movement {
+    pub mrn: Mrn,
+    pub lrn: Lrn,
+    /// The office of departure.
+    pub departure: OfficeNo,
+    /// The office of destination.
+    pub destination: OfficeNo,
+    /// The day on which the declaration was accepted.
+    pub accepted: Day,
+    pub lines: MovementLines,
+}
+
+impl Movement {
+    /// The same movement in other memory. `AllocError`: want of memory.
+    pub fn copy(&self, alloc: Global) -> Result<Self, AllocError>
+        ensures { IfOk result (λ movement. movement ≡ self.now) }
+    {
+        Ok(Movement {
+            mrn: self.mrn,
+            lrn: self.lrn,
+            departure: self.departure,
+            destination: self.destination,
+            accepted: self.accepted,
+            lines: self.lines.copy(alloc)?,
+        })
+    }
+}
+
 /// What the verdict on a command needs of its owner's rows; no row of another holder.
 #[derive(Debug, Drop)]
 pub struct Loaded {
     pub country: Country,
     pub holder: Option<HolderRow>,
+    /// For a declaration the movement with its LRN, if there is one.
+    pub movements: Vec<Movement>,
+    /// For a declaration those guarantees that its lines name.
+    pub guarantees: Vec<Guarantee>,
 }
 
 /// The rows to write for a verdict.
-#[derive(Clone, Copy, Debug, PartialEq, Eq)]
+#[derive(Debug, Drop)]
 pub enum Change {
-    /// None: for refusals and views.
+    /// None: for refusals, views and repeats.
     Nothing,
     /// A new holder's row.
     Registered(HolderRow),
+    /// The holder's row as it is now, and a new guarantee.
+    Opened(HolderRow, Guarantee),
+    /// The holder's row as it is now, and a new movement.
+    Declared(HolderRow, Movement),
 }
 
 /// What is said to a command, and the rows to write for it.
@@ -36,4 +107,17 @@ pub enum Change {
 pub struct Verdict {
     pub said: Said,
     pub change: Change,
+}
+
+impl Verdict {
+    /// A refusal, for which nothing is written.
+    pub fn refused(why: Refusal) -> Self
+        ensures said { result.said ≡ Said.Refused why }
+        ensures change { result.change ≡ Change.Nothing }
+    {
+        Verdict {
+            said: Said::Refused(why),
+            change: Change::Nothing,
+        }
+    }
 }

@@ -1,7 +1,7 @@
 //! What the desk says to a command.
 ghost use Rattle.std.specs.Prelude.{◌≡◌};
 
-use td_base::{Eori, HolderNo};
+use td_base::{Eori, Grn, HolderNo, Lrn, Mrn};
 
 /// The answer to a command that is not refused.
 #[derive(Clone, Copy, Debug, PartialEq, Eq)]
@@ -13,6 +13,10 @@ pub enum Answer {
         guarantees: u32,
         movements: u32,
     },
+    /// To an opening: the GRN of the new guarantee.
+    Opened { grn: Grn },
+    /// To a declaration: MRN allocated (IE028), for the declaration's LRN.
+    Ie028 { lrn: Lrn, mrn: Mrn },
 }
 
 /// Why a command is refused.
@@ -24,6 +28,18 @@ pub enum Refusal {
     NoHolder,
     /// The holder is registered already.
     HolderKnown,
+    /// The moment is before that of the holder's own last accepted change.
+    ClockBack,
+    /// No guarantee of the holder has this GRN.
+    NoGuarantee,
+    /// The guarantee doesn't have this access code.
+    BadCode,
+    /// The guarantee has ended.
+    GuaranteeEnded,
+    /// The holder has a movement of other contents under this LRN.
+    LrnUsed,
+    /// The holder has used up all serials.
+    SerialsSpent,
 }
 
 impl Refusal {
@@ -37,6 +53,12 @@ impl Refusal {
             Refusal::ClockRange => "clock-range",
             Refusal::NoHolder => "no-holder",
             Refusal::HolderKnown => "holder-known",
+            Refusal::ClockBack => "clock-back",
+            Refusal::NoGuarantee => "no-guarantee",
+            Refusal::BadCode => "bad-code",
+            Refusal::GuaranteeEnded => "guarantee-ended",
+            Refusal::LrnUsed => "lrn-used",
+            Refusal::SerialsSpent => "serials-spent",
         }
     }
 }

@@ -2,11 +2,14 @@
 ghost use Rattle.std.specs.Prelude.{◌≡◌, ℕ, IfOk};
 ghost use Rattle.td_acts.specs.Deciding.{IsVerdict, IsVerdictAt};
 
+use crate::codes::Codes;
 use crate::command::Command;
-use crate::rows::{Change, HolderRow, Loaded, Verdict};
+use crate::declaring::{Declaration, lodge};
+use crate::rows::{Change, Guarantee, HolderRow, Loaded, Verdict};
 use crate::said::{Answer, Refusal, Said};
+use crate::serials::next_grn;
 use std::alloc::{AllocError, Global};
-use td_base::{Eori, HolderNo, Moment};
+use td_base::{AccessCode, Cover, Eori, HolderNo, Moment, Reference};
 
 /// The verdict on a command at a number of seconds since 1970, over what was loaded of its owner's rows. Where that is just
 /// what the verdict needs of the owner's account, it is the table's; else it is only some verdict. `AllocError`: want of memory.
@@ -20,21 +23,43 @@ pub fn verdict(
 {
     match Moment::new(at) {
         Ok(at) => verdict_at(alloc, loaded, at, command),
-        Err(_) => Ok(refused(Refusal::ClockRange)),
+        Err(_) => Ok(Verdict::refused(Refusal::ClockRange)),
     }
 }
 
 fn verdict_at(
-    _alloc: Global,
+    alloc: Global,
     loaded: &Loaded,
     at: Moment,
     command: &Command,
 ) -> Result<Verdict, AllocError>
     ensures { IfOk result (IsVerdictAt loaded.now at command.now) }
 {
-    match *command {
-        Command::Register { holder, eori } => Ok(register(loaded, at, holder, eori)),
-        Command::SeeHolder { holder } => Ok(see_holder(loaded, holder)),
+    match command {
+        Command::Register { holder, eori } => Ok(register(loaded, at, *holder, *eori)),
+        Command::OpenGuarantee {
+            holder,
+            reference,
+            cover,
+            code,
+        } => open(alloc, loaded, at, *holder, *reference, *cover, *code),
+        Command::Ie015 {
+            holder,
+            lrn,
+            departure,
+            destination,
+            lines,
+        } => {
+            let declaration = Declaration {
+                holder: *holder,
+                lrn: *lrn,
+                departure: *departure,
+                destination: *destination,
+                lines,
+            };
+            lodge(alloc, loaded, at, &declaration)
+        }
+        Command::SeeHolder { holder } => Ok(see_holder(loaded, *holder)),
     }
 }
 
@@ -42,7 +67,7 @@ fn register(loaded: &Loaded, at: Moment, holder: HolderNo, eori: Eori) -> Verdic
     ensures { IsVerdictAt loaded.now at (Command.Register holder eori) result }
 {
     if loaded.holder.is_some() {
-        return refused(Refusal::HolderKnown);
+        return Verdict::refused(Refusal::HolderKnown);
     }
     let row = HolderRow {
         holder,
@@ -57,11 +82,49 @@ fn register(loaded: &Loaded, at: Moment, holder: HolderNo, eori: Eori) -> Verdic
     }
 }
 
+fn open(
+    alloc: Global,
+    loaded: &Loaded,
+    at: Moment,
+    holder: HolderNo,
+    reference: Reference,
+    cover: Cover,
+    code: AccessCode,
+) -> Result<Verdict, AllocError>
+    ensures { IfOk result (IsVerdictAt loaded.now at (Command.OpenGuarantee holder reference cover code)) }
+{
+    let Some(row) = loaded.holder else {
+        return Ok(Verdict::refused(Refusal::NoHolder));
+    };
+    if at < row.last_at {
+        return Ok(Verdict::refused(Refusal::ClockBack));
+    }
+    let Some((serial, grn)) = next_grn(loaded.country, holder, at, row.grn_count) else {
+        return Ok(Verdict::refused(Refusal::SerialsSpent));
+    };
+    let guarantee = Guarantee {
+        grn,
+        reference: reference.get(),
+        cover,
+        ends: None,
+        codes: Codes::one(alloc, code)?,
+    };
+    let row = HolderRow {
+        last_at: at,
+        grn_count: serial,
+        ..row
+    };
+    Ok(Verdict {
+        said: Said::Answered(Answer::Opened { grn }),
+        change: Change::Opened(row, guarantee),
+    })
+}
+
 fn see_holder(loaded: &Loaded, holder: HolderNo) -> Verdict
     ensures { (at : ℕ) → IsVerdictAt loaded.now at (Command.SeeHolder holder) result }
 {
     match &loaded.holder {
-        None => refused(Refusal::NoHolder),
+        None => Verdict::refused(Refusal::NoHolder),
         Some(row) => Verdict {
             said: Said::Answered(holder_answer(row)),
             change: Change::Nothing,
@@ -77,15 +140,5 @@ fn holder_answer(row: &HolderRow) -> Answer
         eori: row.eori,
         guarantees: row.grn_count,
         movements: row.mrn_count,
-    }
-}
-
-fn refused(why: Refusal) -> Verdict
-    ensures said { result.said ≡ Said.Refused why }
-    ensures change { result.change ≡ Change.Nothing }
-{
-    Verdict {
-        said: Said::Refused(why),
-        change: Change::Nothing,
     }
 }

@@ -1,0 +1,173 @@
+//! Declarations: the LRN rule, and the tests of the lines.
+ghost use Rattle.std.specs.Prelude.{◌≡◌, Some, IfOk, option_map};
+ghost use Rattle.td_acts.specs.Account.{guarantee_with, movement_with};
+ghost use Rattle.td_base.specs.Days.{day_of_moment};
+ghost use Rattle.td_acts.specs.Table.{if_lrn_new};
+ghost use Rattle.td_acts.specs.Declaring.{has_contents, has_ended as ended, guarantee_refusal, first_refusal};
+ghost use Rattle.td_acts.specs.Deciding.{IsVerdictAt};
+
+use crate::command::Command;
+use crate::lines::{Line, Lines, MovementLines};
+use crate::rows::{Change, Guarantee, HolderRow, Loaded, Movement, Verdict};
+use crate::said::{Answer, Refusal, Said};
+use crate::serials::next_mrn;
+use std::alloc::{AllocError, Global};
+use td_base::{AccessCode, Day, Grn, HolderNo, Lrn, Moment, Mrn, OfficeNo};
+
+/// A declaration (IE015) that a holder lodges.
+#[derive(Drop)]
+pub struct Declaration<'a> {
+    pub holder: HolderNo,
+    pub lrn: Lrn,
+    pub departure: OfficeNo,
+    pub destination: OfficeNo,
+    pub lines: &'a Lines,
+}
+
+/// The verdict on a declaration. `AllocError`: want of memory.
+pub fn lodge(
+    alloc: Global,
+    loaded: &Loaded,
+    at: Moment,
+    declaration: &Declaration<'_>,
+) -> Result<Verdict, AllocError>
+    ensures { IfOk result (IsVerdictAt loaded.now at (Command.Ie015 declaration.now.holder declaration.now.lrn declaration.now.departure declaration.now.destination declaration.now.lines.now)) }
+{
+    let Some(row) = loaded.holder else {
+        return Ok(Verdict::refused(Refusal::NoHolder));
+    };
+    if at < row.last_at {
+        return Ok(Verdict::refused(Refusal::ClockBack));
+    }
+    let lines = declaration.lines.without_codes(alloc)?;
+    if let Some(known) = find_movement(&loaded.movements, &declaration.lrn) {
+        return Ok(repeat(known, declaration, &lines));
+    }
+    let country = loaded.country;
+    let Some((serial, mrn)) = next_mrn(country, declaration.holder, at, row.mrn_count) else {
+        return Ok(Verdict::refused(Refusal::SerialsSpent));
+    };
+    let refusal = find_refusal(
+        Day::of_moment(at),
+        &loaded.guarantees,
+        declaration.lines.as_slice(),
+    );
+    if let Some(why) = refusal {
+        return Ok(Verdict::refused(why));
+    }
+    let row = HolderRow {
+        last_at: at,
+        mrn_count: serial,
+        ..row
+    };
+    Ok(accept(row, mrn, declaration, lines))
+}
+
+// The verdict on a declaration under an LRN that the holder has used already.
+fn repeat(known: &Movement, declaration: &Declaration<'_>, lines: &MovementLines) -> Verdict
+    ensures said { result.said ≡ if_lrn_new (Some known.now) (has_contents declaration.now.departure declaration.now.destination lines.now) (Said.Refused Refusal.LrnUsed) }
+    ensures change { result.change ≡ Change.Nothing }
+{
+    let same_offices = known.departure == declaration.departure
+        && known.destination == declaration.destination;
+    if !same_offices || known.lines.as_slice() != lines.as_slice() {
+        return Verdict::refused(Refusal::LrnUsed);
+    }
+    Verdict {
+        said: Said::Answered(Answer::Ie028 {
+            lrn: known.lrn,
+            mrn: known.mrn,
+        }),
+        change: Change::Nothing,
+    }
+}
+
+// The verdict on a declaration that nothing refuses: the holder's row as it is then, and the movement with this MRN.
+fn accept(
+    row: HolderRow,
+    mrn: Mrn,
+    declaration: &Declaration<'_>,
+    lines: MovementLines,
+) -> Verdict
+    ensures said { result.said ≡ Said.Answered (Answer.Ie028 declaration.now.lrn mrn) }
+    ensures change { result.change ≡ Change.Declared row (record { mrn = mrn; lrn = declaration.now.lrn; departure = declaration.now.departure; destination = declaration.now.destination; accepted = day_of_moment row.last_at; lines = lines }) }
+{
+    let movement = Movement {
+        mrn,
+        lrn: declaration.lrn,
+        departure: declaration.departure,
+        destination: declaration.destination,
+        accepted: Day::of_moment(row.last_at),
+        lines,
+    };
+    Verdict {
+        said: Said::Answered(Answer::Ie028 {
+            lrn: declaration.lrn,
+            mrn,
+        }),
+        change: Change::Declared(row, movement),
+    }
+}
+
+// The movement with an LRN.
+fn find_movement<'a>(movements: &'a [Movement], lrn: &Lrn) -> Option<&'a Movement>
+    ensures { option_map (λ found. found.now) result ≡ movement_with lrn.now movements.now }
+{
+    for movement in movements {
+        if movement.lrn == *lrn {
+            return Some(movement);
+        }
+    }
+    None
+}
+
+// The guarantee with exactly a GRN.
+fn find_guarantee<'a>(guarantees: &'a [Guarantee], grn: &Grn) -> Option<&'a Guarantee>
+    ensures { option_map (λ found. found.now) result ≡ guarantee_with grn.now guarantees.now }
+{
+    for guarantee in guarantees {
+        if guarantee.grn == *grn {
+            return Some(guarantee);
+        }
+    }
+    None
+}
+
+// Whether a guarantee has ended on a day: from its end day on.
+fn has_ended(ends: Option<Day>, day: Day) -> bool
+    ensures { result ≡ ended day ends }
+{
+    match ends {
+        None => false,
+        Some(end) => end <= day,
+    }
+}
+
+// Why nothing is lodged on a guarantee with a code on a day: the guarantee, the code, the guarantee's end.
+fn refuse(day: Day, guarantee: Option<&Guarantee>, code: &AccessCode) -> Option<Refusal>
+    ensures { result ≡ guarantee_refusal day code.now (option_map (λ g. g.now) guarantee.now) }
+{
+    let Some(guarantee) = guarantee else {
+        return Some(Refusal::NoGuarantee);
+    };
+    if !guarantee.codes.has(code) {
+        return Some(Refusal::BadCode);
+    }
+    if has_ended(guarantee.ends, day) {
+        return Some(Refusal::GuaranteeEnded);
+    }
+    None
+}
+
+// Why the first of the lines that is refused is refused.
+fn find_refusal(day: Day, guarantees: &[Guarantee], lines: &[(Line, AccessCode)]) -> Option<Refusal>
+    ensures { result ≡ first_refusal day guarantees.now lines.now }
+{
+    for (line, code) in lines {
+        let refusal = refuse(day, find_guarantee(guarantees, &line.grn), code);
+        if refusal.is_some() {
+            return refusal;
+        }
+    }
+    None
+}
