@@ -114,7 +114,7 @@ fn find_movement<'a>(movements: &'a [Movement], lrn: &Lrn) -> Option<&'a Movemen
     ensures { option_map (λ found. found.now) result ≡ movement_with lrn.now movements.now }
 {
     for movement in movements {
-        if movement.lrn == *lrn {
+        if movement.lrn.as_bytes() == lrn.as_bytes() {
             return Some(movement);
         }
     }
@@ -143,11 +143,16 @@ fn has_ended(ends: Option<Day>, day: Day) -> bool
     }
 }
 
-// Why nothing is lodged on a guarantee with a code on a day: the guarantee, the code, the guarantee's end.
-fn refuse(day: Day, guarantee: Option<&Guarantee>, code: &AccessCode) -> Option<Refusal>
-    ensures { result ≡ guarantee_refusal day code.now (option_map (λ g. g.now) guarantee.now) }
+// Why a line with a code is refused on a day: its guarantee, the code, the guarantee's end.
+fn refuse_line(
+    day: Day,
+    guarantees: &[Guarantee],
+    line: &Line,
+    code: &AccessCode,
+) -> Option<Refusal>
+    ensures { result ≡ guarantee_refusal day code.now (guarantee_with line.now.grn guarantees.now) }
 {
-    let Some(guarantee) = guarantee else {
+    let Some(guarantee) = find_guarantee(guarantees, &line.grn) else {
         return Some(Refusal::NoGuarantee);
     };
     if !guarantee.codes.has(code) {
@@ -164,7 +169,7 @@ fn find_refusal(day: Day, guarantees: &[Guarantee], lines: &[(Line, AccessCode)]
     ensures { result ≡ first_refusal day guarantees.now lines.now }
 {
     for (line, code) in lines {
-        let refusal = refuse(day, find_guarantee(guarantees, &line.grn), code);
+        let refusal = refuse_line(day, guarantees, line, code);
         if refusal.is_some() {
             return refusal;
         }
