@@ -44,7 +44,7 @@ pub fn lodge(
         return Ok(repeat(known, declaration, &lines));
     }
     let country = loaded.country;
-    let Some((serial, mrn)) = next_mrn(country, declaration.holder, at, row.mrn_count) else {
+    let Some(next) = next_mrn(country, declaration.holder, at, row.mrn_count) else {
         return Ok(Verdict::refused(Refusal::SerialsSpent));
     };
     let refusal = find_refusal(
@@ -57,10 +57,10 @@ pub fn lodge(
     }
     let row = HolderRow {
         last_at: at,
-        mrn_count: serial,
+        mrn_count: next.0,
         ..row
     };
-    Ok(accept(row, mrn, declaration, lines))
+    Ok(accept(row, next.1, declaration, lines))
 }
 
 // The verdict on a declaration under an LRN that the holder has used already.
@@ -83,12 +83,7 @@ fn repeat(known: &Movement, declaration: &Declaration<'_>, lines: &MovementLines
 }
 
 // The verdict on a declaration that nothing refuses: the holder's row as it is then, and the movement with this MRN.
-fn accept(
-    row: HolderRow,
-    mrn: Mrn,
-    declaration: &Declaration<'_>,
-    lines: MovementLines,
-) -> Verdict
+fn accept(row: HolderRow, mrn: Mrn, declaration: &Declaration<'_>, lines: MovementLines) -> Verdict
     ensures said { result.said ≡ Said.Answered (Answer.Ie028 declaration.now.lrn mrn) }
     ensures change { result.change ≡ Change.Declared row (record { mrn = mrn; lrn = declaration.now.lrn; departure = declaration.now.departure; destination = declaration.now.destination; accepted = day_of_moment row.last_at; lines = lines }) }
 {
