@@ -1,7 +1,8 @@
 //! A desk over a store that a fault may shut, as a desk over a file is.
 ghost use Rattle.std.specs.Prelude.{◌≡◌, ℕ, true, IfOk, OnOk, OnErr, IsTrue};
 ghost use Rattle.td_acts.specs.Book.{Book};
-ghost use Rattle.td_desk.specs.Content.{Content, IsSound, holder_in, changed};
+ghost use Rattle.td_desk.specs.Content.{Content, holder_in, changed};
+ghost use Rattle.td_desk.specs.Sound.{IsSound};
 ghost use Rattle.td_desk.specs.Runs.{IsTied, IsRun};
 
 use crate::{Decision, Desk, Fault, Outcome, PlainDesk, run};
