@@ -1,12 +1,12 @@
 -- What an accepted command of H writes: rows of H, in their ranges, that follow on the rows before.
-use Rattle.std.proofs.Common.{◌≡◌, ◌≢◌, ℕ, ◌+◌, ◌<◌, ◌≤◌, ◌^◌, Bool, true, false, List, [], ◌∷◌, length, map, Option, Some, None, refl, sym, ap, arith}
-use Rattle.std.specs.Prelude.{◌&&◌, not, nat_lt, nat_le, if◌then◌else◌, IfSome, IsSome, All, AllPairs}
+use Rattle.std.proofs.Common.{◌≡◌, ◌≢◌, ℕ, ◌+◌, ◌<◌, Bool, true, false, List, [], ◌∷◌, map, Option, Some, None, refl, ap, arith}
+use Rattle.std.specs.Prelude.{◌&&◌, not, nat_lt, nat_le, if◌then◌else◌, IfSome, IsSome}
 use Rattle.std.specs.Option.{is_some}
 use Rattle.std.specs.List.{AllByRecursion}
 use Rattle.std.proofs.lemmas.List.{length-map}
 use Rattle.std.proofs.lemmas.Bool.Decides.{nat_tests}
 use Rattle.td_base.specs.Codes.{IsAccessCode}
-use Rattle.td_base.specs.Days.{IsDay, day_of_moment, year_of}
+use Rattle.td_base.specs.Days.{IsDay, day_of_moment}
 use Rattle.td_base.specs.Moment.{IsMoment}
 use Rattle.td_base.specs.References.{grn_text, mrn_text}
 use Rattle.td_acts.specs.declared.lines.Line.{Line}
@@ -168,6 +168,7 @@ change_at_is_for H country o gs ms t command own proper moment = by_test (is_acc
   where
     account : Account
     account = record { country = country; holder = o; guarantees = gs; movements = ms }
+
     by_test : (b : Bool) → is_accepted_at account t command ≡ b → IsFor country H account (if b then rows_written account t command else change.Nothing)
     by_test true accepted = rows_are_for H country o gs ms t command own proper moment accepted
     by_test false other = tt

@@ -1,18 +1,15 @@
 -- What the rows of a decision do to the content.
-use Rattle.std.proofs.Common.{◌≡◌, ◌≢◌, ℕ, ℤ, ◌+◌, ◌≤◌, List, [], ◌∷◌, ◌++◌, length, Option, Some, None, refl, sym, ◌∙◌, ap, subst, arith, negsuc, pos, get_or}
-use Rattle.std.specs.Prelude.{IfSome, IsSome, All, AllPairs}
+use Rattle.std.proofs.Common.{◌≡◌, ◌≢◌, ℕ, ℤ, Option, Some, None, refl, sym, ◌∙◌, ap, subst, arith, negsuc, pos}
+use Rattle.std.specs.Prelude.{IfSome}
 use Rattle.std.proofs.lemmas.Bool.Decides.{nat_tests}
-use Rattle.std.proofs.lemmas.List.{length-append}
 use Rattle.td_base.specs.Moment.{IsMoment, moment_of}
 use Rattle.td_acts.specs.declared.rows.HolderRow.{HolderRow}
-use Rattle.td_acts.specs.declared.rows.Guarantee.{Guarantee}
-use Rattle.td_acts.specs.declared.rows.Movement.{Movement}
 use Rattle.td_acts.specs.declared.rows.Change.{Change}
 use Rattle.td_acts.specs.declared.rows.Change.TheVariants as change
 use Rattle.td_acts.specs.declared.command.Command.{Command}
 use Rattle.td_acts.specs.declared.command.Command.TheVariants.{Register, OpenGuarantee, Ie015, SeeHolder}
 use Rattle.td_acts.specs.declared.command.Stamped.{Stamped}
-use Rattle.td_acts.specs.Account.{Account, empty_account, guarantee_with, movement_with}
+use Rattle.td_acts.specs.Account.{Account, empty_account}
 use Rattle.td_acts.specs.Book.{account_of}
 use Rattle.td_acts.specs.Commands.{owner_of, IsProper}
 use Rattle.td_acts.specs.Machine.{book_after}

@@ -1,8 +1,7 @@
 -- Rows that follow on a holder's rows: the account with them, and the rules that they keep.
-use Rattle.std.proofs.Common.{◌≡◌, ◌≢◌, ℕ, zero, suc, ◌+◌, ◌<◌, ◌≤◌, Bool, true, false, List, [], ◌∷◌, ◌++◌, length, Option, Some, None, refl, sym, ◌∙◌, ap, subst, arith, get_or}
-use Rattle.std.specs.Prelude.{IfSome, IsSome, All, AllPairs, find, if◌then◌else◌}
+use Rattle.std.proofs.Common.{◌≡◌, ◌≢◌, ℕ, zero, suc, ◌+◌, ◌<◌, Bool, true, false, List, [], ◌∷◌, ◌++◌, length, Option, Some, None, refl, sym, subst, arith, get_or}
+use Rattle.std.specs.Prelude.{IfSome, IsSome, if◌then◌else◌}
 use Rattle.std.specs.Str.{bytes_eq}
-use Rattle.std.proofs.lemmas.Bool.Decides.{nat_tests}
 use Rattle.std.proofs.lemmas.List.{length-append}
 use Rattle.std.proofs.lemmas.Slice.Eq.{bytes_eq-Decides}
 use Rattle.td_base.specs.Moment.{IsMoment}
@@ -12,11 +11,11 @@ use Rattle.td_acts.specs.declared.rows.Guarantee.{Guarantee}
 use Rattle.td_acts.specs.declared.rows.Movement.{Movement}
 use Rattle.td_acts.specs.declared.rows.Change.{Change}
 use Rattle.td_acts.specs.declared.rows.Change.TheVariants as change
-use Rattle.td_acts.specs.Account.{Account, guarantee_with, movement_with}
+use Rattle.td_acts.specs.Account.{guarantee_with, movement_with}
 use Rattle.td_acts.specs.Deciding.{applied, row_in}
-use Rattle.td_desk.specs.Content.{HolderRows, account_with, written, rows_or_new, holder_key}
-use Rattle.td_desk.specs.Sound.{IsHolderRow, IsGuaranteeRow, AreMovementLines, IsMovementRow, AllNumbered, AreHolderRows}
-use Rattle.td_desk.proofs.Accepted.{IsFor, IsRegistered, IsOpened, IsDeclared}
+use Rattle.td_desk.specs.Content.{HolderRows, account_with, written, rows_or_new}
+use Rattle.td_desk.specs.Sound.{IsGuaranteeRow, AreMovementLines, IsMovementRow, AreHolderRows}
+use Rattle.td_desk.proofs.Accepted.{IsFor}
 use Rattle.td_desk.proofs.Joined.{AllPairs-append, AllNumbered-append, AllNumbered-weaker, AllByRecursion-weaker}
 
 -- the row of written rows is that of the change

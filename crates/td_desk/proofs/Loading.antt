@@ -79,9 +79,10 @@ module _ (all : List Guarantee) where
   -- and each line's guarantee is there, if it is among all
   each_there : (lines : List (Line × List ℕ)) → AllByRecursion (λ l. IsSome (look l) → IsSome (guarantee_with l.0.grn (taken lines))) lines
   each_there [] = tt
-  each_there (l ∷ lines) =
-      (λ some. some_in_front l.0.grn (look l) (taken lines) (found_has l.0.grn all) some,
-        AllByRecursion-weaker (λ m. IsSome (look m) → IsSome (guarantee_with m.0.grn (taken lines))) (λ m. IsSome (look m) → IsSome (guarantee_with m.0.grn (cons_option (look l) (taken lines)))) (λ m there some. some_in_more m.0.grn (look l) (taken lines) (there some)) lines (each_there lines))
+  each_there (l ∷ lines) = (
+    λ some. some_in_front l.0.grn (look l) (taken lines) (found_has l.0.grn all) some,
+    AllByRecursion-weaker (λ m. IsSome (look m) → IsSome (guarantee_with m.0.grn (taken lines))) (λ m. IsSome (look m) → IsSome (guarantee_with m.0.grn (cons_option (look l) (taken lines)))) (λ m there some. some_in_more m.0.grn (look l) (taken lines) (there some)) lines (each_there lines),
+  )
 
   -- each line's guarantee is found among those of the lines as among all
   pub each_found : (lines : List (Line × List ℕ)) → AllByRecursion (λ l. guarantee_with l.0.grn (taken lines) ≡ guarantee_with l.0.grn all) lines
@@ -106,9 +107,10 @@ found_alone lrn (Some m) has = rw ((bytes_eq-Decides m.lrn lrn).1 has) refl
 pub declaration_looked_up : (account : Account) (command : Command) (loaded : Loaded) (holder : ℕ) (lrn departure destination : List ℕ) (lines : List (Line × List ℕ)) → command ≡ Ie015 holder lrn departure destination lines
     → loaded.movements.items ≡ option_to_list (movement_with lrn account.movements) → loaded.guarantees.items ≡ taken account.guarantees lines → IsLookedUp account command loaded
 declaration_looked_up account command loaded holder lrn departure destination lines is movements guarantees =
-    subst (λ (k : Command). IsLookedUp account k loaded) (sym is)
-    (ap (movement_with lrn) movements ∙ found_alone lrn (movement_with lrn account.movements) (movement_has lrn account.movements),
-      subst (λ (gs : List Guarantee). AllByRecursion (λ l. guarantee_with l.0.grn gs ≡ guarantee_with l.0.grn account.guarantees) lines) (sym guarantees) (each_found account.guarantees lines))
+    subst (λ (k : Command). IsLookedUp account k loaded) (sym is) (
+      ap (movement_with lrn) movements ∙ found_alone lrn (movement_with lrn account.movements) (movement_has lrn account.movements),
+      subst (λ (gs : List Guarantee). AllByRecursion (λ l. guarantee_with l.0.grn gs ≡ guarantee_with l.0.grn account.guarantees) lines) (sym guarantees) (each_found account.guarantees lines),
+    )
 
 -- of other commands nothing is looked up
 pub nothing_looked_up : (account : Account) (command : Command) (loaded : Loaded) → ((holder : ℕ) (lrn departure destination : List ℕ) (lines : List (Line × List ℕ)) → command ≡ Ie015 holder lrn departure destination lines → ⊥) → IsLookedUp account command loaded

@@ -2,7 +2,6 @@ use Rattle.std.proofs.Common.{◌≡◌, ◌≢◌, ◌<◌, length, get_or, sym
 use Rattle.std.proofs.lemmas.Bool.Decides.{nat_tests}
 use Rattle.std.proofs.lemmas.List.{get_or_default}
 use Rattle.std.proofs.lemmas.Result.{on_ok_weaker}
-use Rattle.std.specs.Prelude.{insert}
 use Rattle.td_desk.specs.Content.{HolderRows, written, holder_key}
 use Rattle.td_desk.specs.Rows.{Rises}
 use Rattle.td_desk.proofs.Places.{below}
@@ -21,7 +20,7 @@ returns-then-eq-clause-ok c =
     let same : old.row.holder ≡ c.args.row.holder = ap holder_key (c.index_mut.ensures.value ∙ get_or_default files n old c.index.result.now within ∙ sym c.index.ensures) ∙ there in
     on_ok_weaker c.write.result
     (stored_in_place files c.args.row c.args.change n c.requires.order c.requires.row (c.holders_below-at.ensures.value ∙ ap (below holder_key c.args.row.holder) c.deref.ensures.value)
-      c.write.new.self old within c.index_mut.ensures.value same)
+    c.write.new.self old within c.index_mut.ensures.value same)
     c.write.ensures.ok
 
 -- the order stays
@@ -49,7 +48,7 @@ returns-clause-ok c =
     ] in
     c.in_ok-insert.ensures.items
     ∙ (stored_new files c.args.row c.args.change n c.requires.order c.requires.row (c.holders_below-at.ensures.value ∙ ap (below holder_key c.args.row.holder) c.deref.ensures.value)
-      c.write-2.new.self other (c.in_ok-write.ensures.ok ∙ ap (written c.args.change) c.new-file.ensures))
+    c.write-2.new.self other (c.in_ok-write.ensures.ok ∙ ap (written c.args.change) c.new-file.ensures))
 
 -- the order stays
 pub returns-clause-order : goal.returns-clause-order
@@ -64,4 +63,4 @@ returns-clause-order c =
     ] in
     subst (Rises holder_key 0) (sym c.in_ok-insert.ensures.items)
     (order_new files c.args.row c.args.change n c.requires.order c.requires.row (c.holders_below-at.ensures.value ∙ ap (below holder_key c.args.row.holder) c.deref.ensures.value)
-      c.write-2.new.self other (c.in_ok-write.ensures.ok ∙ ap (written c.args.change) c.new-file.ensures))
+    c.write-2.new.self other (c.in_ok-write.ensures.ok ∙ ap (written c.args.change) c.new-file.ensures))
