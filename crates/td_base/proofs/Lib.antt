@@ -7,7 +7,7 @@ mod Decimals
 mod Amounts
 mod ReferenceParts
 mod Owners
-mod Checked
+pub mod Checked
 pub mod MadeReferences
 mod Written
 mod Calendar

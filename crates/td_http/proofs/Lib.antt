@@ -16,6 +16,7 @@ mod Fitting
 mod PathTexts
 mod RouteFacts
 mod BodyFacts
+mod LineFacts
 mod EoriText
 mod Handling
 mod Served
