@@ -26,7 +26,7 @@ StopsAs remaining new before after rest Closed = (rest ≡ []) × HasEnded remai
 StopsAs remaining new before after rest Cut = (0 < length rest) × IsOpen rest × HasEnded remaining new before after
 StopsAs remaining new before after rest ReadsSpent = IsOpen rest × (after ≡ 0)
 StopsAs remaining new before after rest ReadFault = IsOpen rest × (has_failed new ≡ true) × (after < before)
-StopsAs remaining new before after rest NoMemory = IsOpen rest ⊎ BeginsServed rest
+StopsAs remaining new before after rest NoMemory = (rest ≡ []) ⊎ BeginsServed rest
 StopsAs remaining new before after rest (Refused e) = IsRefusedFor e rest
 StopsAs remaining new before after rest (Head target) = IsHeadRequest target.items rest
 

@@ -65,7 +65,7 @@ abbrev pub IsParting : {H : Type 0} → (H → List ℕ → Reply → H → Type
 IsParting heads old new rest silence = new ≡ old
 IsParting heads old new rest (refusal e) = (new ≡ old) × IsRefusedFor e rest
 IsParting heads old new rest (to_head target reply) = heads old target reply new × IsHeadRequest target rest
-IsParting heads old new rest no_memory = (new ≡ old) × (IsOpen rest ⊎ BeginsServed rest)
+IsParting heads old new rest no_memory = (new ≡ old) × ((rest ≡ []) ⊎ BeginsServed rest)
 
 -- the sides of a stream: where it is read, where replies are written, who tells the time, who answers
 pub record Sides (R W C H : Type 0) : Type 0 where
