@@ -1,5 +1,5 @@
 //! Serving a stream of requests.
-ghost use Rattle.std.specs.Prelude.{◌||◌, ℤ};
+ghost use Rattle.std.specs.Prelude.{◌||◌};
 ghost use Rattle.td_http.specs.Request.{asked};
 ghost use Rattle.td_http.specs.Farewell.{Farewell};
 ghost use Rattle.td_http.specs.Stream.{Serves};
@@ -65,21 +65,19 @@ pub trait Handler {
         ensures { answers_head self.old target.now result self.new };
 }
 
-/// The reply to a request that came whole, at the moment that the clock gives now. The last one of a stream closes it.
-fn answer<C: Clock, H: Handler>(
+/// The reply to a request that came whole at this moment. The last one of a stream closes it.
+fn answer<H: Handler>(
     alloc: Global,
-    clock: &mut C,
+    at: i64,
     handler: &mut H,
     mut request: Request,
     last: bool,
 ) -> Reply
-    ensures { (at : ℤ) × C.ticks clock.old at clock.new
-        × H.answers handler.old at (record (asked request) { close = request.close || last }) result handler.new }
+    ensures { H.answers handler.old at (record (asked request) { close = request.close || last }) result handler.new }
 {
     if last {
         request.close = true;
     }
-    let at = clock.seconds();
     handler.handle(alloc, at, &request)
 }
 
@@ -147,7 +145,8 @@ pub fn serve_requests<R: Read, W: Write, C: Clock, H: Handler>(
             Err(stop) => return end_stream(alloc, writer, handler, stop),
         };
         let asks = request.close;
-        let reply = answer(alloc, clock, handler, request, served + 1 == MAX_REQUESTS);
+        let at = clock.seconds();
+        let reply = answer(alloc, at, handler, request, served + 1 == MAX_REQUESTS);
         if !send(writer, reply.as_bytes()) {
             return StreamEnd::WriteFault;
         }
