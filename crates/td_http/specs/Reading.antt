@@ -2,8 +2,7 @@
 use Rattle.std.specs.Prelude.{◌≡◌, ℕ, ◌-◌, ◌<◌, ◌≤◌, ◌⊎◌, true, List, [], ◌++◌, length, Option}
 use Rattle.std.specs.Io.KnownBytes.{Consumes, IsAtEnd}
 use Rattle.td_base.specs.declared.counted.Counted.{Counted}
-use Rattle.td_base.specs.Counted.{calls_of, has_failed, known_bytes}
-use Rattle.td_http.specs.Calls.{HasMade}
+use Rattle.td_base.specs.Counted.{calls_of, has_failed, known_bytes, HasMade}
 use Rattle.td_http.specs.declared.request.Request.{Request}
 use Rattle.td_http.specs.declared.reading.Stop.{Stop}
 use Rattle.td_http.specs.declared.reading.Stop.TheVariants.{Closed, Cut, ReadsSpent, ReadFault, NoMemory, Refused, Head}

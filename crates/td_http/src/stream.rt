@@ -9,10 +9,9 @@ use crate::input::Input;
 use crate::reading::{Stop, read_request};
 use crate::reply::Reply;
 use crate::request::Request;
-use crate::sending::send;
 use std::alloc::Global;
 use std::io::{Read, Write};
-use td_base::Counted;
+use td_base::{Counted, write_whole};
 
 /// The most requests of a stream.
 const MAX_REQUESTS: u32 = 1000;
@@ -96,14 +95,14 @@ fn end_stream<W: Write, H: Handler>(
         Stop::ReadsSpent => StreamEnd::ReadsSpent,
         Stop::ReadFault => StreamEnd::ReadFault,
         Stop::NoMemory => {
-            if send(writer, Reply::NoMemory.as_bytes()) {
+            if write_whole(writer, Reply::NoMemory.as_bytes()) {
                 StreamEnd::Failed
             } else {
                 StreamEnd::WriteFault
             }
         }
         Stop::Refused(e) => {
-            if send(writer, e.reply()) {
+            if write_whole(writer, e.reply()) {
                 StreamEnd::Refused
             } else {
                 StreamEnd::WriteFault
@@ -111,7 +110,7 @@ fn end_stream<W: Write, H: Handler>(
         }
         Stop::Head(target) => {
             let reply = handler.head(alloc, &target);
-            if !send(writer, reply.as_bytes()) {
+            if !write_whole(writer, reply.as_bytes()) {
                 StreamEnd::WriteFault
             } else if reply.is_made() {
                 StreamEnd::Refused
@@ -147,7 +146,7 @@ pub fn serve_requests<R: Read, W: Write, C: Clock, H: Handler>(
         let asks = request.close;
         let at = clock.seconds();
         let reply = answer(alloc, at, handler, request, served + 1 == MAX_REQUESTS);
-        if !send(writer, reply.as_bytes()) {
+        if !write_whole(writer, reply.as_bytes()) {
             return StreamEnd::WriteFault;
         }
         if !reply.is_made() {

@@ -25,30 +25,30 @@ loop-served-init g c = serving_first _ _ _ c.new-input.ensures
 pub loop-served-preserved : goal.loop-served-preserved
 loop-served-preserved g c =
     let h = handled_here g (goal.at.loop-served-preserved g c).After-answer-reply in
-    let sent = rw c.as_bytes.ensures at (c.if-not-send.ensures.whole refl) in
-    goes_on h _ sent c.if-not-send.ensures.writes (sym c.if-not-is_made.ensures) c.if-asks.false
+    let sent = rw c.as_bytes.ensures at (c.if-not-write_whole.ensures.whole refl) in
+    goes_on h _ sent c.if-not-write_whole.ensures.writes (sym c.if-not-is_made.ensures) c.if-asks.false
 
 pub returns-in-Err : goal.returns-in-Err
 returns-in-Err g c =
     let read = c.in-Err.ensures in
     stopped c.loop-served.invariant c.loop-served-test.true _ _ _ read.1 _ _ _ c.in-Err.stop read.2 c.end_stream.ensures
 
-pub returns-then-not-send : goal.returns-then-not-send
-returns-then-not-send g c =
-    let h = handled_here g (goal.at.returns-then-not-send g c).After-answer-reply in
-    let cut = rw c.as_bytes.ensures at (c.if-not-send.ensures.cut refl) in
-    cut_reply h c.loop-served-test.true _ cut c.if-not-send.ensures.writes
+pub returns-then-not-write_whole : goal.returns-then-not-write_whole
+returns-then-not-write_whole g c =
+    let h = handled_here g (goal.at.returns-then-not-write_whole g c).After-answer-reply in
+    let cut = rw c.as_bytes.ensures at (c.if-not-write_whole.ensures.cut refl) in
+    cut_reply h c.loop-served-test.true _ cut c.if-not-write_whole.ensures.writes
 
 pub returns-then-not-is_made : goal.returns-then-not-is_made
 returns-then-not-is_made g c =
     let h = handled_here g (goal.at.returns-then-not-is_made g c).After-answer-reply in
-    let sent = rw c.as_bytes.ensures at (c.if-not-send.ensures.whole refl) in
+    let sent = rw c.as_bytes.ensures at (c.if-not-write_whole.ensures.whole refl) in
     fixed_reply h c.loop-served-test.true _ sent (sym c.if-not-is_made.ensures)
 
 pub returns-then-asks : goal.returns-then-asks
 returns-then-asks g c =
     let h = handled_here g (goal.at.returns-then-asks g c).After-answer-reply in
-    let sent = rw c.as_bytes.ensures at (c.if-not-send.ensures.whole refl) in
+    let sent = rw c.as_bytes.ensures at (c.if-not-write_whole.ensures.whole refl) in
     asked_reply h c.loop-served-test.true _ sent (sym c.if-not-is_made.ensures) c.if-asks.true
 
 pub returns : goal.returns
