@@ -1,5 +1,6 @@
 mod Filled
 pub mod Counts
+pub mod Calls
 mod Slices
 mod Sums
 mod Ascii

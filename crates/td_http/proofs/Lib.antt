@@ -4,8 +4,6 @@ mod Fields
 mod Heads
 mod Lengths
 mod Refused
-mod Slices
-mod Calls
 mod Readings
 mod Serving
 mod Ends

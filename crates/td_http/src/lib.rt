@@ -16,7 +16,6 @@ mod reading;
 mod reply;
 mod request;
 mod routes;
-mod sending;
 mod service;
 mod stream;
 mod table;
