@@ -47,8 +47,16 @@ account_of-appended : (H : ℕ) (book : Book) (t : ℕ) (command : Command) → 
 account_of-appended H book t command =
     let a : Act = record { at = t; command = command } in
     let country = book.opening.country in
-    rw (eori_in-append _ book.acts a, last_in-append _ book.acts a, serial_in-append openings _ book.acts a, serial_in-append declarations _ book.acts a,
-      made_in-append (opened_by country H) openings (grn_count_before book) book.acts a, made_in-append (declared_by country H) declarations (mrn_count_before book) book.acts a, append_assoc, append_assoc) refl
+    rw (
+      eori_in-append _ book.acts a,
+      last_in-append _ book.acts a,
+      serial_in-append openings _ book.acts a,
+      serial_in-append declarations _ book.acts a,
+      made_in-append (opened_by country H) openings (grn_count_before book) book.acts a,
+      made_in-append (declared_by country H) declarations (mrn_count_before book) book.acts a,
+      append_assoc,
+      append_assoc,
+    ) refl
 
 -- The parts of the account grow by the rows of an accepted command. Where nobody is registered, no serial was used.
 step_made : (H : ℕ) (country : List ℕ) (e : Option (List ℕ)) (at g m t : ℕ) (gs : List Guarantee) (ms : List Movement) (command : Command) → (e ≡ None → (g ≡ 0) × (m ≡ 0))

@@ -1,3 +1,5 @@
 pub mod Growing
+mod Earlier
+mod Lodging
 pub mod Machines
 pub mod Written

@@ -49,11 +49,11 @@ abbrev pub rows_written : Account → ℕ → Command → Change
 rows_written account t (Register holder eori) =
     change.Registered (record { holder = holder; eori = eori; last_at = t; grn_count = 0; mrn_count = 0 })
 rows_written account t (OpenGuarantee holder reference cover code) = if_row account.holder (λ row. change.Opened
-      (record row { last_at = t; grn_count = row.grn_count + 1 })
-      (record { grn = grn_text (year2_at t) account.country holder (row.grn_count + 1); reference = reference; cover = cover; ends = None; codes = code ∷ [] }))
+    (record row { last_at = t; grn_count = row.grn_count + 1 })
+    (record { grn = grn_text (year2_at t) account.country holder (row.grn_count + 1); reference = reference; cover = cover; ends = None; codes = code ∷ [] }))
 rows_written account t (Ie015 holder lrn departure destination lines) = if_row account.holder (λ row. change.Declared
-      (record row { last_at = t; mrn_count = row.mrn_count + 1 })
-      (record { mrn = mrn_text (year2_at t) account.country holder (row.mrn_count + 1); lrn = lrn; departure = departure; destination = destination; accepted = day_of_moment t; lines = map line_of lines }))
+    (record row { last_at = t; mrn_count = row.mrn_count + 1 })
+    (record { mrn = mrn_text (year2_at t) account.country holder (row.mrn_count + 1); lrn = lrn; departure = departure; destination = destination; accepted = day_of_moment t; lines = map line_of lines }))
 rows_written account t (SeeHolder holder) = change.Nothing
 
 -- those rows where it is accepted, else nothing

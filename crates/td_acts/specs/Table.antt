@@ -56,19 +56,19 @@ said_on_register account holder eori = if_unknown account.holder (Answered (answ
 abbrev pub said_on_open : Account → ℕ → ℕ → Said
 said_on_open account t holder =
     if_registered account.holder (λ row.
-      if_not_back t row
-      (if_serials_left 999999 row.grn_count
-      (Answered (answer.Opened (grn_text (year2_at t) account.country holder (row.grn_count + 1))))))
+    if_not_back t row
+    (if_serials_left 999999 row.grn_count
+    (Answered (answer.Opened (grn_text (year2_at t) account.country holder (row.grn_count + 1))))))
 
 -- A declaration (IE015): answered with the MRN of the year of the moment and the holder's next serial (IE028).
 abbrev pub said_on_ie015 : Account → ℕ → ℕ → List ℕ → List ℕ → List ℕ → List (Line × List ℕ) → Said
 said_on_ie015 account t holder lrn departure destination lines =
     if_registered account.holder (λ row.
-      if_not_back t row
-      (if_lrn_new (movement_with lrn account.movements) (has_contents departure destination (map line_of lines))
-      (if_serials_left 9999999 row.mrn_count
-      (if_not_refused (first_refusal (day_of_moment t) account.guarantees lines)
-      (Answered (answer.Ie028 lrn (mrn_text (year2_at t) account.country holder (row.mrn_count + 1))))))))
+    if_not_back t row
+    (if_lrn_new (movement_with lrn account.movements) (has_contents departure destination (map line_of lines))
+    (if_serials_left 9999999 row.mrn_count
+    (if_not_refused (first_refusal (day_of_moment t) account.guarantees lines)
+    (Answered (answer.Ie028 lrn (mrn_text (year2_at t) account.country holder (row.mrn_count + 1))))))))
 
 -- A view of a holder: the EORI and the holder's own counts.
 abbrev pub said_on_see_holder : Account → Said

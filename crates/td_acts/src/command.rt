@@ -9,7 +9,10 @@ use td_base::{AccessCode, Country, Cover, Eori, HolderNo, Lrn, OfficeNo, Referen
 #[derive(Debug, Drop)]
 pub enum Command {
     /// An office registers a holder under a number, with an EORI. Two holders may have the same EORI.
-    Register { holder: HolderNo, eori: Eori },
+    Register {
+        holder: HolderNo,
+        eori: Eori,
+    },
     /// An office opens a comprehensive guarantee for a holder, with one access code.
     OpenGuarantee {
         holder: HolderNo,
@@ -26,7 +29,9 @@ pub enum Command {
         lines: Lines,
     },
     /// The holder's EORI, and how many guarantees and movements the holder has.
-    SeeHolder { holder: HolderNo },
+    SeeHolder {
+        holder: HolderNo,
+    },
 }
 
 /// A command, and the moment at which it came, in seconds since 1970-01-01T00:00:00Z.

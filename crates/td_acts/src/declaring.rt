@@ -44,7 +44,7 @@ pub fn lodge(
         return Ok(repeat(known, declaration, &lines));
     }
     let country = loaded.country;
-    let Some((serial, mrn)) = next_mrn(country, declaration.holder, at, row.mrn_count) else {
+    let Some(next) = next_mrn(country, declaration.holder, at, row.mrn_count) else {
         return Ok(Verdict::refused(Refusal::SerialsSpent));
     };
     let refusal = find_refusal(
@@ -57,10 +57,10 @@ pub fn lodge(
     }
     let row = HolderRow {
         last_at: at,
-        mrn_count: serial,
+        mrn_count: next.0,
         ..row
     };
-    Ok(accept(row, mrn, declaration, lines))
+    Ok(accept(row, next.1, declaration, lines))
 }
 
 // The verdict on a declaration under an LRN that the holder has used already.
@@ -83,12 +83,7 @@ fn repeat(known: &Movement, declaration: &Declaration<'_>, lines: &MovementLines
 }
 
 // The verdict on a declaration that nothing refuses: the holder's row as it is then, and the movement with this MRN.
-fn accept(
-    row: HolderRow,
-    mrn: Mrn,
-    declaration: &Declaration<'_>,
-    lines: MovementLines,
-) -> Verdict
+fn accept(row: HolderRow, mrn: Mrn, declaration: &Declaration<'_>, lines: MovementLines) -> Verdict
     ensures said { result.said ≡ Said.Answered (Answer.Ie028 declaration.now.lrn mrn) }
     ensures change { result.change ≡ Change.Declared row (record { mrn = mrn; lrn = declaration.now.lrn; departure = declaration.now.departure; destination = declaration.now.destination; accepted = day_of_moment row.last_at; lines = lines }) }
 {
@@ -114,7 +109,7 @@ fn find_movement<'a>(movements: &'a [Movement], lrn: &Lrn) -> Option<&'a Movemen
     ensures { option_map (λ found. found.now) result ≡ movement_with lrn.now movements.now }
 {
     for movement in movements {
-        if movement.lrn == *lrn {
+        if movement.lrn.as_bytes() == lrn.as_bytes() {
             return Some(movement);
         }
     }
@@ -143,11 +138,16 @@ fn has_ended(ends: Option<Day>, day: Day) -> bool
     }
 }
 
-// Why nothing is lodged on a guarantee with a code on a day: the guarantee, the code, the guarantee's end.
-fn refuse(day: Day, guarantee: Option<&Guarantee>, code: &AccessCode) -> Option<Refusal>
-    ensures { result ≡ guarantee_refusal day code.now (option_map (λ g. g.now) guarantee.now) }
+// Why a line with a code is refused on a day: its guarantee, the code, the guarantee's end.
+fn refuse_line(
+    day: Day,
+    guarantees: &[Guarantee],
+    line: &Line,
+    code: &AccessCode,
+) -> Option<Refusal>
+    ensures { result ≡ guarantee_refusal day code.now (guarantee_with line.now.grn guarantees.now) }
 {
-    let Some(guarantee) = guarantee else {
+    let Some(guarantee) = find_guarantee(guarantees, &line.grn) else {
         return Some(Refusal::NoGuarantee);
     };
     if !guarantee.codes.has(code) {
@@ -164,7 +164,7 @@ fn find_refusal(day: Day, guarantees: &[Guarantee], lines: &[(Line, AccessCode)]
     ensures { result ≡ first_refusal day guarantees.now lines.now }
 {
     for (line, code) in lines {
-        let refusal = refuse(day, find_guarantee(guarantees, &line.grn), code);
+        let refusal = refuse_line(day, guarantees, line, code);
         if refusal.is_some() {
             return refusal;
         }

@@ -14,9 +14,14 @@ pub enum Answer {
         movements: u32,
     },
     /// To an opening: the GRN of the new guarantee.
-    Opened { grn: Grn },
+    Opened {
+        grn: Grn,
+    },
     /// To a declaration: MRN allocated (IE028), for the declaration's LRN.
-    Ie028 { lrn: Lrn, mrn: Mrn },
+    Ie028 {
+        lrn: Lrn,
+        mrn: Mrn,
+    },
 }
 
 /// Why a command is refused.
