@@ -1,7 +1,16 @@
 //! The program's jobs, over readers and writers in memory. Expected bytes are those of the desk's formats, written out.
+mod declarations;
 mod devices;
+mod exchanges;
 mod first_requests;
+mod many_declarations;
+mod many_holders;
+mod moments;
+mod openings;
+mod privacy;
+mod repeats;
 mod streams;
+mod texts;
 mod wrong_words;
 
 use crate::perform::perform;
@@ -27,7 +36,11 @@ fn words_of(alloc: Global, words: &[&str]) -> Result<Vec<String>, AllocError> {
 }
 
 /// Does the job of the words over any reader.
-fn perform_over<R: Read>(rt: &HostRuntime, words: &[&str], reader: R) -> Result<Done, Fail>
+fn perform_over<R: Read>(
+    rt: &(impl AllocGlobal + std::rt::Clock),
+    words: &[&str],
+    reader: R,
+) -> Result<Done, Fail>
 where
     R: Drop,
 {

@@ -1,6 +1,7 @@
-//! Readers and writers for the tests.
+//! Readers, writers and clocks for the tests.
 use std::io;
 use std::io::{ErrorKind, Read, Write};
+use td_http::Clock;
 
 /// Gives the bytes one a read, and then the end or a failure.
 #[derive(Drop)]
@@ -69,5 +70,25 @@ impl Write for Narrow {
 
     fn flush(&mut self) -> io::Result<()> {
         Ok(())
+    }
+}
+
+/// Shows these moments one after the other, and -1 after the last.
+#[derive(Drop)]
+pub struct Moments<'a> {
+    pub left: &'a [i64],
+}
+
+impl Clock for Moments<'_> {
+    ghost ticks = { λ _ _ _. Unit {0} };
+
+    fn seconds(&mut self) -> i64 {
+        match self.left {
+            [first, rest @ ..] => {
+                self.left = rest;
+                *first
+            }
+            [] => -1,
+        }
     }
 }

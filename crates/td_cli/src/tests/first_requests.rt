@@ -3,12 +3,15 @@ use super::devices::Drip;
 use super::{WORDS, perform_over, pipe};
 use std::test::Fail;
 
-const REGISTER: &[u8] =
+/// Registers holder 000001.
+pub const REGISTER: &[u8] =
     b"PUT /office/holders/000001 HTTP/1.1\r\nContent-Length: 20\r\n\r\n{\"eori\":\"CH1234567\"}";
 
-const SEE: &[u8] = b"GET /holders/000001 HTTP/1.1\r\n\r\n";
+/// Asks to see holder 000001.
+pub const SEE: &[u8] = b"GET /holders/000001 HTTP/1.1\r\n\r\n";
 
-const SHOWN: &[u8] =
+/// Holder 000001 without guarantees and movements.
+pub const SHOWN: &[u8] =
     b"HTTP/1.1 200 OK\r\nContent-Type: application/json\r\nContent-Length: 67\r\n\r\n{\"eori\":\"CH1234567\",\"guarantees\":0,\"holder\":\"000001\",\"movements\":0}";
 
 #[test]
