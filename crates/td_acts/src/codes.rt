@@ -30,13 +30,6 @@ impl Codes {
         Ok(Codes { items })
     }
 
-    /// The codes, in order.
-    pub fn as_slice(&self) -> &[AccessCode]
-        ensures { result.now ≡ self.now }
-    {
-        self.items.as_slice()
-    }
-
     /// Whether a code is one of them.
     pub fn has(&self, code: &AccessCode) -> bool
         ensures { result ≡ list_any (λ c. bytes_eq c code.now) self.now }
@@ -48,7 +41,7 @@ impl Codes {
     pub fn copy(&self, alloc: Global) -> Result<Self, AllocError>
         ensures { IfOk result (λ codes. codes ≡ self.now) }
     {
-        let items = Vec::from_slice(alloc, self.items.as_slice())?;
+        let items = Vec::from_slice(alloc, &self.items)?;
         Ok(Codes { items })
     }
 }

@@ -57,7 +57,7 @@ impl Lines {
         ensures value { result.now ≡ self.now }
         ensures form { IsLines self.now }
     {
-        self.items.as_slice()
+        &self.items[..]
     }
 
     /// The lines without their codes, as a movement keeps them. `AllocError`: want of memory.
@@ -116,13 +116,6 @@ impl Model for MovementLines {
 }
 
 impl MovementLines {
-    /// These lines, in order.
-    pub fn new(items: Vec<Line>) -> Self
-        ensures { result ≡ items.items }
-    {
-        MovementLines { items }
-    }
-
     /// The lines, in order.
     pub fn as_slice(&self) -> &[Line]
         ensures { result.now ≡ self.now }
@@ -134,7 +127,7 @@ impl MovementLines {
     pub fn copy(&self, alloc: Global) -> Result<Self, AllocError>
         ensures { IfOk result (λ lines. lines ≡ self.now) }
     {
-        let items = Vec::from_slice(alloc, self.items.as_slice())?;
+        let items = Vec::from_slice(alloc, &self.items)?;
         Ok(MovementLines { items })
     }
 }
