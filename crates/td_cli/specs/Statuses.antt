@@ -1,5 +1,11 @@
--- The program's statuses.
-use Rattle.std.specs.Prelude.{ℕ, Option, None, Some}
+-- The program's statuses, and what it says beside the replies.
+use Rattle.std.specs.Prelude.{◌≡◌, ◌⊎◌, ℕ, List, [], codes, string_bytes, Option, None, Some}
+use Rattle.std.specs.Io.KnownBytes.{Appends}
+use Rattle.td_base.specs.declared.counted.Counted.{Counted}
+use Rattle.td_base.specs.Counted.{known_bytes}
+use Rattle.td_base.specs.Writing.{IsCutShort}
+use Rattle.td_cli.specs.declared.words.NoJob.{NoJob}
+use Rattle.td_cli.specs.declared.words.NoJob.TheVariants.{Help, Wrong, NoMemory}
 use Rattle.td_http.specs.declared.stream.StreamEnd.{StreamEnd}
 use Rattle.td_http.specs.declared.stream.StreamEnd.TheVariants.{Closed, Asked, Served, Refused, Cut, ReadsSpent, ReadFault, WriteFault, Failed}
 
@@ -16,3 +22,30 @@ status_of_end (Some ReadFault) = 1
 status_of_end (Some WriteFault) = 1
 status_of_end (Some Failed) = 1
 status_of_end None = 1
+
+-- the line on standard error, and none where the status is 0
+abbrev pub line_of_end : Option StreamEnd → List ℕ
+line_of_end (Some Closed) = []
+line_of_end (Some Asked) = []
+line_of_end (Some Served) = []
+line_of_end (Some Refused) = codes "transit-desk: stream refused\n"
+line_of_end (Some Cut) = codes "transit-desk: stream cut\n"
+line_of_end (Some ReadsSpent) = codes "transit-desk: stream reads-spent\n"
+line_of_end (Some ReadFault) = codes "transit-desk: stream read-fault\n"
+line_of_end (Some WriteFault) = codes "transit-desk: stream write-fault\n"
+line_of_end (Some Failed) = codes "transit-desk: stream failed\n"
+line_of_end None = codes "transit-desk: no-memory\n"
+
+-- the text was written, or as much of it as the writer took
+abbrev pub IsTold : {W : Type 0} → (W → Option (List ℕ)) → Counted W → Counted W → List ℕ → Type 0
+IsTold contents old new text = Appends (known_bytes contents old) (known_bytes contents new) text ⊎ IsCutShort contents old new text
+
+-- Words that ask for no job: help that was asked for goes to the first writer, and what is wrong is told to the second.
+abbrev pub IsAnswered : {W E : Type 0} → (W → Option (List ℕ)) → (E → Option (List ℕ)) → Counted W → Counted W → Counted E → Counted E → NoJob → ℕ → Type 0
+IsAnswered contents said out out_left errors errors_left (Help text) status =
+    ((status ≡ 0) × Appends (known_bytes contents out) (known_bytes contents out_left) (string_bytes text) × (errors_left ≡ errors))
+    ⊎ ((status ≡ 1) × IsCutShort contents out out_left (string_bytes text) × IsTold said errors errors_left (codes "transit-desk: write\n"))
+IsAnswered contents said out out_left errors errors_left (Wrong text) status =
+    (status ≡ 2) × (out_left ≡ out) × IsTold said errors errors_left (string_bytes text)
+IsAnswered contents said out out_left errors errors_left NoMemory status =
+    (status ≡ 1) × (out_left ≡ out) × IsTold said errors errors_left (codes "transit-desk: no-memory\n")

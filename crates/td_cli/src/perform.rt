@@ -1,7 +1,9 @@
 //! The jobs of the program.
-ghost use Rattle.std.specs.Prelude.{◌≡◌, IfSome};
+ghost use Rattle.std.specs.Prelude.{◌≡◌, ◌⊎◌, codes, Option, IfSome};
+ghost use Rattle.td_cli.specs.declared.words.NoJob.{NoJob};
+ghost use Rattle.td_http.specs.declared.stream.StreamEnd.{StreamEnd};
 ghost use Rattle.td_cli.specs.Piped.{IsPiped};
-ghost use Rattle.td_cli.specs.Statuses.{status_of_end};
+ghost use Rattle.td_cli.specs.Statuses.{status_of_end, line_of_end, IsTold, IsAnswered};
 
 use crate::clock::{FixedClock, MachineClock};
 use crate::words::{Job, NoJob, read_words};
@@ -27,7 +29,10 @@ pub fn perform<R: Read, W: Write, E: Write>(
     input: &mut Counted<R>,
     out: &mut Counted<W>,
     errors: &mut Counted<E>,
-) -> u8 {
+) -> u8
+    ensures { ((end : Option StreamEnd) × (result ≡ status_of_end end) × IsTold E.contents errors.old errors.new (line_of_end end))
+        ⊎ ((no_job : NoJob) × IsAnswered W.contents E.contents out.old out.new errors.old errors.new no_job result) }
+{
     match read_words(rt.alloc(), words) {
         Ok(job) => {
             let end = done(rt, &job, input, out);
@@ -52,7 +57,9 @@ fn done<R: Read, W: Write>(
 }
 
 // Says why the words ask for no job, and gives the status of it. Help that was asked for goes to `out`.
-fn told<W: Write, E: Write>(no_job: &NoJob, out: &mut Counted<W>, errors: &mut Counted<E>) -> u8 {
+fn told<W: Write, E: Write>(no_job: &NoJob, out: &mut Counted<W>, errors: &mut Counted<E>) -> u8
+    ensures { IsAnswered W.contents E.contents out.old out.new errors.old errors.new no_job.now result }
+{
     match no_job {
         NoJob::Help(text) => {
             if write_whole(out, text.as_bytes()) {
@@ -70,7 +77,10 @@ fn told<W: Write, E: Write>(no_job: &NoJob, out: &mut Counted<W>, errors: &mut C
 }
 
 /// The status where the words themselves couldn't be read: there was no memory for them, or they aren't text.
-pub(crate) fn unread_words<E: Write>(error: &io::Error, errors: &mut Counted<E>) -> u8 {
+pub(crate) fn unread_words<E: Write>(error: &io::Error, errors: &mut Counted<E>) -> u8
+    ensures { ((result ≡ 1) × IsTold E.contents errors.old errors.new (codes "transit-desk: no-memory\n"))
+        ⊎ ((result ≡ 2) × IsTold E.contents errors.old errors.new (codes "error: the words of the command line aren't UTF-8 text\n")) }
+{
     if error.kind() == ErrorKind::OutOfMemory {
         return fault(errors, "transit-desk: no-memory\n");
     }
@@ -83,7 +93,8 @@ pub(crate) fn unread_words<E: Write>(error: &io::Error, errors: &mut Counted<E>)
 
 // Says a fault, and gives its status.
 fn fault<E: Write>(errors: &mut Counted<E>, line: &str) -> u8
-    ensures { result ≡ 1 }
+    ensures status { result ≡ 1 }
+    ensures line { IsTold E.contents errors.old errors.new line.now }
 {
     let _said = write_whole(errors, line.as_bytes());
     FAULT
@@ -106,18 +117,29 @@ fn pipe<R: Read, W: Write, C: Clock + Drop>(
     Some(serve_stream(alloc, input, out, &mut clock, &mut service))
 }
 
-// The status of a stream that ended so; how it ended is said unless it is done.
+// The status where a stream ended so, or where there was no memory for the desk; a fault is said.
 fn status_of<E: Write>(end: Option<StreamEnd>, errors: &mut Counted<E>) -> u8
-    ensures { result ≡ status_of_end end }
+    ensures status { result ≡ status_of_end end }
+    ensures line { IsTold E.contents errors.old errors.new (line_of_end end) }
 {
     match end {
-        Some(StreamEnd::Closed | StreamEnd::Asked | StreamEnd::Served) => DONE,
-        Some(StreamEnd::Refused) => fault(errors, "transit-desk: stream refused\n"),
-        Some(StreamEnd::Cut) => fault(errors, "transit-desk: stream cut\n"),
-        Some(StreamEnd::ReadsSpent) => fault(errors, "transit-desk: stream reads-spent\n"),
-        Some(StreamEnd::ReadFault) => fault(errors, "transit-desk: stream read-fault\n"),
-        Some(StreamEnd::WriteFault) => fault(errors, "transit-desk: stream write-fault\n"),
-        Some(StreamEnd::Failed) => fault(errors, "transit-desk: stream failed\n"),
+        Some(end) => status_of_stream(end, errors),
         None => fault(errors, "transit-desk: no-memory\n"),
+    }
+}
+
+// The same for a stream.
+fn status_of_stream<E: Write>(end: StreamEnd, errors: &mut Counted<E>) -> u8
+    ensures status { result ≡ status_of_end (Some end) }
+    ensures line { IsTold E.contents errors.old errors.new (line_of_end (Some end)) }
+{
+    match end {
+        StreamEnd::Closed | StreamEnd::Asked | StreamEnd::Served => DONE,
+        StreamEnd::Refused => fault(errors, "transit-desk: stream refused\n"),
+        StreamEnd::Cut => fault(errors, "transit-desk: stream cut\n"),
+        StreamEnd::ReadsSpent => fault(errors, "transit-desk: stream reads-spent\n"),
+        StreamEnd::ReadFault => fault(errors, "transit-desk: stream read-fault\n"),
+        StreamEnd::WriteFault => fault(errors, "transit-desk: stream write-fault\n"),
+        StreamEnd::Failed => fault(errors, "transit-desk: stream failed\n"),
     }
 }
