@@ -39,6 +39,13 @@ is_change (change.Registered row) = true
 is_change (change.Opened row guarantee) = true
 is_change (change.Declared row movement) = true
 
+-- the holder's row in a change
+abbrev pub row_in : Change → Option HolderRow
+row_in change.Nothing = None
+row_in (change.Registered row) = Some row
+row_in (change.Opened row guarantee) = Some row
+row_in (change.Declared row movement) = Some row
+
 -- the rows for a registered holder
 abbrev pub if_row : Option HolderRow → (HolderRow → Change) → Change
 if_row None rows_for = change.Nothing

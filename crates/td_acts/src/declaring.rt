@@ -104,8 +104,8 @@ fn accept(row: HolderRow, mrn: Mrn, declaration: &Declaration<'_>, lines: Moveme
     }
 }
 
-// The movement with an LRN.
-fn find_movement<'a>(movements: &'a [Movement], lrn: &Lrn) -> Option<&'a Movement>
+/// The movement with exactly an LRN, if there is one.
+pub fn find_movement<'a>(movements: &'a [Movement], lrn: &Lrn) -> Option<&'a Movement>
     ensures { option_map (λ found. found.now) result ≡ movement_with lrn.now movements.now }
 {
     for movement in movements {
@@ -116,8 +116,8 @@ fn find_movement<'a>(movements: &'a [Movement], lrn: &Lrn) -> Option<&'a Movemen
     None
 }
 
-// The guarantee with exactly a GRN.
-fn find_guarantee<'a>(guarantees: &'a [Guarantee], grn: &Grn) -> Option<&'a Guarantee>
+/// The guarantee with exactly a GRN, if there is one.
+pub fn find_guarantee<'a>(guarantees: &'a [Guarantee], grn: &Grn) -> Option<&'a Guarantee>
     ensures { option_map (λ found. found.now) result ≡ guarantee_with grn.now guarantees.now }
 {
     for guarantee in guarantees {

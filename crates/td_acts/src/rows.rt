@@ -102,6 +102,22 @@ pub enum Change {
     Declared(HolderRow, Movement),
 }
 
+impl Change {
+    ghost use Rattle.td_acts.specs.Deciding.{row_in};
+
+    /// The holder's row in it, if there is something to write.
+    pub fn row(&self) -> Option<HolderRow>
+        ensures { result ≡ row_in self.now }
+    {
+        match self {
+            Change::Nothing => None,
+            Change::Registered(row) | Change::Opened(row, _) | Change::Declared(row, _) => {
+                Some(*row)
+            }
+        }
+    }
+}
+
 /// What is said to a command, and the rows to write for it.
 #[derive(Debug, Drop)]
 pub struct Verdict {

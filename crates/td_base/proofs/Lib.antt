@@ -1,5 +1,6 @@
 mod Filled
 pub mod Counts
+pub mod Calls
 mod Slices
 mod Sums
 mod Ascii
@@ -7,7 +8,7 @@ mod Decimals
 mod Amounts
 mod ReferenceParts
 mod Owners
-mod Checked
+pub mod Checked
 pub mod MadeReferences
 mod Written
 mod Calendar

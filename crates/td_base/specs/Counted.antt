@@ -26,6 +26,10 @@ inner_of c = c.inner
 abbrev pub HasCalled : ℕ → ℕ → Type 0
 HasCalled old new = (old < new) ⊎ (new ≡ 2 ^ 64 - 1)
 
+-- so many calls were made between two counts, unless the count has reached the top, where it stays
+abbrev pub HasMade : ℕ → ℕ → ℕ → Type 0
+HasMade calls old new = (new ≡ old + calls) ⊎ (2 ^ 64 - 1 ≤ new)
+
 -- no call was taken back
 abbrev pub HasNotFallen : ℕ → ℕ → Type 0
 HasNotFallen old new = (old ≤ new) ⊎ (new ≡ 2 ^ 64 - 1)

@@ -11,3 +11,4 @@ pub mod Money
 pub mod Days
 pub mod References
 pub mod Counted
+pub mod Writing

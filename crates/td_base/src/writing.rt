@@ -2,6 +2,7 @@
 ghost use Rattle.std.specs.Prelude.{◌≡◌, ◌≤◌, ℕ, length, take, true, false};
 ghost use Rattle.std.specs.Io.KnownBytes.{Appends};
 ghost use Rattle.td_base.specs.Counted.{calls_of, has_failed, known_bytes, HasCalled};
+ghost use Rattle.td_base.specs.Writing.{IsCutShort, MadeWrites};
 
 use crate::counted::Counted;
 use std::io::Write;
@@ -9,6 +10,9 @@ use std::io::Write;
 /// Writes the bytes, and answers whether all of them were taken. Otherwise a write failed or took nothing,
 /// and those before it were taken.
 pub fn write_whole<W: Write>(writer: &mut Counted<W>, bytes: &[u8]) -> bool
+    ensures whole { result ≡ true → Appends (known_bytes W.contents writer.old) (known_bytes W.contents writer.new) bytes.now }
+    ensures cut { result ≡ false → IsCutShort W.contents writer.old writer.new bytes.now }
+    ensures writes { MadeWrites writer.old writer.new result }
     ensures written { (n : ℕ) × (n ≤ length bytes.now)
         × Appends (known_bytes W.contents writer.old) (known_bytes W.contents writer.new) (take n bytes.now)
         × (result ≡ true → n ≡ length bytes.now) }

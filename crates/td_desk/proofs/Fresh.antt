@@ -1,16 +1,24 @@
 -- A holder's fresh book says what the rows are.
-use Rattle.std.proofs.Common.{◌≡◌, ℕ, Option, Some, None, refl}
+use Rattle.std.proofs.Common.{◌≡◌, ℕ, List, Option, Some, None, refl}
+use Rattle.std.specs.Prelude.{IfSome}
 use Rattle.std.specs.Option.{option_map}
+use Rattle.td_acts.specs.declared.command.Command.{Command}
 use Rattle.td_acts.specs.declared.rows.HolderRow.{HolderRow}
 use Rattle.td_acts.specs.Account.{IsAccountOf}
 use Rattle.td_acts.specs.Book.{account_of, IsBegun}
+use Rattle.td_acts.specs.Commands.{owner_of}
 use Rattle.td_acts.proofs.Growing.{account_fresh_book}
-use Rattle.td_desk.specs.Content.{Content, account_in, fresh, holder_in, holder_key}
+use Rattle.td_desk.specs.Content.{HolderRows, Content, account_with, account_in, rows_of, fresh, holder_key}
+use Rattle.td_desk.specs.Weighing.{account_for, owner_account, kept_for, kept_of}
 use Rattle.td_desk.proofs.Keyed.{row_at_has}
+
+number_with : (H : ℕ) (country : List ℕ) (o : Option HolderRows) → IfSome o (λ h. holder_key h ≡ H) → IfSome (account_with country o).holder (λ row. row.holder ≡ H)
+number_with H country None is = tt
+number_with H country (Some h) is = is
 
 -- the rows of H that are found are H's
 pub is_account_in : (H : ℕ) (rows : Content) → IsAccountOf H (account_in H rows)
-is_account_in H rows = record { number = row_at_has holder_key H rows.holders }
+is_account_in H rows = record { number = number_with H rows.country (rows_of H rows) (row_at_has holder_key H rows.holders) }
 
 -- a book that begins now says what the rows are
 pub account_fresh : (H : ℕ) (rows : Content) → account_of H (fresh H rows) ≡ account_in H rows
@@ -20,5 +28,14 @@ none_known : (o : Option HolderRow) → option_map (λ (r : HolderRow). r.eori) 
 none_known None e = refl
 none_known (Some r) e = cc
 
+-- a book that begins now is begun
 pub begun_fresh : (H : ℕ) (rows : Content) → IsBegun (fresh H rows)
-begun_fresh H rows = λ e. (refl, none_known (holder_in H rows.holders) e)
+begun_fresh H rows = λ e. (refl, none_known (account_in H rows).holder e)
+
+kept_is : (o : Option ℕ) (rows : Content) → account_for o rows ≡ kept_for o rows
+kept_is None rows = refl
+kept_is (Some H) rows = account_fresh H rows
+
+-- what the fresh book of a command's owner says is what the desk keeps of the owner
+pub owner_account_is_kept : (rows : Content) (command : Command) → owner_account rows command ≡ kept_of rows command
+owner_account_is_kept rows command = kept_is (owner_of rows.country command) rows

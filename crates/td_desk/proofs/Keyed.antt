@@ -29,3 +29,8 @@ module _ {R : Type 0} (key : R → ℕ) where
   pub All-put_row : (P : R → Type 0) (row : R) (rows : List R) → AllByRecursion P rows → P row → AllByRecursion P (put_row key row rows)
   All-put_row P row [] all one = (one, tt)
   All-put_row P row (r ∷ rows) all one = grind (arith, nat_tests, All-put_row P row rows all.1 one)
+
+  -- what holds of each row holds of the one that is found
+  pub All-row_at : (P : R → Type 0) (k : ℕ) (rows : List R) → AllByRecursion P rows → IfSome (row_at key k rows) P
+  All-row_at P k [] all = tt
+  All-row_at P k (r ∷ rows) all = grind (arith, nat_tests, All-row_at P k rows all.1)

@@ -1,6 +1,11 @@
 pub mod Keyed
+mod Joined
 mod Places
 pub mod Fresh
 pub mod Turns
+mod Accepted
+mod Following
+mod Loading
+mod Storing
 pub mod Carrying
 pub mod Weighed

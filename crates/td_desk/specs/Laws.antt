@@ -5,7 +5,8 @@ use Rattle.td_acts.specs.declared.command.Stamped.{Stamped}
 use Rattle.td_acts.specs.Account.{empty_account}
 use Rattle.td_acts.specs.Book.{Book, fresh_book}
 use Rattle.td_desk.specs.declared.running.Outcome.{Outcome}
-use Rattle.td_desk.specs.Content.{Content, fresh, IsSound, empty_content}
+use Rattle.td_desk.specs.Content.{Content, fresh, empty_content}
+use Rattle.td_desk.specs.Sound.{IsSound}
 use Rattle.td_desk.specs.Runs.{heard, told, IsTied, IsRun}
 
 -- an empty desk is sound, and tied to empty books

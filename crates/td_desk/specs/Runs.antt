@@ -8,7 +8,8 @@ use Rattle.td_acts.specs.Table.{said}
 use Rattle.td_acts.specs.Machine.{machine_says, machine_book}
 use Rattle.td_desk.specs.declared.running.Outcome.{Outcome}
 use Rattle.td_desk.specs.declared.running.Outcome.TheVariants as outcome
-use Rattle.td_desk.specs.Content.{Content, account_in, IsSound}
+use Rattle.td_desk.specs.Content.{Content, account_in}
+use Rattle.td_desk.specs.Sound.{IsSound}
 use Rattle.td_desk.specs.Weighing.{owner_account, Carries}
 
 abbrev pub is_holder : ℕ → Option ℕ → Bool

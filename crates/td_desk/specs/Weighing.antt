@@ -10,7 +10,8 @@ use Rattle.td_acts.specs.Table.{said}
 use Rattle.td_acts.specs.Acceptance.{is_accepted}
 use Rattle.td_acts.specs.Machine.{book_after}
 use Rattle.td_acts.specs.Deciding.{decided, is_change}
-use Rattle.td_desk.specs.Content.{Content, account_in, fresh, IsSound}
+use Rattle.td_desk.specs.Content.{Content, account_in, fresh}
+use Rattle.td_desk.specs.Sound.{IsSound}
 
 -- what the fresh book of a command's owner says; over a command that nobody owns there is nothing to say
 abbrev pub account_for : Option ℕ → Content → Account
@@ -19,6 +20,14 @@ account_for (Some H) rows = account_of H (fresh H rows)
 
 abbrev pub owner_account : Content → Command → Account
 owner_account rows command = account_for (owner_of rows.country command) rows
+
+-- what the desk keeps of a command's owner
+abbrev pub kept_for : Option ℕ → Content → Account
+kept_for None rows = empty_account rows.country
+kept_for (Some H) rows = account_in H rows
+
+abbrev pub kept_of : Content → Command → Account
+kept_of rows command = kept_for (owner_of rows.country command) rows
 
 -- The decision on a command: what it says is the model's verdict over the fresh book of the command's owner, it changes something
 -- exactly where the model accepts the command, and what it writes is the rows of that command.

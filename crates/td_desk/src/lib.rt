@@ -4,6 +4,7 @@
 mod decision;
 mod desk;
 mod fault;
+mod file;
 mod laws;
 mod plain;
 mod running;

@@ -1,11 +1,15 @@
 //! The plain desk: its rows stand in memory, and no store is behind it.
-ghost use Rattle.std.specs.Prelude.{◌≡◌, ◌<◌, ◌≤◌, ℕ, length, take_while, nat_lt, vec_len, vec_capacity, IfOk, IsOk, OnOk, OnErr};
-ghost use Rattle.td_desk.specs.Rows.{put_row};
-ghost use Rattle.td_desk.specs.Content.{changed, holder_in, holder_key, empty_content, IsSound};
+ghost use Rattle.std.specs.Prelude.{◌≡◌, ◌≤◌, length, take_while, nat_lt, Some, option_map, IfOk, IsOk, OnOk, OnErr};
+ghost use Rattle.td_acts.specs.Deciding.{IsLoaded, row_in};
+ghost use Rattle.td_desk.specs.Rows.{Rises, Rises-prop, row_at, put_row};
+ghost use Rattle.td_desk.specs.Content.{changed, written, rows_or_new, holder_key, empty_content};
+ghost use Rattle.td_desk.specs.Sound.{IsSound};
+ghost use Rattle.td_desk.specs.Weighing.{kept_of};
 
 use crate::decision::Decision;
 use crate::desk::Desk;
 use crate::fault::Fault;
+use crate::file::HolderFile;
 use std::alloc::{AllocError, Global};
 use td_acts::table::verdict;
 use td_acts::{Change, Command, HolderRow, Loaded, Said, Verdict, known, owner};
@@ -15,11 +19,12 @@ use td_base::{Country, HolderNo};
 #[derive(Drop)]
 pub struct PlainDesk {
     country: Country,
-    holders: Vec<HolderRow>,
+    holders: Vec<HolderFile>,
+    ghost order: { Rises holder_key 0 holders.items } by { Rises-prop holder_key 0 holders.items },
 }
 
 impl PlainDesk {
-    ghost use Rattle.td_desk.specs.Plain.{rows_in, HasRoom, HasSameRows};
+    ghost use Rattle.td_desk.specs.Plain.{rows_in, HasSameRows};
 
     /// A desk of that country with no holders. `AllocError`: want of memory.
     pub fn new(alloc: Global, country: Country) -> Result<PlainDesk, AllocError>
@@ -33,53 +38,33 @@ impl PlainDesk {
         })
     }
 
-    // What the verdict on a command needs: the rows of its owner, or none.
-    pub(crate) fn load(&self, holder: Option<HolderNo>) -> Loaded
-        ensures country { result.country ≡ self.now.country }
-        ensures owned { (H : ℕ) → holder ≡ Some H → result.holder ≡ holder_in H self.now.holders.items }
-        ensures unowned { holder ≡ None → result.holder ≡ None }
+    // What the verdict on a command needs of its owner's rows, or of none. `AllocError`: want of memory.
+    pub(crate) fn load(&self, alloc: Global, command: &Command) -> Result<Loaded, AllocError>
+        ensures { IfOk result (IsLoaded (kept_of (rows_in self.now) command.now) command.now) }
     {
-        Loaded {
+        if let Some(holder) = owner(self.country, command) {
+            if let Some(file) = find_file(&self.holders, holder) {
+                return file.load(alloc, self.country, command);
+            }
+        }
+        Ok(Loaded {
             country: self.country,
-            holder: match holder {
-                Some(holder) => holder_row(&self.holders, holder),
-                None => None,
-            },
-        }
+            holder: None,
+            movements: Vec::new(alloc),
+            guarantees: Vec::new(alloc),
+        })
     }
 
-    // Room for one more row of each list.
-    fn make_room(&mut self) -> Result<(), AllocError>
-        ensures same { HasSameRows self.old self.new }
-        ensures ok { OnOk result (HasRoom self.new) }
-    {
-        self.holders.reserve(1)?;
-        Ok(())
-    }
-
-    // Writes the rows of a change.
-    fn write(&mut self, change: Change)
-        requires { HasRoom self.old }
-        ensures { rows_in self.new ≡ changed change (rows_in self.old) }
-    {
-        match change {
-            Change::Nothing => {}
-            Change::Registered(row) => put_holder(&mut self.holders, row),
-        }
-    }
-
-    // Writes the rows of a change, or nothing where there is no room for them.
-    pub(crate) fn apply(&mut self, change: Change) -> Result<(), AllocError>
+    // Writes the rows of a change, or nothing where memory is missing for them.
+    pub(crate) fn apply(&mut self, alloc: Global, change: Change) -> Result<(), AllocError>
         ensures ok { OnOk result (rows_in self.new ≡ changed change (rows_in self.old)) }
         ensures err { OnErr result (HasSameRows self.old self.new) }
         ensures quiet { change ≡ Change.Nothing → IsOk result }
     {
-        if let Change::Nothing = change {
-            return Ok(());
+        match change.row() {
+            None => Ok(()),
+            Some(row) => write_rows(alloc, &mut self.holders, row, change),
         }
-        self.make_room()?;
-        self.write(change);
-        Ok(())
     }
 }
 
@@ -100,47 +85,58 @@ impl Desk for PlainDesk {
 
     fn weigh(&mut self, alloc: Global, at: i64, command: &Command) -> Result<Decision, Fault> {
         let _known = known(command);
-        let loaded = self.load(owner(self.country, command));
+        let loaded = self.load(alloc, command)?;
         let verdict = verdict(alloc, &loaded, at, command)?;
         Ok(Decision::new(verdict))
     }
 
-    fn carry(&mut self, _alloc: Global, decision: Decision) -> Result<Said, Fault> {
+    fn carry(&mut self, alloc: Global, decision: Decision) -> Result<Said, Fault> {
         let Verdict { said, change } = decision.into_verdict();
-        self.apply(change)?;
+        self.apply(alloc, change)?;
         Ok(said)
     }
 }
 
-// The row of a holder.
-fn holder_row(rows: &[HolderRow], holder: HolderNo) -> Option<HolderRow>
-    ensures { result ≡ holder_in holder rows.now }
+// How many files are of holders below this one: the place of the holder's file.
+fn holders_below(files: &[HolderFile], holder: HolderNo) -> usize
+    requires { Rises holder_key 0 files.now }
+    ensures value { result ≡ length (take_while (λ h. nat_lt h.row.holder holder) files.now) }
+    ensures bound { result ≤ length files.now }
 {
-    for row in rows {
-        if row.holder == holder {
-            return Some(*row);
-        }
-    }
-    None
+    files.partition_point(|file| file.holder() < holder)
 }
 
-// How many rows are of holders below this one.
-fn holders_below(rows: &[HolderRow], holder: HolderNo) -> usize
-    ensures value { result ≡ length (take_while (λ r. nat_lt r.holder holder) rows.now) }
-    ensures bound { result ≤ length rows.now }
+// The file of a holder.
+fn find_file(files: &[HolderFile], holder: HolderNo) -> Option<&HolderFile>
+    requires { Rises holder_key 0 files.now }
+    ensures { option_map (λ file. file.now) result ≡ row_at holder_key holder files.now }
 {
-    rows.iter().take_while(|r| r.holder < holder).count()
+    let file = files.get(holders_below(files, holder))?;
+    if file.holder() != holder {
+        return None;
+    }
+    Some(file)
 }
 
-// Puts a row in its place, instead of one of the same holder.
-fn put_holder(rows: &mut Vec<HolderRow>, row: HolderRow)
-    requires { vec_len rows.old < vec_capacity rows.old }
-    ensures { rows.new.items ≡ put_row holder_key row rows.old.items }
+// Writes the rows of a change, in which this is the holder's row, into the holder's file, or into a new one in its place.
+fn write_rows(
+    alloc: Global,
+    files: &mut Vec<HolderFile>,
+    row: HolderRow,
+    change: Change,
+) -> Result<(), AllocError>
+    requires order { Rises holder_key 0 files.old.items }
+    requires row { row_in change ≡ Some row }
+    ensures ok { OnOk result (files.new.items ≡ put_row holder_key (written change (rows_or_new row (row_at holder_key row.holder files.old.items))) files.old.items) }
+    ensures err { OnErr result (files.new.items ≡ files.old.items) }
+    ensures order { Rises holder_key 0 files.new.items }
 {
-    let at = holders_below(rows, row.holder);
-    if at < rows.len() && rows[at].holder == row.holder {
-        rows[at] = row;
-    } else {
-        rows.insert(at, row).unwrap();
+    let at = holders_below(files, row.holder);
+    if at < files.len() && files[at].holder() == row.holder {
+        return files[at].write(change);
     }
+    let mut file = HolderFile::new(alloc, row);
+    file.write(change)?;
+    files.insert(at, file)?;
+    Ok(())
 }

@@ -1,7 +1,8 @@
 //! Runs of commands.
 ghost use Rattle.std.specs.Prelude.{◌≡◌, ℕ, IfOk, OnErr};
 ghost use Rattle.td_acts.specs.Book.{Book};
-ghost use Rattle.td_desk.specs.Content.{Content, IsSound};
+ghost use Rattle.td_desk.specs.Content.{Content};
+ghost use Rattle.td_desk.specs.Sound.{IsSound};
 ghost use Rattle.td_desk.specs.Runs.{IsStep, IsTied, IsRun};
 
 use crate::desk::Desk;

@@ -1,16 +1,12 @@
 -- What a body is, by what `serde_json` reads of it.
-use Rattle.std.proofs.Common.{◌≡◌, ℕ, List, Option, Some, None, Err, ok_or, Bool, true, false, refl, ap}
+use Rattle.std.proofs.Common.{◌≡◌, ℕ, List, Option, Some, None, Err, Bool, true, false, refl}
 use Rattle.std.proofs.lemmas.Str.{IsUtf8-from_is_utf8, is_utf8-from_IsUtf8}
-use Rattle.std.specs.Prelude.{option_and_then, SomeIff}
+use Rattle.std.specs.Prelude.{option_and_then}
 use Rattle.std.specs.Str.{IsUtf8, is_utf8}
 use Rattle.serde_json.specs.Data.{Data}
 use Rattle.serde_json.specs.Read.{read}
-use Rattle.td_base.specs.Eori.{IsEori}
 use Rattle.td_http.specs.Bodies.{object_in, object_of}
-use Rattle.td_http.specs.Parts.{eori_read}
-use Rattle.td_http.specs.declared.fault.Field.TheVariants.{Eori}
-use Rattle.td_http.specs.declared.fault.WebFault.TheVariants.{BadBody, BadField}
-use Rattle.td_http.proofs.PartFacts.{eori_read_is}
+use Rattle.td_http.specs.declared.fault.WebFault.TheVariants.{BadBody}
 
 -- a text that is read is the object in what is read
 pub object_read : (body : List ℕ) (d : Data) → IsUtf8 body → read body ≡ Some d → object_of body ≡ object_in d
@@ -24,7 +20,6 @@ object_unread body none = by (is_utf8 body) refl
     by true e = rw (e, none (IsUtf8-from_is_utf8 body e)) refl
     by false e = rw e refl
 
--- the EORI of a field that is a text
-pub eori_of_text : (field : Option (List ℕ)) (text : List ℕ) (r : Option (List ℕ)) → Some text ≡ field → SomeIff r (IsEori text) text
-    → ok_or r (BadField Eori) ≡ ok_or (option_and_then eori_read field) (BadField Eori)
-eori_of_text field text r there h = rw (← there) (ap (λ o. ok_or o (BadField Eori)) (eori_read_is text r h))
+-- what is read of a member that is there
+pub read_of : {A B : Type 0} (read : A → Option B) (member : Option A) (value : A) (r : Option B) → Some value ≡ member → r ≡ read value → r ≡ option_and_then read member
+read_of read member value r there same = rw (← there) same

@@ -4,12 +4,12 @@ use Rattle.std.specs.Io.KnownBytes.{Appends}
 use Rattle.std.proofs.KnownBytes.{Appends-trans}
 use Rattle.td_base.specs.declared.counted.Counted.{Counted}
 use Rattle.td_base.specs.Counted.{known_bytes}
+use Rattle.td_base.specs.Writing.{IsCutShort, MadeWrites}
+use Rattle.td_base.proofs.Calls.{made_on}
 use Rattle.td_http.specs.declared.reply.Reply.{Reply}
 use Rattle.td_http.specs.declared.stream.StreamEnd.TheVariants.{Asked, Served, WriteFault, Failed}
 use Rattle.td_http.specs.ReplyText.{reply_bytes, is_made}
-use Rattle.td_http.specs.Sending.{IsCutShort, MadeWrites}
 use Rattle.td_http.specs.Stream.{replies_of, silence, Sides, Run}
-use Rattle.td_http.proofs.Calls.{made_on}
 use Rattle.td_http.proofs.Serving.{Words, IsServed, Serving, Handled, replies_sent, no_parting, count_push}
 
 -- the run whose last request is the one that was handled

@@ -4,6 +4,7 @@ use Rattle.std.specs.Io.KnownBytes.{Appends}
 use Rattle.std.proofs.KnownBytes.{Appends-trans, Appends-nil}
 use Rattle.td_base.specs.declared.counted.Counted.{Counted}
 use Rattle.td_base.specs.Counted.{known_bytes}
+use Rattle.td_base.proofs.Calls.{made_on}
 use Rattle.td_http.specs.declared.reading.Stop.{Stop}
 use Rattle.td_http.specs.declared.reading.Stop.TheVariants as stop
 use Rattle.td_http.specs.declared.stream.StreamEnd.{StreamEnd}
@@ -12,7 +13,6 @@ use Rattle.td_http.specs.ReplyText.{is_made}
 use Rattle.td_http.specs.Reading.{ReadsOn, StopsAs}
 use Rattle.td_http.specs.Farewell.{SendsLast, Farewell}
 use Rattle.td_http.specs.Stream.{replies_of, Parting, silence, refusal, to_head, no_memory, parting_bytes, IsParting, Sides, Run, WentOn, EndsAs}
-use Rattle.td_http.proofs.Calls.{made_on}
 use Rattle.td_http.proofs.Readings.{ReadsOn-trans}
 use Rattle.td_http.proofs.Serving.{Words, IsServed, Serving, Splits-more}
 

@@ -4,8 +4,6 @@ mod Fields
 mod Heads
 mod Lengths
 mod Refused
-mod Slices
-mod Calls
 mod Readings
 mod Serving
 mod Ends
@@ -16,6 +14,7 @@ mod Fitting
 mod PathTexts
 mod RouteFacts
 mod BodyFacts
+mod LineFacts
 mod EoriText
 mod Handling
 mod Served

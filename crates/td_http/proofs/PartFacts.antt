@@ -1,24 +1,29 @@
 -- What the readers of the vocabulary give, as functions of the text.
-use Rattle.std.proofs.Common.{◌≡◌, ℕ, ◌≤◌, List, length, take, drop, Option, Some, None, Bool, true, false, if◌then◌else◌, refl, ap, arith, rules}
+use Rattle.std.proofs.Common.{◌≡◌, ℕ, ◌+◌, ◌-◌, ◌≤◌, List, length, take, drop, Option, Some, None, Result, Ok, Err, Bool, true, false, if◌then◌else◌, nat_eq, refl, ap, arith, rules}
 use Rattle.std.proofs.lemmas.Bool.Decides.{nat_tests, Decides-and, Decides-or, Decides-eqb, Decides-like, Decides-by_and}
-use Rattle.std.specs.Prelude.{SomeIff, All, nat_le}
+use Rattle.std.specs.Prelude.{SomeIff, OkIff, All, nat_le}
+use Rattle.std.specs.Option.{option_eq}
+use Rattle.std.specs.Result.{result_ok}
 use Rattle.std.specs.Bool.{Decides}
 use Rattle.std.specs.Int.{is_in_range, IsInRange}
-use Rattle.std.specs.List.{list_all}
+use Rattle.std.specs.List.{list_all, slice_get}
 use Rattle.std.specs.Char.{is_ascii_digit, is_ascii_uppercase, IsAsciiDigit, IsAsciiUppercase}
+use Rattle.td_base.specs.CheckDigit.{check_of}
+use Rattle.td_base.specs.Codes.{IsAccessCode, IsOfficeNo, IsLrn, IsLrnCharacter}
 use Rattle.td_base.specs.Holder.{IsHolderText, digits_value}
 use Rattle.td_base.specs.Eori.{IsEori}
 use Rattle.td_base.specs.Letters.{IsMark}
-use Rattle.td_http.specs.Parts.{is_holder_text, holder_read, is_mark, is_eori, eori_read}
+use Rattle.td_base.specs.References.{front_of, country_of, identifier_of, HasForm, IsGrn}
+use Rattle.td_http.specs.Parts.{is_holder_text, holder_read, is_mark, is_eori, eori_read, is_code, code_read, is_office, office_read, is_lrn_character, is_lrn, lrn_read, has_form, is_grn, grn_read}
 
 -- a value where a fact holds, the fact told by a test
-some_where : {T : Type 0} {P : Type 0} (b : Bool) (r : Option T) (v : T) → Decides b P → SomeIff r P v → r ≡ (if b then Some v else None)
+pub some_where : {T : Type 0} {P : Type 0} (b : Bool) (r : Option T) (v : T) → Decides b P → SomeIff r P v → r ≡ (if b then Some v else None)
 some_where true None v d h = absurd (h (d.0 refl))
 some_where true (Some x) v d h = ap Some h.1
 some_where false None v d h = refl
 some_where false (Some x) v d h = absurd (let e : false ≡ true = d.1 h.0 in search rules)
 
-le_decided : (a b : ℕ) → Decides (nat_le a b) (a ≤ b)
+pub le_decided : (a b : ℕ) → Decides (nat_le a b) (a ≤ b)
 le_decided a b = (λ h. grind (arith, nat_tests), λ h. grind (arith, nat_tests))
 
 range_decided : (low high c : ℕ) → Decides (is_in_range low high c) (IsInRange low high c)
@@ -35,7 +40,7 @@ holder_decided text =
     (Decides-and _ _ (Decides-eqb (length text) 6)
     (Decides-and _ _ (all_decided is_ascii_digit IsAsciiDigit (range_decided 48 57) text) (le_decided 1 (digits_value text))))
 
-pub mark_decided : (c : ℕ) → Decides (is_mark c) (IsMark c)
+mark_decided : (c : ℕ) → Decides (is_mark c) (IsMark c)
 mark_decided c = Decides-or _ _ (range_decided 48 57 c) (range_decided 65 90 c)
 
 eori_decided : (text : List ℕ) → Decides (is_eori text) (IsEori text)
@@ -54,3 +59,80 @@ holder_read_is text r h = some_where (is_holder_text text) r (digits_value text)
 -- what `Eori::read` gives
 pub eori_read_is : (text : List ℕ) (r : Option (List ℕ)) → SomeIff r (IsEori text) text → r ≡ eori_read text
 eori_read_is text r h = some_where (is_eori text) r text (eori_decided text) h
+
+-- the test of access codes is right
+code_decided : (text : List ℕ) → Decides (is_code text) (IsAccessCode text)
+code_decided text =
+    Decides-like (is_code text)
+    (λ h. record { size = h.0; marks = h.1 })
+    (λ h. (h.size, h.marks))
+    (Decides-and _ _ (Decides-eqb (length text) 4) (all_decided is_mark IsMark mark_decided text))
+
+-- the test of office numbers is right
+office_decided : (text : List ℕ) → Decides (is_office text) (IsOfficeNo text)
+office_decided text =
+    Decides-like (is_office text)
+    (λ h. record { size = h.0; country = h.1.0; marks = h.1.1 })
+    (λ h. (h.size, (h.country, h.marks)))
+    (Decides-and _ _ (Decides-eqb (length text) 8)
+    (Decides-and _ _ (all_decided is_ascii_uppercase IsAsciiUppercase (range_decided 65 90) (take 2 text)) (all_decided is_mark IsMark mark_decided (drop 2 text))))
+
+-- the test of an LRN's characters is right
+lrn_character_decided : (c : ℕ) → Decides (is_lrn_character c) (IsLrnCharacter c)
+lrn_character_decided c =
+    Decides-or _ _ (Decides-or _ _ (Decides-or _ _ (range_decided 48 57 c) (range_decided 65 90 c)) (range_decided 97 122 c))
+    (Decides-or _ _ (Decides-eqb c 45) (Decides-or _ _ (Decides-eqb c 47) (Decides-eqb c 46)))
+
+-- the test of LRNs is right
+lrn_decided : (text : List ℕ) → Decides (is_lrn text) (IsLrn text)
+lrn_decided text =
+    Decides-like (is_lrn text)
+    (λ h. record { low = h.0; high = h.1.0; characters = h.1.1 })
+    (λ h. (h.low, (h.high, h.characters)))
+    (Decides-and _ _ (le_decided 1 (length text))
+    (Decides-and _ _ (le_decided (length text) 22) (all_decided is_lrn_character IsLrnCharacter lrn_character_decided text)))
+
+-- the test of a reference's form is right
+form_decided : (text : List ℕ) → Decides (has_form text) (HasForm text)
+form_decided text =
+    Decides-like (has_form text)
+    (λ h. record { year = h.0; country = h.1.0; identifier = h.1.1.0; last = h.1.1.1 })
+    (λ h. (h.year, (h.country, (h.identifier, h.last))))
+    (Decides-and _ _ (all_decided is_ascii_digit IsAsciiDigit (range_decided 48 57) (take 2 text))
+    (Decides-and _ _ (all_decided is_ascii_uppercase IsAsciiUppercase (range_decided 65 90) (country_of text))
+    (Decides-and _ _ (all_decided is_mark IsMark mark_decided (identifier_of text)) (all_decided is_ascii_digit IsAsciiDigit (range_decided 48 57) (drop (length text - 1) text)))))
+
+-- the comparison with a number is right
+some_decided : (o : Option ℕ) (n : ℕ) → Decides (option_eq nat_eq o (Some n)) (o ≡ Some n)
+some_decided None n = (λ h. cc, λ h. cc)
+some_decided (Some x) n = Decides-like (nat_eq x n) (λ h. ap Some h) (λ h. search rules) (Decides-eqb x n)
+
+-- the test of GRNs is right
+grn_decided : (text : List ℕ) → Decides (is_grn text) (IsGrn text)
+grn_decided text =
+    Decides-like (is_grn text)
+    (λ h. record { size = h.0; form = h.1.0; check = h.1.1 })
+    (λ h. (h.size, (h.form, h.check)))
+    (Decides-and _ _ (Decides-eqb (length text) 17)
+    (Decides-and _ _ (form_decided text) (some_decided (slice_get text (length text - 1)) (48 + check_of (front_of text)))))
+
+-- what `AccessCode::read` gives
+pub code_read_is : (text : List ℕ) (r : Option (List ℕ)) → SomeIff r (IsAccessCode text) text → r ≡ code_read text
+code_read_is text r h = some_where (is_code text) r text (code_decided text) h
+
+-- what `OfficeNo::read` gives
+pub office_read_is : (text : List ℕ) (r : Option (List ℕ)) → SomeIff r (IsOfficeNo text) text → r ≡ office_read text
+office_read_is text r h = some_where (is_office text) r text (office_decided text) h
+
+-- what `Lrn::read` gives
+pub lrn_read_is : (text : List ℕ) (r : Option (List ℕ)) → SomeIff r (IsLrn text) text → r ≡ lrn_read text
+lrn_read_is text r h = some_where (is_lrn text) r text (lrn_decided text) h
+
+-- the value of a result that is Ok
+ok_is : {E : Type 0} (r : Result (List ℕ) E) (P : Type 0) (v : List ℕ) → OkIff r P v → SomeIff (result_ok r) P v
+ok_is (Ok x) P v h = h
+ok_is (Err e) P v h = h
+
+-- what `Grn::read` gives
+pub grn_read_is : {E : Type 0} (text : List ℕ) (r : Result (List ℕ) E) → OkIff r (IsGrn text) text → result_ok r ≡ grn_read text
+grn_read_is text r h = some_where (is_grn text) (result_ok r) text (grn_decided text) (ok_is r _ _ h)

@@ -2,11 +2,10 @@
 use Rattle.std.proofs.Common.{◌≡◌, ℕ, ◌+◌, ◌-◌, ◌≤◌, List, ◌++◌, Option, arith, ap, subst, ◌∙◌, append_assoc}
 use Rattle.std.proofs.KnownBytes.{Consumes-trans}
 use Rattle.td_base.specs.declared.counted.Counted.{Counted}
-use Rattle.td_base.specs.Counted.{calls_of}
+use Rattle.td_base.specs.Counted.{calls_of, HasMade}
+use Rattle.td_base.proofs.Calls.{made_on}
 use Rattle.td_http.specs.declared.reading.Stop.{Stop}
 use Rattle.td_http.specs.declared.reading.Stop.TheVariants.{Closed, Cut, ReadsSpent, ReadFault, NoMemory, Refused, Head}
-use Rattle.td_http.specs.Calls.{HasMade}
-use Rattle.td_http.proofs.Calls.{made_on}
 use Rattle.td_http.specs.Reading.{ReadsOn, StopsAs}
 
 -- reads after reads

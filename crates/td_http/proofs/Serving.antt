@@ -8,18 +8,17 @@ use Rattle.std.proofs.lemmas.List.{map-append, length-append}
 use Rattle.std.proofs.lemmas.Grind.{flat_map-append}
 use Rattle.std.proofs.lemmas.List.Elements.{All-append, All-cons, All-nil}
 use Rattle.td_base.specs.declared.counted.Counted.{Counted}
-use Rattle.td_base.specs.Counted.{calls_of, known_bytes}
+use Rattle.td_base.specs.Counted.{calls_of, known_bytes, HasMade}
+use Rattle.td_base.specs.Writing.{MadeWrites}
+use Rattle.td_base.proofs.Calls.{made_none, made_on}
 use Rattle.td_http.specs.declared.request.Request.{Request}
 use Rattle.td_http.specs.declared.reply.Reply.{Reply}
 use Rattle.td_http.specs.declared.stream.StreamEnd.{StreamEnd}
 use Rattle.td_http.specs.Request as request
 use Rattle.td_http.specs.ReplyText.{reply_bytes, is_made}
 use Rattle.td_http.specs.Reading.{ReadsOn, Takes}
-use Rattle.td_http.specs.Calls.{HasMade}
-use Rattle.td_http.specs.Sending.{MadeWrites}
 use Rattle.td_http.specs.Wire.{Wire, IsWire, IsRequestOn, wire_bytes, Splits, asks_close}
 use Rattle.td_http.specs.Stream.{Exchange, question, Chain, wires_of, replies_of, GoesOn, silence, parting_bytes, Sides, Serves}
-use Rattle.td_http.proofs.Calls.{made_none, made_on}
 use Rattle.td_http.proofs.Readings.{ReadsOn-trans}
 
 -- one exchange more at the end of a chain

@@ -5,9 +5,9 @@ use Rattle.serde_json.specs.Written.{compact_text}
 use Rattle.td_base.specs.Holder.{holder_text}
 use Rattle.td_acts.specs.Names.{refusal_name}
 use Rattle.td_acts.specs.declared.said.Answer.{Answer}
-use Rattle.td_acts.specs.declared.said.Answer.TheVariants.{Holder}
+use Rattle.td_acts.specs.declared.said.Answer.TheVariants.{Holder, Opened, Ie028}
 use Rattle.td_acts.specs.declared.said.Refusal.{Refusal}
-use Rattle.td_acts.specs.declared.said.Refusal.TheVariants.{ClockRange, NoHolder, HolderKnown}
+use Rattle.td_acts.specs.declared.said.Refusal.TheVariants.{ClockRange, NoHolder, HolderKnown, ClockBack, NoGuarantee, BadCode, GuaranteeEnded, LrnUsed, SerialsSpent}
 use Rattle.td_acts.specs.declared.said.Said.{Said}
 use Rattle.td_acts.specs.declared.said.Said.TheVariants.{Answered, Refused}
 use Rattle.td_http.specs.Faults.{fault_allow, fault_name, field_name}
@@ -23,6 +23,23 @@ holder_data eori guarantees holder movements =
     (member (codes "holder") (string holder)
     (member (codes "movements") (number (unsigned movements)) no_members))))
 
+-- the reference of a guarantee that was opened
+abbrev pub opened_data : List ℕ → Data
+opened_data grn = object (member (codes "grn") (string grn) no_members)
+
+-- the message that allocates a declaration its MRN (IE028)
+abbrev pub ie028_data : List ℕ → List ℕ → Data
+ie028_data lrn mrn =
+    object (member (codes "lrn") (string lrn)
+    (member (codes "message") (string (codes "IE028"))
+    (member (codes "mrn") (string mrn) no_members)))
+
+-- an answer
+abbrev pub answer_data : Answer → Data
+answer_data (Holder holder eori guarantees movements) = holder_data eori guarantees (holder_text holder) movements
+answer_data (Opened grn) = opened_data grn
+answer_data (Ie028 lrn mrn) = ie028_data lrn mrn
+
 -- an error, told by its name alone
 abbrev pub error_data : List ℕ → Data
 error_data name = object (member (codes "error") (string name) no_members)
@@ -33,7 +50,7 @@ field_data name field = object (member (codes "error") (string name) (member (co
 
 -- what is said
 abbrev pub said_data : Said → Data
-said_data (Answered (Holder holder eori guarantees movements)) = holder_data eori guarantees (holder_text holder) movements
+said_data (Answered answer) = answer_data answer
 said_data (Refused refusal) = error_data (refusal_name refusal)
 
 -- why a request can't be read
@@ -57,12 +74,20 @@ abbrev pub answer_body : Answer → List ℕ
 answer_body (Holder holder eori guarantees movements) =
     codes "{\"eori\":\"" ++ (eori ++ (codes "\",\"guarantees\":" ++ (decimal guarantees
     ++ (codes ",\"holder\":\"" ++ (holder_text holder ++ (codes "\",\"movements\":" ++ (decimal movements ++ codes "}")))))))
+answer_body (Opened grn) = codes "{\"grn\":\"" ++ (grn ++ codes "\"}")
+answer_body (Ie028 lrn mrn) = codes "{\"lrn\":\"" ++ (lrn ++ (codes "\",\"message\":\"IE028\",\"mrn\":\"" ++ (mrn ++ codes "\"}")))
 
 -- the statuses of replies (RFC 9110, section 15)
 abbrev pub refusal_status : Refusal → ℕ
 refusal_status ClockRange = 503
 refusal_status NoHolder = 404
 refusal_status HolderKnown = 409
+refusal_status ClockBack = 409
+refusal_status NoGuarantee = 404
+refusal_status BadCode = 403
+refusal_status GuaranteeEnded = 409
+refusal_status LrnUsed = 409
+refusal_status SerialsSpent = 409
 
 abbrev pub said_status : Said → ℕ
 said_status (Answered answer) = 200

@@ -3,13 +3,13 @@ use Rattle.std.specs.Prelude.{◌≡◌, ◌⊎◌, ℕ, false, if◌then◌else
 use Rattle.std.specs.Io.KnownBytes.{Appends}
 use Rattle.td_base.specs.declared.counted.Counted.{Counted}
 use Rattle.td_base.specs.Counted.{known_bytes}
+use Rattle.td_base.specs.Writing.{IsCutShort, MadeWrites}
 use Rattle.td_http.specs.declared.reading.Stop.{Stop}
 use Rattle.td_http.specs.declared.reading.Stop.TheVariants as stop
 use Rattle.td_http.specs.declared.reply.Reply.{Reply}
 use Rattle.td_http.specs.declared.stream.StreamEnd.{StreamEnd}
 use Rattle.td_http.specs.declared.stream.StreamEnd.TheVariants.{Closed, Refused, Cut, ReadsSpent, ReadFault, WriteFault, Failed}
 use Rattle.td_http.specs.ReplyText.{framing_reply, no_memory_reply, reply_bytes, is_made}
-use Rattle.td_http.specs.Sending.{IsCutShort, MadeWrites}
 
 -- the message was written and the stream ended so, or it was cut short
 abbrev pub SendsLast : {W : Type 0} → (W → Option (List ℕ)) → Counted W → Counted W → List ℕ → StreamEnd → StreamEnd → Type 0

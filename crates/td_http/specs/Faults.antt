@@ -1,20 +1,28 @@
 -- Why a request can't be read: names, and what the reply says beside them.
 use Rattle.std.specs.Prelude.{◌≡◌, ◌⊎◌, ℕ, List, codes, Option, Some, None, Result, Ok, Err}
 use Rattle.td_http.specs.declared.fault.Allowed.{Allowed}
-use Rattle.td_http.specs.declared.fault.Allowed.TheVariants.{Get, Put}
+use Rattle.td_http.specs.declared.fault.Allowed.TheVariants.{Get, Post, Put}
 use Rattle.td_http.specs.declared.fault.Field.{Field}
-use Rattle.td_http.specs.declared.fault.Field.TheVariants.{Eori}
+use Rattle.td_http.specs.declared.fault.Field.TheVariants.{Eori, Reference, Cover, Code, Lrn, Departure, Destination, Lines}
 use Rattle.td_http.specs.declared.fault.WebFault.{WebFault}
 use Rattle.td_http.specs.declared.fault.WebFault.TheVariants.{NoRoute, NoMethod, BadHolder, BadBody, BadField, NoMemory}
 
 -- the methods of a path, as `Allow` lists them
 abbrev pub allowed_text : Allowed → List ℕ
 allowed_text Get = codes "GET"
+allowed_text Post = codes "POST"
 allowed_text Put = codes "PUT"
 
 -- a field's key in the body
 abbrev pub field_name : Field → List ℕ
 field_name Eori = codes "eori"
+field_name Reference = codes "reference"
+field_name Cover = codes "cover"
+field_name Code = codes "code"
+field_name Lrn = codes "lrn"
+field_name Departure = codes "departure"
+field_name Destination = codes "destination"
+field_name Lines = codes "lines"
 
 -- the name that the reply gives
 abbrev pub fault_name : WebFault → List ℕ

@@ -2,8 +2,7 @@
 use Rattle.std.specs.Prelude.{◌≡◌, ℕ, ◌-◌, ◌<◌, ◌≤◌, ◌⊎◌, true, List, [], ◌++◌, length, Option}
 use Rattle.std.specs.Io.KnownBytes.{Consumes, IsAtEnd}
 use Rattle.td_base.specs.declared.counted.Counted.{Counted}
-use Rattle.td_base.specs.Counted.{calls_of, has_failed, known_bytes}
-use Rattle.td_http.specs.Calls.{HasMade}
+use Rattle.td_base.specs.Counted.{calls_of, has_failed, known_bytes, HasMade}
 use Rattle.td_http.specs.declared.request.Request.{Request}
 use Rattle.td_http.specs.declared.reading.Stop.{Stop}
 use Rattle.td_http.specs.declared.reading.Stop.TheVariants.{Closed, Cut, ReadsSpent, ReadFault, NoMemory, Refused, Head}
@@ -26,7 +25,7 @@ StopsAs remaining new before after rest Closed = (rest ≡ []) × HasEnded remai
 StopsAs remaining new before after rest Cut = (0 < length rest) × IsOpen rest × HasEnded remaining new before after
 StopsAs remaining new before after rest ReadsSpent = IsOpen rest × (after ≡ 0)
 StopsAs remaining new before after rest ReadFault = IsOpen rest × (has_failed new ≡ true) × (after < before)
-StopsAs remaining new before after rest NoMemory = IsOpen rest ⊎ BeginsServed rest
+StopsAs remaining new before after rest NoMemory = (rest ≡ []) ⊎ BeginsServed rest
 StopsAs remaining new before after rest (Refused e) = IsRefusedFor e rest
 StopsAs remaining new before after rest (Head target) = IsHeadRequest target.items rest
 

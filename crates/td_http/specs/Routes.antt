@@ -15,18 +15,20 @@ use Rattle.td_http.specs.Parts.{holder_read}
 use Rattle.td_http.specs.declared.fault.WebFault.{WebFault}
 use Rattle.td_http.specs.declared.fault.WebFault.TheVariants.{NoRoute, NoMethod, BadHolder}
 use Rattle.td_http.specs.declared.fault.Allowed.{Allowed}
-use Rattle.td_http.specs.declared.fault.Allowed.TheVariants.{Get, Put}
+use Rattle.td_http.specs.declared.fault.Allowed.TheVariants.{Get, Post, Put}
 use Rattle.td_http.specs.declared.table.Place.{Place}
 use Rattle.td_http.specs.declared.table.Place.TheVariants as place
 use Rattle.td_http.specs.declared.table.Line.{Line}
 use Rattle.td_http.specs.declared.table.Line.TheVariants as line
 use Rattle.td_http.specs.declared.table.Route.{Route}
-use Rattle.td_http.specs.declared.table.Route.TheVariants.{Register, SeeHolder}
+use Rattle.td_http.specs.declared.table.Route.TheVariants.{Register, OpenGuarantee, Ie015, SeeHolder}
 
 -- the paths, in the table's order
 abbrev pub table : List (List ℕ × Place)
 table =
     (codes "/office/holders/{h}", place.OfficeHolder)
+    ∷ (codes "/office/holders/{h}/guarantees", place.OfficeGuarantees)
+    ∷ (codes "/holders/{h}/movements", place.Movements)
     ∷ (codes "/holders/{h}", place.Holder)
     ∷ []
 
@@ -55,11 +57,15 @@ part_at k parts = get_or parts k []
 -- the methods that a place has
 abbrev pub methods_at : Place → Allowed
 methods_at place.OfficeHolder = Put
+methods_at place.OfficeGuarantees = Post
+methods_at place.Movements = Post
 methods_at place.Holder = Get
 
 -- the line of the table that has a place and a method, or which methods the place has
 abbrev pub line_at : Place → List ℕ → Result Line WebFault
 line_at place.OfficeHolder method = if bytes_eq method (codes "PUT") then Ok line.Register else Err (NoMethod (methods_at place.OfficeHolder))
+line_at place.OfficeGuarantees method = if bytes_eq method (codes "POST") then Ok line.OpenGuarantee else Err (NoMethod (methods_at place.OfficeGuarantees))
+line_at place.Movements method = if bytes_eq method (codes "POST") then Ok line.Ie015 else Err (NoMethod (methods_at place.Movements))
 line_at place.Holder method = if bytes_eq method (codes "GET") then Ok line.SeeHolder else Err (NoMethod (methods_at place.Holder))
 
 -- the methods that a path has, where there is such a path
@@ -73,6 +79,8 @@ holder_part part = ok_or (holder_read part) BadHolder
 -- a line with the parts of its path read
 abbrev pub route_with : List (List ℕ) → Line → Result Route WebFault
 route_with parts line.Register = holder_part (part_at 0 parts) >>= λ holder. Ok (Register holder)
+route_with parts line.OpenGuarantee = holder_part (part_at 0 parts) >>= λ holder. Ok (OpenGuarantee holder)
+route_with parts line.Ie015 = holder_part (part_at 0 parts) >>= λ holder. Ok (Ie015 holder)
 route_with parts line.SeeHolder = holder_part (part_at 0 parts) >>= λ holder. Ok (SeeHolder holder)
 
 -- the route of a path's row

@@ -8,7 +8,8 @@ use Rattle.td_acts.specs.Machine.{verdict, book_after, machine_book}
 use Rattle.td_desk.specs.declared.fault.Fault.TheVariants as fault
 use Rattle.td_desk.specs.declared.running.Outcome.{Outcome}
 use Rattle.td_desk.specs.declared.running.Outcome.TheVariants as outcome
-use Rattle.td_desk.specs.Content.{Content, IsSound}
+use Rattle.td_desk.specs.Content.{Content}
+use Rattle.td_desk.specs.Sound.{IsSound}
 use Rattle.td_desk.specs.Runs.{IsStep, IsTied, is_holder}
 use Rattle.td_http.specs.declared.fault.WebFault.{WebFault}
 use Rattle.td_http.specs.declared.reply.Reply.{Reply}

@@ -3,15 +3,14 @@ use Rattle.std.specs.Prelude.{◌≡◌, ◌≢◌, ℕ, ◌+◌, ◌<◌, ◌�
 use Rattle.std.specs.List.{flat_map}
 use Rattle.std.specs.Io.KnownBytes.{Consumes, Appends, IsAtEnd}
 use Rattle.td_base.specs.declared.counted.Counted.{Counted}
-use Rattle.td_base.specs.Counted.{calls_of, has_failed, known_bytes}
+use Rattle.td_base.specs.Counted.{calls_of, has_failed, known_bytes, HasMade}
+use Rattle.td_base.specs.Writing.{MadeWrites}
 use Rattle.td_http.specs.declared.framing.FramingError.{FramingError}
 use Rattle.td_http.specs.declared.reply.Reply.{Reply}
 use Rattle.td_http.specs.declared.stream.StreamEnd.{StreamEnd}
 use Rattle.td_http.specs.declared.stream.StreamEnd.TheVariants.{Closed, Asked, Served, Refused, Cut, ReadsSpent, ReadFault, WriteFault, Failed}
 use Rattle.td_http.specs.Request as request
 use Rattle.td_http.specs.ReplyText.{framing_reply, no_memory_reply, reply_bytes, is_made}
-use Rattle.td_http.specs.Calls.{HasMade}
-use Rattle.td_http.specs.Sending.{MadeWrites}
 use Rattle.td_http.specs.Wire.{Wire, Splits, asks_close, IsOpen, IsRefusedFor, IsHeadRequest, BeginsServed}
 
 -- a request on the wire, the moment at which it was handled, and the reply
@@ -65,7 +64,7 @@ abbrev pub IsParting : {H : Type 0} → (H → List ℕ → Reply → H → Type
 IsParting heads old new rest silence = new ≡ old
 IsParting heads old new rest (refusal e) = (new ≡ old) × IsRefusedFor e rest
 IsParting heads old new rest (to_head target reply) = heads old target reply new × IsHeadRequest target rest
-IsParting heads old new rest no_memory = (new ≡ old) × (IsOpen rest ⊎ BeginsServed rest)
+IsParting heads old new rest no_memory = (new ≡ old) × ((rest ≡ []) ⊎ BeginsServed rest)
 
 -- the sides of a stream: where it is read, where replies are written, who tells the time, who answers
 pub record Sides (R W C H : Type 0) : Type 0 where

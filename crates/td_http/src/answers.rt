@@ -1,9 +1,8 @@
 //! What the desk says, as JSON.
 ghost use Rattle.std.specs.Prelude.{◌≡◌, IfOk, string_bytes};
 ghost use Rattle.serde_json.specs.View.{view};
-ghost use Rattle.td_acts.specs.declared.said.Answer.TheVariants.{Holder};
 ghost use Rattle.td_acts.specs.declared.said.Said.TheVariants.{Answered};
-ghost use Rattle.td_http.specs.Answers.{answer_body, error_data, fault_body, fault_data, fault_reply, fault_status, field_data, holder_data, refusal_status, said_body, said_data, said_reply, said_status};
+ghost use Rattle.td_http.specs.Answers.{answer_body, answer_data, error_data, fault_body, fault_data, fault_reply, fault_status, field_data, holder_data, ie028_data, opened_data, refusal_status, said_body, said_data, said_reply, said_status};
 
 use crate::fault::WebFault;
 use crate::reply::json_reply;
@@ -11,7 +10,7 @@ use http::StatusCode;
 use serde_json::{Value, json};
 use std::alloc::{AllocError, Global};
 use td_acts::{Answer, Refusal, Said};
-use td_base::{Eori, HolderNo};
+use td_base::Eori;
 
 fn eori_text(eori: &Eori) -> &str
     ensures { result.now ≡ eori.now }
@@ -31,6 +30,18 @@ fn holder_value(
     json!(in alloc; {"eori": eori, "guarantees": guarantees, "holder": holder, "movements": movements})
 }
 
+fn opened_value(alloc: Global, grn: &str) -> Result<Value, AllocError>
+    ensures { IfOk result (λ v. view v ≡ opened_data grn.now) }
+{
+    json!(in alloc; {"grn": grn})
+}
+
+fn ie028_value(alloc: Global, lrn: &str, mrn: &str) -> Result<Value, AllocError>
+    ensures { IfOk result (λ v. view v ≡ ie028_data lrn.now mrn.now) }
+{
+    json!(in alloc; {"lrn": lrn, "message": "IE028", "mrn": mrn})
+}
+
 fn error_value(alloc: Global, name: &str) -> Result<Value, AllocError>
     ensures { IfOk result (λ v. view v ≡ error_data name.now) }
 {
@@ -43,21 +54,36 @@ fn field_value(alloc: Global, name: &str, field: &str) -> Result<Value, AllocErr
     json!(in alloc; {"error": name, "field": field})
 }
 
+fn answer_value(alloc: Global, answer: &Answer) -> Result<Value, AllocError>
+    ensures { IfOk result (λ v. view v ≡ answer_data answer.now) }
+{
+    match answer {
+        Answer::Holder {
+            holder,
+            eori,
+            guarantees,
+            movements,
+        } => {
+            let number = format!(in alloc; "{holder}")?;
+            holder_value(alloc, eori_text(eori), *guarantees, &number, *movements)
+        }
+        Answer::Opened { grn } => {
+            let grn = format!(in alloc; "{grn}")?;
+            opened_value(alloc, &grn)
+        }
+        Answer::Ie028 { lrn, mrn } => {
+            let lrn = format!(in alloc; "{lrn}")?;
+            let mrn = format!(in alloc; "{mrn}")?;
+            ie028_value(alloc, &lrn, &mrn)
+        }
+    }
+}
+
 fn said_value(alloc: Global, said: &Said) -> Result<Value, AllocError>
     ensures { IfOk result (λ v. view v ≡ said_data said.now) }
 {
     match said {
-        Said::Answered(
-            Answer::Holder {
-                holder,
-                eori,
-                guarantees,
-                movements,
-            },
-        ) => {
-            let number = format!(in alloc; "{holder}")?;
-            holder_value(alloc, eori_text(eori), *guarantees, &number, *movements)
-        }
+        Said::Answered(answer) => answer_value(alloc, answer),
         Said::Refused(refusal) => error_value(alloc, refusal.name()),
     }
 }
@@ -90,9 +116,23 @@ fn status_of(said: &Said) -> StatusCode
 {
     match said {
         Said::Answered(_) => StatusCode::OK,
-        Said::Refused(Refusal::ClockRange) => StatusCode::SERVICE_UNAVAILABLE,
-        Said::Refused(Refusal::NoHolder) => StatusCode::NOT_FOUND,
-        Said::Refused(Refusal::HolderKnown) => StatusCode::CONFLICT,
+        Said::Refused(refusal) => refusal_status_of(refusal),
+    }
+}
+
+fn refusal_status_of(refusal: &Refusal) -> StatusCode
+    ensures { result ≡ refusal_status refusal.now }
+{
+    match refusal {
+        Refusal::ClockRange => StatusCode::SERVICE_UNAVAILABLE,
+        Refusal::NoHolder => StatusCode::NOT_FOUND,
+        Refusal::HolderKnown => StatusCode::CONFLICT,
+        Refusal::ClockBack => StatusCode::CONFLICT,
+        Refusal::NoGuarantee => StatusCode::NOT_FOUND,
+        Refusal::BadCode => StatusCode::FORBIDDEN,
+        Refusal::GuaranteeEnded => StatusCode::CONFLICT,
+        Refusal::LrnUsed => StatusCode::CONFLICT,
+        Refusal::SerialsSpent => StatusCode::CONFLICT,
     }
 }
 
@@ -123,16 +163,20 @@ pub fn fault_bytes(alloc: Global, fault: &WebFault, close: bool) -> Result<Vec<u
     json_reply(alloc, fault_status_of(fault), fault.allow(), close, &body)
 }
 
-/// The body that tells of a holder is these very bytes: nothing in it is escaped.
-pub fn holder_is_told_in(holder: HolderNo, eori: Eori, guarantees: u32, movements: u32)
-    ensures { let answer = Holder holder eori guarantees movements in
-        said_body (Answered answer) ≡ answer_body answer }
+/// The body of an answer is these very bytes: nothing in it is escaped.
+pub fn answer_is_told_in(answer: &Answer)
+    ensures { said_body (Answered answer.now) ≡ answer_body answer.now }
 {
-    let _answer = Answer::Holder {
-        holder,
-        eori,
-        guarantees,
-        movements,
-    };
-    let _text = eori.as_bytes();
+    match answer {
+        Answer::Holder { eori, .. } => {
+            let _eori = eori.as_bytes();
+        }
+        Answer::Opened { grn } => {
+            let _grn = grn.as_bytes();
+        }
+        Answer::Ie028 { lrn, mrn } => {
+            let _lrn = lrn.as_bytes();
+            let _mrn = mrn.as_bytes();
+        }
+    }
 }

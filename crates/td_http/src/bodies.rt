@@ -1,11 +1,14 @@
 //! The command of a request.
-ghost use Rattle.std.specs.Prelude.{◌≡◌, ◌⊎◌, MatchResult, Ok, Err, option_map, position, ◌==◌};
+ghost use Rattle.std.specs.Prelude.{◌≡◌, ◌⊎◌, MatchResult, Ok, Err, position, ◌==◌};
 ghost use Rattle.serde_json.specs.View.{view};
-ghost use Rattle.td_http.specs.Bodies.{command_at, command_of, eori_field, object_of, text_field};
+ghost use Rattle.td_http.specs.Bodies.{command_of, declaration_of, object_of, opening_of, registration_of, text_field};
+ghost use Rattle.td_http.specs.Parts.{office_read};
 ghost use Rattle.td_http.specs.Faults.{OrNoMemory};
 ghost use Rattle.td_http.specs.Routes.{path_of};
 ghost use Rattle.td_http.specs.declared.fault.WebFault.TheVariants.{NoMemory};
 
+use crate::body_fields::{code_in, cover_in, eori_in, lrn_in, office_in, reference_in};
+use crate::body_lines::lines_in;
 use crate::fault::{Field, WebFault};
 use crate::request::Request;
 use crate::routes::Routes;
@@ -13,7 +16,7 @@ use crate::table::Route;
 use serde_json::Value;
 use std::alloc::Global;
 use td_acts::Command;
-use td_base::Eori;
+use td_base::{HolderNo, OfficeNo};
 
 /// The command of a request, or the first fault, in the order of `WebFault`. Want of memory may take the place of either.
 /// A command without fields doesn't look at the body; of one with fields, unknown keys of the body are ignored, and where
@@ -37,10 +40,15 @@ pub(crate) fn read_command_by(
     match routes.route(alloc, &request.method, path(&request.target))? {
         Route::Register { holder } => {
             let body = read_object(alloc, &request.body)?;
-            Ok(Command::Register {
-                holder,
-                eori: eori_in(&body)?,
-            })
+            read_registration(holder, &body)
+        }
+        Route::OpenGuarantee { holder } => {
+            let body = read_object(alloc, &request.body)?;
+            read_opening(holder, &body)
+        }
+        Route::Ie015 { holder } => {
+            let body = read_object(alloc, &request.body)?;
+            read_declaration(alloc, holder, &body)
         }
         Route::SeeHolder { holder } => Ok(Command::SeeHolder { holder }),
     }
@@ -84,17 +92,49 @@ fn read_object(alloc: Global, body: &[u8]) -> Result<Value, WebFault>
     }
 }
 
-fn text_in<'v>(body: &'v Value, field: Field) -> Option<&'v str>
-    ensures { option_map (λ s. s.now) result ≡ text_field field (view body.now) }
+// The registration that a body asks for.
+fn read_registration(holder: HolderNo, body: &Value) -> Result<Command, WebFault>
+    ensures { result ≡ registration_of holder (view body.now) }
 {
-    body.get(field.name()).and_then(Value::as_str)
+    let eori = eori_in(body).ok_or(WebFault::BadField(Field::Eori))?;
+    Ok(Command::Register { holder, eori })
 }
 
-fn eori_in(body: &Value) -> Result<Eori, WebFault>
-    ensures { result ≡ eori_field (view body.now) }
+// The opening of a guarantee that a body asks for.
+fn read_opening(holder: HolderNo, body: &Value) -> Result<Command, WebFault>
+    ensures { result ≡ opening_of holder (view body.now) }
 {
-    match text_in(body, Field::Eori) {
-        Some(text) => Eori::read(text.as_bytes()).ok_or(WebFault::BadField(Field::Eori)),
-        None => Err(WebFault::BadField(Field::Eori)),
-    }
+    let reference = reference_in(body).ok_or(WebFault::BadField(Field::Reference))?;
+    let cover = cover_in(body).ok_or(WebFault::BadField(Field::Cover))?;
+    let code = code_in(body).ok_or(WebFault::BadField(Field::Code))?;
+    Ok(Command::OpenGuarantee {
+        holder,
+        reference,
+        cover,
+        code,
+    })
+}
+
+// The declaration that a body is.
+fn read_declaration(alloc: Global, holder: HolderNo, body: &Value) -> Result<Command, WebFault>
+    ensures { OrNoMemory result (declaration_of holder (view body.now)) }
+{
+    let lrn = lrn_in(body).ok_or(WebFault::BadField(Field::Lrn))?;
+    let departure = read_office(body, Field::Departure)?;
+    let destination = read_office(body, Field::Destination)?;
+    let lines = lines_in(alloc, body)?.ok_or(WebFault::BadField(Field::Lines))?;
+    Ok(Command::Ie015 {
+        holder,
+        lrn,
+        departure,
+        destination,
+        lines,
+    })
+}
+
+// The office of a field: a declaration has two.
+fn read_office(body: &Value, field: Field) -> Result<OfficeNo, WebFault>
+    ensures { result ≡ text_field field office_read (view body.now) }
+{
+    office_in(body, field).ok_or(WebFault::BadField(field))
 }

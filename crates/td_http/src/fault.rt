@@ -7,6 +7,7 @@ use std::fmt;
 #[derive(Clone, Copy, Debug, PartialEq, Eq)]
 pub enum Allowed {
     Get,
+    Post,
     Put,
 }
 
@@ -14,6 +15,13 @@ pub enum Allowed {
 #[derive(Clone, Copy, Debug, PartialEq, Eq)]
 pub enum Field {
     Eori,
+    Reference,
+    Cover,
+    Code,
+    Lrn,
+    Departure,
+    Destination,
+    Lines,
 }
 
 /// Why a request can't be read. The order is that of the tests: the first that fails is told.
@@ -43,6 +51,7 @@ impl Allowed {
     {
         match self {
             Allowed::Get => "GET",
+            Allowed::Post => "POST",
             Allowed::Put => "PUT",
         }
     }
@@ -58,6 +67,13 @@ impl Field {
     {
         match self {
             Field::Eori => "eori",
+            Field::Reference => "reference",
+            Field::Cover => "cover",
+            Field::Code => "code",
+            Field::Lrn => "lrn",
+            Field::Departure => "departure",
+            Field::Destination => "destination",
+            Field::Lines => "lines",
         }
     }
 }

@@ -3,6 +3,8 @@
 
 mod answers;
 mod bodies;
+mod body_fields;
+mod body_lines;
 mod clock;
 mod desk_stream;
 mod fault;
@@ -14,12 +16,11 @@ mod reading;
 mod reply;
 mod request;
 mod routes;
-mod sending;
 mod service;
 mod stream;
 mod table;
 
-pub use answers::{fault_bytes, holder_is_told_in, reply_bytes};
+pub use answers::{answer_is_told_in, fault_bytes, reply_bytes};
 pub use bodies::read_command;
 pub use clock::Clock;
 pub use desk_stream::serve_stream;

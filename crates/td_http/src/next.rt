@@ -13,7 +13,7 @@ use httparse::spans::{EMPTY_HEADER_SPAN, parse_request};
 use std::alloc::{AllocError, Global};
 
 /// The most bytes of a head.
-const MAX_HEAD: usize = 8192;
+pub const MAX_HEAD: usize = 8192;
 
 /// The most fields of a head.
 const MAX_FIELDS: usize = 64;

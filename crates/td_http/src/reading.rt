@@ -23,7 +23,7 @@ pub enum Stop {
     ReadsSpent,
     /// A read failed.
     ReadFault,
-    /// Memory was missing.
+    /// Memory was missing: nothing of a request was read yet, or one that is served stands in front.
     NoMemory,
     Refused(FramingError),
     /// The head of a HEAD request for this target.

@@ -14,8 +14,10 @@ use matchit::{InsertError, Params, ParamsIter, Router};
 use std::alloc::Global;
 use td_base::HolderNo;
 
-const PATHS: [(&str, Place); 2] = [
+const PATHS: [(&str, Place); 4] = [
     ("/office/holders/{h}", Place::OfficeHolder),
+    ("/office/holders/{h}/guarantees", Place::OfficeGuarantees),
+    ("/holders/{h}/movements", Place::Movements),
     ("/holders/{h}", Place::Holder),
 ];
 
@@ -35,6 +37,8 @@ fn line_for(place: Place, method: &Method) -> Result<Line, WebFault>
 {
     match (place, method.as_str()) {
         (Place::OfficeHolder, "PUT") => Ok(Line::Register),
+        (Place::OfficeGuarantees, "POST") => Ok(Line::OpenGuarantee),
+        (Place::Movements, "POST") => Ok(Line::Ie015),
         (Place::Holder, "GET") => Ok(Line::SeeHolder),
         _ => Err(WebFault::NoMethod {
             allow: methods_for(place),
@@ -67,6 +71,12 @@ fn read_parts(line: Line, params: &Params<'_, '_>) -> Result<Route, WebFault>
         Line::Register => Ok(Route::Register {
             holder: next_holder(&mut parts)?,
         }),
+        Line::OpenGuarantee => Ok(Route::OpenGuarantee {
+            holder: next_holder(&mut parts)?,
+        }),
+        Line::Ie015 => Ok(Route::Ie015 {
+            holder: next_holder(&mut parts)?,
+        }),
         Line::SeeHolder => Ok(Route::SeeHolder {
             holder: next_holder(&mut parts)?,
         }),
@@ -93,6 +103,7 @@ fn methods_for(place: Place) -> Allowed
 {
     match place {
         Place::OfficeHolder => Allowed::Put,
+        Place::OfficeGuarantees | Place::Movements => Allowed::Post,
         Place::Holder => Allowed::Get,
     }
 }

@@ -1,5 +1,5 @@
 //! Serving a stream of requests.
-ghost use Rattle.std.specs.Prelude.{◌||◌, ℤ};
+ghost use Rattle.std.specs.Prelude.{◌||◌};
 ghost use Rattle.td_http.specs.Request.{asked};
 ghost use Rattle.td_http.specs.Farewell.{Farewell};
 ghost use Rattle.td_http.specs.Stream.{Serves};
@@ -9,10 +9,9 @@ use crate::input::Input;
 use crate::reading::{Stop, read_request};
 use crate::reply::Reply;
 use crate::request::Request;
-use crate::sending::send;
 use std::alloc::Global;
 use std::io::{Read, Write};
-use td_base::Counted;
+use td_base::{Counted, write_whole};
 
 /// The most requests of a stream.
 const MAX_REQUESTS: u32 = 1000;
@@ -65,21 +64,19 @@ pub trait Handler {
         ensures { answers_head self.old target.now result self.new };
 }
 
-/// The reply to a request that came whole, at the moment that the clock gives now. The last one of a stream closes it.
-fn answer<C: Clock, H: Handler>(
+/// The reply to a request that came whole at this moment. The last one of a stream closes it.
+fn answer<H: Handler>(
     alloc: Global,
-    clock: &mut C,
+    at: i64,
     handler: &mut H,
     mut request: Request,
     last: bool,
 ) -> Reply
-    ensures { (at : ℤ) × C.ticks clock.old at clock.new
-        × H.answers handler.old at (record (asked request) { close = request.close || last }) result handler.new }
+    ensures { H.answers handler.old at (record (asked request) { close = request.close || last }) result handler.new }
 {
     if last {
         request.close = true;
     }
-    let at = clock.seconds();
     handler.handle(alloc, at, &request)
 }
 
@@ -98,14 +95,14 @@ fn end_stream<W: Write, H: Handler>(
         Stop::ReadsSpent => StreamEnd::ReadsSpent,
         Stop::ReadFault => StreamEnd::ReadFault,
         Stop::NoMemory => {
-            if send(writer, Reply::NoMemory.as_bytes()) {
+            if write_whole(writer, Reply::NoMemory.as_bytes()) {
                 StreamEnd::Failed
             } else {
                 StreamEnd::WriteFault
             }
         }
         Stop::Refused(e) => {
-            if send(writer, e.reply()) {
+            if write_whole(writer, e.reply()) {
                 StreamEnd::Refused
             } else {
                 StreamEnd::WriteFault
@@ -113,7 +110,7 @@ fn end_stream<W: Write, H: Handler>(
         }
         Stop::Head(target) => {
             let reply = handler.head(alloc, &target);
-            if !send(writer, reply.as_bytes()) {
+            if !write_whole(writer, reply.as_bytes()) {
                 StreamEnd::WriteFault
             } else if reply.is_made() {
                 StreamEnd::Refused
@@ -147,8 +144,9 @@ pub fn serve_requests<R: Read, W: Write, C: Clock, H: Handler>(
             Err(stop) => return end_stream(alloc, writer, handler, stop),
         };
         let asks = request.close;
-        let reply = answer(alloc, clock, handler, request, served + 1 == MAX_REQUESTS);
-        if !send(writer, reply.as_bytes()) {
+        let at = clock.seconds();
+        let reply = answer(alloc, at, handler, request, served + 1 == MAX_REQUESTS);
+        if !write_whole(writer, reply.as_bytes()) {
             return StreamEnd::WriteFault;
         }
         if !reply.is_made() {

@@ -5,6 +5,8 @@ use td_base::HolderNo;
 #[derive(Clone, Copy, Debug, PartialEq, Eq)]
 pub(crate) enum Place {
     OfficeHolder,
+    OfficeGuarantees,
+    Movements,
     Holder,
 }
 
@@ -12,6 +14,8 @@ pub(crate) enum Place {
 #[derive(Clone, Copy, Debug, PartialEq, Eq)]
 pub(crate) enum Line {
     Register,
+    OpenGuarantee,
+    Ie015,
     SeeHolder,
 }
 
@@ -20,6 +24,10 @@ pub(crate) enum Line {
 pub enum Route {
     /// `PUT /office/holders/H`
     Register { holder: HolderNo },
+    /// `POST /office/holders/H/guarantees`
+    OpenGuarantee { holder: HolderNo },
+    /// `POST /holders/H/movements`
+    Ie015 { holder: HolderNo },
     /// `GET /holders/H`
     SeeHolder { holder: HolderNo },
 }

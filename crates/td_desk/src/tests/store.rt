@@ -1,14 +1,17 @@
 //! A desk over a store that a fault may shut, as a desk over a file is.
 ghost use Rattle.std.specs.Prelude.{◌≡◌, ℕ, true, IfOk, OnOk, OnErr, IsTrue};
 ghost use Rattle.td_acts.specs.Book.{Book};
-ghost use Rattle.td_desk.specs.Content.{Content, IsSound, holder_in, changed};
+ghost use Rattle.td_acts.specs.Deciding.{IsLoaded};
+ghost use Rattle.td_desk.specs.Content.{Content, changed};
+ghost use Rattle.td_desk.specs.Sound.{IsSound};
+ghost use Rattle.td_desk.specs.Weighing.{kept_of};
 ghost use Rattle.td_desk.specs.Runs.{IsTied, IsRun};
 
 use crate::{Decision, Desk, Fault, Outcome, PlainDesk, run};
 use std::alloc::{AllocError, Global};
 use td_acts::table::verdict;
-use td_acts::{Change, Command, Loaded, Said, Stamped, Verdict, known, owner};
-use td_base::{Country, HolderNo};
+use td_acts::{Change, Command, Loaded, Said, Stamped, Verdict, known};
+use td_base::Country;
 
 /// A store that may fail, that may shut as it fails, and that may have been tampered with.
 pub trait Store: Drop {
@@ -24,18 +27,16 @@ pub trait Store: Drop {
     fn country(&self) -> Country
         ensures { is_kept self.now → is_open self.now → result ≡ (rows self.now).country };
 
-    /// What a verdict needs of a holder's rows, or of none.
-    fn load(&mut self, holder: Option<HolderNo>) -> Result<Loaded, Fault>
+    /// What the verdict on a command needs of its owner's rows, or of none.
+    fn load(&mut self, alloc: Global, command: &Command) -> Result<Loaded, Fault>
         ensures kept { is_kept self.new → is_kept self.old }
         ensures open { is_kept self.new → is_open self.new → is_open self.old }
         ensures shown { is_kept self.new → OnOk result (is_open self.old × is_open self.new) }
         ensures same { is_kept self.new → is_open self.new → rows self.new ≡ rows self.old }
-        ensures country { is_kept self.new → is_open self.old → IfOk result (λ l. l.country ≡ (rows self.old).country) }
-        ensures owned { is_kept self.new → is_open self.old → IfOk result (λ l. (H : ℕ) → holder ≡ Some H → l.holder ≡ holder_in H (rows self.old).holders) }
-        ensures unowned { IfOk result (λ l. holder ≡ None → l.holder ≡ None) };
+        ensures loaded { is_kept self.new → is_open self.old → IfOk result (IsLoaded (kept_of (rows self.old) command.now) command.now) };
 
     /// A failure leaves the rows, or shuts the store.
-    fn write(&mut self, change: Change) -> Result<(), Fault>
+    fn write(&mut self, alloc: Global, change: Change) -> Result<(), Fault>
         ensures kept { is_kept self.new → is_kept self.old }
         ensures open { is_kept self.new → is_open self.new → is_open self.old }
         ensures shown { is_kept self.new → OnOk result (is_open self.old × is_open self.new) }
@@ -72,18 +73,17 @@ impl<S: Store> Desk for StoreDesk<S> {
 
     fn weigh(&mut self, alloc: Global, at: i64, command: &Command) -> Result<Decision, Fault> {
         let _known = known(command);
-        let holder = owner(self.store.country(), command);
-        let loaded = self.store.load(holder)?;
+        let loaded = self.store.load(alloc, command)?;
         let verdict = verdict(alloc, &loaded, at, command)?;
         Ok(Decision::new(verdict))
     }
 
-    fn carry(&mut self, _alloc: Global, decision: Decision) -> Result<Said, Fault> {
+    fn carry(&mut self, alloc: Global, decision: Decision) -> Result<Said, Fault> {
         let Verdict { said, change } = decision.into_verdict();
         if let Change::Nothing = change {
             return Ok(said);
         }
-        self.store.write(change)?;
+        self.store.write(alloc, change)?;
         Ok(said)
     }
 }
@@ -145,18 +145,19 @@ impl Store for FaultyStore {
         self.rows.country()
     }
 
-    fn load(&mut self, holder: Option<HolderNo>) -> Result<Loaded, Fault> {
+    fn load(&mut self, alloc: Global, command: &Command) -> Result<Loaded, Fault> {
         if !self.serve() {
             return Err(Fault::Store);
         }
-        Ok(self.rows.load(holder))
+        let loaded = self.rows.load(alloc, command)?;
+        Ok(loaded)
     }
 
-    fn write(&mut self, change: Change) -> Result<(), Fault> {
+    fn write(&mut self, alloc: Global, change: Change) -> Result<(), Fault> {
         if !self.serve() {
             return Err(Fault::Store);
         }
-        self.rows.apply(change)?;
+        self.rows.apply(alloc, change)?;
         Ok(())
     }
 }

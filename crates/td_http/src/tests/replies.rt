@@ -1,5 +1,5 @@
 //! Replies, byte for byte.
-use crate::{Allowed, Field, WebFault, fault_bytes, reply_bytes};
+use crate::{Allowed, Field, WebFault, answer_is_told_in, fault_bytes, reply_bytes};
 use std::test::Fail;
 use td_acts::{Answer, Refusal, Said};
 use td_base::{Eori, HolderNo};
@@ -12,6 +12,7 @@ fn writes_what_is_said(rt: HostRuntime) -> Result<(), Fail> {
         guarantees: 0,
         movements: 0,
     };
+    answer_is_told_in(&answer);
     for (said, close, want) in [
         (
             Said::Answered(answer),
@@ -33,6 +34,36 @@ fn writes_what_is_said(rt: HostRuntime) -> Result<(), Fail> {
             true,
             "HTTP/1.1 409 Conflict\r\nContent-Type: application/json\r\nContent-Length: 24\r\nConnection: close\r\n\r\n{\"error\":\"holder-known\"}",
         ),
+        (
+            Said::Refused(Refusal::ClockBack),
+            false,
+            "HTTP/1.1 409 Conflict\r\nContent-Type: application/json\r\nContent-Length: 22\r\n\r\n{\"error\":\"clock-back\"}",
+        ),
+        (
+            Said::Refused(Refusal::NoGuarantee),
+            false,
+            "HTTP/1.1 404 Not Found\r\nContent-Type: application/json\r\nContent-Length: 24\r\n\r\n{\"error\":\"no-guarantee\"}",
+        ),
+        (
+            Said::Refused(Refusal::BadCode),
+            false,
+            "HTTP/1.1 403 Forbidden\r\nContent-Type: application/json\r\nContent-Length: 20\r\n\r\n{\"error\":\"bad-code\"}",
+        ),
+        (
+            Said::Refused(Refusal::GuaranteeEnded),
+            false,
+            "HTTP/1.1 409 Conflict\r\nContent-Type: application/json\r\nContent-Length: 27\r\n\r\n{\"error\":\"guarantee-ended\"}",
+        ),
+        (
+            Said::Refused(Refusal::LrnUsed),
+            false,
+            "HTTP/1.1 409 Conflict\r\nContent-Type: application/json\r\nContent-Length: 20\r\n\r\n{\"error\":\"lrn-used\"}",
+        ),
+        (
+            Said::Refused(Refusal::SerialsSpent),
+            false,
+            "HTTP/1.1 409 Conflict\r\nContent-Type: application/json\r\nContent-Length: 25\r\n\r\n{\"error\":\"serials-spent\"}",
+        ),
     ] {
         let reply = reply_bytes(rt.alloc(), &said, close)?;
         assert!(rt; reply.as_slice() == want.as_bytes(), "{want}");
@@ -52,6 +83,12 @@ fn writes_faults(rt: HostRuntime) -> Result<(), Fail> {
                 allow: Allowed::Put,
             },
             "HTTP/1.1 405 Method Not Allowed\r\nContent-Type: application/json\r\nContent-Length: 21\r\nAllow: PUT\r\n\r\n{\"error\":\"no-method\"}",
+        ),
+        (
+            WebFault::NoMethod {
+                allow: Allowed::Post,
+            },
+            "HTTP/1.1 405 Method Not Allowed\r\nContent-Type: application/json\r\nContent-Length: 21\r\nAllow: POST\r\n\r\n{\"error\":\"no-method\"}",
         ),
         (
             WebFault::BadHolder,

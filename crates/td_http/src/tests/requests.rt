@@ -1,60 +1,77 @@
 //! Requests, and the command or the fault that each of them is read as.
+use super::asked::{asked, request, words_of};
 use crate::bodies::read_command_by;
 use crate::routes::{Routes, route};
-use crate::{Allowed, Field, Request, Route, WebFault, read_command};
+use crate::{Allowed, Field, Route, WebFault, read_command};
 use http::Method;
-use std::alloc::Global;
 use std::test::Fail;
-use td_acts::Command;
-use td_base::{Eori, HolderNo};
+use td_base::HolderNo;
 
-fn request(alloc: Global, method: &str, target: &[u8], body: &[u8]) -> Result<Request, Fail> {
-    Ok(Request {
-        method: Method::from_bytes(alloc, method.as_bytes())?,
-        target: Vec::from_slice(alloc, target)?,
-        body: Vec::from_slice(alloc, body)?,
-        close: false,
-    })
-}
+/// Requests that are read, and their commands.
+const READ: [(&str, &str, &str, &str); 5] = [
+    (
+        "PUT",
+        "/office/holders/000001",
+        "{\"eori\":\"CH1234567\"}",
+        "register 000001 CH1234567",
+    ),
+    (
+        "PUT",
+        "/office/holders/000001?a=/b?c",
+        " {\"a\":[{}],\"eori\":\"DE1\",\"eori\":\"\\u0043H1234567\"}\r\n",
+        "register 000001 CH1234567",
+    ),
+    (
+        "POST",
+        "/office/holders/999999/guarantees?a",
+        "{\"reference\":100,\"cover\":0,\"code\":\"AB12\"}",
+        "open 999999 1.00 0 AB12",
+    ),
+    ("GET", "/holders/000001", "", "see 000001"),
+    ("GET", "/holders/000001?", "not JSON", "see 000001"),
+];
 
 #[test]
 fn reads_commands(rt: HostRuntime) -> Result<(), Fail> {
     let alloc = rt.alloc();
-    let holder = HolderNo::new(1).ok_or("a number")?;
-    let eori = Eori::read(b"CH1234567").ok_or("an EORI")?;
     let mut routes = Routes::new();
-    for (target, body) in [
-        ("/office/holders/000001", "{\"eori\":\"CH1234567\"}"),
+    for (method, target, body, want) in &READ {
+        let request = request(alloc, method, target.as_bytes(), body.as_bytes())?;
+        assert_eq!(rt; asked(alloc, &request)?.as_str(), *want, "at {target}");
+        let again = read_command_by(alloc, &mut routes, &request)?;
+        assert_eq!(rt; words_of(alloc, &again)?.as_str(), *want, "at {target}");
+    }
+    Ok(())
+}
+
+#[test]
+fn finds_routes(rt: HostRuntime) -> Result<(), Fail> {
+    let alloc = rt.alloc();
+    let holder = HolderNo::new(1).ok_or("a number")?;
+    for (method, path, want) in [
         (
-            "/office/holders/000001?a=/b?c",
-            " {\"a\":[{}],\"eori\":\"DE1\",\"eori\":\"\\u0043H1234567\"}\r\n",
+            Method::PUT,
+            "/office/holders/000001",
+            Route::Register { holder },
         ),
+        (
+            Method::POST,
+            "/office/holders/000001/guarantees",
+            Route::OpenGuarantee { holder },
+        ),
+        (
+            Method::POST,
+            "/holders/000001/movements",
+            Route::Ie015 { holder },
+        ),
+        (Method::GET, "/holders/000001", Route::SeeHolder { holder }),
     ] {
-        let request = request(alloc, "PUT", target.as_bytes(), body.as_bytes())?;
-        assert!(rt;
-            read_command(alloc, &request)? == Command::Register { holder, eori },
-            "at {target}"
-        );
-        assert!(rt;
-            read_command_by(alloc, &mut routes, &request)? == Command::Register { holder, eori },
-            "at {target}"
+        assert_eq!(rt;
+            route(alloc, &method, path.as_bytes()),
+            Ok(want),
+            "at {path}"
         );
     }
-    for (target, body) in [("/holders/000001", ""), ("/holders/000001?", "not JSON")] {
-        let request = request(alloc, "GET", target.as_bytes(), body.as_bytes())?;
-        assert!(rt;
-            read_command(alloc, &request)? == Command::SeeHolder { holder },
-            "at {target}"
-        );
-        assert!(rt;
-            read_command_by(alloc, &mut routes, &request)? == Command::SeeHolder { holder },
-            "at {target}"
-        );
-    }
-    assert_eq!(rt;
-        route(alloc, &Method::GET, b"/holders/000001"),
-        Ok(Route::SeeHolder { holder })
-    );
     Ok(())
 }
 
@@ -66,6 +83,9 @@ fn tells_faults(rt: HostRuntime) -> Result<(), Fail> {
     };
     let put = WebFault::NoMethod {
         allow: Allowed::Put,
+    };
+    let post = WebFault::NoMethod {
+        allow: Allowed::Post,
     };
     let eori = WebFault::BadField(Field::Eori);
     let mut routes = Routes::new();
@@ -84,6 +104,39 @@ fn tells_faults(rt: HostRuntime) -> Result<(), Fail> {
         ("get", "/holders/000001", "", get),
         ("PUT", "/holders/000001", "{}", get),
         ("GET", "/office/holders/000001", "", put),
+        ("GET", "/office/holders/000001/guarantees", "", post),
+        ("PUT", "/office/holders/zzz/guarantees", "[]", post),
+        ("post", "/office/holders/000001/guarantees", "", post),
+        ("GET", "/holders/000001/movements", "", post),
+        ("DELETE", "/holders/zzz/movements", "", post),
+        (
+            "POST",
+            "/office/holders/000001/guarantees/",
+            "",
+            WebFault::NoRoute,
+        ),
+        ("POST", "/office/holders//guarantees", "", WebFault::NoRoute),
+        (
+            "POST",
+            "/office/holders/000001/Guarantees",
+            "",
+            WebFault::NoRoute,
+        ),
+        (
+            "POST",
+            "/office/holders/000001/movements",
+            "",
+            WebFault::NoRoute,
+        ),
+        ("POST", "/holders/000001/movements/", "", WebFault::NoRoute),
+        ("POST", "/holders//movements", "", WebFault::NoRoute),
+        (
+            "POST",
+            "/office/holders/000000/guarantees",
+            "[]",
+            WebFault::BadHolder,
+        ),
+        ("POST", "/holders/1/movements", "[]", WebFault::BadHolder),
         ("GET", "/holders/000000", "", WebFault::BadHolder),
         ("GET", "/holders/00001", "", WebFault::BadHolder),
         ("GET", "/holders/0000001", "", WebFault::BadHolder),
@@ -134,14 +187,14 @@ fn tells_faults(rt: HostRuntime) -> Result<(), Fail> {
     ] {
         let request = request(alloc, method, target.as_bytes(), body.as_bytes())?;
         assert_eq!(rt;
-            read_command_by(alloc, &mut routes, &request),
-            Err(want),
+            read_command_by(alloc, &mut routes, &request).err(),
+            Some(want),
             "at {method} {target}"
         );
     }
     let target = request(alloc, "GET", b"/holders/00000\xff", b"")?;
-    assert_eq!(rt; read_command(alloc, &target), Err(WebFault::NoRoute));
+    assert_eq!(rt; read_command(alloc, &target).err(), Some(WebFault::NoRoute));
     let body = request(alloc, "PUT", b"/office/holders/000001", b"{\"\xff\":1}")?;
-    assert_eq!(rt; read_command(alloc, &body), Err(WebFault::BadBody));
+    assert_eq!(rt; read_command(alloc, &body).err(), Some(WebFault::BadBody));
     Ok(())
 }

@@ -1,9 +1,21 @@
-use Rattle.std.proofs.Common.{ℕ, subst, sym}
+use Rattle.std.proofs.Common.{◌≡◌, ℕ, ◌+◌, false, arith, subst, sym}
 use Rattle.std.proofs.KnownBytes.{Appends-trans}
-use Rattle.td_base.specs.Counted.{calls_of, HasCalled}
+use Rattle.td_base.specs.declared.counted.Counted.{Counted}
+use Rattle.td_base.specs.Counted.{calls_of, one_more, HasCalled, HasMade}
+use Rattle.td_base.specs.Writing.{MadeWrites}
+use Rattle.td_base.proofs.Calls.{made_more}
 use Rattle.td_base.proofs.Counts.{called_more, not_fallen}
 use Rattle.td_base.proofs.Slices.{more_sent, more_fits}
 use Rattle.td_base.proofs.writing.write_whole.Goals as goal
+
+-- a write after some
+one_write : (n a b c : ℕ) → HasMade n a b → c ≡ one_more b → (m : ℕ) × HasMade m a c
+one_write n a b c made is = (n + 1, subst (HasMade (n + 1) a) (sym is) (made_more n a b made))
+
+-- a write after some, which was the last
+last_write : {W : Type 0} (old new : Counted W) (n b : ℕ) → HasMade n (calls_of old) b → calls_of new ≡ one_more b → MadeWrites old new false
+last_write old new n b made is =
+    record { writes = n + 1; made = subst (HasMade (n + 1) (calls_of old)) (sym is) (made_more n _ b made); some = λ _. omega arith }
 
 pub loop-sent-preserved : goal.loop-sent-preserved
 loop-sent-preserved g c =
@@ -12,4 +24,11 @@ loop-sent-preserved g c =
       within = more_fits c.args.bytes.now c.loop-sent.sent c.in-Ok.n c.loop-sent.invariant.within c.in-Ok.ensures.bound;
       written = rw more_sent at more;
       called = not_fallen _ _ (subst (λ (n : ℕ). HasCalled (calls_of c.args.writer.now) n) (sym c.in-Ok.ensures.calls) (called_more (calls_of c.args.writer.now) (calls_of c.loop-sent.writer) c.loop-sent.invariant.called));
+      writes = one_write _ _ _ _ c.loop-sent.invariant.writes.1 c.in-Ok.ensures.calls;
     }
+
+pub returns-in-Ok-eq0-clause-writes : goal.returns-in-Ok-eq0-clause-writes
+returns-in-Ok-eq0-clause-writes g c = last_write c.args.writer.now c.write.new.self c.loop-sent.invariant.writes.0 _ c.loop-sent.invariant.writes.1 c.write.ensures.calls
+
+pub returns-in-Ok-eq0-2-clause-writes : goal.returns-in-Ok-eq0-2-clause-writes
+returns-in-Ok-eq0-2-clause-writes g c = last_write c.args.writer.now c.write.new.self c.loop-sent.invariant.writes.0 _ c.loop-sent.invariant.writes.1 c.write.ensures.calls

@@ -1,7 +1,8 @@
 use Rattle.std.proofs.Common.{◌≡◌, ℕ, ◌≤◌, length, take, vec_len}
 use Rattle.std.specs.Prelude.{vec_capacity}
 use Rattle.td_acts.specs.Book.{Book}
-use Rattle.td_desk.specs.Content.{Content, IsSound}
+use Rattle.td_desk.specs.Content.{Content}
+use Rattle.td_desk.specs.Sound.{IsSound}
 use Rattle.td_desk.specs.Runs.{IsTied, IsRun}
 use Rattle.td_desk.proofs.running.run.Given as goal
 

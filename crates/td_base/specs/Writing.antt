@@ -2,8 +2,7 @@
 use Rattle.std.specs.Prelude.{◌≡◌, ℕ, ◌<◌, Bool, true, false, List, length, take, Option}
 use Rattle.std.specs.Io.KnownBytes.{Appends}
 use Rattle.td_base.specs.declared.counted.Counted.{Counted}
-use Rattle.td_base.specs.Counted.{calls_of, has_failed, known_bytes}
-use Rattle.td_http.specs.Calls.{HasMade}
+use Rattle.td_base.specs.Counted.{calls_of, has_failed, known_bytes, HasMade}
 
 -- only the first n bytes of the message were taken, since the last write, one of these, failed or took nothing
 pub record IsCutShort {W : Type 0} (contents : W → Option (List ℕ)) (old new : Counted W) (message : List ℕ) : Type 0 where

@@ -1,0 +1,180 @@
+-- What an accepted command of H writes: rows of H, in their ranges, that follow on the rows before.
+use Rattle.std.proofs.Common.{◌≡◌, ◌≢◌, ℕ, ◌+◌, ◌<◌, Bool, true, false, List, [], ◌∷◌, map, Option, Some, None, refl, ap, arith}
+use Rattle.std.specs.Prelude.{◌&&◌, not, nat_lt, nat_le, if◌then◌else◌, IfSome, IsSome}
+use Rattle.std.specs.Option.{is_some}
+use Rattle.std.specs.List.{AllByRecursion}
+use Rattle.std.proofs.lemmas.List.{length-map}
+use Rattle.std.proofs.lemmas.Bool.Decides.{nat_tests}
+use Rattle.td_base.specs.Codes.{IsAccessCode}
+use Rattle.td_base.specs.Days.{IsDay, day_of_moment}
+use Rattle.td_base.specs.Moment.{IsMoment}
+use Rattle.td_base.specs.References.{grn_text, mrn_text}
+use Rattle.td_acts.specs.declared.lines.Line.{Line}
+use Rattle.td_acts.specs.declared.rows.HolderRow.{HolderRow}
+use Rattle.td_acts.specs.declared.rows.Guarantee.{Guarantee}
+use Rattle.td_acts.specs.declared.rows.Movement.{Movement}
+use Rattle.td_acts.specs.declared.rows.Change.{Change}
+use Rattle.td_acts.specs.declared.rows.Change.TheVariants as change
+use Rattle.td_acts.specs.declared.command.Command.{Command}
+use Rattle.td_acts.specs.declared.command.Command.TheVariants.{Register, OpenGuarantee, Ie015, SeeHolder}
+use Rattle.td_acts.specs.declared.said.Answer.{Answer}
+use Rattle.td_acts.specs.declared.said.Refusal.{Refusal}
+use Rattle.td_acts.specs.declared.said.Refusal.TheVariants.{ClockBack, SerialsSpent}
+use Rattle.td_acts.specs.declared.said.Said.TheVariants.{Answered, Refused}
+use Rattle.td_acts.specs.Account.{Account, guarantee_with, movement_with}
+use Rattle.td_acts.specs.Acceptance.{is_answer, is_accepted_at}
+use Rattle.td_acts.specs.Book.{year2_at}
+use Rattle.td_acts.specs.Commands.{owner_of, IsProper}
+use Rattle.td_acts.specs.Declaring.{first_refusal, line_refusal, guarantee_refusal, refusal_or, has_contents}
+use Rattle.td_acts.specs.Deciding.{rows_written, change_at, change_in}
+use Rattle.td_acts.specs.Lines.{line_of, IsLines, IsLineAmount}
+use Rattle.td_acts.specs.Table.{if_lrn_new, if_not_refused}
+use Rattle.td_desk.specs.Sound.{IsHolderRow, AreCodes, IsGuaranteeRow, AreMovementLines, IsMovementRow}
+use Rattle.td_desk.proofs.Joined.{All-map, AllPairs-map, AllByRecursion-map}
+
+-- a new holder's row, where there was none
+pub record IsRegistered (H : ℕ) (before : Option HolderRow) (row : HolderRow) : Type 0 where
+  pub new : before ≡ None
+  pub number : row.holder ≡ H
+  pub ranges : IsHolderRow row
+  pub no_grn : row.grn_count ≡ 0
+  pub no_mrn : row.mrn_count ≡ 0
+
+-- the holder's row with a moment and the next serial of a guarantee, and that guarantee
+pub record IsOpened (country : List ℕ) (H : ℕ) (before : Option HolderRow) (row : HolderRow) (g : Guarantee) : Type 0 where
+  pub old : HolderRow
+  pub known : before ≡ Some old
+  pub moment : IsMoment row.last_at
+  pub next : row ≡ record old { last_at = row.last_at; grn_count = old.grn_count + 1 }
+  pub left : old.grn_count < 999999
+  pub guarantee : IsGuaranteeRow country H (old.grn_count + 1) g
+
+-- the holder's row with a moment and the next serial of a movement, and that movement, of a new LRN
+pub record IsDeclared (country : List ℕ) (H : ℕ) (account : Account) (row : HolderRow) (m : Movement) : Type 0 where
+  pub old : HolderRow
+  pub known : account.holder ≡ Some old
+  pub moment : IsMoment row.last_at
+  pub next : row ≡ record old { last_at = row.last_at; mrn_count = old.mrn_count + 1 }
+  pub left : old.mrn_count < 9999999
+  pub movement : IsMovementRow country H account.guarantees (old.mrn_count + 1) m
+  pub fresh : movement_with m.lrn account.movements ≡ None
+
+-- the rows of a change follow on H's account
+abbrev pub IsFor : List ℕ → ℕ → Account → Change → Type 0
+IsFor country H account change.Nothing = Unit {0}
+IsFor country H account (change.Registered row) = IsRegistered H account.holder row
+IsFor country H account (change.Opened row g) = IsOpened country H account.holder row g
+IsFor country H account (change.Declared row m) = IsDeclared country H account row m
+
+-- a guarantee is opened where neither the clock nor the serials refuse it
+opened_facts : (back spent : Bool) (a : Answer) → is_answer (if back then Refused ClockBack else (if spent then Refused SerialsSpent else Answered a)) && true ≡ true → (back ≡ false) × (spent ≡ false)
+opened_facts true spent a accepted = cc
+opened_facts false true a accepted = cc
+opened_facts false false a accepted = (refl, refl)
+
+-- nothing is true and false
+never : (b : Bool) → b && false ≡ true → ⊥
+never true h = cc
+never false h = cc
+
+-- a declaration is accepted where nothing refuses it and its LRN is new
+lodged_facts : (back : Bool) (known : Option Movement) (same : Movement → Bool) (spent : Bool) (refusal : Option Refusal) (a : Answer)
+    → is_answer (if back then Refused ClockBack else if_lrn_new known same (if spent then Refused SerialsSpent else if_not_refused refusal (Answered a))) && not (is_some known) ≡ true
+    → (back ≡ false) × (known ≡ None) × (spent ≡ false) × (refusal ≡ None)
+lodged_facts true known same spent refusal a accepted = cc
+lodged_facts false None same true refusal a accepted = cc
+lodged_facts false None same false None a accepted = (refl, refl, refl, refl)
+lodged_facts false None same false (Some why) a accepted = cc
+lodged_facts false (Some m) same spent refusal a accepted = absurd (never _ accepted)
+
+-- a line that isn't refused names a guarantee
+found_if_fine : (day : ℕ) (code : List ℕ) (o : Option Guarantee) → guarantee_refusal day code o ≡ None → IsSome o
+found_if_fine day code None fine = cc
+found_if_fine day code (Some g) fine = refl
+
+-- neither of two refusals came
+neither : (a b : Option Refusal) → refusal_or a b ≡ None → (a ≡ None) × (b ≡ None)
+neither None b h = (refl, h)
+neither (Some why) b h = cc
+
+-- lines that aren't refused name guarantees
+named_if_fine : (day : ℕ) (gs : List Guarantee) (lines : List (Line × List ℕ)) → first_refusal day gs lines ≡ None → AllByRecursion (λ l. IsSome (guarantee_with (line_of l).grn gs)) lines
+named_if_fine day gs [] fine = tt
+named_if_fine day gs (l ∷ lines) fine =
+    let h = neither (line_refusal day gs l) (first_refusal day gs lines) fine in
+    (found_if_fine day l.1 (guarantee_with l.0.grn gs) h.0, named_if_fine day gs lines h.1)
+
+-- the lines of a declaration that is accepted are those of a movement
+lines_kept : (gs : List Guarantee) (lines : List (Line × List ℕ)) → IsLines lines → AllByRecursion (λ l. IsSome (guarantee_with (line_of l).grn gs)) lines → AreMovementLines gs (map line_of lines)
+lines_kept gs lines is named = record {
+  some = simp length-map is.some;
+  most = simp length-map is.most;
+  amounts = All-map line_of (λ l. IsLineAmount l.cents) lines (λ l. (l, [])) is.amounts;
+  distinct = AllPairs-map line_of (λ l m. l.grn ≢ m.grn) lines (λ l. (l, [])) is.distinct;
+  own = AllByRecursion-map line_of (λ l. IsSome (guarantee_with l.grn gs)) lines named;
+}
+
+-- the day of a moment is a day
+day_is : (t : ℕ) → IsMoment t → IsDay (day_of_moment t)
+day_is t moment = (omega (arith, moment.0, moment.1), omega (arith, moment.0, moment.1))
+
+-- one code is a guarantee's codes
+one_code : (code : List ℕ) → IsAccessCode code → AreCodes (code ∷ [])
+one_code code form = record { some = omega arith; most = omega arith; form = λ k d within. let first : k ≡ 0 = omega (arith, within) in rw first form; distinct = λ i j d less within. absurd (omega (arith, less, within)) }
+
+-- what an accepted command of H writes over H's account follows on it
+rows_are_for : (H : ℕ) (country : List ℕ) (o : Option HolderRow) (gs : List Guarantee) (ms : List Movement) (t : ℕ) (command : Command) → owner_of country command ≡ Some H → IsProper command → IsMoment t
+    → is_accepted_at (record { country = country; holder = o; guarantees = gs; movements = ms }) t command ≡ true
+    → IsFor country H (record { country = country; holder = o; guarantees = gs; movements = ms }) (rows_written (record { country = country; holder = o; guarantees = gs; movements = ms }) t command)
+rows_are_for H country None gs ms t (Register h eori) own proper moment accepted = record {
+  new = refl;
+  number = cc;
+  ranges = record { number = proper.0; eori = proper.1; last_at = moment };
+  no_grn = refl;
+  no_mrn = refl;
+}
+rows_are_for H country (Some row) gs ms t (Register h eori) own proper moment accepted = cc
+rows_are_for H country None gs ms t (OpenGuarantee h reference cover code) own proper moment accepted = cc
+rows_are_for H country (Some row) gs ms t (OpenGuarantee h reference cover code) own proper moment accepted =
+    let facts = opened_facts (nat_lt t row.last_at) (nat_le 999999 row.grn_count) _ accepted in
+    let same : h ≡ H = cc in
+    record {
+      old = row;
+      known = refl;
+      moment = moment;
+      next = refl;
+      left = grind (arith, nat_tests, facts.1);
+      guarantee = record { grn = (year2_at t, omega arith, ap (λ n. grn_text (year2_at t) country n (row.grn_count + 1)) same); reference = proper.1; cover = proper.2; ends = tt; codes = one_code code proper.3 };
+    }
+rows_are_for H country None gs ms t (Ie015 h lrn departure destination lines) own proper moment accepted = cc
+rows_are_for H country (Some row) gs ms t (Ie015 h lrn departure destination lines) own proper moment accepted =
+    let facts = lodged_facts (nat_lt t row.last_at) (movement_with lrn ms) (has_contents departure destination (map line_of lines)) (nat_le 9999999 row.mrn_count) (first_refusal (day_of_moment t) gs lines) _ accepted in
+    let same : h ≡ H = cc in
+    record {
+      old = row;
+      known = refl;
+      moment = moment;
+      next = refl;
+      left = grind (arith, nat_tests, facts.2);
+      movement = record { mrn = ap (λ n. mrn_text (year2_at t) country n (row.mrn_count + 1)) same; lrn = proper.1; departure = proper.2; destination = proper.3; accepted = day_is t moment; lines = lines_kept gs lines proper.4 (named_if_fine (day_of_moment t) gs lines facts.3) };
+      fresh = facts.1;
+    }
+rows_are_for H country o gs ms t (SeeHolder h) own proper moment accepted = cc
+
+-- the rows of an accepted command, else nothing
+change_at_is_for : (H : ℕ) (country : List ℕ) (o : Option HolderRow) (gs : List Guarantee) (ms : List Movement) (t : ℕ) (command : Command) → owner_of country command ≡ Some H → IsProper command → IsMoment t
+    → IsFor country H (record { country = country; holder = o; guarantees = gs; movements = ms }) (change_at (record { country = country; holder = o; guarantees = gs; movements = ms }) t command)
+change_at_is_for H country o gs ms t command own proper moment = by_test (is_accepted_at account t command) refl
+  where
+    account : Account
+    account = record { country = country; holder = o; guarantees = gs; movements = ms }
+
+    by_test : (b : Bool) → is_accepted_at account t command ≡ b → IsFor country H account (if b then rows_written account t command else change.Nothing)
+    by_test true accepted = rows_are_for H country o gs ms t command own proper moment accepted
+    by_test false other = tt
+
+-- what a command of H writes over H's account follows on it
+pub change_in_is_for : (H : ℕ) (account : Account) (m : Option ℕ) (command : Command) → owner_of account.country command ≡ Some H → IsProper command → IfSome m IsMoment
+    → IsFor account.country H account (change_in m account command)
+change_in_is_for H account None command own proper moment = tt
+change_in_is_for H account (Some t) command own proper moment = change_at_is_for H account.country account.holder account.guarantees account.movements t command own proper moment

@@ -1,0 +1,135 @@
+-- Rows that follow on a holder's rows: the account with them, and the rules that they keep.
+use Rattle.std.proofs.Common.{◌≡◌, ◌≢◌, ℕ, zero, suc, ◌+◌, ◌<◌, Bool, true, false, List, [], ◌∷◌, ◌++◌, length, Option, Some, None, refl, sym, subst, arith, get_or}
+use Rattle.std.specs.Prelude.{IfSome, IsSome, if◌then◌else◌}
+use Rattle.std.specs.Str.{bytes_eq}
+use Rattle.std.proofs.lemmas.List.{length-append}
+use Rattle.std.proofs.lemmas.Slice.Eq.{bytes_eq-Decides}
+use Rattle.td_base.specs.Moment.{IsMoment}
+use Rattle.td_acts.specs.declared.lines.Line.{Line}
+use Rattle.td_acts.specs.declared.rows.HolderRow.{HolderRow}
+use Rattle.td_acts.specs.declared.rows.Guarantee.{Guarantee}
+use Rattle.td_acts.specs.declared.rows.Movement.{Movement}
+use Rattle.td_acts.specs.declared.rows.Change.{Change}
+use Rattle.td_acts.specs.declared.rows.Change.TheVariants as change
+use Rattle.td_acts.specs.Account.{guarantee_with, movement_with}
+use Rattle.td_acts.specs.Deciding.{applied, row_in}
+use Rattle.td_desk.specs.Content.{HolderRows, account_with, written, rows_or_new}
+use Rattle.td_desk.specs.Sound.{IsGuaranteeRow, AreMovementLines, IsMovementRow, AreHolderRows}
+use Rattle.td_desk.proofs.Accepted.{IsFor}
+use Rattle.td_desk.proofs.Joined.{AllPairs-append, AllNumbered-append, AllNumbered-weaker, AllByRecursion-weaker}
+
+-- the row of written rows is that of the change
+pub key_written : (c : Change) (row : HolderRow) (h : HolderRows) → row_in c ≡ Some row → (written c h).row ≡ row
+key_written change.Nothing row h has = cc
+key_written (change.Registered r) row h has = cc
+key_written (change.Opened r g) row h has = cc
+key_written (change.Declared r m) row h has = cc
+
+-- the account of written rows is the account with the change
+pub applied_written : (country : List ℕ) (H : ℕ) (o : Option HolderRows) (c : Change) (row : HolderRow) → row_in c ≡ Some row → IsFor country H (account_with country o) c
+    → account_with country (Some (written c (rows_or_new row o))) ≡ applied c (account_with country o)
+applied_written country H o change.Nothing row has is = cc
+applied_written country H None (change.Registered r) row has is = refl
+applied_written country H (Some h) (change.Registered r) row has is = let none = is.new in cc
+applied_written country H None (change.Opened r g) row has is = let some = is.known in cc
+applied_written country H (Some h) (change.Opened r g) row has is = refl
+applied_written country H None (change.Declared r m) row has is = let some = is.known in cc
+applied_written country H (Some h) (change.Declared r m) row has is = refl
+
+-- this one, or another that is there still
+some_either : (b : Bool) (f : Guarantee) (o p : Option Guarantee) → (IsSome o → IsSome p) → IsSome (if◌then◌else◌ {A = Option Guarantee} b (Some f) o) → IsSome (if◌then◌else◌ {A = Option Guarantee} b (Some f) p)
+some_either true f o p still some = refl
+some_either false f o p still some = still some
+
+-- a guarantee is found as before where one more stands behind
+found_still : (grn : List ℕ) (gs : List Guarantee) (g : Guarantee) → IsSome (guarantee_with grn gs) → IsSome (guarantee_with grn (gs ++ g ∷ []))
+found_still grn [] g some = cc
+found_still grn (f ∷ gs) g some = some_either (bytes_eq f.grn grn) f (guarantee_with grn gs) (guarantee_with grn (gs ++ g ∷ [])) (found_still grn gs g) some
+
+lines_still : (gs : List Guarantee) (g : Guarantee) (lines : List Line) → AreMovementLines gs lines → AreMovementLines (gs ++ g ∷ []) lines
+lines_still gs g lines are = record {
+  some = are.some;
+  most = are.most;
+  amounts = are.amounts;
+  distinct = are.distinct;
+  own = AllByRecursion-weaker (λ l. IsSome (guarantee_with l.grn gs)) (λ l. IsSome (guarantee_with l.grn (gs ++ g ∷ []))) (λ l. found_still l.grn gs g) lines are.own;
+}
+
+movement_still : (country : List ℕ) (H : ℕ) (gs : List Guarantee) (g : Guarantee) (n : ℕ) (m : Movement) → IsMovementRow country H gs n m → IsMovementRow country H (gs ++ g ∷ []) n m
+movement_still country H gs g n m is = record { mrn = is.mrn; lrn = is.lrn; departure = is.departure; destination = is.destination; accepted = is.accepted; lines = lines_still gs g m.lines is.lines }
+
+-- where nothing is found, it isn't the first, and not later
+not_first : (b : Bool) (m : Movement) (o : Option Movement) → if◌then◌else◌ {A = Option Movement} b (Some m) o ≡ None → (b ≡ false) × (o ≡ None)
+not_first true m o none = cc
+not_first false m o none = (refl, none)
+
+differs : (a b : List ℕ) → bytes_eq a b ≡ false → a ≢ b
+differs a b other = λ same. let yes = (bytes_eq-Decides a b).1 same in cc
+
+-- an LRN that isn't found is none of the movements'
+other_lrn : (lrn : List ℕ) (ms : List Movement) → movement_with lrn ms ≡ None → (k : ℕ) (d : Movement) → k < length ms → (get_or ms k d).lrn ≢ lrn
+other_lrn lrn [] none k d within = absurd (omega (arith, within))
+other_lrn lrn (m ∷ ms) none zero d within = differs m.lrn lrn (not_first (bytes_eq m.lrn lrn) m (movement_with lrn ms) none).0
+other_lrn lrn (m ∷ ms) none (suc k) d within = other_lrn lrn ms (not_first (bytes_eq m.lrn lrn) m (movement_with lrn ms) none).1 k d (omega (arith, within))
+
+-- a holder's rows with one more guarantee keep their rules
+sound_opened : (country : List ℕ) (h : HolderRows) (g : Guarantee) (t : ℕ) → IsMoment t → h.row.grn_count < 999999 → IsGuaranteeRow country h.row.holder (h.row.grn_count + 1) g → AreHolderRows country h
+    → AreHolderRows country (record { row = record h.row { last_at = t; grn_count = h.row.grn_count + 1 }; guarantees = h.guarantees ++ g ∷ []; movements = h.movements })
+sound_opened country h g t moment left is sound = record {
+  row = record { number = sound.row.number; eori = sound.row.eori; last_at = moment };
+  guarantees = AllNumbered-append (IsGuaranteeRow country h.row.holder) 0 h.guarantees g sound.guarantees (subst (λ n. IsGuaranteeRow country h.row.holder n g) (omega (arith, sound.grn_count)) is);
+  grn_count = simp length-append (omega (arith, sound.grn_count));
+  grn_most = omega (arith, left);
+  movements = AllNumbered-weaker (IsMovementRow country h.row.holder h.guarantees) (IsMovementRow country h.row.holder (h.guarantees ++ g ∷ [])) (λ n m. movement_still country h.row.holder h.guarantees g n m) 0 h.movements sound.movements;
+  mrn_count = sound.mrn_count;
+  mrn_most = sound.mrn_most;
+  lrns = sound.lrns;
+}
+
+-- and so with one more movement
+sound_declared : (country : List ℕ) (h : HolderRows) (m : Movement) (t : ℕ) → IsMoment t → h.row.mrn_count < 9999999 → IsMovementRow country h.row.holder h.guarantees (h.row.mrn_count + 1) m → movement_with m.lrn h.movements ≡ None → AreHolderRows country h
+    → AreHolderRows country (record { row = record h.row { last_at = t; mrn_count = h.row.mrn_count + 1 }; guarantees = h.guarantees; movements = h.movements ++ m ∷ [] })
+sound_declared country h m t moment left is fresh sound = record {
+  row = record { number = sound.row.number; eori = sound.row.eori; last_at = moment };
+  guarantees = sound.guarantees;
+  grn_count = sound.grn_count;
+  grn_most = sound.grn_most;
+  movements = AllNumbered-append (IsMovementRow country h.row.holder h.guarantees) 0 h.movements m sound.movements (subst (λ n. IsMovementRow country h.row.holder h.guarantees n m) (omega (arith, sound.mrn_count)) is);
+  mrn_count = simp length-append (omega (arith, sound.mrn_count));
+  mrn_most = omega (arith, left);
+  lrns = AllPairs-append (λ (a b : Movement). a.lrn ≢ b.lrn) h.movements m sound.lrns (other_lrn m.lrn h.movements fresh);
+}
+
+-- the row that was there
+the_row : (r : HolderRow) (old : HolderRow) → Some r ≡ Some old → old ≡ r
+the_row r old e = cc
+
+-- a holder's rows keep their rules
+pub sound_written : (country : List ℕ) (H : ℕ) (o : Option HolderRows) (c : Change) (row : HolderRow) → row_in c ≡ Some row → IsFor country H (account_with country o) c → IfSome o (λ h. h.row.holder ≡ H) → IfSome o (AreHolderRows country)
+    → AreHolderRows country (written c (rows_or_new row o))
+sound_written country H o change.Nothing row has is number sound = cc
+sound_written country H None (change.Registered r) row has is number sound = record {
+  row = is.ranges;
+  guarantees = tt;
+  grn_count = is.no_grn;
+  grn_most = omega (arith, is.no_grn);
+  movements = tt;
+  mrn_count = is.no_mrn;
+  mrn_most = omega (arith, is.no_mrn);
+  lrns = λ i j d less within. absurd (omega (arith, within));
+}
+sound_written country H (Some h) (change.Registered r) row has is number sound = let none = is.new in cc
+sound_written country H None (change.Opened r g) row has is number sound = let some = is.known in cc
+sound_written country H (Some h) (change.Opened r g) row has is number sound =
+    let same : is.old ≡ h.row = the_row h.row is.old is.known in
+    let next : r ≡ record h.row { last_at = r.last_at; grn_count = h.row.grn_count + 1 } = subst (λ (o : HolderRow). r ≡ record o { last_at = r.last_at; grn_count = o.grn_count + 1 }) same is.next in
+    let left : h.row.grn_count < 999999 = subst (λ (o : HolderRow). o.grn_count < 999999) same is.left in
+    let guarantee : IsGuaranteeRow country h.row.holder (h.row.grn_count + 1) g = subst (λ n. IsGuaranteeRow country n (h.row.grn_count + 1) g) (sym number) (subst (λ (o : HolderRow). IsGuaranteeRow country H (o.grn_count + 1) g) same is.guarantee) in
+    subst (λ (x : HolderRow). AreHolderRows country (record { row = x; guarantees = h.guarantees ++ g ∷ []; movements = h.movements })) (sym next) (sound_opened country h g r.last_at is.moment left guarantee sound)
+sound_written country H None (change.Declared r m) row has is number sound = let some = is.known in cc
+sound_written country H (Some h) (change.Declared r m) row has is number sound =
+    let same : is.old ≡ h.row = the_row h.row is.old is.known in
+    let next : r ≡ record h.row { last_at = r.last_at; mrn_count = h.row.mrn_count + 1 } = subst (λ (o : HolderRow). r ≡ record o { last_at = r.last_at; mrn_count = o.mrn_count + 1 }) same is.next in
+    let left : h.row.mrn_count < 9999999 = subst (λ (o : HolderRow). o.mrn_count < 9999999) same is.left in
+    let movement : IsMovementRow country h.row.holder h.guarantees (h.row.mrn_count + 1) m = subst (λ n. IsMovementRow country n h.guarantees (h.row.mrn_count + 1) m) (sym number) (subst (λ (o : HolderRow). IsMovementRow country H h.guarantees (o.mrn_count + 1) m) same is.movement) in
+    subst (λ (x : HolderRow). AreHolderRows country (record { row = x; guarantees = h.guarantees; movements = h.movements ++ m ∷ [] })) (sym next) (sound_declared country h m r.last_at is.moment left movement is.fresh sound)

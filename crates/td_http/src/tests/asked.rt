@@ -1,0 +1,71 @@
+//! Requests, the commands that they are read as, and what is told of those that can't be read.
+use crate::{Request, fault_bytes, read_command};
+use http::Method;
+use std::alloc::Global;
+use std::test::Fail;
+use td_acts::{Command, Lines};
+
+pub(super) fn request(
+    alloc: Global,
+    method: &str,
+    target: &[u8],
+    body: &[u8],
+) -> Result<Request, Fail> {
+    Ok(Request {
+        method: Method::from_bytes(alloc, method.as_bytes())?,
+        target: Vec::from_slice(alloc, target)?,
+        body: Vec::from_slice(alloc, body)?,
+        close: false,
+    })
+}
+
+/// The command of a request, in words.
+pub(super) fn asked(alloc: Global, request: &Request) -> Result<String, Fail> {
+    words_of(alloc, &read_command(alloc, request)?)
+}
+
+/// The reply to a request that can't be read.
+pub(super) fn refused(alloc: Global, request: &Request) -> Result<Vec<u8>, Fail> {
+    match read_command(alloc, request) {
+        Ok(_) => Err("the request was read".into()),
+        Err(fault) => Ok(fault_bytes(alloc, &fault, false)?),
+    }
+}
+
+/// A command in words: its fields in order.
+pub(super) fn words_of(alloc: Global, command: &Command) -> Result<String, Fail> {
+    Ok(match command {
+        Command::Register { holder, eori } => format!(in alloc; "register {holder} {eori}")?,
+        Command::OpenGuarantee {
+            holder,
+            reference,
+            cover,
+            code,
+        } => {
+            let cents = reference.get();
+            let percent = cover.get();
+            format!(in alloc; "open {holder} {cents} {percent} {code}")?
+        }
+        Command::Ie015 {
+            holder,
+            lrn,
+            departure,
+            destination,
+            lines,
+        } => {
+            let lines = line_words(alloc, lines)?;
+            format!(in alloc; "declare {holder} {lrn} {departure} {destination}{lines}")?
+        }
+        Command::SeeHolder { holder } => format!(in alloc; "see {holder}")?,
+    })
+}
+
+fn line_words(alloc: Global, lines: &Lines) -> Result<String, Fail> {
+    let mut text = String::new(alloc);
+    for (line, code) in lines.as_slice() {
+        let grn = line.grn;
+        let cents = line.cents;
+        text.push_str(&format!(in alloc; " {grn}:{code}:{cents}")?)?;
+    }
+    Ok(text)
+}
