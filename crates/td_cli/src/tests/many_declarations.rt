@@ -1,7 +1,7 @@
 //! Many declarations at one desk: a few as a test, and so many as the environment says where their time is measured.
 use super::texts::{lodge, open, register, see, shown};
 use crate::clock::FixedClock;
-use std::alloc::Global;
+use std::alloc::{AllocError, Global};
 use std::env;
 use std::env::VarError;
 use std::process::Abort;
@@ -17,16 +17,20 @@ struct Holder {
     grn: String,
 }
 
+fn holder_of(alloc: Global, country: Country, number: u32) -> Result<Holder, Fail> {
+    let number = HolderNo::new(number).ok_or("a number")?;
+    let grn = Grn::make(25, country, number, 1).ok_or("a serial")?;
+    Ok(Holder {
+        number: format!(in alloc; "{number}")?,
+        grn: format!(in alloc; "{grn}")?,
+    })
+}
+
 // 100 holders at a desk of that country.
-fn holders(alloc: Global, country: Country) -> Result<Vec<Holder>, Fail> {
+fn holders_of(alloc: Global, country: Country) -> Result<Vec<Holder>, Fail> {
     let mut holders = Vec::new(alloc);
     for number in 1..=100 {
-        let number = HolderNo::new(number).ok_or("a number")?;
-        let grn = Grn::make(25, country, number, 1).ok_or("a serial")?;
-        holders.push(Holder {
-            number: format!(in alloc; "{number}")?,
-            grn: format!(in alloc; "{grn}")?,
-        })?;
+        holders.push(holder_of(alloc, country, number)?)?;
     }
     Ok(holders)
 }
@@ -38,6 +42,52 @@ fn declarations_each(rt: &HostRuntime) -> Result<u32, Fail> {
         Err(VarError::NotPresent) => Ok(10),
         Err(error) => Err(error.into()),
     }
+}
+
+// The requests that register the holders.
+fn registrations(alloc: Global, holders: &[Holder]) -> Result<String, AllocError> {
+    let mut text = String::new(alloc);
+    for holder in holders {
+        text.push_str(&register(alloc, &holder.number)?)?;
+    }
+    Ok(text)
+}
+
+// The requests that open a guarantee for each.
+fn openings(alloc: Global, holders: &[Holder]) -> Result<String, AllocError> {
+    let mut text = String::new(alloc);
+    for holder in holders {
+        text.push_str(&open(alloc, &holder.number)?)?;
+    }
+    Ok(text)
+}
+
+// A declaration of each, whose LRN is the holder's number and this one.
+fn declarations(alloc: Global, holders: &[Holder], number: u32) -> Result<String, AllocError> {
+    let mut text = String::new(alloc);
+    for holder in holders {
+        let lrn = format!(in alloc; "{}-{number}", holder.number)?;
+        text.push_str(&lodge(alloc, &holder.number, &lrn, &holder.grn)?)?;
+    }
+    Ok(text)
+}
+
+// The requests that ask to see each.
+fn views(alloc: Global, holders: &[Holder]) -> Result<String, AllocError> {
+    let mut text = String::new(alloc);
+    for holder in holders {
+        text.push_str(&see(alloc, &holder.number)?)?;
+    }
+    Ok(text)
+}
+
+// The replies to these where each has one guarantee and so many movements.
+fn all_shown(alloc: Global, holders: &[Holder], movements: u32) -> Result<String, AllocError> {
+    let mut text = String::new(alloc);
+    for holder in holders {
+        text.push_str(&shown(alloc, &holder.number, 1, movements)?)?;
+    }
+    Ok(text)
 }
 
 // What is written for a stream that is served to its end.
@@ -54,36 +104,22 @@ fn served(
     Ok(writer.into_inner())
 }
 
-// Each holder registers and has a guarantee opened, and then they lodge in turn, a stream for each turn. In the end each has as many
-// movements as declarations.
+// The holders register, have a guarantee opened each, and then lodge in turn, a stream for each turn. In the end each has as many movements as
+// declarations.
 #[test]
 fn holders_lodge_in_turn(rt: HostRuntime) -> Result<(), Fail> {
     let alloc = rt.alloc();
     let country = Country::read(b"CH").ok_or("country")?;
+    let holders = holders_of(alloc, country)?;
+    let each = declarations_each(&rt)?;
     let mut service = Service::new(PlainDesk::new(alloc, country)?);
-    let holders = holders(alloc, country)?;
-    let declarations = declarations_each(&rt)?;
-    let mut input = String::new(alloc);
-    for holder in &holders {
-        input.push_str(&register(alloc, &holder.number)?)?;
-        input.push_str(&open(alloc, &holder.number)?)?;
+    let _registered = served(&rt, &mut service, &registrations(alloc, &holders)?)?;
+    let _opened = served(&rt, &mut service, &openings(alloc, &holders)?)?;
+    for turn in 0..each {
+        let _lodged = served(&rt, &mut service, &declarations(alloc, &holders, turn)?)?;
     }
-    let _opened = served(&rt, &mut service, &input)?;
-    for turn in 0..declarations {
-        input.clear();
-        for holder in &holders {
-            let lrn = format!(in alloc; "{}-{turn}", holder.number)?;
-            input.push_str(&lodge(alloc, &holder.number, &lrn, &holder.grn)?)?;
-        }
-        let _lodged = served(&rt, &mut service, &input)?;
-    }
-    input.clear();
-    let mut wanted = String::new(alloc);
-    for holder in &holders {
-        input.push_str(&see(alloc, &holder.number)?)?;
-        wanted.push_str(&shown(alloc, &holder.number, 1, declarations)?)?;
-    }
-    let views = served(&rt, &mut service, &input)?;
+    let views = served(&rt, &mut service, &views(alloc, &holders)?)?;
+    let wanted = all_shown(alloc, &holders, each)?;
     assert_eq!(rt; str::from_utf8(&views)?, wanted.as_str());
     Ok(())
 }

@@ -1,11 +1,10 @@
 //! Guarantees opened, and their references.
+use super::WORDS;
 use super::exchanges::{
     NO_HOLDER, OPEN, OPENED, OTHER_OPEN, OTHER_OPENED, OTHER_REGISTER, OTHER_SEE, OTHER_SHOWN,
     assert_replies,
 };
 use super::first_requests::{REGISTER, SEE, SHOWN};
-use super::texts::{lodge, lodged, open, opened, register, shown};
-use super::{WORDS, perform_over};
 use std::test::Fail;
 
 const SECOND_OPENED: &[u8] =
@@ -54,35 +53,79 @@ fn nothing_is_opened_for_a_number_that_is_not_registered(rt: HostRuntime) -> Res
     )
 }
 
-// A desk's country, the first guarantee of its holder 000001 in 2025, and the first movement. The sums of these guarantees are 33460, 33656
-// and 33724, those of the movements 66228, 66424 and 66492.
-const COUNTRIES: [(&str, &str, &str); 3] = [
-    ("BE", "25BE0000010000019", "25BE00000100000018"),
-    ("LV", "25LV0000010000017", "25LV00000100000016"),
-    ("UZ", "25UZ0000010000019", "25UZ00000100000018"),
-];
+// The first guarantee of holder 000001 at a desk of another country, and the first movement. The sums of these guarantees are 33460 (BE),
+// 33656 (LV) and 33724 (UZ), those of the movements 66228, 66424 and 66492.
+const BE_OPENED: &[u8] =
+    b"HTTP/1.1 200 OK\r\nContent-Type: application/json\r\nContent-Length: 27\r\n\r\n{\"grn\":\"25BE0000010000019\"}";
+
+const BE_A1: &[u8] =
+    b"POST /holders/000001/movements HTTP/1.1\r\nContent-Length: 127\r\n\r\n{\"lrn\":\"A1\",\"departure\":\"CH001251\",\"destination\":\"DE005600\",\"lines\":[{\"grn\":\"25BE0000010000019\",\"code\":\"AB12\",\"cents\":500000}]}";
+
+const BE_A1_LODGED: &[u8] =
+    b"HTTP/1.1 200 OK\r\nContent-Type: application/json\r\nContent-Length: 57\r\n\r\n{\"lrn\":\"A1\",\"message\":\"IE028\",\"mrn\":\"25BE00000100000018\"}";
+
+const LV_OPENED: &[u8] =
+    b"HTTP/1.1 200 OK\r\nContent-Type: application/json\r\nContent-Length: 27\r\n\r\n{\"grn\":\"25LV0000010000017\"}";
+
+const LV_A1: &[u8] =
+    b"POST /holders/000001/movements HTTP/1.1\r\nContent-Length: 127\r\n\r\n{\"lrn\":\"A1\",\"departure\":\"CH001251\",\"destination\":\"DE005600\",\"lines\":[{\"grn\":\"25LV0000010000017\",\"code\":\"AB12\",\"cents\":500000}]}";
+
+const LV_A1_LODGED: &[u8] =
+    b"HTTP/1.1 200 OK\r\nContent-Type: application/json\r\nContent-Length: 57\r\n\r\n{\"lrn\":\"A1\",\"message\":\"IE028\",\"mrn\":\"25LV00000100000016\"}";
+
+const UZ_OPENED: &[u8] =
+    b"HTTP/1.1 200 OK\r\nContent-Type: application/json\r\nContent-Length: 27\r\n\r\n{\"grn\":\"25UZ0000010000019\"}";
+
+const UZ_A1: &[u8] =
+    b"POST /holders/000001/movements HTTP/1.1\r\nContent-Length: 127\r\n\r\n{\"lrn\":\"A1\",\"departure\":\"CH001251\",\"destination\":\"DE005600\",\"lines\":[{\"grn\":\"25UZ0000010000019\",\"code\":\"AB12\",\"cents\":500000}]}";
+
+const UZ_A1_LODGED: &[u8] =
+    b"HTTP/1.1 200 OK\r\nContent-Type: application/json\r\nContent-Length: 57\r\n\r\n{\"lrn\":\"A1\",\"message\":\"IE028\",\"mrn\":\"25UZ00000100000018\"}";
 
 #[test]
-fn each_country_has_its_check_digits(rt: HostRuntime) -> Result<(), Fail> {
-    let alloc = rt.alloc();
-    for (country, grn, mrn) in &COUNTRIES {
-        let mut input = register(alloc, "000001")?;
-        input.push_str(&open(alloc, "000001")?)?;
-        input.push_str(&lodge(alloc, "000001", "A1", grn)?)?;
-        let mut wanted = shown(alloc, "000001", 0, 0)?;
-        wanted.push_str(&opened(alloc, grn)?)?;
-        wanted.push_str(&lodged(alloc, "A1", mrn)?)?;
-        let words = [
+fn a_desk_of_belgium_has_its_check_digits(rt: HostRuntime) -> Result<(), Fail> {
+    assert_replies(
+        &rt,
+        &[
             "transit-desk",
             "pipe",
             "--country",
-            country,
+            "BE",
             "--at",
             "1740819600",
-        ];
-        let done = perform_over(&rt, &words, input.as_bytes())?;
-        assert_eq!(rt; str::from_utf8(&done.out)?, wanted.as_str());
-        assert_eq!(rt; done.status, 0, "{country}");
-    }
-    Ok(())
+        ],
+        &[(REGISTER, SHOWN), (OPEN, BE_OPENED), (BE_A1, BE_A1_LODGED)],
+    )
+}
+
+#[test]
+fn a_desk_of_latvia_has_its_check_digits(rt: HostRuntime) -> Result<(), Fail> {
+    assert_replies(
+        &rt,
+        &[
+            "transit-desk",
+            "pipe",
+            "--country",
+            "LV",
+            "--at",
+            "1740819600",
+        ],
+        &[(REGISTER, SHOWN), (OPEN, LV_OPENED), (LV_A1, LV_A1_LODGED)],
+    )
+}
+
+#[test]
+fn a_desk_of_uzbekistan_has_its_check_digits(rt: HostRuntime) -> Result<(), Fail> {
+    assert_replies(
+        &rt,
+        &[
+            "transit-desk",
+            "pipe",
+            "--country",
+            "UZ",
+            "--at",
+            "1740819600",
+        ],
+        &[(REGISTER, SHOWN), (OPEN, UZ_OPENED), (UZ_A1, UZ_A1_LODGED)],
+    )
 }
