@@ -104,22 +104,41 @@ fn served(
     Ok(writer.into_inner())
 }
 
-// The holders register, have a guarantee opened each, and then lodge in turn, a stream for each turn. In the end each has as many movements as
-// declarations.
+// The holders register, have a guarantee opened each, and then lodge in turn, a stream for each turn.
+fn lodge_in_turn(
+    rt: &(impl AllocGlobal + Abort),
+    service: &mut Service<PlainDesk>,
+    holders: &[Holder],
+    each: u32,
+) -> Result<(), Fail> {
+    let _registered = served(rt, service, &registrations(rt.alloc(), holders)?)?;
+    let _opened = served(rt, service, &openings(rt.alloc(), holders)?)?;
+    for turn in 0..each {
+        let _lodged = served(rt, service, &declarations(rt.alloc(), holders, turn)?)?;
+    }
+    Ok(())
+}
+
+// Each of the holders is shown with one guarantee and so many movements.
+fn assert_shown(
+    rt: &(impl AllocGlobal + Abort),
+    service: &mut Service<PlainDesk>,
+    holders: &[Holder],
+    movements: u32,
+) -> Result<(), Fail> {
+    let told = served(rt, service, &views(rt.alloc(), holders)?)?;
+    let wanted = all_shown(rt.alloc(), holders, movements)?;
+    assert_eq!(rt; str::from_utf8(&told)?, wanted.as_str());
+    Ok(())
+}
+
+// In the end each has as many movements as declarations.
 #[test]
 fn holders_lodge_in_turn(rt: HostRuntime) -> Result<(), Fail> {
-    let alloc = rt.alloc();
     let country = Country::read(b"CH").ok_or("country")?;
-    let holders = holders_of(alloc, country)?;
+    let holders = holders_of(rt.alloc(), country)?;
     let each = declarations_each(&rt)?;
-    let mut service = Service::new(PlainDesk::new(alloc, country)?);
-    let _registered = served(&rt, &mut service, &registrations(alloc, &holders)?)?;
-    let _opened = served(&rt, &mut service, &openings(alloc, &holders)?)?;
-    for turn in 0..each {
-        let _lodged = served(&rt, &mut service, &declarations(alloc, &holders, turn)?)?;
-    }
-    let views = served(&rt, &mut service, &views(alloc, &holders)?)?;
-    let wanted = all_shown(alloc, &holders, each)?;
-    assert_eq!(rt; str::from_utf8(&views)?, wanted.as_str());
-    Ok(())
+    let mut service = Service::new(PlainDesk::new(rt.alloc(), country)?);
+    lodge_in_turn(&rt, &mut service, &holders, each)?;
+    assert_shown(&rt, &mut service, &holders, each)
 }
