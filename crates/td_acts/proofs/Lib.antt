@@ -1,5 +1,5 @@
 pub mod Growing
-mod Earlier
+pub mod Earlier
 mod Lodging
 pub mod Machines
 pub mod Written

@@ -14,7 +14,7 @@ pub mod table;
 
 pub use codes::Codes;
 pub use command::{Command, Stamped, known, owner};
-pub use declaring::{find_guarantee, find_movement};
+pub use declaring::find_guarantee;
 pub use laws::{fresh_book_says_its_account, writes_what_is_accepted, writes_what_the_book_says};
 pub use lines::{Line, Lines, MovementLines};
 pub use rows::{Change, Guarantee, HolderRow, Loaded, Movement, Verdict};

@@ -1,5 +1,6 @@
 pub mod Keyed
 mod Joined
+mod PlaceOfLrn
 mod Places
 pub mod Fresh
 pub mod Turns

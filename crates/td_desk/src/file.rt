@@ -1,14 +1,13 @@
 //! The rows of one holder in memory.
-ghost use Rattle.std.specs.Prelude.{◌≡◌, [], Some, option_to_list, filter_map, IfOk, OnOk, OnErr};
+ghost use Rattle.std.specs.Prelude.{◌≡◌, ◌≢◌, [], Some, None, map, option_to_list, filter_map, All, IfSome, IfOk, OnOk, OnErr};
 ghost use Rattle.td_acts.specs.Account.{guarantee_with, movement_with};
 ghost use Rattle.td_acts.specs.Deciding.{IsLoaded};
 ghost use Rattle.td_desk.specs.Content.{account_with, written};
+ghost use Rattle.td_desk.specs.Rows.{IsFirstPlace};
 
 use std::alloc::{AllocError, Global};
 use std::marker::Model;
-use td_acts::{
-    Change, Command, Guarantee, HolderRow, Lines, Loaded, Movement, find_guarantee, find_movement,
-};
+use td_acts::{Change, Command, Guarantee, HolderRow, Lines, Loaded, Movement, find_guarantee};
 use td_base::{Country, HolderNo, Lrn};
 
 /// A registered holder's row, and the holder's own guarantees and movements by serial.
@@ -17,14 +16,19 @@ pub(crate) struct HolderFile {
     row: HolderRow,
     guarantees: Vec<Guarantee>,
     movements: Vec<Movement>,
+    // The movements' LRNs side by side: a declaration's is looked for here, in far less memory than the movements take.
+    lrns: Vec<Lrn>,
 }
 
 impl Model for HolderFile {
+    ghost use Rattle.std.specs.Prelude.{◌≡◌, map};
     ghost use Rattle.td_desk.specs.Content.{HolderRows};
 
     ghost Value = { HolderRows };
 
     ghost view = { λ f. record { row = f.row; guarantees = f.guarantees.items; movements = f.movements.items } };
+
+    ghost invariant = { λ f. f.lrns.items ≡ map (λ m. m.lrn) f.movements.items };
 }
 
 impl HolderFile {
@@ -36,6 +40,7 @@ impl HolderFile {
             row,
             guarantees: Vec::new(alloc),
             movements: Vec::new(alloc),
+            lrns: Vec::new(alloc),
         }
     }
 
@@ -59,7 +64,10 @@ impl HolderFile {
                 self.row = row;
             }
             Change::Declared(row, movement) => {
+                let lrn = movement.lrn;
+                self.lrns.reserve(1)?;
                 self.movements.push(movement)?;
+                self.lrns.push_reserved(lrn);
                 self.row = row;
             }
         }
@@ -77,7 +85,7 @@ impl HolderFile {
     {
         let (movements, guarantees) = match command {
             Command::Ie015 { lrn, lines, .. } => (
-                movements_with(alloc, &self.movements, lrn)?,
+                movements_with(alloc, &self.movements, &self.lrns, lrn)?,
                 guarantees_of(alloc, &self.guarantees, lines)?,
             ),
             _ => (Vec::new(alloc), Vec::new(alloc)),
@@ -91,19 +99,34 @@ impl HolderFile {
     }
 }
 
-// The movement with an LRN, if there is one.
+// The movement with an LRN, if there is one, by the place of the LRN among theirs.
 fn movements_with(
     alloc: Global,
     movements: &[Movement],
+    lrns: &[Lrn],
     lrn: &Lrn,
 ) -> Result<Vec<Movement>, AllocError>
+    requires { lrns.now ≡ map (λ m. m.lrn) movements.now }
     ensures { IfOk result (λ found. found.items ≡ option_to_list (movement_with lrn.now movements.now)) }
 {
     let mut found = Vec::new(alloc);
-    if let Some(movement) = find_movement(movements, lrn) {
-        found.push(movement.copy(alloc)?)?;
+    if let Some(at) = find_place(lrns, lrn) {
+        found.push(movements[at].copy(alloc)?)?;
     }
     Ok(found)
+}
+
+// The first place of an LRN among others.
+fn find_place(lrns: &[Lrn], lrn: &Lrn) -> Option<usize>
+    ensures first { IfSome result (IsFirstPlace lrn.now lrns.now) }
+    ensures none { result ≡ None → All (λ l. l ≢ lrn.now) lrns.now }
+{
+    for (at, known) in lrns.iter().enumerate() {
+        if known.as_bytes() == lrn.as_bytes() {
+            return Some(at);
+        }
+    }
+    None
 }
 
 // The guarantees that lines name, as far as they are there.
