@@ -1,6 +1,7 @@
 -- A movement by the place of its LRN among the LRNs.
-use Rattle.std.proofs.Common.{◌≡◌, ◌≢◌, ℕ, zero, suc, ◌<◌, Bool, true, false, List, [], ◌∷◌, length, map, get_or, Option, Some, None, refl, sym, ◌∙◌, ap, arith}
-use Rattle.std.specs.Prelude.{All, if◌then◌else◌}
+use Rattle.std.proofs.Common.{◌≡◌, ◌≢◌, ℕ, zero, suc, ◌-◌, ◌<◌, Bool, true, false, List, [], ◌∷◌, ◌++◌, length, map, get_or, Some, None, refl, sym, ◌∙◌, ap₂, arith}
+use Rattle.std.specs.Prelude.{All, replicate, ◌&&◌, ◌==◌}
+use Rattle.std.proofs.lemmas.Bool.Decides.{nat_tests}
 use Rattle.std.specs.Str.{bytes_eq}
 use Rattle.std.proofs.lemmas.List.{get_or-map, length-map}
 use Rattle.std.proofs.lemmas.Slice.Eq.{bytes_eq-Decides}
@@ -35,3 +36,24 @@ found_by_place lrn ms at d is =
 pub none_by_place : (lrn : List ℕ) (ms : List Movement) → All (λ l. l ≢ lrn) (map (λ (m : Movement). m.lrn) ms) → movement_with lrn ms ≡ None
 none_by_place lrn [] none = refl
 none_by_place lrn (m ∷ ms) none = rw (told_apart m.lrn lrn (none zero lrn (omega arith))) (none_by_place lrn ms (λ k d within. none (suc k) d (omega (arith, within))))
+
+-- two texts of one length with more behind them are the same where the whole is
+same_front : (x y r s : List ℕ) → length x ≡ length y → x ++ r ≡ y ++ s → x ≡ y
+same_front [] [] r s long same = refl
+same_front [] (b ∷ y) r s long same = absurd (omega (arith, long))
+same_front (a ∷ x) [] r s long same = absurd (omega (arith, long))
+same_front (a ∷ x) (b ∷ y) r s long same =
+    let head : a ≡ b = cc in
+    let rest : x ++ r ≡ y ++ s = cc in
+    ap₂ (λ c l. c ∷ l) head (same_front x y r s (omega (arith, long)) rest)
+
+-- both of two tests passed
+both : (a b : Bool) → a && b ≡ true → (a ≡ true) × (b ≡ true)
+both true b h = (refl, h)
+both false b h = cc
+
+-- LRNs that are kept alike are the same
+pub kept_alike : (x y : List ℕ) → bytes_eq (x ++ replicate (22 - length x) 0) (y ++ replicate (22 - length y) 0) && (length x == length y) ≡ true → x ≡ y
+kept_alike x y h =
+    let b = both (bytes_eq (x ++ replicate (22 - length x) 0) (y ++ replicate (22 - length y) 0)) (length x == length y) h in
+    same_front x y (replicate (22 - length x) 0) (replicate (22 - length y) 0) (grind (arith, nat_tests, b.1)) ((bytes_eq-Decides (x ++ replicate (22 - length x) 0) (y ++ replicate (22 - length y) 0)).0 b.0)

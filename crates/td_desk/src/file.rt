@@ -122,7 +122,7 @@ fn find_place(lrns: &[Lrn], lrn: &Lrn) -> Option<usize>
     ensures none { result ≡ None → All (λ l. l ≢ lrn.now) lrns.now }
 {
     for (at, known) in lrns.iter().enumerate() {
-        if known.as_bytes() == lrn.as_bytes() {
+        if known == lrn {
             return Some(at);
         }
     }

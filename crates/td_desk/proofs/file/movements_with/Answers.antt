@@ -1,6 +1,5 @@
-use Rattle.std.proofs.Common.{◌≡◌, ◌∷◌, [], ◌++◌, ℕ, List, None, refl, sym, ◌∙◌, ap, subst}
+use Rattle.std.proofs.Common.{◌∷◌, [], ◌++◌, ℕ, List, sym, ◌∙◌, ap, subst}
 use Rattle.std.specs.Prelude.{option_to_list, All, ◌≢◌}
-use Rattle.td_acts.specs.Account.{movement_with}
 use Rattle.td_desk.specs.Rows.{IsFirstPlace}
 use Rattle.td_desk.proofs.PlaceOfLrn.{found_by_place, none_by_place}
 use Rattle.td_desk.proofs.file.movements_with.Goals as goal
