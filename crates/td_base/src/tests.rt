@@ -78,7 +78,7 @@ fn references_have_limits(rt: HostRuntime) {
 }
 
 #[test]
-fn references_are_read(rt: HostRuntime) {
+fn mrns_are_read(rt: HostRuntime) {
     let country = Country::read(b"CH").expect(&rt, "a value");
     let mrns: [(&[u8], Option<RefFault>, Option<u32>); 10] = [
         (b"25CH00000100000013", None, Some(1)),
@@ -99,12 +99,11 @@ fn references_are_read(rt: HostRuntime) {
         };
         assert_eq!(rt; read, (fault, owner));
     }
-    let abroad = Country::read(b"DE").expect(&rt, "a country");
-    let mrn = Mrn::read(b"25CH00000100000013").expect(&rt, "an MRN");
-    assert_eq!(rt; mrn.serial(country), Some(1));
-    assert_eq!(rt; mrn.owner(abroad), None);
-    assert_eq!(rt; mrn.serial(abroad), None);
-    assert_eq!(rt; mrn.as_bytes(), b"25CH00000100000013".as_slice());
+}
+
+#[test]
+fn grns_are_read(rt: HostRuntime) {
+    let country = Country::read(b"CH").expect(&rt, "a value");
     let grns: [(&[u8], Option<RefFault>, Option<u32>); 7] = [
         (b"25CH0000010000014", None, Some(1)),
         (b"25CH0000000000019", None, None),
@@ -121,13 +120,24 @@ fn references_are_read(rt: HostRuntime) {
         };
         assert_eq!(rt; read, (fault, owner));
     }
+}
+
+#[test]
+fn references_have_parts(rt: HostRuntime) {
+    let country = Country::read(b"CH").expect(&rt, "a value");
+    let abroad = Country::read(b"DE").expect(&rt, "a country");
+    let mrn = Mrn::read(b"25CH00000100000013").expect(&rt, "an MRN");
+    assert_eq!(rt; mrn.serial(country), Some(1));
+    assert_eq!(rt; mrn.owner(abroad), None);
+    assert_eq!(rt; mrn.serial(abroad), None);
+    assert_eq!(rt; mrn.as_bytes(), b"25CH00000100000013".as_slice());
     let grn = Grn::read(b"25CH0000010000023").expect(&rt, "a GRN");
     assert_eq!(rt; grn.serial(country), Some(2));
     assert_eq!(rt; grn.as_bytes(), b"25CH0000010000023".as_slice());
 }
 
 #[test]
-fn days(rt: HostRuntime) -> Result<(), Fail> {
+fn days_are_read(rt: HostRuntime) {
     let rows: [(&[u8], Option<i64>); 16] = [
         (b"2000-01-01", Some(10_957)),
         (b"2024-02-29", Some(19_782)),
@@ -149,6 +159,10 @@ fn days(rt: HostRuntime) -> Result<(), Fail> {
     for (text, number) in rows {
         assert_eq!(rt; Day::read(text).map(|d| d.number()), number);
     }
+}
+
+#[test]
+fn days_of_moments(rt: HostRuntime) -> Result<(), Fail> {
     let moments: [(i64, &str, u8); 5] = [
         (946_684_800, "2000-01-01", 0),
         (1_740_819_600, "2025-03-01", 25),
@@ -162,6 +176,11 @@ fn days(rt: HostRuntime) -> Result<(), Fail> {
         assert_eq!(rt; day.year2(), year);
         day_reads_back(day);
     }
+    Ok(())
+}
+
+#[test]
+fn days_later(rt: HostRuntime) {
     let sums: [(i64, u32, Option<i64>); 4] = [
         (20_148, 16, Some(20_164)),
         (20_148, 365, Some(20_513)),
@@ -175,11 +194,10 @@ fn days(rt: HostRuntime) -> Result<(), Fail> {
     days_begin_and_end();
     assert!(rt; Day::new(10_956).is_none());
     assert!(rt; Day::new(47_847).is_none());
-    Ok(())
 }
 
 #[test]
-fn money(rt: HostRuntime) -> Result<(), Fail> {
+fn money_is_read(rt: HostRuntime) {
     let rows: [(&[u8], Option<u64>); 17] = [
         (b"0.00", Some(0)),
         (b"0.01", Some(1)),
@@ -202,12 +220,21 @@ fn money(rt: HostRuntime) -> Result<(), Fail> {
     for (text, cents) in rows {
         assert_eq!(rt; Cents::read(text).map(|c| c.get()), cents);
     }
+}
+
+#[test]
+fn money_is_printed(rt: HostRuntime) -> Result<(), Fail> {
     let texts: [(u64, &str); 3] = [(0, "0.00"), (1, "0.01"), (123_456, "1234.56")];
     for (cents, text) in texts {
         let amount = Cents::new(cents).expect(&rt, "an amount");
         assert_eq!(rt; format!(in rt.alloc(); "{amount}")?.as_str(), text);
         cents_read_back(amount);
     }
+    Ok(())
+}
+
+#[test]
+fn shares_are_rounded_up(rt: HostRuntime) {
     let shares: [(u64, u64, u64); 5] = [
         (1, 30, 1),
         (1, 0, 0),
@@ -222,6 +249,10 @@ fn money(rt: HostRuntime) -> Result<(), Fail> {
         assert_eq!(rt; cover.get(), percent);
     }
     assert!(rt; Cover::new(40).is_none());
+}
+
+#[test]
+fn amounts_have_limits(rt: HostRuntime) {
     let one = Cents::new(1).expect(&rt, "an amount");
     let most = Reference::new(1_000_000_000_000_000).expect(&rt, "an amount");
     assert_eq!(rt; one.plus(one).map(|c| c.get()), Some(2));
@@ -229,11 +260,10 @@ fn money(rt: HostRuntime) -> Result<(), Fail> {
     assert!(rt; Reference::new(0).is_none());
     assert!(rt; Reference::new(1_000_000_000_000_001).is_none());
     assert!(rt; Cents::new(1_000_000_000_000_001).is_none());
-    Ok(())
 }
 
 #[test]
-fn names(rt: HostRuntime) -> Result<(), Fail> {
+fn names_are_printed(rt: HostRuntime) -> Result<(), Fail> {
     let holder = HolderNo::read(b"000001").expect(&rt, "a holder");
     let eori = Eori::read(b"CH1234567").expect(&rt, "an EORI");
     let code = AccessCode::read(b"AB12").expect(&rt, "a code");
@@ -247,6 +277,15 @@ fn names(rt: HostRuntime) -> Result<(), Fail> {
     assert_eq!(rt; code.as_bytes(), b"AB12".as_slice());
     assert_eq!(rt; lrn.as_bytes(), b"aZ-0/9.".as_slice());
     assert_eq!(rt; office.as_bytes(), b"CH001251".as_slice());
+    let country = Country::read(b"CH").expect(&rt, "a country");
+    let grn = Grn::read(b"25CH0000010000014").expect(&rt, "a GRN");
+    let mrn = Mrn::read(b"25CH00000100000013").expect(&rt, "an MRN");
+    texts_read_back(country, eori, code, lrn, office, grn, mrn);
+    Ok(())
+}
+
+#[test]
+fn names_have_forms(rt: HostRuntime) {
     let codes: [&[u8]; 4] = [b"AB1", b"AB123", b"ab12", b"AB1-"];
     for code in codes {
         assert!(rt; AccessCode::read(code).is_none());
@@ -265,10 +304,10 @@ fn names(rt: HostRuntime) -> Result<(), Fail> {
     for office in offices {
         assert!(rt; OfficeNo::read(office).is_none());
     }
-    let country = Country::read(b"CH").expect(&rt, "a country");
-    let grn = Grn::read(b"25CH0000010000014").expect(&rt, "a GRN");
-    let mrn = Mrn::read(b"25CH00000100000013").expect(&rt, "an MRN");
-    texts_read_back(country, eori, code, lrn, office, grn, mrn);
+}
+
+#[test]
+fn faults_are_named(rt: HostRuntime) -> Result<(), Fail> {
     let (length, form, digit) = (RefFault::Length, RefFault::Form, RefFault::CheckDigit);
     let faults = format!(in rt.alloc(); "{length}, {form}, {digit}")?;
     assert_eq!(rt;

@@ -23,8 +23,41 @@ fn empty_input_has_no_reply(rt: HostRuntime) -> Result<(), Fail> {
     Ok(())
 }
 
-// Every prefix of the two requests, ended and failing, in one piece and byte by byte: the replies to its whole requests, and nothing done for
-// the rest.
+// A prefix of a stream that ends there, or fails there, in one piece and byte by byte: these replies come, and this line where it ends.
+fn assert_prefix(rt: &HostRuntime, prefix: &[u8], wanted: &[u8], line: &[u8]) -> Result<(), Fail> {
+    let end = prefix.len();
+    let done = pipe(rt, prefix)?;
+    assert_eq!(rt; done.out.as_slice(), wanted, "{end}");
+    assert_eq!(rt; done.status, if line.is_empty() { 0 } else { 1 }, "{end}");
+    assert_eq!(rt; done.errors.as_slice(), line, "{end}");
+    let fails = false;
+    let dripped = perform_over(
+        rt,
+        &WORDS,
+        Drip {
+            left: prefix,
+            fails,
+        },
+    )?;
+    assert_eq!(rt; dripped.out.as_slice(), wanted, "{end}");
+    assert_eq!(rt; dripped.errors.as_slice(), line, "{end}");
+    let fails = true;
+    let failed = perform_over(
+        rt,
+        &WORDS,
+        Drip {
+            left: prefix,
+            fails,
+        },
+    )?;
+    assert_eq!(rt; failed.out.as_slice(), wanted, "{end}");
+    assert_eq!(rt; failed.status, 1, "{end}");
+    let line = b"transit-desk: stream read-fault\n".as_slice();
+    assert_eq!(rt; failed.errors.as_slice(), line, "{end}");
+    Ok(())
+}
+
+// Every prefix of the two requests has the replies to its whole requests, and nothing is done for the rest.
 #[test]
 fn every_prefix_has_the_replies_to_its_whole_requests(rt: HostRuntime) -> Result<(), Fail> {
     let mut input = REGISTER.to_vec(rt.alloc())?;
@@ -32,45 +65,15 @@ fn every_prefix_has_the_replies_to_its_whole_requests(rt: HostRuntime) -> Result
     let mut replies = SHOWN.to_vec(rt.alloc())?;
     replies.extend_from_slice(SHOWN)?;
     for end in 0..=input.len() {
-        let whole = usize::from(end >= REGISTER.len())
-            + usize::from(end >= REGISTER.len() + SEE.len());
+        let whole = usize::from(end >= REGISTER.len()) + usize::from(end == input.len());
         let wanted = &replies[..(whole * SHOWN.len()).min(replies.len())];
-        let between = end == 0 || end == REGISTER.len() || end == REGISTER.len() + SEE.len();
-        let prefix = &input[..end];
-        let done = pipe(&rt, prefix)?;
-        assert_eq!(rt; done.out.as_slice(), wanted, "{end}");
-        assert_eq!(rt; done.status, if between { 0 } else { 1 }, "{end}");
+        let between = end == 0 || end == REGISTER.len() || end == input.len();
         let line = if between {
             b"".as_slice()
         } else {
             b"transit-desk: stream cut\n".as_slice()
         };
-        assert_eq!(rt; done.errors.as_slice(), line, "{end}");
-        let dripped = perform_over(
-            &rt,
-            &WORDS,
-            Drip {
-                left: prefix,
-                fails: false,
-            },
-        )?;
-        assert_eq!(rt; dripped.out.as_slice(), wanted, "{end}");
-        assert_eq!(rt; dripped.errors.as_slice(), line, "{end}");
-        let failed = perform_over(
-            &rt,
-            &WORDS,
-            Drip {
-                left: prefix,
-                fails: true,
-            },
-        )?;
-        assert_eq!(rt; failed.out.as_slice(), wanted, "{end}");
-        assert_eq!(rt; failed.status, 1, "{end}");
-        assert_eq!(rt;
-            failed.errors.as_slice(),
-            b"transit-desk: stream read-fault\n".as_slice(),
-            "{end}"
-        );
+        assert_prefix(&rt, &input[..end], wanted, line)?;
     }
     Ok(())
 }

@@ -105,7 +105,7 @@ pub fn run_stored<S: Store>(
 pub struct FaultyStore {
     rows: PlainDesk,
     good_calls: u32,
-    open: bool,
+    serving: bool,
 }
 
 impl FaultyStore {
@@ -113,21 +113,21 @@ impl FaultyStore {
         Ok(FaultyStore {
             rows: PlainDesk::new(alloc, country)?,
             good_calls,
-            open: true,
+            serving: true,
         })
     }
 
     // Whether this call is served; else the store is shut.
     fn serve(&mut self) -> bool
         ensures same { self.new.rows ≡ self.old.rows }
-        ensures open { self.new.open ≡ result }
-        ensures was_open { IsTrue result → IsTrue self.old.open }
+        ensures open { self.new.serving ≡ result }
+        ensures was_open { IsTrue result → IsTrue self.old.serving }
     {
-        self.open = self.open && self.good_calls > 0;
-        if self.open {
+        self.serving = self.serving && self.good_calls > 0;
+        if self.serving {
             self.good_calls -= 1;
         }
-        self.open
+        self.serving
     }
 }
 
@@ -137,7 +137,7 @@ impl Store for FaultyStore {
 
     ghost is_kept = { λ _. Unit {0} };
 
-    ghost is_open = { λ s. IsTrue s.open };
+    ghost is_open = { λ s. IsTrue s.serving };
 
     ghost rows = { λ s. rows_in s.rows };
 

@@ -4,8 +4,57 @@ use std::test::Fail;
 use td_acts::{Answer, Refusal, Said};
 use td_base::{Eori, HolderNo};
 
+/// Refusals, whether the stream closes after them, and their replies.
+const REFUSED: [(Refusal, bool, &str); 9] = [
+    (
+        Refusal::ClockRange,
+        false,
+        "HTTP/1.1 503 Service Unavailable\r\nContent-Type: application/json\r\nContent-Length: 23\r\n\r\n{\"error\":\"clock-range\"}",
+    ),
+    (
+        Refusal::NoHolder,
+        false,
+        "HTTP/1.1 404 Not Found\r\nContent-Type: application/json\r\nContent-Length: 21\r\n\r\n{\"error\":\"no-holder\"}",
+    ),
+    (
+        Refusal::HolderKnown,
+        true,
+        "HTTP/1.1 409 Conflict\r\nContent-Type: application/json\r\nContent-Length: 24\r\nConnection: close\r\n\r\n{\"error\":\"holder-known\"}",
+    ),
+    (
+        Refusal::ClockBack,
+        false,
+        "HTTP/1.1 409 Conflict\r\nContent-Type: application/json\r\nContent-Length: 22\r\n\r\n{\"error\":\"clock-back\"}",
+    ),
+    (
+        Refusal::NoGuarantee,
+        false,
+        "HTTP/1.1 404 Not Found\r\nContent-Type: application/json\r\nContent-Length: 24\r\n\r\n{\"error\":\"no-guarantee\"}",
+    ),
+    (
+        Refusal::BadCode,
+        false,
+        "HTTP/1.1 403 Forbidden\r\nContent-Type: application/json\r\nContent-Length: 20\r\n\r\n{\"error\":\"bad-code\"}",
+    ),
+    (
+        Refusal::GuaranteeEnded,
+        false,
+        "HTTP/1.1 409 Conflict\r\nContent-Type: application/json\r\nContent-Length: 27\r\n\r\n{\"error\":\"guarantee-ended\"}",
+    ),
+    (
+        Refusal::LrnUsed,
+        false,
+        "HTTP/1.1 409 Conflict\r\nContent-Type: application/json\r\nContent-Length: 20\r\n\r\n{\"error\":\"lrn-used\"}",
+    ),
+    (
+        Refusal::SerialsSpent,
+        false,
+        "HTTP/1.1 409 Conflict\r\nContent-Type: application/json\r\nContent-Length: 25\r\n\r\n{\"error\":\"serials-spent\"}",
+    ),
+];
+
 #[test]
-fn writes_what_is_said(rt: HostRuntime) -> Result<(), Fail> {
+fn writes_answers(rt: HostRuntime) -> Result<(), Fail> {
     let answer = Answer::Holder {
         holder: HolderNo::new(1).ok_or("a number")?,
         eori: Eori::read(b"CH1234567").ok_or("an EORI")?,
@@ -13,59 +62,17 @@ fn writes_what_is_said(rt: HostRuntime) -> Result<(), Fail> {
         movements: 0,
     };
     answer_is_told_in(&answer);
-    for (said, close, want) in [
-        (
-            Said::Answered(answer),
-            false,
-            "HTTP/1.1 200 OK\r\nContent-Type: application/json\r\nContent-Length: 67\r\n\r\n{\"eori\":\"CH1234567\",\"guarantees\":0,\"holder\":\"000001\",\"movements\":0}",
-        ),
-        (
-            Said::Refused(Refusal::ClockRange),
-            false,
-            "HTTP/1.1 503 Service Unavailable\r\nContent-Type: application/json\r\nContent-Length: 23\r\n\r\n{\"error\":\"clock-range\"}",
-        ),
-        (
-            Said::Refused(Refusal::NoHolder),
-            false,
-            "HTTP/1.1 404 Not Found\r\nContent-Type: application/json\r\nContent-Length: 21\r\n\r\n{\"error\":\"no-holder\"}",
-        ),
-        (
-            Said::Refused(Refusal::HolderKnown),
-            true,
-            "HTTP/1.1 409 Conflict\r\nContent-Type: application/json\r\nContent-Length: 24\r\nConnection: close\r\n\r\n{\"error\":\"holder-known\"}",
-        ),
-        (
-            Said::Refused(Refusal::ClockBack),
-            false,
-            "HTTP/1.1 409 Conflict\r\nContent-Type: application/json\r\nContent-Length: 22\r\n\r\n{\"error\":\"clock-back\"}",
-        ),
-        (
-            Said::Refused(Refusal::NoGuarantee),
-            false,
-            "HTTP/1.1 404 Not Found\r\nContent-Type: application/json\r\nContent-Length: 24\r\n\r\n{\"error\":\"no-guarantee\"}",
-        ),
-        (
-            Said::Refused(Refusal::BadCode),
-            false,
-            "HTTP/1.1 403 Forbidden\r\nContent-Type: application/json\r\nContent-Length: 20\r\n\r\n{\"error\":\"bad-code\"}",
-        ),
-        (
-            Said::Refused(Refusal::GuaranteeEnded),
-            false,
-            "HTTP/1.1 409 Conflict\r\nContent-Type: application/json\r\nContent-Length: 27\r\n\r\n{\"error\":\"guarantee-ended\"}",
-        ),
-        (
-            Said::Refused(Refusal::LrnUsed),
-            false,
-            "HTTP/1.1 409 Conflict\r\nContent-Type: application/json\r\nContent-Length: 20\r\n\r\n{\"error\":\"lrn-used\"}",
-        ),
-        (
-            Said::Refused(Refusal::SerialsSpent),
-            false,
-            "HTTP/1.1 409 Conflict\r\nContent-Type: application/json\r\nContent-Length: 25\r\n\r\n{\"error\":\"serials-spent\"}",
-        ),
-    ] {
-        let reply = reply_bytes(rt.alloc(), &said, close)?;
+    let reply = reply_bytes(rt.alloc(), &Said::Answered(answer), false)?;
+    let want =
+        "HTTP/1.1 200 OK\r\nContent-Type: application/json\r\nContent-Length: 67\r\n\r\n{\"eori\":\"CH1234567\",\"guarantees\":0,\"holder\":\"000001\",\"movements\":0}";
+    assert!(rt; reply.as_slice() == want.as_bytes(), "{want}");
+    Ok(())
+}
+
+#[test]
+fn writes_refusals(rt: HostRuntime) -> Result<(), Fail> {
+    for (why, close, want) in &REFUSED {
+        let reply = reply_bytes(rt.alloc(), &Said::Refused(*why), *close)?;
         assert!(rt; reply.as_slice() == want.as_bytes(), "{want}");
     }
     Ok(())

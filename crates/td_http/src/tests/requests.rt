@@ -75,116 +75,85 @@ fn finds_routes(rt: HostRuntime) -> Result<(), Fail> {
     Ok(())
 }
 
-#[test]
-fn tells_faults(rt: HostRuntime) -> Result<(), Fail> {
+/// Requests for a path that there is not.
+const NO_ROUTE: [(&str, &str, &str); 16] = [
+    ("GET", "/holders/000001/", ""),
+    ("GET", "/holders/", ""),
+    ("GET", "/holders", ""),
+    ("GET", "/holders/000001/x", ""),
+    ("GET", "/Holders/000001", ""),
+    ("GET", "//holders/000001", ""),
+    ("PUT", "/office/holders/", "{}"),
+    ("GET", "http://desk/holders/000001", ""),
+    ("OPTIONS", "*", ""),
+    ("GET", "", ""),
+    ("POST", "/office/holders/000001/guarantees/", ""),
+    ("POST", "/office/holders//guarantees", ""),
+    ("POST", "/office/holders/000001/Guarantees", ""),
+    ("POST", "/office/holders/000001/movements", ""),
+    ("POST", "/holders/000001/movements/", ""),
+    ("POST", "/holders//movements", ""),
+];
+
+/// Requests by another method where only GET is allowed.
+const ONLY_GET: [(&str, &str, &str); 3] = [
+    ("DELETE", "/holders/zzz", ""),
+    ("get", "/holders/000001", ""),
+    ("PUT", "/holders/000001", "{}"),
+];
+
+/// Requests by another method where only PUT is allowed.
+const ONLY_PUT: [(&str, &str, &str); 1] = [("GET", "/office/holders/000001", "")];
+
+/// Requests by another method where only POST is allowed.
+const ONLY_POST: [(&str, &str, &str); 5] = [
+    ("GET", "/office/holders/000001/guarantees", ""),
+    ("PUT", "/office/holders/zzz/guarantees", "[]"),
+    ("post", "/office/holders/000001/guarantees", ""),
+    ("GET", "/holders/000001/movements", ""),
+    ("DELETE", "/holders/zzz/movements", ""),
+];
+
+/// Requests whose path has no holder's number in its place.
+const NO_HOLDER_NUMBER: [(&str, &str, &str); 9] = [
+    ("POST", "/office/holders/000000/guarantees", "[]"),
+    ("POST", "/holders/1/movements", "[]"),
+    ("GET", "/holders/000000", ""),
+    ("GET", "/holders/00001", ""),
+    ("GET", "/holders/0000001", ""),
+    ("GET", "/holders/00000a", ""),
+    ("GET", "/holders/%30%30%30%30%30%31", ""),
+    ("GET", "/holders/é", ""),
+    ("PUT", "/office/holders/zzz", "not JSON"),
+];
+
+/// Requests whose body is no JSON object.
+const NO_OBJECT: [(&str, &str, &str); 5] = [
+    ("PUT", "/office/holders/000001", ""),
+    ("PUT", "/office/holders/000001", "{"),
+    ("PUT", "/office/holders/000001", "{}x"),
+    ("PUT", "/office/holders/000001", "[\"eori\"]"),
+    ("PUT", "/office/holders/000001", "{\"a\":1e999}"),
+];
+
+/// Registrations without an EORI.
+const NO_EORI: [(&str, &str, &str); 5] = [
+    ("PUT", "/office/holders/000001", "{}"),
+    ("PUT", "/office/holders/000001", "{\"EORI\":\"CH1\"}"),
+    ("PUT", "/office/holders/000001", "{\"eori\":1}"),
+    ("PUT", "/office/holders/000001", "{\"eori\":\"ch1234567\"}"),
+    (
+        "PUT",
+        "/office/holders/000001",
+        "{\"eori\":\"CH1\",\"eori\":null}",
+    ),
+];
+
+// Each request is told this fault.
+fn all_told(rt: &HostRuntime, rows: &[(&str, &str, &str)], want: WebFault) -> Result<(), Fail> {
     let alloc = rt.alloc();
-    let get = WebFault::NoMethod {
-        allow: Allowed::Get,
-    };
-    let put = WebFault::NoMethod {
-        allow: Allowed::Put,
-    };
-    let post = WebFault::NoMethod {
-        allow: Allowed::Post,
-    };
-    let eori = WebFault::BadField(Field::Eori);
     let mut routes = Routes::new();
-    for (method, target, body, want) in [
-        ("GET", "/holders/000001/", "", WebFault::NoRoute),
-        ("GET", "/holders/", "", WebFault::NoRoute),
-        ("GET", "/holders", "", WebFault::NoRoute),
-        ("GET", "/holders/000001/x", "", WebFault::NoRoute),
-        ("GET", "/Holders/000001", "", WebFault::NoRoute),
-        ("GET", "//holders/000001", "", WebFault::NoRoute),
-        ("PUT", "/office/holders/", "{}", WebFault::NoRoute),
-        ("GET", "http://desk/holders/000001", "", WebFault::NoRoute),
-        ("OPTIONS", "*", "", WebFault::NoRoute),
-        ("GET", "", "", WebFault::NoRoute),
-        ("DELETE", "/holders/zzz", "", get),
-        ("get", "/holders/000001", "", get),
-        ("PUT", "/holders/000001", "{}", get),
-        ("GET", "/office/holders/000001", "", put),
-        ("GET", "/office/holders/000001/guarantees", "", post),
-        ("PUT", "/office/holders/zzz/guarantees", "[]", post),
-        ("post", "/office/holders/000001/guarantees", "", post),
-        ("GET", "/holders/000001/movements", "", post),
-        ("DELETE", "/holders/zzz/movements", "", post),
-        (
-            "POST",
-            "/office/holders/000001/guarantees/",
-            "",
-            WebFault::NoRoute,
-        ),
-        ("POST", "/office/holders//guarantees", "", WebFault::NoRoute),
-        (
-            "POST",
-            "/office/holders/000001/Guarantees",
-            "",
-            WebFault::NoRoute,
-        ),
-        (
-            "POST",
-            "/office/holders/000001/movements",
-            "",
-            WebFault::NoRoute,
-        ),
-        ("POST", "/holders/000001/movements/", "", WebFault::NoRoute),
-        ("POST", "/holders//movements", "", WebFault::NoRoute),
-        (
-            "POST",
-            "/office/holders/000000/guarantees",
-            "[]",
-            WebFault::BadHolder,
-        ),
-        ("POST", "/holders/1/movements", "[]", WebFault::BadHolder),
-        ("GET", "/holders/000000", "", WebFault::BadHolder),
-        ("GET", "/holders/00001", "", WebFault::BadHolder),
-        ("GET", "/holders/0000001", "", WebFault::BadHolder),
-        ("GET", "/holders/00000a", "", WebFault::BadHolder),
-        (
-            "GET",
-            "/holders/%30%30%30%30%30%31",
-            "",
-            WebFault::BadHolder,
-        ),
-        ("GET", "/holders/é", "", WebFault::BadHolder),
-        (
-            "PUT",
-            "/office/holders/zzz",
-            "not JSON",
-            WebFault::BadHolder,
-        ),
-        ("PUT", "/office/holders/000001", "", WebFault::BadBody),
-        ("PUT", "/office/holders/000001", "{", WebFault::BadBody),
-        ("PUT", "/office/holders/000001", "{}x", WebFault::BadBody),
-        (
-            "PUT",
-            "/office/holders/000001",
-            "[\"eori\"]",
-            WebFault::BadBody,
-        ),
-        (
-            "PUT",
-            "/office/holders/000001",
-            "{\"a\":1e999}",
-            WebFault::BadBody,
-        ),
-        ("PUT", "/office/holders/000001", "{}", eori),
-        ("PUT", "/office/holders/000001", "{\"EORI\":\"CH1\"}", eori),
-        ("PUT", "/office/holders/000001", "{\"eori\":1}", eori),
-        (
-            "PUT",
-            "/office/holders/000001",
-            "{\"eori\":\"ch1234567\"}",
-            eori,
-        ),
-        (
-            "PUT",
-            "/office/holders/000001",
-            "{\"eori\":\"CH1\",\"eori\":null}",
-            eori,
-        ),
-    ] {
+    for (method, target, body) in rows {
         let request = request(alloc, method, target.as_bytes(), body.as_bytes())?;
         assert_eq!(rt;
             read_command_by(alloc, &mut routes, &request).err(),
@@ -192,6 +161,38 @@ fn tells_faults(rt: HostRuntime) -> Result<(), Fail> {
             "at {method} {target}"
         );
     }
+    Ok(())
+}
+
+#[test]
+fn tells_unknown_paths(rt: HostRuntime) -> Result<(), Fail> {
+    all_told(&rt, &NO_ROUTE, WebFault::NoRoute)
+}
+
+#[test]
+fn tells_the_allowed_method(rt: HostRuntime) -> Result<(), Fail> {
+    let allow = Allowed::Get;
+    all_told(&rt, &ONLY_GET, WebFault::NoMethod { allow })?;
+    let allow = Allowed::Put;
+    all_told(&rt, &ONLY_PUT, WebFault::NoMethod { allow })?;
+    let allow = Allowed::Post;
+    all_told(&rt, &ONLY_POST, WebFault::NoMethod { allow })
+}
+
+#[test]
+fn tells_bad_holders(rt: HostRuntime) -> Result<(), Fail> {
+    all_told(&rt, &NO_HOLDER_NUMBER, WebFault::BadHolder)
+}
+
+#[test]
+fn tells_bad_bodies(rt: HostRuntime) -> Result<(), Fail> {
+    all_told(&rt, &NO_OBJECT, WebFault::BadBody)?;
+    all_told(&rt, &NO_EORI, WebFault::BadField(Field::Eori))
+}
+
+#[test]
+fn tells_what_is_no_text(rt: HostRuntime) -> Result<(), Fail> {
+    let alloc = rt.alloc();
     let target = request(alloc, "GET", b"/holders/00000\xff", b"")?;
     assert_eq!(rt; read_command(alloc, &target).err(), Some(WebFault::NoRoute));
     let body = request(alloc, "PUT", b"/office/holders/000001", b"{\"\xff\":1}")?;
