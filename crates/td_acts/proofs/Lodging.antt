@@ -4,10 +4,11 @@ use Rattle.std.specs.Prelude.{map, nat_lt, nat_le, if◌then◌else◌}
 use Rattle.std.specs.List.{AllByRecursion}
 use Rattle.td_base.specs.Days.{day_of_moment}
 use Rattle.td_base.specs.References.{mrn_text}
-use Rattle.td_acts.specs.declared.lines.Line.{Line}
+use Rattle.td_movement.specs.declared.line.Line.{Line}
 use Rattle.td_acts.specs.declared.rows.HolderRow.{HolderRow}
-use Rattle.td_acts.specs.declared.rows.Guarantee.{Guarantee}
-use Rattle.td_acts.specs.declared.rows.Movement.{Movement}
+use Rattle.td_guarantee.specs.declared.guarantee.Guarantee.{Guarantee}
+use Rattle.td_movement.specs.declared.movement.Movement.{Movement}
+use Rattle.td_movement.specs.declared.state.State.TheVariants.{Accepted}
 use Rattle.td_acts.specs.declared.rows.Change.TheVariants as change
 use Rattle.td_acts.specs.declared.rows.Verdict.{Verdict}
 use Rattle.td_acts.specs.declared.command.Command.TheVariants.{Ie015}
@@ -48,7 +49,7 @@ lodged (Some why) t mrn lrn departure destination lines serial row = record { sa
 lodged None t mrn lrn departure destination lines serial row = record {
   said = Answered (answer.Ie028 lrn mrn);
   change = change.Declared (record row { last_at = t; mrn_count = serial })
-      (record { mrn = mrn; lrn = lrn; departure = departure; destination = destination; accepted = day_of_moment t; lines = lines });
+      (record { mrn = mrn; lrn = lrn; departure = departure; destination = destination; accepted = day_of_moment t; state = Accepted; limit = None; arrival = None; actual = None; lines = lines });
 }
 
 -- the table's verdict where no refusal before the lines comes

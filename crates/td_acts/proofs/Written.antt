@@ -3,8 +3,8 @@ use Rattle.std.proofs.Common.{◌≡◌, ℕ, ℤ, Bool, true, false, List, Opti
 use Rattle.std.specs.Prelude.{if◌then◌else◌}
 use Rattle.td_base.specs.Moment.{moment_of}
 use Rattle.td_acts.specs.declared.rows.HolderRow.{HolderRow}
-use Rattle.td_acts.specs.declared.rows.Guarantee.{Guarantee}
-use Rattle.td_acts.specs.declared.rows.Movement.{Movement}
+use Rattle.td_guarantee.specs.declared.guarantee.Guarantee.{Guarantee}
+use Rattle.td_movement.specs.declared.movement.Movement.{Movement}
 use Rattle.td_acts.specs.declared.rows.Change.TheVariants as change
 use Rattle.td_acts.specs.declared.command.Command.{Command}
 use Rattle.td_acts.specs.declared.command.Command.TheVariants.{Register, OpenGuarantee, Ie015, SeeHolder}

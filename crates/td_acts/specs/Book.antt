@@ -5,8 +5,9 @@ use Rattle.std.specs.Option.{option_map, option_map_or}
 use Rattle.td_base.specs.Days.{day_of_moment, year_of}
 use Rattle.td_base.specs.References.{grn_text, mrn_text}
 use Rattle.td_acts.specs.declared.rows.HolderRow.{HolderRow}
-use Rattle.td_acts.specs.declared.rows.Guarantee.{Guarantee}
-use Rattle.td_acts.specs.declared.rows.Movement.{Movement}
+use Rattle.td_guarantee.specs.declared.guarantee.Guarantee.{Guarantee}
+use Rattle.td_movement.specs.declared.movement.Movement.{Movement}
+use Rattle.td_movement.specs.declared.state.State.TheVariants.{Accepted}
 use Rattle.td_acts.specs.declared.command.Command.{Command}
 use Rattle.td_acts.specs.declared.command.Command.TheVariants.{Register, OpenGuarantee, Ie015, SeeHolder}
 use Rattle.td_acts.specs.Account.{Account}
@@ -72,7 +73,7 @@ opened_by country H n t (SeeHolder holder) = []
 abbrev pub declared_by : List ℕ → ℕ → ℕ → ℕ → Command → List Movement
 declared_by country H n t (Register holder eori) = []
 declared_by country H n t (OpenGuarantee holder reference cover code) = []
-declared_by country H n t (Ie015 holder lrn departure destination lines) = record { mrn = mrn_text (year2_at t) country H (n + 1); lrn = lrn; departure = departure; destination = destination; accepted = day_of_moment t; lines = map line_of lines } ∷ []
+declared_by country H n t (Ie015 holder lrn departure destination lines) = record { mrn = mrn_text (year2_at t) country H (n + 1); lrn = lrn; departure = departure; destination = destination; accepted = day_of_moment t; state = Accepted; limit = None; arrival = None; actual = None; lines = map line_of lines } ∷ []
 declared_by country H n t (SeeHolder holder) = []
 
 -- what the acts make, one after the other, where made says what an act makes after n others and uses how many serials it uses up

@@ -4,6 +4,7 @@ use Rattle.std.specs.List.{AllByRecursion}
 use Rattle.td_base.specs.Days.{day_of_moment}
 use Rattle.td_base.specs.Moment.{moment_of}
 use Rattle.td_base.specs.References.{grn_text, mrn_text}
+use Rattle.td_movement.specs.declared.state.State.TheVariants.{Accepted}
 use Rattle.td_acts.specs.declared.rows.HolderRow.{HolderRow}
 use Rattle.td_acts.specs.declared.rows.Loaded.{Loaded}
 use Rattle.td_acts.specs.declared.rows.Change.{Change}
@@ -60,7 +61,7 @@ rows_written account t (OpenGuarantee holder reference cover code) = if_row acco
     (record { grn = grn_text (year2_at t) account.country holder (row.grn_count + 1); reference = reference; cover = cover; ends = None; codes = code ∷ [] }))
 rows_written account t (Ie015 holder lrn departure destination lines) = if_row account.holder (λ row. change.Declared
     (record row { last_at = t; mrn_count = row.mrn_count + 1 })
-    (record { mrn = mrn_text (year2_at t) account.country holder (row.mrn_count + 1); lrn = lrn; departure = departure; destination = destination; accepted = day_of_moment t; lines = map line_of lines }))
+    (record { mrn = mrn_text (year2_at t) account.country holder (row.mrn_count + 1); lrn = lrn; departure = departure; destination = destination; accepted = day_of_moment t; state = Accepted; limit = None; arrival = None; actual = None; lines = map line_of lines }))
 rows_written account t (SeeHolder holder) = change.Nothing
 
 -- those rows where it is accepted, else nothing

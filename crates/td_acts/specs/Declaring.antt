@@ -1,13 +1,14 @@
 -- The rules of a declaration: what its LRN says of it, and the tests of its lines.
-use Rattle.std.specs.Prelude.{ℕ, Bool, false, ◌&&◌, ◌==◌, not, nat_le, if◌then◌else◌, List, [], ◌∷◌, map, Option, Some, None}
+use Rattle.std.specs.Prelude.{ℕ, Bool, ◌&&◌, ◌==◌, not, if◌then◌else◌, List, [], ◌∷◌, map, Option, Some, None}
 use Rattle.std.specs.Str.{bytes_eq}
 use Rattle.std.specs.List.{list_any}
 use Rattle.std.specs.Cmp.Lexicographic.{pointwise}
-use Rattle.td_acts.specs.declared.lines.Line.{Line}
-use Rattle.td_acts.specs.declared.rows.Guarantee.{Guarantee}
-use Rattle.td_acts.specs.declared.rows.Movement.{Movement}
+use Rattle.td_movement.specs.declared.line.Line.{Line}
+use Rattle.td_guarantee.specs.declared.guarantee.Guarantee.{Guarantee}
+use Rattle.td_movement.specs.declared.movement.Movement.{Movement}
 use Rattle.td_acts.specs.declared.said.Refusal.{Refusal}
 use Rattle.td_acts.specs.declared.said.Refusal.TheVariants.{NoGuarantee, BadCode, GuaranteeEnded}
+use Rattle.td_guarantee.specs.Terms.{has_ended}
 use Rattle.td_acts.specs.Account.{guarantee_with}
 use Rattle.td_acts.specs.Lines.{line_of}
 
@@ -19,11 +20,6 @@ is_same_line a b = bytes_eq a.grn b.grn && (a.cents == b.cents)
 abbrev pub has_contents : List ℕ → List ℕ → List Line → Movement → Bool
 has_contents departure destination lines movement =
     bytes_eq movement.departure departure && bytes_eq movement.destination destination && pointwise is_same_line movement.lines lines
-
--- from the end day on nothing is lodged on a guarantee
-abbrev pub has_ended : ℕ → Option ℕ → Bool
-has_ended day None = false
-has_ended day (Some end) = nat_le end day
 
 -- the first of a line's tests that refuses it: its guarantee, the code, the guarantee's end
 abbrev pub guarantee_refusal : ℕ → List ℕ → Option Guarantee → Option Refusal

@@ -1,6 +1,6 @@
 -- Lines of declarations: a guarantee and an amount, and beside them the guarantee's access code.
 use Rattle.std.specs.Prelude.{◌≢◌, ℕ, ◌^◌, ◌≤◌, List, length, All, AllPairs}
-use Rattle.td_acts.specs.declared.lines.Line.{Line}
+use Rattle.td_movement.specs.declared.line.Line.{Line}
 
 -- the line without its code
 abbrev pub line_of : Line × List ℕ → Line

@@ -4,9 +4,9 @@ use Rattle.std.specs.Prelude.{ℕ, ℤ, ◌+◌, nat_lt, nat_le, if◌then◌els
 use Rattle.td_base.specs.Days.{day_of_moment}
 use Rattle.td_base.specs.Moment.{moment_of}
 use Rattle.td_base.specs.References.{grn_text, mrn_text}
-use Rattle.td_acts.specs.declared.lines.Line.{Line}
+use Rattle.td_movement.specs.declared.line.Line.{Line}
 use Rattle.td_acts.specs.declared.rows.HolderRow.{HolderRow}
-use Rattle.td_acts.specs.declared.rows.Movement.{Movement}
+use Rattle.td_movement.specs.declared.movement.Movement.{Movement}
 use Rattle.td_acts.specs.declared.command.Command.{Command}
 use Rattle.td_acts.specs.declared.command.Command.TheVariants.{Register, OpenGuarantee, Ie015, SeeHolder}
 use Rattle.td_acts.specs.declared.said.Answer.TheVariants as answer

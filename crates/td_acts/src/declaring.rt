@@ -1,18 +1,20 @@
 //! Declarations: the LRN rule, and the tests of the lines.
-ghost use Rattle.std.specs.Prelude.{◌≡◌, Some, IfOk, option_map};
+ghost use Rattle.std.specs.Prelude.{◌≡◌, Some, None, IfOk, option_map};
 ghost use Rattle.td_acts.specs.Account.{guarantee_with, movement_with};
 ghost use Rattle.td_base.specs.Days.{day_of_moment};
 ghost use Rattle.td_acts.specs.Table.{if_lrn_new};
-ghost use Rattle.td_acts.specs.Declaring.{has_contents, has_ended as ended, guarantee_refusal, first_refusal};
+ghost use Rattle.td_acts.specs.Declaring.{has_contents, guarantee_refusal, first_refusal};
 ghost use Rattle.td_acts.specs.Deciding.{IsVerdictAt};
 
 use crate::command::Command;
-use crate::lines::{Line, Lines, MovementLines};
-use crate::rows::{Change, Guarantee, HolderRow, Loaded, Movement, Verdict};
+use crate::lines::Lines;
+use crate::rows::{Change, HolderRow, Loaded, Verdict};
 use crate::said::{Answer, Refusal, Said};
 use crate::serials::next_mrn;
 use std::alloc::{AllocError, Global};
 use td_base::{AccessCode, Day, Grn, HolderNo, Lrn, Moment, Mrn, OfficeNo};
+use td_guarantee::{Guarantee, ended};
+use td_movement::{Line, Movement, MovementLines, State};
 
 /// A declaration (IE015) that a holder lodges.
 #[derive(Drop)]
@@ -85,7 +87,7 @@ fn repeat(known: &Movement, declaration: &Declaration<'_>, lines: &MovementLines
 // The verdict on a declaration that nothing refuses: the holder's row as it is then, and the movement with this MRN.
 fn accept(row: HolderRow, mrn: Mrn, declaration: &Declaration<'_>, lines: MovementLines) -> Verdict
     ensures said { result.said ≡ Said.Answered (Answer.Ie028 declaration.now.lrn mrn) }
-    ensures change { result.change ≡ Change.Declared row (record { mrn = mrn; lrn = declaration.now.lrn; departure = declaration.now.departure; destination = declaration.now.destination; accepted = day_of_moment row.last_at; lines = lines }) }
+    ensures change { result.change ≡ Change.Declared row (record { mrn = mrn; lrn = declaration.now.lrn; departure = declaration.now.departure; destination = declaration.now.destination; accepted = day_of_moment row.last_at; state = State.Accepted; limit = None; arrival = None; actual = None; lines = lines }) }
 {
     let movement = Movement {
         mrn,
@@ -93,6 +95,10 @@ fn accept(row: HolderRow, mrn: Mrn, declaration: &Declaration<'_>, lines: Moveme
         departure: declaration.departure,
         destination: declaration.destination,
         accepted: Day::of_moment(row.last_at),
+        state: State::Accepted,
+        limit: None,
+        arrival: None,
+        actual: None,
         lines,
     };
     Verdict {
@@ -128,16 +134,6 @@ pub fn find_guarantee<'a>(guarantees: &'a [Guarantee], grn: &Grn) -> Option<&'a 
     None
 }
 
-// Whether a guarantee has ended on a day: from its end day on.
-fn has_ended(ends: Option<Day>, day: Day) -> bool
-    ensures { result ≡ ended day ends }
-{
-    match ends {
-        None => false,
-        Some(end) => end <= day,
-    }
-}
-
 // Why a line with a code is refused on a day: its guarantee, the code, the guarantee's end.
 fn refuse_line(
     day: Day,
@@ -153,7 +149,7 @@ fn refuse_line(
     if !guarantee.codes.has(code) {
         return Some(Refusal::BadCode);
     }
-    if has_ended(guarantee.ends, day) {
+    if ended(guarantee.ends, day) {
         return Some(Refusal::GuaranteeEnded);
     }
     None

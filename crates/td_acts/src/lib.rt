@@ -2,7 +2,6 @@
 //! command over these rows. The model that the verdict is proved to meet stands in `specs/`.
 #![tactic(auto)]
 
-mod codes;
 mod command;
 mod declaring;
 mod laws;
@@ -12,10 +11,9 @@ mod said;
 mod serials;
 pub mod table;
 
-pub use codes::Codes;
 pub use command::{Command, Stamped, known, owner};
 pub use declaring::find_guarantee;
 pub use laws::{fresh_book_says_its_account, writes_what_is_accepted, writes_what_the_book_says};
-pub use lines::{Line, Lines, MovementLines};
-pub use rows::{Change, Guarantee, HolderRow, Loaded, Movement, Verdict};
+pub use lines::Lines;
+pub use rows::{Change, HolderRow, Loaded, Verdict};
 pub use said::{Answer, Refusal, Said};

@@ -1,4 +1,4 @@
-//! Lines of declarations and of movements.
+//! Lines of declarations.
 ghost use Rattle.std.specs.Prelude.{◌≡◌, ◌↔◌, List, IsTrue, IfOk, SomeIff, map};
 ghost use Rattle.std.specs.List.{list_any};
 ghost use Rattle.std.specs.Str.{bytes_eq};
@@ -7,19 +7,13 @@ ghost use Rattle.td_acts.specs.Lines.{IsLines, IsLineAmount, line_of};
 use std::alloc::{AllocError, Global};
 use std::marker::Model;
 use td_base::{AccessCode, Cents, Grn};
+use td_movement::{Line, MovementLines};
 
 /// The most lines of a declaration.
 const MAX_LINES: usize = 9;
 
 /// The greatest amount of a line, in cents.
 const MAX_LINE_CENTS: u64 = 1_000_000_000_000;
-
-/// A line: a guarantee, and the amount in cents for which it is used.
-#[derive(Clone, Copy, Debug, PartialEq, Eq)]
-pub struct Line {
-    pub grn: Grn,
-    pub cents: Cents,
-}
 
 /// The lines of a declaration, each with the access code of its guarantee: 1 to 9 of them, each of 1 to 10^12 cents, and
 /// no two on one guarantee.
@@ -30,7 +24,7 @@ pub struct Lines {
 
 impl Model for Lines {
     ghost use Rattle.std.specs.Prelude.{List, ℕ};
-    ghost use Rattle.td_acts.specs.declared.lines.Line.{Line};
+    ghost use Rattle.td_movement.specs.declared.line.Line.{Line};
     ghost use Rattle.td_acts.specs.Lines.{IsLines};
 
     ghost Value = { List (Line × List ℕ) };
@@ -64,9 +58,16 @@ impl Lines {
     pub fn without_codes(&self, alloc: Global) -> Result<MovementLines, AllocError>
         ensures { IfOk result (λ lines. lines ≡ map line_of self.now) }
     {
-        let items = self.items.iter().map(|item| item.0).collect(alloc)?;
-        Ok(MovementLines { items })
+        Ok(MovementLines::new(lines_of(alloc, &self.items)?))
     }
+}
+
+// Lines without their codes.
+fn lines_of(alloc: Global, items: &[(Line, AccessCode)]) -> Result<Vec<Line>, AllocError>
+    ensures { IfOk result (λ lines. lines.items ≡ map line_of items.now) }
+{
+    let lines = items.iter().map(|item| item.0).collect(alloc)?;
+    Ok(lines)
 }
 
 // Whether these are the lines of a declaration.
@@ -98,36 +99,4 @@ fn is_named(items: &[(Line, AccessCode)], grn: &Grn) -> bool
     ensures { result ≡ list_any (λ l. bytes_eq l.0.grn grn.now) items.now }
 {
     items.iter().any(|item| item.0.grn == *grn)
-}
-
-/// The lines that a movement was lodged with.
-#[derive(Debug, Drop)]
-pub struct MovementLines {
-    items: Vec<Line>,
-}
-
-impl Model for MovementLines {
-    ghost use Rattle.std.specs.Prelude.{List};
-    ghost use Rattle.td_acts.specs.declared.lines.Line.{Line};
-
-    ghost Value = { List Line };
-
-    ghost view = { λ l. l.items.items };
-}
-
-impl MovementLines {
-    /// The lines, in order.
-    pub fn as_slice(&self) -> &[Line]
-        ensures { result.now ≡ self.now }
-    {
-        self.items.as_slice()
-    }
-
-    /// The same lines in other memory. `AllocError`: want of memory.
-    pub fn copy(&self, alloc: Global) -> Result<Self, AllocError>
-        ensures { IfOk result (λ lines. lines ≡ self.now) }
-    {
-        let items = Vec::from_slice(alloc, &self.items)?;
-        Ok(MovementLines { items })
-    }
 }

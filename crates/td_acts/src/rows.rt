@@ -1,11 +1,10 @@
 //! The rows of one holder, and the rows that a verdict writes.
-ghost use Rattle.std.specs.Prelude.{◌≡◌, IfOk};
+ghost use Rattle.std.specs.Prelude.{◌≡◌};
 
-use crate::codes::Codes;
-use crate::lines::MovementLines;
 use crate::said::{Refusal, Said};
-use std::alloc::{AllocError, Global};
-use td_base::{Cents, Country, Cover, Day, Eori, Grn, HolderNo, Lrn, Moment, Mrn, OfficeNo};
+use td_base::{Country, Eori, HolderNo, Moment};
+use td_guarantee::Guarantee;
+use td_movement::Movement;
 
 /// The row of a registered holder.
 #[derive(Clone, Copy, Debug, PartialEq, Eq)]
@@ -18,64 +17,6 @@ pub struct HolderRow {
     pub grn_count: u32,
     /// The last serial of the holder's movements.
     pub mrn_count: u32,
-}
-
-/// A comprehensive guarantee (Common Transit Convention, Appendix I).
-#[derive(Debug, Drop)]
-pub struct Guarantee {
-    pub grn: Grn,
-    /// The reference amount, in cents: the amount in use never exceeds it.
-    pub reference: Cents,
-    /// The percentage of the reference amount that is guaranteed.
-    pub cover: Cover,
-    /// The day from which on nothing is lodged on it.
-    pub ends: Option<Day>,
-    pub codes: Codes,
-}
-
-impl Guarantee {
-    /// The same guarantee in other memory. `AllocError`: want of memory.
-    pub fn copy(&self, alloc: Global) -> Result<Self, AllocError>
-        ensures { IfOk result (λ guarantee. guarantee ≡ self.now) }
-    {
-        Ok(Guarantee {
-            grn: self.grn,
-            reference: self.reference,
-            cover: self.cover,
-            ends: self.ends,
-            codes: self.codes.copy(alloc)?,
-        })
-    }
-}
-
-/// A transit movement, as it was declared.
-#[derive(Debug, Drop)]
-pub struct Movement {
-    pub mrn: Mrn,
-    pub lrn: Lrn,
-    /// The office of departure.
-    pub departure: OfficeNo,
-    /// The office of destination.
-    pub destination: OfficeNo,
-    /// The day on which the declaration was accepted.
-    pub accepted: Day,
-    pub lines: MovementLines,
-}
-
-impl Movement {
-    /// The same movement in other memory. `AllocError`: want of memory.
-    pub fn copy(&self, alloc: Global) -> Result<Self, AllocError>
-        ensures { IfOk result (λ movement. movement ≡ self.now) }
-    {
-        Ok(Movement {
-            mrn: self.mrn,
-            lrn: self.lrn,
-            departure: self.departure,
-            destination: self.destination,
-            accepted: self.accepted,
-            lines: self.lines.copy(alloc)?,
-        })
-    }
 }
 
 /// What the verdict on a command needs of its owner's rows; no row of another holder.

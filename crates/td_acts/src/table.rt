@@ -2,14 +2,14 @@
 ghost use Rattle.std.specs.Prelude.{◌≡◌, ℕ, IfOk};
 ghost use Rattle.td_acts.specs.Deciding.{IsVerdict, IsVerdictAt};
 
-use crate::codes::Codes;
 use crate::command::Command;
 use crate::declaring::{Declaration, lodge};
-use crate::rows::{Change, Guarantee, HolderRow, Loaded, Verdict};
+use crate::rows::{Change, HolderRow, Loaded, Verdict};
 use crate::said::{Answer, Refusal, Said};
 use crate::serials::next_grn;
 use std::alloc::{AllocError, Global};
 use td_base::{AccessCode, Cover, Eori, HolderNo, Moment, Reference};
+use td_guarantee::{Codes, Guarantee};
 
 /// The verdict on a command at a number of seconds since 1970, over what was loaded of its owner's rows. Where that is just
 /// what the verdict needs of the owner's account, it is the table's; else it is only some verdict. `AllocError`: want of memory.

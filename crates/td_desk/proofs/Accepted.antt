@@ -9,10 +9,11 @@ use Rattle.td_base.specs.Codes.{IsAccessCode}
 use Rattle.td_base.specs.Days.{IsDay, day_of_moment}
 use Rattle.td_base.specs.Moment.{IsMoment}
 use Rattle.td_base.specs.References.{grn_text, mrn_text}
-use Rattle.td_acts.specs.declared.lines.Line.{Line}
+use Rattle.td_movement.specs.declared.line.Line.{Line}
+use Rattle.td_movement.specs.declared.state.State.TheVariants.{Accepted}
 use Rattle.td_acts.specs.declared.rows.HolderRow.{HolderRow}
-use Rattle.td_acts.specs.declared.rows.Guarantee.{Guarantee}
-use Rattle.td_acts.specs.declared.rows.Movement.{Movement}
+use Rattle.td_guarantee.specs.declared.guarantee.Guarantee.{Guarantee}
+use Rattle.td_movement.specs.declared.movement.Movement.{Movement}
 use Rattle.td_acts.specs.declared.rows.Change.{Change}
 use Rattle.td_acts.specs.declared.rows.Change.TheVariants as change
 use Rattle.td_acts.specs.declared.command.Command.{Command}
@@ -58,6 +59,7 @@ pub record IsDeclared (country : List ℕ) (H : ℕ) (account : Account) (row : 
   pub left : old.mrn_count < 9999999
   pub movement : IsMovementRow country H account.guarantees (old.mrn_count + 1) m
   pub fresh : movement_with m.lrn account.movements ≡ None
+  pub accepted : m.state ≡ Accepted
 
 -- the rows of a change follow on H's account
 abbrev pub IsFor : List ℕ → ℕ → Account → Change → Type 0
@@ -156,8 +158,9 @@ rows_are_for H country (Some row) gs ms t (Ie015 h lrn departure destination lin
       moment = moment;
       next = refl;
       left = grind (arith, nat_tests, facts.2);
-      movement = record { mrn = ap (λ n. mrn_text (year2_at t) country n (row.mrn_count + 1)) same; lrn = proper.1; departure = proper.2; destination = proper.3; accepted = day_is t moment; lines = lines_kept gs lines proper.4 (named_if_fine (day_of_moment t) gs lines facts.3) };
+      movement = record { mrn = ap (λ n. mrn_text (year2_at t) country n (row.mrn_count + 1)) same; lrn = proper.1; departure = proper.2; destination = proper.3; accepted = day_is t moment; status = record { days = (refl, (refl, refl)); limit = tt; arrival = tt; actual = tt }; lines = lines_kept gs lines proper.4 (named_if_fine (day_of_moment t) gs lines facts.3) };
       fresh = facts.1;
+      accepted = refl;
     }
 rows_are_for H country o gs ms t (SeeHolder h) own proper moment accepted = cc
 

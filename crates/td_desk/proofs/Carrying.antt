@@ -58,7 +58,7 @@ effect_of_put H rows c row has same sound is =
       sound = record {
         country = sound.country;
         order = Rises-put_row holder_key w 0 rows.holders sound.order (omega arith);
-        holders = All-put_row holder_key (AreHolderRows rows.country) w rows.holders sound.holders (sound_written rows.country H found c row has is number rules);
+        holders = All-put_row holder_key (AreHolderRows rows.country) w rows.holders sound.holders (sound_written rows.country H found c row sound.country has is number rules);
       };
     })
 

@@ -4,18 +4,21 @@ use Rattle.std.specs.Prelude.{IfSome, IsSome, if◌then◌else◌}
 use Rattle.std.specs.Str.{bytes_eq}
 use Rattle.std.proofs.lemmas.List.{length-append}
 use Rattle.std.proofs.lemmas.Slice.Eq.{bytes_eq-Decides}
+use Rattle.td_base.specs.Country.{IsCountry}
 use Rattle.td_base.specs.Moment.{IsMoment}
-use Rattle.td_acts.specs.declared.lines.Line.{Line}
+use Rattle.td_movement.specs.declared.state.State.TheVariants.{Accepted}
+use Rattle.td_movement.specs.declared.line.Line.{Line}
 use Rattle.td_acts.specs.declared.rows.HolderRow.{HolderRow}
-use Rattle.td_acts.specs.declared.rows.Guarantee.{Guarantee}
-use Rattle.td_acts.specs.declared.rows.Movement.{Movement}
+use Rattle.td_guarantee.specs.declared.guarantee.Guarantee.{Guarantee}
+use Rattle.td_movement.specs.declared.movement.Movement.{Movement}
 use Rattle.td_acts.specs.declared.rows.Change.{Change}
 use Rattle.td_acts.specs.declared.rows.Change.TheVariants as change
 use Rattle.td_acts.specs.Account.{guarantee_with, movement_with}
 use Rattle.td_acts.specs.Deciding.{applied, row_in}
 use Rattle.td_desk.specs.Content.{HolderRows, account_with, written, rows_or_new}
-use Rattle.td_desk.specs.Sound.{IsGuaranteeRow, AreMovementLines, IsMovementRow, AreHolderRows}
+use Rattle.td_desk.specs.Sound.{IsGuaranteeRow, AreMovementLines, IsMovementRow, IsCovered, AreHolderRows}
 use Rattle.td_desk.proofs.Accepted.{IsFor}
+use Rattle.td_desk.proofs.Cover.{AllByRecursion-append, unused_when_new, covered_with_accepted}
 use Rattle.td_desk.proofs.Joined.{AllPairs-append, AllNumbered-append, AllNumbered-weaker, AllByRecursion-weaker}
 
 -- the row of written rows is that of the change
@@ -56,7 +59,7 @@ lines_still gs g lines are = record {
 }
 
 movement_still : (country : List ℕ) (H : ℕ) (gs : List Guarantee) (g : Guarantee) (n : ℕ) (m : Movement) → IsMovementRow country H gs n m → IsMovementRow country H (gs ++ g ∷ []) n m
-movement_still country H gs g n m is = record { mrn = is.mrn; lrn = is.lrn; departure = is.departure; destination = is.destination; accepted = is.accepted; lines = lines_still gs g m.lines is.lines }
+movement_still country H gs g n m is = record { mrn = is.mrn; lrn = is.lrn; departure = is.departure; destination = is.destination; accepted = is.accepted; status = is.status; lines = lines_still gs g m.lines is.lines }
 
 -- where nothing is found, it isn't the first, and not later
 not_first : (b : Bool) (m : Movement) (o : Option Movement) → if◌then◌else◌ {A = Option Movement} b (Some m) o ≡ None → (b ≡ false) × (o ≡ None)
@@ -73,9 +76,9 @@ other_lrn lrn (m ∷ ms) none zero d within = differs m.lrn lrn (not_first (byte
 other_lrn lrn (m ∷ ms) none (suc k) d within = other_lrn lrn ms (not_first (bytes_eq m.lrn lrn) m (movement_with lrn ms) none).1 k d (omega (arith, within))
 
 -- a holder's rows with one more guarantee keep their rules
-sound_opened : (country : List ℕ) (h : HolderRows) (g : Guarantee) (t : ℕ) → IsMoment t → h.row.grn_count < 999999 → IsGuaranteeRow country h.row.holder (h.row.grn_count + 1) g → AreHolderRows country h
+sound_opened : (country : List ℕ) (h : HolderRows) (g : Guarantee) (t : ℕ) → IsCountry country → IsMoment t → h.row.grn_count < 999999 → IsGuaranteeRow country h.row.holder (h.row.grn_count + 1) g → AreHolderRows country h
     → AreHolderRows country (record { row = record h.row { last_at = t; grn_count = h.row.grn_count + 1 }; guarantees = h.guarantees ++ g ∷ []; movements = h.movements })
-sound_opened country h g t moment left is sound = record {
+sound_opened country h g t form moment left is sound = record {
   row = record { number = sound.row.number; eori = sound.row.eori; last_at = moment };
   guarantees = AllNumbered-append (IsGuaranteeRow country h.row.holder) 0 h.guarantees g sound.guarantees (subst (λ n. IsGuaranteeRow country h.row.holder n g) (omega (arith, sound.grn_count)) is);
   grn_count = simp length-append (omega (arith, sound.grn_count));
@@ -84,12 +87,13 @@ sound_opened country h g t moment left is sound = record {
   mrn_count = sound.mrn_count;
   mrn_most = sound.mrn_most;
   lrns = sound.lrns;
+  cover = AllByRecursion-append (IsCovered h.movements) h.guarantees g sound.cover (omega (arith, unused_when_new country h g form left is sound));
 }
 
 -- and so with one more movement
-sound_declared : (country : List ℕ) (h : HolderRows) (m : Movement) (t : ℕ) → IsMoment t → h.row.mrn_count < 9999999 → IsMovementRow country h.row.holder h.guarantees (h.row.mrn_count + 1) m → movement_with m.lrn h.movements ≡ None → AreHolderRows country h
+sound_declared : (country : List ℕ) (h : HolderRows) (m : Movement) (t : ℕ) → IsMoment t → h.row.mrn_count < 9999999 → IsMovementRow country h.row.holder h.guarantees (h.row.mrn_count + 1) m → movement_with m.lrn h.movements ≡ None → m.state ≡ Accepted → AreHolderRows country h
     → AreHolderRows country (record { row = record h.row { last_at = t; mrn_count = h.row.mrn_count + 1 }; guarantees = h.guarantees; movements = h.movements ++ m ∷ [] })
-sound_declared country h m t moment left is fresh sound = record {
+sound_declared country h m t moment left is fresh accepted sound = record {
   row = record { number = sound.row.number; eori = sound.row.eori; last_at = moment };
   guarantees = sound.guarantees;
   grn_count = sound.grn_count;
@@ -98,6 +102,7 @@ sound_declared country h m t moment left is fresh sound = record {
   mrn_count = simp length-append (omega (arith, sound.mrn_count));
   mrn_most = omega (arith, left);
   lrns = AllPairs-append (λ (a b : Movement). a.lrn ≢ b.lrn) h.movements m sound.lrns (other_lrn m.lrn h.movements fresh);
+  cover = AllByRecursion-weaker (IsCovered h.movements) (IsCovered (h.movements ++ m ∷ [])) (λ g. covered_with_accepted h.movements m g accepted) h.guarantees sound.cover;
 }
 
 -- the row that was there
@@ -105,10 +110,10 @@ the_row : (r : HolderRow) (old : HolderRow) → Some r ≡ Some old → old ≡ 
 the_row r old e = cc
 
 -- a holder's rows keep their rules
-pub sound_written : (country : List ℕ) (H : ℕ) (o : Option HolderRows) (c : Change) (row : HolderRow) → row_in c ≡ Some row → IsFor country H (account_with country o) c → IfSome o (λ h. h.row.holder ≡ H) → IfSome o (AreHolderRows country)
+pub sound_written : (country : List ℕ) (H : ℕ) (o : Option HolderRows) (c : Change) (row : HolderRow) → IsCountry country → row_in c ≡ Some row → IsFor country H (account_with country o) c → IfSome o (λ h. h.row.holder ≡ H) → IfSome o (AreHolderRows country)
     → AreHolderRows country (written c (rows_or_new row o))
-sound_written country H o change.Nothing row has is number sound = cc
-sound_written country H None (change.Registered r) row has is number sound = record {
+sound_written country H o change.Nothing row form has is number sound = cc
+sound_written country H None (change.Registered r) row form has is number sound = record {
   row = is.ranges;
   guarantees = tt;
   grn_count = is.no_grn;
@@ -117,19 +122,20 @@ sound_written country H None (change.Registered r) row has is number sound = rec
   mrn_count = is.no_mrn;
   mrn_most = omega (arith, is.no_mrn);
   lrns = λ i j d less within. absurd (omega (arith, within));
+  cover = tt;
 }
-sound_written country H (Some h) (change.Registered r) row has is number sound = let none = is.new in cc
-sound_written country H None (change.Opened r g) row has is number sound = let some = is.known in cc
-sound_written country H (Some h) (change.Opened r g) row has is number sound =
+sound_written country H (Some h) (change.Registered r) row form has is number sound = let none = is.new in cc
+sound_written country H None (change.Opened r g) row form has is number sound = let some = is.known in cc
+sound_written country H (Some h) (change.Opened r g) row form has is number sound =
     let same : is.old ≡ h.row = the_row h.row is.old is.known in
     let next : r ≡ record h.row { last_at = r.last_at; grn_count = h.row.grn_count + 1 } = subst (λ (o : HolderRow). r ≡ record o { last_at = r.last_at; grn_count = o.grn_count + 1 }) same is.next in
     let left : h.row.grn_count < 999999 = subst (λ (o : HolderRow). o.grn_count < 999999) same is.left in
     let guarantee : IsGuaranteeRow country h.row.holder (h.row.grn_count + 1) g = subst (λ n. IsGuaranteeRow country n (h.row.grn_count + 1) g) (sym number) (subst (λ (o : HolderRow). IsGuaranteeRow country H (o.grn_count + 1) g) same is.guarantee) in
-    subst (λ (x : HolderRow). AreHolderRows country (record { row = x; guarantees = h.guarantees ++ g ∷ []; movements = h.movements })) (sym next) (sound_opened country h g r.last_at is.moment left guarantee sound)
-sound_written country H None (change.Declared r m) row has is number sound = let some = is.known in cc
-sound_written country H (Some h) (change.Declared r m) row has is number sound =
+    subst (λ (x : HolderRow). AreHolderRows country (record { row = x; guarantees = h.guarantees ++ g ∷ []; movements = h.movements })) (sym next) (sound_opened country h g r.last_at form is.moment left guarantee sound)
+sound_written country H None (change.Declared r m) row form has is number sound = let some = is.known in cc
+sound_written country H (Some h) (change.Declared r m) row form has is number sound =
     let same : is.old ≡ h.row = the_row h.row is.old is.known in
     let next : r ≡ record h.row { last_at = r.last_at; mrn_count = h.row.mrn_count + 1 } = subst (λ (o : HolderRow). r ≡ record o { last_at = r.last_at; mrn_count = o.mrn_count + 1 }) same is.next in
     let left : h.row.mrn_count < 9999999 = subst (λ (o : HolderRow). o.mrn_count < 9999999) same is.left in
     let movement : IsMovementRow country h.row.holder h.guarantees (h.row.mrn_count + 1) m = subst (λ n. IsMovementRow country n h.guarantees (h.row.mrn_count + 1) m) (sym number) (subst (λ (o : HolderRow). IsMovementRow country H h.guarantees (o.mrn_count + 1) m) same is.movement) in
-    subst (λ (x : HolderRow). AreHolderRows country (record { row = x; guarantees = h.guarantees; movements = h.movements ++ m ∷ [] })) (sym next) (sound_declared country h m r.last_at is.moment left movement is.fresh sound)
+    subst (λ (x : HolderRow). AreHolderRows country (record { row = x; guarantees = h.guarantees; movements = h.movements ++ m ∷ [] })) (sym next) (sound_declared country h m r.last_at is.moment left movement is.fresh is.accepted sound)

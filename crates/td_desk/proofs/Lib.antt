@@ -5,6 +5,7 @@ mod Places
 pub mod Fresh
 pub mod Turns
 mod Accepted
+mod Cover
 mod Following
 mod Loading
 mod Storing

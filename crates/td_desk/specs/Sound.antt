@@ -9,10 +9,12 @@ use Rattle.td_base.specs.Holder.{IsHolderNumber}
 use Rattle.td_base.specs.Moment.{IsMoment}
 use Rattle.td_base.specs.Money.{IsReference, IsCover}
 use Rattle.td_base.specs.References.{grn_text, mrn_text}
-use Rattle.td_acts.specs.declared.lines.Line.{Line}
+use Rattle.td_movement.specs.declared.line.Line.{Line}
+use Rattle.td_movement.specs.Status.{IsStatus}
+use Rattle.td_guarantee.specs.Usage.{used_on}
 use Rattle.td_acts.specs.declared.rows.HolderRow.{HolderRow}
-use Rattle.td_acts.specs.declared.rows.Guarantee.{Guarantee}
-use Rattle.td_acts.specs.declared.rows.Movement.{Movement}
+use Rattle.td_guarantee.specs.declared.guarantee.Guarantee.{Guarantee}
+use Rattle.td_movement.specs.declared.movement.Movement.{Movement}
 use Rattle.td_acts.specs.Account.{guarantee_with}
 use Rattle.td_acts.specs.Lines.{IsLineAmount}
 use Rattle.td_desk.specs.Rows.{Rises}
@@ -47,21 +49,28 @@ pub record AreMovementLines (guarantees : List Guarantee) (lines : List Line) : 
   pub distinct : AllPairs (λ l m. l.grn ≢ m.grn) lines
   pub own : AllByRecursion (λ l. IsSome (guarantee_with l.grn guarantees)) lines
 
--- movement n of a holder: its MRN was made of the year of its acceptance, the desk's country, the holder and this serial
+-- movement n of a holder: its MRN was made of the year of its acceptance, the desk's country, the holder and this serial, and it has the days and
+-- offices of its state
 pub record IsMovementRow (country : List ℕ) (H : ℕ) (guarantees : List Guarantee) (n : ℕ) (m : Movement) : Type 0 where
   pub mrn : m.mrn ≡ mrn_text (year_of m.accepted % 100) country H n
   pub lrn : IsLrn m.lrn
   pub departure : IsOfficeNo m.departure
   pub destination : IsOfficeNo m.destination
   pub accepted : IsDay m.accepted
+  pub status : IsStatus m
   pub lines : AreMovementLines guarantees m.lines
+
+-- the amount in use is at most the reference amount
+abbrev pub IsCovered : List Movement → Guarantee → Type 0
+IsCovered movements g = used_on g.grn movements ≤ g.reference
 
 -- what holds of each row and its number, where n rows stand before
 abbrev pub AllNumbered : {R : Type 0} → (ℕ → R → Type 0) → ℕ → List R → Type 0
 AllNumbered P n [] = Unit {0}
 AllNumbered P n (r ∷ rows) = P (n + 1) r × AllNumbered P (n + 1) rows
 
--- a holder's rows keep their rules; serials begin at 1 and none is left out, and no two movements have one LRN
+-- A holder's rows keep their rules: serials begin at 1 and none is left out, no two movements have one LRN, and the amount in use on each guarantee is
+-- at most its reference amount.
 pub record AreHolderRows (country : List ℕ) (h : HolderRows) : Type 0 where
   pub row : IsHolderRow h.row
   pub guarantees : AllNumbered (IsGuaranteeRow country h.row.holder) 0 h.guarantees
@@ -71,6 +80,7 @@ pub record AreHolderRows (country : List ℕ) (h : HolderRows) : Type 0 where
   pub mrn_count : h.row.mrn_count ≡ length h.movements
   pub mrn_most : h.row.mrn_count ≤ 9999999
   pub lrns : AllPairs (λ a b. a.lrn ≢ b.lrn) h.movements
+  pub cover : AllByRecursion (IsCovered h.movements) h.guarantees
 
 -- the rows keep their rules
 pub record IsSound (rows : Content) : Type 0 where

@@ -7,8 +7,10 @@ ghost use Rattle.td_desk.specs.Rows.{IsFirstPlace};
 
 use std::alloc::{AllocError, Global};
 use std::marker::Model;
-use td_acts::{Change, Command, Guarantee, HolderRow, Lines, Loaded, Movement, find_guarantee};
+use td_acts::{Change, Command, HolderRow, Lines, Loaded, find_guarantee};
 use td_base::{Country, HolderNo, Lrn};
+use td_guarantee::Guarantee;
+use td_movement::Movement;
 
 /// A registered holder's row, and the holder's own guarantees and movements by serial.
 #[derive(Drop)]

@@ -10,7 +10,7 @@ use Rattle.std.specs.Str.{bytes_eq}
 use Rattle.serde_json.specs.View.{view, items_view}
 use Rattle.serde_json.specs.declared.value.Value.{Value}
 use Rattle.td_acts.specs.Lines.{IsLines, IsLineAmount}
-use Rattle.td_acts.specs.declared.lines.Line.{Line}
+use Rattle.td_movement.specs.declared.line.Line.{Line}
 use Rattle.td_http.specs.BodyLines.{line_in, lines_in, is_line_amount, are_distinct, are_lines, lines_read}
 use Rattle.td_http.proofs.PartFacts.{some_where, le_decided, all_decided}
 

@@ -11,8 +11,9 @@ use crate::body_fields::{array_in, code_in, number_in, text_in};
 use crate::fault::Field;
 use serde_json::Value;
 use std::alloc::{AllocError, Global};
-use td_acts::{Line, Lines};
+use td_acts::Lines;
 use td_base::{AccessCode, Cents, Grn};
+use td_movement::Line;
 
 // The lines, or `None` where they are missing, or anything is wrong inside them.
 pub(crate) fn lines_in(alloc: Global, body: &Value) -> Result<Option<Lines>, AllocError>

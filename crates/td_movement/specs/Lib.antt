@@ -1,3 +1,4 @@
 pub mod States
 pub mod Moves
 pub mod Times
+pub mod Status

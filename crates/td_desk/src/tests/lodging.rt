@@ -5,8 +5,9 @@ use crate::{Outcome, PlainDesk, run};
 use std::alloc::Global;
 use std::process::Abort;
 use std::test::Fail;
-use td_acts::{Answer, Command, Line, Lines, Refusal, Said, Stamped};
+use td_acts::{Answer, Command, Lines, Refusal, Said, Stamped};
 use td_base::{AccessCode, Cents, Cover, Eori, Grn, HolderNo, Lrn, Mrn, OfficeNo, Reference};
+use td_movement::Line;
 
 // Opens a guarantee of 10,000.00 for a holder, with the code AB12.
 fn open(number: u32, at: i64) -> Option<Stamped> {

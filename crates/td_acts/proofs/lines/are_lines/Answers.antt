@@ -1,7 +1,7 @@
 use Rattle.std.proofs.Common.{◌≡◌, ◌≢◌, ℕ, ◌+◌, ◌<◌, ◌≤◌, List, true, false, sym, ◌∙◌, ap, subst, arith, get_or}
 use Rattle.std.proofs.lemmas.Bool.{false≢true}
 use Rattle.std.proofs.lemmas.List.{get_or_default}
-use Rattle.td_acts.specs.declared.lines.Line.{Line}
+use Rattle.td_movement.specs.declared.line.Line.{Line}
 use Rattle.td_acts.specs.Lines.{IsLineAmount}
 use Rattle.td_acts.proofs.Earlier.{named_by_none, named_by_one, up_to}
 use Rattle.td_acts.proofs.lines.are_lines.Goals as goal

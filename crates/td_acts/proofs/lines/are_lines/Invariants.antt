@@ -1,5 +1,5 @@
 use Rattle.std.proofs.Common.{ℕ, List, ◌<◌, ◌≢◌, get_or}
-use Rattle.td_acts.specs.declared.lines.Line.{Line}
+use Rattle.td_movement.specs.declared.line.Line.{Line}
 use Rattle.td_acts.specs.Lines.{IsLineAmount}
 use Rattle.td_acts.proofs.lines.are_lines.Given as goal
 

@@ -1,7 +1,7 @@
 use Rattle.std.proofs.Common.{◌≡◌, ◌∷◌, [], ◌++◌, ◌+◌, ◌<◌, ℕ, List, None, Some, length, take, get_or, sym, ◌∙◌, ap, subst}
 use Rattle.std.specs.Prelude.{filter_map, option_map}
 use Rattle.std.proofs.lemmas.List.{take_more, append-nil}
-use Rattle.td_acts.specs.declared.lines.Line.{Line}
+use Rattle.td_movement.specs.declared.line.Line.{Line}
 use Rattle.td_desk.proofs.Loading.{look, one_more}
 use Rattle.td_desk.proofs.file.guarantees_of.Goals as goal
 use Rattle.td_desk.proofs.file.guarantees_of.Goals.{in-Some+in_ok-copy+in_ok-push, in_default}

@@ -1,6 +1,6 @@
 use Rattle.std.proofs.Common.{◌≡◌, ◌+◌, ◌∙◌, List, ℕ, Some, get_or, ap, sym}
 use Rattle.serde_json.specs.View.{view}
-use Rattle.td_acts.specs.declared.lines.Line.{Line}
+use Rattle.td_movement.specs.declared.line.Line.{Line}
 use Rattle.td_http.specs.BodyLines.{line_in}
 use Rattle.td_http.proofs.LineFacts.{read_from, read_goes_on}
 use Rattle.td_http.proofs.body_lines.read_lines.Goals as goal
