@@ -1,16 +1,15 @@
 -- What one more accepted change does to what a book says.
-use Rattle.std.proofs.Common.{◌≡◌, ℕ, ◌+◌, Bool, true, false, List, [], ◌∷◌, ◌++◌, Option, Some, None, refl, sym, ◌∙◌, ap, arith, append_assoc}
+use Rattle.std.proofs.Common.{◌≡◌, ℕ, ◌+◌, Bool, true, false, List, [], ◌∷◌, ◌++◌, Option, Some, None, refl, sym, ◌∙◌, append_assoc}
 use Rattle.std.proofs.lemmas.Bool.{false≢true}
-use Rattle.std.proofs.lemmas.Bool.Decides.{nat_tests}
 use Rattle.std.proofs.lemmas.List.{append-nil}
 use Rattle.std.proofs.Math.Nat.{add-zero}
-use Rattle.std.specs.Prelude.{IfSome, if◌then◌else◌, nat_lt, nat_le}
+use Rattle.std.specs.Prelude.{IfSome, if◌then◌else◌}
 use Rattle.td_base.specs.Moment.{moment_of}
 use Rattle.td_acts.specs.declared.rows.HolderRow.{HolderRow}
 use Rattle.td_guarantee.specs.declared.guarantee.Guarantee.{Guarantee}
 use Rattle.td_movement.specs.declared.movement.Movement.{Movement}
 use Rattle.td_acts.specs.declared.command.Command.{Command}
-use Rattle.td_acts.specs.declared.command.Command.TheVariants.{Register, OpenGuarantee, Ie015, SeeHolder}
+use Rattle.td_acts.specs.declared.command.Command.TheVariants.{Register, OpenGuarantee, Ie015, SeeHolder, SeeMovement, SeeGuarantee}
 use Rattle.td_acts.specs.declared.command.Stamped.{Stamped}
 use Rattle.td_acts.specs.declared.rows.Change.TheVariants as change
 use Rattle.td_acts.specs.Account.{Account, IsAccountOf}
@@ -77,6 +76,8 @@ step_made H country (Some e) at g m t gs ms (Ie015 h lrn departure destination l
     let same : h ≡ H = cc in
     rw (same, add-zero, append-nil) refl
 step_made H country e at g m t gs ms (SeeHolder h) none own accepted = absurd (false≢true accepted)
+step_made H country e at g m t gs ms (SeeMovement h mrn) none own accepted = absurd (false≢true accepted)
+step_made H country e at g m t gs ms (SeeGuarantee h grn) none own accepted = absurd (false≢true accepted)
 
 -- who isn't registered has used no serial
 none_used : (book : Book) → IsBegun book → eori_of book ≡ None → (grn_count_of book ≡ 0) × (mrn_count_of book ≡ 0)
@@ -112,6 +113,8 @@ registered_made H country (Some e) at g m t gs ms (OpenGuarantee h reference cov
 registered_made H country None at g m t gs ms (Ie015 h lrn departure destination lines) accepted none = false≢true accepted
 registered_made H country (Some e) at g m t gs ms (Ie015 h lrn departure destination lines) accepted none = cc
 registered_made H country e at g m t gs ms (SeeHolder h) accepted none = false≢true accepted
+registered_made H country e at g m t gs ms (SeeMovement h mrn) accepted none = false≢true accepted
+registered_made H country e at g m t gs ms (SeeGuarantee h grn) accepted none = false≢true accepted
 
 -- the same where there may be no moment
 begun_after_at : (H : ℕ) (book : Book) (m : Option ℕ) (command : Command) → IsBegun book → IsBegun (book_after_at H book m command)

@@ -1,7 +1,9 @@
 -- What the table says of a declaration, from what was loaded for it.
-use Rattle.std.proofs.Common.{◌≡◌, ℕ, ◌+◌, Bool, true, false, List, [], ◌∷◌, Option, Some, None, refl, sym, ◌∙◌, ap}
+use Rattle.std.proofs.Common.{◌≡◌, ℕ, ◌+◌, Bool, true, false, List, [], ◌∷◌, Option, Some, None, refl, ◌∙◌, ap}
 use Rattle.std.specs.Prelude.{map, nat_lt, nat_le, if◌then◌else◌}
 use Rattle.std.specs.List.{AllByRecursion}
+use Rattle.std.specs.Option.{option_map}
+use Rattle.std.specs.Str.{bytes_eq}
 use Rattle.td_base.specs.Days.{day_of_moment}
 use Rattle.td_base.specs.References.{mrn_text}
 use Rattle.td_movement.specs.declared.line.Line.{Line}
@@ -18,17 +20,27 @@ use Rattle.td_acts.specs.declared.said.Said.TheVariants.{Answered, Refused}
 use Rattle.td_acts.specs.Account.{guarantee_with, movement_with}
 use Rattle.td_acts.specs.Book.{year2_at}
 use Rattle.td_acts.specs.Declaring.{first_refusal, guarantee_refusal, refusal_or}
-use Rattle.td_acts.specs.Deciding.{decided_at}
+use Rattle.td_acts.specs.Deciding.{decided_at, entry_with}
 use Rattle.td_acts.specs.Lines.{line_of}
 use Rattle.td_acts.specs.Serials.{next_serial}
 
+-- a guarantee is found as its entry is
+pub named_entry : (grn : List ℕ) (es : List (Guarantee × ℕ)) → guarantee_with grn (map (λ e. e.0) es) ≡ option_map (λ e. e.0) (entry_with grn es)
+named_entry grn [] = refl
+named_entry grn (e ∷ es) = by_test (bytes_eq e.0.grn grn) (named_entry grn es)
+  where
+    by_test : (b : Bool) → guarantee_with grn (map (λ e. e.0) es) ≡ option_map (λ e. e.0) (entry_with grn es)
+        → if◌then◌else◌ {A = Option Guarantee} b (Some e.0) (guarantee_with grn (map (λ e. e.0) es)) ≡ option_map (λ e. e.0) (if◌then◌else◌ {A = Option (Guarantee × ℕ)} b (Some e) (entry_with grn es))
+    by_test true later = refl
+    by_test false later = later
+
 -- lines are tested by what is found for them alone
-pub same_refusal : (day : ℕ) (gs hs : List Guarantee) (lines : List (Line × List ℕ)) → AllByRecursion (λ l. guarantee_with l.0.grn gs ≡ guarantee_with l.0.grn hs) lines
-    → first_refusal day gs lines ≡ first_refusal day hs lines
-same_refusal day gs hs [] found = refl
-same_refusal day gs hs (l ∷ lines) found =
-    ap (λ o. refusal_or (guarantee_refusal day l.1 o) (first_refusal day gs lines)) found.0
-    ∙ ap (refusal_or (guarantee_refusal day l.1 (guarantee_with l.0.grn hs))) (same_refusal day gs hs lines found.1)
+pub same_refusal : (day : ℕ) (es : List (Guarantee × ℕ)) (gs : List Guarantee) (lines : List (Line × List ℕ)) → AllByRecursion (λ l. option_map (λ e. e.0) (entry_with l.0.grn es) ≡ guarantee_with l.0.grn gs) lines
+    → first_refusal day (map (λ e. e.0) es) lines ≡ first_refusal day gs lines
+same_refusal day es gs [] found = refl
+same_refusal day es gs (l ∷ lines) found =
+    ap (λ o. refusal_or (guarantee_refusal day l.1 o) (first_refusal day (map (λ e. e.0) es) lines)) (named_entry l.0.grn es ∙ found.0)
+    ∙ ap (refusal_or (guarantee_refusal day l.1 (guarantee_with l.0.grn gs))) (same_refusal day es gs lines found.1)
 
 -- the parts of an equal pair
 parts : (p q : ℕ × List ℕ) → Some p ≡ Some q → (q.0 ≡ p.0) × (q.1 ≡ p.1)

@@ -7,7 +7,7 @@ use Rattle.td_guarantee.specs.declared.guarantee.Guarantee.{Guarantee}
 use Rattle.td_movement.specs.declared.movement.Movement.{Movement}
 use Rattle.td_acts.specs.declared.rows.Change.TheVariants as change
 use Rattle.td_acts.specs.declared.command.Command.{Command}
-use Rattle.td_acts.specs.declared.command.Command.TheVariants.{Register, OpenGuarantee, Ie015, SeeHolder}
+use Rattle.td_acts.specs.declared.command.Command.TheVariants.{Register, OpenGuarantee, Ie015, SeeHolder, SeeMovement, SeeGuarantee}
 use Rattle.td_acts.specs.Account.{Account}
 use Rattle.td_acts.specs.Acceptance.{is_accepted_at, is_accepted_in, is_accepted}
 use Rattle.td_acts.specs.Deciding.{decided, rows_written, change_at, change_in, is_change}
@@ -28,6 +28,8 @@ some_made country (Some row) gs ms t (OpenGuarantee holder reference cover code)
 some_made country None gs ms t (Ie015 holder lrn departure destination lines) accepted = cc
 some_made country (Some row) gs ms t (Ie015 holder lrn departure destination lines) accepted = refl
 some_made country o gs ms t (SeeHolder holder) accepted = cc
+some_made country o gs ms t (SeeMovement holder mrn) accepted = cc
+some_made country o gs ms t (SeeGuarantee holder grn) accepted = cc
 
 written_in : (m : Option ℕ) (account : Account) (command : Command) → is_change (change_in m account command) ≡ is_accepted_in m account command
 written_in None account command = refl

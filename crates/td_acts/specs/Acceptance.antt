@@ -1,9 +1,9 @@
 -- Which commands are accepted changes.
-use Rattle.std.specs.Prelude.{ℕ, ℤ, List, Option, Some, None, Bool, true, false, ◌&&◌, not}
+use Rattle.std.specs.Prelude.{ℕ, ℤ, Option, Some, None, Bool, true, false, ◌&&◌, not}
 use Rattle.std.specs.Option.{is_some}
 use Rattle.td_base.specs.Moment.{moment_of}
 use Rattle.td_acts.specs.declared.command.Command.{Command}
-use Rattle.td_acts.specs.declared.command.Command.TheVariants.{Register, OpenGuarantee, Ie015, SeeHolder}
+use Rattle.td_acts.specs.declared.command.Command.TheVariants.{Ie015}
 use Rattle.td_acts.specs.declared.said.Said.{Said}
 use Rattle.td_acts.specs.declared.said.Said.TheVariants.{Answered, Refused}
 use Rattle.td_acts.specs.Account.{Account, movement_with}
@@ -16,10 +16,8 @@ is_answer (Refused refusal) = false
 
 -- A declaration under an LRN that the holder has used already. Where it is answered it is a repeat.
 abbrev pub has_known_lrn : Account → Command → Bool
-has_known_lrn account (Register holder eori) = false
-has_known_lrn account (OpenGuarantee holder reference cover code) = false
 has_known_lrn account (Ie015 holder lrn departure destination lines) = is_some (movement_with lrn account.movements)
-has_known_lrn account (SeeHolder holder) = false
+has_known_lrn account command = false
 
 -- an answered command that is neither a view nor a repeat; refusals, views and repeats are no changes
 abbrev pub is_accepted_at : Account → ℕ → Command → Bool

@@ -24,6 +24,10 @@ pub record IsAccountOf (H : ℕ) (account : Account) : Type 0 where
 abbrev pub guarantee_with : List ℕ → List Guarantee → Option Guarantee
 guarantee_with grn guarantees = find (λ g. bytes_eq g.grn grn) guarantees
 
+-- the movement with exactly this MRN
+abbrev pub movement_named : List ℕ → List Movement → Option Movement
+movement_named mrn movements = find (λ m. bytes_eq m.mrn mrn) movements
+
 -- the movement with this LRN
 abbrev pub movement_with : List ℕ → List Movement → Option Movement
 movement_with lrn movements = find (λ m. bytes_eq m.lrn lrn) movements

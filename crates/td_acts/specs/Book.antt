@@ -9,7 +9,7 @@ use Rattle.td_guarantee.specs.declared.guarantee.Guarantee.{Guarantee}
 use Rattle.td_movement.specs.declared.movement.Movement.{Movement}
 use Rattle.td_movement.specs.declared.state.State.TheVariants.{Accepted}
 use Rattle.td_acts.specs.declared.command.Command.{Command}
-use Rattle.td_acts.specs.declared.command.Command.TheVariants.{Register, OpenGuarantee, Ie015, SeeHolder}
+use Rattle.td_acts.specs.declared.command.Command.TheVariants.{Register, OpenGuarantee, Ie015}
 use Rattle.td_acts.specs.Account.{Account}
 use Rattle.td_acts.specs.Lines.{line_of}
 
@@ -25,9 +25,7 @@ pub record Book : Type 0 where
 -- the EORI under which the command registers the holder, else the one known before
 abbrev pub eori_after : Option (List ℕ) → Command → Option (List ℕ)
 eori_after known (Register holder eori) = Some eori
-eori_after known (OpenGuarantee holder reference cover code) = known
-eori_after known (Ie015 holder lrn departure destination lines) = known
-eori_after known (SeeHolder holder) = known
+eori_after known command = known
 
 -- the holder's EORI after all acts: none where nobody was registered
 abbrev pub eori_in : Option (List ℕ) → List Act → Option (List ℕ)
@@ -41,17 +39,13 @@ last_in at (a ∷ acts) = last_in a.at acts
 
 -- how many guarantees the command opens
 abbrev pub openings : Command → ℕ
-openings (Register holder eori) = 0
 openings (OpenGuarantee holder reference cover code) = 1
-openings (Ie015 holder lrn departure destination lines) = 0
-openings (SeeHolder holder) = 0
+openings command = 0
 
 -- how many movements the command declares
 abbrev pub declarations : Command → ℕ
-declarations (Register holder eori) = 0
-declarations (OpenGuarantee holder reference cover code) = 0
 declarations (Ie015 holder lrn departure destination lines) = 1
-declarations (SeeHolder holder) = 0
+declarations command = 0
 
 -- the serial that is reached after all acts, where each act uses up so many
 abbrev pub serial_in : (Command → ℕ) → ℕ → List Act → ℕ
@@ -64,17 +58,13 @@ year2_at t = year_of (day_of_moment t) % 100
 
 -- the guarantee that the command opens at moment t for holder H, after n others
 abbrev pub opened_by : List ℕ → ℕ → ℕ → ℕ → Command → List Guarantee
-opened_by country H n t (Register holder eori) = []
 opened_by country H n t (OpenGuarantee holder reference cover code) = record { grn = grn_text (year2_at t) country H (n + 1); reference = reference; cover = cover; ends = None; codes = code ∷ [] } ∷ []
-opened_by country H n t (Ie015 holder lrn departure destination lines) = []
-opened_by country H n t (SeeHolder holder) = []
+opened_by country H n t command = []
 
 -- the movement that the command declares at moment t for holder H, after n others
 abbrev pub declared_by : List ℕ → ℕ → ℕ → ℕ → Command → List Movement
-declared_by country H n t (Register holder eori) = []
-declared_by country H n t (OpenGuarantee holder reference cover code) = []
 declared_by country H n t (Ie015 holder lrn departure destination lines) = record { mrn = mrn_text (year2_at t) country H (n + 1); lrn = lrn; departure = departure; destination = destination; accepted = day_of_moment t; state = Accepted; limit = None; arrival = None; actual = None; lines = map line_of lines } ∷ []
-declared_by country H n t (SeeHolder holder) = []
+declared_by country H n t command = []
 
 -- what the acts make, one after the other, where made says what an act makes after n others and uses how many serials it uses up
 abbrev pub made_in : {R : Type 0} → (ℕ → ℕ → Command → List R) → (Command → ℕ) → ℕ → List Act → List R

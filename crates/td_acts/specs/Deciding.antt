@@ -1,31 +1,41 @@
 -- How the code carries the model's verdict: the rows that an accepted command writes.
-use Rattle.std.specs.Prelude.{◌≡◌, ℕ, ℤ, ◌+◌, List, [], ◌∷◌, ◌++◌, map, Option, Some, None, Bool, true, false, if◌then◌else◌}
+use Rattle.std.specs.Prelude.{◌≡◌, ℕ, ℤ, ◌+◌, List, [], ◌∷◌, ◌++◌, map, find, Option, Some, None, Bool, true, false, if◌then◌else◌}
 use Rattle.std.specs.List.{AllByRecursion}
+use Rattle.std.specs.Option.{option_map}
+use Rattle.std.specs.Str.{bytes_eq}
 use Rattle.td_base.specs.Days.{day_of_moment}
 use Rattle.td_base.specs.Moment.{moment_of}
 use Rattle.td_base.specs.References.{grn_text, mrn_text}
 use Rattle.td_movement.specs.declared.state.State.TheVariants.{Accepted}
+use Rattle.td_guarantee.specs.declared.guarantee.Guarantee.{Guarantee}
+use Rattle.td_guarantee.specs.Usage.{used_on}
 use Rattle.td_acts.specs.declared.rows.HolderRow.{HolderRow}
 use Rattle.td_acts.specs.declared.rows.Loaded.{Loaded}
 use Rattle.td_acts.specs.declared.rows.Change.{Change}
 use Rattle.td_acts.specs.declared.rows.Change.TheVariants as change
 use Rattle.td_acts.specs.declared.rows.Verdict.{Verdict}
 use Rattle.td_acts.specs.declared.command.Command.{Command}
-use Rattle.td_acts.specs.declared.command.Command.TheVariants.{Register, OpenGuarantee, Ie015, SeeHolder}
-use Rattle.td_acts.specs.Account.{Account, guarantee_with, movement_with}
+use Rattle.td_acts.specs.declared.command.Command.TheVariants.{Register, OpenGuarantee, Ie015, SeeMovement, SeeGuarantee}
+use Rattle.td_acts.specs.Account.{Account, guarantee_with, movement_named, movement_with}
 use Rattle.td_acts.specs.Book.{year2_at}
 use Rattle.td_acts.specs.Lines.{line_of}
 use Rattle.td_acts.specs.Table.{said, said_at}
 use Rattle.td_acts.specs.Acceptance.{is_accepted_at}
 
--- the movement with the declaration's LRN, and the guarantees of its lines, are found in what was loaded as they are in the account
+-- a guarantee that was loaded, and the amount in use on it where the command asks for that
+abbrev pub entry_with : List ℕ → List (Guarantee × ℕ) → Option (Guarantee × ℕ)
+entry_with grn entries = find (λ e. bytes_eq e.0.grn grn) entries
+
+-- What a command asks for is found in what was loaded as it is in the account: for a declaration the movement with its LRN and the guarantees of
+-- its lines, for a view the movement, or the guarantee with the amount in use on it.
 abbrev pub IsLookedUp : Account → Command → Loaded → Type 0
-IsLookedUp account (Register holder eori) loaded = Unit {0}
-IsLookedUp account (OpenGuarantee holder reference cover code) loaded = Unit {0}
 IsLookedUp account (Ie015 holder lrn departure destination lines) loaded =
     (movement_with lrn loaded.movements.items ≡ movement_with lrn account.movements)
-    × AllByRecursion (λ l. guarantee_with l.0.grn loaded.guarantees.items ≡ guarantee_with l.0.grn account.guarantees) lines
-IsLookedUp account (SeeHolder holder) loaded = Unit {0}
+    × AllByRecursion (λ l. option_map (λ e. e.0) (entry_with l.0.grn loaded.guarantees.items) ≡ guarantee_with l.0.grn account.guarantees) lines
+IsLookedUp account (SeeMovement holder mrn) loaded = movement_named mrn loaded.movements.items ≡ movement_named mrn account.movements
+IsLookedUp account (SeeGuarantee holder grn) loaded =
+    entry_with grn loaded.guarantees.items ≡ option_map (λ g. (g, used_on g.grn account.movements)) (guarantee_with grn account.guarantees)
+IsLookedUp account command loaded = Unit {0}
 
 -- what was loaded is what the verdict on the command asks of the account
 pub record IsLoaded (account : Account) (command : Command) (loaded : Loaded) : Type 0 where
@@ -62,7 +72,7 @@ rows_written account t (OpenGuarantee holder reference cover code) = if_row acco
 rows_written account t (Ie015 holder lrn departure destination lines) = if_row account.holder (λ row. change.Declared
     (record row { last_at = t; mrn_count = row.mrn_count + 1 })
     (record { mrn = mrn_text (year2_at t) account.country holder (row.mrn_count + 1); lrn = lrn; departure = departure; destination = destination; accepted = day_of_moment t; state = Accepted; limit = None; arrival = None; actual = None; lines = map line_of lines }))
-rows_written account t (SeeHolder holder) = change.Nothing
+rows_written account t command = change.Nothing
 
 -- those rows where it is accepted, else nothing
 abbrev pub change_at : Account → ℕ → Command → Change

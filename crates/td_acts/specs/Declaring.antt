@@ -1,5 +1,5 @@
 -- The rules of a declaration: what its LRN says of it, and the tests of its lines.
-use Rattle.std.specs.Prelude.{ℕ, Bool, ◌&&◌, ◌==◌, not, if◌then◌else◌, List, [], ◌∷◌, map, Option, Some, None}
+use Rattle.std.specs.Prelude.{ℕ, Bool, ◌&&◌, ◌==◌, not, if◌then◌else◌, List, [], ◌∷◌, Option, Some, None}
 use Rattle.std.specs.Str.{bytes_eq}
 use Rattle.std.specs.List.{list_any}
 use Rattle.std.specs.Cmp.Lexicographic.{pointwise}
@@ -10,7 +10,6 @@ use Rattle.td_acts.specs.declared.said.Refusal.{Refusal}
 use Rattle.td_acts.specs.declared.said.Refusal.TheVariants.{NoGuarantee, BadCode, GuaranteeEnded}
 use Rattle.td_guarantee.specs.Terms.{has_ended}
 use Rattle.td_acts.specs.Account.{guarantee_with}
-use Rattle.td_acts.specs.Lines.{line_of}
 
 -- two lines on one guarantee, of one amount
 abbrev pub is_same_line : Line → Line → Bool

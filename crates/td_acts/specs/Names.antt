@@ -1,13 +1,14 @@
 -- The names of refusals, as replies and result files show them.
 use Rattle.std.specs.Prelude.{ℕ, List, codes}
 use Rattle.td_acts.specs.declared.said.Refusal.{Refusal}
-use Rattle.td_acts.specs.declared.said.Refusal.TheVariants.{ClockRange, NoHolder, HolderKnown, ClockBack, NoGuarantee, BadCode, GuaranteeEnded, LrnUsed, SerialsSpent}
+use Rattle.td_acts.specs.declared.said.Refusal.TheVariants.{ClockRange, NoHolder, HolderKnown, ClockBack, NoMovement, NoGuarantee, BadCode, GuaranteeEnded, LrnUsed, SerialsSpent}
 
 abbrev pub refusal_name : Refusal → List ℕ
 refusal_name ClockRange = codes "clock-range"
 refusal_name NoHolder = codes "no-holder"
 refusal_name HolderKnown = codes "holder-known"
 refusal_name ClockBack = codes "clock-back"
+refusal_name NoMovement = codes "no-movement"
 refusal_name NoGuarantee = codes "no-guarantee"
 refusal_name BadCode = codes "bad-code"
 refusal_name GuaranteeEnded = codes "guarantee-ended"

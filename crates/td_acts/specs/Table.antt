@@ -7,14 +7,16 @@ use Rattle.td_base.specs.References.{grn_text, mrn_text}
 use Rattle.td_movement.specs.declared.line.Line.{Line}
 use Rattle.td_acts.specs.declared.rows.HolderRow.{HolderRow}
 use Rattle.td_movement.specs.declared.movement.Movement.{Movement}
+use Rattle.td_guarantee.specs.declared.guarantee.Guarantee.{Guarantee}
+use Rattle.td_guarantee.specs.Usage.{used_on}
 use Rattle.td_acts.specs.declared.command.Command.{Command}
-use Rattle.td_acts.specs.declared.command.Command.TheVariants.{Register, OpenGuarantee, Ie015, SeeHolder}
+use Rattle.td_acts.specs.declared.command.Command.TheVariants.{Register, OpenGuarantee, Ie015, SeeHolder, SeeMovement, SeeGuarantee}
 use Rattle.td_acts.specs.declared.said.Answer.TheVariants as answer
 use Rattle.td_acts.specs.declared.said.Refusal.{Refusal}
-use Rattle.td_acts.specs.declared.said.Refusal.TheVariants.{ClockRange, NoHolder, HolderKnown, ClockBack, LrnUsed, SerialsSpent}
+use Rattle.td_acts.specs.declared.said.Refusal.TheVariants.{ClockRange, NoHolder, HolderKnown, ClockBack, NoMovement, NoGuarantee, LrnUsed, SerialsSpent}
 use Rattle.td_acts.specs.declared.said.Said.{Said}
 use Rattle.td_acts.specs.declared.said.Said.TheVariants.{Answered, Refused}
-use Rattle.td_acts.specs.Account.{Account, movement_with}
+use Rattle.td_acts.specs.Account.{Account, guarantee_with, movement_named, movement_with}
 use Rattle.td_acts.specs.Book.{year2_at}
 use Rattle.td_acts.specs.Lines.{line_of}
 use Rattle.td_acts.specs.Declaring.{has_contents, first_refusal}
@@ -32,6 +34,16 @@ if_registered (Some row) said_of = said_of row
 -- clock-back where the moment is before the holder's own last change, else this
 abbrev pub if_not_back : ℕ → HolderRow → Said → Said
 if_not_back t row said = if nat_lt t row.last_at then Refused ClockBack else said
+
+-- no-movement, else what the movement says
+abbrev pub if_movement : Option Movement → (Movement → Said) → Said
+if_movement None said_of = Refused NoMovement
+if_movement (Some m) said_of = said_of m
+
+-- no-guarantee, else what the guarantee says
+abbrev pub if_guarantee : Option Guarantee → (Guarantee → Said) → Said
+if_guarantee None said_of = Refused NoGuarantee
+if_guarantee (Some g) said_of = said_of g
 
 -- serials-spent where the last serial is the greatest that there is, else this
 abbrev pub if_serials_left : ℕ → ℕ → Said → Said
@@ -74,12 +86,26 @@ said_on_ie015 account t holder lrn departure destination lines =
 abbrev pub said_on_see_holder : Account → Said
 said_on_see_holder account = if_registered account.holder (λ row. Answered (answer.Holder row.holder row.eori row.grn_count row.mrn_count))
 
+-- A view of one of the holder's movements, by its MRN.
+abbrev pub said_on_see_movement : Account → List ℕ → Said
+said_on_see_movement account mrn =
+    if_registered account.holder (λ row.
+    if_movement (movement_named mrn account.movements) (λ m. Answered (answer.Movement m)))
+
+-- A view of one of the holder's guarantees, by its GRN: its terms and codes, and the amount in use on it.
+abbrev pub said_on_see_guarantee : Account → List ℕ → Said
+said_on_see_guarantee account grn =
+    if_registered account.holder (λ row.
+    if_guarantee (guarantee_with grn account.guarantees) (λ g. Answered (answer.Guarantee g (used_on g.grn account.movements))))
+
 -- what is said at a moment
 abbrev pub said_at : Account → ℕ → Command → Said
 said_at account t (Register holder eori) = said_on_register account holder eori
 said_at account t (OpenGuarantee holder reference cover code) = said_on_open account t holder
 said_at account t (Ie015 holder lrn departure destination lines) = said_on_ie015 account t holder lrn departure destination lines
 said_at account t (SeeHolder holder) = said_on_see_holder account
+said_at account t (SeeMovement holder mrn) = said_on_see_movement account mrn
+said_at account t (SeeGuarantee holder grn) = said_on_see_guarantee account grn
 
 -- what is said at a moment, where the clock shows one
 abbrev pub said_in : Option ℕ → Account → Command → Said

@@ -3,7 +3,7 @@ ghost use Rattle.std.specs.Prelude.{◌≡◌, true};
 ghost use Rattle.td_acts.specs.Commands.{owner_of, IsProper};
 
 use crate::lines::Lines;
-use td_base::{AccessCode, Country, Cover, Eori, HolderNo, Lrn, OfficeNo, Reference};
+use td_base::{AccessCode, Country, Cover, Eori, Grn, HolderNo, Lrn, Mrn, OfficeNo, Reference};
 
 /// What is asked of the desk.
 #[derive(Debug, Drop)]
@@ -32,6 +32,16 @@ pub enum Command {
     SeeHolder {
         holder: HolderNo,
     },
+    /// One of the holder's movements, by its MRN.
+    SeeMovement {
+        holder: HolderNo,
+        mrn: Mrn,
+    },
+    /// One of the holder's guarantees, by its GRN.
+    SeeGuarantee {
+        holder: HolderNo,
+        grn: Grn,
+    },
 }
 
 /// A command, and the moment at which it came, in seconds since 1970-01-01T00:00:00Z.
@@ -49,7 +59,9 @@ pub fn owner(_country: Country, command: &Command) -> Option<HolderNo>
         Command::Register { holder, .. }
         | Command::OpenGuarantee { holder, .. }
         | Command::Ie015 { holder, .. }
-        | Command::SeeHolder { holder } => Some(*holder),
+        | Command::SeeHolder { holder }
+        | Command::SeeMovement { holder, .. }
+        | Command::SeeGuarantee { holder, .. } => Some(*holder),
     }
 }
 
@@ -81,5 +93,9 @@ pub fn known(command: &Command) -> bool
             holder.number() >= 1 && texts && !lines.as_slice().is_empty()
         }
         Command::SeeHolder { holder } => holder.number() >= 1,
+        Command::SeeMovement { holder, mrn } => holder.number() >= 1 && mrn.as_bytes().len() == 18,
+        Command::SeeGuarantee { holder, grn } => {
+            holder.number() >= 1 && grn.as_bytes().len() == 17
+        }
     }
 }

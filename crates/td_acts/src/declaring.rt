@@ -1,18 +1,19 @@
 //! Declarations: the LRN rule, and the tests of the lines.
-ghost use Rattle.std.specs.Prelude.{◌≡◌, Some, None, IfOk, option_map};
-ghost use Rattle.td_acts.specs.Account.{guarantee_with, movement_with};
+ghost use Rattle.std.specs.Prelude.{◌≡◌, Some, None, IfOk, map, option_map};
+ghost use Rattle.td_acts.specs.Account.{guarantee_with};
 ghost use Rattle.td_base.specs.Days.{day_of_moment};
 ghost use Rattle.td_acts.specs.Table.{if_lrn_new};
 ghost use Rattle.td_acts.specs.Declaring.{has_contents, guarantee_refusal, first_refusal};
 ghost use Rattle.td_acts.specs.Deciding.{IsVerdictAt};
 
 use crate::command::Command;
+use crate::finding::{find_entry, find_movement};
 use crate::lines::Lines;
 use crate::rows::{Change, HolderRow, Loaded, Verdict};
 use crate::said::{Answer, Refusal, Said};
 use crate::serials::next_mrn;
 use std::alloc::{AllocError, Global};
-use td_base::{AccessCode, Day, Grn, HolderNo, Lrn, Moment, Mrn, OfficeNo};
+use td_base::{AccessCode, Cents, Day, HolderNo, Lrn, Moment, Mrn, OfficeNo};
 use td_guarantee::{Guarantee, ended};
 use td_movement::{Line, Movement, MovementLines, State};
 
@@ -110,40 +111,16 @@ fn accept(row: HolderRow, mrn: Mrn, declaration: &Declaration<'_>, lines: Moveme
     }
 }
 
-/// The movement with exactly an LRN, if there is one.
-pub fn find_movement<'a>(movements: &'a [Movement], lrn: &Lrn) -> Option<&'a Movement>
-    ensures { option_map (λ found. found.now) result ≡ movement_with lrn.now movements.now }
-{
-    for movement in movements {
-        if movement.lrn.as_bytes() == lrn.as_bytes() {
-            return Some(movement);
-        }
-    }
-    None
-}
-
-/// The guarantee with exactly a GRN, if there is one.
-pub fn find_guarantee<'a>(guarantees: &'a [Guarantee], grn: &Grn) -> Option<&'a Guarantee>
-    ensures { option_map (λ found. found.now) result ≡ guarantee_with grn.now guarantees.now }
-{
-    for guarantee in guarantees {
-        if guarantee.grn == *grn {
-            return Some(guarantee);
-        }
-    }
-    None
-}
-
 // Why a line with a code is refused on a day: its guarantee, the code, the guarantee's end.
 fn refuse_line(
     day: Day,
-    guarantees: &[Guarantee],
+    guarantees: &[(Guarantee, Cents)],
     line: &Line,
     code: &AccessCode,
 ) -> Option<Refusal>
-    ensures { result ≡ guarantee_refusal day code.now (guarantee_with line.now.grn guarantees.now) }
+    ensures { result ≡ guarantee_refusal day code.now (guarantee_with line.now.grn (map (λ e. e.0) guarantees.now)) }
 {
-    let Some(guarantee) = find_guarantee(guarantees, &line.grn) else {
+    let Some((guarantee, _)) = find_entry(guarantees, &line.grn) else {
         return Some(Refusal::NoGuarantee);
     };
     if !guarantee.codes.has(code) {
@@ -156,8 +133,12 @@ fn refuse_line(
 }
 
 // Why the first of the lines that is refused is refused.
-fn find_refusal(day: Day, guarantees: &[Guarantee], lines: &[(Line, AccessCode)]) -> Option<Refusal>
-    ensures { result ≡ first_refusal day guarantees.now lines.now }
+fn find_refusal(
+    day: Day,
+    guarantees: &[(Guarantee, Cents)],
+    lines: &[(Line, AccessCode)],
+) -> Option<Refusal>
+    ensures { result ≡ first_refusal day (map (λ e. e.0) guarantees.now) lines.now }
 {
     for (line, code) in lines {
         let refusal = refuse_line(day, guarantees, line, code);

@@ -4,15 +4,17 @@
 
 mod command;
 mod declaring;
+mod finding;
 mod laws;
 mod lines;
 mod rows;
 mod said;
 mod serials;
 pub mod table;
+mod views;
 
 pub use command::{Command, Stamped, known, owner};
-pub use declaring::find_guarantee;
+pub use finding::{find_guarantee, find_named};
 pub use laws::{fresh_book_says_its_account, writes_what_is_accepted, writes_what_the_book_says};
 pub use lines::Lines;
 pub use rows::{Change, HolderRow, Loaded, Verdict};

@@ -1,8 +1,8 @@
 //! The rows of one holder, and the rows that a verdict writes.
 ghost use Rattle.std.specs.Prelude.{◌≡◌};
 
-use crate::said::{Refusal, Said};
-use td_base::{Country, Eori, HolderNo, Moment};
+use crate::said::{Answer, Refusal, Said};
+use td_base::{Cents, Country, Eori, HolderNo, Moment};
 use td_guarantee::Guarantee;
 use td_movement::Movement;
 
@@ -24,10 +24,10 @@ pub struct HolderRow {
 pub struct Loaded {
     pub country: Country,
     pub holder: Option<HolderRow>,
-    /// For a declaration the movement with its LRN, if there is one.
+    /// For a declaration the movement with its LRN, for a view the one with its MRN, if there is one.
     pub movements: Vec<Movement>,
-    /// For a declaration those guarantees that its lines name.
-    pub guarantees: Vec<Guarantee>,
+    /// Those guarantees that the command names, and the amounts in use on them; a declaration doesn't ask for these amounts, and then they are 0.
+    pub guarantees: Vec<(Guarantee, Cents)>,
 }
 
 /// The rows to write for a verdict.
@@ -74,6 +74,16 @@ impl Verdict {
     {
         Verdict {
             said: Said::Refused(why),
+            change: Change::Nothing,
+        }
+    }
+    /// An answer for which nothing is written.
+    pub fn shown(answer: Answer) -> Self
+        ensures said { result.said ≡ Said.Answered answer }
+        ensures change { result.change ≡ Change.Nothing }
+    {
+        Verdict {
+            said: Said::Answered(answer),
             change: Change::Nothing,
         }
     }

@@ -1,10 +1,12 @@
 //! What the desk says to a command.
 ghost use Rattle.std.specs.Prelude.{◌≡◌};
 
-use td_base::{Eori, Grn, HolderNo, Lrn, Mrn};
+use td_base::{Cents, Eori, Grn, HolderNo, Lrn, Mrn};
+use td_guarantee::Guarantee;
+use td_movement::Movement;
 
 /// The answer to a command that is not refused.
-#[derive(Clone, Copy, Debug, PartialEq, Eq)]
+#[derive(Debug, Drop)]
 pub enum Answer {
     /// To a registration and a view of a holder: the EORI, and the holder's own numbers of guarantees and movements.
     Holder {
@@ -22,6 +24,10 @@ pub enum Answer {
         lrn: Lrn,
         mrn: Mrn,
     },
+    /// To a view of a movement: the movement as it is.
+    Movement(Movement),
+    /// To a view of a guarantee: the guarantee as it is, and the amount in use on it.
+    Guarantee(Guarantee, Cents),
 }
 
 /// Why a command is refused.
@@ -35,6 +41,8 @@ pub enum Refusal {
     HolderKnown,
     /// The moment is before that of the holder's own last accepted change.
     ClockBack,
+    /// No movement of the holder has this MRN.
+    NoMovement,
     /// No guarantee of the holder has this GRN.
     NoGuarantee,
     /// The guarantee doesn't have this access code.
@@ -59,6 +67,7 @@ impl Refusal {
             Refusal::NoHolder => "no-holder",
             Refusal::HolderKnown => "holder-known",
             Refusal::ClockBack => "clock-back",
+            Refusal::NoMovement => "no-movement",
             Refusal::NoGuarantee => "no-guarantee",
             Refusal::BadCode => "bad-code",
             Refusal::GuaranteeEnded => "guarantee-ended",
@@ -69,7 +78,7 @@ impl Refusal {
 }
 
 /// An answer or a refusal.
-#[derive(Clone, Copy, Debug, PartialEq, Eq)]
+#[derive(Debug, Drop)]
 pub enum Said {
     Answered(Answer),
     Refused(Refusal),

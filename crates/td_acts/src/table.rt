@@ -7,6 +7,7 @@ use crate::declaring::{Declaration, lodge};
 use crate::rows::{Change, HolderRow, Loaded, Verdict};
 use crate::said::{Answer, Refusal, Said};
 use crate::serials::next_grn;
+use crate::views::{holder_answer, see_guarantee, see_holder, see_movement};
 use std::alloc::{AllocError, Global};
 use td_base::{AccessCode, Cover, Eori, HolderNo, Moment, Reference};
 use td_guarantee::{Codes, Guarantee};
@@ -60,6 +61,8 @@ fn verdict_at(
             lodge(alloc, loaded, at, &declaration)
         }
         Command::SeeHolder { holder } => Ok(see_holder(loaded, *holder)),
+        Command::SeeMovement { holder, mrn } => see_movement(alloc, loaded, *holder, mrn),
+        Command::SeeGuarantee { holder, grn } => see_guarantee(alloc, loaded, *holder, grn),
     }
 }
 
@@ -118,27 +121,4 @@ fn open(
         said: Said::Answered(Answer::Opened { grn }),
         change: Change::Opened(row, guarantee),
     })
-}
-
-fn see_holder(loaded: &Loaded, holder: HolderNo) -> Verdict
-    ensures { (at : ℕ) → IsVerdictAt loaded.now at (Command.SeeHolder holder) result }
-{
-    match &loaded.holder {
-        None => Verdict::refused(Refusal::NoHolder),
-        Some(row) => Verdict {
-            said: Said::Answered(holder_answer(row)),
-            change: Change::Nothing,
-        },
-    }
-}
-
-fn holder_answer(row: &HolderRow) -> Answer
-    ensures { result ≡ Answer.Holder row.now.holder row.now.eori row.now.grn_count row.now.mrn_count }
-{
-    Answer::Holder {
-        holder: row.holder,
-        eori: row.eori,
-        guarantees: row.grn_count,
-        movements: row.mrn_count,
-    }
 }
