@@ -1,5 +1,5 @@
 pub mod Growing
 pub mod Earlier
-mod Lodging
+pub mod Lodging
 pub mod Machines
 pub mod Written

@@ -17,7 +17,7 @@ use Rattle.td_movement.specs.declared.movement.Movement.{Movement}
 use Rattle.td_acts.specs.declared.rows.Change.{Change}
 use Rattle.td_acts.specs.declared.rows.Change.TheVariants as change
 use Rattle.td_acts.specs.declared.command.Command.{Command}
-use Rattle.td_acts.specs.declared.command.Command.TheVariants.{Register, OpenGuarantee, Ie015, SeeHolder}
+use Rattle.td_acts.specs.declared.command.Command.TheVariants.{Register, OpenGuarantee, Ie015, SeeHolder, SeeMovement, SeeGuarantee}
 use Rattle.td_acts.specs.declared.said.Answer.{Answer}
 use Rattle.td_acts.specs.declared.said.Refusal.{Refusal}
 use Rattle.td_acts.specs.declared.said.Refusal.TheVariants.{ClockBack, SerialsSpent}
@@ -163,6 +163,8 @@ rows_are_for H country (Some row) gs ms t (Ie015 h lrn departure destination lin
       accepted = refl;
     }
 rows_are_for H country o gs ms t (SeeHolder h) own proper moment accepted = cc
+rows_are_for H country o gs ms t (SeeMovement h mrn) own proper moment accepted = cc
+rows_are_for H country o gs ms t (SeeGuarantee h grn) own proper moment accepted = cc
 
 -- the rows of an accepted command, else nothing
 change_at_is_for : (H : ℕ) (country : List ℕ) (o : Option HolderRow) (gs : List Guarantee) (ms : List Movement) (t : ℕ) (command : Command) → owner_of country command ≡ Some H → IsProper command → IsMoment t

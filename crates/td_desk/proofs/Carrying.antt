@@ -7,7 +7,7 @@ use Rattle.td_acts.specs.declared.rows.HolderRow.{HolderRow}
 use Rattle.td_acts.specs.declared.rows.Change.{Change}
 use Rattle.td_acts.specs.declared.rows.Change.TheVariants as change
 use Rattle.td_acts.specs.declared.command.Command.{Command}
-use Rattle.td_acts.specs.declared.command.Command.TheVariants.{Register, OpenGuarantee, Ie015, SeeHolder}
+use Rattle.td_acts.specs.declared.command.Command.TheVariants.{Register, OpenGuarantee, Ie015, SeeHolder, SeeMovement, SeeGuarantee}
 use Rattle.td_acts.specs.declared.command.Stamped.{Stamped}
 use Rattle.td_acts.specs.Account.{Account, empty_account}
 use Rattle.td_acts.specs.Book.{account_of}
@@ -98,6 +98,8 @@ unowned_nothing rows (Some t) (Register h eori) none = cc
 unowned_nothing rows (Some t) (OpenGuarantee h reference cover code) none = refl
 unowned_nothing rows (Some t) (Ie015 h lrn departure destination lines) none = refl
 unowned_nothing rows (Some t) (SeeHolder h) none = refl
+unowned_nothing rows (Some t) (SeeMovement h mrn) none = refl
+unowned_nothing rows (Some t) (SeeGuarantee h grn) none = refl
 
 -- what is written for a command does what the command does to its owner's book, and nothing else
 pub carries : (rows : Content) (s : Stamped) → IsSound rows → IsProper s.command → Carries rows s (changed (decided (owner_account rows s.command) s.at s.command).change rows)

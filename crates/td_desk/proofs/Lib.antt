@@ -7,7 +7,9 @@ pub mod Turns
 mod Accepted
 mod Cover
 mod Following
+mod Found
 mod Loading
+mod Kept
 mod Storing
 pub mod Carrying
 pub mod Weighed

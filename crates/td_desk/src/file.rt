@@ -1,15 +1,19 @@
 //! The rows of one holder in memory.
 ghost use Rattle.std.specs.Prelude.{◌≡◌, ◌≢◌, [], Some, None, map, option_to_list, filter_map, All, IfSome, IfOk, OnOk, OnErr};
-ghost use Rattle.td_acts.specs.Account.{guarantee_with, movement_with};
+ghost use Rattle.std.specs.Prelude.{option_map};
+ghost use Rattle.std.specs.List.{AllByRecursion};
+ghost use Rattle.td_guarantee.specs.Usage.{used_on};
+ghost use Rattle.td_acts.specs.Account.{guarantee_with, movement_named, movement_with};
 ghost use Rattle.td_acts.specs.Deciding.{IsLoaded};
 ghost use Rattle.td_desk.specs.Content.{account_with, written};
 ghost use Rattle.td_desk.specs.Rows.{IsFirstPlace};
+ghost use Rattle.td_desk.specs.Sound.{IsCovered};
 
 use std::alloc::{AllocError, Global};
 use std::marker::Model;
-use td_acts::{Change, Command, HolderRow, Lines, Loaded, find_guarantee};
-use td_base::{Country, HolderNo, Lrn};
-use td_guarantee::Guarantee;
+use td_acts::{Change, Command, HolderRow, Lines, Loaded, find_guarantee, find_named};
+use td_base::{Cents, Country, Grn, HolderNo, Lrn, Mrn};
+use td_guarantee::{Guarantee, in_use};
 use td_movement::Movement;
 
 /// A registered holder's row, and the holder's own guarantees and movements by serial.
@@ -83,12 +87,20 @@ impl HolderFile {
         country: Country,
         command: &Command,
     ) -> Result<Loaded, AllocError>
-        ensures { IfOk result (IsLoaded (account_with country (Some self.now)) command.now) }
+        ensures { AllByRecursion (IsCovered self.now.movements) self.now.guarantees → IfOk result (IsLoaded (account_with country (Some self.now)) command.now) }
     {
         let (movements, guarantees) = match command {
             Command::Ie015 { lrn, lines, .. } => (
                 movements_with(alloc, &self.movements, &self.lrns, lrn)?,
                 guarantees_of(alloc, &self.guarantees, lines)?,
+            ),
+            Command::SeeMovement { mrn, .. } => (
+                movements_named(alloc, &self.movements, mrn)?,
+                Vec::new(alloc),
+            ),
+            Command::SeeGuarantee { grn, .. } => (
+                Vec::new(alloc),
+                entries_with(alloc, &self.guarantees, &self.movements, grn)?,
             ),
             _ => (Vec::new(alloc), Vec::new(alloc)),
         };
@@ -131,19 +143,60 @@ fn find_place(lrns: &[Lrn], lrn: &Lrn) -> Option<usize>
     None
 }
 
-// The guarantees that lines name, as far as they are there.
+// The movement with an MRN, if there is one.
+fn movements_named(
+    alloc: Global,
+    movements: &[Movement],
+    mrn: &Mrn,
+) -> Result<Vec<Movement>, AllocError>
+    ensures { IfOk result (λ found. found.items ≡ option_to_list (movement_named mrn.now movements.now)) }
+{
+    let mut found = Vec::new(alloc);
+    if let Some(movement) = find_named(movements, mrn) {
+        found.push(movement.copy(alloc)?)?;
+    }
+    Ok(found)
+}
+
+// The guarantees that lines name, as far as they are there. A declaration doesn't ask for the amounts in use.
 fn guarantees_of(
     alloc: Global,
     guarantees: &[Guarantee],
     lines: &Lines,
-) -> Result<Vec<Guarantee>, AllocError>
-    ensures { IfOk result (λ found. found.items ≡ filter_map (λ l. guarantee_with l.0.grn guarantees.now) lines.now) }
+) -> Result<Vec<(Guarantee, Cents)>, AllocError>
+    ensures { IfOk result (λ found. map (λ e. e.0) found.items ≡ filter_map (λ l. guarantee_with l.0.grn guarantees.now) lines.now) }
 {
+    let unasked = Cents::new(0).unwrap();
     let mut found = Vec::new(alloc);
     for (line, _) in lines.as_slice() {
         if let Some(guarantee) = find_guarantee(guarantees, &line.grn) {
-            found.push(guarantee.copy(alloc)?)?;
+            found.push((guarantee.copy(alloc)?, unasked))?;
         }
     }
     Ok(found)
+}
+
+// The guarantee with a GRN, if there is one, and the amount in use on it.
+fn entries_with(
+    alloc: Global,
+    guarantees: &[Guarantee],
+    movements: &[Movement],
+    grn: &Grn,
+) -> Result<Vec<(Guarantee, Cents)>, AllocError>
+    ensures { AllByRecursion (IsCovered movements.now) guarantees.now
+        → IfOk result (λ found. found.items ≡ option_to_list (option_map (λ g. (g, used_on g.grn movements.now)) (guarantee_with grn.now guarantees.now))) }
+{
+    let mut found = Vec::new(alloc);
+    if let Some(guarantee) = find_guarantee(guarantees, grn) {
+        let used = used_of(movements, guarantee);
+        found.push((guarantee.copy(alloc)?, used))?;
+    }
+    Ok(found)
+}
+
+// The amount in use on a guarantee that covers it.
+fn used_of(movements: &[Movement], guarantee: &Guarantee) -> Cents
+    ensures { IsCovered movements.now guarantee.now → result ≡ used_on guarantee.now.grn movements.now }
+{
+    in_use(movements, &guarantee.grn).unwrap_or(guarantee.reference)
 }

@@ -40,7 +40,7 @@ impl PlainDesk {
 
     // What the verdict on a command needs of its owner's rows, or of none. `AllocError`: want of memory.
     pub(crate) fn load(&self, alloc: Global, command: &Command) -> Result<Loaded, AllocError>
-        ensures { IfOk result (IsLoaded (kept_of (rows_in self.now) command.now) command.now) }
+        ensures { IsSound (rows_in self.now) → IfOk result (IsLoaded (kept_of (rows_in self.now) command.now) command.now) }
     {
         if let Some(holder) = owner(self.country, command) {
             if let Some(file) = find_file(&self.holders, holder) {

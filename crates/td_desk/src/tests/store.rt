@@ -33,7 +33,7 @@ pub trait Store: Drop {
         ensures open { is_kept self.new → is_open self.new → is_open self.old }
         ensures shown { is_kept self.new → OnOk result (is_open self.old × is_open self.new) }
         ensures same { is_kept self.new → is_open self.new → rows self.new ≡ rows self.old }
-        ensures loaded { is_kept self.new → is_open self.old → IfOk result (IsLoaded (kept_of (rows self.old) command.now) command.now) };
+        ensures loaded { is_kept self.new → is_open self.old → IsSound (rows self.old) → IfOk result (IsLoaded (kept_of (rows self.old) command.now) command.now) };
 
     /// A failure leaves the rows, or shuts the store.
     fn write(&mut self, alloc: Global, change: Change) -> Result<(), Fault>

@@ -1,6 +1,6 @@
-use Rattle.std.proofs.Common.{◌≡◌, ◌∷◌, [], ◌++◌, ◌+◌, ◌<◌, ℕ, List, None, Some, length, take, get_or, sym, ◌∙◌, ap, subst}
+use Rattle.std.proofs.Common.{◌≡◌, ◌∷◌, [], ◌++◌, ◌+◌, ◌<◌, ℕ, List, None, Some, length, map, take, get_or, sym, ◌∙◌, ap, subst}
 use Rattle.std.specs.Prelude.{filter_map, option_map}
-use Rattle.std.proofs.lemmas.List.{take_more, append-nil}
+use Rattle.std.proofs.lemmas.List.{take_more, append-nil, map-append}
 use Rattle.td_movement.specs.declared.line.Line.{Line}
 use Rattle.td_desk.proofs.Loading.{look, one_more}
 use Rattle.td_desk.proofs.file.guarantees_of.Goals as goal
@@ -16,13 +16,14 @@ loop-line-preserved c =
     let within : n < length items = subst (λ (l : List (Line × List ℕ)). n < length l) c.as_slice-line-items.ensures.value c.loop-line-test.true in
     let at : line ≡ get_or items n line = subst (λ (l : List (Line × List ℕ)). line ≡ get_or l n line) c.as_slice-line-items.ensures.value c.loop-line-item.is in
     let more : take (n + 1) items ≡ take n items ++ line ∷ [] = take_more items n line within ∙ ap (λ s. take n items ++ s ∷ []) (sym at) in
-    subst (λ l. c.match-find_guarantee.found.items ≡ filter_map seek l) (sym more) (elim c.match-find_guarantee.branch [
+    let before = map (λ e. e.0) c.loop-line.found.items in
+    subst (λ l. map (λ e. e.0) c.match-find_guarantee.found.items ≡ filter_map seek l) (sym more) (elim c.match-find_guarantee.branch [
       | in-Some+in_ok-copy+in_ok-push w ↦
-          one_more seek (take n items) line (Some w.in-Some.guarantee.now) c.loop-line.found.items c.match-find_guarantee.found.items
+          one_more seek (take n items) line (Some w.in-Some.guarantee.now) before (map (λ e. e.0) c.match-find_guarantee.found.items)
           (sym c.find_guarantee.ensures ∙ ap (option_map (λ found. found.now)) w.in-Some.is) c.loop-line.invariant
-          (ap (λ v. v.items) w.found-is ∙ w.in_ok-push.ensures.items ∙ ap (λ g. c.loop-line.found.items ++ g ∷ []) w.in_ok-copy.ensures)
+          (ap (λ v. map (λ e. e.0) v.items) w.found-is ∙ ap (map (λ e. e.0)) w.in_ok-push.ensures.items ∙ map-append (λ e. e.0) c.loop-line.found.items _ ∙ ap (λ g. before ++ g ∷ []) w.in_ok-copy.ensures)
       | in_default w ↦
-          one_more seek (take n items) line None c.loop-line.found.items c.match-find_guarantee.found.items
+          one_more seek (take n items) line None before (map (λ e. e.0) c.match-find_guarantee.found.items)
           (sym c.find_guarantee.ensures ∙ ap (option_map (λ found. found.now)) w.in_default.is) c.loop-line.invariant
-          (ap (λ v. v.items) w.found-is ∙ sym (append-nil c.loop-line.found.items))
+          (ap (λ v. map (λ e. e.0) v.items) w.found-is ∙ sym (append-nil before))
     ])
