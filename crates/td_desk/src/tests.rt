@@ -2,11 +2,12 @@
 mod lodging;
 mod store;
 
-use crate::{Desk, Fault, Outcome, PlainDesk, run};
+use crate::{Desk, Outcome, PlainDesk, run};
 use std::alloc::{AllocError, Global};
+use std::process::Abort;
 use std::test::Fail;
 use store::{FaultyStore, StoreDesk, run_stored};
-use td_acts::{Answer, Command, Refusal, Said, Stamped};
+use td_acts::{Answer, Command, Said, Stamped};
 use td_base::{Country, Eori, HolderNo};
 
 const AT: i64 = 1_740_819_600;
@@ -32,13 +33,53 @@ fn see(number: u32, at: i64) -> Option<Stamped> {
     })
 }
 
-fn shown(number: u32, eori: &[u8]) -> Option<Said> {
-    Some(Said::Answered(Answer::Holder {
-        holder: HolderNo::new(number)?,
-        eori: Eori::read(eori)?,
-        guarantees: 0,
-        movements: 0,
-    }))
+/// What is said, in words.
+fn words_of(alloc: Global, said: &Said) -> Result<String, AllocError> {
+    match said {
+        Said::Answered(answer) => answer_words(alloc, answer),
+        Said::Refused(why) => String::from_str(alloc, why.name()),
+    }
+}
+
+fn answer_words(alloc: Global, answer: &Answer) -> Result<String, AllocError> {
+    match answer {
+        Answer::Holder {
+            holder,
+            eori,
+            guarantees,
+            movements,
+        } => format!(in alloc; "holder {holder} {eori} {guarantees} {movements}"),
+        Answer::Opened { grn } => format!(in alloc; "opened {grn}"),
+        Answer::Ie028 { lrn, mrn } => format!(in alloc; "IE028 {lrn} {mrn}"),
+        Answer::Movement(movement) => {
+            let mrn = movement.mrn;
+            let lrn = movement.lrn;
+            let state = movement.state.name();
+            format!(in alloc; "movement {mrn} {lrn} {state}")
+        }
+        Answer::Guarantee(guarantee, used) => {
+            let grn = guarantee.grn;
+            let reference = guarantee.reference;
+            format!(in alloc; "guarantee {grn} {reference} {used}")
+        }
+    }
+}
+
+/// Each outcome is what is wanted, in words.
+fn assert_said(
+    rt: &(impl AllocGlobal + Abort),
+    outcomes: &[Outcome],
+    wanted: &[&str],
+) -> Result<(), Fail> {
+    assert_eq!(rt; outcomes.len(), wanted.len());
+    for (outcome, want) in outcomes.iter().zip(wanted.iter()) {
+        let words = match outcome {
+            Outcome::Said(said) => words_of(rt.alloc(), said)?,
+            Outcome::Failed(fault) => format!(in rt.alloc(); "{fault}")?,
+        };
+        assert_eq!(rt; words.as_str(), *want);
+    }
+    Ok(())
 }
 
 // Two holders with one EORI, registered, registered again and shown; one who isn't; and a moment out of range.
@@ -55,35 +96,24 @@ fn list(alloc: Global) -> Result<Vec<Stamped>, Fail> {
     Ok(list)
 }
 
-fn wanted(alloc: Global) -> Result<Vec<Said>, Fail> {
-    let wanted = vec![in alloc;
-        shown(2, b"CH1234567").ok_or("eori")?,
-        Said::Refused(Refusal::NoHolder),
-        shown(1, b"CH1234567").ok_or("eori")?,
-        Said::Refused(Refusal::HolderKnown),
-        shown(2, b"CH1234567").ok_or("eori")?,
-        Said::Refused(Refusal::ClockRange),
-        shown(1, b"CH1234567").ok_or("eori")?,
-    ]?;
-    Ok(wanted)
-}
+/// What is said to each.
+const WANTED: [&str; 7] = [
+    "holder 000002 CH1234567 0 0",
+    "no-holder",
+    "holder 000001 CH1234567 0 0",
+    "holder-known",
+    "holder 000002 CH1234567 0 0",
+    "clock-range",
+    "holder 000001 CH1234567 0 0",
+];
 
 #[test]
 fn runs_on_the_plain_desk(rt: HostRuntime) -> Result<(), Fail> {
     let alloc = rt.alloc();
     let mut desk = PlainDesk::new(alloc, country().ok_or("country")?)?;
     assert_eq!(rt; desk.country().as_bytes(), b"CH".as_slice());
-    let list = list(alloc)?;
-    let outcomes = run(alloc, &mut desk, &list)?;
-    let wanted = wanted(alloc)?;
-    assert_eq!(rt; outcomes.len(), wanted.len());
-    for (outcome, want) in outcomes.iter().zip(wanted.iter()) {
-        assert!(rt;
-            matches!(outcome, Outcome::Said(said) if said == want),
-            "{want:?}"
-        );
-    }
-    Ok(())
+    let outcomes = run(alloc, &mut desk, &list(alloc)?)?;
+    assert_said(&rt, &outcomes, &WANTED)
 }
 
 #[test]
@@ -97,33 +127,35 @@ fn decisions_are_weighed_waived_and_carried(rt: HostRuntime) -> Result<(), Fail>
     let view = see(1, AT).ok_or("holder")?;
     let decision = desk.weigh(alloc, view.at, &view.command)?;
     assert!(rt; !decision.changes());
-    assert_eq!(rt; decision.said(), &Said::Refused(Refusal::NoHolder));
+    let words = words_of(alloc, decision.said());
     let said = desk.carry(alloc, decision)?;
-    assert_eq!(rt; said, Said::Refused(Refusal::NoHolder));
+    assert_eq!(rt; words?.as_str(), "no-holder");
+    assert_eq!(rt; words_of(alloc, &said)?.as_str(), "no-holder");
     Ok(())
 }
 
-// The store fails at its call number k and is shut from then on: what was said before it stands, and the rest fails.
+// The store serves so many calls, and is shut from then on: what was said before it stands, and the rest fails.
+fn assert_shut(
+    rt: &(impl AllocGlobal + Abort),
+    good_calls: u32,
+    answered: usize,
+) -> Result<(), Fail> {
+    let alloc = rt.alloc();
+    let store = FaultyStore::new(alloc, country().ok_or("country")?, good_calls)?;
+    let mut desk = StoreDesk::new(store);
+    let outcomes = run_stored(alloc, &mut desk, &list(alloc)?)?;
+    let mut wanted = WANTED;
+    for at in answered..wanted.len() {
+        wanted[at] = "store";
+    }
+    assert_said(rt, &outcomes, &wanted)
+}
+
 #[test]
 fn runs_over_a_store_that_fails(rt: HostRuntime) -> Result<(), Fail> {
-    let alloc = rt.alloc();
-    let list = list(alloc)?;
-    for good_calls in 0..12 {
-        let store = FaultyStore::new(alloc, country().ok_or("country")?, good_calls)?;
-        let mut desk = StoreDesk::new(store);
-        let outcomes = run_stored(alloc, &mut desk, &list)?;
-        let wanted = wanted(alloc)?;
-        let mut failed = false;
-        for (outcome, want) in outcomes.iter().zip(wanted.iter()) {
-            match outcome {
-                Outcome::Said(said) => assert!(rt; !failed && said == want, "{want:?}"),
-                Outcome::Failed(fault) => {
-                    assert_eq!(rt; *fault, Fault::Store);
-                    failed = true;
-                }
-            }
-        }
-        assert_eq!(rt; failed, good_calls < 9, "{good_calls}");
+    let answered = [0, 0, 1, 2, 2, 3, 4, 5, 6, 7, 7, 7];
+    for (good_calls, count) in answered.iter().enumerate() {
+        assert_shut(&rt, good_calls as u32, *count)?;
     }
     Ok(())
 }

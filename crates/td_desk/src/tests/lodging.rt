@@ -1,12 +1,11 @@
 //! Openings and declarations, by `run`: on the plain desk and at the desk over a store.
 use super::store::{FaultyStore, StoreDesk, run_stored};
-use super::{AT, country, register, see};
-use crate::{Outcome, PlainDesk, run};
+use super::{AT, assert_said, country, register, see};
+use crate::{PlainDesk, run};
 use std::alloc::Global;
-use std::process::Abort;
 use std::test::Fail;
-use td_acts::{Answer, Command, Lines, Refusal, Said, Stamped};
-use td_base::{AccessCode, Cents, Cover, Eori, Grn, HolderNo, Lrn, Mrn, OfficeNo, Reference};
+use td_acts::{Command, Lines, Stamped};
+use td_base::{AccessCode, Cents, Cover, Grn, HolderNo, Lrn, Mrn, OfficeNo, Reference};
 use td_movement::Line;
 
 // Opens a guarantee of 10,000.00 for a holder, with the code AB12.
@@ -75,63 +74,79 @@ fn list(alloc: Global) -> Result<Vec<Stamped>, Fail> {
     Ok(list)
 }
 
-fn opened(grn: &[u8]) -> Option<Said> {
-    let grn = Grn::read(grn).ok()?;
-    Some(Said::Answered(Answer::Opened { grn }))
+// Holders look at a movement and at guarantees: their own, unknown ones and another's.
+fn views(alloc: Global) -> Result<Vec<Stamped>, Fail> {
+    let mut list = Vec::new(alloc);
+    list.push(see_movement(1, b"25CH00000100000013").ok_or("mrn")?)?;
+    list.push(see_movement(1, b"25CH00000100000021").ok_or("mrn")?)?;
+    list.push(see_movement(1, b"25CH00000100000030").ok_or("mrn")?)?;
+    list.push(see_movement(1, b"24CH00000100000011").ok_or("mrn")?)?;
+    list.push(see_movement(2, b"25CH00000100000013").ok_or("mrn")?)?;
+    list.push(see_movement(3, b"25CH00000100000013").ok_or("mrn")?)?;
+    list.push(see_guarantee(1, b"25CH0000010000014").ok_or("grn")?)?;
+    list.push(see_guarantee(1, b"25CH0000010000023").ok_or("grn")?)?;
+    list.push(see_guarantee(2, b"25CH0000010000014").ok_or("grn")?)?;
+    list.push(see_guarantee(3, b"25CH0000010000014").ok_or("grn")?)?;
+    Ok(list)
 }
 
-fn lodged(lrn: &[u8], mrn: &[u8]) -> Option<Said> {
-    let lrn = Lrn::read(lrn)?;
+fn see_movement(number: u32, mrn: &[u8]) -> Option<Stamped> {
+    let holder = HolderNo::new(number)?;
     let mrn = Mrn::read(mrn).ok()?;
-    Some(Said::Answered(Answer::Ie028 { lrn, mrn }))
+    Some(Stamped {
+        at: AT,
+        command: Command::SeeMovement { holder, mrn },
+    })
 }
 
-fn shown(number: u32, eori: &[u8], guarantees: u32, movements: u32) -> Option<Said> {
-    Some(Said::Answered(Answer::Holder {
-        holder: HolderNo::new(number)?,
-        eori: Eori::read(eori)?,
-        guarantees,
-        movements,
-    }))
+fn see_guarantee(number: u32, grn: &[u8]) -> Option<Stamped> {
+    let holder = HolderNo::new(number)?;
+    let grn = Grn::read(grn).ok()?;
+    Some(Stamped {
+        at: AT,
+        command: Command::SeeGuarantee { holder, grn },
+    })
 }
 
-// What is said to each.
-fn wanted(alloc: Global) -> Result<Vec<Said>, Fail> {
-    let mut wanted = Vec::new(alloc);
-    wanted.push(shown(1, b"CH1234567", 0, 0).ok_or("eori")?)?;
-    wanted.push(shown(2, b"DE7654321", 0, 0).ok_or("eori")?)?;
-    wanted.push(Said::Refused(Refusal::NoGuarantee))?;
-    wanted.push(opened(b"25CH0000010000014").ok_or("grn")?)?;
-    wanted.push(lodged(b"A1", b"25CH00000100000013").ok_or("mrn")?)?;
-    wanted.push(lodged(b"A1", b"25CH00000100000013").ok_or("mrn")?)?;
-    wanted.push(Said::Refused(Refusal::LrnUsed))?;
-    wanted.push(Said::Refused(Refusal::BadCode))?;
-    wanted.push(Said::Refused(Refusal::ClockBack))?;
-    wanted.push(opened(b"25CH0000020000010").ok_or("grn")?)?;
-    wanted.push(Said::Refused(Refusal::NoGuarantee))?;
-    wanted.push(lodged(b"A2", b"25CH00000100000021").ok_or("mrn")?)?;
-    wanted.push(shown(1, b"CH1234567", 1, 2).ok_or("eori")?)?;
-    Ok(wanted)
-}
+/// What is said to each command of the list.
+const LODGED: [&str; 13] = [
+    "holder 000001 CH1234567 0 0",
+    "holder 000002 DE7654321 0 0",
+    "no-guarantee",
+    "opened 25CH0000010000014",
+    "IE028 A1 25CH00000100000013",
+    "IE028 A1 25CH00000100000013",
+    "lrn-used",
+    "bad-code",
+    "clock-back",
+    "opened 25CH0000020000010",
+    "no-guarantee",
+    "IE028 A2 25CH00000100000021",
+    "holder 000001 CH1234567 1 2",
+];
 
-// Each outcome is what is wanted.
-fn assert_said(rt: &impl Abort, outcomes: &[Outcome], wanted: &[Said]) {
-    assert_eq!(rt; outcomes.len(), wanted.len());
-    for (outcome, want) in outcomes.iter().zip(wanted.iter()) {
-        assert!(rt;
-            matches!(outcome, Outcome::Said(said) if said == want),
-            "{want:?}"
-        );
-    }
-}
+/// What is said to each view.
+const VIEWED: [&str; 10] = [
+    "movement 25CH00000100000013 A1 accepted",
+    "movement 25CH00000100000021 A2 accepted",
+    "no-movement",
+    "no-movement",
+    "no-movement",
+    "no-holder",
+    "guarantee 25CH0000010000014 10000.00 0.00",
+    "no-guarantee",
+    "no-guarantee",
+    "no-holder",
+];
 
 #[test]
 fn holders_lodge_on_the_plain_desk(rt: HostRuntime) -> Result<(), Fail> {
     let alloc = rt.alloc();
     let mut desk = PlainDesk::new(alloc, country().ok_or("country")?)?;
     let outcomes = run(alloc, &mut desk, &list(alloc)?)?;
-    assert_said(&rt, &outcomes, &wanted(alloc)?);
-    Ok(())
+    assert_said(&rt, &outcomes, &LODGED)?;
+    let outcomes = run(alloc, &mut desk, &views(alloc)?)?;
+    assert_said(&rt, &outcomes, &VIEWED)
 }
 
 #[test]
@@ -140,6 +155,7 @@ fn holders_lodge_at_the_desk_over_a_store(rt: HostRuntime) -> Result<(), Fail> {
     let store = FaultyStore::new(alloc, country().ok_or("country")?, 100)?;
     let mut desk = StoreDesk::new(store);
     let outcomes = run_stored(alloc, &mut desk, &list(alloc)?)?;
-    assert_said(&rt, &outcomes, &wanted(alloc)?);
-    Ok(())
+    assert_said(&rt, &outcomes, &LODGED)?;
+    let outcomes = run_stored(alloc, &mut desk, &views(alloc)?)?;
+    assert_said(&rt, &outcomes, &VIEWED)
 }
