@@ -11,6 +11,7 @@ mod privacy;
 mod repeats;
 mod streams;
 mod texts;
+mod views;
 mod wrong_words;
 
 use crate::perform::perform;
