@@ -19,6 +19,8 @@ mod EoriText
 mod Handling
 mod Served
 mod Streamed
+mod ArrayFacts
 mod PlainText
+mod PlainObjects
 mod Unique
 mod Standings
