@@ -55,7 +55,7 @@ written_day n =
     let m = month_of n in
     let d = day_of n in
     written_text (day_text n)
-        (rw (digit_unescaped (y / 1000), digit_unescaped (y / 100), digit_unescaped (y / 10), digit_unescaped (y / 1), digit_unescaped (m / 10), digit_unescaped (m / 1), digit_unescaped (d / 10), digit_unescaped (d / 1)) refl)
+    (rw (digit_unescaped (y / 1000), digit_unescaped (y / 100), digit_unescaped (y / 10), digit_unescaped (y / 1), digit_unescaped (m / 10), digit_unescaped (m / 1), digit_unescaped (d / 10), digit_unescaped (d / 1)) refl)
 
 -- so is an office or a day that there may be
 written_office_if : (office : Option (List ℕ)) → IfSome office IsOfficeNo → compact_text (text_data office) ≡ text_body office
@@ -99,9 +99,9 @@ movement_object : (accepted actual arrival departure destination limit lines lrn
     → compact_text accepted ≡ accepted' → compact_text actual ≡ actual' → compact_text arrival ≡ arrival' → compact_text departure ≡ departure' → compact_text destination ≡ destination'
     → compact_text limit ≡ limit' → compact_text lines ≡ lines' → compact_text lrn ≡ lrn' → compact_text mrn ≡ mrn' → compact_text state ≡ state'
     → compact_text (object (member (codes "accepted") accepted (member (codes "actual") actual (member (codes "arrival") arrival (member (codes "departure") departure (member (codes "destination") destination
-        (member (codes "limit") limit (member (codes "lines") lines (member (codes "lrn") lrn (member (codes "mrn") mrn (member (codes "state") state no_members)))))))))))
+    (member (codes "limit") limit (member (codes "lines") lines (member (codes "lrn") lrn (member (codes "mrn") mrn (member (codes "state") state no_members)))))))))))
     ≡ codes "{\"accepted\":" ++ (accepted' ++ (codes ",\"actual\":" ++ (actual' ++ (codes ",\"arrival\":" ++ (arrival' ++ (codes ",\"departure\":" ++ (departure' ++ (codes ",\"destination\":" ++ (destination'
-        ++ (codes ",\"limit\":" ++ (limit' ++ (codes ",\"lines\":" ++ (lines' ++ (codes ",\"lrn\":" ++ (lrn' ++ (codes ",\"mrn\":" ++ (mrn' ++ (codes ",\"state\":" ++ (state' ++ codes "}")))))))))))))))))))
+    ++ (codes ",\"limit\":" ++ (limit' ++ (codes ",\"lines\":" ++ (lines' ++ (codes ",\"lrn\":" ++ (lrn' ++ (codes ",\"mrn\":" ++ (mrn' ++ (codes ",\"state\":" ++ (state' ++ codes "}")))))))))))))))))))
 unfolding serde_json_on_literals
 movement_object a b c d e f g h i j a' b' c' d' e' f' g' h' i' j' sa sb sc sd se sf sg sh si sj = rw (sa, sb, sc, sd, se, sf, sg, sh, si, sj) refl
 
@@ -110,16 +110,16 @@ pub movement_told : (m : Movement) → IsMrn m.mrn → IsLrn m.lrn → IsOfficeN
     → compact_text (movement_data m) ≡ movement_body m
 movement_told m mrn lrn departure destination actual lines =
     movement_object (string (day_text m.accepted)) (text_data m.actual) (day_data m.arrival) (string m.departure) (string m.destination) (day_data m.limit) (lines_data m.lines) (string m.lrn) (string m.mrn) (string (state_name m.state)) _ _ _ _ _ _ _ _ _ _
-        (written_day m.accepted) (written_office_if m.actual actual) (written_day_if m.arrival) (written_office m.departure departure) (written_office m.destination destination) (written_day_if m.limit)
-        (written_array line_data line_body (λ (line : Line). IsGrn line.grn) written_line m.lines lines) (written_lrn m.lrn lrn) (written_reference 18 m.mrn (omega arith) mrn) (written_state m.state)
+    (written_day m.accepted) (written_office_if m.actual actual) (written_day_if m.arrival) (written_office m.departure departure) (written_office m.destination destination) (written_day_if m.limit)
+    (written_array line_data line_body (λ (line : Line). IsGrn line.grn) written_line m.lines lines) (written_lrn m.lrn lrn) (written_reference 18 m.mrn (omega arith) mrn) (written_state m.state)
 
 -- an object of the parts of a guarantee
 guarantee_object : (codes_of ends grn : Data) (codes_of' ends' grn' : List ℕ) (cover free guaranteed reference used : ℕ)
     → compact_text codes_of ≡ codes_of' → compact_text ends ≡ ends' → compact_text grn ≡ grn'
     → compact_text (object (member (codes "codes") codes_of (member (codes "cover") (number (unsigned cover)) (member (codes "ends") ends (member (codes "free") (number (unsigned free)) (member (codes "grn") grn
-        (member (codes "guaranteed") (number (unsigned guaranteed)) (member (codes "reference") (number (unsigned reference)) (member (codes "used") (number (unsigned used)) no_members)))))))))
+    (member (codes "guaranteed") (number (unsigned guaranteed)) (member (codes "reference") (number (unsigned reference)) (member (codes "used") (number (unsigned used)) no_members)))))))))
     ≡ codes "{\"codes\":" ++ (codes_of' ++ (codes ",\"cover\":" ++ (decimal cover ++ (codes ",\"ends\":" ++ (ends' ++ (codes ",\"free\":" ++ (decimal free ++ (codes ",\"grn\":" ++ (grn'
-        ++ (codes ",\"guaranteed\":" ++ (decimal guaranteed ++ (codes ",\"reference\":" ++ (decimal reference ++ (codes ",\"used\":" ++ (decimal used ++ codes "}")))))))))))))))
+    ++ (codes ",\"guaranteed\":" ++ (decimal guaranteed ++ (codes ",\"reference\":" ++ (decimal reference ++ (codes ",\"used\":" ++ (decimal used ++ codes "}")))))))))))))))
 unfolding serde_json_on_literals
 guarantee_object a b c a' b' c' cover free guaranteed reference used sa sb sc = rw (sa, sb, sc) refl
 
@@ -127,4 +127,4 @@ guarantee_object a b c a' b' c' cover free guaranteed reference used sa sb sc = 
 pub guarantee_told : (g : Guarantee) (used : ℕ) → IsGrn g.grn → All IsAccessCode g.codes → compact_text (guarantee_data g used) ≡ guarantee_body g used
 guarantee_told g used grn codes =
     guarantee_object (codes_data g.codes) (day_data g.ends) (string g.grn) _ _ _ _ _ _ _ _
-        (written_array string in_quotes IsAccessCode written_code g.codes codes) (written_day_if g.ends) (written_reference 17 g.grn (omega arith) grn)
+    (written_array string in_quotes IsAccessCode written_code g.codes codes) (written_day_if g.ends) (written_reference 17 g.grn (omega arith) grn)

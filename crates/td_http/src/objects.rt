@@ -17,11 +17,11 @@ use td_movement::{Line, Movement};
 pub(crate) fn movement_value(alloc: Global, movement: &Movement) -> Result<Value, AllocError>
     ensures { IfOk result (λ v. view v ≡ movement_data movement.now) }
 {
-    let accepted = format!(in alloc; "{}", movement.accepted)?;
+    let accepted = day_value(alloc, Some(movement.accepted))?;
     let actual = office_value(alloc, movement.actual)?;
     let arrival = day_value(alloc, movement.arrival)?;
-    let departure = format!(in alloc; "{}", movement.departure)?;
-    let destination = format!(in alloc; "{}", movement.destination)?;
+    let departure = office_value(alloc, Some(movement.departure))?;
+    let destination = office_value(alloc, Some(movement.destination))?;
     let limit = day_value(alloc, movement.limit)?;
     let lines = lines_value(alloc, movement.lines.as_slice())?;
     let lrn = format!(in alloc; "{}", movement.lrn)?;
