@@ -22,5 +22,6 @@ mod Streamed
 mod ArrayFacts
 mod PlainText
 mod PlainObjects
+mod Floats
 mod Unique
 mod Standings

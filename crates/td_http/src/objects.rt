@@ -114,11 +114,11 @@ fn code_value(alloc: Global, code: &AccessCode) -> Result<Value, AllocError>
 fn codes_value(alloc: Global, codes: &[AccessCode]) -> Result<Value, AllocError>
     ensures { IfOk result (λ v. view v ≡ codes_data codes.now) }
 {
-    let mut values = Vec::new(alloc);
+    let mut texts = Vec::new(alloc);
     for code in codes {
-        values.push(code_value(alloc, code)?)?;
+        texts.push(code_value(alloc, code)?)?;
     }
-    Ok(Value::Array(values))
+    Ok(Value::Array(texts))
 }
 
 /// The text of a movement: nothing in it is escaped.

@@ -7,7 +7,7 @@ use Rattle.td_http.proofs.ArrayFacts.{shown_more}
 use Rattle.td_http.proofs.objects.codes_value.Goals as goal
 
 pub loop-code-init : goal.loop-code-init
-loop-code-init c = ap (map view) c.new-values.ensures.items
+loop-code-init c = ap (map view) c.new-texts.ensures.items
 
 pub loop-code-preserved : goal.loop-code-preserved
 loop-code-preserved c =
@@ -17,5 +17,5 @@ loop-code-preserved c =
 
 pub returns : goal.returns
 returns c =
-    view-Array c.loop-code.values
+    view-Array c.loop-code.texts
     ∙ ap (λ (shown : List Data). array (items_of shown)) (c.loop-code.invariant ∙ ap (map string) (take_all c.loop-code.code-index c.args.codes.now c.loop-code-test.false))

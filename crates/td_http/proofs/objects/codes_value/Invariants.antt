@@ -3,6 +3,6 @@ use Rattle.serde_json.specs.View.{view}
 use Rattle.serde_json.specs.Data.{string}
 use Rattle.td_http.proofs.objects.codes_value.Given as goal
 
--- the values show the codes before
+-- the texts show the codes before
 abbrev pub invariant-loop-code : goal.invariant-loop-code
-invariant-loop-code l = map view l.values.items ≡ map string (take l.code-index l.codes)
+invariant-loop-code l = map view l.texts.items ≡ map string (take l.code-index l.codes)
