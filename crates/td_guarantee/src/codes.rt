@@ -37,6 +37,13 @@ impl Codes {
         self.items.contains(code)
     }
 
+    /// The codes, in order.
+    pub fn as_slice(&self) -> &[AccessCode]
+        ensures { result.now ≡ self.now }
+    {
+        self.items.as_slice()
+    }
+
     /// The same codes in other memory. `AllocError`: want of memory.
     pub fn copy(&self, alloc: Global) -> Result<Self, AllocError>
         ensures { IfOk result (λ codes. codes ≡ self.now) }

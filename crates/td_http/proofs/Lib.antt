@@ -19,6 +19,9 @@ mod EoriText
 mod Handling
 mod Served
 mod Streamed
+mod ArrayFacts
 mod PlainText
+mod PlainObjects
+mod Floats
 mod Unique
 mod Standings

@@ -24,7 +24,7 @@ use Rattle.td_http.proofs.Fitting.{and_left, and_right}
 -- ---- characters
 
 -- a character that is written as it is: behind the quote, and no backslash
-abbrev is_unescaped : ℕ → Bool
+abbrev pub is_unescaped : ℕ → Bool
 is_unescaped c = nat_lt 34 c && not (c == 92)
 
 -- what follows such a character in a text is written behind it
@@ -43,13 +43,13 @@ written_next c text plain rest =
     rw (quote, slash, backspace, feed, line, carriage, tab, control) (ap (λ t. 34 ∷ c ∷ drop 1 t) rest)
 
 -- a text of such characters is written as it is
-written_text : (text : List ℕ) → list_all is_unescaped text ≡ true → compact_text (string text) ≡ 34 ∷ (text ++ 34 ∷ [])
+pub written_text : (text : List ℕ) → list_all is_unescaped text ≡ true → compact_text (string text) ≡ 34 ∷ (text ++ 34 ∷ [])
 written_text [] h = refl
 written_text (c ∷ text) h =
     written_next c text (and_left (is_unescaped c) (list_all is_unescaped text) h) (written_text text (and_right (is_unescaped c) (list_all is_unescaped text) h))
 
 -- so is a text of characters of a class that has only such ones
-written_class : (P : ℕ → Type 0) → ((c : ℕ) → P c → is_unescaped c ≡ true) → (text : List ℕ) → All P text → compact_text (string text) ≡ 34 ∷ (text ++ 34 ∷ [])
+pub written_class : (P : ℕ → Type 0) → ((c : ℕ) → P c → is_unescaped c ≡ true) → (text : List ℕ) → All P text → compact_text (string text) ≡ 34 ∷ (text ++ 34 ∷ [])
 written_class P each text all = written_text text (every text all)
   where
     every : (text : List ℕ) → All P text → list_all is_unescaped text ≡ true
@@ -71,7 +71,7 @@ beyond c low =
     rw (above, other) refl
 
 -- digits and capital letters are written as they are
-mark_unescaped : (c : ℕ) → IsMark c → is_unescaped c ≡ true
+pub mark_unescaped : (c : ℕ) → IsMark c → is_unescaped c ≡ true
 mark_unescaped c (inl digit) = between c (omega (arith, digit.0)) (omega (arith, digit.1))
 mark_unescaped c (inr letter) = between c (omega (arith, letter.0)) (omega (arith, letter.1))
 
@@ -94,7 +94,7 @@ written_eori text h =
     written_class IsMark mark_unescaped text (All-same IsMark text _ (sym (take-append-drop 2 text)) all)
 
 -- so is a digit of a number
-digit_unescaped : (n : ℕ) → is_unescaped (48 + n % 10) ≡ true
+pub digit_unescaped : (n : ℕ) → is_unescaped (48 + n % 10) ≡ true
 digit_unescaped n = between (48 + n % 10) (omega arith) (omega arith)
 
 -- so is a holder's number
@@ -103,14 +103,14 @@ written_holder n =
     written_text (holder_text n) (rw (digit_unescaped (n / 100000), digit_unescaped (n / 10000), digit_unescaped (n / 1000), digit_unescaped (n / 100), digit_unescaped (n / 10), digit_unescaped n) refl)
 
 -- so is a reference
-written_reference : (places : ℕ) (text : List ℕ) → 5 ≤ places → IsReferenceText places text → compact_text (string text) ≡ 34 ∷ (text ++ 34 ∷ [])
+pub written_reference : (places : ℕ) (text : List ℕ) → 5 ≤ places → IsReferenceText places text → compact_text (string text) ≡ 34 ∷ (text ++ 34 ∷ [])
 written_reference places text some h =
     let last = All-weaker IsAsciiDigit IsMark (λ c h. inl h) (drop (length text - 1) text) h.form.last in
     let all = All-append IsMark (front_of text) (drop (length text - 1) text) (front_marks text (omega (arith, h.size)) h.form) last in
     written_class IsMark mark_unescaped text (All-same IsMark text _ (sym (take-append-drop (length text - 1) text)) all)
 
 -- so is an LRN
-written_lrn : (text : List ℕ) → IsLrn text → compact_text (string text) ≡ 34 ∷ (text ++ 34 ∷ [])
+pub written_lrn : (text : List ℕ) → IsLrn text → compact_text (string text) ≡ 34 ∷ (text ++ 34 ∷ [])
 written_lrn text h = written_class IsLrnCharacter lrn_unescaped text h.characters
 
 -- ---- answers

@@ -5,12 +5,13 @@ use Rattle.serde_json.specs.Written.{compact_text}
 use Rattle.td_base.specs.Holder.{holder_text}
 use Rattle.td_acts.specs.Names.{refusal_name}
 use Rattle.td_acts.specs.declared.said.Answer.{Answer}
-use Rattle.td_acts.specs.declared.said.Answer.TheVariants.{Holder, Opened, Ie028}
+use Rattle.td_acts.specs.declared.said.Answer.TheVariants.{Holder, Opened, Ie028, Movement, Guarantee}
 use Rattle.td_acts.specs.declared.said.Refusal.{Refusal}
-use Rattle.td_acts.specs.declared.said.Refusal.TheVariants.{ClockRange, NoHolder, HolderKnown, ClockBack, NoGuarantee, BadCode, GuaranteeEnded, LrnUsed, SerialsSpent}
+use Rattle.td_acts.specs.declared.said.Refusal.TheVariants.{ClockRange, NoHolder, HolderKnown, ClockBack, NoMovement, NoGuarantee, BadCode, GuaranteeEnded, LrnUsed, SerialsSpent}
 use Rattle.td_acts.specs.declared.said.Said.{Said}
 use Rattle.td_acts.specs.declared.said.Said.TheVariants.{Answered, Refused}
 use Rattle.td_http.specs.Faults.{fault_allow, fault_name, field_name}
+use Rattle.td_http.specs.Objects.{guarantee_body, guarantee_data, movement_body, movement_data}
 use Rattle.td_http.specs.ReplyText.{reply_text}
 use Rattle.td_http.specs.declared.fault.WebFault.{WebFault}
 use Rattle.td_http.specs.declared.fault.WebFault.TheVariants.{NoRoute, NoMethod, BadHolder, BadBody, BadField, NoMemory}
@@ -39,6 +40,8 @@ abbrev pub answer_data : Answer → Data
 answer_data (Holder holder eori guarantees movements) = holder_data eori guarantees (holder_text holder) movements
 answer_data (Opened grn) = opened_data grn
 answer_data (Ie028 lrn mrn) = ie028_data lrn mrn
+answer_data (Movement m) = movement_data m
+answer_data (Guarantee g used) = guarantee_data g used
 
 -- an error, told by its name alone
 abbrev pub error_data : List ℕ → Data
@@ -76,6 +79,8 @@ answer_body (Holder holder eori guarantees movements) =
     ++ (codes ",\"holder\":\"" ++ (holder_text holder ++ (codes "\",\"movements\":" ++ (decimal movements ++ codes "}")))))))
 answer_body (Opened grn) = codes "{\"grn\":\"" ++ (grn ++ codes "\"}")
 answer_body (Ie028 lrn mrn) = codes "{\"lrn\":\"" ++ (lrn ++ (codes "\",\"message\":\"IE028\",\"mrn\":\"" ++ (mrn ++ codes "\"}")))
+answer_body (Movement m) = movement_body m
+answer_body (Guarantee g used) = guarantee_body g used
 
 -- the statuses of replies (RFC 9110, section 15)
 abbrev pub refusal_status : Refusal → ℕ
@@ -83,6 +88,7 @@ refusal_status ClockRange = 503
 refusal_status NoHolder = 404
 refusal_status HolderKnown = 409
 refusal_status ClockBack = 409
+refusal_status NoMovement = 404
 refusal_status NoGuarantee = 404
 refusal_status BadCode = 403
 refusal_status GuaranteeEnded = 409

@@ -5,6 +5,7 @@ ghost use Rattle.td_acts.specs.declared.said.Said.TheVariants.{Answered};
 ghost use Rattle.td_http.specs.Answers.{answer_body, answer_data, error_data, fault_body, fault_data, fault_reply, fault_status, field_data, holder_data, ie028_data, opened_data, refusal_status, said_body, said_data, said_reply, said_status};
 
 use crate::fault::WebFault;
+use crate::objects::{guarantee_is_told_in, guarantee_value, movement_is_told_in, movement_value};
 use crate::reply::json_reply;
 use http::StatusCode;
 use serde_json::{Value, json};
@@ -76,6 +77,8 @@ fn answer_value(alloc: Global, answer: &Answer) -> Result<Value, AllocError>
             let mrn = format!(in alloc; "{mrn}")?;
             ie028_value(alloc, &lrn, &mrn)
         }
+        Answer::Movement(movement) => movement_value(alloc, movement),
+        Answer::Guarantee(guarantee, used) => guarantee_value(alloc, guarantee, *used),
     }
 }
 
@@ -128,6 +131,7 @@ fn refusal_status_of(refusal: &Refusal) -> StatusCode
         Refusal::NoHolder => StatusCode::NOT_FOUND,
         Refusal::HolderKnown => StatusCode::CONFLICT,
         Refusal::ClockBack => StatusCode::CONFLICT,
+        Refusal::NoMovement => StatusCode::NOT_FOUND,
         Refusal::NoGuarantee => StatusCode::NOT_FOUND,
         Refusal::BadCode => StatusCode::FORBIDDEN,
         Refusal::GuaranteeEnded => StatusCode::CONFLICT,
@@ -178,5 +182,7 @@ pub fn answer_is_told_in(answer: &Answer)
             let _lrn = lrn.as_bytes();
             let _mrn = mrn.as_bytes();
         }
+        Answer::Movement(movement) => movement_is_told_in(movement),
+        Answer::Guarantee(guarantee, used) => guarantee_is_told_in(guarantee, *used),
     }
 }

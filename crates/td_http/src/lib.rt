@@ -12,6 +12,7 @@ mod framing;
 mod input;
 mod laws;
 mod next;
+mod objects;
 mod reading;
 mod reply;
 mod request;

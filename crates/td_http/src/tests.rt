@@ -5,3 +5,4 @@ mod openings;
 mod replies;
 mod requests;
 mod streams;
+mod views;

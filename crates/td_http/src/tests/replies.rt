@@ -5,7 +5,7 @@ use td_acts::{Answer, Refusal, Said};
 use td_base::{Eori, HolderNo};
 
 /// Refusals, whether the stream closes after them, and their replies.
-const REFUSED: [(Refusal, bool, &str); 9] = [
+const REFUSED: [(Refusal, bool, &str); 10] = [
     (
         Refusal::ClockRange,
         false,
@@ -25,6 +25,11 @@ const REFUSED: [(Refusal, bool, &str); 9] = [
         Refusal::ClockBack,
         false,
         "HTTP/1.1 409 Conflict\r\nContent-Type: application/json\r\nContent-Length: 22\r\n\r\n{\"error\":\"clock-back\"}",
+    ),
+    (
+        Refusal::NoMovement,
+        false,
+        "HTTP/1.1 404 Not Found\r\nContent-Type: application/json\r\nContent-Length: 23\r\n\r\n{\"error\":\"no-movement\"}",
     ),
     (
         Refusal::NoGuarantee,

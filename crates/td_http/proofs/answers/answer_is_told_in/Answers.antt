@@ -9,3 +9,9 @@ returns-in-Opened c = rw c.in-Opened.is (opening_told _ c.as_bytes-grn.ensures.f
 
 pub returns-in-Ie028 : goal.returns-in-Ie028
 returns-in-Ie028 c = rw c.in-Ie028.is (declaration_told _ _ c.as_bytes-lrn.ensures.form c.as_bytes-mrn.ensures.form)
+
+pub returns-in-Movement : goal.returns-in-Movement
+returns-in-Movement c = rw c.in-Movement.is c.movement_is_told_in.ensures
+
+pub returns-in-Guarantee : goal.returns-in-Guarantee
+returns-in-Guarantee c = rw c.in-Guarantee.is c.guarantee_is_told_in.ensures

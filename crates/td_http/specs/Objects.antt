@@ -1,0 +1,119 @@
+-- The JSON objects that show a movement and a guarantee, and their texts. Keys stand in ascending order of bytes.
+use Rattle.std.specs.Prelude.{ℕ, ◌-◌, List, [], ◌∷◌, ◌++◌, map, flat_map, codes, decimal, Option, None, Some}
+use Rattle.serde_json.specs.Data.{Data, null, number, unsigned, string, array, object, member, no_members}
+use Rattle.serde_json.specs.View.{items_of}
+use Rattle.td_base.specs.Days.{day_text}
+use Rattle.td_base.specs.Money.{share_of}
+use Rattle.td_guarantee.specs.declared.guarantee.Guarantee.{Guarantee}
+use Rattle.td_movement.specs.States.{state_name}
+use Rattle.td_movement.specs.declared.line.Line.{Line}
+use Rattle.td_movement.specs.declared.movement.Movement.{Movement}
+
+-- what is left of a guarantee's reference amount beside what is in use
+abbrev pub free_on : Guarantee → ℕ → ℕ
+free_on g used = g.reference - used
+
+-- ---- the objects
+
+-- a text that there may be
+abbrev pub text_data : Option (List ℕ) → Data
+text_data None = null
+text_data (Some text) = string text
+
+-- a day that there may be
+abbrev pub day_data : Option ℕ → Data
+day_data None = null
+day_data (Some day) = string (day_text day)
+
+-- a line of a movement
+abbrev pub line_data : Line → Data
+line_data line = object (member (codes "cents") (number (unsigned line.cents)) (member (codes "grn") (string line.grn) no_members))
+
+-- lines, in their order
+abbrev pub lines_data : List Line → Data
+lines_data lines = array (items_of (map line_data lines))
+
+-- access codes, in their order
+abbrev pub codes_data : List (List ℕ) → Data
+codes_data texts = array (items_of (map string texts))
+
+-- a movement
+abbrev pub movement_data : Movement → Data
+movement_data m =
+    object (member (codes "accepted") (string (day_text m.accepted))
+    (member (codes "actual") (text_data m.actual)
+    (member (codes "arrival") (day_data m.arrival)
+    (member (codes "departure") (string m.departure)
+    (member (codes "destination") (string m.destination)
+    (member (codes "limit") (day_data m.limit)
+    (member (codes "lines") (lines_data m.lines)
+    (member (codes "lrn") (string m.lrn)
+    (member (codes "mrn") (string m.mrn)
+    (member (codes "state") (string (state_name m.state)) no_members))))))))))
+
+-- a guarantee, and the amount in use on it
+abbrev pub guarantee_data : Guarantee → ℕ → Data
+guarantee_data g used =
+    object (member (codes "codes") (codes_data g.codes)
+    (member (codes "cover") (number (unsigned g.cover))
+    (member (codes "ends") (day_data g.ends)
+    (member (codes "free") (number (unsigned (free_on g used)))
+    (member (codes "grn") (string g.grn)
+    (member (codes "guaranteed") (number (unsigned (share_of g.reference g.cover)))
+    (member (codes "reference") (number (unsigned g.reference))
+    (member (codes "used") (number (unsigned used)) no_members))))))))
+
+-- ---- their texts, in which nothing is escaped
+
+-- a text as it is
+abbrev pub in_quotes : List ℕ → List ℕ
+in_quotes text = codes "\"" ++ (text ++ codes "\"")
+
+-- a text that there may be
+abbrev pub text_body : Option (List ℕ) → List ℕ
+text_body None = codes "null"
+text_body (Some text) = in_quotes text
+
+-- a day that there may be
+abbrev pub day_body : Option ℕ → List ℕ
+day_body None = codes "null"
+day_body (Some day) = in_quotes (day_text day)
+
+-- texts with commas between them
+abbrev pub with_commas : List (List ℕ) → List ℕ
+with_commas [] = []
+with_commas (text ∷ texts) = text ++ flat_map (λ next. codes "," ++ next) texts
+
+-- the array of such texts
+abbrev pub in_brackets : List (List ℕ) → List ℕ
+in_brackets texts = codes "[" ++ (with_commas texts ++ codes "]")
+
+-- a line of a movement
+abbrev pub line_body : Line → List ℕ
+line_body line = codes "{\"cents\":" ++ (decimal line.cents ++ (codes ",\"grn\":" ++ (in_quotes line.grn ++ codes "}")))
+
+-- a movement
+abbrev pub movement_body : Movement → List ℕ
+movement_body m =
+    codes "{\"accepted\":" ++ (in_quotes (day_text m.accepted)
+    ++ (codes ",\"actual\":" ++ (text_body m.actual
+    ++ (codes ",\"arrival\":" ++ (day_body m.arrival
+    ++ (codes ",\"departure\":" ++ (in_quotes m.departure
+    ++ (codes ",\"destination\":" ++ (in_quotes m.destination
+    ++ (codes ",\"limit\":" ++ (day_body m.limit
+    ++ (codes ",\"lines\":" ++ (in_brackets (map line_body m.lines)
+    ++ (codes ",\"lrn\":" ++ (in_quotes m.lrn
+    ++ (codes ",\"mrn\":" ++ (in_quotes m.mrn
+    ++ (codes ",\"state\":" ++ (in_quotes (state_name m.state) ++ codes "}")))))))))))))))))))
+
+-- a guarantee, and the amount in use on it
+abbrev pub guarantee_body : Guarantee → ℕ → List ℕ
+guarantee_body g used =
+    codes "{\"codes\":" ++ (in_brackets (map in_quotes g.codes)
+    ++ (codes ",\"cover\":" ++ (decimal g.cover
+    ++ (codes ",\"ends\":" ++ (day_body g.ends
+    ++ (codes ",\"free\":" ++ (decimal (free_on g used)
+    ++ (codes ",\"grn\":" ++ (in_quotes g.grn
+    ++ (codes ",\"guaranteed\":" ++ (decimal (share_of g.reference g.cover)
+    ++ (codes ",\"reference\":" ++ (decimal g.reference
+    ++ (codes ",\"used\":" ++ (decimal used ++ codes "}")))))))))))))))
