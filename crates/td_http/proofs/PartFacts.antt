@@ -1,7 +1,8 @@
 -- What the readers of the vocabulary give, as functions of the text.
-use Rattle.std.proofs.Common.{◌≡◌, ℕ, ◌+◌, ◌-◌, ◌≤◌, List, length, take, drop, Option, Some, None, Result, Ok, Err, Bool, true, false, if◌then◌else◌, nat_eq, refl, ap, arith, rules}
-use Rattle.std.proofs.lemmas.Bool.Decides.{nat_tests, Decides-and, Decides-or, Decides-eqb, Decides-like, Decides-by_and}
-use Rattle.std.specs.Prelude.{SomeIff, OkIff, All, nat_le}
+use Rattle.std.proofs.Common.{◌≡◌, ℕ, ◌+◌, ◌-◌, ◌≤◌, List, length, take, drop, Option, Some, None, Result, Ok, Err, Bool, true, false, if◌then◌else◌, nat_eq, refl, ap, ◌∙◌, arith, rules}
+use Rattle.std.proofs.lemmas.Bool.Decides.{nat_tests, Decides-and, Decides-or, Decides-eqb, Decides-like, Decides-not, Decides-by_and}
+use Rattle.std.proofs.lemmas.Bool.{not-true}
+use Rattle.std.specs.Prelude.{SomeIff, OkIff, IfErr, IsErrAnd, MatchResult, All, nat_le}
 use Rattle.std.specs.Option.{option_eq}
 use Rattle.std.specs.Result.{result_ok}
 use Rattle.std.specs.Bool.{Decides}
@@ -13,8 +14,11 @@ use Rattle.td_base.specs.Codes.{IsAccessCode, IsOfficeNo, IsLrn, IsLrnCharacter}
 use Rattle.td_base.specs.Holder.{IsHolderText, digits_value}
 use Rattle.td_base.specs.Eori.{IsEori}
 use Rattle.td_base.specs.Letters.{IsMark}
-use Rattle.td_base.specs.References.{front_of, country_of, identifier_of, HasForm, IsGrn}
-use Rattle.td_http.specs.Parts.{is_holder_text, holder_read, is_mark, is_eori, eori_read, is_code, code_read, is_office, office_read, is_lrn_character, is_lrn, lrn_read, has_form, is_grn, grn_read}
+use Rattle.td_base.specs.References.{front_of, country_of, identifier_of, HasForm, IsGrn, IsReferenceText, IsFirstFault}
+use Rattle.td_base.specs.declared.references.RefFault.{RefFault}
+use Rattle.td_base.specs.declared.references.RefFault.TheVariants.{Length, Form, CheckDigit}
+use Rattle.td_http.specs.Parts.{is_holder_text, holder_read, is_mark, is_eori, eori_read, is_code, code_read, is_office, office_read, is_lrn_character, is_lrn, lrn_read, has_form, is_reference_text, first_fault, is_grn, grn_read}
+use Rattle.td_http.specs.declared.fault.WebFault.{WebFault}
 
 -- a value where a fact holds, the fact told by a test
 pub some_where : {T : Type 0} {P : Type 0} (b : Bool) (r : Option T) (v : T) → Decides b P → SomeIff r P v → r ≡ (if b then Some v else None)
@@ -107,14 +111,20 @@ some_decided : (o : Option ℕ) (n : ℕ) → Decides (option_eq nat_eq o (Some 
 some_decided None n = (λ h. cc, λ h. cc)
 some_decided (Some x) n = Decides-like (nat_eq x n) (λ h. ap Some h) (λ h. search rules) (Decides-eqb x n)
 
--- the test of GRNs is right
-grn_decided : (text : List ℕ) → Decides (is_grn text) (IsGrn text)
-grn_decided text =
-    Decides-like (is_grn text)
+-- the test of references is right
+reference_decided : (places : ℕ) (text : List ℕ) → Decides (is_reference_text places text) (IsReferenceText places text)
+reference_decided places text =
+    Decides-like (is_reference_text places text)
     (λ h. record { size = h.0; form = h.1.0; check = h.1.1 })
     (λ h. (h.size, (h.form, h.check)))
-    (Decides-and _ _ (Decides-eqb (length text) 17)
+    (Decides-and _ _ (Decides-eqb (length text) places)
     (Decides-and _ _ (form_decided text) (some_decided (slice_get text (length text - 1)) (48 + check_of (front_of text)))))
+
+-- the first fault that the vocabulary tells is the first of the text
+first_fault_is : (places : ℕ) (text : List ℕ) (e : RefFault) → IsFirstFault places text e → e ≡ first_fault places text
+first_fault_is places text Length h = rw ((Decides-not _ (Decides-eqb (length text) places)).1 h) refl
+first_fault_is places text Form h = rw ((Decides-eqb (length text) places).1 h.0, (Decides-not _ (form_decided text)).1 h.1) refl
+first_fault_is places text CheckDigit h = rw ((Decides-eqb (length text) places).1 h.0, (form_decided text).1 h.1) refl
 
 -- what `AccessCode::read` gives
 pub code_read_is : (text : List ℕ) (r : Option (List ℕ)) → SomeIff r (IsAccessCode text) text → r ≡ code_read text
@@ -135,4 +145,18 @@ ok_is (Err e) P v h = h
 
 -- what `Grn::read` gives
 pub grn_read_is : {E : Type 0} (text : List ℕ) (r : Result (List ℕ) E) → OkIff r (IsGrn text) text → result_ok r ≡ grn_read text
-grn_read_is text r h = some_where (is_grn text) (result_ok r) text (grn_decided text) (ok_is r _ _ h)
+grn_read_is text r h = some_where (is_grn text) (result_ok r) text (reference_decided 17 text) (ok_is r _ _ h)
+
+-- the reading of a part that is a reference, or the fault that is made of the first
+abbrev pub part_read : ℕ → (RefFault → WebFault) → List ℕ → Result (List ℕ) WebFault
+part_read places fault text = if is_reference_text places text then Ok text else Err (fault (first_fault places text))
+
+-- what a reader of references gives, its error told as a fault
+pub part_read_is : (places : ℕ) (fault : RefFault → WebFault) (text : List ℕ) (r : Result (List ℕ) RefFault) (told : Result (List ℕ) WebFault)
+    → OkIff r (IsReferenceText places text) text → IfErr r (IsFirstFault places text)
+    → MatchResult r (λ x. told ≡ Ok x) (λ e. IsErrAnd told (λ d. d ≡ fault e)) → told ≡ part_read places fault text
+part_read_is places fault text (Ok x) told h first is = is ∙ rw ((reference_decided places text).1 h.0) (ap Ok h.1)
+part_read_is places fault text (Err e) (Ok x) h first is = absurd is
+part_read_is places fault text (Err e) (Err d) h first is =
+    let none : is_reference_text places text ≡ false = not-true _ ((Decides-not _ (reference_decided places text)).1 h) in
+    rw (none, is) (ap (λ e. Err (fault e)) (first_fault_is places text e first))

@@ -1,5 +1,5 @@
 -- The route of a path by what a router of the table finds.
-use Rattle.std.proofs.Common.{◌≡◌, ℕ, List, [], Option, None, option_map, Result, Err, refl}
+use Rattle.std.proofs.Common.{◌≡◌, ◌≢◌, ℕ, List, [], ◌∷◌, map, drop, Option, None, option_map, Result, Ok, Err, refl, ap, ◌∙◌, rules}
 use Rattle.std.proofs.lemmas.Str.{is_utf8-from_IsUtf8}
 use Rattle.std.specs.Str.{IsUtf8}
 use Rattle.matchit.specs.Rows.{RowsOf}
@@ -7,12 +7,29 @@ use Rattle.matchit.specs.Router.{RouteOf}
 use Rattle.matchit.specs.Seek.{first}
 use Rattle.td_http.specs.declared.fault.Allowed.{Allowed}
 use Rattle.td_http.specs.declared.fault.WebFault.{WebFault}
-use Rattle.td_http.specs.declared.fault.WebFault.TheVariants.{NoRoute}
+use Rattle.td_http.specs.declared.fault.WebFault.TheVariants.{NoRoute, BadHolder}
 use Rattle.td_http.specs.declared.table.Place.{Place}
 use Rattle.td_http.specs.declared.table.Route.{Route}
-use Rattle.td_http.specs.Routes.{table, filled, found, route_by, route_of, PartsAreTexts, methods_at, methods_of}
+use Rattle.td_http.specs.Routes.{table, filled, found, holder_part, part_at, route_by, route_of, AreTexts, PartsAreTexts, methods_at, methods_of}
 use Rattle.td_http.proofs.Fitting.{IsBytes}
 use Rattle.td_http.proofs.PathTexts.{is_utf8_false, parts_are_texts}
+
+-- the part behind the first, where that one names a holder
+second_part : (parts rest : List (List ℕ × List ℕ)) (second : List ℕ) (holder : ℕ) → AreTexts parts → Ok holder ≡ holder_part (part_at 0 (map (λ p. p.1) parts))
+    → (parts ≢ [] → rest ≡ drop 1 parts) → (AreTexts rest → second ≡ part_at 0 (map (λ p. p.1) rest)) → second ≡ part_at 1 (map (λ p. p.1) parts)
+second_part [] rest second holder texts read left next = absurd (let never : Ok holder ≡ Err BadHolder = read in search rules)
+second_part (p ∷ parts) rest second holder texts read left next =
+    let same : rest ≡ parts = left (λ e. search rules) in
+    let here = rw same at next in
+    here texts.1
+
+-- two parts that are read one behind the other, where the first names a holder
+pub both_parts : (parts rest : List (List ℕ × List ℕ)) (first second : List ℕ) (holder : ℕ) → AreTexts parts → (AreTexts parts → first ≡ part_at 0 (map (λ p. p.1) parts))
+    → (parts ≢ [] → rest ≡ drop 1 parts) → (AreTexts rest → second ≡ part_at 0 (map (λ p. p.1) rest)) → Ok holder ≡ holder_part first
+    → (Ok holder ≡ holder_part (part_at 0 (map (λ p. p.1) parts))) × (second ≡ part_at 1 (map (λ p. p.1) parts))
+both_parts parts rest first second holder texts at left next read =
+    let named = read ∙ ap holder_part (at texts) in
+    (named, second_part parts rest second holder texts named left next)
 
 -- a path that isn't text has no route
 pub no_route : (method path : List ℕ) → ¬ (IsUtf8 path) → Err NoRoute ≡ route_of method path

@@ -10,11 +10,11 @@ use Rattle.td_acts.specs.declared.said.Refusal.{Refusal}
 use Rattle.td_acts.specs.declared.said.Refusal.TheVariants.{ClockRange, NoHolder, HolderKnown, ClockBack, NoMovement, NoGuarantee, BadCode, GuaranteeEnded, LrnUsed, SerialsSpent}
 use Rattle.td_acts.specs.declared.said.Said.{Said}
 use Rattle.td_acts.specs.declared.said.Said.TheVariants.{Answered, Refused}
-use Rattle.td_http.specs.Faults.{fault_allow, fault_name, field_name}
+use Rattle.td_http.specs.Faults.{fault_allow, fault_name, field_name, reason_text}
 use Rattle.td_http.specs.Objects.{guarantee_body, guarantee_data, movement_body, movement_data}
 use Rattle.td_http.specs.ReplyText.{reply_text}
 use Rattle.td_http.specs.declared.fault.WebFault.{WebFault}
-use Rattle.td_http.specs.declared.fault.WebFault.TheVariants.{NoRoute, NoMethod, BadHolder, BadBody, BadField, NoMemory}
+use Rattle.td_http.specs.declared.fault.WebFault.TheVariants.{NoRoute, NoMethod, BadHolder, BadMrn, BadGrn, BadBody, BadField, NoMemory}
 
 -- what is told of a holder
 abbrev pub holder_data : List ℕ → ℕ → List ℕ → ℕ → Data
@@ -51,6 +51,10 @@ error_data name = object (member (codes "error") (string name) no_members)
 abbrev pub field_data : List ℕ → List ℕ → Data
 field_data name field = object (member (codes "error") (string name) (member (codes "field") (string field) no_members))
 
+-- an error and the reason for it
+abbrev pub reason_data : List ℕ → List ℕ → Data
+reason_data name reason = object (member (codes "error") (string name) (member (codes "reason") (string reason) no_members))
+
 -- what is said
 abbrev pub said_data : Said → Data
 said_data (Answered answer) = answer_data answer
@@ -61,6 +65,8 @@ abbrev pub fault_data : WebFault → Data
 fault_data NoRoute = error_data (fault_name NoRoute)
 fault_data (NoMethod allow) = error_data (fault_name (NoMethod allow))
 fault_data BadHolder = error_data (fault_name BadHolder)
+fault_data (BadMrn reason) = reason_data (fault_name (BadMrn reason)) (reason_text reason)
+fault_data (BadGrn reason) = reason_data (fault_name (BadGrn reason)) (reason_text reason)
 fault_data BadBody = error_data (fault_name BadBody)
 fault_data (BadField field) = field_data (fault_name (BadField field)) (field_name field)
 fault_data NoMemory = error_data (fault_name NoMemory)
@@ -103,6 +109,8 @@ abbrev pub fault_status : WebFault → ℕ
 fault_status NoRoute = 404
 fault_status (NoMethod allow) = 405
 fault_status BadHolder = 400
+fault_status (BadMrn reason) = 400
+fault_status (BadGrn reason) = 400
 fault_status BadBody = 400
 fault_status (BadField field) = 400
 fault_status NoMemory = 503

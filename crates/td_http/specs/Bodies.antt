@@ -16,7 +16,7 @@ use Rattle.td_http.specs.declared.fault.Field.TheVariants.{Eori, Reference, Cove
 use Rattle.td_http.specs.declared.fault.WebFault.{WebFault}
 use Rattle.td_http.specs.declared.fault.WebFault.TheVariants.{BadBody, BadField}
 use Rattle.td_http.specs.declared.table.Route.{Route}
-use Rattle.td_http.specs.declared.table.Route.TheVariants.{Register, OpenGuarantee, Ie015, SeeHolder}
+use Rattle.td_http.specs.declared.table.Route.TheVariants.{Register, OpenGuarantee, Ie015, SeeHolder, SeeMovement, SeeGuarantee}
 
 -- the data, where it is an object
 abbrev pub object_in : Data → Result Data WebFault
@@ -61,6 +61,8 @@ command_at body (Register holder) = object_of body >>= registration_of holder
 command_at body (OpenGuarantee holder) = object_of body >>= opening_of holder
 command_at body (Ie015 holder) = object_of body >>= declaration_of holder
 command_at body (SeeHolder holder) = Ok (command.SeeHolder holder)
+command_at body (SeeMovement holder mrn) = Ok (command.SeeMovement holder mrn)
+command_at body (SeeGuarantee holder grn) = Ok (command.SeeGuarantee holder grn)
 
 -- the command of a request, or the first fault
 abbrev pub command_of : List ℕ → List ℕ → List ℕ → Result Command WebFault

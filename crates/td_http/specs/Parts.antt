@@ -1,11 +1,13 @@
 -- The parts of paths and bodies as functions of their texts: a number or text where it is well formed, or none.
-use Rattle.std.specs.Prelude.{ℕ, ◌+◌, ◌-◌, ◌^◌, Bool, ◌&&◌, ◌||◌, ◌==◌, nat_eq, nat_le, if◌then◌else◌, List, length, take, drop, Option, Some, None}
+use Rattle.std.specs.Prelude.{ℕ, ◌+◌, ◌-◌, ◌^◌, Bool, not, ◌&&◌, ◌||◌, ◌==◌, nat_eq, nat_le, if◌then◌else◌, List, length, take, drop, Option, Some, None}
 use Rattle.std.specs.List.{list_all, slice_get}
 use Rattle.std.specs.Option.{option_eq}
 use Rattle.std.specs.Char.{is_ascii_alphanumeric, is_ascii_digit, is_ascii_uppercase}
 use Rattle.td_base.specs.CheckDigit.{check_of}
 use Rattle.td_base.specs.Holder.{digits_value}
 use Rattle.td_base.specs.References.{front_of, country_of, identifier_of}
+use Rattle.td_base.specs.declared.references.RefFault.{RefFault}
+use Rattle.td_base.specs.declared.references.RefFault.TheVariants.{Length, Form, CheckDigit}
 
 -- the text is a holder's number: six digits that aren't all 0
 abbrev pub is_holder_text : List ℕ → Bool
@@ -65,9 +67,21 @@ has_form text =
 abbrev pub has_check_digit : List ℕ → Bool
 has_check_digit text = option_eq nat_eq (slice_get text (length text - 1)) (Some (48 + check_of (front_of text)))
 
--- the text is a GRN: 17 characters of this form, the check digit last
+-- the text is a reference of so many characters: of this form, the check digit last
+abbrev pub is_reference_text : ℕ → List ℕ → Bool
+is_reference_text places text = nat_eq (length text) places && (has_form text && has_check_digit text)
+
+-- which of these a text that is no such reference is not: the first
+abbrev pub first_fault : ℕ → List ℕ → RefFault
+first_fault places text = if not (nat_eq (length text) places) then Length else if not (has_form text) then Form else CheckDigit
+
+-- the text is an MRN: 18 characters
+abbrev pub is_mrn : List ℕ → Bool
+is_mrn = is_reference_text 18
+
+-- the text is a GRN: 17 characters
 abbrev pub is_grn : List ℕ → Bool
-is_grn text = nat_eq (length text) 17 && (has_form text && has_check_digit text)
+is_grn = is_reference_text 17
 
 -- the GRN that a text is
 abbrev pub grn_read : List ℕ → Option (List ℕ)

@@ -2,9 +2,9 @@
 ghost use Rattle.std.specs.Prelude.{◌≡◌, IfOk, string_bytes};
 ghost use Rattle.serde_json.specs.View.{view};
 ghost use Rattle.td_acts.specs.declared.said.Said.TheVariants.{Answered};
-ghost use Rattle.td_http.specs.Answers.{answer_body, answer_data, error_data, fault_body, fault_data, fault_reply, fault_status, field_data, holder_data, ie028_data, opened_data, refusal_status, said_body, said_data, said_reply, said_status};
+ghost use Rattle.td_http.specs.Answers.{answer_body, answer_data, error_data, fault_body, fault_data, fault_reply, fault_status, field_data, holder_data, ie028_data, opened_data, reason_data, refusal_status, said_body, said_data, said_reply, said_status};
 
-use crate::fault::WebFault;
+use crate::fault::{WebFault, reason_name};
 use crate::objects::{guarantee_is_told_in, guarantee_value, movement_is_told_in, movement_value};
 use crate::reply::json_reply;
 use http::StatusCode;
@@ -55,6 +55,12 @@ fn field_value(alloc: Global, name: &str, field: &str) -> Result<Value, AllocErr
     json!(in alloc; {"error": name, "field": field})
 }
 
+fn reason_value(alloc: Global, name: &str, reason: &str) -> Result<Value, AllocError>
+    ensures { IfOk result (λ v. view v ≡ reason_data name.now reason.now) }
+{
+    json!(in alloc; {"error": name, "reason": reason})
+}
+
 fn answer_value(alloc: Global, answer: &Answer) -> Result<Value, AllocError>
     ensures { IfOk result (λ v. view v ≡ answer_data answer.now) }
 {
@@ -95,6 +101,9 @@ fn fault_value(alloc: Global, fault: &WebFault) -> Result<Value, AllocError>
     ensures { IfOk result (λ v. view v ≡ fault_data fault.now) }
 {
     match fault {
+        WebFault::BadMrn(reason) | WebFault::BadGrn(reason) => {
+            reason_value(alloc, fault.name(), reason_name(reason))
+        }
         WebFault::BadField(field) => field_value(alloc, fault.name(), field.name()),
         _ => error_value(alloc, fault.name()),
     }
@@ -146,7 +155,11 @@ fn fault_status_of(fault: &WebFault) -> StatusCode
     match fault {
         WebFault::NoRoute => StatusCode::NOT_FOUND,
         WebFault::NoMethod { .. } => StatusCode::METHOD_NOT_ALLOWED,
-        WebFault::BadHolder | WebFault::BadBody | WebFault::BadField(_) => StatusCode::BAD_REQUEST,
+        WebFault::BadHolder
+        | WebFault::BadMrn(_)
+        | WebFault::BadGrn(_)
+        | WebFault::BadBody
+        | WebFault::BadField(_) => StatusCode::BAD_REQUEST,
         WebFault::NoMemory => StatusCode::SERVICE_UNAVAILABLE,
     }
 }

@@ -51,6 +51,8 @@ pub(crate) fn read_command_by(
             read_declaration(alloc, holder, &body)
         }
         Route::SeeHolder { holder } => Ok(Command::SeeHolder { holder }),
+        Route::SeeMovement { holder, mrn } => Ok(Command::SeeMovement { holder, mrn }),
+        Route::SeeGuarantee { holder, grn } => Ok(Command::SeeGuarantee { holder, grn }),
     }
 }
 

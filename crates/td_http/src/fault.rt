@@ -1,7 +1,11 @@
 //! Why a request can't be read.
+ghost use Rattle.std.specs.Prelude.{◌≡◌};
+ghost use Rattle.td_http.specs.Faults.{reason_text};
+
 use std::alloc::AllocError;
 use std::error::Error;
 use std::fmt;
+use td_base::RefFault;
 
 /// The methods that a path of the desk has.
 #[derive(Clone, Copy, Debug, PartialEq, Eq)]
@@ -33,6 +37,10 @@ pub enum WebFault {
     NoMethod { allow: Allowed },
     /// The path's part that names the holder isn't a holder number.
     BadHolder,
+    /// The path's part that names a movement isn't an MRN, for this reason.
+    BadMrn(RefFault),
+    /// The path's part that names a guarantee isn't a GRN, for this reason.
+    BadGrn(RefFault),
     /// The body isn't the JSON text of an object.
     BadBody,
     /// The first field, in the command's own order, that is missing or ill-formed.
@@ -78,6 +86,17 @@ impl Field {
     }
 }
 
+/// What a reply calls the reason for which a text isn't a reference.
+pub(crate) fn reason_name(reason: &RefFault) -> &'static str
+    ensures { result.now ≡ reason_text reason.now }
+{
+    match reason {
+        RefFault::Length => "length",
+        RefFault::Form => "form",
+        RefFault::CheckDigit => "check-digit",
+    }
+}
+
 impl WebFault {
     ghost use Rattle.std.specs.Prelude.{◌≡◌};
     ghost use Rattle.std.specs.Option.{option_copied};
@@ -91,6 +110,8 @@ impl WebFault {
             WebFault::NoRoute => "no-route",
             WebFault::NoMethod { .. } => "no-method",
             WebFault::BadHolder => "bad-holder",
+            WebFault::BadMrn(_) => "bad-mrn",
+            WebFault::BadGrn(_) => "bad-grn",
             WebFault::BadBody => "bad-body",
             WebFault::BadField(_) => "bad-field",
             WebFault::NoMemory => "no-memory",

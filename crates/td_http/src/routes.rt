@@ -1,24 +1,26 @@
 //! The paths of the desk, and the route of a request.
-ghost use Rattle.std.specs.Prelude.{◌≡◌, [], IfOk, IfErr, IsSome, MatchResult, OnOk, None, map, option_map};
+ghost use Rattle.std.specs.Prelude.{◌≡◌, ◌≢◌, [], IfOk, IfErr, IsSome, MatchResult, OnOk, None, drop, map, option_map};
 ghost use Rattle.std.specs.Option.{ForSome};
 ghost use Rattle.matchit.specs.Seek.{first};
 ghost use Rattle.td_http.specs.Faults.{OrNoMemory};
 ghost use Rattle.td_http.specs.declared.fault.WebFault.TheVariants.{NoMemory};
 ghost use Rattle.matchit.specs.Params.{walk};
-ghost use Rattle.td_http.specs.Routes.{table, filled, found, line_at, holder_part, part_at, route_with, route_by, route_of, AreTexts, PartsAreTexts, methods_at, methods_of};
+ghost use Rattle.td_http.specs.Routes.{table, filled, found, line_at, holder_part, mrn_part, grn_part, part_at, route_with, route_by, route_of, AreTexts, PartsAreTexts, methods_at, methods_of};
 
 use crate::fault::{Allowed, WebFault};
 use crate::table::{Line, Place, Route};
 use http::Method;
 use matchit::{InsertError, Params, ParamsIter, Router};
 use std::alloc::Global;
-use td_base::HolderNo;
+use td_base::{Grn, HolderNo, Mrn};
 
-const PATHS: [(&str, Place); 4] = [
+const PATHS: [(&str, Place); 6] = [
     ("/office/holders/{h}", Place::OfficeHolder),
     ("/office/holders/{h}/guarantees", Place::OfficeGuarantees),
     ("/holders/{h}/movements", Place::Movements),
     ("/holders/{h}", Place::Holder),
+    ("/holders/{h}/movements/{m}", Place::Movement),
+    ("/holders/{h}/guarantees/{g}", Place::Guarantee),
 ];
 
 // A router with these paths. They are of good form and don't conflict, so it only fails for want of memory.
@@ -40,6 +42,8 @@ fn line_for(place: Place, method: &Method) -> Result<Line, WebFault>
         (Place::OfficeGuarantees, "POST") => Ok(Line::OpenGuarantee),
         (Place::Movements, "POST") => Ok(Line::Ie015),
         (Place::Holder, "GET") => Ok(Line::SeeHolder),
+        (Place::Movement, "GET") => Ok(Line::SeeMovement),
+        (Place::Guarantee, "GET") => Ok(Line::SeeGuarantee),
         _ => Err(WebFault::NoMethod {
             allow: methods_for(place),
         }),
@@ -52,13 +56,26 @@ fn read_holder(part: &[u8]) -> Result<HolderNo, WebFault>
     HolderNo::read(part).ok_or(WebFault::BadHolder)
 }
 
-// The next part of the path, as a holder's number.
-fn next_holder(parts: &mut ParamsIter<'_, '_, '_>) -> Result<HolderNo, WebFault>
-    ensures { AreTexts parts.old → result ≡ holder_part (part_at 0 (map (λ p. p.1) parts.old)) }
+fn read_mrn(part: &[u8]) -> Result<Mrn, WebFault>
+    ensures { result ≡ mrn_part part.now }
+{
+    Mrn::read(part).map_err(WebFault::BadMrn)
+}
+
+fn read_grn(part: &[u8]) -> Result<Grn, WebFault>
+    ensures { result ≡ grn_part part.now }
+{
+    Grn::read(part).map_err(WebFault::BadGrn)
+}
+
+// The next part of the path. Where there is none it is empty.
+fn next_part<'p>(parts: &mut ParamsIter<'_, '_, 'p>) -> &'p [u8]
+    ensures part { AreTexts parts.old → result.now ≡ part_at 0 (map (λ p. p.1) parts.old) }
+    ensures rest { parts.old ≢ [] → parts.new ≡ drop 1 parts.old }
 {
     match parts.next() {
-        Some((_, part)) => read_holder(part.as_bytes()),
-        None => Err(WebFault::BadHolder),
+        Some((_, part)) => part.as_bytes(),
+        None => &[],
     }
 }
 
@@ -69,16 +86,24 @@ fn read_parts(line: Line, params: &Params<'_, '_>) -> Result<Route, WebFault>
     let mut parts = params.iter();
     match line {
         Line::Register => Ok(Route::Register {
-            holder: next_holder(&mut parts)?,
+            holder: read_holder(next_part(&mut parts))?,
         }),
         Line::OpenGuarantee => Ok(Route::OpenGuarantee {
-            holder: next_holder(&mut parts)?,
+            holder: read_holder(next_part(&mut parts))?,
         }),
         Line::Ie015 => Ok(Route::Ie015 {
-            holder: next_holder(&mut parts)?,
+            holder: read_holder(next_part(&mut parts))?,
         }),
         Line::SeeHolder => Ok(Route::SeeHolder {
-            holder: next_holder(&mut parts)?,
+            holder: read_holder(next_part(&mut parts))?,
+        }),
+        Line::SeeMovement => Ok(Route::SeeMovement {
+            holder: read_holder(next_part(&mut parts))?,
+            mrn: read_mrn(next_part(&mut parts))?,
+        }),
+        Line::SeeGuarantee => Ok(Route::SeeGuarantee {
+            holder: read_holder(next_part(&mut parts))?,
+            grn: read_grn(next_part(&mut parts))?,
         }),
     }
 }
@@ -104,7 +129,7 @@ fn methods_for(place: Place) -> Allowed
     match place {
         Place::OfficeHolder => Allowed::Put,
         Place::OfficeGuarantees | Place::Movements => Allowed::Post,
-        Place::Holder => Allowed::Get,
+        Place::Holder | Place::Movement | Place::Guarantee => Allowed::Get,
     }
 }
 
@@ -189,8 +214,9 @@ impl Routes {
 }
 
 /// The route of a method and a path, which is a target up to its first `?`. The first fault is told: `NoRoute` where the
-/// desk has no such path, `NoMethod` where the path has other methods, `BadHolder` where the part that names the holder
-/// isn't a holder number. `NoMemory` may take the place of any answer.
+/// desk has no such path, `NoMethod` where the path has other methods, and then, part by part from left to right,
+/// `BadHolder` where the part that names the holder isn't a holder number, `BadMrn` or `BadGrn` where the one that names a movement or a
+/// guarantee isn't its reference. `NoMemory` may take the place of any answer.
 pub fn route(alloc: Global, method: &Method, path: &[u8]) -> Result<Route, WebFault>
     ensures { OrNoMemory result (route_of method.now path.now) }
 {

@@ -1,5 +1,5 @@
 //! The table of requests: paths, their methods, and the parts that they name.
-use td_base::HolderNo;
+use td_base::{Grn, HolderNo, Mrn};
 
 /// A path of the table.
 #[derive(Clone, Copy, Debug, PartialEq, Eq)]
@@ -8,6 +8,8 @@ pub(crate) enum Place {
     OfficeGuarantees,
     Movements,
     Holder,
+    Movement,
+    Guarantee,
 }
 
 /// A line of the table: a path and a method of it, named like its command.
@@ -17,6 +19,8 @@ pub(crate) enum Line {
     OpenGuarantee,
     Ie015,
     SeeHolder,
+    SeeMovement,
+    SeeGuarantee,
 }
 
 /// A line of the table with the parts of its path.
@@ -30,4 +34,8 @@ pub enum Route {
     Ie015 { holder: HolderNo },
     /// `GET /holders/H`
     SeeHolder { holder: HolderNo },
+    /// `GET /holders/H/movements/M`
+    SeeMovement { holder: HolderNo, mrn: Mrn },
+    /// `GET /holders/H/guarantees/G`
+    SeeGuarantee { holder: HolderNo, grn: Grn },
 }

@@ -57,6 +57,10 @@ pub(super) fn words_of(alloc: Global, command: &Command) -> Result<String, Fail>
             format!(in alloc; "declare {holder} {lrn} {departure} {destination}{lines}")?
         }
         Command::SeeHolder { holder } => format!(in alloc; "see {holder}")?,
+        Command::SeeMovement { holder, mrn } => format!(in alloc; "see {holder} movement {mrn}")?,
+        Command::SeeGuarantee { holder, grn } => {
+            format!(in alloc; "see {holder} guarantee {grn}")?
+        }
     })
 }
 

@@ -2,7 +2,7 @@
 use crate::{Allowed, Field, WebFault, answer_is_told_in, fault_bytes, reply_bytes};
 use std::test::Fail;
 use td_acts::{Answer, Refusal, Said};
-use td_base::{Eori, HolderNo};
+use td_base::{Eori, HolderNo, RefFault};
 
 /// Refusals, whether the stream closes after them, and their replies.
 const REFUSED: [(Refusal, bool, &str); 10] = [
@@ -55,6 +55,34 @@ const REFUSED: [(Refusal, bool, &str); 10] = [
         Refusal::SerialsSpent,
         false,
         "HTTP/1.1 409 Conflict\r\nContent-Type: application/json\r\nContent-Length: 25\r\n\r\n{\"error\":\"serials-spent\"}",
+    ),
+];
+
+/// Faults of a path's reference, and their replies.
+const NO_REFERENCE: [(WebFault, &str); 6] = [
+    (
+        WebFault::BadMrn(RefFault::Length),
+        "HTTP/1.1 400 Bad Request\r\nContent-Type: application/json\r\nContent-Length: 37\r\n\r\n{\"error\":\"bad-mrn\",\"reason\":\"length\"}",
+    ),
+    (
+        WebFault::BadMrn(RefFault::Form),
+        "HTTP/1.1 400 Bad Request\r\nContent-Type: application/json\r\nContent-Length: 35\r\n\r\n{\"error\":\"bad-mrn\",\"reason\":\"form\"}",
+    ),
+    (
+        WebFault::BadMrn(RefFault::CheckDigit),
+        "HTTP/1.1 400 Bad Request\r\nContent-Type: application/json\r\nContent-Length: 42\r\n\r\n{\"error\":\"bad-mrn\",\"reason\":\"check-digit\"}",
+    ),
+    (
+        WebFault::BadGrn(RefFault::Length),
+        "HTTP/1.1 400 Bad Request\r\nContent-Type: application/json\r\nContent-Length: 37\r\n\r\n{\"error\":\"bad-grn\",\"reason\":\"length\"}",
+    ),
+    (
+        WebFault::BadGrn(RefFault::Form),
+        "HTTP/1.1 400 Bad Request\r\nContent-Type: application/json\r\nContent-Length: 35\r\n\r\n{\"error\":\"bad-grn\",\"reason\":\"form\"}",
+    ),
+    (
+        WebFault::BadGrn(RefFault::CheckDigit),
+        "HTTP/1.1 400 Bad Request\r\nContent-Type: application/json\r\nContent-Length: 42\r\n\r\n{\"error\":\"bad-grn\",\"reason\":\"check-digit\"}",
     ),
 ];
 
@@ -116,6 +144,15 @@ fn writes_faults(rt: HostRuntime) -> Result<(), Fail> {
         ),
     ] {
         let reply = fault_bytes(rt.alloc(), &fault, false)?;
+        assert!(rt; reply.as_slice() == want.as_bytes(), "{want}");
+    }
+    Ok(())
+}
+
+#[test]
+fn writes_why_a_reference_is_none(rt: HostRuntime) -> Result<(), Fail> {
+    for (fault, want) in &NO_REFERENCE {
+        let reply = fault_bytes(rt.alloc(), fault, false)?;
         assert!(rt; reply.as_slice() == want.as_bytes(), "{want}");
     }
     Ok(())

@@ -1,14 +1,15 @@
 //! Requests, and the command or the fault that each of them is read as.
-use super::asked::{asked, request, words_of};
+use super::asked::{asked, refused, request, words_of};
 use crate::bodies::read_command_by;
 use crate::routes::{Routes, route};
 use crate::{Allowed, Field, Route, WebFault, read_command};
 use http::Method;
+use std::process::Abort;
 use std::test::Fail;
-use td_base::HolderNo;
+use td_base::{Grn, HolderNo, Mrn};
 
 /// Requests that are read, and their commands.
-const READ: [(&str, &str, &str, &str); 5] = [
+const READ: [(&str, &str, &str, &str); 10] = [
     (
         "PUT",
         "/office/holders/000001",
@@ -29,6 +30,36 @@ const READ: [(&str, &str, &str, &str); 5] = [
     ),
     ("GET", "/holders/000001", "", "see 000001"),
     ("GET", "/holders/000001?", "not JSON", "see 000001"),
+    (
+        "GET",
+        "/holders/000001/movements/25CH00000100000013",
+        "",
+        "see 000001 movement 25CH00000100000013",
+    ),
+    (
+        "GET",
+        "/holders/000001/movements/25CH00000100000013?a=/b",
+        "not JSON",
+        "see 000001 movement 25CH00000100000013",
+    ),
+    (
+        "GET",
+        "/holders/999999/movements/99ZZABCDEFGHI00013",
+        "[]",
+        "see 999999 movement 99ZZABCDEFGHI00013",
+    ),
+    (
+        "GET",
+        "/holders/000001/guarantees/25CH0000010000014",
+        "",
+        "see 000001 guarantee 25CH0000010000014",
+    ),
+    (
+        "GET",
+        "/holders/999999/guarantees/25CH0000000000019?/x",
+        "{\"grn\":",
+        "see 999999 guarantee 25CH0000000000019",
+    ),
 ];
 
 #[test]
@@ -48,6 +79,8 @@ fn reads_commands(rt: HostRuntime) -> Result<(), Fail> {
 fn finds_routes(rt: HostRuntime) -> Result<(), Fail> {
     let alloc = rt.alloc();
     let holder = HolderNo::new(1).ok_or("a number")?;
+    let mrn = Mrn::read(b"25CH00000100000013").ok().ok_or("an MRN")?;
+    let grn = Grn::read(b"25CH0000010000014").ok().ok_or("a GRN")?;
     for (method, path, want) in [
         (
             Method::PUT,
@@ -65,6 +98,16 @@ fn finds_routes(rt: HostRuntime) -> Result<(), Fail> {
             Route::Ie015 { holder },
         ),
         (Method::GET, "/holders/000001", Route::SeeHolder { holder }),
+        (
+            Method::GET,
+            "/holders/000001/movements/25CH00000100000013",
+            Route::SeeMovement { holder, mrn },
+        ),
+        (
+            Method::GET,
+            "/holders/000001/guarantees/25CH0000010000014",
+            Route::SeeGuarantee { holder, grn },
+        ),
     ] {
         assert_eq!(rt;
             route(alloc, &method, path.as_bytes()),
@@ -76,7 +119,7 @@ fn finds_routes(rt: HostRuntime) -> Result<(), Fail> {
 }
 
 /// Requests for a path that there is not.
-const NO_ROUTE: [(&str, &str, &str); 16] = [
+const NO_ROUTE: [(&str, &str, &str); 27] = [
     ("GET", "/holders/000001/", ""),
     ("GET", "/holders/", ""),
     ("GET", "/holders", ""),
@@ -93,13 +136,33 @@ const NO_ROUTE: [(&str, &str, &str); 16] = [
     ("POST", "/office/holders/000001/movements", ""),
     ("POST", "/holders/000001/movements/", ""),
     ("POST", "/holders//movements", ""),
+    ("GET", "/holders/000001/movements/", ""),
+    ("GET", "/holders/000001/movements/25CH00000100000013/", ""),
+    ("GET", "/holders/000001/movements//25CH00000100000013", ""),
+    ("GET", "/holders//movements/25CH00000100000013", ""),
+    ("GET", "/holders/000001/Movements/25CH00000100000013", ""),
+    ("GET", "/holders/000001/guarantees", ""),
+    ("GET", "/holders/000001/guarantees/", ""),
+    ("GET", "/holders/000001/guarantees/25CH0000010000014/", ""),
+    ("GET", "/holders//guarantees/25CH0000010000014", ""),
+    ("GET", "/holders/000001/guarantees/25CH0000010000014/x", ""),
+    (
+        "GET",
+        "/office/holders/000001/guarantees/25CH0000010000014",
+        "",
+    ),
 ];
 
 /// Requests by another method where only GET is allowed.
-const ONLY_GET: [(&str, &str, &str); 3] = [
+const ONLY_GET: [(&str, &str, &str); 8] = [
     ("DELETE", "/holders/zzz", ""),
     ("get", "/holders/000001", ""),
     ("PUT", "/holders/000001", "{}"),
+    ("DELETE", "/holders/zzz/movements/x", ""),
+    ("POST", "/holders/000001/movements/25CH00000100000013", "{}"),
+    ("get", "/holders/000001/movements/25CH00000100000013", ""),
+    ("POST", "/holders/000001/guarantees/25CH0000010000014", "{}"),
+    ("PUT", "/holders/zzz/guarantees/x", ""),
 ];
 
 /// Requests by another method where only PUT is allowed.
@@ -115,7 +178,7 @@ const ONLY_POST: [(&str, &str, &str); 5] = [
 ];
 
 /// Requests whose path has no holder's number in its place.
-const NO_HOLDER_NUMBER: [(&str, &str, &str); 9] = [
+const NO_HOLDER_NUMBER: [(&str, &str, &str); 13] = [
     ("POST", "/office/holders/000000/guarantees", "[]"),
     ("POST", "/holders/1/movements", "[]"),
     ("GET", "/holders/000000", ""),
@@ -124,7 +187,71 @@ const NO_HOLDER_NUMBER: [(&str, &str, &str); 9] = [
     ("GET", "/holders/00000a", ""),
     ("GET", "/holders/%30%30%30%30%30%31", ""),
     ("GET", "/holders/é", ""),
+    ("GET", "/holders/zzz/movements/x", ""),
+    ("GET", "/holders/000000/movements/25CH00000100000013", ""),
+    ("GET", "/holders/zzz/guarantees/x", ""),
+    ("GET", "/holders/1/guarantees/25CH0000010000014", ""),
     ("PUT", "/office/holders/zzz", "not JSON"),
+];
+
+/// Views whose path has no reference in its place, and their replies.
+const NO_REFERENCE: [(&str, &str); 14] = [
+    (
+        "/holders/000001/movements/25CH00000100000014",
+        "HTTP/1.1 400 Bad Request\r\nContent-Type: application/json\r\nContent-Length: 42\r\n\r\n{\"error\":\"bad-mrn\",\"reason\":\"check-digit\"}",
+    ),
+    (
+        "/holders/000001/movements/25CH0000010000013",
+        "HTTP/1.1 400 Bad Request\r\nContent-Type: application/json\r\nContent-Length: 37\r\n\r\n{\"error\":\"bad-mrn\",\"reason\":\"length\"}",
+    ),
+    (
+        "/holders/000001/movements/25CH000001000000133",
+        "HTTP/1.1 400 Bad Request\r\nContent-Type: application/json\r\nContent-Length: 37\r\n\r\n{\"error\":\"bad-mrn\",\"reason\":\"length\"}",
+    ),
+    (
+        "/holders/000001/movements/25CH0000010000014",
+        "HTTP/1.1 400 Bad Request\r\nContent-Type: application/json\r\nContent-Length: 37\r\n\r\n{\"error\":\"bad-mrn\",\"reason\":\"length\"}",
+    ),
+    (
+        "/holders/000001/movements/25cH00000100000013",
+        "HTTP/1.1 400 Bad Request\r\nContent-Type: application/json\r\nContent-Length: 35\r\n\r\n{\"error\":\"bad-mrn\",\"reason\":\"form\"}",
+    ),
+    (
+        "/holders/000001/movements/25cH00000100000014",
+        "HTTP/1.1 400 Bad Request\r\nContent-Type: application/json\r\nContent-Length: 35\r\n\r\n{\"error\":\"bad-mrn\",\"reason\":\"form\"}",
+    ),
+    (
+        "/holders/000001/movements/25CH0000010000001A",
+        "HTTP/1.1 400 Bad Request\r\nContent-Type: application/json\r\nContent-Length: 35\r\n\r\n{\"error\":\"bad-mrn\",\"reason\":\"form\"}",
+    ),
+    (
+        "/holders/000001/movements/25CH000001000000é?25CH00000100000013",
+        "HTTP/1.1 400 Bad Request\r\nContent-Type: application/json\r\nContent-Length: 35\r\n\r\n{\"error\":\"bad-mrn\",\"reason\":\"form\"}",
+    ),
+    (
+        "/holders/000001/movements/x",
+        "HTTP/1.1 400 Bad Request\r\nContent-Type: application/json\r\nContent-Length: 37\r\n\r\n{\"error\":\"bad-mrn\",\"reason\":\"length\"}",
+    ),
+    (
+        "/holders/000001/guarantees/25CH0000000000014",
+        "HTTP/1.1 400 Bad Request\r\nContent-Type: application/json\r\nContent-Length: 42\r\n\r\n{\"error\":\"bad-grn\",\"reason\":\"check-digit\"}",
+    ),
+    (
+        "/holders/000001/guarantees/25CH000001000014",
+        "HTTP/1.1 400 Bad Request\r\nContent-Type: application/json\r\nContent-Length: 37\r\n\r\n{\"error\":\"bad-grn\",\"reason\":\"length\"}",
+    ),
+    (
+        "/holders/000001/guarantees/25CH00000100000013",
+        "HTTP/1.1 400 Bad Request\r\nContent-Type: application/json\r\nContent-Length: 37\r\n\r\n{\"error\":\"bad-grn\",\"reason\":\"length\"}",
+    ),
+    (
+        "/holders/000001/guarantees/25cH0000010000014",
+        "HTTP/1.1 400 Bad Request\r\nContent-Type: application/json\r\nContent-Length: 35\r\n\r\n{\"error\":\"bad-grn\",\"reason\":\"form\"}",
+    ),
+    (
+        "/holders/000001/guarantees/25CH000001000001 ",
+        "HTTP/1.1 400 Bad Request\r\nContent-Type: application/json\r\nContent-Length: 35\r\n\r\n{\"error\":\"bad-grn\",\"reason\":\"form\"}",
+    ),
 ];
 
 /// Requests whose body is no JSON object.
@@ -150,7 +277,11 @@ const NO_EORI: [(&str, &str, &str); 5] = [
 ];
 
 // Each request is told this fault.
-fn all_told(rt: &HostRuntime, rows: &[(&str, &str, &str)], want: WebFault) -> Result<(), Fail> {
+fn all_told(
+    rt: &(impl AllocGlobal + Abort),
+    rows: &[(&str, &str, &str)],
+    want: WebFault,
+) -> Result<(), Fail> {
     let alloc = rt.alloc();
     let mut routes = Routes::new();
     for (method, target, body) in rows {
@@ -182,6 +313,20 @@ fn tells_the_allowed_method(rt: HostRuntime) -> Result<(), Fail> {
 #[test]
 fn tells_bad_holders(rt: HostRuntime) -> Result<(), Fail> {
     all_told(&rt, &NO_HOLDER_NUMBER, WebFault::BadHolder)
+}
+
+#[test]
+fn tells_bad_references(rt: HostRuntime) -> Result<(), Fail> {
+    let alloc = rt.alloc();
+    for (target, want) in &NO_REFERENCE {
+        let request = request(alloc, "GET", target.as_bytes(), b"not JSON")?;
+        assert_eq!(rt;
+            refused(alloc, &request)?.as_slice(),
+            want.as_bytes(),
+            "at {target}"
+        );
+    }
+    Ok(())
 }
 
 #[test]
