@@ -8,7 +8,7 @@ use Rattle.td_acts.specs.declared.said.Answer.TheVariants.{Holder, Opened, Ie028
 use Rattle.td_acts.specs.declared.said.Said.{Said}
 use Rattle.td_acts.specs.declared.said.Said.TheVariants.{Answered, Refused}
 use Rattle.td_http.specs.Answers.{answer_data, said_data}
-use Rattle.td_http.specs.Objects.{codes_data, day_data, line_data, lines_data, text_data}
+use Rattle.td_http.specs.Objects.{day_data, line_data, text_data}
 
 -- in an array of what has none
 none_in_items : {X : Type 0} (shows : X → Data) → ((x : X) → has_float (shows x) ≡ false) → (xs : List X) → items_have_float (items_of (map shows xs)) ≡ false

@@ -1,11 +1,10 @@
 -- The texts of the objects that show movements and guarantees: nothing in them is escaped.
-use Rattle.std.proofs.Common.{◌≡◌, ℕ, ◌/◌, ◌%◌, ◌^◌, ◌+◌, ◌*◌, List, [], ◌∷◌, ◌++◌, take, drop, map, All, Option, None, Some, IfSome, arith, refl, sym, ap, ◌∙◌, inr, true, append_assoc}
+use Rattle.std.proofs.Common.{◌≡◌, ℕ, ◌/◌, List, [], ◌∷◌, ◌++◌, take, drop, map, All, Option, None, Some, IfSome, arith, refl, sym, ap, inr, true, append_assoc}
 use Rattle.std.proofs.lemmas.List.{take-append-drop}
 use Rattle.std.proofs.lemmas.List.Elements.{All-append, All-head, All-same, All-tail, All-weaker}
 use Rattle.std.specs.Char.{IsAsciiUppercase}
-use Rattle.std.specs.List.{list_all}
 use Rattle.std.specs.Prelude.{codes, decimal, flat_map}
-use Rattle.serde_json.specs.Data.{Data, null, number, unsigned, string, array, object, member, no_members}
+use Rattle.serde_json.specs.Data.{Data, number, unsigned, string, array, object, member, no_members}
 use Rattle.serde_json.specs.View.{items_of}
 use Rattle.serde_json.specs.Written.{compact_text, items_text}
 use Rattle.serde_json.proofs.OnLiterals.{serde_json_on_literals}
@@ -20,8 +19,8 @@ use Rattle.td_movement.specs.declared.line.Line.{Line}
 use Rattle.td_movement.specs.declared.movement.Movement.{Movement}
 use Rattle.td_movement.specs.declared.state.State.{State}
 use Rattle.td_movement.specs.declared.state.State.TheVariants.{Accepted, Cancelled, Released, Enquired, Arrived, Discrepant, Cleared, WrittenOff}
-use Rattle.td_http.specs.Objects.{text_data, day_data, line_data, lines_data, codes_data, movement_data, guarantee_data, in_quotes, text_body, day_body, with_commas, in_brackets, line_body, movement_body, guarantee_body}
-use Rattle.td_http.proofs.PlainText.{is_unescaped, digit_unescaped, mark_unescaped, written_class, written_lrn, written_reference, written_text}
+use Rattle.td_http.specs.Objects.{text_data, day_data, line_data, lines_data, codes_data, movement_data, guarantee_data, in_quotes, text_body, day_body, in_brackets, line_body, movement_body, guarantee_body}
+use Rattle.td_http.proofs.PlainText.{digit_unescaped, mark_unescaped, written_class, written_lrn, written_reference, written_text}
 
 -- ---- texts
 
