@@ -132,8 +132,8 @@ impl Ground {
 
     /// The ground with exactly this word, if there is one.
     pub fn read(text: &[u8]) -> Option<Self>
-        ensures some { IfSome result (λ ground. ground_name ground ≡ text.now) }
-        ensures none { result ≡ None → (ground : Ground) → ground_name ground ≢ text.now }
+        ensures some { IfSome result (λ g. ground_name g ≡ text.now) }
+        ensures none { result ≡ None → (g : Ground) → ground_name g ≢ text.now }
     {
         match text {
             b"results" => Some(Ground::Results),

@@ -1,6 +1,8 @@
 //! A holder registered and shown.
 use super::devices::Drip;
 use super::{WORDS, perform_over, pipe};
+use std::process::Abort;
+use std::rt::Clock;
 use std::test::Fail;
 
 /// Registers holder 000001.
@@ -24,9 +26,14 @@ fn empty_input_has_no_reply(rt: HostRuntime) -> Result<(), Fail> {
 }
 
 // A prefix of a stream that ends there, or fails there, in one piece and byte by byte: these replies come, and this line where it ends.
-fn assert_prefix(rt: &HostRuntime, prefix: &[u8], wanted: &[u8], line: &[u8]) -> Result<(), Fail> {
+fn assert_prefix(
+    rt: &(impl AllocGlobal + Clock + Abort),
+    prefix: &[u8],
+    wanted: &[u8],
+    line: &[u8],
+) -> Result<(), Fail> {
     let end = prefix.len();
-    let done = pipe(rt, prefix)?;
+    let done = perform_over(rt, &WORDS, prefix)?;
     assert_eq!(rt; done.out.as_slice(), wanted, "{end}");
     assert_eq!(rt; done.status, if line.is_empty() { 0 } else { 1 }, "{end}");
     assert_eq!(rt; done.errors.as_slice(), line, "{end}");

@@ -57,13 +57,16 @@ fn movements_and_guarantees_are_shown(rt: HostRuntime) -> Result<(), Fail> {
 }
 
 /// The other holder asks for them, and for what is that holder's own.
-const STRANGER_SEES_A1: &[u8] = b"GET /holders/000002/movements/25CH00000100000013 HTTP/1.1\r\n\r\n";
+const STRANGER_SEES_A1: &[u8] =
+    b"GET /holders/000002/movements/25CH00000100000013 HTTP/1.1\r\n\r\n";
 
 const OTHER_SEES_OWN: &[u8] = b"GET /holders/000002/movements/25CH00000200000019 HTTP/1.1\r\n\r\n";
 
-const STRANGER_SEES_FIRST: &[u8] = b"GET /holders/000002/guarantees/25CH0000010000014 HTTP/1.1\r\n\r\n";
+const STRANGER_SEES_FIRST: &[u8] =
+    b"GET /holders/000002/guarantees/25CH0000010000014 HTTP/1.1\r\n\r\n";
 
-const OTHER_SEES_OWN_FIRST: &[u8] = b"GET /holders/000002/guarantees/25CH0000020000010 HTTP/1.1\r\n\r\n";
+const OTHER_SEES_OWN_FIRST: &[u8] =
+    b"GET /holders/000002/guarantees/25CH0000020000010 HTTP/1.1\r\n\r\n";
 
 /// The movement A1, but for its year.
 const ANOTHER_YEARS: &[u8] = b"GET /holders/000001/movements/24CH00000100000011 HTTP/1.1\r\n\r\n";
@@ -127,7 +130,14 @@ fn ill_formed_references_are_told(rt: HostRuntime) -> Result<(), Fail> {
 // A view out of the clock's range is clock-range, and a reference that is none keeps its own error.
 #[test]
 fn views_are_tested_for_the_clock(rt: HostRuntime) -> Result<(), Fail> {
-    let words = ["transit-desk", "pipe", "--country", "CH", "--at", "4102444800"];
+    let words = [
+        "transit-desk",
+        "pipe",
+        "--country",
+        "CH",
+        "--at",
+        "4102444800",
+    ];
     let done = perform_over(&rt, &words, SEE_A1)?;
     let wanted =
         b"HTTP/1.1 503 Service Unavailable\r\nContent-Type: application/json\r\nContent-Length: 23\r\n\r\n{\"error\":\"clock-range\"}";
