@@ -10,7 +10,7 @@ use Rattle.td_desk.specs.Runs.{IsTied}
 use Rattle.td_http.specs.declared.service.Service.{Service}
 use Rattle.td_http.specs.Served.{desk_of, IsPrivate}
 use Rattle.td_http.specs.Serving.{IsServed}
-use Rattle.td_http.specs.Stream.{Exchange}
+use Rattle.td_wire.specs.Stream.{Exchange}
 
 -- from an empty desk, each holder's machine starts at an empty book
 pub private_from_empty : (country : List ℕ) (opened left : Service PlainDesk) (es : List Exchange) → rows_in (desk_of opened) ≡ empty_content country

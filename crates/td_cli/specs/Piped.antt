@@ -7,10 +7,10 @@ use Rattle.td_desk.specs.declared.plain.PlainDesk.{PlainDesk}
 use Rattle.td_desk.specs.Content.{empty_content}
 use Rattle.td_desk.specs.Plain.{rows_in}
 use Rattle.td_http.specs.declared.service.Service.{Service}
-use Rattle.td_http.specs.declared.stream.StreamEnd.{StreamEnd}
+use Rattle.td_wire.specs.declared.stream.StreamEnd.{StreamEnd}
 use Rattle.td_http.specs.Served.{desk_of, IsHandledBy, IsHeadHandledBy}
 use Rattle.td_http.specs.Serving.{IsServed}
-use Rattle.td_http.specs.Stream.{Serves}
+use Rattle.td_wire.specs.Stream.{Serves}
 
 -- A stream of requests was served at a desk that began empty, in this country: the bytes consumed are whole requests and a rest, what was
 -- written is the replies to them and what parts with the rest, and each holder's requests had the replies of that holder's own machine,

@@ -6,8 +6,8 @@ use Rattle.td_base.specs.Counted.{known_bytes}
 use Rattle.td_base.specs.Writing.{IsCutShort}
 use Rattle.td_cli.specs.declared.words.NoJob.{NoJob}
 use Rattle.td_cli.specs.declared.words.NoJob.TheVariants.{Help, Wrong, NoMemory}
-use Rattle.td_http.specs.declared.stream.StreamEnd.{StreamEnd}
-use Rattle.td_http.specs.declared.stream.StreamEnd.TheVariants.{Closed, Asked, Served, Refused, Cut, ReadsSpent, ReadFault, WriteFault, Failed}
+use Rattle.td_wire.specs.declared.stream.StreamEnd.{StreamEnd}
+use Rattle.td_wire.specs.declared.stream.StreamEnd.TheVariants.{Closed, Asked, Served, Refused, Cut, ReadsSpent, ReadFault, WriteFault, Failed}
 
 -- 0 where the stream ended at the end of the input, by a request to close, or after its last request, and 1 where it ended
 -- otherwise, or where there was no memory for the desk

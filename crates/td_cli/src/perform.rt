@@ -1,7 +1,7 @@
 //! The jobs of the program.
 ghost use Rattle.std.specs.Prelude.{◌≡◌, ◌⊎◌, codes, Option, IfSome};
 ghost use Rattle.td_cli.specs.declared.words.NoJob.{NoJob};
-ghost use Rattle.td_http.specs.declared.stream.StreamEnd.{StreamEnd};
+ghost use Rattle.td_wire.specs.declared.stream.StreamEnd.{StreamEnd};
 ghost use Rattle.td_cli.specs.Piped.{IsPiped};
 ghost use Rattle.td_cli.specs.Statuses.{status_of_end, line_of_end, IsTold, IsAnswered};
 

@@ -15,12 +15,12 @@ use Rattle.td_desk.specs.Content.{Content}
 use Rattle.td_desk.specs.Sound.{IsSound}
 use Rattle.td_desk.specs.Runs.{IsRun, IsStep, IsTied, is_holder, heard}
 use Rattle.td_desk.proofs.Turns.{run_more}
-use Rattle.td_http.specs.declared.fault.WebFault.{WebFault}
-use Rattle.td_http.specs.declared.reply.Reply.{Reply}
-use Rattle.td_http.specs.Request.{Asked}
-use Rattle.td_http.specs.ReplyText.{reply_bytes, is_made}
-use Rattle.td_http.specs.Stream.{Exchange, Chain, question}
-use Rattle.td_http.specs.Answers.{said_reply}
+use Rattle.td_routes.specs.declared.fault.WebFault.{WebFault}
+use Rattle.td_wire.specs.declared.reply.Reply.{Reply}
+use Rattle.td_wire.specs.Request.{Asked}
+use Rattle.td_wire.specs.ReplyText.{reply_bytes, is_made}
+use Rattle.td_wire.specs.Stream.{Exchange, Chain, question}
+use Rattle.td_answers.specs.Answers.{said_reply}
 use Rattle.td_http.specs.Serving.{command_in, IsReplyTo, IsFaultReply, HandledAs, IsHandled, heard_by, heard_in, told_by, told_in, commands_of, machine_replies, IsServed}
 
 -- a machine goes on where it stopped

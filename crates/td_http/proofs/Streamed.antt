@@ -3,7 +3,7 @@ use Rattle.std.proofs.Common.{◌≡◌, ℕ, ℤ, List, ◌∙◌, ap, subst, r
 use Rattle.td_desk.specs.Content.{Content}
 use Rattle.td_http.specs.declared.service.Service.{Service}
 use Rattle.td_http.specs.Served.{desk_of, IsHandledBy, IsHeadHandledBy, IsPrivate}
-use Rattle.td_http.specs.Stream.{Exchange, Chain, Parting, silence, refusal, to_head, no_memory, IsParting}
+use Rattle.td_wire.specs.Stream.{Exchange, Chain, Parting, silence, refusal, to_head, no_memory, IsParting}
 use Rattle.td_http.proofs.Served.{chain_served}
 
 -- what parts with the rest leaves the desk as it is

@@ -4,15 +4,15 @@ use Rattle.td_acts.specs.Book.{Book}
 use Rattle.td_desk.specs.Content.{Content}
 use Rattle.td_desk.specs.Sound.{IsSound}
 use Rattle.td_desk.specs.Runs.{IsTied}
-use Rattle.td_http.specs.declared.reply.Reply.{Reply}
-use Rattle.td_http.specs.declared.reply.Reply.TheVariants.{NoMemory}
+use Rattle.td_wire.specs.declared.reply.Reply.{Reply}
+use Rattle.td_wire.specs.declared.reply.Reply.TheVariants.{NoMemory}
 use Rattle.td_http.specs.declared.service.Service.{Service}
-use Rattle.td_http.specs.Faults.{allowed_text}
-use Rattle.td_http.specs.Request.{Asked}
-use Rattle.td_http.specs.ReplyText.{head_text, reply_bytes, is_made}
-use Rattle.td_http.specs.Routes.{methods_of, path_of}
+use Rattle.td_routes.specs.Faults.{allowed_text}
+use Rattle.td_wire.specs.Request.{Asked}
+use Rattle.td_wire.specs.ReplyText.{head_text, reply_bytes, is_made}
+use Rattle.td_routes.specs.Routes.{methods_of, path_of}
 use Rattle.td_http.specs.Serving.{IsHandled, IsServed}
-use Rattle.td_http.specs.Stream.{Exchange}
+use Rattle.td_wire.specs.Stream.{Exchange}
 
 -- the desk behind a service
 abbrev pub desk_of : {D : Type 0} → Service D → D

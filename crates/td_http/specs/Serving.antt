@@ -11,14 +11,14 @@ use Rattle.td_desk.specs.declared.running.Outcome.TheVariants as outcome
 use Rattle.td_desk.specs.Content.{Content}
 use Rattle.td_desk.specs.Sound.{IsSound}
 use Rattle.td_desk.specs.Runs.{IsStep, IsTied, is_holder}
-use Rattle.td_http.specs.declared.fault.WebFault.{WebFault}
-use Rattle.td_http.specs.declared.reply.Reply.{Reply}
-use Rattle.td_http.specs.declared.reply.Reply.TheVariants.{NoMemory, Store}
-use Rattle.td_http.specs.Request.{Asked}
-use Rattle.td_http.specs.ReplyText.{reply_bytes, is_made}
-use Rattle.td_http.specs.Answers.{said_reply, fault_reply}
-use Rattle.td_http.specs.Bodies.{command_of}
-use Rattle.td_http.specs.Stream.{Exchange, question}
+use Rattle.td_routes.specs.declared.fault.WebFault.{WebFault}
+use Rattle.td_wire.specs.declared.reply.Reply.{Reply}
+use Rattle.td_wire.specs.declared.reply.Reply.TheVariants.{NoMemory, Store}
+use Rattle.td_wire.specs.Request.{Asked}
+use Rattle.td_wire.specs.ReplyText.{reply_bytes, is_made}
+use Rattle.td_answers.specs.Answers.{said_reply, fault_reply}
+use Rattle.td_routes.specs.Bodies.{command_of}
+use Rattle.td_wire.specs.Stream.{Exchange, question}
 
 -- what a request asks: a command, or why it can't be read
 abbrev pub command_in : Asked → Result Command WebFault

@@ -1,25 +1,22 @@
 //! The desk as a service: a request is read, weighed, its reply is built, and only then it is carried.
 ghost use Rattle.std.specs.Prelude.{◌≡◌, ◌⊎◌, Bool, true, MatchResult, option_map};
-ghost use Rattle.td_http.specs.Faults.{allowed_text};
-ghost use Rattle.td_http.specs.ReplyText.{head_text, is_made, reply_bytes as made_bytes};
+ghost use Rattle.td_routes.specs.Faults.{allowed_text};
+ghost use Rattle.td_wire.specs.ReplyText.{head_text, is_made, reply_bytes as made_bytes};
 ghost use Rattle.td_acts.specs.declared.command.Stamped.{Stamped};
 ghost use Rattle.td_acts.specs.declared.said.Said.{Said};
 ghost use Rattle.td_desk.specs.declared.fault.Fault.TheVariants as fault;
 ghost use Rattle.td_desk.specs.declared.running.Outcome.TheVariants as outcome;
 ghost use Rattle.td_desk.specs.Runs.{IsStep};
-ghost use Rattle.td_http.specs.Request.{asked};
+ghost use Rattle.td_wire.specs.Request.{asked};
 ghost use Rattle.td_http.specs.Serving.{IsReplyTo, IsFaultReply, HandledAs};
-ghost use Rattle.td_http.specs.Answers.{said_reply};
+ghost use Rattle.td_answers.specs.Answers.{said_reply};
 
-use crate::answers::{fault_bytes, reply_bytes};
-use crate::bodies::{path, read_command_by};
-use crate::fault::{Allowed, WebFault};
-use crate::reply::{Reply, head_reply};
-use crate::request::Request;
-use crate::routes::Routes;
 use std::alloc::Global;
 use td_acts::Command;
+use td_answers::{fault_bytes, reply_bytes};
 use td_desk::{Desk, Fault};
+use td_routes::{Allowed, Routes, WebFault, path, read_command_by};
+use td_wire::{Reply, Request, head_reply};
 
 /// A desk that answers HTTP requests.
 #[derive(Drop)]

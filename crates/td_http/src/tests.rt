@@ -1,8 +1,5 @@
-//! The public calls, with ample memory.
+//! Requests, the commands that they are read as, and what is told of those that can't be read, with ample memory.
 mod asked;
 mod declarations;
 mod openings;
-mod replies;
 mod requests;
-mod streams;
-mod views;

@@ -1,10 +1,7 @@
 //! Declarations: bodies, and the command or the error that each of them is read as.
 use super::asked::{asked, refused, request};
-use crate::reply_bytes;
 use std::alloc::{AllocError, Global};
 use std::test::Fail;
-use td_acts::{Answer, Said};
-use td_base::{Lrn, Mrn};
 
 const TARGET: &[u8] = b"/holders/000001/movements";
 
@@ -252,19 +249,5 @@ fn wrong_lines_are_refused(rt: HostRuntime) -> Result<(), Fail> {
             "at {lines}"
         );
     }
-    Ok(())
-}
-
-#[test]
-fn a_declaration_is_answered(rt: HostRuntime) -> Result<(), Fail> {
-    let answer = Answer::Ie028 {
-        lrn: Lrn::read(b"A1").ok_or("an LRN")?,
-        mrn: Mrn::read(b"25CH00000100000013").ok().ok_or("an MRN")?,
-    };
-    let reply = reply_bytes(rt.alloc(), &Said::Answered(answer), false)?;
-    assert_eq!(rt;
-        reply.as_slice(),
-        b"HTTP/1.1 200 OK\r\nContent-Type: application/json\r\nContent-Length: 57\r\n\r\n{\"lrn\":\"A1\",\"message\":\"IE028\",\"mrn\":\"25CH00000100000013\"}".as_slice()
-    );
     Ok(())
 }

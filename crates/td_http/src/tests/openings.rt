@@ -1,9 +1,6 @@
 //! Openings of guarantees: bodies, and the command or the error that each of them is read as.
 use super::asked::{asked, refused, request};
-use crate::reply_bytes;
 use std::test::Fail;
-use td_acts::{Answer, Said};
-use td_base::Grn;
 
 const TARGET: &[u8] = b"/office/holders/000001/guarantees";
 
@@ -241,18 +238,5 @@ fn openings_are_refused(rt: HostRuntime) -> Result<(), Fail> {
             "at {body}"
         );
     }
-    Ok(())
-}
-
-#[test]
-fn an_opening_is_answered(rt: HostRuntime) -> Result<(), Fail> {
-    let answer = Answer::Opened {
-        grn: Grn::read(b"25CH0000010000014").ok().ok_or("a GRN")?,
-    };
-    let reply = reply_bytes(rt.alloc(), &Said::Answered(answer), false)?;
-    assert_eq!(rt;
-        reply.as_slice(),
-        b"HTTP/1.1 200 OK\r\nContent-Type: application/json\r\nContent-Length: 27\r\n\r\n{\"grn\":\"25CH0000010000014\"}".as_slice()
-    );
     Ok(())
 }

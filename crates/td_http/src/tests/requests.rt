@@ -1,12 +1,11 @@
 //! Requests, and the command or the fault that each of them is read as.
 use super::asked::{asked, refused, request, words_of};
-use crate::bodies::read_command_by;
-use crate::routes::{Routes, route};
-use crate::{Allowed, Field, Route, WebFault, read_command};
+use crate::{Allowed, Field, Route, WebFault, read_command, route};
 use http::Method;
 use std::process::Abort;
 use std::test::Fail;
 use td_base::{Grn, HolderNo, Mrn};
+use td_routes::{Routes, read_command_by};
 
 /// Requests that are read, and their commands.
 const READ: [(&str, &str, &str, &str); 10] = [

@@ -1,4 +1,4 @@
-use Rattle.td_http.specs.Request.{asked}
+use Rattle.td_wire.specs.Request.{asked}
 use Rattle.td_http.specs.Serving.{command_in}
 use Rattle.td_http.proofs.Handling.{unread_handled, unread_stores_nothing}
 use Rattle.td_http.proofs.service.Service.handle.Goals as goal

@@ -1,0 +1,5 @@
+mod EoriText
+mod ArrayFacts
+mod PlainText
+mod PlainObjects
+mod Floats

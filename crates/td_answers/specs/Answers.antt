@@ -1,0 +1,123 @@
+-- The JSON of what the desk says, and the status of it. Keys stand in ascending order of bytes; `serde_json` writes the text, with no space.
+use Rattle.std.specs.Prelude.{ℕ, Bool, List, ◌++◌, codes, decimal, None}
+use Rattle.serde_json.specs.Data.{Data, number, unsigned, string, object, member, no_members}
+use Rattle.serde_json.specs.Written.{compact_text}
+use Rattle.td_base.specs.Holder.{holder_text}
+use Rattle.td_acts.specs.Names.{refusal_name}
+use Rattle.td_acts.specs.declared.said.Answer.{Answer}
+use Rattle.td_acts.specs.declared.said.Answer.TheVariants.{Holder, Opened, Ie028, Movement, Guarantee}
+use Rattle.td_acts.specs.declared.said.Refusal.{Refusal}
+use Rattle.td_acts.specs.declared.said.Refusal.TheVariants.{ClockRange, NoHolder, HolderKnown, ClockBack, NoMovement, NoGuarantee, BadCode, GuaranteeEnded, LrnUsed, SerialsSpent}
+use Rattle.td_acts.specs.declared.said.Said.{Said}
+use Rattle.td_acts.specs.declared.said.Said.TheVariants.{Answered, Refused}
+use Rattle.td_routes.specs.Faults.{fault_allow, fault_name, field_name, reason_text}
+use Rattle.td_answers.specs.Objects.{guarantee_body, guarantee_data, movement_body, movement_data}
+use Rattle.td_wire.specs.ReplyText.{reply_text}
+use Rattle.td_routes.specs.declared.fault.WebFault.{WebFault}
+use Rattle.td_routes.specs.declared.fault.WebFault.TheVariants.{NoRoute, NoMethod, BadHolder, BadMrn, BadGrn, BadBody, BadField, NoMemory}
+
+-- what is told of a holder
+abbrev pub holder_data : List ℕ → ℕ → List ℕ → ℕ → Data
+holder_data eori guarantees holder movements =
+    object (member (codes "eori") (string eori)
+    (member (codes "guarantees") (number (unsigned guarantees))
+    (member (codes "holder") (string holder)
+    (member (codes "movements") (number (unsigned movements)) no_members))))
+
+-- the reference of a guarantee that was opened
+abbrev pub opened_data : List ℕ → Data
+opened_data grn = object (member (codes "grn") (string grn) no_members)
+
+-- the message that allocates a declaration its MRN (IE028)
+abbrev pub ie028_data : List ℕ → List ℕ → Data
+ie028_data lrn mrn =
+    object (member (codes "lrn") (string lrn)
+    (member (codes "message") (string (codes "IE028"))
+    (member (codes "mrn") (string mrn) no_members)))
+
+-- an answer
+abbrev pub answer_data : Answer → Data
+answer_data (Holder holder eori guarantees movements) = holder_data eori guarantees (holder_text holder) movements
+answer_data (Opened grn) = opened_data grn
+answer_data (Ie028 lrn mrn) = ie028_data lrn mrn
+answer_data (Movement m) = movement_data m
+answer_data (Guarantee g used) = guarantee_data g used
+
+-- an error, told by its name alone
+abbrev pub error_data : List ℕ → Data
+error_data name = object (member (codes "error") (string name) no_members)
+
+-- an error and the field that it is about
+abbrev pub field_data : List ℕ → List ℕ → Data
+field_data name field = object (member (codes "error") (string name) (member (codes "field") (string field) no_members))
+
+-- an error and the reason for it
+abbrev pub reason_data : List ℕ → List ℕ → Data
+reason_data name reason = object (member (codes "error") (string name) (member (codes "reason") (string reason) no_members))
+
+-- what is said
+abbrev pub said_data : Said → Data
+said_data (Answered answer) = answer_data answer
+said_data (Refused refusal) = error_data (refusal_name refusal)
+
+-- why a request can't be read
+abbrev pub fault_data : WebFault → Data
+fault_data NoRoute = error_data (fault_name NoRoute)
+fault_data (NoMethod allow) = error_data (fault_name (NoMethod allow))
+fault_data BadHolder = error_data (fault_name BadHolder)
+fault_data (BadMrn reason) = reason_data (fault_name (BadMrn reason)) (reason_text reason)
+fault_data (BadGrn reason) = reason_data (fault_name (BadGrn reason)) (reason_text reason)
+fault_data BadBody = error_data (fault_name BadBody)
+fault_data (BadField field) = field_data (fault_name (BadField field)) (field_name field)
+fault_data NoMemory = error_data (fault_name NoMemory)
+
+-- the bodies of replies
+abbrev pub said_body : Said → List ℕ
+said_body said = compact_text (said_data said)
+
+abbrev pub fault_body : WebFault → List ℕ
+fault_body fault = compact_text (fault_data fault)
+
+-- the bytes of an answer's body: nothing in it is escaped
+abbrev pub answer_body : Answer → List ℕ
+answer_body (Holder holder eori guarantees movements) =
+    codes "{\"eori\":\"" ++ (eori ++ (codes "\",\"guarantees\":" ++ (decimal guarantees
+    ++ (codes ",\"holder\":\"" ++ (holder_text holder ++ (codes "\",\"movements\":" ++ (decimal movements ++ codes "}")))))))
+answer_body (Opened grn) = codes "{\"grn\":\"" ++ (grn ++ codes "\"}")
+answer_body (Ie028 lrn mrn) = codes "{\"lrn\":\"" ++ (lrn ++ (codes "\",\"message\":\"IE028\",\"mrn\":\"" ++ (mrn ++ codes "\"}")))
+answer_body (Movement m) = movement_body m
+answer_body (Guarantee g used) = guarantee_body g used
+
+-- the statuses of replies (RFC 9110, section 15)
+abbrev pub refusal_status : Refusal → ℕ
+refusal_status ClockRange = 503
+refusal_status NoHolder = 404
+refusal_status HolderKnown = 409
+refusal_status ClockBack = 409
+refusal_status NoMovement = 404
+refusal_status NoGuarantee = 404
+refusal_status BadCode = 403
+refusal_status GuaranteeEnded = 409
+refusal_status LrnUsed = 409
+refusal_status SerialsSpent = 409
+
+abbrev pub said_status : Said → ℕ
+said_status (Answered answer) = 200
+said_status (Refused refusal) = refusal_status refusal
+
+abbrev pub fault_status : WebFault → ℕ
+fault_status NoRoute = 404
+fault_status (NoMethod allow) = 405
+fault_status BadHolder = 400
+fault_status (BadMrn reason) = 400
+fault_status (BadGrn reason) = 400
+fault_status BadBody = 400
+fault_status (BadField field) = 400
+fault_status NoMemory = 503
+
+-- whole replies; the stream stops after one with `close`
+unfoldable pub said_reply : Said → Bool → List ℕ
+said_reply said close = reply_text (said_status said) None close (said_body said)
+
+unfoldable pub fault_reply : WebFault → Bool → List ℕ
+fault_reply fault close = reply_text (fault_status fault) (fault_allow fault) close (fault_body fault)

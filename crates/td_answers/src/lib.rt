@@ -1,0 +1,10 @@
+//! What is said, and why a request can't be read, as bytes.
+#![tactic(auto)]
+
+mod answers;
+mod objects;
+
+pub use answers::{answer_is_told_in, fault_bytes, reply_bytes};
+
+#[cfg(test)]
+mod tests;

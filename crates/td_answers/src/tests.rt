@@ -1,0 +1,3 @@
+//! Replies, byte for byte, with ample memory.
+mod replies;
+mod views;

@@ -1,0 +1,187 @@
+//! Replies, byte for byte.
+use crate::{answer_is_told_in, fault_bytes, reply_bytes};
+use std::test::Fail;
+use td_acts::{Answer, Refusal, Said};
+use td_base::{Eori, Grn, HolderNo, Lrn, Mrn, RefFault};
+use td_routes::{Allowed, Field, WebFault};
+
+/// Refusals, whether the stream closes after them, and their replies.
+const REFUSED: [(Refusal, bool, &str); 10] = [
+    (
+        Refusal::ClockRange,
+        false,
+        "HTTP/1.1 503 Service Unavailable\r\nContent-Type: application/json\r\nContent-Length: 23\r\n\r\n{\"error\":\"clock-range\"}",
+    ),
+    (
+        Refusal::NoHolder,
+        false,
+        "HTTP/1.1 404 Not Found\r\nContent-Type: application/json\r\nContent-Length: 21\r\n\r\n{\"error\":\"no-holder\"}",
+    ),
+    (
+        Refusal::HolderKnown,
+        true,
+        "HTTP/1.1 409 Conflict\r\nContent-Type: application/json\r\nContent-Length: 24\r\nConnection: close\r\n\r\n{\"error\":\"holder-known\"}",
+    ),
+    (
+        Refusal::ClockBack,
+        false,
+        "HTTP/1.1 409 Conflict\r\nContent-Type: application/json\r\nContent-Length: 22\r\n\r\n{\"error\":\"clock-back\"}",
+    ),
+    (
+        Refusal::NoMovement,
+        false,
+        "HTTP/1.1 404 Not Found\r\nContent-Type: application/json\r\nContent-Length: 23\r\n\r\n{\"error\":\"no-movement\"}",
+    ),
+    (
+        Refusal::NoGuarantee,
+        false,
+        "HTTP/1.1 404 Not Found\r\nContent-Type: application/json\r\nContent-Length: 24\r\n\r\n{\"error\":\"no-guarantee\"}",
+    ),
+    (
+        Refusal::BadCode,
+        false,
+        "HTTP/1.1 403 Forbidden\r\nContent-Type: application/json\r\nContent-Length: 20\r\n\r\n{\"error\":\"bad-code\"}",
+    ),
+    (
+        Refusal::GuaranteeEnded,
+        false,
+        "HTTP/1.1 409 Conflict\r\nContent-Type: application/json\r\nContent-Length: 27\r\n\r\n{\"error\":\"guarantee-ended\"}",
+    ),
+    (
+        Refusal::LrnUsed,
+        false,
+        "HTTP/1.1 409 Conflict\r\nContent-Type: application/json\r\nContent-Length: 20\r\n\r\n{\"error\":\"lrn-used\"}",
+    ),
+    (
+        Refusal::SerialsSpent,
+        false,
+        "HTTP/1.1 409 Conflict\r\nContent-Type: application/json\r\nContent-Length: 25\r\n\r\n{\"error\":\"serials-spent\"}",
+    ),
+];
+
+/// Faults of a path's reference, and their replies.
+const NO_REFERENCE: [(WebFault, &str); 6] = [
+    (
+        WebFault::BadMrn(RefFault::Length),
+        "HTTP/1.1 400 Bad Request\r\nContent-Type: application/json\r\nContent-Length: 37\r\n\r\n{\"error\":\"bad-mrn\",\"reason\":\"length\"}",
+    ),
+    (
+        WebFault::BadMrn(RefFault::Form),
+        "HTTP/1.1 400 Bad Request\r\nContent-Type: application/json\r\nContent-Length: 35\r\n\r\n{\"error\":\"bad-mrn\",\"reason\":\"form\"}",
+    ),
+    (
+        WebFault::BadMrn(RefFault::CheckDigit),
+        "HTTP/1.1 400 Bad Request\r\nContent-Type: application/json\r\nContent-Length: 42\r\n\r\n{\"error\":\"bad-mrn\",\"reason\":\"check-digit\"}",
+    ),
+    (
+        WebFault::BadGrn(RefFault::Length),
+        "HTTP/1.1 400 Bad Request\r\nContent-Type: application/json\r\nContent-Length: 37\r\n\r\n{\"error\":\"bad-grn\",\"reason\":\"length\"}",
+    ),
+    (
+        WebFault::BadGrn(RefFault::Form),
+        "HTTP/1.1 400 Bad Request\r\nContent-Type: application/json\r\nContent-Length: 35\r\n\r\n{\"error\":\"bad-grn\",\"reason\":\"form\"}",
+    ),
+    (
+        WebFault::BadGrn(RefFault::CheckDigit),
+        "HTTP/1.1 400 Bad Request\r\nContent-Type: application/json\r\nContent-Length: 42\r\n\r\n{\"error\":\"bad-grn\",\"reason\":\"check-digit\"}",
+    ),
+];
+
+#[test]
+fn writes_answers(rt: HostRuntime) -> Result<(), Fail> {
+    let answer = Answer::Holder {
+        holder: HolderNo::new(1).ok_or("a number")?,
+        eori: Eori::read(b"CH1234567").ok_or("an EORI")?,
+        guarantees: 0,
+        movements: 0,
+    };
+    answer_is_told_in(&answer);
+    let reply = reply_bytes(rt.alloc(), &Said::Answered(answer), false)?;
+    let want =
+        "HTTP/1.1 200 OK\r\nContent-Type: application/json\r\nContent-Length: 67\r\n\r\n{\"eori\":\"CH1234567\",\"guarantees\":0,\"holder\":\"000001\",\"movements\":0}";
+    assert!(rt; reply.as_slice() == want.as_bytes(), "{want}");
+    Ok(())
+}
+
+#[test]
+fn an_opening_is_answered(rt: HostRuntime) -> Result<(), Fail> {
+    let answer = Answer::Opened {
+        grn: Grn::read(b"25CH0000010000014").ok().ok_or("a GRN")?,
+    };
+    let reply = reply_bytes(rt.alloc(), &Said::Answered(answer), false)?;
+    assert_eq!(rt;
+        reply.as_slice(),
+        b"HTTP/1.1 200 OK\r\nContent-Type: application/json\r\nContent-Length: 27\r\n\r\n{\"grn\":\"25CH0000010000014\"}".as_slice()
+    );
+    Ok(())
+}
+
+#[test]
+fn a_declaration_is_answered(rt: HostRuntime) -> Result<(), Fail> {
+    let answer = Answer::Ie028 {
+        lrn: Lrn::read(b"A1").ok_or("an LRN")?,
+        mrn: Mrn::read(b"25CH00000100000013").ok().ok_or("an MRN")?,
+    };
+    let reply = reply_bytes(rt.alloc(), &Said::Answered(answer), false)?;
+    assert_eq!(rt;
+        reply.as_slice(),
+        b"HTTP/1.1 200 OK\r\nContent-Type: application/json\r\nContent-Length: 57\r\n\r\n{\"lrn\":\"A1\",\"message\":\"IE028\",\"mrn\":\"25CH00000100000013\"}".as_slice()
+    );
+    Ok(())
+}
+
+#[test]
+fn writes_refusals(rt: HostRuntime) -> Result<(), Fail> {
+    for (why, close, want) in &REFUSED {
+        let reply = reply_bytes(rt.alloc(), &Said::Refused(*why), *close)?;
+        assert!(rt; reply.as_slice() == want.as_bytes(), "{want}");
+    }
+    Ok(())
+}
+
+#[test]
+fn writes_faults(rt: HostRuntime) -> Result<(), Fail> {
+    for (fault, want) in [
+        (
+            WebFault::NoRoute,
+            "HTTP/1.1 404 Not Found\r\nContent-Type: application/json\r\nContent-Length: 20\r\n\r\n{\"error\":\"no-route\"}",
+        ),
+        (
+            WebFault::NoMethod {
+                allow: Allowed::Put,
+            },
+            "HTTP/1.1 405 Method Not Allowed\r\nContent-Type: application/json\r\nContent-Length: 21\r\nAllow: PUT\r\n\r\n{\"error\":\"no-method\"}",
+        ),
+        (
+            WebFault::NoMethod {
+                allow: Allowed::Post,
+            },
+            "HTTP/1.1 405 Method Not Allowed\r\nContent-Type: application/json\r\nContent-Length: 21\r\nAllow: POST\r\n\r\n{\"error\":\"no-method\"}",
+        ),
+        (
+            WebFault::BadHolder,
+            "HTTP/1.1 400 Bad Request\r\nContent-Type: application/json\r\nContent-Length: 22\r\n\r\n{\"error\":\"bad-holder\"}",
+        ),
+        (
+            WebFault::BadBody,
+            "HTTP/1.1 400 Bad Request\r\nContent-Type: application/json\r\nContent-Length: 20\r\n\r\n{\"error\":\"bad-body\"}",
+        ),
+        (
+            WebFault::BadField(Field::Eori),
+            "HTTP/1.1 400 Bad Request\r\nContent-Type: application/json\r\nContent-Length: 36\r\n\r\n{\"error\":\"bad-field\",\"field\":\"eori\"}",
+        ),
+    ] {
+        let reply = fault_bytes(rt.alloc(), &fault, false)?;
+        assert!(rt; reply.as_slice() == want.as_bytes(), "{want}");
+    }
+    Ok(())
+}
+
+#[test]
+fn writes_why_a_reference_is_none(rt: HostRuntime) -> Result<(), Fail> {
+    for (fault, want) in &NO_REFERENCE {
+        let reply = fault_bytes(rt.alloc(), fault, false)?;
+        assert!(rt; reply.as_slice() == want.as_bytes(), "{want}");
+    }
+    Ok(())
+}

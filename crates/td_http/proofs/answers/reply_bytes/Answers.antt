@@ -1,9 +1,0 @@
-use Rattle.std.proofs.Common.{◌∙◌}
-use Rattle.td_http.specs.Answers.{said_reply}
-use Rattle.td_http.proofs.answers.reply_bytes.Goals as goal
-
-pub returns : goal.returns
-unfolding said_reply
-returns c =
-    let body = c.deref.ensures ∙ c.in_ok-body.ensures in
-    rw (c.status_of.ensures, body) at c.json_reply.ensures

@@ -1,6 +1,0 @@
-use Rattle.td_http.specs.declared.fault.WebFault.TheVariants.{BadGrn}
-use Rattle.td_http.proofs.PartFacts.{part_read_is}
-use Rattle.td_http.proofs.routes.read_grn.Goals as goal
-
-pub returns : goal.returns
-returns c = part_read_is 17 BadGrn _ _ _ c.read.ensures.ok c.read.ensures.err c.map_err.ensures.cases

@@ -1,0 +1,6 @@
+use Rattle.td_routes.specs.declared.fault.WebFault.TheVariants.{BadGrn}
+use Rattle.td_routes.proofs.PartFacts.{part_read_is}
+use Rattle.td_routes.proofs.routes.read_grn.Goals as goal
+
+pub returns : goal.returns
+returns c = part_read_is 17 BadGrn _ _ _ c.read.ensures.ok c.read.ensures.err c.map_err.ensures.cases

@@ -1,0 +1,6 @@
+use Rattle.td_routes.specs.declared.fault.WebFault.TheVariants.{BadMrn}
+use Rattle.td_routes.proofs.PartFacts.{part_read_is}
+use Rattle.td_routes.proofs.routes.read_mrn.Goals as goal
+
+pub returns : goal.returns
+returns c = part_read_is 18 BadMrn _ _ _ c.read.ensures.ok c.read.ensures.err c.map_err.ensures.cases

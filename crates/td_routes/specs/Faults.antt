@@ -1,0 +1,65 @@
+-- Why a request can't be read: names, and what the reply says beside them.
+use Rattle.std.specs.Prelude.{◌≡◌, ◌⊎◌, ℕ, List, codes, Option, Some, None, Result, Ok, Err}
+use Rattle.td_base.specs.declared.references.RefFault.{RefFault}
+use Rattle.td_base.specs.declared.references.RefFault.TheVariants.{Length, Form, CheckDigit}
+use Rattle.td_routes.specs.declared.fault.Allowed.{Allowed}
+use Rattle.td_routes.specs.declared.fault.Allowed.TheVariants.{Get, Post, Put}
+use Rattle.td_routes.specs.declared.fault.Field.{Field}
+use Rattle.td_routes.specs.declared.fault.Field.TheVariants.{Eori, Reference, Cover, Code, Lrn, Departure, Destination, Lines}
+use Rattle.td_routes.specs.declared.fault.WebFault.{WebFault}
+use Rattle.td_routes.specs.declared.fault.WebFault.TheVariants.{NoRoute, NoMethod, BadHolder, BadMrn, BadGrn, BadBody, BadField, NoMemory}
+
+-- the methods of a path, as `Allow` lists them
+abbrev pub allowed_text : Allowed → List ℕ
+allowed_text Get = codes "GET"
+allowed_text Post = codes "POST"
+allowed_text Put = codes "PUT"
+
+-- a field's key in the body
+abbrev pub field_name : Field → List ℕ
+field_name Eori = codes "eori"
+field_name Reference = codes "reference"
+field_name Cover = codes "cover"
+field_name Code = codes "code"
+field_name Lrn = codes "lrn"
+field_name Departure = codes "departure"
+field_name Destination = codes "destination"
+field_name Lines = codes "lines"
+
+-- what the reply calls the reason for which a text isn't a reference
+abbrev pub reason_text : RefFault → List ℕ
+reason_text Length = codes "length"
+reason_text Form = codes "form"
+reason_text CheckDigit = codes "check-digit"
+
+-- the name that the reply gives
+abbrev pub fault_name : WebFault → List ℕ
+fault_name NoRoute = codes "no-route"
+fault_name (NoMethod allow) = codes "no-method"
+fault_name BadHolder = codes "bad-holder"
+fault_name (BadMrn reason) = codes "bad-mrn"
+fault_name (BadGrn reason) = codes "bad-grn"
+fault_name BadBody = codes "bad-body"
+fault_name (BadField field) = codes "bad-field"
+fault_name NoMemory = codes "no-memory"
+
+-- what the reply's line `Allow` lists
+abbrev pub fault_allow : WebFault → Option (List ℕ)
+fault_allow NoRoute = None
+fault_allow (NoMethod allow) = Some (allowed_text allow)
+fault_allow BadHolder = None
+fault_allow (BadMrn reason) = None
+fault_allow (BadGrn reason) = None
+fault_allow BadBody = None
+fault_allow (BadField field) = None
+fault_allow NoMemory = None
+
+-- what is wanted, want of memory aside
+abbrev pub OrNoMemory : {T : Type 0} → Result T WebFault → Result T WebFault → Type 0
+OrNoMemory result wanted = (result ≡ Err NoMemory) ⊎ (result ≡ wanted)
+
+-- the next step of a reading: the first fault stays
+infixl 10 ◌>>=◌
+abbrev pub ◌>>=◌ : {A B : Type 0} → Result A WebFault → (A → Result B WebFault) → Result B WebFault
+Ok a >>= next = next a
+Err e >>= next = Err e

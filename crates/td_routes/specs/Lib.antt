@@ -1,0 +1,6 @@
+pub mod Parts
+pub mod Faults
+pub mod Routes
+pub mod BodyFields
+pub mod BodyLines
+pub mod Bodies

@@ -1,0 +1,74 @@
+//! The fields of a body: each is `None` where it is missing or ill-formed.
+ghost use Rattle.std.specs.Prelude.{◌≡◌, option_and_then, option_map};
+ghost use Rattle.serde_json.specs.View.{items_view, view};
+ghost use Rattle.td_routes.specs.BodyFields.{array_at, number_at, text_at};
+ghost use Rattle.td_routes.specs.Faults.{field_name};
+ghost use Rattle.td_routes.specs.Parts.{code_read, cover_of, eori_read, lrn_read, office_read, reference_of};
+ghost use Rattle.td_routes.specs.declared.fault.Field.TheVariants as field;
+
+use crate::fault::Field;
+use serde_json::Value;
+use td_base::{AccessCode, Cover, Eori, Lrn, OfficeNo, Reference};
+
+// The text of a key.
+pub(crate) fn text_in<'v>(object: &'v Value, key: &str) -> Option<&'v str>
+    ensures { option_map (λ s. s.now) result ≡ text_at key.now (view object.now) }
+{
+    object.get(key).and_then(Value::as_str)
+}
+
+// The whole number of a key.
+pub(crate) fn number_in(object: &Value, key: &str) -> Option<u64>
+    ensures { result ≡ number_at key.now (view object.now) }
+{
+    object.get(key).and_then(Value::as_u64)
+}
+
+// The elements of a key's array.
+pub(crate) fn array_in<'v>(object: &'v Value, key: &str) -> Option<&'v Vec<Value>>
+    ensures { option_map (λ v. items_view v.now.items) result ≡ array_at key.now (view object.now) }
+{
+    object.get(key).and_then(Value::as_array)
+}
+
+pub(crate) fn eori_in(body: &Value) -> Option<Eori>
+    ensures { result ≡ option_and_then eori_read (text_at (field_name field.Eori) (view body.now)) }
+{
+    let text = text_in(body, Field::Eori.name())?;
+    Eori::read(text.as_bytes())
+}
+
+pub(crate) fn reference_in(body: &Value) -> Option<Reference>
+    ensures { result ≡ option_and_then reference_of (number_at (field_name field.Reference) (view body.now)) }
+{
+    let cents = number_in(body, Field::Reference.name())?;
+    Reference::new(cents)
+}
+
+pub(crate) fn cover_in(body: &Value) -> Option<Cover>
+    ensures { result ≡ option_and_then cover_of (number_at (field_name field.Cover) (view body.now)) }
+{
+    let percent = number_in(body, Field::Cover.name())?;
+    Cover::new(percent)
+}
+
+pub(crate) fn code_in(object: &Value) -> Option<AccessCode>
+    ensures { result ≡ option_and_then code_read (text_at (field_name field.Code) (view object.now)) }
+{
+    let text = text_in(object, Field::Code.name())?;
+    AccessCode::read(text.as_bytes())
+}
+
+pub(crate) fn lrn_in(body: &Value) -> Option<Lrn>
+    ensures { result ≡ option_and_then lrn_read (text_at (field_name field.Lrn) (view body.now)) }
+{
+    let text = text_in(body, Field::Lrn.name())?;
+    Lrn::read(text.as_bytes())
+}
+
+pub(crate) fn office_in(body: &Value, field: Field) -> Option<OfficeNo>
+    ensures { result ≡ option_and_then office_read (text_at (field_name field) (view body.now)) }
+{
+    let text = text_in(body, field.name())?;
+    OfficeNo::read(text.as_bytes())
+}

@@ -1,0 +1,127 @@
+-- What each way to end says, from what holds when the stream ends.
+use Rattle.std.proofs.Common.{◌≡◌, ℕ, ◌+◌, ◌-◌, ◌<◌, Bool, true, false, List, [], ◌∷◌, ◌++◌, length, take, arith, refl, sym, ap, subst, ◌∙◌, inl}
+use Rattle.std.specs.Io.KnownBytes.{Appends}
+use Rattle.std.proofs.KnownBytes.{Appends-trans}
+use Rattle.td_base.specs.declared.counted.Counted.{Counted}
+use Rattle.td_base.specs.Counted.{known_bytes}
+use Rattle.td_base.specs.Writing.{IsCutShort, MadeWrites}
+use Rattle.td_base.proofs.Calls.{made_on}
+use Rattle.td_wire.specs.declared.reply.Reply.{Reply}
+use Rattle.td_wire.specs.declared.stream.StreamEnd.TheVariants.{Asked, Served, WriteFault, Failed}
+use Rattle.td_wire.specs.ReplyText.{reply_bytes, is_made}
+use Rattle.td_wire.specs.Stream.{replies_of, silence, Sides, Run}
+use Rattle.td_wire.proofs.Serving.{Words, IsServed, Serving, Handled, replies_sent, no_parting, count_push}
+
+-- the run whose last request is the one that was handled
+abbrev run_of : {R W C H : Type 0} {k : Words R W C H}
+    {old now : Sides R W C H} {unread : List ℕ} {left served : ℕ} {close : Bool} {reply : Reply}
+    → Handled k old now unread left served close reply → List ℕ → Run H
+run_of {now = now} {unread = unread} {left = left} h written =
+    record { given = h.given; exchanges = h.before ++ h.last ∷ []; rest = unread; handler = now.handler; parting = silence; written = written; reads = 100000 - left }
+
+-- the last reply wasn't written whole
+pub cut_reply : {R W C H : Type 0} {k : Words R W C H}
+    {old now : Sides R W C H} {unread : List ℕ} {left served : ℕ} {close : Bool} {reply : Reply}
+    → Handled k old now unread left served close reply → served < 1000
+    → (writer : Counted W) → IsCutShort k.contents now.writer writer (reply_bytes reply) → MadeWrites now.writer writer false
+    → IsServed k old (record now { writer = writer }) WriteFault
+cut_reply {reply = reply} h few writer cut writes =
+    let written = replies_of h.before ++ take cut.taken (reply_bytes reply) in
+    let count = h.count in
+    record {
+      run = run_of h written;
+      consumed = h.read.consumed;
+      reading = h.reading;
+      at_most = let n = count_push h.before h.last in omega arith;
+      chain = h.chain;
+      parting = refl;
+      appended = Appends-trans _ _ _ _ _ h.appended cut.appended;
+      whole = λ other. absurd (other refl);
+      counted = h.read.counted;
+      reads_at_most = omega arith;
+      ends = (
+        cut.failed,
+        record { writes = h.writes + writes.writes; made = made_on _ _ _ _ _ h.made writes.made; some = λ e. let s = writes.some e in omega arith },
+        inl (record {
+          last = h.last;
+          ended = record { before = h.before; are = refl; each = h.each };
+          silent = refl;
+          breaks = record {
+            taken = cut.taken;
+            short = subst (λ r. cut.taken < length (reply_bytes r)) (sym h.reply_is) cut.short;
+            is = ap (λ r. replies_of h.before ++ take cut.taken (reply_bytes r)) (sym h.reply_is);
+          };
+        }),
+      );
+    }
+
+-- the last reply was written whole, and is a fixed one
+pub fixed_reply : {R W C H : Type 0} {k : Words R W C H}
+    {old now : Sides R W C H} {unread : List ℕ} {left served : ℕ} {close : Bool} {reply : Reply}
+    → Handled k old now unread left served close reply → served < 1000
+    → (writer : Counted W) → Appends (known_bytes k.contents now.writer) (known_bytes k.contents writer) (reply_bytes reply)
+    → is_made reply ≡ false → IsServed k old (record now { writer = writer }) Failed
+fixed_reply {k = k} {old = old} {now = now} {reply = reply} h few writer sent fixed =
+    let count = h.count in
+    record {
+      run = run_of h (replies_of (h.before ++ h.last ∷ []));
+      consumed = h.read.consumed;
+      reading = h.reading;
+      at_most = let n = count_push h.before h.last in omega arith;
+      chain = h.chain;
+      parting = refl;
+      appended = replies_sent k.contents old.writer now.writer writer h.before h.last reply h.appended sent h.reply_is;
+      whole = λ _. no_parting (h.before ++ h.last ∷ []);
+      counted = h.read.counted;
+      reads_at_most = omega arith;
+      ends = inl (record { last = h.last; ended = record { before = h.before; are = refl; each = h.each }; silent = refl; fixed = ap is_made h.reply_is ∙ fixed });
+    }
+
+-- the last reply was written whole, and its request asked to close
+pub asked_reply : {R W C H : Type 0} {k : Words R W C H}
+    {old now : Sides R W C H} {unread : List ℕ} {left served : ℕ} {close : Bool} {reply : Reply}
+    → Handled k old now unread left served close reply → served < 1000
+    → (writer : Counted W) → Appends (known_bytes k.contents now.writer) (known_bytes k.contents writer) (reply_bytes reply)
+    → is_made reply ≡ true → close ≡ true → IsServed k old (record now { writer = writer }) Asked
+asked_reply {k = k} {old = old} {now = now} {reply = reply} h few writer sent made asks =
+    let count = h.count in
+    record {
+      run = run_of h (replies_of (h.before ++ h.last ∷ []));
+      consumed = h.read.consumed;
+      reading = h.reading;
+      at_most = let n = count_push h.before h.last in omega arith;
+      chain = h.chain;
+      parting = refl;
+      appended = replies_sent k.contents old.writer now.writer writer h.before h.last reply h.appended sent h.reply_is;
+      whole = λ _. no_parting (h.before ++ h.last ∷ []);
+      counted = h.read.counted;
+      reads_at_most = omega arith;
+      ends = record {
+        last = h.last;
+        ended = record { before = h.before; are = refl; each = h.each };
+        silent = refl;
+        made = ap is_made h.reply_is ∙ made;
+        asks = h.asks ∙ asks;
+      };
+    }
+
+-- all 1,000 requests were answered
+pub served_all : {R W C H : Type 0} {k : Words R W C H}
+    {old now : Sides R W C H} {unread : List ℕ} {left served : ℕ}
+    → Serving k old now unread left served → served ≡ 1000
+    → IsServed k old now Served
+served_all {now = now} {unread = unread} {left = left} s all =
+    let count : length s.exchanges ≡ 1000 = s.count ∙ all in
+    record {
+      run = record { given = s.given; exchanges = s.exchanges; rest = unread; handler = now.handler; parting = silence; written = replies_of s.exchanges; reads = 100000 - left };
+      consumed = s.read.consumed;
+      reading = s.reading;
+      at_most = omega arith;
+      chain = s.chain;
+      parting = refl;
+      appended = s.appended;
+      whole = λ _. no_parting s.exchanges;
+      counted = s.read.counted;
+      reads_at_most = omega arith;
+      ends = (s.each, count, refl);
+    }

@@ -1,0 +1,12 @@
+mod Tokens
+mod Digits
+mod Fields
+mod Heads
+mod Lengths
+mod Refused
+mod Readings
+mod Serving
+mod Ends
+mod Farewells
+mod Unique
+mod Standings

@@ -1,0 +1,215 @@
+-- A stream between two requests, and after a request that was answered.
+use Rattle.std.proofs.Common.{◌≡◌, ℕ, ◌+◌, ℤ, Bool, true, false, List, [], ◌∷◌, ◌++◌, length, All, Option, arith, refl, sym, ap, subst, ◌∙◌, append_assoc, append-nil}
+use Rattle.std.specs.Prelude.{◌||◌, ◌==◌}
+use Rattle.std.specs.List.{flat_map}
+use Rattle.std.specs.Io.KnownBytes.{Appends}
+use Rattle.std.proofs.KnownBytes.{Appends-trans, Appends-nil, Consumes-nil}
+use Rattle.std.proofs.lemmas.List.{map-append, length-append}
+use Rattle.std.proofs.lemmas.Grind.{flat_map-append}
+use Rattle.std.proofs.lemmas.List.Elements.{All-append, All-cons, All-nil}
+use Rattle.td_base.specs.declared.counted.Counted.{Counted}
+use Rattle.td_base.specs.Counted.{calls_of, known_bytes, HasMade}
+use Rattle.td_base.specs.Writing.{MadeWrites}
+use Rattle.td_base.proofs.Calls.{made_none, made_on}
+use Rattle.td_wire.specs.declared.request.Request.{Request}
+use Rattle.td_wire.specs.declared.reply.Reply.{Reply}
+use Rattle.td_wire.specs.declared.stream.StreamEnd.{StreamEnd}
+use Rattle.td_wire.specs.Request as request
+use Rattle.td_wire.specs.ReplyText.{reply_bytes, is_made}
+use Rattle.td_wire.specs.Reading.{ReadsOn, Takes}
+use Rattle.td_wire.specs.Wire.{Wire, IsWire, IsRequestOn, wire_bytes, Splits, asks_close}
+use Rattle.td_wire.specs.Stream.{Exchange, question, Chain, wires_of, replies_of, GoesOn, silence, parting_bytes, Sides, Serves}
+use Rattle.td_wire.proofs.Readings.{ReadsOn-trans}
+
+-- one exchange more at the end of a chain
+Chain-push : {C H : Type 0} (ticks : C → ℤ → C → Type 0) (answers : H → ℤ → request.Asked → Reply → H → Type 0)
+    (n : ℕ) (old mid : C × H) (es : List Exchange) (e : Exchange) (clock : C) (handler : H)
+    → Chain ticks answers n old es mid → ticks mid.0 e.at clock → answers mid.1 e.at (question (n + length es) e.wire) e.reply handler
+    → Chain ticks answers n old (es ++ e ∷ []) (clock, handler)
+Chain-push ticks answers n old mid [] e clock handler chain tick answer = (
+  clock,
+  handler,
+  subst (λ s. ticks s.0 e.at clock) chain tick,
+  subst (λ s. answers s.1 e.at (question n e.wire) e.reply handler) chain
+      (subst (λ (k : ℕ). answers mid.1 e.at (question k e.wire) e.reply handler) (let none : n + 0 ≡ n = omega arith in none) answer),
+  refl,
+)
+Chain-push ticks answers n old mid (x ∷ es) e clock handler chain tick answer =
+    let place : n + length (x ∷ es) ≡ (n + 1) + length es = omega arith in (
+      chain.0,
+      chain.1,
+      chain.2,
+      chain.3,
+      Chain-push ticks answers (n + 1) (chain.0, chain.1) mid es e clock handler chain.4 tick
+          (subst (λ (k : ℕ). answers mid.1 e.at (question k e.wire) e.reply handler) place answer),
+    )
+
+-- the bytes of one request more
+Splits-push : (given more unread rest : List ℕ) (es : List Exchange) (e : Exchange) → Splits given (wires_of es) unread
+    → unread ++ more ≡ wire_bytes e.wire ++ rest → IsWire e.wire → Splits (given ++ more) (wires_of (es ++ e ∷ [])) rest
+Splits-push given more unread rest es e splits next wire =
+    let grown : wires_of (es ++ e ∷ []) ≡ wires_of es ++ e.wire ∷ [] = map-append (λ (x : Exchange). x.wire) es (e ∷ []) in
+    let bytes : flat_map wire_bytes (wires_of es ++ e.wire ∷ []) ≡ flat_map wire_bytes (wires_of es) ++ wire_bytes e.wire =
+    flat_map-append wire_bytes (wires_of es) (e.wire ∷ []) ∙ ap (λ (b : List ℕ). flat_map wire_bytes (wires_of es) ++ b) (append-nil (wire_bytes e.wire)) in
+    rw grown (record {
+      whole =
+          ap (λ (b : List ℕ). b ++ more) splits.whole
+          ∙ (append_assoc (flat_map wire_bytes (wires_of es)) unread more
+          ∙ (ap (λ (b : List ℕ). flat_map wire_bytes (wires_of es) ++ b) next
+          ∙ (sym (append_assoc (flat_map wire_bytes (wires_of es)) (wire_bytes e.wire) rest) ∙ ap (λ (b : List ℕ). b ++ rest) (sym bytes))));
+      each = All-append IsWire (wires_of es) (e.wire ∷ []) splits.each (All-cons IsWire e.wire [] wire (All-nil IsWire));
+    })
+
+-- the bytes that were read on are left
+pub Splits-more : (given more unread : List ℕ) (wires : List Wire) → Splits given wires unread → Splits (given ++ more) wires (unread ++ more)
+Splits-more given more unread wires splits =
+    record { whole = ap (λ (b : List ℕ). b ++ more) splits.whole ∙ append_assoc (flat_map wire_bytes wires) unread more; each = splits.each }
+
+-- the bytes of one reply more
+replies_push : (es : List Exchange) (e : Exchange) → replies_of (es ++ e ∷ []) ≡ replies_of es ++ reply_bytes e.reply
+replies_push es e =
+    flat_map-append (λ (x : Exchange). reply_bytes x.reply) es (e ∷ []) ∙ ap (λ (b : List ℕ). replies_of es ++ b) (append-nil (reply_bytes e.reply))
+
+-- what is known of the bytes of a reader and a writer, and what a clock and a handler may do
+pub record Words (R W C H : Type 0) : Type 1 where
+  pub remaining : R → Option (List ℕ)
+  pub contents : W → Option (List ℕ)
+  pub ticks : C → ℤ → C → Type 0
+  pub answers : H → ℤ → request.Asked → Reply → H → Type 0
+  pub heads : H → List ℕ → Reply → H → Type 0
+
+-- the sides, one after the other
+abbrev pub sides : {R W C H : Type 0} → Counted R → Counted W → C → H → Sides R W C H
+sides reader writer clock handler = record { reader = reader; writer = writer; clock = clock; handler = handler }
+
+-- the stream was served, in these words
+abbrev pub IsServed : {R W C H : Type 0} → Words R W C H → Sides R W C H → Sides R W C H → StreamEnd → Type 0
+IsServed k old new end = Serves k.remaining k.contents k.ticks k.answers k.heads old new end
+
+-- what holds between two requests
+pub record Serving {R W C H : Type 0} (k : Words R W C H)
+    (old now : Sides R W C H) (unread : List ℕ) (left served : ℕ) : Type 0 where
+  pub given : List ℕ
+  pub exchanges : List Exchange
+  pub read : ReadsOn k.remaining old.reader now.reader given 100000 left
+  pub reading : Splits given (wires_of exchanges) unread
+  pub chain : Chain k.ticks k.answers 0 (old.clock, old.handler) exchanges (now.clock, now.handler)
+  pub appended : Appends (known_bytes k.contents old.writer) (known_bytes k.contents now.writer) (replies_of exchanges)
+  pub writes : ℕ
+  pub made : HasMade writes (calls_of old.writer) (calls_of now.writer)
+  pub each : All GoesOn exchanges
+  pub count : length exchanges ≡ served
+
+-- at the beginning
+pub serving_first : {R W C H : Type 0} (k : Words R W C H) (old : Sides R W C H) (unread : List ℕ)
+    → unread ≡ [] → Serving k old old unread 100000 0
+serving_first k old unread none =
+    record {
+      given = [];
+      exchanges = [];
+      read = record { consumed = Consumes-nil _; spent = omega arith; counted = made_none _ };
+      reading = record { whole = sym none; each = All-nil IsWire };
+      chain = refl;
+      appended = Appends-nil _;
+      writes = 0;
+      made = made_none _;
+      each = All-nil GoesOn;
+      count = refl;
+    }
+
+-- what holds once a request came whole and was handled, before anything of its reply is written
+pub record Handled {R W C H : Type 0} (k : Words R W C H)
+    (old now : Sides R W C H) (unread : List ℕ) (left served : ℕ) (close : Bool) (reply : Reply) : Type 0 where
+  pub given : List ℕ
+  pub before : List Exchange
+  pub last : Exchange
+  pub read : ReadsOn k.remaining old.reader now.reader given 100000 left
+  pub reading : Splits given (wires_of (before ++ last ∷ [])) unread
+  pub chain : Chain k.ticks k.answers 0 (old.clock, old.handler) (before ++ last ∷ []) (now.clock, now.handler)
+  pub appended : Appends (known_bytes k.contents old.writer) (known_bytes k.contents now.writer) (replies_of before)
+  pub writes : ℕ
+  pub made : HasMade writes (calls_of old.writer) (calls_of now.writer)
+  pub each : All GoesOn before
+  pub count : length before ≡ served
+  pub reply_is : last.reply ≡ reply
+  pub asks : asks_close last.wire.head ≡ close
+
+-- what is asked by the request that was taken, and by its wire
+asked_is : (served : ℕ) (w : Wire) (r : Request) → IsRequestOn w r
+    → record (request.asked r) { close = r.close || (served + 1 == 1000) } ≡ question served w
+asked_is served w r is =
+    λ i. record { method = is.method i; target = is.target i; body = is.body i; close = is.close i || (served + 1 == 1000) }
+
+-- a request is read, the clock ticks, and the handler replies
+pub handled : {R W C H : Type 0} {k : Words R W C H}
+    {old now : Sides R W C H} {unread : List ℕ} {left served : ℕ} → Serving k old now unread left served
+    → (reader : Counted R) (more rest : List ℕ) (fewer : ℕ) (r : Request) → ReadsOn k.remaining now.reader reader more left fewer
+    → Takes (unread ++ more) rest r
+    → (at : ℤ) (clock : C) → k.ticks now.clock at clock
+    → (reply : Reply) (handler : H) → k.answers now.handler at (record (request.asked r) { close = r.close || (served + 1 == 1000) }) reply handler
+    → Handled k old (record { reader = reader; writer = now.writer; clock = clock; handler = handler }) rest fewer served r.close reply
+handled {k = k} {old = old} {now = now} {unread = unread} {served = served} s reader more rest fewer r reads takes at clock tick reply handler answer =
+    let last : Exchange = record { wire = takes.wire; at = at; reply = reply } in
+    let asked = asked_is served takes.wire r takes.request in
+    let count = s.count in
+    let place : 0 + length s.exchanges ≡ served = omega arith in
+    let question_is : k.answers now.handler at (question (0 + length s.exchanges) takes.wire) reply handler =
+    rw place (subst (λ (a : request.Asked). k.answers now.handler at a reply handler) asked answer) in
+    record {
+      given = s.given ++ more;
+      before = s.exchanges;
+      last = last;
+      read = ReadsOn-trans _ _ _ _ _ _ _ _ _ s.read reads;
+      reading = Splits-push s.given more unread rest s.exchanges last s.reading takes.whole takes.is_wire;
+      chain = Chain-push k.ticks k.answers 0 (old.clock, old.handler) (now.clock, now.handler) s.exchanges last clock handler s.chain tick question_is;
+      appended = s.appended;
+      writes = s.writes;
+      made = s.made;
+      each = s.each;
+      count = s.count;
+      reply_is = refl;
+      asks = sym takes.request.close;
+    }
+
+-- the stream goes on after each of the requests, and after one more
+pub each_push : (es : List Exchange) (e : Exchange) → All GoesOn es → GoesOn e → All GoesOn (es ++ e ∷ [])
+each_push es e each one = All-append GoesOn es (e ∷ []) each (All-cons GoesOn e [] one (All-nil GoesOn))
+
+-- the number of the requests with one more
+pub count_push : (es : List Exchange) (e : Exchange) → length (es ++ e ∷ []) ≡ length es + 1
+count_push es e = length-append es (e ∷ [])
+
+-- a reply after some replies
+pub replies_sent : {W : Type 0} (contents : W → Option (List ℕ)) (old now new : Counted W) (es : List Exchange) (e : Exchange) (reply : Reply)
+    → Appends (known_bytes contents old) (known_bytes contents now) (replies_of es)
+    → Appends (known_bytes contents now) (known_bytes contents new) (reply_bytes reply) → e.reply ≡ reply
+    → Appends (known_bytes contents old) (known_bytes contents new) (replies_of (es ++ e ∷ []))
+replies_sent contents old now new es e reply before sent is =
+    let text : replies_of (es ++ e ∷ []) ≡ replies_of es ++ reply_bytes reply = replies_push es e ∙ ap (λ r. replies_of es ++ reply_bytes r) is in
+    rw text (Appends-trans _ _ _ _ _ before sent)
+
+-- where nothing is written after the replies
+pub no_parting : (es : List Exchange) → replies_of es ≡ replies_of es ++ parting_bytes silence
+no_parting es = sym (append-nil (replies_of es))
+
+-- the reply was written whole, and the handler goes on
+pub goes_on : {R W C H : Type 0} {k : Words R W C H}
+    {old now : Sides R W C H} {unread : List ℕ} {left served : ℕ} {close : Bool} {reply : Reply}
+    → Handled k old now unread left served close reply
+    → (writer : Counted W) → Appends (known_bytes k.contents now.writer) (known_bytes k.contents writer) (reply_bytes reply) → MadeWrites now.writer writer true
+    → is_made reply ≡ true → close ≡ false
+    → Serving k old (record now { writer = writer }) unread left (served + 1)
+goes_on {k = k} {old = old} {now = now} {reply = reply} h writer sent writes made stays =
+    let count = h.count in
+    record {
+      given = h.given;
+      exchanges = h.before ++ h.last ∷ [];
+      read = h.read;
+      reading = h.reading;
+      chain = h.chain;
+      appended = replies_sent k.contents old.writer now.writer writer h.before h.last reply h.appended sent h.reply_is;
+      writes = h.writes + writes.writes;
+      made = made_on _ _ _ _ _ h.made writes.made;
+      each = each_push h.before h.last h.each (record { made = ap is_made h.reply_is ∙ made; asks = h.asks ∙ stays });
+      count = count_push h.before h.last ∙ ap (λ (n : ℕ). n + 1) count;
+    }

@@ -1,0 +1,19 @@
+use Rattle.td_wire.specs.Input.{unread}
+use Rattle.td_wire.proofs.Serving.{Serving, Words, sides}
+use Rattle.td_wire.proofs.stream.serve_requests.Given as goal
+use Rattle.td_wire.proofs.stream.serve_requests.Given.{Over}
+
+-- the words of the function's bounds
+abbrev pub words_of : (g : Over) → Words g.row.R.Denot g.row.W.Denot g.row.C.Denot g.row.H.Denot
+words_of g = record {
+  remaining = g.R.Read.remaining;
+  contents = g.W.Write.contents;
+  ticks = g.C.Clock.ticks;
+  answers = g.H.Handler.answers;
+  heads = g.H.Handler.answers_head;
+}
+
+abbrev pub invariant-loop-served : goal.invariant-loop-served
+invariant-loop-served g l =
+    Serving (words_of g) (sides l.initial.reader l.initial.writer l.initial.clock l.initial.handler)
+    (sides l.reader l.writer l.clock l.handler) (unread l.input) l.reads l.served

@@ -1,0 +1,30 @@
+-- What is written where no further request is taken.
+use Rattle.std.specs.Prelude.{◌≡◌, ◌⊎◌, ℕ, false, if◌then◌else◌, List, Option}
+use Rattle.std.specs.Io.KnownBytes.{Appends}
+use Rattle.td_base.specs.declared.counted.Counted.{Counted}
+use Rattle.td_base.specs.Counted.{known_bytes}
+use Rattle.td_base.specs.Writing.{IsCutShort, MadeWrites}
+use Rattle.td_wire.specs.declared.reading.Stop.{Stop}
+use Rattle.td_wire.specs.declared.reading.Stop.TheVariants as stop
+use Rattle.td_wire.specs.declared.reply.Reply.{Reply}
+use Rattle.td_wire.specs.declared.stream.StreamEnd.{StreamEnd}
+use Rattle.td_wire.specs.declared.stream.StreamEnd.TheVariants.{Closed, Refused, Cut, ReadsSpent, ReadFault, WriteFault, Failed}
+use Rattle.td_wire.specs.ReplyText.{framing_reply, no_memory_reply, reply_bytes, is_made}
+
+-- the message was written and the stream ended so, or it was cut short
+abbrev pub SendsLast : {W : Type 0} → (W → Option (List ℕ)) → Counted W → Counted W → List ℕ → StreamEnd → StreamEnd → Type 0
+SendsLast contents old new message good end =
+    ((end ≡ good) × Appends (known_bytes contents old) (known_bytes contents new) message)
+    ⊎ ((end ≡ WriteFault) × IsCutShort contents old new message × MadeWrites old new false)
+
+-- what each stop of the reading leads to
+abbrev pub Farewell : {W H : Type 0} → (W → Option (List ℕ)) → (H → List ℕ → Reply → H → Type 0) → Counted W → Counted W → H → H → Stop → StreamEnd → Type 0
+Farewell contents heads old new before after stop.Closed end = (end ≡ Closed) × (new ≡ old) × (after ≡ before)
+Farewell contents heads old new before after stop.Cut end = (end ≡ Cut) × (new ≡ old) × (after ≡ before)
+Farewell contents heads old new before after stop.ReadsSpent end = (end ≡ ReadsSpent) × (new ≡ old) × (after ≡ before)
+Farewell contents heads old new before after stop.ReadFault end = (end ≡ ReadFault) × (new ≡ old) × (after ≡ before)
+Farewell contents heads old new before after stop.NoMemory end = SendsLast contents old new no_memory_reply Failed end × (after ≡ before)
+Farewell contents heads old new before after (stop.Refused e) end = SendsLast contents old new (framing_reply e) Refused end × (after ≡ before)
+Farewell contents heads old new before after (stop.Head target) end =
+    (reply : Reply) × heads before target.items reply after
+    × SendsLast contents old new (reply_bytes reply) (if is_made reply then Refused else Failed) end

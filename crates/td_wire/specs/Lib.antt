@@ -1,0 +1,9 @@
+pub mod Request
+pub mod Framing
+pub mod Wire
+pub mod ReplyText
+pub mod Input
+pub mod Reading
+pub mod Farewell
+pub mod Stream
+pub mod OneReading

@@ -1,0 +1,186 @@
+-- What a stream of requests is, what is written for it, and what each way to end says.
+use Rattle.std.specs.Prelude.{◌≡◌, ◌≢◌, ℕ, ◌+◌, ◌<◌, ◌≤◌, ◌⊎◌, ℤ, true, false, ◌||◌, ◌==◌, List, [], ◌∷◌, ◌++◌, length, take, map, All, Option, ⊤}
+use Rattle.std.specs.List.{flat_map}
+use Rattle.std.specs.Io.KnownBytes.{Consumes, Appends, IsAtEnd}
+use Rattle.td_base.specs.declared.counted.Counted.{Counted}
+use Rattle.td_base.specs.Counted.{calls_of, has_failed, known_bytes, HasMade}
+use Rattle.td_base.specs.Writing.{MadeWrites}
+use Rattle.td_wire.specs.declared.framing.FramingError.{FramingError}
+use Rattle.td_wire.specs.declared.reply.Reply.{Reply}
+use Rattle.td_wire.specs.declared.stream.StreamEnd.{StreamEnd}
+use Rattle.td_wire.specs.declared.stream.StreamEnd.TheVariants.{Closed, Asked, Served, Refused, Cut, ReadsSpent, ReadFault, WriteFault, Failed}
+use Rattle.td_wire.specs.Request as request
+use Rattle.td_wire.specs.ReplyText.{framing_reply, no_memory_reply, reply_bytes, is_made}
+use Rattle.td_wire.specs.Wire.{Wire, Splits, asks_close, IsOpen, IsRefusedFor, IsHeadRequest, BeginsServed}
+
+-- a request on the wire, the moment at which it was handled, and the reply
+pub record Exchange : Type 0 where
+  pub wire : Wire
+  pub at : ℤ
+  pub reply : Reply
+
+-- what the handler is asked by a request that comes after so many: at the thousandth, to close
+abbrev pub question : ℕ → Wire → request.Asked
+question before w =
+    record { method = w.head.method; target = w.head.target; body = w.body; close = asks_close w.head || (before + 1 == 1000) }
+
+-- One tick of the clock and one reply of the handler for each request, in order. Each leads from the clock and the
+-- handler that the one before left.
+abbrev pub Chain : {C H : Type 0} → (C → ℤ → C → Type 0) → (H → ℤ → request.Asked → Reply → H → Type 0)
+    → ℕ → C × H → List Exchange → C × H → Type 0
+Chain ticks answers before old [] new = new ≡ old
+Chain {C} {H} ticks answers before old (e ∷ es) new =
+    (clock : C) × (handler : H) × ticks old.0 e.at clock × answers old.1 e.at (question before e.wire) e.reply handler
+    × Chain ticks answers (before + 1) (clock, handler) es new
+
+-- the requests, and the bytes of the replies
+abbrev pub wires_of : List Exchange → List Wire
+wires_of es = map (λ e. e.wire) es
+
+abbrev pub replies_of : List Exchange → List ℕ
+replies_of es = flat_map (λ e. reply_bytes e.reply) es
+
+-- the stream goes on after the reply, unless the request is the thousandth
+pub record GoesOn (e : Exchange) : Type 0 where
+  pub made : is_made e.reply ≡ true
+  pub asks : asks_close e.wire.head ≡ false
+
+-- what is written after the replies: nothing, or the reply to what is no whole request
+pub data Parting : Type 0 where
+  silence : Parting
+  refusal : FramingError → Parting
+  to_head : List ℕ → Reply → Parting
+  no_memory : Parting
+
+-- its bytes
+abbrev pub parting_bytes : Parting → List ℕ
+parting_bytes silence = []
+parting_bytes (refusal e) = framing_reply e
+parting_bytes (to_head target reply) = reply_bytes reply
+parting_bytes no_memory = no_memory_reply
+
+-- it answers what the rest begins with, and leads from one state of the handler to another
+abbrev pub IsParting : {H : Type 0} → (H → List ℕ → Reply → H → Type 0) → H → H → List ℕ → Parting → Type 0
+IsParting heads old new rest silence = new ≡ old
+IsParting heads old new rest (refusal e) = (new ≡ old) × IsRefusedFor e rest
+IsParting heads old new rest (to_head target reply) = heads old target reply new × IsHeadRequest target rest
+IsParting heads old new rest no_memory = (new ≡ old) × ((rest ≡ []) ⊎ BeginsServed rest)
+
+-- the sides of a stream: where it is read, where replies are written, who tells the time, who answers
+pub record Sides (R W C H : Type 0) : Type 0 where
+  pub reader : Counted R
+  pub writer : Counted W
+  pub clock : C
+  pub handler : H
+
+-- What happened: the bytes that were consumed, the requests that were answered, the bytes left of those consumed, the
+-- handler after the replies, what was written after them, all that was written, and the number of reads.
+pub record Run (H : Type 0) : Type 0 where
+  pub given : List ℕ
+  pub exchanges : List Exchange
+  pub rest : List ℕ
+  pub handler : H
+  pub parting : Parting
+  pub written : List ℕ
+  pub reads : ℕ
+
+-- fewer than 1,000 requests were answered, and the stream went on after each
+pub record WentOn (es : List Exchange) : Type 0 where
+  pub each : All GoesOn es
+  pub few : length es < 1000
+
+-- the stream went on after each request but the last
+pub record EndedBy (es : List Exchange) (last : Exchange) : Type 0 where
+  pub before : List Exchange
+  pub are : es ≡ before ++ last ∷ []
+  pub each : All GoesOn before
+
+-- the input ended, and nothing was written for what was left of it
+pub record MetEnd {H : Type 0} (left : Option (List ℕ)) (run : Run H) : Type 0 where
+  pub on : WentOn run.exchanges
+  pub silent : run.parting ≡ silence
+  pub end : IsAtEnd left
+  pub read : 0 < run.reads
+
+-- what was left was no whole request yet, and nothing was written for it
+pub record LeftOpen {H : Type 0} (run : Run H) : Type 0 where
+  pub on : WentOn run.exchanges
+  pub silent : run.parting ≡ silence
+  pub still : IsOpen run.rest
+
+-- the last request asked to close, and had a reply of the handler
+pub record AskedAtReply {H : Type 0} (run : Run H) : Type 0 where
+  pub last : Exchange
+  pub ended : EndedBy run.exchanges last
+  pub silent : run.parting ≡ silence
+  pub made : is_made last.reply ≡ true
+  pub asks : asks_close last.wire.head ≡ true
+
+-- the last reply is a fixed one, of a fault
+pub record FailedAtReply {H : Type 0} (run : Run H) : Type 0 where
+  pub last : Exchange
+  pub ended : EndedBy run.exchanges last
+  pub silent : run.parting ≡ silence
+  pub fixed : is_made last.reply ≡ false
+
+-- what was written last refuses what was left
+abbrev pub Refuses : Parting → Type 0
+Refuses silence = ⊥
+Refuses (refusal e) = ⊤
+Refuses (to_head target reply) = is_made reply ≡ true
+Refuses no_memory = ⊥
+
+-- what was written last is a fixed reply of a fault
+abbrev pub Fails : Parting → Type 0
+Fails silence = ⊥
+Fails (refusal e) = ⊥
+Fails (to_head target reply) = is_made reply ≡ false
+Fails no_memory = ⊤
+
+-- the text is what was written before the message, and the first bytes of it, but not all
+pub record BreaksOff (before message written : List ℕ) : Type 0 where
+  pub taken : ℕ
+  pub short : taken < length message
+  pub is : written ≡ before ++ take taken message
+
+-- the last reply wasn't written whole, and those before it were
+pub record CutAtReply {H : Type 0} (run : Run H) : Type 0 where
+  pub last : Exchange
+  pub ended : EndedBy run.exchanges last
+  pub silent : run.parting ≡ silence
+  pub breaks : BreaksOff (replies_of ended.before) (reply_bytes last.reply) run.written
+
+-- what is written after the replies wasn't written whole, and the replies were
+pub record CutAtParting {H : Type 0} (run : Run H) : Type 0 where
+  pub on : WentOn run.exchanges
+  pub breaks : BreaksOff (replies_of run.exchanges) (parting_bytes run.parting) run.written
+
+-- what each way to end says
+abbrev pub EndsAs : {R W C H : Type 0} → (R → Option (List ℕ)) → Sides R W C H → Sides R W C H → Run H → StreamEnd → Type 0
+EndsAs remaining old new run Closed = MetEnd (known_bytes remaining new.reader) run × (run.rest ≡ [])
+EndsAs remaining old new run Cut = MetEnd (known_bytes remaining new.reader) run × LeftOpen run × (0 < length run.rest)
+EndsAs remaining old new run ReadsSpent = LeftOpen run × (run.reads ≡ 100000)
+EndsAs remaining old new run ReadFault = LeftOpen run × (has_failed new.reader ≡ true) × (0 < run.reads)
+EndsAs remaining old new run Asked = AskedAtReply run
+EndsAs remaining old new run Served = All GoesOn run.exchanges × (length run.exchanges ≡ 1000) × (run.parting ≡ silence)
+EndsAs remaining old new run Refused = WentOn run.exchanges × Refuses run.parting
+EndsAs remaining old new run Failed = FailedAtReply run ⊎ (WentOn run.exchanges × Fails run.parting)
+EndsAs remaining old new run WriteFault =
+    (has_failed new.writer ≡ true) × MadeWrites old.writer new.writer false × (CutAtReply run ⊎ CutAtParting run)
+
+-- The stream was served: the bytes consumed are whole requests and a rest, each request had one tick of the clock and
+-- one reply of the handler, and the replies were written in order and nothing else but what parts with the rest.
+pub record Serves {R W C H : Type 0} (remaining : R → Option (List ℕ)) (contents : W → Option (List ℕ))
+    (ticks : C → ℤ → C → Type 0) (answers : H → ℤ → request.Asked → Reply → H → Type 0) (heads : H → List ℕ → Reply → H → Type 0)
+    (old new : Sides R W C H) (end : StreamEnd) : Type 0 where
+  pub run : Run H
+  pub consumed : Consumes (known_bytes remaining old.reader) (known_bytes remaining new.reader) run.given
+  pub reading : Splits run.given (wires_of run.exchanges) run.rest
+  pub at_most : length run.exchanges ≤ 1000
+  pub chain : Chain ticks answers 0 (old.clock, old.handler) run.exchanges (new.clock, run.handler)
+  pub parting : IsParting heads run.handler new.handler run.rest run.parting
+  pub appended : Appends (known_bytes contents old.writer) (known_bytes contents new.writer) run.written
+  pub whole : end ≢ WriteFault → run.written ≡ replies_of run.exchanges ++ parting_bytes run.parting
+  pub counted : HasMade run.reads (calls_of old.reader) (calls_of new.reader)
+  pub reads_at_most : run.reads ≤ 100000
+  pub ends : EndsAs remaining old new run end

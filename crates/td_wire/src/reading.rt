@@ -1,0 +1,91 @@
+//! The next request of a stream.
+ghost use Rattle.std.specs.Prelude.{◌≡◌, ◌<◌, ◌≤◌, ◌-◌, ◌++◌, ℕ, List, MatchResult};
+ghost use Rattle.td_wire.specs.Input.{unread};
+ghost use Rattle.td_wire.specs.Wire.{IsOpenBelow};
+ghost use Rattle.td_wire.specs.Reading.{ReadsOn, StopsAs, Takes};
+
+use crate::framing::FramingError;
+use crate::input::{Input, Piece};
+use crate::next::{Next, next_request};
+use crate::request::Request;
+use std::alloc::Global;
+use std::io::Read;
+use td_base::Counted;
+
+/// Why no further request was taken from a stream.
+#[derive(Drop)]
+pub enum Stop {
+    /// The input ended before a request.
+    Closed,
+    /// The input ended inside a request.
+    Cut,
+    /// A read was needed, and none was left.
+    ReadsSpent,
+    /// A read failed.
+    ReadFault,
+    /// Memory was missing: nothing of a request was read yet, or one that is served stands in front.
+    NoMemory,
+    Refused(FramingError),
+    /// The head of a HEAD request for this target.
+    Head(Vec<u8>),
+}
+
+/// Reads until so many bytes are there, of which at most `reads` reads are left.
+fn read_up_to<R: Read>(
+    input: &mut Input,
+    reader: &mut Counted<R>,
+    reads: &mut u32,
+    wanted: usize,
+) -> Result<(), Stop>
+    requires { IsOpenBelow wanted (unread input.old) }
+    ensures { (given : List ℕ)
+        × ReadsOn R.remaining reader.old reader.new given reads.old reads.new
+        × MatchResult result
+        (λ _. (unread input.new ≡ unread input.old ++ given) × (reads.new < reads.old))
+        (StopsAs R.remaining reader.new reads.old reads.new (unread input.old ++ given)) }
+{
+    while input.len() < wanted {
+        if *reads == 0 {
+            return Err(Stop::ReadsSpent);
+        }
+        let Ok(piece) = input.fill(reader) else {
+            return Err(Stop::NoMemory);
+        };
+        *reads -= 1;
+        match piece {
+            Piece::Bytes => {}
+            Piece::Fault => return Err(Stop::ReadFault),
+            Piece::End if input.len() == 0 => return Err(Stop::Closed),
+            Piece::End => return Err(Stop::Cut),
+        }
+    }
+    Ok(())
+}
+
+/// Reads until a whole request stands at the front, and takes it.
+pub fn read_request<R: Read>(
+    alloc: Global,
+    input: &mut Input,
+    reader: &mut Counted<R>,
+    reads: &mut u32,
+) -> Result<Request, Stop>
+    ensures { (given : List ℕ)
+        × ReadsOn R.remaining reader.old reader.new given reads.old reads.new
+        × MatchResult result
+        (Takes (unread input.old ++ given) (unread input.new))
+        (StopsAs R.remaining reader.new reads.old reads.new (unread input.old ++ given)) }
+{
+    loop {
+        let wanted = match next_request(alloc, input.bytes()) {
+            Ok(Next::More(wanted)) => wanted,
+            Ok(Next::Whole(request, len)) => {
+                input.take(len);
+                return Ok(request);
+            }
+            Ok(Next::Head(target)) => return Err(Stop::Head(target)),
+            Ok(Next::Refused(e)) => return Err(Stop::Refused(e)),
+            Err(_) => return Err(Stop::NoMemory),
+        };
+        read_up_to(input, reader, reads, wanted)?;
+    }
+}

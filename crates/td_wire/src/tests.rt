@@ -1,0 +1,2 @@
+//! The public calls, with ample memory.
+mod streams;
