@@ -19,21 +19,50 @@ pub(super) fn request(
     })
 }
 
-/// The command of a request, in words.
-pub(super) fn asked(alloc: Global, request: &Request) -> Result<String, Fail> {
-    words_of(alloc, &read_command(alloc, request)?)
+/// Whether a request is read as this command, in words.
+pub(super) fn is_asked(alloc: Global, request: &Request, want: &str) -> Result<bool, Fail> {
+    let command = read_command(alloc, request)?;
+    is_told(alloc, &command, want)
 }
 
-/// The reply to a request that can't be read.
-pub(super) fn refused(alloc: Global, request: &Request) -> Result<Vec<u8>, Fail> {
+/// Whether a command is this one, in words.
+pub(super) fn is_told(alloc: Global, command: &Command, want: &str) -> Result<bool, Fail> {
+    let words = words_of(alloc, command)?;
+    Ok(words.as_str() == want)
+}
+
+/// Whether a request can't be read, and this is the reply.
+pub(super) fn is_refused(alloc: Global, request: &Request, want: &str) -> Result<bool, Fail> {
     match read_command(alloc, request) {
-        Ok(_) => Err("the request was read".into()),
-        Err(fault) => Ok(fault_bytes(alloc, &fault, false)?),
+        Ok(_) => Ok(false),
+        Err(fault) => Ok(fault_bytes(alloc, &fault, false)?.as_slice() == want.as_bytes()),
     }
 }
 
+/// Whether a POST with this body is read as this command, in words.
+pub(super) fn is_posted_as(
+    alloc: Global,
+    target: &[u8],
+    body: &str,
+    want: &str,
+) -> Result<bool, Fail> {
+    let request = request(alloc, "POST", target, body.as_bytes())?;
+    is_asked(alloc, &request, want)
+}
+
+/// Whether a POST with this body can't be read, and this is the reply.
+pub(super) fn is_refused_at(
+    alloc: Global,
+    target: &[u8],
+    body: &str,
+    want: &str,
+) -> Result<bool, Fail> {
+    let request = request(alloc, "POST", target, body.as_bytes())?;
+    is_refused(alloc, &request, want)
+}
+
 /// A command in words: its fields in order.
-pub(super) fn words_of(alloc: Global, command: &Command) -> Result<String, Fail> {
+fn words_of(alloc: Global, command: &Command) -> Result<String, Fail> {
     Ok(match command {
         Command::Register { holder, eori } => format!(in alloc; "register {holder} {eori}")?,
         Command::OpenGuarantee {

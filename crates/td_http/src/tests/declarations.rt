@@ -1,5 +1,5 @@
 //! Declarations: bodies, and the command or the error that each of them is read as.
-use super::asked::{asked, refused, request};
+use super::asked::{is_posted_as, is_refused_at};
 use std::alloc::{AllocError, Global};
 use std::test::Fail;
 
@@ -215,39 +215,30 @@ fn with_lines(alloc: Global, lines: &str) -> Result<String, AllocError> {
 
 #[test]
 fn declarations_are_read(rt: HostRuntime) -> Result<(), Fail> {
-    let alloc = rt.alloc();
     for (body, want) in &READ {
-        let request = request(alloc, "POST", TARGET, body.as_bytes())?;
-        assert_eq!(rt; asked(alloc, &request)?.as_str(), *want, "at {body}");
+        assert!(rt; is_posted_as(rt.alloc(), TARGET, body, want)?);
     }
     Ok(())
 }
 
 #[test]
 fn declarations_are_refused(rt: HostRuntime) -> Result<(), Fail> {
-    let alloc = rt.alloc();
     for (body, want) in &REFUSED {
-        let request = request(alloc, "POST", TARGET, body.as_bytes())?;
-        assert_eq!(rt;
-            refused(alloc, &request)?.as_slice(),
-            want.as_bytes(),
-            "at {body}"
-        );
+        assert!(rt; is_refused_at(rt.alloc(), TARGET, body, want)?);
     }
     Ok(())
 }
 
+// Whether a declaration with these lines is refused for them.
+fn are_refused(alloc: Global, lines: &str) -> Result<bool, Fail> {
+    let body = with_lines(alloc, lines)?;
+    is_refused_at(alloc, TARGET, &body, LINES)
+}
+
 #[test]
 fn wrong_lines_are_refused(rt: HostRuntime) -> Result<(), Fail> {
-    let alloc = rt.alloc();
     for lines in &BAD_LINES {
-        let body = with_lines(alloc, lines)?;
-        let request = request(alloc, "POST", TARGET, body.as_bytes())?;
-        assert_eq!(rt;
-            refused(alloc, &request)?.as_slice(),
-            LINES.as_bytes(),
-            "at {lines}"
-        );
+        assert!(rt; are_refused(rt.alloc(), lines)?);
     }
     Ok(())
 }

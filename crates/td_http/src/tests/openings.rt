@@ -1,5 +1,5 @@
 //! Openings of guarantees: bodies, and the command or the error that each of them is read as.
-use super::asked::{asked, refused, request};
+use super::asked::{is_posted_as, is_refused_at};
 use std::test::Fail;
 
 const TARGET: &[u8] = b"/office/holders/000001/guarantees";
@@ -219,24 +219,16 @@ const REFUSED: [(&str, &str); 52] = [
 
 #[test]
 fn openings_are_read(rt: HostRuntime) -> Result<(), Fail> {
-    let alloc = rt.alloc();
     for (body, want) in &READ {
-        let request = request(alloc, "POST", TARGET, body.as_bytes())?;
-        assert_eq!(rt; asked(alloc, &request)?.as_str(), *want, "at {body}");
+        assert!(rt; is_posted_as(rt.alloc(), TARGET, body, want)?);
     }
     Ok(())
 }
 
 #[test]
 fn openings_are_refused(rt: HostRuntime) -> Result<(), Fail> {
-    let alloc = rt.alloc();
     for (body, want) in &REFUSED {
-        let request = request(alloc, "POST", TARGET, body.as_bytes())?;
-        assert_eq!(rt;
-            refused(alloc, &request)?.as_slice(),
-            want.as_bytes(),
-            "at {body}"
-        );
+        assert!(rt; is_refused_at(rt.alloc(), TARGET, body, want)?);
     }
     Ok(())
 }

@@ -1,7 +1,8 @@
 //! Requests, and the command or the fault that each of them is read as.
-use super::asked::{asked, refused, request, words_of};
-use crate::{Allowed, Field, Route, WebFault, read_command, route};
+use super::asked::{is_asked, is_refused, is_told, request};
+use crate::{Allowed, Field, Request, Route, WebFault, read_command, route};
 use http::Method;
+use std::alloc::Global;
 use std::process::Abort;
 use std::test::Fail;
 use td_base::{Grn, HolderNo, Mrn};
@@ -61,58 +62,59 @@ const READ: [(&str, &str, &str, &str); 10] = [
     ),
 ];
 
+// Whether a request is read as this command, in words, also by a router that is kept.
+fn is_read_as(
+    alloc: Global,
+    routes: &mut Routes,
+    request: &Request,
+    want: &str,
+) -> Result<bool, Fail> {
+    let command = read_command_by(alloc, routes, request)?;
+    Ok(is_told(alloc, &command, want)? && is_asked(alloc, request, want)?)
+}
+
 #[test]
 fn reads_commands(rt: HostRuntime) -> Result<(), Fail> {
-    let alloc = rt.alloc();
     let mut routes = Routes::new();
     for (method, target, body, want) in &READ {
-        let request = request(alloc, method, target.as_bytes(), body.as_bytes())?;
-        assert_eq!(rt; asked(alloc, &request)?.as_str(), *want, "at {target}");
-        let again = read_command_by(alloc, &mut routes, &request)?;
-        assert_eq!(rt; words_of(alloc, &again)?.as_str(), *want, "at {target}");
+        let request = request(rt.alloc(), method, target.as_bytes(), body.as_bytes())?;
+        assert!(rt; is_read_as(rt.alloc(), &mut routes, &request, want)?);
     }
     Ok(())
 }
 
+// Whether a method and a path have this route.
+fn has_route(alloc: Global, method: &str, path: &str, want: Route) -> Result<bool, Fail> {
+    let method = Method::from_bytes(alloc, method.as_bytes())?;
+    Ok(route(alloc, &method, path.as_bytes()) == Ok(want))
+}
+
 #[test]
 fn finds_routes(rt: HostRuntime) -> Result<(), Fail> {
-    let alloc = rt.alloc();
     let holder = HolderNo::new(1).ok_or("a number")?;
-    let mrn = Mrn::read(b"25CH00000100000013").ok().ok_or("an MRN")?;
-    let grn = Grn::read(b"25CH0000010000014").ok().ok_or("a GRN")?;
-    for (method, path, want) in [
+    let mrn = Mrn::read(b"25CH00000100000013")?;
+    let grn = Grn::read(b"25CH0000010000014")?;
+    for (method, path, want) in &[
+        ("PUT", "/office/holders/000001", Route::Register { holder }),
         (
-            Method::PUT,
-            "/office/holders/000001",
-            Route::Register { holder },
-        ),
-        (
-            Method::POST,
+            "POST",
             "/office/holders/000001/guarantees",
             Route::OpenGuarantee { holder },
         ),
+        ("POST", "/holders/000001/movements", Route::Ie015 { holder }),
+        ("GET", "/holders/000001", Route::SeeHolder { holder }),
         (
-            Method::POST,
-            "/holders/000001/movements",
-            Route::Ie015 { holder },
-        ),
-        (Method::GET, "/holders/000001", Route::SeeHolder { holder }),
-        (
-            Method::GET,
+            "GET",
             "/holders/000001/movements/25CH00000100000013",
             Route::SeeMovement { holder, mrn },
         ),
         (
-            Method::GET,
+            "GET",
             "/holders/000001/guarantees/25CH0000010000014",
             Route::SeeGuarantee { holder, grn },
         ),
     ] {
-        assert_eq!(rt;
-            route(alloc, &method, path.as_bytes()),
-            Ok(want),
-            "at {path}"
-        );
+        assert!(rt; has_route(rt.alloc(), method, path, *want)?);
     }
     Ok(())
 }
@@ -275,21 +277,27 @@ const NO_EORI: [(&str, &str, &str); 5] = [
     ),
 ];
 
+// Whether a request is told this fault by a router that is kept.
+fn has_fault(
+    alloc: Global,
+    routes: &mut Routes,
+    row: &(&str, &str, &str),
+    want: WebFault,
+) -> Result<bool, Fail> {
+    let (method, target, body) = row;
+    let request = request(alloc, method, target.as_bytes(), body.as_bytes())?;
+    Ok(read_command_by(alloc, routes, &request).err() == Some(want))
+}
+
 // Each request is told this fault.
 fn all_told(
     rt: &(impl AllocGlobal + Abort),
     rows: &[(&str, &str, &str)],
     want: WebFault,
 ) -> Result<(), Fail> {
-    let alloc = rt.alloc();
     let mut routes = Routes::new();
-    for (method, target, body) in rows {
-        let request = request(alloc, method, target.as_bytes(), body.as_bytes())?;
-        assert_eq!(rt;
-            read_command_by(alloc, &mut routes, &request).err(),
-            Some(want),
-            "at {method} {target}"
-        );
+    for row in rows {
+        assert!(rt; has_fault(rt.alloc(), &mut routes, row, want)?);
     }
     Ok(())
 }
@@ -314,16 +322,16 @@ fn tells_bad_holders(rt: HostRuntime) -> Result<(), Fail> {
     all_told(&rt, &NO_HOLDER_NUMBER, WebFault::BadHolder)
 }
 
+// Whether a view can't be read, and this is the reply.
+fn is_view_refused(alloc: Global, target: &str, want: &str) -> Result<bool, Fail> {
+    let request = request(alloc, "GET", target.as_bytes(), b"not JSON")?;
+    is_refused(alloc, &request, want)
+}
+
 #[test]
 fn tells_bad_references(rt: HostRuntime) -> Result<(), Fail> {
-    let alloc = rt.alloc();
     for (target, want) in &NO_REFERENCE {
-        let request = request(alloc, "GET", target.as_bytes(), b"not JSON")?;
-        assert_eq!(rt;
-            refused(alloc, &request)?.as_slice(),
-            want.as_bytes(),
-            "at {target}"
-        );
+        assert!(rt; is_view_refused(rt.alloc(), target, want)?);
     }
     Ok(())
 }
@@ -334,12 +342,27 @@ fn tells_bad_bodies(rt: HostRuntime) -> Result<(), Fail> {
     all_told(&rt, &NO_EORI, WebFault::BadField(Field::Eori))
 }
 
+// Why a request can't be read.
+fn fault_of(
+    alloc: Global,
+    method: &str,
+    target: &[u8],
+    body: &[u8],
+) -> Result<Option<WebFault>, Fail> {
+    let request = request(alloc, method, target, body)?;
+    Ok(read_command(alloc, &request).err())
+}
+
 #[test]
 fn tells_what_is_no_text(rt: HostRuntime) -> Result<(), Fail> {
-    let alloc = rt.alloc();
-    let target = request(alloc, "GET", b"/holders/00000\xff", b"")?;
-    assert_eq!(rt; read_command(alloc, &target).err(), Some(WebFault::NoRoute));
-    let body = request(alloc, "PUT", b"/office/holders/000001", b"{\"\xff\":1}")?;
-    assert_eq!(rt; read_command(alloc, &body).err(), Some(WebFault::BadBody));
+    let target = fault_of(rt.alloc(), "GET", b"/holders/00000\xff", b"")?;
+    assert!(rt; target == Some(WebFault::NoRoute));
+    let body = fault_of(
+        rt.alloc(),
+        "PUT",
+        b"/office/holders/000001",
+        b"{\"\xff\":1}",
+    )?;
+    assert!(rt; body == Some(WebFault::BadBody));
     Ok(())
 }

@@ -145,79 +145,92 @@ const ROWS: [(&[u8], &[u8], StreamEnd); 14] = [
     ),
 ];
 
+/// What is written for an input, and how the stream ends.
+fn serve(alloc: Global, input: &[u8]) -> (Vec<u8>, StreamEnd) {
+    let mut reader = Counted::new(input);
+    let mut writer = Counted::new(Vec::new(alloc));
+    let end = serve_requests(alloc, &mut reader, &mut writer, &mut Still(0), &mut Same);
+    (writer.into_inner(), end)
+}
+
+/// Whether this is written for an input, and the stream ends so.
+fn is_served(alloc: Global, input: &[u8], written: &[u8], end: StreamEnd) -> bool {
+    let (got, how) = serve(alloc, input);
+    got.as_slice() == written && how == end
+}
+
 #[test]
 fn streams_are_served(rt: HostRuntime) -> Result<(), Fail> {
     for (input, written, end) in &ROWS {
-        let mut reader = Counted::new(*input);
-        let mut writer = Counted::new(Vec::new(rt.alloc()));
-        let got = serve_requests(
-            rt.alloc(),
-            &mut reader,
-            &mut writer,
-            &mut Still(0),
-            &mut Same,
-        );
-        assert_eq!(rt; writer.into_inner().as_slice(), *written);
-        assert_eq!(rt; got, *end);
+        assert!(rt; is_served(rt.alloc(), input, written, *end));
     }
     Ok(())
 }
 
-#[test]
-fn bytes_come_one_by_one(rt: HostRuntime) -> Result<(), Fail> {
-    let mut reader = Counted::new(Drip {
-        left: b"PUT /a HTTP/1.1\r\nContent-Length: 2\r\n\r\nhiGET / HT",
-    });
-    let mut writer = Counted::new(Vec::new(rt.alloc()));
-    let end = serve_requests(
-        rt.alloc(),
-        &mut reader,
-        &mut writer,
-        &mut Still(0),
-        &mut Same,
-    );
-    assert_eq!(rt; writer.into_inner().as_slice(), OK);
-    assert_eq!(rt; end, StreamEnd::ReadFault);
-    assert_eq!(rt; reader.calls(), 49);
-    Ok(())
+/// The same for an input that comes byte by byte and then fails, and the number of reads.
+fn serve_drip(alloc: Global, left: &[u8]) -> (Vec<u8>, StreamEnd, u64) {
+    let mut reader = Counted::new(Drip { left });
+    let mut writer = Counted::new(Vec::new(alloc));
+    let end = serve_requests(alloc, &mut reader, &mut writer, &mut Still(0), &mut Same);
+    (writer.into_inner(), end, reader.calls())
 }
 
 #[test]
-fn parts_are_made(rt: HostRuntime) -> Result<(), Fail> {
-    let alloc = rt.alloc();
-    let refused = json_reply(
+fn bytes_come_one_by_one(rt: HostRuntime) -> Result<(), Fail> {
+    let input = b"PUT /a HTTP/1.1\r\nContent-Length: 2\r\n\r\nhiGET / HT";
+    let (written, end, reads) = serve_drip(rt.alloc(), input);
+    assert!(rt; written.as_slice() == OK && end == StreamEnd::ReadFault && reads == 49);
+    Ok(())
+}
+
+const NO_METHOD: &[u8] =
+    b"HTTP/1.1 405 Method Not Allowed\r\nContent-Type: application/json\r\nContent-Length: 21\r\nAllow: GET, PUT\r\nConnection: close\r\n\r\n{\"error\":\"no-method\"}";
+
+const HEAD_ALONE: &[u8] = b"HTTP/1.1 405 Method Not Allowed\r\nConnection: close\r\n\r\n";
+
+const NO_MEMORY: &[u8] =
+    b"HTTP/1.1 503 Service Unavailable\r\nContent-Type: application/json\r\nContent-Length: 21\r\nConnection: close\r\n\r\n{\"error\":\"no-memory\"}";
+
+const STORE: &[u8] =
+    b"HTTP/1.1 500 Internal Server Error\r\nContent-Type: application/json\r\nContent-Length: 17\r\nConnection: close\r\n\r\n{\"error\":\"store\"}";
+
+const HEAD_TOO_LARGE: &[u8] =
+    b"HTTP/1.1 431 Request Header Fields Too Large\r\nContent-Type: application/json\r\nContent-Length: 26\r\nConnection: close\r\n\r\n{\"error\":\"head-too-large\"}";
+
+/// The reply that tells the methods of a path and closes the stream.
+fn no_method(alloc: Global) -> Result<Vec<u8>, AllocError> {
+    let body = error_body(alloc, "no-method")?;
+    json_reply(
         alloc,
         StatusCode::METHOD_NOT_ALLOWED,
         Some("GET, PUT"),
         true,
-        error_body(alloc, "no-method")?.as_str(),
-    )?;
-    assert_eq!(rt;
-        refused.as_slice(),
-        b"HTTP/1.1 405 Method Not Allowed\r\nContent-Type: application/json\r\nContent-Length: 21\r\nAllow: GET, PUT\r\nConnection: close\r\n\r\n{\"error\":\"no-method\"}".as_slice()
-    );
-    assert_eq!(rt;
-        head_reply(alloc, None)?.as_slice(),
-        b"HTTP/1.1 405 Method Not Allowed\r\nConnection: close\r\n\r\n".as_slice()
-    );
-    assert_eq!(rt;
-        Reply::NoMemory.as_bytes(),
-        b"HTTP/1.1 503 Service Unavailable\r\nContent-Type: application/json\r\nContent-Length: 21\r\nConnection: close\r\n\r\n{\"error\":\"no-memory\"}".as_slice()
-    );
-    assert_eq!(rt;
-        Reply::Store.as_bytes(),
-        b"HTTP/1.1 500 Internal Server Error\r\nContent-Type: application/json\r\nContent-Length: 17\r\nConnection: close\r\n\r\n{\"error\":\"store\"}".as_slice()
-    );
-    assert_eq!(rt;
-        FramingError::HeadTooLarge.reply(),
-        b"HTTP/1.1 431 Request Header Fields Too Large\r\nContent-Type: application/json\r\nContent-Length: 26\r\nConnection: close\r\n\r\n{\"error\":\"head-too-large\"}".as_slice()
-    );
-    assert!(rt;
-        matches!(
-            next_request(alloc, b"PUT / HTTP/1.1\r\nContent-Length: 9\r\n\r\n1")?,
-            Next::More(46)
-        )
-    );
+        &body,
+    )
+}
+
+#[test]
+fn replies_are_made(rt: HostRuntime) -> Result<(), Fail> {
+    assert!(rt; no_method(rt.alloc())?.as_slice() == NO_METHOD);
+    assert!(rt; head_reply(rt.alloc(), None)?.as_slice() == HEAD_ALONE);
+    Ok(())
+}
+
+#[test]
+fn fixed_replies_are_told(rt: HostRuntime) {
+    for (bytes, want) in [
+        (Reply::NoMemory.as_bytes(), NO_MEMORY),
+        (Reply::Store.as_bytes(), STORE),
+        (FramingError::HeadTooLarge.reply(), HEAD_TOO_LARGE),
+    ] {
+        assert!(rt; bytes == want);
+    }
+}
+
+#[test]
+fn half_a_request_asks_for_more(rt: HostRuntime) -> Result<(), Fail> {
+    let next = next_request(rt.alloc(), b"PUT / HTTP/1.1\r\nContent-Length: 9\r\n\r\n1")?;
+    assert!(rt; matches!(next, Next::More(46)));
     one_reading();
     Ok(())
 }
