@@ -1,9 +1,12 @@
 //! Requests, the commands that they are read as, and what is told of those that can't be read.
 use crate::{Request, fault_bytes, read_command};
 use http::Method;
-use std::alloc::Global;
+use std::alloc::{AllocError, Global};
+use std::process::Abort;
 use std::test::Fail;
 use td_acts::{Command, Lines};
+use td_base::AccessCode;
+use td_movement::Line;
 
 pub(super) fn request(
     alloc: Global,
@@ -40,12 +43,7 @@ pub(super) fn is_refused(alloc: Global, request: &Request, want: &str) -> Result
 }
 
 /// Whether a POST with this body is read as this command, in words.
-pub(super) fn is_posted_as(
-    alloc: Global,
-    target: &[u8],
-    body: &str,
-    want: &str,
-) -> Result<bool, Fail> {
+fn is_posted_as(alloc: Global, target: &[u8], body: &str, want: &str) -> Result<bool, Fail> {
     let request = request(alloc, "POST", target, body.as_bytes())?;
     is_asked(alloc, &request, want)
 }
@@ -61,10 +59,34 @@ pub(super) fn is_refused_at(
     is_refused(alloc, &request, want)
 }
 
+/// POSTs with these bodies are read as these commands, in words.
+pub(super) fn all_posted_as(
+    rt: &(impl AllocGlobal + Abort),
+    target: &[u8],
+    rows: &[(&str, &str)],
+) -> Result<(), Fail> {
+    for (body, want) in rows {
+        assert!(rt; is_posted_as(rt.alloc(), target, body, want)?);
+    }
+    Ok(())
+}
+
+/// POSTs with these bodies can't be read, and these are the replies.
+pub(super) fn all_refused_at(
+    rt: &(impl AllocGlobal + Abort),
+    target: &[u8],
+    rows: &[(&str, &str)],
+) -> Result<(), Fail> {
+    for (body, want) in rows {
+        assert!(rt; is_refused_at(rt.alloc(), target, body, want)?);
+    }
+    Ok(())
+}
+
 /// A command in words: its fields in order.
-fn words_of(alloc: Global, command: &Command) -> Result<String, Fail> {
-    Ok(match command {
-        Command::Register { holder, eori } => format!(in alloc; "register {holder} {eori}")?,
+fn words_of(alloc: Global, command: &Command) -> Result<String, AllocError> {
+    match command {
+        Command::Register { holder, eori } => format!(in alloc; "register {holder} {eori}"),
         Command::OpenGuarantee {
             holder,
             reference,
@@ -73,7 +95,7 @@ fn words_of(alloc: Global, command: &Command) -> Result<String, Fail> {
         } => {
             let cents = reference.get();
             let percent = cover.get();
-            format!(in alloc; "open {holder} {cents} {percent} {code}")?
+            format!(in alloc; "open {holder} {cents} {percent} {code}")
         }
         Command::Ie015 {
             holder,
@@ -83,22 +105,30 @@ fn words_of(alloc: Global, command: &Command) -> Result<String, Fail> {
             lines,
         } => {
             let lines = line_words(alloc, lines)?;
-            format!(in alloc; "declare {holder} {lrn} {departure} {destination}{lines}")?
+            format!(in alloc; "declare {holder} {lrn} {departure} {destination}{lines}")
         }
-        Command::SeeHolder { holder } => format!(in alloc; "see {holder}")?,
-        Command::SeeMovement { holder, mrn } => format!(in alloc; "see {holder} movement {mrn}")?,
+        Command::SeeHolder { holder } => format!(in alloc; "see {holder}"),
+        Command::SeeMovement { holder, mrn } => format!(in alloc; "see {holder} movement {mrn}"),
         Command::SeeGuarantee { holder, grn } => {
-            format!(in alloc; "see {holder} guarantee {grn}")?
+            format!(in alloc; "see {holder} guarantee {grn}")
         }
-    })
+    }
 }
 
-fn line_words(alloc: Global, lines: &Lines) -> Result<String, Fail> {
+fn line_words(alloc: Global, lines: &Lines) -> Result<String, AllocError> {
     let mut text = String::new(alloc);
     for (line, code) in lines.as_slice() {
-        let grn = line.grn;
-        let cents = line.cents;
-        text.push_str(&format!(in alloc; " {grn}:{code}:{cents}")?)?;
+        push_line(alloc, &mut text, line, code)?;
     }
     Ok(text)
+}
+
+fn push_line(
+    alloc: Global,
+    text: &mut String,
+    line: &Line,
+    code: &AccessCode,
+) -> Result<(), AllocError> {
+    let words = format!(in alloc; " {}:{code}:{}", line.grn, line.cents)?;
+    text.push_str(&words)
 }

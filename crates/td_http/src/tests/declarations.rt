@@ -1,5 +1,5 @@
 //! Declarations: bodies, and the command or the error that each of them is read as.
-use super::asked::{is_posted_as, is_refused_at};
+use super::asked::{all_posted_as, all_refused_at, is_refused_at};
 use std::alloc::{AllocError, Global};
 use std::test::Fail;
 
@@ -215,18 +215,12 @@ fn with_lines(alloc: Global, lines: &str) -> Result<String, AllocError> {
 
 #[test]
 fn declarations_are_read(rt: HostRuntime) -> Result<(), Fail> {
-    for (body, want) in &READ {
-        assert!(rt; is_posted_as(rt.alloc(), TARGET, body, want)?);
-    }
-    Ok(())
+    all_posted_as(&rt, TARGET, &READ)
 }
 
 #[test]
 fn declarations_are_refused(rt: HostRuntime) -> Result<(), Fail> {
-    for (body, want) in &REFUSED {
-        assert!(rt; is_refused_at(rt.alloc(), TARGET, body, want)?);
-    }
-    Ok(())
+    all_refused_at(&rt, TARGET, &REFUSED)
 }
 
 // Whether a declaration with these lines is refused for them.

@@ -1,5 +1,5 @@
 //! Openings of guarantees: bodies, and the command or the error that each of them is read as.
-use super::asked::{is_posted_as, is_refused_at};
+use super::asked::{all_posted_as, all_refused_at};
 use std::test::Fail;
 
 const TARGET: &[u8] = b"/office/holders/000001/guarantees";
@@ -219,16 +219,10 @@ const REFUSED: [(&str, &str); 52] = [
 
 #[test]
 fn openings_are_read(rt: HostRuntime) -> Result<(), Fail> {
-    for (body, want) in &READ {
-        assert!(rt; is_posted_as(rt.alloc(), TARGET, body, want)?);
-    }
-    Ok(())
+    all_posted_as(&rt, TARGET, &READ)
 }
 
 #[test]
 fn openings_are_refused(rt: HostRuntime) -> Result<(), Fail> {
-    for (body, want) in &REFUSED {
-        assert!(rt; is_refused_at(rt.alloc(), TARGET, body, want)?);
-    }
-    Ok(())
+    all_refused_at(&rt, TARGET, &REFUSED)
 }
