@@ -1,6 +1,7 @@
 mod Filled
 pub mod Counts
 pub mod Calls
+pub mod Chaining
 mod Slices
 mod Sums
 mod Ascii

@@ -1,6 +1,6 @@
 -- A piece that follows what was sent.
-use Rattle.std.proofs.Common.{◌≡◌, ℕ, ◌+◌, ◌-◌, ◌≤◌, ◌++◌, length, take, drop, arith, List, ap, sym, ◌∙◌}
-use Rattle.std.proofs.lemmas.List.{take_all, length-drop}
+use Rattle.std.proofs.Common.{◌≡◌, ℕ, ◌+◌, ◌-◌, ◌<◌, ◌≤◌, ◌++◌, length, take, drop, arith, List, ap, sym, ◌∙◌}
+use Rattle.std.proofs.lemmas.List.{take_all, length-drop, length-take-le}
 use Rattle.std.proofs.Math.Seq.{take-add}
 
 -- the rest of a slice
@@ -16,3 +16,7 @@ pub more_fits : (xs : List ℕ) (a n : ℕ) → a ≤ length xs → n ≤ length
 more_fits xs a n fits small =
     let e : length (take (length xs - a) (drop a xs)) ≡ length xs - a = ap length (rest_is xs a) ∙ length-drop a xs in
     omega arith
+
+-- some of it is taken
+pub some_taken : (xs : List ℕ) (n : ℕ) → 0 < n → n ≤ length xs → 0 < length (take n xs)
+some_taken xs n some small = rw (length-take-le n xs small) some

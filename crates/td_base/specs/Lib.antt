@@ -12,3 +12,4 @@ pub mod Days
 pub mod References
 pub mod Counted
 pub mod Writing
+pub mod Chains
