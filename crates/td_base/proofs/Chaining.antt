@@ -2,7 +2,10 @@
 use Rattle.std.proofs.Common.{ℕ, Bool, true, false, List, [], ◌∷◌, ◌++◌, Option, refl, ap, subst, sym, ◌∙◌, append-nil}
 use Rattle.std.proofs.lemmas.Fn.{FoldsTo-push}
 use Rattle.std.proofs.lemmas.List.Folds.{concat-append}
+use Rattle.std.proofs.KnownBytes.{Appends-nil, Appends-trans}
 use Rattle.std.specs.List.{FoldsTo, concat}
+use Rattle.std.specs.Io.KnownBytes.{Appends}
+use Rattle.td_base.specs.Counted.{known_bytes}
 use Rattle.td_base.specs.declared.counted.Counted.{Counted}
 use Rattle.td_base.specs.Chains.{IsWrite, TakesSome, Wrote}
 
@@ -45,3 +48,18 @@ wrote_on contents old now new text more whole first second =
       text_is = concat-append first.pieces second.pieces ∙ (ap (λ (t : List ℕ). t ++ concat second.pieces) first.text_is ∙ ap (λ (t : List ℕ). text ++ t) second.text_is);
       last = second.last;
     }
+
+-- what the writes took was appended
+took_appends : {W : Type 0} (contents : W → Option (List ℕ)) (old mid : Counted W) (pieces : List (List ℕ)) → FoldsTo (TakesSome contents) old pieces mid
+    → Appends (known_bytes contents old) (known_bytes contents mid) (concat pieces)
+took_appends contents old mid [] took = rw took (Appends-nil _)
+took_appends contents old mid (piece ∷ more) took = Appends-trans _ _ _ _ _ took.1.0.appended (took_appends contents took.0 mid more took.2)
+
+-- what was written was appended
+pub wrote_appends : {W : Type 0} (contents : W → Option (List ℕ)) (old new : Counted W) (text : List ℕ) (whole : Bool) → Wrote contents old new text whole
+    → Appends (known_bytes contents old) (known_bytes contents new) text
+wrote_appends contents old new text true w =
+    rw w.last (subst (λ (t : List ℕ). Appends (known_bytes contents old) (known_bytes contents w.mid) t) w.text_is (took_appends contents old w.mid w.pieces w.took))
+wrote_appends contents old new text false w =
+    subst (λ (t : List ℕ). Appends (known_bytes contents old) (known_bytes contents new) t) (append-nil (concat w.pieces) ∙ w.text_is)
+    (Appends-trans _ _ _ _ _ (took_appends contents old w.mid w.pieces w.took) w.last.appended)

@@ -1,5 +1,5 @@
 -- Reads of a counted reader, and writes to a counted writer, one after another.
-use Rattle.std.specs.Prelude.{◌≡◌, ℕ, ◌<◌, Bool, true, false, List, [], length, take, Option}
+use Rattle.std.specs.Prelude.{◌≡◌, ℕ, ◌<◌, Bool, true, false, List, [], length, Option}
 use Rattle.std.specs.List.{FoldsTo, concat}
 use Rattle.std.specs.Io.KnownBytes.{Appends, Consumes}
 use Rattle.td_base.specs.declared.counted.Counted.{Counted}
@@ -42,8 +42,3 @@ pub record Wrote {W : Type 0} (contents : W → Option (List ℕ)) (old new : Co
   pub took : FoldsTo (TakesSome contents) old pieces mid
   pub text_is : concat pieces ≡ text
   pub last : EndsWriting contents mid new whole
-
--- all of a message was written, or its first bytes, and not all
-abbrev pub WroteOf : {W : Type 0} → (W → Option (List ℕ)) → Counted W → Counted W → List ℕ → Bool → Type 0
-WroteOf contents old new message true = Wrote contents old new message true
-WroteOf contents old new message false = (n : ℕ) × (n < length message) × Wrote contents old new (take n message) false

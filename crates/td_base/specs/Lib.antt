@@ -11,5 +11,5 @@ pub mod Money
 pub mod Days
 pub mod References
 pub mod Counted
-pub mod Writing
 pub mod Chains
+pub mod Writing

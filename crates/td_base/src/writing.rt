@@ -3,7 +3,7 @@ ghost use Rattle.std.specs.Prelude.{◌≡◌, ◌≤◌, ℕ, length, take, tru
 ghost use Rattle.std.specs.Io.KnownBytes.{Appends};
 ghost use Rattle.td_base.specs.Counted.{calls_of, has_failed, known_bytes, HasCalled};
 ghost use Rattle.td_base.specs.Writing.{IsCutShort, MadeWrites};
-ghost use Rattle.td_base.specs.Chains.{WroteOf};
+ghost use Rattle.td_base.specs.Chains.{Wrote};
 
 use crate::counted::Counted;
 use std::io::Write;
@@ -19,8 +19,8 @@ pub fn write_whole<W: Write>(writer: &mut Counted<W>, bytes: &[u8]) -> bool
         × (result ≡ true → n ≡ length bytes.now) }
     ensures failed { result ≡ false → has_failed writer.new ≡ true }
     ensures called { result ≡ false → HasCalled (calls_of writer.old) (calls_of writer.new) }
-    // no write of an empty piece, and none after one that failed
-    ensures chain { WroteOf W.contents writer.old writer.new bytes.now result }
+    // no write of an empty piece, and none that failed
+    ensures chain { result ≡ true → Wrote W.contents writer.old writer.new bytes.now true }
 {
     let mut sent = 0;
     while sent < bytes.len() {

@@ -1,11 +1,11 @@
-use Rattle.std.proofs.Common.{◌≡◌, ℕ, ◌+◌, ◌-◌, true, false, arith, subst, sym, List, take, drop, length, inl, Option, rules}
+use Rattle.std.proofs.Common.{◌≡◌, ℕ, ◌+◌, ◌-◌, ◌<◌, [], true, false, arith, subst, sym, List, take, drop, length, inl, Option, rules}
 use Rattle.std.proofs.KnownBytes.{Appends-trans, Appends-nil}
 use Rattle.td_base.specs.declared.counted.Counted.{Counted}
 use Rattle.td_base.specs.Counted.{calls_of, one_more, HasCalled, HasMade}
-use Rattle.td_base.specs.Writing.{MadeWrites}
-use Rattle.td_base.specs.Chains.{TakesSome, Wrote}
+use Rattle.td_base.specs.Writing.{IsCutShort, MadeWrites}
+use Rattle.td_base.specs.Chains.{IsWrite, TakesSome, Wrote}
 use Rattle.td_base.proofs.Calls.{made_more, made_none}
-use Rattle.td_base.proofs.Chaining.{wrote_nothing, wrote_more, wrote_last}
+use Rattle.td_base.proofs.Chaining.{wrote_nothing, wrote_more, wrote_last, wrote_appends}
 use Rattle.td_base.proofs.Counts.{called_more, not_fallen}
 use Rattle.td_base.proofs.Slices.{more_sent, more_fits, some_taken}
 use Rattle.td_base.proofs.writing.write_whole.Goals as goal
@@ -52,16 +52,19 @@ returns-in-Ok-eq0-clause-writes g c = last_write c.args.writer.now c.write.new.s
 pub returns-in-Ok-eq0-2-clause-writes : goal.returns-in-Ok-eq0-2-clause-writes
 returns-in-Ok-eq0-2-clause-writes g c = last_write c.args.writer.now c.write.new.self c.loop-sent.invariant.writes.0 _ c.loop-sent.invariant.writes.1 c.write.ensures.calls
 
-pub returns-in-Ok-eq0-clause-chain : goal.returns-in-Ok-eq0-clause-chain
-returns-in-Ok-eq0-clause-chain g c = (
-  c.loop-sent.sent,
-  c.loop-sent-test.true,
-  wrote_last _ _ _ _ _ c.loop-sent.invariant.chain (record { appended = search rules; called = c.write.ensures.calls; how = search rules }),
-)
+-- the message was cut short where one write more failed
+cut : {W : Type 0} {contents : W → Option (List ℕ)} {old now new : Counted W} (bytes : List ℕ) (n : ℕ) → n < length bytes
+    → Wrote contents old now (take n bytes) true → IsWrite contents true now [] new → IsCutShort contents old new bytes
+cut bytes n short before last =
+    let wrote = wrote_last _ _ _ _ _ before last in
+    record { taken = n; short = short; appended = wrote_appends _ _ _ _ _ wrote; failed = last.how; wrote = wrote }
 
-pub returns-in-Ok-eq0-2-clause-chain : goal.returns-in-Ok-eq0-2-clause-chain
-returns-in-Ok-eq0-2-clause-chain g c = (
-  c.loop-sent.sent,
-  c.loop-sent-test.true,
-  wrote_last _ _ _ _ _ c.loop-sent.invariant.chain (record { appended = search rules; called = c.write.ensures.calls; how = search rules }),
-)
+pub returns-in-Ok-eq0-clause-cut : goal.returns-in-Ok-eq0-clause-cut
+returns-in-Ok-eq0-clause-cut g c = λ _.
+    cut c.args.bytes.now c.loop-sent.sent c.loop-sent-test.true c.loop-sent.invariant.chain
+    (record { appended = search rules; called = c.write.ensures.calls; how = search rules })
+
+pub returns-in-Ok-eq0-2-clause-cut : goal.returns-in-Ok-eq0-2-clause-cut
+returns-in-Ok-eq0-2-clause-cut g c = λ _.
+    cut c.args.bytes.now c.loop-sent.sent c.loop-sent-test.true c.loop-sent.invariant.chain
+    (record { appended = search rules; called = c.write.ensures.calls; how = search rules })
