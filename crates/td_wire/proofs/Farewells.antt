@@ -1,68 +1,82 @@
 -- What each stop of the reading says of the stream.
-use Rattle.std.proofs.Common.{◌≡◌, ◌≢◌, ℕ, ◌+◌, ◌-◌, ◌<◌, Bool, true, false, List, [], ◌++◌, arith, refl, ap, inl, inr}
-use Rattle.std.specs.Io.KnownBytes.{Appends}
-use Rattle.std.proofs.KnownBytes.{Appends-trans, Appends-nil}
+use Rattle.std.proofs.Common.{◌≡◌, ◌≢◌, ℕ, ◌+◌, ◌-◌, ◌<◌, Bool, true, false, List, [], ◌++◌, ◌⊎◌, arith, refl, ap, inl, inr, subst, sym}
+use Rattle.std.proofs.lemmas.Bool.{cases_lt}
 use Rattle.td_base.specs.declared.counted.Counted.{Counted}
-use Rattle.td_base.specs.Counted.{known_bytes}
+use Rattle.td_base.specs.Chains.{Wrote}
 use Rattle.td_base.proofs.Calls.{made_on}
+use Rattle.td_base.proofs.Chaining.{wrote_nothing, wrote_on, wrote_appends}
+use Rattle.td_wire.specs.declared.input.TheConstants.{MOST}
 use Rattle.td_wire.specs.declared.reading.Stop.{Stop}
 use Rattle.td_wire.specs.declared.reading.Stop.TheVariants as stop
 use Rattle.td_wire.specs.declared.stream.StreamEnd.{StreamEnd}
 use Rattle.td_wire.specs.declared.stream.StreamEnd.TheVariants.{Closed, Refused, Cut, ReadsSpent, ReadFault, WriteFault, Failed}
 use Rattle.td_wire.specs.ReplyText.{is_made}
-use Rattle.td_wire.specs.Reading.{ReadsOn, StopsAs}
+use Rattle.td_wire.specs.Reading.{Finish, ReadsOn, StopsAs, brought, finish_of}
+use Rattle.td_wire.specs.Wire.{BeginsServed}
 use Rattle.td_wire.specs.Farewell.{SendsLast, Farewell}
-use Rattle.td_wire.specs.Stream.{replies_of, Parting, silence, refusal, to_head, no_memory, parting_bytes, IsParting, Sides, Run, WentOn, EndsAs}
-use Rattle.td_wire.proofs.Readings.{ReadsOn-trans}
+use Rattle.td_wire.specs.Stream.{replies_of, Parting, silence, refusal, to_head, no_memory, parting_bytes, IsParting, MissesMemory, finish_at, is_whole, Sides, Run, WentOn, EndsAs}
+use Rattle.td_wire.proofs.Needs.{called_for}
+use Rattle.td_wire.proofs.Readings.{HasRead-trans}
 use Rattle.td_wire.proofs.Serving.{Words, IsServed, Serving, Splits-more}
 
 -- the run that ends after some more bytes, with so much written of what parts with them
 abbrev run_after : {R W C H : Type 0} {k : Words R W C H}
-    {old now : Sides R W C H} {unread : List ℕ} {left served : ℕ}
-    → Serving k old now unread left served → List ℕ → ℕ → Parting → List ℕ → Run H
-run_after {now = now} {unread = unread} s more fewer parting tail =
-    record { given = s.given ++ more; exchanges = s.exchanges; rest = unread ++ more; handler = now.handler; parting = parting; written = replies_of s.exchanges ++ tail; reads = 100000 - fewer }
+    {old now : Sides R W C H} {unread : List ℕ} {room left served : ℕ}
+    → Serving k old now unread room left served → List (List ℕ) → List ℕ → ℕ → Parting → List ℕ → Run H
+run_after {now = now} {unread = unread} s pieces more fewer parting tail =
+    record { given = s.given ++ more; exchanges = s.exchanges; rest = unread ++ more; handler = now.handler; parting = parting; written = replies_of s.exchanges ++ tail; reads = 100000 - fewer; pieces = s.read.pieces ++ pieces }
 
 -- the stream, where its end is known
 finish : {R W C H : Type 0} {k : Words R W C H}
-    {old now : Sides R W C H} {unread : List ℕ} {left served : ℕ} → (s : Serving k old now unread left served) → served < 1000
-    → (reader : Counted R) (more : List ℕ) (fewer : ℕ) → ReadsOn k.remaining now.reader reader more left fewer
+    {old now : Sides R W C H} {unread : List ℕ} {room left served : ℕ} → (s : Serving k old now unread room left served) → served < 1000
+    → (end : StreamEnd) (reader : Counted R) (more : List ℕ) (fewer : ℕ) → (reads : ReadsOn k.remaining now.reader reader unread more left fewer (finish_at end))
     → (writer : Counted W) (handler : H) (parting : Parting) → IsParting k.heads now.handler handler (unread ++ more) parting
-    → (tail : List ℕ) → Appends (known_bytes k.contents now.writer) (known_bytes k.contents writer) tail
-    → (end : StreamEnd) → (end ≢ WriteFault → tail ≡ parting_bytes parting)
-    → EndsAs k.remaining old (record { reader = reader; writer = writer; clock = now.clock; handler = handler }) (run_after s more fewer parting tail) end
+    → MissesMemory parting (100000 - fewer) (unread ++ more)
+    → (tail : List ℕ) → Wrote k.contents now.writer writer tail (is_whole end) → (end ≢ WriteFault → tail ≡ parting_bytes parting)
+    → EndsAs k.remaining old (record { reader = reader; writer = writer; clock = now.clock; handler = handler }) (run_after s reads.read.pieces more fewer parting tail) end
     → IsServed k old (record { reader = reader; writer = writer; clock = now.clock; handler = handler }) end
-finish {unread = unread} s few reader more fewer reads writer handler parting parts tail sent end whole ends =
-    let read = ReadsOn-trans _ _ _ _ _ _ _ _ _ s.read reads in
+unfolding HasRead-trans
+finish {k = k} {old = old} {now = now} {unread = unread} s few end reader more fewer reads writer handler parting parts memory tail sent whole ends =
+    let read = HasRead-trans _ _ _ _ _ _ _ _ _ _ s.read reads.read in
     let count = s.count in
+    let wrote = wrote_on k.contents old.writer now.writer writer (replies_of s.exchanges) tail (is_whole end) s.wrote sent in
     record {
-      run = run_after s more fewer parting tail;
+      run = run_after s reads.read.pieces more fewer parting tail;
       consumed = read.consumed;
       reading = Splits-more s.given more unread _ s.reading;
       at_most = omega arith;
       chain = s.chain;
       parting = parts;
-      appended = Appends-trans _ _ _ _ _ s.appended sent;
+      appended = wrote_appends k.contents old.writer writer (replies_of s.exchanges ++ tail) (is_whole end) wrote;
       whole = λ other. ap (λ (b : List ℕ). replies_of s.exchanges ++ b) (whole other);
       counted = read.counted;
       reads_at_most = omega arith;
+      given_is = read.given_is;
+      reads_are = read.count;
+      read = read.reads;
+      needed = called_for s.read.pieces reads.read.pieces unread more s.over reads.needed reads.read.given_is;
+      wrote = wrote;
+      memory = memory;
       ends = ends;
     }
 
 -- a message of some kind was written last, or cut short
 sent_last : {R W C H : Type 0} {k : Words R W C H}
-    {old now : Sides R W C H} {unread : List ℕ} {left served : ℕ} → (s : Serving k old now unread left served) → served < 1000
-    → (reader : Counted R) (more : List ℕ) (fewer : ℕ) → ReadsOn k.remaining now.reader reader more left fewer
+    {old now : Sides R W C H} {unread : List ℕ} {room left served : ℕ} → (s : Serving k old now unread room left served) → served < 1000
+    → (good end : StreamEnd) (reader : Counted R) (more : List ℕ) (fewer : ℕ) → (reads : ReadsOn k.remaining now.reader reader unread more left fewer (finish_at good))
     → (writer : Counted W) (handler : H) (parting : Parting) → IsParting k.heads now.handler handler (unread ++ more) parting
-    → (good end : StreamEnd) → good ≢ WriteFault
-    → EndsAs k.remaining old (record { reader = reader; writer = writer; clock = now.clock; handler = handler }) (run_after s more fewer parting (parting_bytes parting)) good
+    → MissesMemory parting (100000 - fewer) (unread ++ more)
+    → finish_at good ≡ brought → is_whole good ≡ true
+    → EndsAs k.remaining old (record { reader = reader; writer = writer; clock = now.clock; handler = handler }) (run_after s reads.read.pieces more fewer parting (parting_bytes parting)) good
     → SendsLast k.contents now.writer writer (parting_bytes parting) good end
     → IsServed k old (record { reader = reader; writer = writer; clock = now.clock; handler = handler }) end
-sent_last s few reader more fewer reads writer handler parting parts good end other ends (inl h) =
-    rw h.0 (finish s few reader more fewer reads writer handler parting parts _ h.1 good (λ _. refl) ends)
-sent_last s few reader more fewer reads writer handler parting parts good end other ends (inr h) =
+sent_last {k = k} {now = now} s few good end reader more fewer reads writer handler parting parts memory brings whole other (inl h) =
+    rw h.0 (finish s few good reader more fewer reads writer handler parting parts memory _
+    (subst (λ (b : Bool). Wrote k.contents now.writer writer (parting_bytes parting) b) (sym whole) h.1) (λ _. refl) other)
+sent_last {k = k} {now = now} {unread = unread} {left = left} s few good end reader more fewer reads writer handler parting parts memory brings whole other (inr h) =
     let count = s.count in
-    rw h.0 (finish s few reader more fewer reads writer handler parting parts _ h.1.appended WriteFault (λ no. absurd (no refl)) (
+    rw h.0 (finish s few WriteFault reader more fewer (subst (λ (f : Finish). ReadsOn k.remaining now.reader reader unread more left fewer f) brings reads)
+    writer handler parting parts memory _ h.1.wrote (λ no. absurd (no refl)) (
       h.1.failed,
       record { writes = s.writes + h.2.writes; made = made_on _ _ _ _ _ s.made h.2.made; some = λ e. let n = h.2.some e in omega arith },
       inr (record {
@@ -73,46 +87,57 @@ sent_last s few reader more fewer reads writer handler parting parts good end ot
 
 -- what is left of the stream, and how it ends, for each stop of the reading
 pub stopped : {R W C H : Type 0} {k : Words R W C H}
-    {old now : Sides R W C H} {unread : List ℕ} {left served : ℕ} → Serving k old now unread left served → served < 1000
-    → (reader : Counted R) (more : List ℕ) (fewer : ℕ) → ReadsOn k.remaining now.reader reader more left fewer
-    → (writer : Counted W) (handler : H) (end : StreamEnd) (why : Stop) → StopsAs k.remaining reader left fewer (unread ++ more) why
+    {old now : Sides R W C H} {unread : List ℕ} {room left served : ℕ} → Serving k old now unread room left served → served < 1000
+    → (why : Stop) (reader : Counted R) (more : List ℕ) (fewer : ℕ) → ReadsOn k.remaining now.reader reader unread more left fewer (finish_of why)
+    → (writer : Counted W) (handler : H) (end : StreamEnd) → StopsAs k.remaining reader left fewer room (unread ++ more) why
     → Farewell k.contents k.heads now.writer writer now.handler handler why end
     → IsServed k old (record { reader = reader; writer = writer; clock = now.clock; handler = handler }) end
-stopped {now = now} s few reader more fewer reads writer handler end stop.Closed why f =
+stopped {k = k} {now = now} s few stop.Closed reader more fewer reads writer handler end why f =
     let spent = s.read.spent in
     let read = why.1.read in
     let count = s.count in
-    rw (f.0, f.1, f.2) (finish s few reader more fewer reads now.writer now.handler silence refl [] (Appends-nil _) Closed (λ _. refl)
+    rw (f.0, f.1, f.2) (finish s few Closed reader more fewer reads now.writer now.handler silence refl tt [] (wrote_nothing k.contents now.writer) (λ _. refl)
     (record { on = record { each = s.each; few = omega arith }; silent = refl; end = why.1.end; read = omega arith }, why.0))
-stopped {now = now} s few reader more fewer reads writer handler end stop.Cut why f =
+stopped {k = k} {now = now} s few stop.Cut reader more fewer reads writer handler end why f =
     let spent = s.read.spent in
     let read = why.2.read in
     let count = s.count in
-    rw (f.0, f.1, f.2) (finish s few reader more fewer reads now.writer now.handler silence refl [] (Appends-nil _) Cut (λ _. refl) (
+    rw (f.0, f.1, f.2) (finish s few Cut reader more fewer reads now.writer now.handler silence refl tt [] (wrote_nothing k.contents now.writer) (λ _. refl) (
       record { on = record { each = s.each; few = omega arith }; silent = refl; end = why.2.end; read = omega arith },
       record { on = record { each = s.each; few = omega arith }; silent = refl; still = why.1 },
       why.0,
     ))
-stopped {now = now} s few reader more fewer reads writer handler end stop.ReadsSpent why f =
+stopped {k = k} {now = now} s few stop.ReadsSpent reader more fewer reads writer handler end why f =
     let none = why.1 in
     let count = s.count in
-    rw (f.0, f.1, f.2) (finish s few reader more fewer reads now.writer now.handler silence refl [] (Appends-nil _) ReadsSpent (λ _. refl)
+    rw (f.0, f.1, f.2) (finish s few ReadsSpent reader more fewer reads now.writer now.handler silence refl tt [] (wrote_nothing k.contents now.writer) (λ _. refl)
     (record { on = record { each = s.each; few = omega arith }; silent = refl; still = why.0 }, omega arith))
-stopped {now = now} s few reader more fewer reads writer handler end stop.ReadFault why f =
+stopped {k = k} {now = now} s few stop.ReadFault reader more fewer reads writer handler end why f =
     let spent = s.read.spent in
     let read = why.2 in
     let count = s.count in
-    rw (f.0, f.1, f.2) (finish s few reader more fewer reads now.writer now.handler silence refl [] (Appends-nil _) ReadFault (λ _. refl)
+    rw (f.0, f.1, f.2) (finish s few ReadFault reader more fewer reads now.writer now.handler silence refl tt [] (wrote_nothing k.contents now.writer) (λ _. refl)
     (record { on = record { each = s.each; few = omega arith }; silent = refl; still = why.0 }, why.1, omega arith))
-stopped s few reader more fewer reads writer handler end stop.NoMemory why f =
+stopped {unread = unread} {room = room} {left = left} s few stop.NoMemory reader more fewer reads writer handler end why f =
     let count = s.count in
-    sent_last s few reader more fewer reads writer handler no_memory (f.1, why) Failed end (λ h. cc)
+    sent_last s few Failed end reader more fewer reads writer handler no_memory (f.1, missed why) (misses why) refl refl
     (inr (record { each = s.each; few = omega arith }, tt)) f.0
-stopped s few reader more fewer reads writer handler end (stop.Refused e) why f =
+  where
+    missed : ((unread ++ more ≡ []) × (fewer ≡ left) × (room < MOST)) ⊎ BeginsServed (unread ++ more) → (unread ++ more ≡ []) ⊎ BeginsServed (unread ++ more)
+    missed (inl h) = inl h.0
+    missed (inr h) = inr h
+
+    misses : ((unread ++ more ≡ []) × (fewer ≡ left) × (room < MOST)) ⊎ BeginsServed (unread ++ more) → (100000 - fewer ≡ 0) ⊎ BeginsServed (unread ++ more)
+    misses (inl h) =
+        let same = h.1 in
+        let small = h.2 in
+        elim (cases_lt left 100000) [ inl lt ↦ (let large = s.roomy lt in absurd (let never : ⊥ = omega arith in never)) | inr ge ↦ inl (omega arith) ]
+    misses (inr h) = inr h
+stopped s few (stop.Refused e) reader more fewer reads writer handler end why f =
     let count = s.count in
-    sent_last s few reader more fewer reads writer handler (refusal e) (f.1, why) Refused end (λ h. cc)
+    sent_last s few Refused end reader more fewer reads writer handler (refusal e) (f.1, why) tt refl refl
     (record { each = s.each; few = omega arith }, tt) f.0
-stopped {k = k} {old = old} {now = now} s few reader more fewer reads writer handler end (stop.Head target) why f =
+stopped {k = k} {old = old} {now = now} s few (stop.Head target) reader more fewer reads writer handler end why f =
     let count = s.count in
     let on : WentOn s.exchanges = record { each = s.each; few = omega arith } in
     by_reply on (is_made f.0) refl
@@ -120,8 +145,8 @@ stopped {k = k} {old = old} {now = now} s few reader more fewer reads writer han
     by_reply : WentOn s.exchanges → (made : Bool) → is_made f.0 ≡ made
         → IsServed k old (record { reader = reader; writer = writer; clock = now.clock; handler = handler }) end
     by_reply on true made =
-        sent_last s few reader more fewer reads writer handler (to_head target.items f.0) (f.1, why) Refused end (λ h. cc)
+        sent_last s few Refused end reader more fewer reads writer handler (to_head target.items f.0) (f.1, why) tt refl refl
         (on, made) (rw made at f.2)
     by_reply on false made =
-        sent_last s few reader more fewer reads writer handler (to_head target.items f.0) (f.1, why) Failed end (λ h. cc)
+        sent_last s few Failed end reader more fewer reads writer handler (to_head target.items f.0) (f.1, why) tt refl refl
         (inr (on, made)) (rw made at f.2)

@@ -10,3 +10,4 @@ mod Ends
 mod Farewells
 mod Unique
 mod Standings
+mod Needs

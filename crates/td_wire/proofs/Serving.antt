@@ -1,25 +1,28 @@
 -- A stream between two requests, and after a request that was answered.
-use Rattle.std.proofs.Common.{◌≡◌, ℕ, ◌+◌, ℤ, Bool, true, false, List, [], ◌∷◌, ◌++◌, length, All, Option, arith, refl, sym, ap, subst, ◌∙◌, append_assoc, append-nil}
+use Rattle.std.proofs.Common.{◌≡◌, ℕ, ◌+◌, ◌<◌, ◌≤◌, inl, inr, ℤ, Bool, true, false, List, [], ◌∷◌, ◌++◌, length, All, Option, arith, refl, sym, ap, subst, ◌∙◌, append_assoc, append-nil}
 use Rattle.std.specs.Prelude.{◌||◌, ◌==◌}
 use Rattle.std.specs.List.{flat_map}
-use Rattle.std.specs.Io.KnownBytes.{Appends}
-use Rattle.std.proofs.KnownBytes.{Appends-trans, Appends-nil, Consumes-nil}
+use Rattle.std.proofs.lemmas.Bool.{cases_lt}
 use Rattle.std.proofs.lemmas.List.{map-append, length-append}
 use Rattle.std.proofs.lemmas.Grind.{flat_map-append}
 use Rattle.std.proofs.lemmas.List.Elements.{All-append, All-cons, All-nil}
 use Rattle.td_base.specs.declared.counted.Counted.{Counted}
-use Rattle.td_base.specs.Counted.{calls_of, known_bytes, HasMade}
+use Rattle.td_base.specs.Chains.{Wrote}
+use Rattle.td_base.specs.Counted.{calls_of, HasMade}
 use Rattle.td_base.specs.Writing.{MadeWrites}
 use Rattle.td_base.proofs.Calls.{made_none, made_on}
+use Rattle.td_base.proofs.Chaining.{wrote_nothing, wrote_on}
+use Rattle.td_wire.specs.declared.input.TheConstants.{MOST}
 use Rattle.td_wire.specs.declared.request.Request.{Request}
 use Rattle.td_wire.specs.declared.reply.Reply.{Reply}
 use Rattle.td_wire.specs.declared.stream.StreamEnd.{StreamEnd}
 use Rattle.td_wire.specs.Request as request
 use Rattle.td_wire.specs.ReplyText.{reply_bytes, is_made}
-use Rattle.td_wire.specs.Reading.{ReadsOn, Takes}
+use Rattle.td_wire.specs.Reading.{HasRead, ReadsOn, Takes, KeepsRoom, brought}
 use Rattle.td_wire.specs.Wire.{Wire, IsWire, IsRequestOn, wire_bytes, Splits, asks_close}
-use Rattle.td_wire.specs.Stream.{Exchange, question, Chain, wires_of, replies_of, GoesOn, silence, parting_bytes, Sides, Serves}
-use Rattle.td_wire.proofs.Readings.{ReadsOn-trans}
+use Rattle.td_wire.specs.Stream.{Exchange, question, Chain, wires_of, replies_of, HasNotReadOn, GoesOn, silence, parting_bytes, Sides, Serves}
+use Rattle.td_wire.proofs.Needs.{IsLeftOver, left_after}
+use Rattle.td_wire.proofs.Readings.{HasRead-trans, read_none}
 
 -- one exchange more at the end of a chain
 Chain-push : {C H : Type 0} (ticks : C → ℤ → C → Type 0) (answers : H → ℤ → request.Asked → Reply → H → Type 0)
@@ -88,29 +91,34 @@ IsServed k old new end = Serves k.remaining k.contents k.ticks k.answers k.heads
 
 -- what holds between two requests
 pub record Serving {R W C H : Type 0} (k : Words R W C H)
-    (old now : Sides R W C H) (unread : List ℕ) (left served : ℕ) : Type 0 where
+    (old now : Sides R W C H) (unread : List ℕ) (room left served : ℕ) : Type 0 where
   pub given : List ℕ
   pub exchanges : List Exchange
-  pub read : ReadsOn k.remaining old.reader now.reader given 100000 left
+  pub read : HasRead k.remaining old.reader now.reader given 100000 left brought
+  pub over : IsLeftOver read.pieces unread
+  pub roomy : left < 100000 → MOST ≤ room
   pub reading : Splits given (wires_of exchanges) unread
   pub chain : Chain k.ticks k.answers 0 (old.clock, old.handler) exchanges (now.clock, now.handler)
-  pub appended : Appends (known_bytes k.contents old.writer) (known_bytes k.contents now.writer) (replies_of exchanges)
+  pub wrote : Wrote k.contents old.writer now.writer (replies_of exchanges) true
   pub writes : ℕ
   pub made : HasMade writes (calls_of old.writer) (calls_of now.writer)
   pub each : All GoesOn exchanges
   pub count : length exchanges ≡ served
 
 -- at the beginning
-pub serving_first : {R W C H : Type 0} (k : Words R W C H) (old : Sides R W C H) (unread : List ℕ)
-    → unread ≡ [] → Serving k old old unread 100000 0
-serving_first k old unread none =
+pub serving_first : {R W C H : Type 0} (k : Words R W C H) (old : Sides R W C H) (unread : List ℕ) (room : ℕ)
+    → unread ≡ [] → Serving k old old unread room 100000 0
+unfolding read_none
+serving_first k old unread room none =
     record {
       given = [];
       exchanges = [];
-      read = record { consumed = Consumes-nil _; spent = omega arith; counted = made_none _ };
+      read = read_none k.remaining old.reader 100000;
+      over = inl (refl, none);
+      roomy = λ fell. absurd (let never : ⊥ = omega arith in never);
       reading = record { whole = sym none; each = All-nil IsWire };
       chain = refl;
-      appended = Appends-nil _;
+      wrote = wrote_nothing k.contents old.writer;
       writes = 0;
       made = made_none _;
       each = All-nil GoesOn;
@@ -119,14 +127,16 @@ serving_first k old unread none =
 
 -- what holds once a request came whole and was handled, before anything of its reply is written
 pub record Handled {R W C H : Type 0} (k : Words R W C H)
-    (old now : Sides R W C H) (unread : List ℕ) (left served : ℕ) (close : Bool) (reply : Reply) : Type 0 where
+    (old now : Sides R W C H) (unread : List ℕ) (room left served : ℕ) (close : Bool) (reply : Reply) : Type 0 where
   pub given : List ℕ
   pub before : List Exchange
   pub last : Exchange
-  pub read : ReadsOn k.remaining old.reader now.reader given 100000 left
+  pub read : HasRead k.remaining old.reader now.reader given 100000 left brought
+  pub over : HasNotReadOn read.pieces unread
+  pub roomy : left < 100000 → MOST ≤ room
   pub reading : Splits given (wires_of (before ++ last ∷ [])) unread
   pub chain : Chain k.ticks k.answers 0 (old.clock, old.handler) (before ++ last ∷ []) (now.clock, now.handler)
-  pub appended : Appends (known_bytes k.contents old.writer) (known_bytes k.contents now.writer) (replies_of before)
+  pub wrote : Wrote k.contents old.writer now.writer (replies_of before) true
   pub writes : ℕ
   pub made : HasMade writes (calls_of old.writer) (calls_of now.writer)
   pub each : All GoesOn before
@@ -140,15 +150,21 @@ asked_is : (served : ℕ) (w : Wire) (r : Request) → IsRequestOn w r
 asked_is served w r is =
     λ i. record { method = is.method i; target = is.target i; body = is.body i; close = is.close i || (served + 1 == 1000) }
 
+-- the room after some reads
+room_through : (room wider left fewer : ℕ) → (left < 100000 → MOST ≤ room) → left ≤ 100000 → fewer ≤ left → KeepsRoom room wider left fewer → fewer < 100000 → MOST ≤ wider
+room_through room wider left fewer before spent falls keeps fell =
+    elim (cases_lt fewer left) [ inl lt ↦ keeps.whole lt | inr ge ↦ (let up = keeps.kept in let had = before (omega arith) in omega arith) ]
+
 -- a request is read, the clock ticks, and the handler replies
 pub handled : {R W C H : Type 0} {k : Words R W C H}
-    {old now : Sides R W C H} {unread : List ℕ} {left served : ℕ} → Serving k old now unread left served
-    → (reader : Counted R) (more rest : List ℕ) (fewer : ℕ) (r : Request) → ReadsOn k.remaining now.reader reader more left fewer
-    → Takes (unread ++ more) rest r
+    {old now : Sides R W C H} {unread : List ℕ} {room left served : ℕ} → Serving k old now unread room left served
+    → (reader : Counted R) (more rest : List ℕ) (wider fewer : ℕ) (r : Request) → ReadsOn k.remaining now.reader reader unread more left fewer brought
+    → KeepsRoom room wider left fewer → Takes (unread ++ more) rest r
     → (at : ℤ) (clock : C) → k.ticks now.clock at clock
     → (reply : Reply) (handler : H) → k.answers now.handler at (record (request.asked r) { close = r.close || (served + 1 == 1000) }) reply handler
-    → Handled k old (record { reader = reader; writer = now.writer; clock = clock; handler = handler }) rest fewer served r.close reply
-handled {k = k} {old = old} {now = now} {unread = unread} {served = served} s reader more rest fewer r reads takes at clock tick reply handler answer =
+    → Handled k old (record { reader = reader; writer = now.writer; clock = clock; handler = handler }) rest wider fewer served r.close reply
+unfolding HasRead-trans
+handled {k = k} {old = old} {now = now} {unread = unread} {room = room} {left = left} {served = served} s reader more rest wider fewer r reads keeps takes at clock tick reply handler answer =
     let last : Exchange = record { wire = takes.wire; at = at; reply = reply } in
     let asked = asked_is served takes.wire r takes.request in
     let count = s.count in
@@ -159,10 +175,12 @@ handled {k = k} {old = old} {now = now} {unread = unread} {served = served} s re
       given = s.given ++ more;
       before = s.exchanges;
       last = last;
-      read = ReadsOn-trans _ _ _ _ _ _ _ _ _ s.read reads;
+      read = HasRead-trans _ _ _ _ _ _ _ _ _ _ s.read reads.read;
+      over = left_after s.read.pieces reads.read.pieces unread more rest takes.wire s.over reads.needed reads.read.given_is takes.is_wire takes.whole;
+      roomy = room_through room wider left fewer s.roomy s.read.spent reads.read.spent keeps;
       reading = Splits-push s.given more unread rest s.exchanges last s.reading takes.whole takes.is_wire;
       chain = Chain-push k.ticks k.answers 0 (old.clock, old.handler) (now.clock, now.handler) s.exchanges last clock handler s.chain tick question_is;
-      appended = s.appended;
+      wrote = s.wrote;
       writes = s.writes;
       made = s.made;
       each = s.each;
@@ -181,12 +199,11 @@ count_push es e = length-append es (e ∷ [])
 
 -- a reply after some replies
 pub replies_sent : {W : Type 0} (contents : W → Option (List ℕ)) (old now new : Counted W) (es : List Exchange) (e : Exchange) (reply : Reply)
-    → Appends (known_bytes contents old) (known_bytes contents now) (replies_of es)
-    → Appends (known_bytes contents now) (known_bytes contents new) (reply_bytes reply) → e.reply ≡ reply
-    → Appends (known_bytes contents old) (known_bytes contents new) (replies_of (es ++ e ∷ []))
+    → Wrote contents old now (replies_of es) true → Wrote contents now new (reply_bytes reply) true → e.reply ≡ reply
+    → Wrote contents old new (replies_of (es ++ e ∷ [])) true
 replies_sent contents old now new es e reply before sent is =
     let text : replies_of (es ++ e ∷ []) ≡ replies_of es ++ reply_bytes reply = replies_push es e ∙ ap (λ r. replies_of es ++ reply_bytes r) is in
-    rw text (Appends-trans _ _ _ _ _ before sent)
+    rw text (wrote_on contents old now new _ _ true before sent)
 
 -- where nothing is written after the replies
 pub no_parting : (es : List Exchange) → replies_of es ≡ replies_of es ++ parting_bytes silence
@@ -194,20 +211,22 @@ no_parting es = sym (append-nil (replies_of es))
 
 -- the reply was written whole, and the handler goes on
 pub goes_on : {R W C H : Type 0} {k : Words R W C H}
-    {old now : Sides R W C H} {unread : List ℕ} {left served : ℕ} {close : Bool} {reply : Reply}
-    → Handled k old now unread left served close reply
-    → (writer : Counted W) → Appends (known_bytes k.contents now.writer) (known_bytes k.contents writer) (reply_bytes reply) → MadeWrites now.writer writer true
+    {old now : Sides R W C H} {unread : List ℕ} {room left served : ℕ} {close : Bool} {reply : Reply}
+    → Handled k old now unread room left served close reply
+    → (writer : Counted W) → Wrote k.contents now.writer writer (reply_bytes reply) true → MadeWrites now.writer writer true
     → is_made reply ≡ true → close ≡ false
-    → Serving k old (record now { writer = writer }) unread left (served + 1)
+    → Serving k old (record now { writer = writer }) unread room left (served + 1)
 goes_on {k = k} {old = old} {now = now} {reply = reply} h writer sent writes made stays =
     let count = h.count in
     record {
       given = h.given;
       exchanges = h.before ++ h.last ∷ [];
       read = h.read;
+      over = inr h.over;
+      roomy = h.roomy;
       reading = h.reading;
       chain = h.chain;
-      appended = replies_sent k.contents old.writer now.writer writer h.before h.last reply h.appended sent h.reply_is;
+      wrote = replies_sent k.contents old.writer now.writer writer h.before h.last reply h.wrote sent h.reply_is;
       writes = h.writes + writes.writes;
       made = made_on _ _ _ _ _ h.made writes.made;
       each = each_push h.before h.last h.each (record { made = ap is_made h.reply_is ∙ made; asks = h.asks ∙ stays });

@@ -13,7 +13,7 @@ use Rattle.td_wire.specs.OneReading.{HasNoWire, Standing, unfinished, refused, h
 use Rattle.td_wire.proofs.Unique.{one_head, wire_head, same_length}
 
 -- a list that is no longer than the other's front is its front
-front_of : (front more p r : List ℕ) → front ++ more ≡ p ++ r → length p ≤ length front → front ≡ p ++ drop (length p) front
+pub front_of : (front more p r : List ℕ) → front ++ more ≡ p ++ r → length p ≤ length front → front ≡ p ++ drop (length p) front
 front_of front more p r same short =
     let first : take (length p) front ≡ p = sym (take-append-le (length p) front more short) ∙ (ap (take (length p)) same ∙ take-append_seam p r) in
     sym (take-append-drop (length p) front) ∙ ap (λ (xs : List ℕ). xs ++ drop (length p) front) first

@@ -35,7 +35,7 @@ wire_first bytes w v r q iw iv ew ev =
     (λ i. record { head = same.0 i; body = body i }, rest)
 
 -- the first of the requests
-first_of : (bytes : List ℕ) (w : Wire) (ws : List Wire) (r : List ℕ) → Splits bytes (w ∷ ws) r → bytes ≡ wire_bytes w ++ (flat_map wire_bytes ws ++ r)
+pub first_of : (bytes : List ℕ) (w : Wire) (ws : List Wire) (r : List ℕ) → Splits bytes (w ∷ ws) r → bytes ≡ wire_bytes w ++ (flat_map wire_bytes ws ++ r)
 first_of bytes w ws r s = s.whole ∙ append_assoc (wire_bytes w) (flat_map wire_bytes ws) r
 
 -- the others

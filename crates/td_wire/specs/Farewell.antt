@@ -1,8 +1,7 @@
 -- What is written where no further request is taken.
-use Rattle.std.specs.Prelude.{◌≡◌, ◌⊎◌, ℕ, false, if◌then◌else◌, List, Option}
-use Rattle.std.specs.Io.KnownBytes.{Appends}
+use Rattle.std.specs.Prelude.{◌≡◌, ◌⊎◌, ℕ, true, false, if◌then◌else◌, List, Option}
 use Rattle.td_base.specs.declared.counted.Counted.{Counted}
-use Rattle.td_base.specs.Counted.{known_bytes}
+use Rattle.td_base.specs.Chains.{Wrote}
 use Rattle.td_base.specs.Writing.{IsCutShort, MadeWrites}
 use Rattle.td_wire.specs.declared.reading.Stop.{Stop}
 use Rattle.td_wire.specs.declared.reading.Stop.TheVariants as stop
@@ -14,7 +13,7 @@ use Rattle.td_wire.specs.ReplyText.{framing_reply, no_memory_reply, reply_bytes,
 -- the message was written and the stream ended so, or it was cut short
 abbrev pub SendsLast : {W : Type 0} → (W → Option (List ℕ)) → Counted W → Counted W → List ℕ → StreamEnd → StreamEnd → Type 0
 SendsLast contents old new message good end =
-    ((end ≡ good) × Appends (known_bytes contents old) (known_bytes contents new) message)
+    ((end ≡ good) × Wrote contents old new message true)
     ⊎ ((end ≡ WriteFault) × IsCutShort contents old new message × MadeWrites old new false)
 
 -- what each stop of the reading leads to

@@ -1,8 +1,9 @@
 -- The bytes that were read and not yet taken, and what one read does to them.
-use Rattle.std.specs.Prelude.{◌≡◌, ℕ, ◌<◌, Bool, true, List, [], ◌++◌, length, drop, Option}
+use Rattle.std.specs.Prelude.{◌≡◌, ℕ, true, false, List, [], ◌++◌, drop, Option, vec_capacity}
 use Rattle.std.specs.Io.KnownBytes.{Consumes, IsAtEnd}
 use Rattle.td_base.specs.declared.counted.Counted.{Counted}
-use Rattle.td_base.specs.Counted.{calls_of, has_failed, known_bytes, one_more}
+use Rattle.td_base.specs.Chains.{IsRead, Brings}
+use Rattle.td_base.specs.Counted.{calls_of, known_bytes, one_more}
 use Rattle.td_wire.specs.declared.input.Input.{Input}
 use Rattle.td_wire.specs.declared.input.Piece.{Piece}
 use Rattle.td_wire.specs.declared.input.Piece.TheVariants.{Bytes, End, Fault}
@@ -11,11 +12,15 @@ use Rattle.td_wire.specs.declared.input.Piece.TheVariants.{Bytes, End, Fault}
 abbrev pub unread : Input → List ℕ
 unread input = drop input.start input.buffer.items
 
--- what a piece says of the bytes given, of those that are left to the reader, and of its last call
-abbrev pub Brings : List ℕ → Option (List ℕ) → Bool → Piece → Type 0
-Brings given left failed Bytes = 0 < length given
-Brings given left failed End = (given ≡ []) × IsAtEnd left
-Brings given left failed Fault = (given ≡ []) × (failed ≡ true)
+-- the room that the buffer has
+abbrev pub room_of : Input → ℕ
+room_of input = vec_capacity input.buffer
+
+-- what a piece says of the read: it brought bytes; it found the end of the input; it failed
+abbrev pub Gives : {R : Type 0} → (R → Option (List ℕ)) → Counted R → List ℕ → Counted R → Piece → Type 0
+Gives remaining old given new Bytes = Brings remaining old given new
+Gives remaining old given new End = (given ≡ []) × IsRead remaining false old [] new × IsAtEnd (known_bytes remaining new)
+Gives remaining old given new Fault = (given ≡ []) × IsRead remaining true old [] new
 
 -- one read gave some bytes, which follow those before
 pub record Fills {R : Type 0} (remaining : R → Option (List ℕ)) (old new : Counted R) (before after : List ℕ) (piece : Piece) : Type 0 where
@@ -23,4 +28,4 @@ pub record Fills {R : Type 0} (remaining : R → Option (List ℕ)) (old new : C
   pub consumed : Consumes (known_bytes remaining old) (known_bytes remaining new) given
   pub appended : after ≡ before ++ given
   pub called : calls_of new ≡ one_more (calls_of old)
-  pub brings : Brings given (known_bytes remaining new) (has_failed new) piece
+  pub gives : Gives remaining old given new piece

@@ -1,9 +1,10 @@
 -- What a stream of requests is, what is written for it, and what each way to end says.
-use Rattle.std.specs.Prelude.{◌≡◌, ◌≢◌, ℕ, ◌+◌, ◌<◌, ◌≤◌, ◌⊎◌, ℤ, true, false, ◌||◌, ◌==◌, List, [], ◌∷◌, ◌++◌, length, take, map, All, Option, ⊤}
-use Rattle.std.specs.List.{flat_map}
+use Rattle.std.specs.Prelude.{◌≡◌, ◌≢◌, ℕ, ◌+◌, ◌<◌, ◌≤◌, ◌⊎◌, ℤ, Bool, true, false, ◌||◌, ◌==◌, List, [], ◌∷◌, ◌++◌, length, take, map, All, Option, ⊤}
+use Rattle.std.specs.List.{concat, flat_map}
 use Rattle.std.specs.Io.KnownBytes.{Consumes, Appends, IsAtEnd}
 use Rattle.td_base.specs.declared.counted.Counted.{Counted}
 use Rattle.td_base.specs.Counted.{calls_of, has_failed, known_bytes, HasMade}
+use Rattle.td_base.specs.Chains.{Wrote}
 use Rattle.td_base.specs.Writing.{MadeWrites}
 use Rattle.td_wire.specs.declared.framing.FramingError.{FramingError}
 use Rattle.td_wire.specs.declared.reply.Reply.{Reply}
@@ -11,6 +12,7 @@ use Rattle.td_wire.specs.declared.stream.StreamEnd.{StreamEnd}
 use Rattle.td_wire.specs.declared.stream.StreamEnd.TheVariants.{Closed, Asked, Served, Refused, Cut, ReadsSpent, ReadFault, WriteFault, Failed}
 use Rattle.td_wire.specs.Request as request
 use Rattle.td_wire.specs.ReplyText.{framing_reply, no_memory_reply, reply_bytes, is_made}
+use Rattle.td_wire.specs.Reading.{Finish, brought, ended, failed, Reads, count_of}
 use Rattle.td_wire.specs.Wire.{Wire, Splits, asks_close, IsOpen, IsRefusedFor, IsHeadRequest, BeginsServed}
 
 -- a request on the wire, the moment at which it was handled, and the reply
@@ -74,7 +76,8 @@ pub record Sides (R W C H : Type 0) : Type 0 where
   pub handler : H
 
 -- What happened: the bytes that were consumed, the requests that were answered, the bytes left of those consumed, the
--- handler after the replies, what was written after them, all that was written, and the number of reads.
+-- handler after the replies, what was written after them, all that was written, the number of reads, and what each of
+-- those that brought bytes brought.
 pub record Run (H : Type 0) : Type 0 where
   pub given : List ℕ
   pub exchanges : List Exchange
@@ -83,6 +86,52 @@ pub record Run (H : Type 0) : Type 0 where
   pub parting : Parting
   pub written : List ℕ
   pub reads : ℕ
+  pub pieces : List (List ℕ)
+
+-- the last read brought more than what is left over: none was made once the last request had come whole
+pub record HasNotReadOn (pieces : List (List ℕ)) (rest : List ℕ) : Type 0 where
+  pub before : List (List ℕ)
+  pub last : List ℕ
+  pub are : pieces ≡ before ++ last ∷ []
+  pub over : length rest < length last
+
+-- The last read that brought bytes was needed: a part of these belongs to a request that was answered, or what was left
+-- over before it was no whole request yet.
+abbrev pub IsCalledFor : List (List ℕ) → List ℕ → Type 0
+IsCalledFor pieces rest =
+    (pieces ≡ []) ⊎ (HasNotReadOn pieces rest
+    ⊎ ((before : List (List ℕ)) × (last : List ℕ) × (front : List ℕ) × (pieces ≡ before ++ last ∷ []) × (rest ≡ front ++ last) × IsOpen front))
+
+-- how the reads of a stream finish where it ends so
+abbrev pub finish_at : StreamEnd → Finish
+finish_at Closed = ended
+finish_at Cut = ended
+finish_at ReadsSpent = brought
+finish_at ReadFault = failed
+finish_at Asked = brought
+finish_at Served = brought
+finish_at Refused = brought
+finish_at Failed = brought
+finish_at WriteFault = brought
+
+-- whether all that was to be written was
+abbrev pub is_whole : StreamEnd → Bool
+is_whole Closed = true
+is_whole Cut = true
+is_whole ReadsSpent = true
+is_whole ReadFault = true
+is_whole Asked = true
+is_whole Served = true
+is_whole Refused = true
+is_whole Failed = true
+is_whole WriteFault = false
+
+-- where memory is missed after the replies, it is for the buffer, before any read, or for a request that is served
+abbrev pub MissesMemory : Parting → ℕ → List ℕ → Type 0
+MissesMemory silence reads rest = ⊤
+MissesMemory (refusal e) reads rest = ⊤
+MissesMemory (to_head target reply) reads rest = ⊤
+MissesMemory no_memory reads rest = (reads ≡ 0) ⊎ BeginsServed rest
 
 -- fewer than 1,000 requests were answered, and the stream went on after each
 pub record WentOn (es : List Exchange) : Type 0 where
@@ -115,6 +164,7 @@ pub record AskedAtReply {H : Type 0} (run : Run H) : Type 0 where
   pub silent : run.parting ≡ silence
   pub made : is_made last.reply ≡ true
   pub asks : asks_close last.wire.head ≡ true
+  pub left : HasNotReadOn run.pieces run.rest
 
 -- the last reply is a fixed one, of a fault
 pub record FailedAtReply {H : Type 0} (run : Run H) : Type 0 where
@@ -122,6 +172,7 @@ pub record FailedAtReply {H : Type 0} (run : Run H) : Type 0 where
   pub ended : EndedBy run.exchanges last
   pub silent : run.parting ≡ silence
   pub fixed : is_made last.reply ≡ false
+  pub left : HasNotReadOn run.pieces run.rest
 
 -- what was written last refuses what was left
 abbrev pub Refuses : Parting → Type 0
@@ -149,6 +200,7 @@ pub record CutAtReply {H : Type 0} (run : Run H) : Type 0 where
   pub ended : EndedBy run.exchanges last
   pub silent : run.parting ≡ silence
   pub breaks : BreaksOff (replies_of ended.before) (reply_bytes last.reply) run.written
+  pub left : HasNotReadOn run.pieces run.rest
 
 -- what is written after the replies wasn't written whole, and the replies were
 pub record CutAtParting {H : Type 0} (run : Run H) : Type 0 where
@@ -162,14 +214,16 @@ EndsAs remaining old new run Cut = MetEnd (known_bytes remaining new.reader) run
 EndsAs remaining old new run ReadsSpent = LeftOpen run × (run.reads ≡ 100000)
 EndsAs remaining old new run ReadFault = LeftOpen run × (has_failed new.reader ≡ true) × (0 < run.reads)
 EndsAs remaining old new run Asked = AskedAtReply run
-EndsAs remaining old new run Served = All GoesOn run.exchanges × (length run.exchanges ≡ 1000) × (run.parting ≡ silence)
+EndsAs remaining old new run Served = All GoesOn run.exchanges × (length run.exchanges ≡ 1000) × (run.parting ≡ silence) × HasNotReadOn run.pieces run.rest
 EndsAs remaining old new run Refused = WentOn run.exchanges × Refuses run.parting
 EndsAs remaining old new run Failed = FailedAtReply run ⊎ (WentOn run.exchanges × Fails run.parting)
 EndsAs remaining old new run WriteFault =
     (has_failed new.writer ≡ true) × MadeWrites old.writer new.writer false × (CutAtReply run ⊎ CutAtParting run)
 
 -- The stream was served: the bytes consumed are whole requests and a rest, each request had one tick of the clock and
--- one reply of the handler, and the replies were written in order and nothing else but what parts with the rest.
+-- one reply of the handler, and the replies were written in order and nothing else but what parts with the rest. Each read
+-- brought bytes that were needed, but for the last one where the stream ended by it; each write took bytes, but for the last
+-- one where the stream ended by that.
 pub record Serves {R W C H : Type 0} (remaining : R → Option (List ℕ)) (contents : W → Option (List ℕ))
     (ticks : C → ℤ → C → Type 0) (answers : H → ℤ → request.Asked → Reply → H → Type 0) (heads : H → List ℕ → Reply → H → Type 0)
     (old new : Sides R W C H) (end : StreamEnd) : Type 0 where
@@ -183,4 +237,10 @@ pub record Serves {R W C H : Type 0} (remaining : R → Option (List ℕ)) (cont
   pub whole : end ≢ WriteFault → run.written ≡ replies_of run.exchanges ++ parting_bytes run.parting
   pub counted : HasMade run.reads (calls_of old.reader) (calls_of new.reader)
   pub reads_at_most : run.reads ≤ 100000
+  pub given_is : concat run.pieces ≡ run.given
+  pub reads_are : run.reads ≡ count_of run.pieces (finish_at end)
+  pub read : Reads remaining old.reader new.reader run.pieces (finish_at end)
+  pub needed : IsCalledFor run.pieces run.rest
+  pub wrote : Wrote contents old.writer new.writer run.written (is_whole end)
+  pub memory : MissesMemory run.parting run.reads run.rest
   pub ends : EndsAs remaining old new run end

@@ -36,7 +36,7 @@ pub struct Input {
 }
 
 impl Input {
-    ghost use Rattle.td_wire.specs.Input.{unread, Fills};
+    ghost use Rattle.td_wire.specs.Input.{unread, room_of, Fills};
 
     pub fn new(alloc: Global) -> Input
         ensures { unread result ≡ [] }
@@ -64,7 +64,8 @@ impl Input {
     /// Takes the first of them.
     pub fn take(&mut self, len: usize)
         requires { len ≤ length (unread self.old) }
-        ensures { unread self.new ≡ drop len (unread self.old) }
+        ensures bytes { unread self.new ≡ drop len (unread self.old) }
+        ensures room { room_of self.new ≡ room_of self.old }
     {
         self.start += len;
     }
@@ -92,6 +93,9 @@ impl Input {
         requires { length (unread self.old) < 8192 + 65536 }
         ensures kept { OnErr result ((reader.new ≡ reader.old) × (unread self.new ≡ unread self.old)) }
         ensures memory { OnErr result (unread self.old ≡ []) }
+        ensures missing { OnErr result (room_of self.old < MOST) }
+        ensures room { OnOk result (MOST ≤ room_of self.new) }
+        ensures grown { room_of self.old ≤ room_of self.new }
         ensures read { IfOk result (Fills R.remaining reader.old reader.new (unread self.old) (unread self.new)) }
     {
         self.make_room()?;

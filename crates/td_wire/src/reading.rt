@@ -1,8 +1,8 @@
 //! The next request of a stream.
 ghost use Rattle.std.specs.Prelude.{◌≡◌, ◌<◌, ◌≤◌, ◌-◌, ◌++◌, ℕ, List, MatchResult};
-ghost use Rattle.td_wire.specs.Input.{unread};
+ghost use Rattle.td_wire.specs.Input.{unread, room_of};
 ghost use Rattle.td_wire.specs.Wire.{IsOpenBelow};
-ghost use Rattle.td_wire.specs.Reading.{ReadsOn, StopsAs, Takes};
+ghost use Rattle.td_wire.specs.Reading.{ReadsOn, StopsAs, Takes, KeepsRoom, finish_by};
 
 use crate::framing::FramingError;
 use crate::input::{Input, Piece};
@@ -38,11 +38,12 @@ fn read_up_to<R: Read>(
     wanted: usize,
 ) -> Result<(), Stop>
     requires { IsOpenBelow wanted (unread input.old) }
-    ensures { (given : List ℕ)
-        × ReadsOn R.remaining reader.old reader.new given reads.old reads.new
+    ensures read { (given : List ℕ)
+        × ReadsOn R.remaining reader.old reader.new (unread input.old) given reads.old reads.new (finish_by result)
         × MatchResult result
         (λ _. (unread input.new ≡ unread input.old ++ given) × (reads.new < reads.old))
-        (StopsAs R.remaining reader.new reads.old reads.new (unread input.old ++ given)) }
+        (StopsAs R.remaining reader.new reads.old reads.new (room_of input.old) (unread input.old ++ given)) }
+    ensures room { KeepsRoom (room_of input.old) (room_of input.new) reads.old reads.new }
 {
     while input.len() < wanted {
         if *reads == 0 {
@@ -69,11 +70,12 @@ pub fn read_request<R: Read>(
     reader: &mut Counted<R>,
     reads: &mut u32,
 ) -> Result<Request, Stop>
-    ensures { (given : List ℕ)
-        × ReadsOn R.remaining reader.old reader.new given reads.old reads.new
+    ensures read { (given : List ℕ)
+        × ReadsOn R.remaining reader.old reader.new (unread input.old) given reads.old reads.new (finish_by result)
         × MatchResult result
         (Takes (unread input.old ++ given) (unread input.new))
-        (StopsAs R.remaining reader.new reads.old reads.new (unread input.old ++ given)) }
+        (StopsAs R.remaining reader.new reads.old reads.new (room_of input.old) (unread input.old ++ given)) }
+    ensures room { KeepsRoom (room_of input.old) (room_of input.new) reads.old reads.new }
 {
     loop {
         let wanted = match next_request(alloc, input.bytes()) {

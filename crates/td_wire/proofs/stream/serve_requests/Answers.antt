@@ -3,7 +3,7 @@ use Rattle.std.proofs.lemmas.Int.{to_z-of_z}
 use Rattle.td_wire.proofs.Serving.{Handled, sides, serving_first, handled, goes_on}
 use Rattle.td_wire.proofs.Ends.{cut_reply, fixed_reply, asked_reply, served_all}
 use Rattle.td_wire.proofs.Farewells.{stopped}
-use Rattle.td_wire.specs.Input.{unread}
+use Rattle.td_wire.specs.Input.{unread, room_of}
 use Rattle.td_wire.proofs.stream.serve_requests.Given.{Over}
 use Rattle.td_wire.proofs.stream.serve_requests.Invariants.{words_of}
 use Rattle.td_wire.proofs.stream.serve_requests.Goals as goal
@@ -13,25 +13,25 @@ use Rattle.td_wire.proofs.stream.serve_requests.Goals.{After-answer-reply}
 handled_here : (g : Over) (c : After-answer-reply g)
     → Handled (words_of g) (sides c.args.reader.now c.args.writer.now c.args.clock.now c.args.handler.now)
     (sides c.read_request.new.reader c.loop-served.writer c.seconds-at.new.self c.answer-reply.new.handler)
-    (unread c.read_request.new.input) c.read_request.new.reads c.loop-served.served c.in-Ok.request.close c.answer-reply.result
+    (unread c.read_request.new.input) (room_of c.read_request.new.input) c.read_request.new.reads c.loop-served.served c.in-Ok.request.close c.answer-reply.result
 handled_here g c =
     let fits : SFits w64 c.seconds-at.result = search rules in
-    handled c.loop-served.invariant _ _ _ _ c.in-Ok.request c.in-Ok.ensures.1 c.in-Ok.ensures.2
+    handled c.loop-served.invariant _ _ _ _ _ c.in-Ok.request c.in-Ok.ensures.read.1 c.in-Ok.ensures.room c.in-Ok.ensures.read.2
     _ _ c.seconds-at.ensures c.answer-reply.result _ (rw (to_z-of_z w64 _ fits) at c.answer-reply.ensures)
 
 pub loop-served-init : goal.loop-served-init
-loop-served-init g c = serving_first _ _ _ c.new-input.ensures
+loop-served-init g c = serving_first _ _ _ _ c.new-input.ensures
 
 pub loop-served-preserved : goal.loop-served-preserved
 loop-served-preserved g c =
     let h = handled_here g (goal.at.loop-served-preserved g c).After-answer-reply in
-    let sent = rw c.as_bytes.ensures at (c.if-not-write_whole.ensures.whole refl) in
+    let sent = rw c.as_bytes.ensures at (c.if-not-write_whole.ensures.chain refl) in
     goes_on h _ sent c.if-not-write_whole.ensures.writes (sym c.if-not-is_made.ensures) c.if-asks.false
 
 pub returns-in-Err : goal.returns-in-Err
 returns-in-Err g c =
-    let read = c.in-Err.ensures in
-    stopped c.loop-served.invariant c.loop-served-test.true _ _ _ read.1 _ _ _ c.in-Err.stop read.2 c.end_stream.ensures
+    let read = c.in-Err.ensures.read in
+    stopped c.loop-served.invariant c.loop-served-test.true c.in-Err.stop _ _ _ read.1 _ _ _ read.2 c.end_stream.ensures
 
 pub returns-then-not-write_whole : goal.returns-then-not-write_whole
 returns-then-not-write_whole g c =
@@ -42,13 +42,13 @@ returns-then-not-write_whole g c =
 pub returns-then-not-is_made : goal.returns-then-not-is_made
 returns-then-not-is_made g c =
     let h = handled_here g (goal.at.returns-then-not-is_made g c).After-answer-reply in
-    let sent = rw c.as_bytes.ensures at (c.if-not-write_whole.ensures.whole refl) in
+    let sent = rw c.as_bytes.ensures at (c.if-not-write_whole.ensures.chain refl) in
     fixed_reply h c.loop-served-test.true _ sent (sym c.if-not-is_made.ensures)
 
 pub returns-then-asks : goal.returns-then-asks
 returns-then-asks g c =
     let h = handled_here g (goal.at.returns-then-asks g c).After-answer-reply in
-    let sent = rw c.as_bytes.ensures at (c.if-not-write_whole.ensures.whole refl) in
+    let sent = rw c.as_bytes.ensures at (c.if-not-write_whole.ensures.chain refl) in
     asked_reply h c.loop-served-test.true _ sent (sym c.if-not-is_made.ensures) c.if-asks.true
 
 pub returns : goal.returns

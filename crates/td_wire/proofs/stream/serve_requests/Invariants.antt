@@ -1,4 +1,4 @@
-use Rattle.td_wire.specs.Input.{unread}
+use Rattle.td_wire.specs.Input.{unread, room_of}
 use Rattle.td_wire.proofs.Serving.{Serving, Words, sides}
 use Rattle.td_wire.proofs.stream.serve_requests.Given as goal
 use Rattle.td_wire.proofs.stream.serve_requests.Given.{Over}
@@ -16,4 +16,4 @@ words_of g = record {
 abbrev pub invariant-loop-served : goal.invariant-loop-served
 invariant-loop-served g l =
     Serving (words_of g) (sides l.initial.reader l.initial.writer l.initial.clock l.initial.handler)
-    (sides l.reader l.writer l.clock l.handler) (unread l.input) l.reads l.served
+    (sides l.reader l.writer l.clock l.handler) (unread l.input) (room_of l.input) l.reads l.served
