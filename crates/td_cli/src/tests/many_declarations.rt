@@ -1,4 +1,6 @@
 //! Many declarations at one desk: a few as a test, and so many as the environment says where their time is measured.
+use super::assert_text;
+use super::exchanges::{served, service_of_ch};
 use super::texts::{lodge, open, register, see, shown};
 use crate::clock::FixedClock;
 use std::alloc::{AllocError, Global};
@@ -6,9 +8,9 @@ use std::env;
 use std::env::VarError;
 use std::process::Abort;
 use std::test::Fail;
-use td_base::{Counted, Country, Grn, HolderNo};
+use td_base::{Country, Grn, HolderNo};
 use td_desk::PlainDesk;
-use td_http::{Service, StreamEnd, serve_stream};
+use td_http::Service;
 
 /// A holder's number and the holder's first guarantee.
 #[derive(Drop)]
@@ -26,8 +28,9 @@ fn holder_of(alloc: Global, country: Country, number: u32) -> Result<Holder, Fai
     })
 }
 
-// 100 holders at a desk of that country.
-fn holders_of(alloc: Global, country: Country) -> Result<Vec<Holder>, Fail> {
+// 100 holders at a desk of CH.
+fn holders_of(alloc: Global) -> Result<Vec<Holder>, Fail> {
+    let country = Country::read(b"CH").ok_or("country")?;
     let mut holders = Vec::new(alloc);
     for number in 1..=100 {
         holders.push(holder_of(alloc, country, number)?)?;
@@ -90,18 +93,19 @@ fn all_shown(alloc: Global, holders: &[Holder], movements: u32) -> Result<String
     Ok(text)
 }
 
-// What is written for a stream that is served to its end.
-fn served(
-    rt: &(impl AllocGlobal + Abort),
-    service: &mut Service<PlainDesk>,
-    input: &str,
-) -> Result<Vec<u8>, Fail> {
-    let mut reader = Counted::new(input.as_bytes());
-    let mut writer = Counted::new(Vec::new(rt.alloc()));
-    let mut clock = FixedClock { at: 1_740_819_600 };
-    let end = serve_stream(rt.alloc(), &mut reader, &mut writer, &mut clock, service);
-    assert_eq!(rt; end, StreamEnd::Closed);
-    Ok(writer.into_inner())
+// What is written for a stream of these requests.
+fn told(rt: &(impl AllocGlobal + Abort), service: &mut Service<PlainDesk>, input: &str) -> Vec<u8> {
+    served(
+        rt,
+        service,
+        FixedClock { at: 1_740_819_600 },
+        input.as_bytes(),
+    )
+}
+
+// A stream of these requests is served, whatever is told.
+fn serve(rt: &(impl AllocGlobal + Abort), service: &mut Service<PlainDesk>, input: &str) {
+    let _told = told(rt, service, input);
 }
 
 // The holders register, have a guarantee opened each, and then lodge in turn, a stream for each turn.
@@ -111,10 +115,10 @@ fn lodge_in_turn(
     holders: &[Holder],
     each: u32,
 ) -> Result<(), Fail> {
-    let _registered = served(rt, service, &registrations(rt.alloc(), holders)?)?;
-    let _opened = served(rt, service, &openings(rt.alloc(), holders)?)?;
+    serve(rt, service, &registrations(rt.alloc(), holders)?);
+    serve(rt, service, &openings(rt.alloc(), holders)?);
     for turn in 0..each {
-        let _lodged = served(rt, service, &declarations(rt.alloc(), holders, turn)?)?;
+        serve(rt, service, &declarations(rt.alloc(), holders, turn)?);
     }
     Ok(())
 }
@@ -126,19 +130,25 @@ fn assert_shown(
     holders: &[Holder],
     movements: u32,
 ) -> Result<(), Fail> {
-    let told = served(rt, service, &views(rt.alloc(), holders)?)?;
     let wanted = all_shown(rt.alloc(), holders, movements)?;
-    assert_eq!(rt; str::from_utf8(&told)?, wanted.as_str());
-    Ok(())
+    let told = told(rt, service, &views(rt.alloc(), holders)?);
+    assert_text(rt, &told, wanted.as_bytes())
+}
+
+fn assert_lodged_in_turn(
+    rt: &(impl AllocGlobal + Abort),
+    holders: &[Holder],
+    each: u32,
+) -> Result<(), Fail> {
+    let mut service = service_of_ch(rt.alloc())?;
+    lodge_in_turn(rt, &mut service, holders, each)?;
+    assert_shown(rt, &mut service, holders, each)
 }
 
 // In the end each has as many movements as declarations.
 #[test]
 fn holders_lodge_in_turn(rt: HostRuntime) -> Result<(), Fail> {
-    let country = Country::read(b"CH").ok_or("country")?;
-    let holders = holders_of(rt.alloc(), country)?;
     let each = declarations_each(&rt)?;
-    let mut service = Service::new(PlainDesk::new(rt.alloc(), country)?);
-    lodge_in_turn(&rt, &mut service, &holders, each)?;
-    assert_shown(&rt, &mut service, &holders, each)
+    let holders = holders_of(rt.alloc())?;
+    assert_lodged_in_turn(&rt, &holders, each)
 }
