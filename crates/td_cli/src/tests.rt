@@ -78,19 +78,33 @@ where
     })
 }
 
+fn text_of(bytes: &[u8]) -> Result<&str, Fail> {
+    Ok(str::from_utf8(bytes)?)
+}
+
+fn assert_same(rt: &impl Abort, told: &str, wanted: &str) {
+    assert_eq!(rt; told, wanted);
+}
+
 /// The same text.
 fn assert_text(rt: &impl Abort, told: &[u8], wanted: &[u8]) -> Result<(), Fail> {
-    let told = str::from_utf8(told)?;
-    let wanted = str::from_utf8(wanted)?;
-    assert_eq!(rt; told, wanted);
+    assert_same(rt, text_of(told)?, text_of(wanted)?);
     Ok(())
+}
+
+fn assert_status(rt: &impl Abort, done: &Done, status: u8) {
+    assert_eq!(rt; done.status, status);
+}
+
+/// The job ended with this status, and said this line.
+fn assert_ended(rt: &impl Abort, done: &Done, status: u8, errors: &[u8]) -> Result<(), Fail> {
+    assert_status(rt, done, status);
+    assert_text(rt, &done.errors, errors)
 }
 
 fn assert_due(rt: &impl Abort, done: &Done, due: Due<'_>) -> Result<(), Fail> {
     assert_text(rt, &done.out, due.out)?;
-    assert_text(rt, &done.errors, due.errors)?;
-    assert_eq!(rt; done.status, due.status);
-    Ok(())
+    assert_ended(rt, done, due.status, due.errors)
 }
 
 /// The job of the words over the reader leaves what is due.

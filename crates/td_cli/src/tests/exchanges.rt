@@ -1,6 +1,6 @@
 //! Requests and the replies that are due to them, byte for byte.
 use super::devices::Moments;
-use super::{Done, assert_text, perform_over};
+use super::{Done, assert_ended, assert_text, perform_over};
 use std::alloc::{AllocError, Global};
 use std::process::Abort;
 use std::rt::Clock;
@@ -98,8 +98,7 @@ fn assert_told(rt: &impl Abort, replies: &[u8], exchanges: &[Exchange]) -> Resul
     for (_, reply) in exchanges {
         left = take_reply(rt, left, reply)?;
     }
-    assert_eq!(rt; left, b"".as_slice());
-    Ok(())
+    assert_text(rt, left, b"")
 }
 
 fn requests_of(alloc: Global, exchanges: &[Exchange]) -> Result<Vec<u8>, AllocError> {
@@ -119,11 +118,6 @@ fn done_on(
     perform_over(rt, words, input.as_slice())
 }
 
-fn assert_clean(rt: &impl Abort, done: &Done) {
-    assert_eq!(rt; done.errors.as_slice(), b"".as_slice());
-    assert_eq!(rt; done.status, 0);
-}
-
 /// The program with these words has each reply to these requests on one stream, and nothing else, and is done.
 pub fn assert_replies(
     rt: &(impl AllocGlobal + Clock + Abort),
@@ -131,7 +125,7 @@ pub fn assert_replies(
     exchanges: &[Exchange],
 ) -> Result<(), Fail> {
     let done = done_on(rt, words, exchanges)?;
-    assert_clean(rt, &done);
+    assert_ended(rt, &done, 0, b"")?;
     assert_told(rt, &done.out, exchanges)
 }
 
@@ -139,6 +133,10 @@ pub fn assert_replies(
 pub fn service_of_ch(alloc: Global) -> Result<Service<PlainDesk>, Fail> {
     let country = Country::read(b"CH").ok_or("country")?;
     Ok(Service::new(PlainDesk::new(alloc, country)?))
+}
+
+pub fn assert_closed(rt: &impl Abort, end: StreamEnd) {
+    assert_eq!(rt; end, StreamEnd::Closed);
 }
 
 /// What is written for a stream that is served to its end.
@@ -154,7 +152,7 @@ where
     let mut reader = Counted::new(input);
     let mut writer = Counted::new(Vec::new(rt.alloc()));
     let end = serve_stream(rt.alloc(), &mut reader, &mut writer, &mut clock, service);
-    assert_eq!(rt; end, StreamEnd::Closed);
+    assert_closed(rt, end);
     writer.into_inner()
 }
 
@@ -194,8 +192,7 @@ fn assert_told_at(rt: &impl Abort, replies: &[u8], exchanges: &[ExchangeAt]) -> 
     for (_, _, reply) in exchanges {
         left = take_reply(rt, left, reply)?;
     }
-    assert_eq!(rt; left, b"".as_slice());
-    Ok(())
+    assert_text(rt, left, b"")
 }
 
 /// A stream at an empty desk of CH has each reply to these requests, each of which comes at its own moment.

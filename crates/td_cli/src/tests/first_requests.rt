@@ -66,13 +66,17 @@ fn assert_prefix(rt: &(impl AllocGlobal + Clock + Abort), prefix: &[u8]) -> Resu
     assert_ends(rt, prefix, &replies, line_at(end))
 }
 
+fn assert_prefixes(rt: &(impl AllocGlobal + Clock + Abort), input: &[u8]) -> Result<(), Fail> {
+    for end in 0..=input.len() {
+        assert_prefix(rt, &input[..end])?;
+    }
+    Ok(())
+}
+
 #[test]
 fn every_prefix_has_the_replies_to_its_whole_requests(rt: HostRuntime) -> Result<(), Fail> {
     let input = many(rt.alloc(), REGISTER, SEE, 1, b"")?;
-    for end in 0..=input.len() {
-        assert_prefix(&rt, &input[..end])?;
-    }
-    Ok(())
+    assert_prefixes(&rt, &input)
 }
 
 const WITHOUT_A_MOMENT: &[&str] = &["transit-desk", "pipe", "--country", "DE"];
@@ -159,13 +163,20 @@ const ROUTED: &[Exchange] = &[
     ),
 ];
 
-// Holder 000001 is registered, and then each row's request comes on the same stream.
-#[test]
-fn both_routes_have_each_reply(rt: HostRuntime) -> Result<(), Fail> {
-    for row in ROUTED {
-        assert_replies(&rt, &WORDS, &[(REGISTER, SHOWN), *row])?;
+// Holder 000001 is registered, and then the request of one of these comes on the same stream.
+fn assert_each_routed(
+    rt: &(impl AllocGlobal + Clock + Abort),
+    rows: &[Exchange],
+) -> Result<(), Fail> {
+    for row in rows {
+        assert_replies(rt, &WORDS, &[(REGISTER, SHOWN), *row])?;
     }
     Ok(())
+}
+
+#[test]
+fn both_routes_have_each_reply(rt: HostRuntime) -> Result<(), Fail> {
+    assert_each_routed(&rt, ROUTED)
 }
 
 // Out of the clock's range a readable request, a view included, is clock-range, and an unreadable one keeps its own error.

@@ -3,8 +3,10 @@ use super::texts::{Script, assert_script};
 use std::alloc::{AllocError, Global};
 use std::test::Fail;
 
-// Holders, and the first guarantee and the first movement of each.
-const HOLDERS: [(&str, &str, &str); 30] = [
+// A holder, and the holder's first guarantee and first movement.
+type Holder = (&'static str, &'static str, &'static str);
+
+const HOLDERS: [Holder; 30] = [
     ("500000", "25CH5000000000011", "25CH50000000000010"),
     ("000001", "25CH0000010000014", "25CH00000100000013"),
     ("999999", "25CH9999990000016", "25CH99999900000015"),
@@ -37,45 +39,45 @@ const HOLDERS: [(&str, &str, &str); 30] = [
     ("000003", "25CH0000030000015", "25CH00000300000014"),
 ];
 
-fn register_all(alloc: Global, script: &mut Script) -> Result<(), AllocError> {
-    for (holder, _, _) in &HOLDERS {
+fn register_all(alloc: Global, script: &mut Script, holders: &[Holder]) -> Result<(), AllocError> {
+    for (holder, _, _) in holders {
         script.register(alloc, holder)?;
     }
     Ok(())
 }
 
-fn open_for_all(alloc: Global, script: &mut Script) -> Result<(), AllocError> {
-    for (holder, grn, _) in &HOLDERS {
+fn open_for_all(alloc: Global, script: &mut Script, holders: &[Holder]) -> Result<(), AllocError> {
+    for (holder, grn, _) in holders {
         script.open(alloc, holder, grn)?;
     }
     Ok(())
 }
 
-fn lodge_for_all(alloc: Global, script: &mut Script) -> Result<(), AllocError> {
-    for (holder, grn, mrn) in &HOLDERS {
+fn lodge_for_all(alloc: Global, script: &mut Script, holders: &[Holder]) -> Result<(), AllocError> {
+    for (holder, grn, mrn) in holders {
         script.lodge(alloc, holder, "A1", grn, mrn)?;
     }
     Ok(())
 }
 
-fn see_all(alloc: Global, script: &mut Script) -> Result<(), AllocError> {
-    for (holder, _, _) in &HOLDERS {
+fn see_all(alloc: Global, script: &mut Script, holders: &[Holder]) -> Result<(), AllocError> {
+    for (holder, _, _) in holders {
         script.see(alloc, holder, 1, 1)?;
     }
     Ok(())
 }
 
 // All register, then all open, then all lodge under one LRN, then all are shown.
-fn write_all(alloc: Global, script: &mut Script) -> Result<(), AllocError> {
-    register_all(alloc, script)?;
-    open_for_all(alloc, script)?;
-    lodge_for_all(alloc, script)?;
-    see_all(alloc, script)
+fn write_all(alloc: Global, script: &mut Script, holders: &[Holder]) -> Result<(), AllocError> {
+    register_all(alloc, script, holders)?;
+    open_for_all(alloc, script, holders)?;
+    lodge_for_all(alloc, script, holders)?;
+    see_all(alloc, script, holders)
 }
 
 #[test]
 fn each_of_many_holders_has_first_references(rt: HostRuntime) -> Result<(), Fail> {
     let mut script = Script::new(rt.alloc());
-    write_all(rt.alloc(), &mut script)?;
+    write_all(rt.alloc(), &mut script, &HOLDERS)?;
     assert_script(&rt, &script)
 }

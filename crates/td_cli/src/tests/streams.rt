@@ -1,10 +1,11 @@
 //! The framing of a stream and each way in which it ends, through the program.
 use super::devices::{Drip, Endless, Narrow};
-use super::exchanges::service_of_ch;
+use super::exchanges::{assert_closed, service_of_ch};
 use super::texts::many;
 use super::{Done, Due, WORDS, assert_due, assert_job, words_of};
 use crate::clock::FixedClock;
 use crate::perform::perform;
+use std::alloc::{AllocError, Global};
 use std::process::Abort;
 use std::rt::Clock;
 use std::test::Fail;
@@ -58,7 +59,8 @@ struct Row {
     line: &'static [u8],
 }
 
-const ROWS: [Row; 21] = [
+// Heads at their limits of bytes and of fields, and past them.
+const HEADS: [Row; 6] = [
     Row {
         front: b"GET /",
         unit: b"a",
@@ -107,6 +109,10 @@ const ROWS: [Row; 21] = [
         reply: BAD_HEAD,
         line: REFUSED,
     },
+];
+
+// Bodies at their limit and past it, and how their length is written.
+const LENGTHS: [Row; 8] = [
     Row {
         front: b"PUT /office/holders/000002 HTTP/1.1\r\nContent-Length: 65537\r\n\r\n",
         unit: b"a",
@@ -171,6 +177,10 @@ const ROWS: [Row; 21] = [
         reply: TRANSFER_ENCODING,
         line: REFUSED,
     },
+];
+
+// Requests that end a stream, whatever comes behind them, and one that does not.
+const LAST_REQUESTS: [Row; 7] = [
     Row {
         front: b"HEAD /holders/000002 HTTP/1.1\r\n\r\n",
         unit: b"",
@@ -239,12 +249,26 @@ fn assert_framed(rt: &(impl AllocGlobal + Clock + Abort), row: &Row) -> Result<(
     assert_job(rt, &WORDS, input.as_slice(), due)
 }
 
-#[test]
-fn requests_are_framed(rt: HostRuntime) -> Result<(), Fail> {
-    for row in &ROWS {
-        assert_framed(&rt, row)?;
+fn assert_each_framed(rt: &(impl AllocGlobal + Clock + Abort), rows: &[Row]) -> Result<(), Fail> {
+    for row in rows {
+        assert_framed(rt, row)?;
     }
     Ok(())
+}
+
+#[test]
+fn heads_are_framed(rt: HostRuntime) -> Result<(), Fail> {
+    assert_each_framed(&rt, &HEADS)
+}
+
+#[test]
+fn bodies_are_framed(rt: HostRuntime) -> Result<(), Fail> {
+    assert_each_framed(&rt, &LENGTHS)
+}
+
+#[test]
+fn last_requests_are_framed(rt: HostRuntime) -> Result<(), Fail> {
+    assert_each_framed(&rt, &LAST_REQUESTS)
 }
 
 // The thousandth reply tells that the stream stops, and the request after it isn't looked at.
@@ -257,13 +281,13 @@ fn a_thousand_requests_are_served(rt: HostRuntime) -> Result<(), Fail> {
 
 const READS_SPENT: &[u8] = b"transit-desk: stream reads-spent\n";
 
-// The bytes come again and again, one byte a read.
+// A request of 125 bytes that comes again and again, one byte a read, has these replies.
 fn assert_reads_spent(
     rt: &(impl AllocGlobal + Clock + Abort),
     bytes: &[u8],
     replies: &[u8],
 ) -> Result<(), Fail> {
-    assert_eq!(rt; bytes.len(), 125);
+    assert!(rt; bytes.len() == 125);
     let due = Due {
         status: 1,
         out: replies,
@@ -336,13 +360,20 @@ fn assert_narrow_at_each_byte(
     Ok(())
 }
 
+fn assert_narrow_writers(
+    rt: &(impl AllocGlobal + Clock + Abort),
+    words: &[String],
+) -> Result<(), Fail> {
+    let input = many(rt.alloc(), b"", SEE, 2, b"")?;
+    let replies = many(rt.alloc(), b"", NO_HOLDER, 2, b"")?;
+    assert_narrow_at_each_byte(rt, words, &input, &replies)
+}
+
 // A writer that fails, and one that takes nothing, after each number of bytes of two replies.
 #[test]
 fn writers_fail_at_each_byte(rt: HostRuntime) -> Result<(), Fail> {
-    let input = many(rt.alloc(), b"", SEE, 2, b"")?;
-    let replies = many(rt.alloc(), b"", NO_HOLDER, 2, b"")?;
     let words = words_of(rt.alloc(), &WORDS)?;
-    assert_narrow_at_each_byte(&rt, &words, &input, &replies)
+    assert_narrow_writers(&rt, &words)
 }
 
 const REGISTER: &[u8] =
@@ -377,39 +408,60 @@ fn is_joined(out: &[u8], replies: &[&[u8]]) -> bool {
     left.is_empty()
 }
 
-// What is written where the input is served three times at most, one byte a read, as long as its streams fail.
-fn served_again(
-    rt: &(impl AllocGlobal + Abort),
+fn is_due_after_faults(out: &[u8]) -> bool {
+    for replies in &REPLIES {
+        if is_joined(out, replies) {
+            return true;
+        }
+    }
+    false
+}
+
+// The input is served three times at most, as long as its streams fail.
+fn serve_again(
+    alloc: Global,
+    reader: &mut Counted<Drip<'_>>,
+    writer: &mut Counted<Vec<u8>>,
     service: &mut Service<PlainDesk>,
-    input: &[u8],
-) -> Result<Vec<u8>, Fail> {
-    let mut reader = Counted::new(Drip::ending(input));
-    let mut writer = Counted::new(Vec::with_capacity(rt.alloc(), 1024)?);
+) -> StreamEnd {
     let mut clock = FixedClock { at: 1_740_819_600 };
     let mut end = StreamEnd::Failed;
     for _ in 0..3 {
         if end == StreamEnd::Failed {
-            end = serve_stream(rt.alloc(), &mut reader, &mut writer, &mut clock, service);
+            end = serve_stream(alloc, reader, writer, &mut clock, service);
         }
     }
-    assert_eq!(rt; end, StreamEnd::Closed);
+    end
+}
+
+// What is written for this input, one byte a read.
+fn told_of_drip(
+    rt: &(impl AllocGlobal + Abort),
+    service: &mut Service<PlainDesk>,
+    input: &[u8],
+) -> Result<Vec<u8>, AllocError> {
+    let mut writer = Counted::new(Vec::with_capacity(rt.alloc(), 1024)?);
+    let mut reader = Counted::new(Drip::ending(input));
+    let end = serve_again(rt.alloc(), &mut reader, &mut writer, service);
+    assert_closed(rt, end);
     Ok(writer.into_inner())
 }
 
-fn out_of_faults(rt: &(impl AllocGlobal + Abort)) -> Result<Vec<u8>, Fail> {
-    let input = many(rt.alloc(), REGISTER, SEE, 2, b"")?;
+fn told_at_new_desk(rt: &(impl AllocGlobal + Abort), input: &[u8]) -> Result<Vec<u8>, Fail> {
     let mut service = service_of_ch(rt.alloc())?;
-    served_again(rt, &mut service, &input)
+    Ok(told_of_drip(rt, &mut service, input)?)
+}
+
+fn assert_served_after_faults(rt: &(impl AllocGlobal + Abort), input: &[u8]) -> Result<(), Fail> {
+    let out = told_at_new_desk(rt, input)?;
+    assert!(rt; is_due_after_faults(&out));
+    Ok(())
 }
 
 // After a fault the rest of the input is served as the next stream, at the same desk. To be run with each allocation refused in turn, where
 // one request or the stream's own buffer meets the fault, and all others have their replies.
 #[test]
 fn the_rest_is_served_after_a_fault(rt: HostRuntime) -> Result<(), Fail> {
-    let out = out_of_faults(&rt)?;
-    assert!(rt;
-        REPLIES.iter().any(|replies| is_joined(&out, replies)),
-        "{out:?}"
-    );
-    Ok(())
+    let input = many(rt.alloc(), REGISTER, SEE, 2, b"")?;
+    assert_served_after_faults(&rt, &input)
 }

@@ -48,13 +48,16 @@ pub fn open(alloc: Global, holder: &str) -> Result<String, AllocError> {
     request(alloc, "POST", &target, body)
 }
 
+fn declaration(alloc: Global, lrn: &str, grn: &str) -> Result<String, AllocError> {
+    format!(in alloc;
+        "{{\"lrn\":\"{lrn}\",\"departure\":\"CH001251\",\"destination\":\"DE005600\",\"lines\":[{{\"grn\":\"{grn}\",\"code\":\"AB12\",\"cents\":500000}}]}}"
+    )
+}
+
 /// Lodges a declaration of 500000 cents on a guarantee with the code AB12.
 pub fn lodge(alloc: Global, holder: &str, lrn: &str, grn: &str) -> Result<String, AllocError> {
     let target = format!(in alloc; "/holders/{holder}/movements")?;
-    let body = format!(in alloc;
-        "{{\"lrn\":\"{lrn}\",\"departure\":\"CH001251\",\"destination\":\"DE005600\",\"lines\":[{{\"grn\":\"{grn}\",\"code\":\"AB12\",\"cents\":500000}}]}}"
-    )?;
-    request(alloc, "POST", &target, &body)
+    request(alloc, "POST", &target, &declaration(alloc, lrn, grn)?)
 }
 
 /// Asks to see a holder.

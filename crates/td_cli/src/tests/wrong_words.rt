@@ -1,5 +1,5 @@
 //! Wrong words: status 2, nothing done, and a text that says what was wrong.
-use super::{Done, Due, assert_job, perform_over};
+use super::{Done, Due, assert_ended, assert_job, assert_status, assert_text, perform_over};
 use std::process::Abort;
 use std::rt::Clock;
 use std::test::Fail;
@@ -35,25 +35,31 @@ const WRONG: [&[&str]; 12] = [
     &["transit-desk", "pipe", "--country", "CH", "--db", "desk.db"],
 ];
 
-fn assert_told_wrong(rt: &impl Abort, done: &Done) {
-    assert_eq!(rt; done.status, 2);
-    assert_eq!(rt; done.out.as_slice(), b"".as_slice());
+fn assert_told_wrong(rt: &impl Abort, done: &Done) -> Result<(), Fail> {
+    assert_status(rt, done, 2);
     assert!(rt; done.errors.starts_with(b"error: "));
+    assert_text(rt, &done.out, b"")
 }
 
 fn assert_wrong(rt: &(impl AllocGlobal + Clock + Abort), words: &[&str]) -> Result<(), Fail> {
     let request = b"GET /holders/000001 HTTP/1.1\r\n\r\n";
     let done = perform_over(rt, words, request.as_slice())?;
-    assert_told_wrong(rt, &done);
+    assert_told_wrong(rt, &done)
+}
+
+fn assert_each_wrong(
+    rt: &(impl AllocGlobal + Clock + Abort),
+    rows: &[&[&str]],
+) -> Result<(), Fail> {
+    for words in rows {
+        assert_wrong(rt, words)?;
+    }
     Ok(())
 }
 
 #[test]
 fn wrong_words_do_nothing(rt: HostRuntime) -> Result<(), Fail> {
-    for words in &WRONG {
-        assert_wrong(&rt, words)?;
-    }
-    Ok(())
+    assert_each_wrong(&rt, &WRONG)
 }
 
 // Words with a wrong value, and what is told of it.
@@ -81,15 +87,13 @@ fn a_wrong_value_is_told(rt: HostRuntime) -> Result<(), Fail> {
     Ok(())
 }
 
-fn assert_helped(rt: &impl Abort, done: &Done) {
-    assert_eq!(rt; done.status, 0);
+fn assert_helped(rt: &impl Abort, done: &Done) -> Result<(), Fail> {
     assert!(rt; !done.out.is_empty());
-    assert_eq!(rt; done.errors.as_slice(), b"".as_slice());
+    assert_ended(rt, done, 0, b"")
 }
 
 #[test]
 fn help_is_no_fault(rt: HostRuntime) -> Result<(), Fail> {
     let done = perform_over(&rt, &["transit-desk", "--help"], b"".as_slice())?;
-    assert_helped(&rt, &done);
-    Ok(())
+    assert_helped(&rt, &done)
 }
