@@ -109,6 +109,7 @@ fn requests_of(alloc: Global, exchanges: &[Exchange]) -> Result<Vec<u8>, AllocEr
     Ok(input)
 }
 
+// What the program with these words leaves on a stream of these requests.
 fn done_on(
     rt: &(impl AllocGlobal + Clock),
     words: &[&str],

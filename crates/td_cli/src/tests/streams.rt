@@ -112,7 +112,7 @@ const HEADS: [Row; 6] = [
 ];
 
 // Bodies at their limit and past it, and how their length is written.
-const LENGTHS: [Row; 8] = [
+const BODIES: [Row; 8] = [
     Row {
         front: b"PUT /office/holders/000002 HTTP/1.1\r\nContent-Length: 65537\r\n\r\n",
         unit: b"a",
@@ -263,7 +263,7 @@ fn heads_are_framed(rt: HostRuntime) -> Result<(), Fail> {
 
 #[test]
 fn bodies_are_framed(rt: HostRuntime) -> Result<(), Fail> {
-    assert_each_framed(&rt, &LENGTHS)
+    assert_each_framed(&rt, &BODIES)
 }
 
 #[test]
@@ -281,7 +281,7 @@ fn a_thousand_requests_are_served(rt: HostRuntime) -> Result<(), Fail> {
 
 const READS_SPENT: &[u8] = b"transit-desk: stream reads-spent\n";
 
-// A request of 125 bytes that comes again and again, one byte a read, has these replies.
+// These bytes, again and again, have these replies.
 fn assert_reads_spent(
     rt: &(impl AllocGlobal + Clock + Abort),
     bytes: &[u8],
@@ -305,7 +305,7 @@ fn reads_are_spent(rt: HostRuntime) -> Result<(), Fail> {
     assert_reads_spent(&rt, &request, &replies)
 }
 
-// What the program takes with it: its words and its input.
+// What is left where the replies go to this writer.
 fn done_narrow(
     rt: &(impl AllocGlobal + Clock),
     words: &[String],
@@ -397,6 +397,7 @@ const REPLIES: [&[&[u8]]; 8] = [
     &[SHOWN, SHOWN, SHOWN, NO_MEMORY],
 ];
 
+// Whether these replies and nothing else were written.
 fn is_joined(out: &[u8], replies: &[&[u8]]) -> bool {
     let mut left = out;
     for reply in replies {
