@@ -17,6 +17,8 @@ mod wrong_words;
 use crate::perform::perform;
 use std::alloc::{AllocError, Global};
 use std::io::Read;
+use std::process::Abort;
+use std::rt::Clock;
 use std::test::Fail;
 use td_base::Counted;
 
@@ -26,6 +28,25 @@ struct Done {
     status: u8,
     out: Vec<u8>,
     errors: Vec<u8>,
+}
+
+/// What a job has to leave.
+#[derive(Clone, Copy)]
+struct Due<'a> {
+    status: u8,
+    out: &'a [u8],
+    errors: &'a [u8],
+}
+
+impl<'a> Due<'a> {
+    /// Of a job that is done: these replies, and no line.
+    fn replies(out: &'a [u8]) -> Due<'a> {
+        Due {
+            status: 0,
+            out,
+            errors: b"",
+        }
+    }
 }
 
 fn words_of(alloc: Global, words: &[&str]) -> Result<Vec<String>, AllocError> {
@@ -38,7 +59,7 @@ fn words_of(alloc: Global, words: &[&str]) -> Result<Vec<String>, AllocError> {
 
 /// Does the job of the words over any reader.
 fn perform_over<R: Read>(
-    rt: &(impl AllocGlobal + std::rt::Clock),
+    rt: &(impl AllocGlobal + Clock),
     words: &[&str],
     reader: R,
 ) -> Result<Done, Fail>
@@ -57,6 +78,61 @@ where
     })
 }
 
+fn text_of(bytes: &[u8]) -> Result<&str, Fail> {
+    Ok(str::from_utf8(bytes)?)
+}
+
+fn assert_same(rt: &impl Abort, told: &str, wanted: &str) {
+    assert_eq!(rt; told, wanted);
+}
+
+/// The same text.
+fn assert_text(rt: &impl Abort, told: &[u8], wanted: &[u8]) -> Result<(), Fail> {
+    assert_same(rt, text_of(told)?, text_of(wanted)?);
+    Ok(())
+}
+
+fn assert_status(rt: &impl Abort, done: &Done, status: u8) {
+    assert_eq!(rt; done.status, status);
+}
+
+/// The job ended with this status, and said this line.
+fn assert_ended(rt: &impl Abort, done: &Done, status: u8, errors: &[u8]) -> Result<(), Fail> {
+    assert_status(rt, done, status);
+    assert_text(rt, &done.errors, errors)
+}
+
+fn assert_due(rt: &impl Abort, done: &Done, due: Due<'_>) -> Result<(), Fail> {
+    assert_text(rt, &done.out, due.out)?;
+    assert_ended(rt, done, due.status, due.errors)
+}
+
+/// The job of the words over the reader leaves what is due.
+fn assert_job<R: Read>(
+    rt: &(impl AllocGlobal + Clock + Abort),
+    words: &[&str],
+    reader: R,
+    due: Due<'_>,
+) -> Result<(), Fail>
+where
+    R: Drop,
+{
+    let done = perform_over(rt, words, reader)?;
+    assert_due(rt, &done, due)
+}
+
+/// `transit-desk pipe` at a desk of this country, at this moment.
+fn words_at<'a>(country: &'a str, seconds: &'a str) -> [&'a str; 6] {
+    [
+        "transit-desk",
+        "pipe",
+        "--country",
+        country,
+        "--at",
+        seconds,
+    ]
+}
+
 /// The words of the worked rows.
 const WORDS: [&str; 6] = [
     "transit-desk",
@@ -66,8 +142,3 @@ const WORDS: [&str; 6] = [
     "--at",
     "1740819600",
 ];
-
-/// `transit-desk pipe --country CH --at 1740819600` on these bytes.
-fn pipe(rt: &HostRuntime, input: &[u8]) -> Result<Done, Fail> {
-    perform_over(rt, &WORDS, input)
-}

@@ -1,8 +1,9 @@
 //! Declarations lodged (IE015), and the MRN allocated to each (IE028).
 use super::WORDS;
 use super::exchanges::{
-    A1, A1_LODGED, A2, A2_LODGED, NO_GUARANTEE, NO_HOLDER, OPEN, OPENED, OTHER_A1, OTHER_A1_LODGED,
-    OTHER_OPEN, OTHER_OPENED, OTHER_REGISTER, OTHER_SEE, OTHER_SHOWN, SHOWN_OPENED, assert_replies,
+    A1, A1_LODGED, A2, A2_LODGED, Exchange, NO_GUARANTEE, NO_HOLDER, OPEN, OPENED, OTHER_A1,
+    OTHER_A1_LODGED, OTHER_OPEN, OTHER_OPENED, OTHER_REGISTER, OTHER_SEE, OTHER_SHOWN,
+    SHOWN_OPENED, assert_replies,
 };
 use super::first_requests::{REGISTER, SEE, SHOWN};
 use std::test::Fail;
@@ -19,57 +20,51 @@ const SHOWN_WITH_THREE: &[u8] =
 const OTHER_SHOWN_WITH_ONE: &[u8] =
     b"HTTP/1.1 200 OK\r\nContent-Type: application/json\r\nContent-Length: 67\r\n\r\n{\"eori\":\"DE7654321\",\"guarantees\":1,\"holder\":\"000002\",\"movements\":1}";
 
+const THREE_DECLARATIONS: &[Exchange] = &[
+    (REGISTER, SHOWN),
+    (OPEN, OPENED),
+    (A1, A1_LODGED),
+    (A2, A2_LODGED),
+    (A3, A3_LODGED),
+    (SEE, SHOWN_WITH_THREE),
+];
+
 #[test]
 fn declarations_have_mrns_in_order(rt: HostRuntime) -> Result<(), Fail> {
-    assert_replies(
-        &rt,
-        &WORDS,
-        &[
-            (REGISTER, SHOWN),
-            (OPEN, OPENED),
-            (A1, A1_LODGED),
-            (A2, A2_LODGED),
-            (A3, A3_LODGED),
-            (SEE, SHOWN_WITH_THREE),
-        ],
-    )
+    assert_replies(&rt, &WORDS, THREE_DECLARATIONS)
 }
+
+const ANOTHER_HOLDER_IN_BETWEEN: &[Exchange] = &[
+    (REGISTER, SHOWN),
+    (OTHER_REGISTER, OTHER_SHOWN),
+    (OPEN, OPENED),
+    (A1, A1_LODGED),
+    (OTHER_OPEN, OTHER_OPENED),
+    (OTHER_A1, OTHER_A1_LODGED),
+    (A2, A2_LODGED),
+    (A3, A3_LODGED),
+    (SEE, SHOWN_WITH_THREE),
+    (OTHER_SEE, OTHER_SHOWN_WITH_ONE),
+];
 
 #[test]
 fn another_holder_in_between_changes_no_reply(rt: HostRuntime) -> Result<(), Fail> {
-    assert_replies(
-        &rt,
-        &WORDS,
-        &[
-            (REGISTER, SHOWN),
-            (OTHER_REGISTER, OTHER_SHOWN),
-            (OPEN, OPENED),
-            (A1, A1_LODGED),
-            (OTHER_OPEN, OTHER_OPENED),
-            (OTHER_A1, OTHER_A1_LODGED),
-            (A2, A2_LODGED),
-            (A3, A3_LODGED),
-            (SEE, SHOWN_WITH_THREE),
-            (OTHER_SEE, OTHER_SHOWN_WITH_ONE),
-        ],
-    )
+    assert_replies(&rt, &WORDS, ANOTHER_HOLDER_IN_BETWEEN)
 }
+
+const LODGED_BEFORE_REGISTERED: &[Exchange] = &[
+    (A1, NO_HOLDER),
+    (OTHER_REGISTER, OTHER_SHOWN),
+    (A1, NO_HOLDER),
+    (REGISTER, SHOWN),
+    (A1, NO_GUARANTEE),
+    (OPEN, OPENED),
+    (A1, A1_LODGED),
+];
 
 #[test]
 fn nothing_is_lodged_by_a_number_that_is_not_registered(rt: HostRuntime) -> Result<(), Fail> {
-    assert_replies(
-        &rt,
-        &WORDS,
-        &[
-            (A1, NO_HOLDER),
-            (OTHER_REGISTER, OTHER_SHOWN),
-            (A1, NO_HOLDER),
-            (REGISTER, SHOWN),
-            (A1, NO_GUARANTEE),
-            (OPEN, OPENED),
-            (A1, A1_LODGED),
-        ],
-    )
+    assert_replies(&rt, &WORDS, LODGED_BEFORE_REGISTERED)
 }
 
 const BAD_CODE: &[u8] =
@@ -102,26 +97,24 @@ const SHOWN_WITH_TWO: &[u8] =
     b"HTTP/1.1 200 OK\r\nContent-Type: application/json\r\nContent-Length: 67\r\n\r\n{\"eori\":\"CH1234567\",\"guarantees\":2,\"holder\":\"000001\",\"movements\":1}";
 
 // What is refused is no movement, and takes no serial.
+const LINES_IN_TURN: &[Exchange] = &[
+    (REGISTER, SHOWN),
+    (OPEN, OPENED),
+    (CODE_THEN_UNOPENED, BAD_CODE),
+    (SEE, SHOWN_OPENED),
+    (UNOPENED_THEN_CODE, NO_GUARANTEE),
+    (SEE, SHOWN_OPENED),
+    (UNOPENED_WITH_CODE, NO_GUARANTEE),
+    (SEE, SHOWN_OPENED),
+    (OPEN, SECOND_OPENED),
+    (GOOD_THEN_CODE, BAD_CODE),
+    (BOTH_GOOD, B1_LODGED),
+    (SEE, SHOWN_WITH_TWO),
+];
+
 #[test]
 fn lines_are_tested_one_after_the_other(rt: HostRuntime) -> Result<(), Fail> {
-    assert_replies(
-        &rt,
-        &WORDS,
-        &[
-            (REGISTER, SHOWN),
-            (OPEN, OPENED),
-            (CODE_THEN_UNOPENED, BAD_CODE),
-            (SEE, SHOWN_OPENED),
-            (UNOPENED_THEN_CODE, NO_GUARANTEE),
-            (SEE, SHOWN_OPENED),
-            (UNOPENED_WITH_CODE, NO_GUARANTEE),
-            (SEE, SHOWN_OPENED),
-            (OPEN, SECOND_OPENED),
-            (GOOD_THEN_CODE, BAD_CODE),
-            (BOTH_GOOD, B1_LODGED),
-            (SEE, SHOWN_WITH_TWO),
-        ],
-    )
+    assert_replies(&rt, &WORDS, LINES_IN_TURN)
 }
 
 // A line above the reference amount, and two declarations that are above it together: lodging takes nothing up.
@@ -137,16 +130,14 @@ const WHOLE: &[u8] =
 const WHOLE_LODGED: &[u8] =
     b"HTTP/1.1 200 OK\r\nContent-Type: application/json\r\nContent-Length: 57\r\n\r\n{\"lrn\":\"C2\",\"message\":\"IE028\",\"mrn\":\"25CH00000100000021\"}";
 
+const ABOVE_THE_REFERENCE: &[Exchange] = &[
+    (REGISTER, SHOWN),
+    (OPEN, OPENED),
+    (ABOVE, ABOVE_LODGED),
+    (WHOLE, WHOLE_LODGED),
+];
+
 #[test]
 fn the_reference_amount_is_not_looked_at(rt: HostRuntime) -> Result<(), Fail> {
-    assert_replies(
-        &rt,
-        &WORDS,
-        &[
-            (REGISTER, SHOWN),
-            (OPEN, OPENED),
-            (ABOVE, ABOVE_LODGED),
-            (WHOLE, WHOLE_LODGED),
-        ],
-    )
+    assert_replies(&rt, &WORDS, ABOVE_THE_REFERENCE)
 }

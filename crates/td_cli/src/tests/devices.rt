@@ -6,8 +6,24 @@ use td_http::Clock;
 /// Gives the bytes one a read, and then the end or a failure.
 #[derive(Drop)]
 pub struct Drip<'a> {
-    pub left: &'a [u8],
-    pub fails: bool,
+    left: &'a [u8],
+    fails: bool,
+}
+
+impl<'a> Drip<'a> {
+    pub fn ending(bytes: &'a [u8]) -> Drip<'a> {
+        Drip {
+            left: bytes,
+            fails: false,
+        }
+    }
+
+    pub fn failing(bytes: &'a [u8]) -> Drip<'a> {
+        Drip {
+            left: bytes,
+            fails: true,
+        }
+    }
 }
 
 impl Read for Drip<'_> {

@@ -1,12 +1,19 @@
 //! Requests and the replies that are due to them, byte for byte.
 use super::devices::Moments;
-use super::perform_over;
+use super::{Done, assert_ended, assert_text, perform_over};
+use std::alloc::{AllocError, Global};
 use std::process::Abort;
 use std::rt::Clock;
 use std::test::Fail;
 use td_base::{Counted, Country};
 use td_desk::PlainDesk;
 use td_http::{Service, StreamEnd, serve_stream};
+
+/// A request, and the reply that is due to it.
+pub type Exchange = (&'static [u8], &'static [u8]);
+
+/// The same at its own moment.
+pub type ExchangeAt = (i64, &'static [u8], &'static [u8]);
 
 /// Registers another holder than the first, 000002.
 pub const OTHER_REGISTER: &[u8] =
@@ -72,68 +79,128 @@ pub const NO_GUARANTEE: &[u8] =
 pub const CLOCK_BACK: &[u8] =
     b"HTTP/1.1 409 Conflict\r\nContent-Type: application/json\r\nContent-Length: 22\r\n\r\n{\"error\":\"clock-back\"}";
 
+pub const CLOCK_RANGE: &[u8] =
+    b"HTTP/1.1 503 Service Unavailable\r\nContent-Type: application/json\r\nContent-Length: 23\r\n\r\n{\"error\":\"clock-range\"}";
+
+pub const BAD_HOLDER: &[u8] =
+    b"HTTP/1.1 400 Bad Request\r\nContent-Type: application/json\r\nContent-Length: 22\r\n\r\n{\"error\":\"bad-holder\"}";
+
 // What is left of the replies behind this one, which has to stand at their front.
-fn take_reply<'a>(
-    rt: &impl Abort,
-    replies: &'a [u8],
-    request: &[u8],
-    reply: &[u8],
-) -> Result<&'a [u8], Fail> {
+fn take_reply<'a>(rt: &impl Abort, replies: &'a [u8], reply: &[u8]) -> Result<&'a [u8], Fail> {
     let (told, rest) = replies.split_at(reply.len().min(replies.len()));
-    assert_eq!(rt;
-        str::from_utf8(told)?,
-        str::from_utf8(reply)?,
-        "{}",
-        str::from_utf8(request)?
-    );
+    assert_text(rt, told, reply)?;
     Ok(rest)
+}
+
+// The replies are these, and nothing else.
+fn assert_told(rt: &impl Abort, replies: &[u8], exchanges: &[Exchange]) -> Result<(), Fail> {
+    let mut left = replies;
+    for (_, reply) in exchanges {
+        left = take_reply(rt, left, reply)?;
+    }
+    assert_text(rt, left, b"")
+}
+
+fn requests_of(alloc: Global, exchanges: &[Exchange]) -> Result<Vec<u8>, AllocError> {
+    let mut input = Vec::new(alloc);
+    for (request, _) in exchanges {
+        input.extend_from_slice(request)?;
+    }
+    Ok(input)
+}
+
+// What the program with these words leaves on a stream of these requests.
+fn done_on(
+    rt: &(impl AllocGlobal + Clock),
+    words: &[&str],
+    exchanges: &[Exchange],
+) -> Result<Done, Fail> {
+    let input = requests_of(rt.alloc(), exchanges)?;
+    perform_over(rt, words, input.as_slice())
 }
 
 /// The program with these words has each reply to these requests on one stream, and nothing else, and is done.
 pub fn assert_replies(
     rt: &(impl AllocGlobal + Clock + Abort),
     words: &[&str],
-    exchanges: &[(&[u8], &[u8])],
+    exchanges: &[Exchange],
 ) -> Result<(), Fail> {
-    let mut input = Vec::new(rt.alloc());
-    for (request, _) in exchanges {
+    let done = done_on(rt, words, exchanges)?;
+    assert_ended(rt, &done, 0, b"")?;
+    assert_told(rt, &done.out, exchanges)
+}
+
+/// An empty desk of CH.
+pub fn service_of_ch(alloc: Global) -> Result<Service<PlainDesk>, Fail> {
+    let country = Country::read(b"CH").ok_or("country")?;
+    Ok(Service::new(PlainDesk::new(alloc, country)?))
+}
+
+pub fn assert_closed(rt: &impl Abort, end: StreamEnd) {
+    assert_eq!(rt; end, StreamEnd::Closed);
+}
+
+/// What is written for a stream that is served to its end.
+pub fn served<C: td_http::Clock>(
+    rt: &(impl AllocGlobal + Abort),
+    service: &mut Service<PlainDesk>,
+    mut clock: C,
+    input: &[u8],
+) -> Vec<u8>
+where
+    C: Drop,
+{
+    let mut reader = Counted::new(input);
+    let mut writer = Counted::new(Vec::new(rt.alloc()));
+    let end = serve_stream(rt.alloc(), &mut reader, &mut writer, &mut clock, service);
+    assert_closed(rt, end);
+    writer.into_inner()
+}
+
+fn moments_of(alloc: Global, exchanges: &[ExchangeAt]) -> Result<Vec<i64>, AllocError> {
+    let mut moments = Vec::new(alloc);
+    for (at, _, _) in exchanges {
+        moments.push(*at)?;
+    }
+    Ok(moments)
+}
+
+fn requests_at(alloc: Global, exchanges: &[ExchangeAt]) -> Result<Vec<u8>, AllocError> {
+    let mut input = Vec::new(alloc);
+    for (_, request, _) in exchanges {
         input.extend_from_slice(request)?;
     }
-    let done = perform_over(rt, words, input.as_slice())?;
-    let mut replies = done.out.as_slice();
-    for (request, reply) in exchanges {
-        replies = take_reply(rt, replies, request, reply)?;
+    Ok(input)
+}
+
+fn served_at(
+    rt: &(impl AllocGlobal + Abort),
+    moments: &[i64],
+    input: &[u8],
+) -> Result<Vec<u8>, Fail> {
+    let mut service = service_of_ch(rt.alloc())?;
+    Ok(served(rt, &mut service, Moments { left: moments }, input))
+}
+
+fn replies_at(rt: &(impl AllocGlobal + Abort), exchanges: &[ExchangeAt]) -> Result<Vec<u8>, Fail> {
+    let moments = moments_of(rt.alloc(), exchanges)?;
+    let input = requests_at(rt.alloc(), exchanges)?;
+    served_at(rt, &moments, &input)
+}
+
+fn assert_told_at(rt: &impl Abort, replies: &[u8], exchanges: &[ExchangeAt]) -> Result<(), Fail> {
+    let mut left = replies;
+    for (_, _, reply) in exchanges {
+        left = take_reply(rt, left, reply)?;
     }
-    assert_eq!(rt; replies, b"".as_slice());
-    assert_eq!(rt; done.errors.as_slice(), b"".as_slice());
-    assert_eq!(rt; done.status, 0);
-    Ok(())
+    assert_text(rt, left, b"")
 }
 
 /// A stream at an empty desk of CH has each reply to these requests, each of which comes at its own moment.
 pub fn assert_replies_at(
     rt: &(impl AllocGlobal + Abort),
-    exchanges: &[(i64, &[u8], &[u8])],
+    exchanges: &[ExchangeAt],
 ) -> Result<(), Fail> {
-    let alloc = rt.alloc();
-    let mut moments = Vec::new(alloc);
-    let mut input = Vec::new(alloc);
-    for (at, request, _) in exchanges {
-        moments.push(*at)?;
-        input.extend_from_slice(request)?;
-    }
-    let country = Country::read(b"CH").ok_or("country")?;
-    let mut service = Service::new(PlainDesk::new(alloc, country)?);
-    let mut reader = Counted::new(input.as_slice());
-    let mut writer = Counted::new(Vec::new(alloc));
-    let mut clock = Moments { left: &moments };
-    let end = serve_stream(alloc, &mut reader, &mut writer, &mut clock, &mut service);
-    let out = writer.into_inner();
-    let mut replies = out.as_slice();
-    for (_, request, reply) in exchanges {
-        replies = take_reply(rt, replies, request, reply)?;
-    }
-    assert_eq!(rt; replies, b"".as_slice());
-    assert_eq!(rt; end, StreamEnd::Closed);
-    Ok(())
+    let replies = replies_at(rt, exchanges)?;
+    assert_told_at(rt, &replies, exchanges)
 }

@@ -1,4 +1,6 @@
 //! Many declarations at one desk: a few as a test, and so many as the environment says where their time is measured.
+use super::assert_text;
+use super::exchanges::{served, service_of_ch};
 use super::texts::{lodge, open, register, see, shown};
 use crate::clock::FixedClock;
 use std::alloc::{AllocError, Global};
@@ -6,9 +8,9 @@ use std::env;
 use std::env::VarError;
 use std::process::Abort;
 use std::test::Fail;
-use td_base::{Counted, Country, Grn, HolderNo};
+use td_base::{Country, Grn, HolderNo};
 use td_desk::PlainDesk;
-use td_http::{Service, StreamEnd, serve_stream};
+use td_http::Service;
 
 /// A holder's number and the holder's first guarantee.
 #[derive(Drop)]
@@ -17,17 +19,22 @@ struct Holder {
     grn: String,
 }
 
-fn holder_of(alloc: Global, country: Country, number: u32) -> Result<Holder, Fail> {
-    let number = HolderNo::new(number).ok_or("a number")?;
-    let grn = Grn::make(25, country, number, 1).ok_or("a serial")?;
+fn written(alloc: Global, number: HolderNo, grn: Grn) -> Result<Holder, AllocError> {
     Ok(Holder {
-        number: format!(in alloc; "{number}")?,
-        grn: format!(in alloc; "{grn}")?,
+        number: number.to_string(alloc)?,
+        grn: grn.to_string(alloc)?,
     })
 }
 
-// 100 holders at a desk of that country.
-fn holders_of(alloc: Global, country: Country) -> Result<Vec<Holder>, Fail> {
+fn holder_of(alloc: Global, country: Country, number: u32) -> Result<Holder, Fail> {
+    let number = HolderNo::new(number).ok_or("a number")?;
+    let grn = Grn::make(25, country, number, 1).ok_or("a serial")?;
+    Ok(written(alloc, number, grn)?)
+}
+
+// 100 holders at a desk of CH.
+fn holders_of(alloc: Global) -> Result<Vec<Holder>, Fail> {
+    let country = Country::read(b"CH").ok_or("country")?;
     let mut holders = Vec::new(alloc);
     for number in 1..=100 {
         holders.push(holder_of(alloc, country, number)?)?;
@@ -44,44 +51,40 @@ fn declarations_each(rt: &HostRuntime) -> Result<u32, Fail> {
     }
 }
 
-// The requests that register the holders.
-fn registrations(alloc: Global, holders: &[Holder]) -> Result<String, AllocError> {
+/// What the holders ask for.
+#[derive(Clone, Copy)]
+enum Step {
+    Register,
+    Open,
+    /// A declaration each, whose LRN is the holder's number and this one.
+    Lodge(u32),
+    See,
+}
+
+fn lodge_numbered(alloc: Global, holder: &Holder, number: u32) -> Result<String, AllocError> {
+    let lrn = format!(in alloc; "{}-{number}", holder.number)?;
+    lodge(alloc, &holder.number, &lrn, &holder.grn)
+}
+
+fn request_of(alloc: Global, holder: &Holder, step: Step) -> Result<String, AllocError> {
+    match step {
+        Step::Register => register(alloc, &holder.number),
+        Step::Open => open(alloc, &holder.number),
+        Step::Lodge(number) => lodge_numbered(alloc, holder, number),
+        Step::See => see(alloc, &holder.number),
+    }
+}
+
+// The requests of all holders.
+fn requests(alloc: Global, holders: &[Holder], step: Step) -> Result<String, AllocError> {
     let mut text = String::new(alloc);
     for holder in holders {
-        text.push_str(&register(alloc, &holder.number)?)?;
+        text.push_str(&request_of(alloc, holder, step)?)?;
     }
     Ok(text)
 }
 
-// The requests that open a guarantee for each.
-fn openings(alloc: Global, holders: &[Holder]) -> Result<String, AllocError> {
-    let mut text = String::new(alloc);
-    for holder in holders {
-        text.push_str(&open(alloc, &holder.number)?)?;
-    }
-    Ok(text)
-}
-
-// A declaration of each, whose LRN is the holder's number and this one.
-fn declarations(alloc: Global, holders: &[Holder], number: u32) -> Result<String, AllocError> {
-    let mut text = String::new(alloc);
-    for holder in holders {
-        let lrn = format!(in alloc; "{}-{number}", holder.number)?;
-        text.push_str(&lodge(alloc, &holder.number, &lrn, &holder.grn)?)?;
-    }
-    Ok(text)
-}
-
-// The requests that ask to see each.
-fn views(alloc: Global, holders: &[Holder]) -> Result<String, AllocError> {
-    let mut text = String::new(alloc);
-    for holder in holders {
-        text.push_str(&see(alloc, &holder.number)?)?;
-    }
-    Ok(text)
-}
-
-// The replies to these where each has one guarantee and so many movements.
+// The replies to the views where each has one guarantee and so many movements.
 fn all_shown(alloc: Global, holders: &[Holder], movements: u32) -> Result<String, AllocError> {
     let mut text = String::new(alloc);
     for holder in holders {
@@ -90,18 +93,27 @@ fn all_shown(alloc: Global, holders: &[Holder], movements: u32) -> Result<String
     Ok(text)
 }
 
-// What is written for a stream that is served to its end.
-fn served(
+// What is written for the stream of this step.
+fn told(
     rt: &(impl AllocGlobal + Abort),
     service: &mut Service<PlainDesk>,
-    input: &str,
-) -> Result<Vec<u8>, Fail> {
-    let mut reader = Counted::new(input.as_bytes());
-    let mut writer = Counted::new(Vec::new(rt.alloc()));
-    let mut clock = FixedClock { at: 1_740_819_600 };
-    let end = serve_stream(rt.alloc(), &mut reader, &mut writer, &mut clock, service);
-    assert_eq!(rt; end, StreamEnd::Closed);
-    Ok(writer.into_inner())
+    holders: &[Holder],
+    step: Step,
+) -> Result<Vec<u8>, AllocError> {
+    let input = requests(rt.alloc(), holders, step)?;
+    let clock = FixedClock { at: 1_740_819_600 };
+    Ok(served(rt, service, clock, input.as_bytes()))
+}
+
+// The step is done, whatever is told.
+fn serve(
+    rt: &(impl AllocGlobal + Abort),
+    service: &mut Service<PlainDesk>,
+    holders: &[Holder],
+    step: Step,
+) -> Result<(), AllocError> {
+    let _told = told(rt, service, holders, step)?;
+    Ok(())
 }
 
 // The holders register, have a guarantee opened each, and then lodge in turn, a stream for each turn.
@@ -110,11 +122,11 @@ fn lodge_in_turn(
     service: &mut Service<PlainDesk>,
     holders: &[Holder],
     each: u32,
-) -> Result<(), Fail> {
-    let _registered = served(rt, service, &registrations(rt.alloc(), holders)?)?;
-    let _opened = served(rt, service, &openings(rt.alloc(), holders)?)?;
+) -> Result<(), AllocError> {
+    serve(rt, service, holders, Step::Register)?;
+    serve(rt, service, holders, Step::Open)?;
     for turn in 0..each {
-        let _lodged = served(rt, service, &declarations(rt.alloc(), holders, turn)?)?;
+        serve(rt, service, holders, Step::Lodge(turn))?;
     }
     Ok(())
 }
@@ -126,19 +138,35 @@ fn assert_shown(
     holders: &[Holder],
     movements: u32,
 ) -> Result<(), Fail> {
-    let told = served(rt, service, &views(rt.alloc(), holders)?)?;
     let wanted = all_shown(rt.alloc(), holders, movements)?;
-    assert_eq!(rt; str::from_utf8(&told)?, wanted.as_str());
-    Ok(())
+    let told = told(rt, service, holders, Step::See)?;
+    assert_text(rt, &told, wanted.as_bytes())
+}
+
+fn assert_lodged_in_turn(
+    rt: &(impl AllocGlobal + Abort),
+    service: &mut Service<PlainDesk>,
+    holders: &[Holder],
+    each: u32,
+) -> Result<(), Fail> {
+    lodge_in_turn(rt, service, holders, each)?;
+    assert_shown(rt, service, holders, each)
+}
+
+// Each lodges so many at one desk.
+fn assert_lodged(
+    rt: &(impl AllocGlobal + Abort),
+    holders: &[Holder],
+    each: u32,
+) -> Result<(), Fail> {
+    let mut service = service_of_ch(rt.alloc())?;
+    assert_lodged_in_turn(rt, &mut service, holders, each)
 }
 
 // In the end each has as many movements as declarations.
 #[test]
 fn holders_lodge_in_turn(rt: HostRuntime) -> Result<(), Fail> {
-    let country = Country::read(b"CH").ok_or("country")?;
-    let holders = holders_of(rt.alloc(), country)?;
     let each = declarations_each(&rt)?;
-    let mut service = Service::new(PlainDesk::new(rt.alloc(), country)?);
-    lodge_in_turn(&rt, &mut service, &holders, each)?;
-    assert_shown(&rt, &mut service, &holders, each)
+    let holders = holders_of(rt.alloc())?;
+    assert_lodged(&rt, &holders, each)
 }

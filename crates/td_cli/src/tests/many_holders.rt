@@ -1,10 +1,12 @@
 //! Many holders at one desk: there is no limit over all of them.
-use super::pipe;
-use super::texts::{lodge, lodged, open, opened, register, see, shown};
+use super::texts::{Script, assert_script};
+use std::alloc::{AllocError, Global};
 use std::test::Fail;
 
-// Holders, and the first guarantee and the first movement of each.
-const HOLDERS: [(&str, &str, &str); 30] = [
+// A holder, and the holder's first guarantee and first movement.
+type Holder = (&'static str, &'static str, &'static str);
+
+const HOLDERS: [Holder; 30] = [
     ("500000", "25CH5000000000011", "25CH50000000000010"),
     ("000001", "25CH0000010000014", "25CH00000100000013"),
     ("999999", "25CH9999990000016", "25CH99999900000015"),
@@ -37,30 +39,45 @@ const HOLDERS: [(&str, &str, &str); 30] = [
     ("000003", "25CH0000030000015", "25CH00000300000014"),
 ];
 
+fn register_all(alloc: Global, script: &mut Script, holders: &[Holder]) -> Result<(), AllocError> {
+    for (holder, _, _) in holders {
+        script.register(alloc, holder)?;
+    }
+    Ok(())
+}
+
+fn open_for_all(alloc: Global, script: &mut Script, holders: &[Holder]) -> Result<(), AllocError> {
+    for (holder, grn, _) in holders {
+        script.open(alloc, holder, grn)?;
+    }
+    Ok(())
+}
+
+fn lodge_for_all(alloc: Global, script: &mut Script, holders: &[Holder]) -> Result<(), AllocError> {
+    for (holder, grn, mrn) in holders {
+        script.lodge(alloc, holder, "A1", grn, mrn)?;
+    }
+    Ok(())
+}
+
+fn see_all(alloc: Global, script: &mut Script, holders: &[Holder]) -> Result<(), AllocError> {
+    for (holder, _, _) in holders {
+        script.see(alloc, holder, 1, 1)?;
+    }
+    Ok(())
+}
+
 // All register, then all open, then all lodge under one LRN, then all are shown.
+fn write_all(alloc: Global, script: &mut Script, holders: &[Holder]) -> Result<(), AllocError> {
+    register_all(alloc, script, holders)?;
+    open_for_all(alloc, script, holders)?;
+    lodge_for_all(alloc, script, holders)?;
+    see_all(alloc, script, holders)
+}
+
 #[test]
 fn each_of_many_holders_has_first_references(rt: HostRuntime) -> Result<(), Fail> {
-    let alloc = rt.alloc();
-    let mut input = String::new(alloc);
-    let mut wanted = String::new(alloc);
-    for (holder, _, _) in &HOLDERS {
-        input.push_str(&register(alloc, holder)?)?;
-        wanted.push_str(&shown(alloc, holder, 0, 0)?)?;
-    }
-    for (holder, grn, _) in &HOLDERS {
-        input.push_str(&open(alloc, holder)?)?;
-        wanted.push_str(&opened(alloc, grn)?)?;
-    }
-    for (holder, grn, mrn) in &HOLDERS {
-        input.push_str(&lodge(alloc, holder, "A1", grn)?)?;
-        wanted.push_str(&lodged(alloc, "A1", mrn)?)?;
-    }
-    for (holder, _, _) in &HOLDERS {
-        input.push_str(&see(alloc, holder)?)?;
-        wanted.push_str(&shown(alloc, holder, 1, 1)?)?;
-    }
-    let done = pipe(&rt, input.as_bytes())?;
-    assert_eq!(rt; str::from_utf8(&done.out)?, wanted.as_str());
-    assert_eq!(rt; done.status, 0);
-    Ok(())
+    let mut script = Script::new(rt.alloc());
+    write_all(rt.alloc(), &mut script, &HOLDERS)?;
+    assert_script(&rt, &script)
 }

@@ -1,10 +1,11 @@
 //! Guarantees opened, and their references.
-use super::WORDS;
+
 use super::exchanges::{
-    NO_HOLDER, OPEN, OPENED, OTHER_OPEN, OTHER_OPENED, OTHER_REGISTER, OTHER_SEE, OTHER_SHOWN,
-    assert_replies,
+    Exchange, NO_HOLDER, OPEN, OPENED, OTHER_OPEN, OTHER_OPENED, OTHER_REGISTER, OTHER_SEE,
+    OTHER_SHOWN, assert_replies,
 };
 use super::first_requests::{REGISTER, SEE, SHOWN};
+use super::{WORDS, words_at};
 use std::test::Fail;
 
 const SECOND_OPENED: &[u8] =
@@ -19,38 +20,34 @@ const SHOWN_WITH_THREE: &[u8] =
 const OTHER_SHOWN_WITH_ONE: &[u8] =
     b"HTTP/1.1 200 OK\r\nContent-Type: application/json\r\nContent-Length: 67\r\n\r\n{\"eori\":\"DE7654321\",\"guarantees\":1,\"holder\":\"000002\",\"movements\":0}";
 
+const SERIALS_OF_TWO_HOLDERS: &[Exchange] = &[
+    (REGISTER, SHOWN),
+    (OTHER_REGISTER, OTHER_SHOWN),
+    (OPEN, OPENED),
+    (OPEN, SECOND_OPENED),
+    (OTHER_OPEN, OTHER_OPENED),
+    (OPEN, THIRD_OPENED),
+    (SEE, SHOWN_WITH_THREE),
+    (OTHER_SEE, OTHER_SHOWN_WITH_ONE),
+];
+
 #[test]
 fn each_holder_has_serials_of_guarantees(rt: HostRuntime) -> Result<(), Fail> {
-    assert_replies(
-        &rt,
-        &WORDS,
-        &[
-            (REGISTER, SHOWN),
-            (OTHER_REGISTER, OTHER_SHOWN),
-            (OPEN, OPENED),
-            (OPEN, SECOND_OPENED),
-            (OTHER_OPEN, OTHER_OPENED),
-            (OPEN, THIRD_OPENED),
-            (SEE, SHOWN_WITH_THREE),
-            (OTHER_SEE, OTHER_SHOWN_WITH_ONE),
-        ],
-    )
+    assert_replies(&rt, &WORDS, SERIALS_OF_TWO_HOLDERS)
 }
+
+const OPENED_BEFORE_REGISTERED: &[Exchange] = &[
+    (OPEN, NO_HOLDER),
+    (SEE, NO_HOLDER),
+    (OTHER_REGISTER, OTHER_SHOWN),
+    (OPEN, NO_HOLDER),
+    (REGISTER, SHOWN),
+    (OPEN, OPENED),
+];
 
 #[test]
 fn nothing_is_opened_for_a_number_that_is_not_registered(rt: HostRuntime) -> Result<(), Fail> {
-    assert_replies(
-        &rt,
-        &WORDS,
-        &[
-            (OPEN, NO_HOLDER),
-            (SEE, NO_HOLDER),
-            (OTHER_REGISTER, OTHER_SHOWN),
-            (OPEN, NO_HOLDER),
-            (REGISTER, SHOWN),
-            (OPEN, OPENED),
-        ],
-    )
+    assert_replies(&rt, &WORDS, OPENED_BEFORE_REGISTERED)
 }
 
 // The first guarantee of holder 000001 at a desk of another country, and the first movement. The sums of these guarantees are 33460 (BE),
@@ -82,50 +79,26 @@ const UZ_A1: &[u8] =
 const UZ_A1_LODGED: &[u8] =
     b"HTTP/1.1 200 OK\r\nContent-Type: application/json\r\nContent-Length: 57\r\n\r\n{\"lrn\":\"A1\",\"message\":\"IE028\",\"mrn\":\"25UZ00000100000018\"}";
 
-#[test]
-fn a_desk_of_belgium_has_its_check_digits(rt: HostRuntime) -> Result<(), Fail> {
-    assert_replies(
-        &rt,
-        &[
-            "transit-desk",
-            "pipe",
-            "--country",
-            "BE",
-            "--at",
-            "1740819600",
-        ],
+// A country, and what is told at a desk of it.
+const DESKS: [(&str, &[Exchange]); 3] = [
+    (
+        "BE",
         &[(REGISTER, SHOWN), (OPEN, BE_OPENED), (BE_A1, BE_A1_LODGED)],
-    )
-}
-
-#[test]
-fn a_desk_of_latvia_has_its_check_digits(rt: HostRuntime) -> Result<(), Fail> {
-    assert_replies(
-        &rt,
-        &[
-            "transit-desk",
-            "pipe",
-            "--country",
-            "LV",
-            "--at",
-            "1740819600",
-        ],
+    ),
+    (
+        "LV",
         &[(REGISTER, SHOWN), (OPEN, LV_OPENED), (LV_A1, LV_A1_LODGED)],
-    )
-}
+    ),
+    (
+        "UZ",
+        &[(REGISTER, SHOWN), (OPEN, UZ_OPENED), (UZ_A1, UZ_A1_LODGED)],
+    ),
+];
 
 #[test]
-fn a_desk_of_uzbekistan_has_its_check_digits(rt: HostRuntime) -> Result<(), Fail> {
-    assert_replies(
-        &rt,
-        &[
-            "transit-desk",
-            "pipe",
-            "--country",
-            "UZ",
-            "--at",
-            "1740819600",
-        ],
-        &[(REGISTER, SHOWN), (OPEN, UZ_OPENED), (UZ_A1, UZ_A1_LODGED)],
-    )
+fn desks_of_other_countries_have_their_check_digits(rt: HostRuntime) -> Result<(), Fail> {
+    for (country, exchanges) in &DESKS {
+        assert_replies(&rt, &words_at(country, "1740819600"), exchanges)?;
+    }
+    Ok(())
 }

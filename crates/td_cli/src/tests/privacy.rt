@@ -1,11 +1,13 @@
 //! What others do isn't seen: their guarantees, numbers that begin alike, and many holders at one desk.
+use super::WORDS;
 use super::exchanges::{
-    A1, A1_LODGED, NO_GUARANTEE, OPEN, OPENED, OTHER_A1, OTHER_A1_LODGED, OTHER_OPEN, OTHER_OPENED,
-    OTHER_REGISTER, OTHER_SEE, OTHER_SHOWN, SHOWN_LODGED, assert_replies, assert_replies_at,
+    A1, A1_LODGED, Exchange, ExchangeAt, NO_GUARANTEE, OPEN, OPENED, OTHER_A1, OTHER_A1_LODGED,
+    OTHER_OPEN, OTHER_OPENED, OTHER_REGISTER, OTHER_SEE, OTHER_SHOWN, SHOWN_LODGED, assert_replies,
+    assert_replies_at,
 };
 use super::first_requests::{REGISTER, SEE, SHOWN};
-use super::texts::{lodge, lodged, open, opened, register, see, shown};
-use super::{WORDS, pipe};
+use super::texts::{Script, assert_script};
+use std::alloc::{AllocError, Global};
 use std::test::Fail;
 
 // The other holder lodges on the first guarantee of holder 000001: with its code, with another one, and behind a good line.
@@ -35,45 +37,42 @@ const ON_ANOTHER_YEARS: &[u8] =
 const OTHER_SHOWN_OPENED: &[u8] =
     b"HTTP/1.1 200 OK\r\nContent-Type: application/json\r\nContent-Length: 67\r\n\r\n{\"eori\":\"DE7654321\",\"guarantees\":1,\"holder\":\"000002\",\"movements\":0}";
 
+const STRANGERS_GUARANTEE: &[Exchange] = &[
+    (REGISTER, SHOWN),
+    (OTHER_REGISTER, OTHER_SHOWN),
+    (OTHER_OPEN, OTHER_OPENED),
+    (ON_A_STRANGERS, NO_GUARANTEE),
+    (OPEN, OPENED),
+    (ON_A_STRANGERS, NO_GUARANTEE),
+    (ON_A_STRANGERS_WITH_ANOTHER_CODE, NO_GUARANTEE),
+    (ON_A_STRANGERS_IN_LINE_TWO, NO_GUARANTEE),
+    (ON_AN_OWN_UNKNOWN, NO_GUARANTEE),
+    (ON_A_FOREIGN_ONE, NO_GUARANTEE),
+    (ON_AN_UNOWNED_ONE, NO_GUARANTEE),
+    (ON_ANOTHER_YEARS, NO_GUARANTEE),
+    (OTHER_SEE, OTHER_SHOWN_OPENED),
+    (A1, A1_LODGED),
+    (OTHER_A1, OTHER_A1_LODGED),
+    (SEE, SHOWN_LODGED),
+];
+
 #[test]
 fn a_strangers_guarantee_is_as_an_unknown_one(rt: HostRuntime) -> Result<(), Fail> {
-    assert_replies(
-        &rt,
-        &WORDS,
-        &[
-            (REGISTER, SHOWN),
-            (OTHER_REGISTER, OTHER_SHOWN),
-            (OTHER_OPEN, OTHER_OPENED),
-            (ON_A_STRANGERS, NO_GUARANTEE),
-            (OPEN, OPENED),
-            (ON_A_STRANGERS, NO_GUARANTEE),
-            (ON_A_STRANGERS_WITH_ANOTHER_CODE, NO_GUARANTEE),
-            (ON_A_STRANGERS_IN_LINE_TWO, NO_GUARANTEE),
-            (ON_AN_OWN_UNKNOWN, NO_GUARANTEE),
-            (ON_A_FOREIGN_ONE, NO_GUARANTEE),
-            (ON_AN_UNOWNED_ONE, NO_GUARANTEE),
-            (ON_ANOTHER_YEARS, NO_GUARANTEE),
-            (OTHER_SEE, OTHER_SHOWN_OPENED),
-            (A1, A1_LODGED),
-            (OTHER_A1, OTHER_A1_LODGED),
-            (SEE, SHOWN_LODGED),
-        ],
-    )
+    assert_replies(&rt, &WORDS, STRANGERS_GUARANTEE)
 }
 
 // Not even by its moments: the guarantee was opened after this.
+const STRANGERS_CHANGES: &[ExchangeAt] = &[
+    (1_740_819_000, REGISTER, SHOWN),
+    (1_740_819_000, OTHER_REGISTER, OTHER_SHOWN),
+    (1_740_819_600, OPEN, OPENED),
+    (1_740_819_000, ON_A_STRANGERS, NO_GUARANTEE),
+    (1_740_819_000, OTHER_OPEN, OTHER_OPENED),
+];
+
 #[test]
 fn a_strangers_changes_are_not_felt(rt: HostRuntime) -> Result<(), Fail> {
-    assert_replies_at(
-        &rt,
-        &[
-            (1_740_819_000, REGISTER, SHOWN),
-            (1_740_819_000, OTHER_REGISTER, OTHER_SHOWN),
-            (1_740_819_600, OPEN, OPENED),
-            (1_740_819_000, ON_A_STRANGERS, NO_GUARANTEE),
-            (1_740_819_000, OTHER_OPEN, OTHER_OPENED),
-        ],
-    )
+    assert_replies_at(&rt, STRANGERS_CHANGES)
 }
 
 // The other holder, with the EORI of holder 000001.
@@ -86,22 +85,20 @@ const SAME_EORI_SHOWN: &[u8] =
 const SAME_EORI_SHOWN_LODGED: &[u8] =
     b"HTTP/1.1 200 OK\r\nContent-Type: application/json\r\nContent-Length: 67\r\n\r\n{\"eori\":\"CH1234567\",\"guarantees\":1,\"holder\":\"000002\",\"movements\":1}";
 
+const ONE_EORI: &[Exchange] = &[
+    (REGISTER, SHOWN),
+    (SAME_EORI_REGISTER, SAME_EORI_SHOWN),
+    (OPEN, OPENED),
+    (OTHER_OPEN, OTHER_OPENED),
+    (OTHER_A1, OTHER_A1_LODGED),
+    (OTHER_SEE, SAME_EORI_SHOWN_LODGED),
+    (A1, A1_LODGED),
+    (SEE, SHOWN_LODGED),
+];
+
 #[test]
 fn two_holders_have_one_eori(rt: HostRuntime) -> Result<(), Fail> {
-    assert_replies(
-        &rt,
-        &WORDS,
-        &[
-            (REGISTER, SHOWN),
-            (SAME_EORI_REGISTER, SAME_EORI_SHOWN),
-            (OPEN, OPENED),
-            (OTHER_OPEN, OTHER_OPENED),
-            (OTHER_A1, OTHER_A1_LODGED),
-            (OTHER_SEE, SAME_EORI_SHOWN_LODGED),
-            (A1, A1_LODGED),
-            (SEE, SHOWN_LODGED),
-        ],
-    )
+    assert_replies(&rt, &WORDS, ONE_EORI)
 }
 
 // Holders whose numbers begin alike, with the guarantees that each opens in turn.
@@ -130,29 +127,44 @@ const ALIKE_SHOWN: [(&str, u32, u32); 4] = [
     ("000100", 0, 0),
 ];
 
+fn register_alike(alloc: Global, script: &mut Script) -> Result<(), AllocError> {
+    for (holder, _, _) in &ALIKE_SHOWN {
+        script.register(alloc, holder)?;
+    }
+    Ok(())
+}
+
+fn open_alike(alloc: Global, script: &mut Script) -> Result<(), AllocError> {
+    for (holder, grn) in &ALIKE_OPENED {
+        script.open(alloc, holder, grn)?;
+    }
+    Ok(())
+}
+
+fn lodge_alike(alloc: Global, script: &mut Script) -> Result<(), AllocError> {
+    for (holder, lrn, grn, mrn) in &ALIKE_LODGED {
+        script.lodge(alloc, holder, lrn, grn, mrn)?;
+    }
+    Ok(())
+}
+
+fn see_alike(alloc: Global, script: &mut Script) -> Result<(), AllocError> {
+    for (holder, guarantees, movements) in &ALIKE_SHOWN {
+        script.see(alloc, holder, *guarantees, *movements)?;
+    }
+    Ok(())
+}
+
+fn write_alike(alloc: Global, script: &mut Script) -> Result<(), AllocError> {
+    register_alike(alloc, script)?;
+    open_alike(alloc, script)?;
+    lodge_alike(alloc, script)?;
+    see_alike(alloc, script)
+}
+
 #[test]
 fn numbers_that_begin_alike_are_not_mixed(rt: HostRuntime) -> Result<(), Fail> {
-    let alloc = rt.alloc();
-    let mut input = String::new(alloc);
-    let mut wanted = String::new(alloc);
-    for (holder, _, _) in &ALIKE_SHOWN {
-        input.push_str(&register(alloc, holder)?)?;
-        wanted.push_str(&shown(alloc, holder, 0, 0)?)?;
-    }
-    for (holder, grn) in &ALIKE_OPENED {
-        input.push_str(&open(alloc, holder)?)?;
-        wanted.push_str(&opened(alloc, grn)?)?;
-    }
-    for (holder, lrn, grn, mrn) in &ALIKE_LODGED {
-        input.push_str(&lodge(alloc, holder, lrn, grn)?)?;
-        wanted.push_str(&lodged(alloc, lrn, mrn)?)?;
-    }
-    for (holder, guarantees, movements) in &ALIKE_SHOWN {
-        input.push_str(&see(alloc, holder)?)?;
-        wanted.push_str(&shown(alloc, holder, *guarantees, *movements)?)?;
-    }
-    let done = pipe(&rt, input.as_bytes())?;
-    assert_eq!(rt; str::from_utf8(&done.out)?, wanted.as_str());
-    assert_eq!(rt; done.status, 0);
-    Ok(())
+    let mut script = Script::new(rt.alloc());
+    write_alike(rt.alloc(), &mut script)?;
+    assert_script(&rt, &script)
 }

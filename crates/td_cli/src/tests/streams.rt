@@ -1,11 +1,15 @@
 //! The framing of a stream and each way in which it ends, through the program.
 use super::devices::{Drip, Endless, Narrow};
-use super::{WORDS, perform_over, pipe, words_of};
+use super::exchanges::{assert_closed, service_of_ch};
+use super::texts::many;
+use super::{Done, Due, WORDS, assert_due, assert_job, words_of};
 use crate::clock::FixedClock;
 use crate::perform::perform;
 use std::alloc::{AllocError, Global};
+use std::process::Abort;
+use std::rt::Clock;
 use std::test::Fail;
-use td_base::{Counted, Country};
+use td_base::Counted;
 use td_desk::PlainDesk;
 use td_http::{Service, StreamEnd, serve_stream};
 
@@ -55,7 +59,8 @@ struct Row {
     line: &'static [u8],
 }
 
-const ROWS: [Row; 21] = [
+// Heads at their limits of bytes and of fields, and past them.
+const HEADS: [Row; 6] = [
     Row {
         front: b"GET /",
         unit: b"a",
@@ -104,6 +109,10 @@ const ROWS: [Row; 21] = [
         reply: BAD_HEAD,
         line: REFUSED,
     },
+];
+
+// Bodies at their limit and past it, and how their length is written.
+const BODIES: [Row; 8] = [
     Row {
         front: b"PUT /office/holders/000002 HTTP/1.1\r\nContent-Length: 65537\r\n\r\n",
         unit: b"a",
@@ -168,6 +177,10 @@ const ROWS: [Row; 21] = [
         reply: TRANSFER_ENCODING,
         line: REFUSED,
     },
+];
+
+// Requests that end a stream, whatever comes behind them, and one that does not.
+const LAST_REQUESTS: [Row; 7] = [
     Row {
         front: b"HEAD /holders/000002 HTTP/1.1\r\n\r\n",
         unit: b"",
@@ -226,108 +239,141 @@ const ROWS: [Row; 21] = [
     },
 ];
 
-fn many(
-    alloc: Global,
-    front: &[u8],
-    unit: &[u8],
-    times: usize,
-    back: &[u8],
-) -> Result<Vec<u8>, AllocError> {
-    let mut bytes = front.to_vec(alloc)?;
-    for _ in 0..times {
-        bytes.extend_from_slice(unit)?;
+fn assert_framed(rt: &(impl AllocGlobal + Clock + Abort), row: &Row) -> Result<(), Fail> {
+    let input = many(rt.alloc(), row.front, row.unit, row.times, row.back)?;
+    let due = Due {
+        status: u8::from(!row.line.is_empty()),
+        out: row.reply,
+        errors: row.line,
+    };
+    assert_job(rt, &WORDS, input.as_slice(), due)
+}
+
+fn assert_each_framed(rt: &(impl AllocGlobal + Clock + Abort), rows: &[Row]) -> Result<(), Fail> {
+    for row in rows {
+        assert_framed(rt, row)?;
     }
-    bytes.extend_from_slice(back)?;
-    Ok(bytes)
+    Ok(())
 }
 
 #[test]
-fn requests_are_framed(rt: HostRuntime) -> Result<(), Fail> {
-    for row in &ROWS {
-        let input = many(rt.alloc(), row.front, row.unit, row.times, row.back)?;
-        let done = pipe(&rt, &input)?;
-        assert_eq!(rt; done.out.as_slice(), row.reply, "{:?}", row.front);
-        assert_eq!(rt; done.errors.as_slice(), row.line, "{:?}", row.front);
-        assert_eq!(rt;
-            done.status,
-            u8::from(!row.line.is_empty()),
-            "{:?}",
-            row.front
-        );
-    }
-    Ok(())
+fn heads_are_framed(rt: HostRuntime) -> Result<(), Fail> {
+    assert_each_framed(&rt, &HEADS)
+}
+
+#[test]
+fn bodies_are_framed(rt: HostRuntime) -> Result<(), Fail> {
+    assert_each_framed(&rt, &BODIES)
+}
+
+#[test]
+fn last_requests_are_framed(rt: HostRuntime) -> Result<(), Fail> {
+    assert_each_framed(&rt, &LAST_REQUESTS)
 }
 
 // The thousandth reply tells that the stream stops, and the request after it isn't looked at.
 #[test]
 fn a_thousand_requests_are_served(rt: HostRuntime) -> Result<(), Fail> {
-    let done = pipe(&rt, &many(rt.alloc(), b"", SEE, 1001, b"")?)?;
-    let wanted = many(rt.alloc(), b"", NO_HOLDER, 999, NO_HOLDER_CLOSE)?;
-    assert_eq!(rt; done.out.as_slice(), wanted.as_slice());
-    assert_eq!(rt; done.errors.as_slice(), DONE);
-    assert_eq!(rt; done.status, 0);
-    Ok(())
+    let input = many(rt.alloc(), b"", SEE, 1001, b"")?;
+    let replies = many(rt.alloc(), b"", NO_HOLDER, 999, NO_HOLDER_CLOSE)?;
+    assert_job(&rt, &WORDS, input.as_slice(), Due::replies(&replies))
+}
+
+const READS_SPENT: &[u8] = b"transit-desk: stream reads-spent\n";
+
+// These bytes, again and again, have these replies.
+fn assert_reads_spent(
+    rt: &(impl AllocGlobal + Clock + Abort),
+    bytes: &[u8],
+    replies: &[u8],
+) -> Result<(), Fail> {
+    assert!(rt; bytes.len() == 125);
+    let due = Due {
+        status: 1,
+        out: replies,
+        errors: READS_SPENT,
+    };
+    assert_job(rt, &WORDS, Endless { bytes, left: &[] }, due)
 }
 
 // A request of 125 bytes that comes again and again, one byte a read: 800 of them are read by 100,000 reads.
 #[test]
 fn reads_are_spent(rt: HostRuntime) -> Result<(), Fail> {
-    let request = many(
-        rt.alloc(),
-        b"GET /holders/000002 HTTP/1.1\r\nX:",
-        b"a",
-        89,
-        b"\r\n\r\n",
-    )?;
-    assert_eq!(rt; request.len(), 125);
-    let done = perform_over(
-        &rt,
-        &WORDS,
-        Endless {
-            bytes: &request,
-            left: &[],
-        },
-    )?;
-    let wanted = many(rt.alloc(), b"", NO_HOLDER, 800, b"")?;
-    assert_eq!(rt; done.out.as_slice(), wanted.as_slice());
-    assert_eq!(rt;
-        done.errors.as_slice(),
-        b"transit-desk: stream reads-spent\n".as_slice()
-    );
-    assert_eq!(rt; done.status, 1);
+    let front = b"GET /holders/000002 HTTP/1.1\r\nX:";
+    let request = many(rt.alloc(), front, b"a", 89, b"\r\n\r\n")?;
+    let replies = many(rt.alloc(), b"", NO_HOLDER, 800, b"")?;
+    assert_reads_spent(&rt, &request, &replies)
+}
+
+// What is left where the replies go to this writer.
+fn done_narrow(
+    rt: &(impl AllocGlobal + Clock),
+    words: &[String],
+    input: &[u8],
+    writer: Narrow,
+) -> Done {
+    let mut reader = Counted::new(input);
+    let mut writer = Counted::new(writer);
+    let mut errors = Counted::new(Vec::new(rt.alloc()));
+    let status = perform(rt, words, &mut reader, &mut writer, &mut errors);
+    Done {
+        status,
+        out: writer.into_inner().taken,
+        errors: errors.into_inner(),
+    }
+}
+
+const WRITE_FAULT: &[u8] = b"transit-desk: stream write-fault\n";
+
+// A writer that fails or takes nothing after these replies.
+fn assert_narrow(
+    rt: &(impl AllocGlobal + Clock + Abort),
+    words: &[String],
+    input: &[u8],
+    replies: &[u8],
+    fails: bool,
+) -> Result<(), Fail> {
+    let writer = Narrow {
+        taken: Vec::new(rt.alloc()),
+        left: replies.len(),
+        fails,
+    };
+    let done = done_narrow(rt, words, input, writer);
+    let due = Due {
+        status: 1,
+        out: replies,
+        errors: WRITE_FAULT,
+    };
+    assert_due(rt, &done, due)
+}
+
+fn assert_narrow_at_each_byte(
+    rt: &(impl AllocGlobal + Clock + Abort),
+    words: &[String],
+    input: &[u8],
+    replies: &[u8],
+) -> Result<(), Fail> {
+    for end in 0..replies.len() {
+        assert_narrow(rt, words, input, &replies[..end], false)?;
+        assert_narrow(rt, words, input, &replies[..end], true)?;
+    }
     Ok(())
+}
+
+fn assert_narrow_writers(
+    rt: &(impl AllocGlobal + Clock + Abort),
+    words: &[String],
+) -> Result<(), Fail> {
+    let input = many(rt.alloc(), b"", SEE, 2, b"")?;
+    let replies = many(rt.alloc(), b"", NO_HOLDER, 2, b"")?;
+    assert_narrow_at_each_byte(rt, words, &input, &replies)
 }
 
 // A writer that fails, and one that takes nothing, after each number of bytes of two replies.
 #[test]
 fn writers_fail_at_each_byte(rt: HostRuntime) -> Result<(), Fail> {
-    let input = many(rt.alloc(), b"", SEE, 2, b"")?;
-    let replies = many(rt.alloc(), b"", NO_HOLDER, 2, b"")?;
     let words = words_of(rt.alloc(), &WORDS)?;
-    for end in 0..replies.len() {
-        for fails in [false, true] {
-            let mut reader = Counted::new(input.as_slice());
-            let mut writer = Counted::new(Narrow {
-                taken: Vec::new(rt.alloc()),
-                left: end,
-                fails,
-            });
-            let mut errors = Counted::new(Vec::new(rt.alloc()));
-            let status = perform(&rt, &words, &mut reader, &mut writer, &mut errors);
-            assert_eq!(rt;
-                writer.into_inner().taken.as_slice(),
-                &replies[..end],
-                "{end}"
-            );
-            assert_eq!(rt;
-                errors.into_inner().as_slice(),
-                b"transit-desk: stream write-fault\n".as_slice(),
-                "{end}"
-            );
-            assert_eq!(rt; status, 1, "{end}");
-        }
-    }
-    Ok(())
+    assert_narrow_writers(&rt, &words)
 }
 
 const REGISTER: &[u8] =
@@ -351,45 +397,72 @@ const REPLIES: [&[&[u8]]; 8] = [
     &[SHOWN, SHOWN, SHOWN, NO_MEMORY],
 ];
 
-fn joined(alloc: Global, replies: &[&[u8]]) -> Result<Vec<u8>, AllocError> {
-    let mut bytes = Vec::new(alloc);
+// Whether these replies and nothing else were written.
+fn is_joined(out: &[u8], replies: &[&[u8]]) -> bool {
+    let mut left = out;
     for reply in replies {
-        bytes.extend_from_slice(reply)?;
+        match left.strip_prefix(*reply) {
+            Some(rest) => left = rest,
+            None => return false,
+        }
     }
-    Ok(bytes)
+    left.is_empty()
+}
+
+fn is_due_after_faults(out: &[u8]) -> bool {
+    for replies in &REPLIES {
+        if is_joined(out, replies) {
+            return true;
+        }
+    }
+    false
+}
+
+// The input is served three times at most, as long as its streams fail.
+fn serve_again(
+    alloc: Global,
+    reader: &mut Counted<Drip<'_>>,
+    writer: &mut Counted<Vec<u8>>,
+    service: &mut Service<PlainDesk>,
+) -> StreamEnd {
+    let mut clock = FixedClock { at: 1_740_819_600 };
+    let mut end = StreamEnd::Failed;
+    for _ in 0..3 {
+        if end == StreamEnd::Failed {
+            end = serve_stream(alloc, reader, writer, &mut clock, service);
+        }
+    }
+    end
+}
+
+// What is written for this input, one byte a read.
+fn told_of_drip(
+    rt: &(impl AllocGlobal + Abort),
+    service: &mut Service<PlainDesk>,
+    input: &[u8],
+) -> Result<Vec<u8>, AllocError> {
+    let mut writer = Counted::new(Vec::with_capacity(rt.alloc(), 1024)?);
+    let mut reader = Counted::new(Drip::ending(input));
+    let end = serve_again(rt.alloc(), &mut reader, &mut writer, service);
+    assert_closed(rt, end);
+    Ok(writer.into_inner())
+}
+
+fn told_at_new_desk(rt: &(impl AllocGlobal + Abort), input: &[u8]) -> Result<Vec<u8>, Fail> {
+    let mut service = service_of_ch(rt.alloc())?;
+    Ok(told_of_drip(rt, &mut service, input)?)
+}
+
+fn assert_served_after_faults(rt: &(impl AllocGlobal + Abort), input: &[u8]) -> Result<(), Fail> {
+    let out = told_at_new_desk(rt, input)?;
+    assert!(rt; is_due_after_faults(&out));
+    Ok(())
 }
 
 // After a fault the rest of the input is served as the next stream, at the same desk. To be run with each allocation refused in turn, where
 // one request or the stream's own buffer meets the fault, and all others have their replies.
 #[test]
 fn the_rest_is_served_after_a_fault(rt: HostRuntime) -> Result<(), Fail> {
-    let alloc = rt.alloc();
-    let mut wanted = Vec::new(alloc);
-    for replies in &REPLIES {
-        wanted.push(joined(alloc, replies)?)?;
-    }
-    let input = many(alloc, REGISTER, SEE, 2, b"")?;
-    let country = Country::read(b"CH").ok_or("country")?;
-    let mut service = Service::new(PlainDesk::new(alloc, country)?);
-    let mut reader = Counted::new(Drip {
-        left: &input,
-        fails: false,
-    });
-    let mut writer = Counted::new(Vec::with_capacity(alloc, 1024)?);
-    let mut clock = FixedClock { at: 1_740_819_600 };
-    let mut end = StreamEnd::Failed;
-    for _ in 0..3 {
-        if end == StreamEnd::Failed {
-            end = serve_stream(alloc, &mut reader, &mut writer, &mut clock, &mut service);
-        }
-    }
-    assert_eq!(rt; end, StreamEnd::Closed);
-    let out = writer.into_inner();
-    assert!(rt;
-        wanted
-            .iter()
-            .any(|replies| replies.as_slice() == out.as_slice()),
-        "{out:?}"
-    );
-    Ok(())
+    let input = many(rt.alloc(), REGISTER, SEE, 2, b"")?;
+    assert_served_after_faults(&rt, &input)
 }

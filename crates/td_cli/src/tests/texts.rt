@@ -1,5 +1,25 @@
 //! Requests and replies made of their parts.
+use super::{Due, WORDS, assert_job};
 use std::alloc::{AllocError, Global};
+use std::process::Abort;
+use std::rt::Clock;
+use std::test::Fail;
+
+/// A front, a unit so many times, and a back.
+pub fn many(
+    alloc: Global,
+    front: &[u8],
+    unit: &[u8],
+    times: usize,
+    back: &[u8],
+) -> Result<Vec<u8>, AllocError> {
+    let mut bytes = front.to_vec(alloc)?;
+    for _ in 0..times {
+        bytes.extend_from_slice(unit)?;
+    }
+    bytes.extend_from_slice(back)?;
+    Ok(bytes)
+}
 
 /// A request with a body.
 fn request(alloc: Global, method: &str, target: &str, body: &str) -> Result<String, AllocError> {
@@ -28,13 +48,16 @@ pub fn open(alloc: Global, holder: &str) -> Result<String, AllocError> {
     request(alloc, "POST", &target, body)
 }
 
+fn declaration(alloc: Global, lrn: &str, grn: &str) -> Result<String, AllocError> {
+    format!(in alloc;
+        "{{\"lrn\":\"{lrn}\",\"departure\":\"CH001251\",\"destination\":\"DE005600\",\"lines\":[{{\"grn\":\"{grn}\",\"code\":\"AB12\",\"cents\":500000}}]}}"
+    )
+}
+
 /// Lodges a declaration of 500000 cents on a guarantee with the code AB12.
 pub fn lodge(alloc: Global, holder: &str, lrn: &str, grn: &str) -> Result<String, AllocError> {
     let target = format!(in alloc; "/holders/{holder}/movements")?;
-    let body = format!(in alloc;
-        "{{\"lrn\":\"{lrn}\",\"departure\":\"CH001251\",\"destination\":\"DE005600\",\"lines\":[{{\"grn\":\"{grn}\",\"code\":\"AB12\",\"cents\":500000}}]}}"
-    )?;
-    request(alloc, "POST", &target, &body)
+    request(alloc, "POST", &target, &declaration(alloc, lrn, grn)?)
 }
 
 /// Asks to see a holder.
@@ -65,4 +88,67 @@ pub fn opened(alloc: Global, grn: &str) -> Result<String, AllocError> {
 pub fn lodged(alloc: Global, lrn: &str, mrn: &str) -> Result<String, AllocError> {
     let body = format!(in alloc; "{{\"lrn\":\"{lrn}\",\"message\":\"IE028\",\"mrn\":\"{mrn}\"}}")?;
     answer(alloc, &body)
+}
+
+/// The requests of a stream, and the replies that are due to them.
+#[derive(Drop)]
+pub struct Script {
+    input: String,
+    replies: String,
+}
+
+impl Script {
+    pub fn new(alloc: Global) -> Script {
+        Script {
+            input: String::new(alloc),
+            replies: String::new(alloc),
+        }
+    }
+
+    fn add(&mut self, request: &str, reply: &str) -> Result<(), AllocError> {
+        self.input.push_str(request)?;
+        self.replies.push_str(reply)
+    }
+
+    /// The holder is registered, and shown with nothing.
+    pub fn register(&mut self, alloc: Global, holder: &str) -> Result<(), AllocError> {
+        self.add(&register(alloc, holder)?, &shown(alloc, holder, 0, 0)?)
+    }
+
+    /// The holder has a guarantee opened, under this GRN.
+    pub fn open(&mut self, alloc: Global, holder: &str, grn: &str) -> Result<(), AllocError> {
+        self.add(&open(alloc, holder)?, &opened(alloc, grn)?)
+    }
+
+    /// The holder lodges a declaration on that guarantee, which has this MRN.
+    pub fn lodge(
+        &mut self,
+        alloc: Global,
+        holder: &str,
+        lrn: &str,
+        grn: &str,
+        mrn: &str,
+    ) -> Result<(), AllocError> {
+        self.add(&lodge(alloc, holder, lrn, grn)?, &lodged(alloc, lrn, mrn)?)
+    }
+
+    /// The holder is shown with so many guarantees and movements.
+    pub fn see(
+        &mut self,
+        alloc: Global,
+        holder: &str,
+        guarantees: u32,
+        movements: u32,
+    ) -> Result<(), AllocError> {
+        self.add(
+            &see(alloc, holder)?,
+            &shown(alloc, holder, guarantees, movements)?,
+        )
+    }
+}
+
+/// These requests on one stream have these replies, and the program is done.
+pub fn assert_script(rt: &(impl AllocGlobal + Clock + Abort), script: &Script) -> Result<(), Fail> {
+    let due = Due::replies(script.replies.as_bytes());
+    assert_job(rt, &WORDS, script.input.as_bytes(), due)
 }

@@ -1,10 +1,11 @@
 //! Views of movements and guarantees.
 use super::exchanges::{
-    A1, A1_LODGED, A2_LODGED, NO_GUARANTEE, NO_HOLDER, OPEN, OPENED, OTHER_A1, OTHER_A1_LODGED,
-    OTHER_OPEN, OTHER_OPENED, OTHER_REGISTER, OTHER_SHOWN, assert_replies,
+    A1, A1_LODGED, A2_LODGED, CLOCK_RANGE, Exchange, NO_GUARANTEE, NO_HOLDER, OPEN, OPENED,
+    OTHER_A1, OTHER_A1_LODGED, OTHER_OPEN, OTHER_OPENED, OTHER_REGISTER, OTHER_SHOWN,
+    assert_replies,
 };
 use super::first_requests::{REGISTER, SHOWN};
-use super::{WORDS, perform_over};
+use super::{WORDS, words_at};
 use std::test::Fail;
 
 /// The movement that was declared under the LRN A1.
@@ -34,26 +35,24 @@ const SHOWN_A2: &[u8] =
 const NO_MOVEMENT: &[u8] =
     b"HTTP/1.1 404 Not Found\r\nContent-Type: application/json\r\nContent-Length: 23\r\n\r\n{\"error\":\"no-movement\"}";
 
+const VIEWS: &[Exchange] = &[
+    (REGISTER, SHOWN),
+    (SEE_A1, NO_MOVEMENT),
+    (SEE_FIRST, NO_GUARANTEE),
+    (OPEN, OPENED),
+    (SEE_FIRST, SHOWN_FIRST),
+    (A1, A1_LODGED),
+    (SEE_A1, SHOWN_A1),
+    (SEE_FIRST, SHOWN_FIRST),
+    (OPEN, OPENED_SECOND),
+    (A2_ON_BOTH, A2_LODGED),
+    (SEE_A2, SHOWN_A2),
+    (SEE_A1, SHOWN_A1),
+];
+
 #[test]
 fn movements_and_guarantees_are_shown(rt: HostRuntime) -> Result<(), Fail> {
-    assert_replies(
-        &rt,
-        &WORDS,
-        &[
-            (REGISTER, SHOWN),
-            (SEE_A1, NO_MOVEMENT),
-            (SEE_FIRST, NO_GUARANTEE),
-            (OPEN, OPENED),
-            (SEE_FIRST, SHOWN_FIRST),
-            (A1, A1_LODGED),
-            (SEE_A1, SHOWN_A1),
-            (SEE_FIRST, SHOWN_FIRST),
-            (OPEN, OPENED_SECOND),
-            (A2_ON_BOTH, A2_LODGED),
-            (SEE_A2, SHOWN_A2),
-            (SEE_A1, SHOWN_A1),
-        ],
-    )
+    assert_replies(&rt, &WORDS, VIEWS)
 }
 
 /// The other holder asks for them, and for what is that holder's own.
@@ -75,73 +74,56 @@ const ANOTHER_YEARS: &[u8] = b"GET /holders/000001/movements/24CH00000100000011 
 const NOBODY_SEES: &[u8] = b"GET /holders/000003/movements/25CH00000100000013 HTTP/1.1\r\n\r\n";
 
 // What is a stranger's is as what isn't there, byte for byte, whether it is there or not.
+const STRANGERS_VIEWS: &[Exchange] = &[
+    (REGISTER, SHOWN),
+    (OTHER_REGISTER, OTHER_SHOWN),
+    (STRANGER_SEES_FIRST, NO_GUARANTEE),
+    (OTHER_SEES_OWN_FIRST, NO_GUARANTEE),
+    (OPEN, OPENED),
+    (STRANGER_SEES_FIRST, NO_GUARANTEE),
+    (STRANGER_SEES_A1, NO_MOVEMENT),
+    (A1, A1_LODGED),
+    (STRANGER_SEES_A1, NO_MOVEMENT),
+    (OTHER_SEES_OWN, NO_MOVEMENT),
+    (OTHER_OPEN, OTHER_OPENED),
+    (OTHER_A1, OTHER_A1_LODGED),
+    (STRANGER_SEES_A1, NO_MOVEMENT),
+    (ANOTHER_YEARS, NO_MOVEMENT),
+    (NOBODY_SEES, NO_HOLDER),
+];
+
 #[test]
 fn a_strangers_movement_is_as_an_unknown_one(rt: HostRuntime) -> Result<(), Fail> {
-    assert_replies(
-        &rt,
-        &WORDS,
-        &[
-            (REGISTER, SHOWN),
-            (OTHER_REGISTER, OTHER_SHOWN),
-            (STRANGER_SEES_FIRST, NO_GUARANTEE),
-            (OTHER_SEES_OWN_FIRST, NO_GUARANTEE),
-            (OPEN, OPENED),
-            (STRANGER_SEES_FIRST, NO_GUARANTEE),
-            (STRANGER_SEES_A1, NO_MOVEMENT),
-            (A1, A1_LODGED),
-            (STRANGER_SEES_A1, NO_MOVEMENT),
-            (OTHER_SEES_OWN, NO_MOVEMENT),
-            (OTHER_OPEN, OTHER_OPENED),
-            (OTHER_A1, OTHER_A1_LODGED),
-            (STRANGER_SEES_A1, NO_MOVEMENT),
-            (ANOTHER_YEARS, NO_MOVEMENT),
-            (NOBODY_SEES, NO_HOLDER),
-        ],
-    )
+    assert_replies(&rt, &WORDS, STRANGERS_VIEWS)
 }
 
 // References that are none, on a desk without holders: no table is asked.
+const ILL_FORMED_REFERENCES: &[Exchange] = &[
+    (
+        b"GET /holders/000001/movements/25CH00000100000014 HTTP/1.1\r\n\r\n",
+        b"HTTP/1.1 400 Bad Request\r\nContent-Type: application/json\r\nContent-Length: 42\r\n\r\n{\"error\":\"bad-mrn\",\"reason\":\"check-digit\"}",
+    ),
+    (
+        b"GET /holders/000001/movements/25cH00000100000013 HTTP/1.1\r\n\r\n",
+        b"HTTP/1.1 400 Bad Request\r\nContent-Type: application/json\r\nContent-Length: 35\r\n\r\n{\"error\":\"bad-mrn\",\"reason\":\"form\"}",
+    ),
+    (
+        b"GET /holders/000001/guarantees/25CH00000100000013 HTTP/1.1\r\n\r\n",
+        b"HTTP/1.1 400 Bad Request\r\nContent-Type: application/json\r\nContent-Length: 37\r\n\r\n{\"error\":\"bad-grn\",\"reason\":\"length\"}",
+    ),
+    (
+        b"GET /holders/000000/movements/x HTTP/1.1\r\n\r\n",
+        b"HTTP/1.1 400 Bad Request\r\nContent-Type: application/json\r\nContent-Length: 22\r\n\r\n{\"error\":\"bad-holder\"}",
+    ),
+];
+
 #[test]
 fn ill_formed_references_are_told(rt: HostRuntime) -> Result<(), Fail> {
-    assert_replies(
-        &rt,
-        &WORDS,
-        &[
-            (
-                b"GET /holders/000001/movements/25CH00000100000014 HTTP/1.1\r\n\r\n",
-                b"HTTP/1.1 400 Bad Request\r\nContent-Type: application/json\r\nContent-Length: 42\r\n\r\n{\"error\":\"bad-mrn\",\"reason\":\"check-digit\"}",
-            ),
-            (
-                b"GET /holders/000001/movements/25cH00000100000013 HTTP/1.1\r\n\r\n",
-                b"HTTP/1.1 400 Bad Request\r\nContent-Type: application/json\r\nContent-Length: 35\r\n\r\n{\"error\":\"bad-mrn\",\"reason\":\"form\"}",
-            ),
-            (
-                b"GET /holders/000001/guarantees/25CH00000100000013 HTTP/1.1\r\n\r\n",
-                b"HTTP/1.1 400 Bad Request\r\nContent-Type: application/json\r\nContent-Length: 37\r\n\r\n{\"error\":\"bad-grn\",\"reason\":\"length\"}",
-            ),
-            (
-                b"GET /holders/000000/movements/x HTTP/1.1\r\n\r\n",
-                b"HTTP/1.1 400 Bad Request\r\nContent-Type: application/json\r\nContent-Length: 22\r\n\r\n{\"error\":\"bad-holder\"}",
-            ),
-        ],
-    )
+    assert_replies(&rt, &WORDS, ILL_FORMED_REFERENCES)
 }
 
 // A view out of the clock's range is clock-range, and a reference that is none keeps its own error.
 #[test]
 fn views_are_tested_for_the_clock(rt: HostRuntime) -> Result<(), Fail> {
-    let words = [
-        "transit-desk",
-        "pipe",
-        "--country",
-        "CH",
-        "--at",
-        "4102444800",
-    ];
-    let done = perform_over(&rt, &words, SEE_A1)?;
-    let wanted =
-        b"HTTP/1.1 503 Service Unavailable\r\nContent-Type: application/json\r\nContent-Length: 23\r\n\r\n{\"error\":\"clock-range\"}";
-    assert_eq!(rt; done.out.as_slice(), wanted.as_slice());
-    assert_eq!(rt; done.status, 0);
-    Ok(())
+    assert_replies(&rt, &words_at("CH", "4102444800"), &[(SEE_A1, CLOCK_RANGE)])
 }
