@@ -1,5 +1,3 @@
-mod EoriText
-mod ArrayFacts
+mod ArrayTexts
 mod PlainText
 mod PlainObjects
-mod Floats

@@ -4,7 +4,7 @@ use Rattle.std.proofs.lemmas.List.{take-append-drop}
 use Rattle.std.proofs.lemmas.List.Elements.{All-append, All-head, All-same, All-tail, All-weaker}
 use Rattle.std.specs.Char.{IsAsciiUppercase}
 use Rattle.std.specs.Prelude.{codes, decimal, flat_map}
-use Rattle.serde_json.specs.Data.{Data, number, unsigned, string, array, object, member, no_members}
+use Rattle.serde_json.specs.Data.{Data, number, unsigned, string, object, member, no_members}
 use Rattle.serde_json.specs.View.{items_of}
 use Rattle.serde_json.specs.Written.{compact_text, items_text}
 use Rattle.serde_json.proofs.OnLiterals.{serde_json_on_literals}
@@ -19,24 +19,24 @@ use Rattle.td_movement.specs.declared.line.Line.{Line}
 use Rattle.td_movement.specs.declared.movement.Movement.{Movement}
 use Rattle.td_movement.specs.declared.state.State.{State}
 use Rattle.td_movement.specs.declared.state.State.TheVariants.{Accepted, Cancelled, Released, Enquired, Arrived, Discrepant, Cleared, WrittenOff}
-use Rattle.td_answers.specs.Objects.{text_data, day_data, line_data, lines_data, codes_data, movement_data, guarantee_data, in_quotes, text_body, day_body, in_brackets, line_body, movement_body, guarantee_body}
+use Rattle.td_answers.specs.Objects.{array_of, text_data, day_data, line_data, lines_data, codes_data, movement_data, guarantee_data, in_quotes, text_body, day_body, in_brackets, line_body, movement_body, guarantee_body}
 use Rattle.td_answers.proofs.PlainText.{digit_unescaped, mark_unescaped, written_class, written_lrn, written_reference, written_text}
 
 -- ---- texts
 
 -- an access code is written as it is
-written_code : (text : List ℕ) → IsAccessCode text → compact_text (string text) ≡ in_quotes text
+pub written_code : (text : List ℕ) → IsAccessCode text → compact_text (string text) ≡ in_quotes text
 written_code text h = written_class IsMark mark_unescaped text h.marks
 
 -- so is the number of an office
-written_office : (text : List ℕ) → IsOfficeNo text → compact_text (string text) ≡ in_quotes text
+pub written_office : (text : List ℕ) → IsOfficeNo text → compact_text (string text) ≡ in_quotes text
 written_office text h =
     let letters = All-weaker IsAsciiUppercase IsMark (λ c h. inr h) (take 2 text) h.country in
     let all = All-append IsMark (take 2 text) (drop 2 text) letters h.marks in
     written_class IsMark mark_unescaped text (All-same IsMark text _ (sym (take-append-drop 2 text)) all)
 
 -- so is the name of a state
-written_state : (s : State) → compact_text (string (state_name s)) ≡ in_quotes (state_name s)
+pub written_state : (s : State) → compact_text (string (state_name s)) ≡ in_quotes (state_name s)
 written_state Accepted = written_text (state_name Accepted) refl
 written_state Cancelled = written_text (state_name Cancelled) refl
 written_state Released = written_text (state_name Released) refl
@@ -47,7 +47,7 @@ written_state Cleared = written_text (state_name Cleared) refl
 written_state WrittenOff = written_text (state_name WrittenOff) refl
 
 -- so is a day
-written_day : (n : ℕ) → compact_text (string (day_text n)) ≡ in_quotes (day_text n)
+pub written_day : (n : ℕ) → compact_text (string (day_text n)) ≡ in_quotes (day_text n)
 unfolding fixed_decimal
 written_day n =
     let y = year_of n in
@@ -76,7 +76,7 @@ later_written shows body P each (x ∷ xs) all =
 
 -- an array
 written_array : {X : Type 0} (shows : X → Data) (body : X → List ℕ) (P : X → Type 0) → ((x : X) → P x → compact_text (shows x) ≡ body x)
-    → (xs : List X) → All P xs → compact_text (array (items_of (map shows xs))) ≡ in_brackets (map body xs)
+    → (xs : List X) → All P xs → compact_text (array_of shows xs) ≡ in_brackets (map body xs)
 written_array shows body P each [] all = refl
 written_array shows body P each (x ∷ xs) all =
     rw (each x (All-head P x xs all), later_written shows body P each xs (All-tail P x xs all)) (ap (λ text. 91 ∷ text) (sym (append_assoc (body x) _ (codes "]"))))

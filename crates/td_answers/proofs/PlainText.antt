@@ -87,7 +87,7 @@ lrn_unescaped c (inr (inr (inr point))) = rw point refl
 -- ---- texts
 
 -- an EORI is written as it is
-written_eori : (text : List ℕ) → IsEori text → compact_text (string text) ≡ 34 ∷ (text ++ 34 ∷ [])
+pub written_eori : (text : List ℕ) → IsEori text → compact_text (string text) ≡ 34 ∷ (text ++ 34 ∷ [])
 written_eori text h =
     let letters = All-weaker IsAsciiUppercase IsMark (λ c h. inr h) (take 2 text) h.country in
     let all = All-append IsMark (take 2 text) (drop 2 text) letters h.marks in
@@ -98,7 +98,7 @@ pub digit_unescaped : (n : ℕ) → is_unescaped (48 + n % 10) ≡ true
 digit_unescaped n = between (48 + n % 10) (omega arith) (omega arith)
 
 -- so is a holder's number
-written_holder : (n : ℕ) → compact_text (string (holder_text n)) ≡ 34 ∷ (holder_text n ++ 34 ∷ [])
+pub written_holder : (n : ℕ) → compact_text (string (holder_text n)) ≡ 34 ∷ (holder_text n ++ 34 ∷ [])
 written_holder n =
     written_text (holder_text n) (rw (digit_unescaped (n / 100000), digit_unescaped (n / 10000), digit_unescaped (n / 1000), digit_unescaped (n / 100), digit_unescaped (n / 10), digit_unescaped n) refl)
 

@@ -1,4 +1,4 @@
--- The JSON of what the desk says, and the status of it. Keys stand in ascending order of bytes; `serde_json` writes the text, with no space.
+-- The JSON of what the desk says, and the status of it. Keys stand in ascending order of bytes, and texts have no space between the parts.
 use Rattle.std.specs.Prelude.{ℕ, Bool, List, ◌++◌, codes, decimal, None}
 use Rattle.serde_json.specs.Data.{Data, number, unsigned, string, object, member, no_members}
 use Rattle.serde_json.specs.Written.{compact_text}

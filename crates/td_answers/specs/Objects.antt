@@ -15,15 +15,22 @@ free_on g used = g.reference - used
 
 -- ---- the objects
 
+-- a value that there may be
+abbrev pub or_null : {X : Type 0} → (X → Data) → Option X → Data
+or_null shows None = null
+or_null shows (Some x) = shows x
+
+-- values in their order
+abbrev pub array_of : {X : Type 0} → (X → Data) → List X → Data
+array_of shows xs = array (items_of (map shows xs))
+
 -- a text that there may be
 abbrev pub text_data : Option (List ℕ) → Data
-text_data None = null
-text_data (Some text) = string text
+text_data = or_null string
 
 -- a day that there may be
 abbrev pub day_data : Option ℕ → Data
-day_data None = null
-day_data (Some day) = string (day_text day)
+day_data = or_null (λ day. string (day_text day))
 
 -- a line of a movement
 abbrev pub line_data : Line → Data
@@ -31,11 +38,11 @@ line_data line = object (member (codes "cents") (number (unsigned line.cents)) (
 
 -- lines, in their order
 abbrev pub lines_data : List Line → Data
-lines_data lines = array (items_of (map line_data lines))
+lines_data = array_of line_data
 
 -- access codes, in their order
 abbrev pub codes_data : List (List ℕ) → Data
-codes_data texts = array (items_of (map string texts))
+codes_data = array_of string
 
 -- a movement
 abbrev pub movement_data : Movement → Data

@@ -1,126 +1,101 @@
 //! What the desk says, as JSON.
-ghost use Rattle.std.specs.Prelude.{◌≡◌, IfOk, string_bytes};
-ghost use Rattle.serde_json.specs.View.{view};
-ghost use Rattle.td_acts.specs.declared.said.Said.TheVariants.{Answered};
-ghost use Rattle.td_answers.specs.Answers.{answer_body, answer_data, error_data, fault_body, fault_data, fault_reply, fault_status, field_data, holder_data, ie028_data, opened_data, reason_data, refusal_status, said_body, said_data, said_reply, said_status};
+#![tactic(auto, unfolding(serde_json::proofs::OnLiterals::serde_json_on_literals))]
 
-use crate::objects::{guarantee_is_told_in, guarantee_value, movement_is_told_in, movement_value};
+ghost use Rattle.std.specs.Prelude.{◌≡◌, IfOk, string_bytes};
+ghost use Rattle.serde_json.specs.Written.{compact_text};
+ghost use Rattle.td_acts.specs.Names.{refusal_name};
+ghost use Rattle.td_acts.specs.declared.said.Said.TheVariants.{Answered};
+ghost use Rattle.td_answers.specs.Answers.{answer_body, answer_data, error_data, fault_data, fault_reply, fault_status, refusal_status, said_body, said_data, said_reply, said_status};
+
+use crate::json::{Json, ToJson};
+use crate::objects::{guarantee_is_told_in, movement_is_told_in, write_guarantee};
 use http::StatusCode;
-use serde_json::{Value, json};
 use std::alloc::{AllocError, Global};
+use std::fmt;
 use td_acts::{Answer, Refusal, Said};
-use td_base::Eori;
 use td_routes::{WebFault, reason_name};
 use td_wire::json_reply;
 
-fn eori_text(eori: &Eori) -> &str
-    ensures { result.now ≡ eori.now }
-{
-    str::from_utf8(eori.as_bytes()).unwrap()
-}
+impl ToJson for Answer {
+    ghost shown = { answer_data };
 
-fn holder_value(
-    alloc: Global,
-    eori: &str,
-    guarantees: u32,
-    holder: &str,
-    movements: u32,
-) -> Result<Value, AllocError>
-    ensures { IfOk result (λ v. view v ≡ holder_data eori.now guarantees holder.now movements) }
-{
-    json!(in alloc; {"eori": eori, "guarantees": guarantees, "holder": holder, "movements": movements})
-}
-
-fn opened_value(alloc: Global, grn: &str) -> Result<Value, AllocError>
-    ensures { IfOk result (λ v. view v ≡ opened_data grn.now) }
-{
-    json!(in alloc; {"grn": grn})
-}
-
-fn ie028_value(alloc: Global, lrn: &str, mrn: &str) -> Result<Value, AllocError>
-    ensures { IfOk result (λ v. view v ≡ ie028_data lrn.now mrn.now) }
-{
-    json!(in alloc; {"lrn": lrn, "message": "IE028", "mrn": mrn})
-}
-
-fn error_value(alloc: Global, name: &str) -> Result<Value, AllocError>
-    ensures { IfOk result (λ v. view v ≡ error_data name.now) }
-{
-    json!(in alloc; {"error": name})
-}
-
-fn field_value(alloc: Global, name: &str, field: &str) -> Result<Value, AllocError>
-    ensures { IfOk result (λ v. view v ≡ field_data name.now field.now) }
-{
-    json!(in alloc; {"error": name, "field": field})
-}
-
-fn reason_value(alloc: Global, name: &str, reason: &str) -> Result<Value, AllocError>
-    ensures { IfOk result (λ v. view v ≡ reason_data name.now reason.now) }
-{
-    json!(in alloc; {"error": name, "reason": reason})
-}
-
-fn answer_value(alloc: Global, answer: &Answer) -> Result<Value, AllocError>
-    ensures { IfOk result (λ v. view v ≡ answer_data answer.now) }
-{
-    match answer {
-        Answer::Holder {
-            holder,
-            eori,
-            guarantees,
-            movements,
-        } => {
-            let number = format!(in alloc; "{holder}")?;
-            holder_value(alloc, eori_text(eori), *guarantees, &number, *movements)
+    fn write_json<W: fmt::Write>(&self, f: &mut fmt::Formatter<W>) -> fmt::Result {
+        match self {
+            Answer::Holder {
+                holder,
+                eori,
+                guarantees,
+                movements,
+            } => write!(
+                f,
+                r#"{{"eori":{},"guarantees":{guarantees},"holder":{},"movements":{movements}}}"#,
+                Json(eori),
+                Json(holder)
+            ),
+            Answer::Opened { grn } => write!(f, r#"{{"grn":{}}}"#, Json(grn)),
+            Answer::Ie028 { lrn, mrn } => write!(
+                f,
+                r#"{{"lrn":{},"message":"IE028","mrn":{}}}"#,
+                Json(lrn),
+                Json(mrn)
+            ),
+            Answer::Movement(movement) => movement.write_json(f),
+            Answer::Guarantee(guarantee, used) => write_guarantee(f, guarantee, *used),
         }
-        Answer::Opened { grn } => {
-            let grn = format!(in alloc; "{grn}")?;
-            opened_value(alloc, &grn)
-        }
-        Answer::Ie028 { lrn, mrn } => {
-            let lrn = format!(in alloc; "{lrn}")?;
-            let mrn = format!(in alloc; "{mrn}")?;
-            ie028_value(alloc, &lrn, &mrn)
-        }
-        Answer::Movement(movement) => movement_value(alloc, movement),
-        Answer::Guarantee(guarantee, used) => guarantee_value(alloc, guarantee, *used),
     }
 }
 
-fn said_value(alloc: Global, said: &Said) -> Result<Value, AllocError>
-    ensures { IfOk result (λ v. view v ≡ said_data said.now) }
-{
-    match said {
-        Said::Answered(answer) => answer_value(alloc, answer),
-        Said::Refused(refusal) => error_value(alloc, refusal.name()),
+impl ToJson for Refusal {
+    ghost shown = { λ refusal. error_data (refusal_name refusal) };
+
+    fn write_json<W: fmt::Write>(&self, f: &mut fmt::Formatter<W>) -> fmt::Result {
+        write!(f, r#"{{"error":"{}"}}"#, self.name())
     }
 }
 
-fn fault_value(alloc: Global, fault: &WebFault) -> Result<Value, AllocError>
-    ensures { IfOk result (λ v. view v ≡ fault_data fault.now) }
-{
-    match fault {
-        WebFault::BadMrn(reason) | WebFault::BadGrn(reason) => {
-            reason_value(alloc, fault.name(), reason_name(reason))
+impl ToJson for Said {
+    ghost shown = { said_data };
+
+    fn write_json<W: fmt::Write>(&self, f: &mut fmt::Formatter<W>) -> fmt::Result {
+        match self {
+            Said::Answered(answer) => answer.write_json(f),
+            Said::Refused(refusal) => refusal.write_json(f),
         }
-        WebFault::BadField(field) => field_value(alloc, fault.name(), field.name()),
-        _ => error_value(alloc, fault.name()),
     }
 }
 
-fn said_text(alloc: Global, said: &Said) -> Result<String, AllocError>
-    ensures { IfOk result (λ s. string_bytes s ≡ said_body said.now) }
-{
-    let value = said_value(alloc, said)?;
-    value.to_string(alloc)
+impl ToJson for WebFault {
+    ghost shown = { fault_data };
+
+    fn write_json<W: fmt::Write>(&self, f: &mut fmt::Formatter<W>) -> fmt::Result {
+        match self {
+            WebFault::BadMrn(reason) | WebFault::BadGrn(reason) => write!(
+                f,
+                r#"{{"error":"{}","reason":"{}"}}"#,
+                self.name(),
+                reason_name(reason)
+            ),
+            WebFault::BadField(field) => write!(
+                f,
+                r#"{{"error":"{}","field":"{}"}}"#,
+                self.name(),
+                field.name()
+            ),
+            _ => write!(f, r#"{{"error":"{}"}}"#, self.name()),
+        }
+    }
 }
 
-fn fault_text(alloc: Global, fault: &WebFault) -> Result<String, AllocError>
-    ensures { IfOk result (λ s. string_bytes s ≡ fault_body fault.now) }
+/// The bytes for which memory is taken at once for a body. A longer body takes more as it is written.
+const BODY_CAPACITY: usize = 512;
+
+/// The body that tells it, as JSON.
+fn body_of<T: ToJson>(alloc: Global, said: &T) -> Result<String, AllocError>
+    ensures { IfOk result (λ s. string_bytes s ≡ compact_text (T.shown said.now)) }
 {
-    let value = fault_value(alloc, fault)?;
-    value.to_string(alloc)
+    let mut text = String::with_capacity(alloc, BODY_CAPACITY)?;
+    write!(text, "{}", Json(said))?;
+    Ok(text)
 }
 
 fn status_of(said: &Said) -> StatusCode
@@ -168,7 +143,7 @@ fn fault_status_of(fault: &WebFault) -> StatusCode
 pub fn reply_bytes(alloc: Global, said: &Said, close: bool) -> Result<Vec<u8>, AllocError>
     ensures { IfOk result (λ v. v.items ≡ said_reply said.now close) }
 {
-    let body = said_text(alloc, said)?;
+    let body = body_of(alloc, said)?;
     json_reply(alloc, status_of(said), None, close, &body)
 }
 
@@ -176,7 +151,7 @@ pub fn reply_bytes(alloc: Global, said: &Said, close: bool) -> Result<Vec<u8>, A
 pub fn fault_bytes(alloc: Global, fault: &WebFault, close: bool) -> Result<Vec<u8>, AllocError>
     ensures { IfOk result (λ v. v.items ≡ fault_reply fault.now close) }
 {
-    let body = fault_text(alloc, fault)?;
+    let body = body_of(alloc, fault)?;
     json_reply(alloc, fault_status_of(fault), fault.allow(), close, &body)
 }
 

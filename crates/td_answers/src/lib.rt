@@ -2,6 +2,7 @@
 #![tactic(auto)]
 
 mod answers;
+mod json;
 mod objects;
 
 pub use answers::{answer_is_told_in, fault_bytes, reply_bytes};

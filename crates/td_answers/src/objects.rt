@@ -1,66 +1,95 @@
 //! The objects that show a movement and a guarantee, as JSON.
-ghost use Rattle.std.specs.Prelude.{◌≡◌, All, IfOk, IfSome};
-ghost use Rattle.serde_json.specs.Data.{string};
-ghost use Rattle.serde_json.specs.View.{view};
+#![tactic(auto, unfolding(serde_json::proofs::OnLiterals::serde_json_on_literals))]
+
+ghost use Rattle.std.specs.Fmt.{WritesOnOk};
+ghost use Rattle.std.specs.Prelude.{◌≡◌, All, IfSome};
 ghost use Rattle.serde_json.specs.Written.{compact_text};
 ghost use Rattle.td_base.specs.Codes.{IsAccessCode, IsOfficeNo};
 ghost use Rattle.td_base.specs.References.{IsGrn};
-ghost use Rattle.td_answers.specs.Objects.{codes_data, day_data, free_on, guarantee_body, guarantee_data, line_data, lines_data, movement_body, movement_data, text_data};
+ghost use Rattle.td_answers.specs.Objects.{codes_data, free_on, guarantee_body, guarantee_data, line_data, lines_data, movement_body, movement_data};
 
-use serde_json::{Value, json};
-use std::alloc::{AllocError, Global};
-use td_base::{AccessCode, Cents, Day, OfficeNo};
-use td_guarantee::{Guarantee, guaranteed};
-use td_movement::{Line, Movement};
+use crate::json::{Json, ToJson};
+use std::fmt;
+use td_base::{AccessCode, Cents, OfficeNo};
+use td_guarantee::{Codes, Guarantee, guaranteed};
+use td_movement::{Line, Movement, MovementLines};
 
-/// A movement. `AllocError`: want of memory.
-pub(crate) fn movement_value(alloc: Global, movement: &Movement) -> Result<Value, AllocError>
-    ensures { IfOk result (λ v. view v ≡ movement_data movement.now) }
-{
-    let accepted = day_value(alloc, Some(movement.accepted))?;
-    let actual = office_value(alloc, movement.actual)?;
-    let arrival = day_value(alloc, movement.arrival)?;
-    let departure = office_value(alloc, Some(movement.departure))?;
-    let destination = office_value(alloc, Some(movement.destination))?;
-    let limit = day_value(alloc, movement.limit)?;
-    let lines = lines_value(alloc, movement.lines.as_slice())?;
-    let lrn = format!(in alloc; "{}", movement.lrn)?;
-    let mrn = format!(in alloc; "{}", movement.mrn)?;
-    json!(in alloc; {
-        "accepted": accepted,
-        "actual": actual,
-        "arrival": arrival,
-        "departure": departure,
-        "destination": destination,
-        "limit": limit,
-        "lines": lines,
-        "lrn": lrn,
-        "mrn": mrn,
-        "state": movement.state.name()
-    })
+impl ToJson for Line {
+    ghost shown = { line_data };
+
+    fn write_json<W: fmt::Write>(&self, f: &mut fmt::Formatter<W>) -> fmt::Result {
+        write!(
+            f,
+            r#"{{"cents":{},"grn":{}}}"#,
+            Json(&self.cents),
+            Json(&self.grn)
+        )
+    }
 }
 
-/// A guarantee, and the amount in use on it. `AllocError`: want of memory.
-pub(crate) fn guarantee_value(
-    alloc: Global,
+impl ToJson for MovementLines {
+    ghost shown = { lines_data };
+
+    fn write_json<W: fmt::Write>(&self, f: &mut fmt::Formatter<W>) -> fmt::Result {
+        self.as_slice().write_json(f)
+    }
+}
+
+impl ToJson for Codes {
+    ghost shown = { codes_data };
+
+    fn write_json<W: fmt::Write>(&self, f: &mut fmt::Formatter<W>) -> fmt::Result {
+        self.as_slice().write_json(f)
+    }
+}
+
+impl ToJson for Movement {
+    ghost shown = { movement_data };
+
+    fn write_json<W: fmt::Write>(&self, f: &mut fmt::Formatter<W>) -> fmt::Result {
+        write!(
+            f,
+            r#"{{"accepted":{},"actual":{},"arrival":{},"departure":{},"destination":{},{}"#,
+            Json(&self.accepted),
+            Json(&self.actual),
+            Json(&self.arrival),
+            Json(&self.departure),
+            Json(&self.destination),
+            format_args!(
+                r#""limit":{},"lines":{},"lrn":{},"mrn":{},"state":{}}}"#,
+                Json(&self.limit),
+                Json(&self.lines),
+                Json(&self.lrn),
+                Json(&self.mrn),
+                Json(&self.state)
+            )
+        )
+    }
+}
+
+/// Writes a guarantee, and the amount in use on it.
+pub(crate) fn write_guarantee<W: fmt::Write>(
+    f: &mut fmt::Formatter<W>,
     guarantee: &Guarantee,
     used: Cents,
-) -> Result<Value, AllocError>
-    ensures { IfOk result (λ v. view v ≡ guarantee_data guarantee.now used) }
+) -> fmt::Result
+    ensures { WritesOnOk W.write_str_gives f.old result (compact_text (guarantee_data guarantee.now used)) f.new }
 {
-    let codes = codes_value(alloc, guarantee.codes.as_slice())?;
-    let ends = day_value(alloc, guarantee.ends)?;
-    let grn = format!(in alloc; "{}", guarantee.grn)?;
-    json!(in alloc; {
-        "codes": codes,
-        "cover": guarantee.cover.get(),
-        "ends": ends,
-        "free": free_on(guarantee, used),
-        "grn": grn,
-        "guaranteed": guaranteed(guarantee.reference, guarantee.cover).get(),
-        "reference": guarantee.reference.get(),
-        "used": used.get()
-    })
+    write!(
+        f,
+        r#"{{"codes":{},"cover":{},"ends":{},"free":{},"grn":{},{}"#,
+        Json(&guarantee.codes),
+        Json(&guarantee.cover),
+        Json(&guarantee.ends),
+        free_on(guarantee, used),
+        Json(&guarantee.grn),
+        format_args!(
+            r#""guaranteed":{},"reference":{},"used":{}}}"#,
+            Json(&guaranteed(guarantee.reference, guarantee.cover)),
+            Json(&guarantee.reference),
+            Json(&used)
+        )
+    )
 }
 
 // What is left of the reference amount beside what is in use, in cents.
@@ -68,57 +97,6 @@ fn free_on(guarantee: &Guarantee, used: Cents) -> u64
     ensures { result ≡ free_on guarantee.now used }
 {
     guarantee.reference.get().saturating_sub(used.get())
-}
-
-fn day_value(alloc: Global, day: Option<Day>) -> Result<Value, AllocError>
-    ensures { IfOk result (λ v. view v ≡ day_data day) }
-{
-    match day {
-        None => Ok(Value::Null),
-        Some(day) => Ok(Value::String(format!(in alloc; "{day}")?)),
-    }
-}
-
-fn office_value(alloc: Global, office: Option<OfficeNo>) -> Result<Value, AllocError>
-    ensures { IfOk result (λ v. view v ≡ text_data office) }
-{
-    match office {
-        None => Ok(Value::Null),
-        Some(office) => Ok(Value::String(format!(in alloc; "{office}")?)),
-    }
-}
-
-fn line_value(alloc: Global, line: &Line) -> Result<Value, AllocError>
-    ensures { IfOk result (λ v. view v ≡ line_data line.now) }
-{
-    let grn = format!(in alloc; "{}", line.grn)?;
-    json!(in alloc; {"cents": line.cents.get(), "grn": grn})
-}
-
-fn lines_value(alloc: Global, lines: &[Line]) -> Result<Value, AllocError>
-    ensures { IfOk result (λ v. view v ≡ lines_data lines.now) }
-{
-    let mut values = Vec::new(alloc);
-    for line in lines {
-        values.push(line_value(alloc, line)?)?;
-    }
-    Ok(Value::Array(values))
-}
-
-fn code_value(alloc: Global, code: &AccessCode) -> Result<Value, AllocError>
-    ensures { IfOk result (λ v. view v ≡ string code.now) }
-{
-    Ok(Value::String(format!(in alloc; "{code}")?))
-}
-
-fn codes_value(alloc: Global, codes: &[AccessCode]) -> Result<Value, AllocError>
-    ensures { IfOk result (λ v. view v ≡ codes_data codes.now) }
-{
-    let mut texts = Vec::new(alloc);
-    for code in codes {
-        texts.push(code_value(alloc, code)?)?;
-    }
-    Ok(Value::Array(texts))
 }
 
 /// The text of a movement: nothing in it is escaped.

@@ -13,7 +13,7 @@ pub fn write_ascii<W: fmt::Write>(f: &mut fmt::Formatter<W>, bytes: &[u8]) -> fm
     ensures { WritesOnOk W.write_str_gives f.old result bytes.now f.new }
 {
     let text = std::str::from_utf8(bytes).unwrap();
-    write!(f, "{text}")
+    f.write_str(text)
 }
 
 /// Whether all of it is digits.

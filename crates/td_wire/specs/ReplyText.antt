@@ -16,23 +16,16 @@ abbrev pub close_line : Bool → List ℕ
 close_line false = []
 close_line true = codes "Connection: close\r\n"
 
--- the status line, and the fields that each reply with a body has
-abbrev pub first_lines : ℕ → ℕ → List ℕ
-first_lines status size =
-    codes "HTTP/1.1 " ++ (status_text status
-    ++ (codes "\r\nContent-Type: application/json\r\nContent-Length: " ++ (decimal size ++ codes "\r\n")))
-
--- the other fields, and the empty line
-abbrev pub last_lines : Option (List ℕ) → Bool → List ℕ
-last_lines allow close = allow_line allow ++ (close_line close ++ codes "\r\n")
-
 -- a reply with a body
 abbrev pub reply_text : ℕ → Option (List ℕ) → Bool → List ℕ → List ℕ
-reply_text status allow close body = first_lines status (length body) ++ last_lines allow close ++ body
+reply_text status allow close body =
+    codes "HTTP/1.1 " ++ (status_text status
+    ++ (codes "\r\nContent-Type: application/json\r\nContent-Length: " ++ (decimal (length body)
+    ++ (codes "\r\n" ++ (allow_line allow ++ (close_line close ++ (codes "\r\n" ++ body)))))))
 
 -- the reply to a HEAD request: no method but those of `allow` is served, and the stream stops
 abbrev pub head_text : Option (List ℕ) → List ℕ
-head_text allow = codes "HTTP/1.1 " ++ status_text 405 ++ codes "\r\n" ++ last_lines allow true
+head_text allow = codes "HTTP/1.1 " ++ (status_text 405 ++ (codes "\r\n" ++ (allow_line allow ++ (close_line true ++ codes "\r\n"))))
 
 -- the body that names an error
 abbrev pub error_text : List ℕ → List ℕ

@@ -1,11 +1,12 @@
 //! The bytes of replies.
-ghost use Rattle.std.specs.Prelude.{◌≡◌, ◌++◌, IfOk, OnOk, string_bytes};
+ghost use Rattle.std.specs.Prelude.{◌≡◌, IfOk, Some, string_bytes};
 ghost use Rattle.std.specs.Option.{option_copied};
-ghost use Rattle.td_wire.specs.ReplyText.{allow_line, close_line, first_lines, last_lines, reply_text, head_text, error_text, framing_reply, reply_bytes, is_made};
+ghost use Rattle.td_wire.specs.ReplyText.{allow_line, close_line, reply_text, head_text, error_text, framing_reply, reply_bytes, is_made};
 
 use crate::framing::FramingError;
 use http::StatusCode;
 use std::alloc::{AllocError, Global};
+use std::fmt;
 
 const NO_MEMORY: &[u8] =
     b"HTTP/1.1 503 Service Unavailable\r\nContent-Type: application/json\r\nContent-Length: 21\r\nConnection: close\r\n\r\n{\"error\":\"no-memory\"}";
@@ -81,43 +82,38 @@ pub fn error_body(alloc: Global, name: &str) -> Result<String, AllocError>
     format!(in alloc; "{{\"error\":\"{name}\"}}")
 }
 
-/// The status line, and the fields that each reply with a body has.
-fn first_lines(alloc: Global, status: StatusCode, size: usize) -> Result<String, AllocError>
-    ensures { IfOk result (λ s. string_bytes s ≡ first_lines status size) }
-{
-    format!(in alloc;
-        "HTTP/1.1 {status}\r\nContent-Type: application/json\r\nContent-Length: {size}\r\n"
-    )
-}
+/// The bytes for which memory is taken at once for a head. A longer head takes more as it is written.
+const HEAD_CAPACITY: usize = 256;
 
-fn push_allow(text: &mut String, allow: Option<&str>) -> Result<(), AllocError>
-    ensures { OnOk result (string_bytes text.new ≡ string_bytes text.old ++ allow_line (option_copied allow.entry)) }
-{
-    let Some(methods) = allow else {
-        return Ok(());
-    };
-    text.push_str("Allow: ")?;
-    text.push_str(methods)?;
-    text.push_str("\r\n")
-}
+/// The line of the methods that a 405 tells, if any.
+#[derive(Drop)]
+struct AllowLine<'a>(Option<&'a str>);
 
-fn push_close(text: &mut String, close: bool) -> Result<(), AllocError>
-    ensures { OnOk result (string_bytes text.new ≡ string_bytes text.old ++ close_line close) }
-{
-    if close {
-        text.push_str("Connection: close\r\n")
-    } else {
-        Ok(())
+impl fmt::Display for AllowLine<'_> {
+    ghost output = { λ line. Some (allow_line (option_copied line.0)) };
+
+    fn fmt<W: fmt::Write>(&self, f: &mut fmt::Formatter<W>) -> fmt::Result {
+        match self.0 {
+            None => Ok(()),
+            Some(methods) => write!(f, "Allow: {methods}\r\n"),
+        }
     }
 }
 
-/// The methods that a 405 tells, if any; that the stream stops, if it does; and the empty line.
-fn push_last_lines(text: &mut String, allow: Option<&str>, close: bool) -> Result<(), AllocError>
-    ensures { OnOk result (string_bytes text.new ≡ string_bytes text.old ++ last_lines (option_copied allow.entry) close) }
-{
-    push_allow(text, allow)?;
-    push_close(text, close)?;
-    text.push_str("\r\n")
+/// The line that tells that the stream stops, if it does.
+#[derive(Drop)]
+struct CloseLine(bool);
+
+impl fmt::Display for CloseLine {
+    ghost output = { λ line. Some (close_line line.0) };
+
+    fn fmt<W: fmt::Write>(&self, f: &mut fmt::Formatter<W>) -> fmt::Result {
+        if self.0 {
+            f.write_str("Connection: close\r\n")
+        } else {
+            Ok(())
+        }
+    }
 }
 
 /// A reply with a JSON body. `allow` has the methods that a 405 tells, as `GET, PUT`; `close` says that the stream stops.
@@ -130,9 +126,14 @@ pub fn json_reply(
 ) -> Result<Vec<u8>, AllocError>
     ensures { IfOk result (λ v. v.items ≡ reply_text status (option_copied allow.entry) close body.now) }
 {
-    let mut text = first_lines(alloc, status, body.len())?;
-    push_last_lines(&mut text, allow, close)?;
-    text.push_str(body)?;
+    let mut text = String::with_capacity(alloc, body.len().saturating_add(HEAD_CAPACITY))?;
+    write!(
+        text,
+        "HTTP/1.1 {status}\r\nContent-Type: application/json\r\nContent-Length: {}\r\n{}{}\r\n{body}",
+        body.len(),
+        AllowLine(allow),
+        CloseLine(close)
+    )?;
     Ok(text.into_bytes())
 }
 
@@ -140,7 +141,13 @@ pub fn json_reply(
 pub fn head_reply(alloc: Global, allow: Option<&str>) -> Result<Vec<u8>, AllocError>
     ensures { IfOk result (λ v. v.items ≡ head_text (option_copied allow.entry)) }
 {
-    let mut text = String::from_str(alloc, "HTTP/1.1 405 Method Not Allowed\r\n")?;
-    push_last_lines(&mut text, allow, true)?;
+    let mut text = String::with_capacity(alloc, HEAD_CAPACITY)?;
+    write!(
+        text,
+        "HTTP/1.1 {}\r\n{}{}\r\n",
+        StatusCode::METHOD_NOT_ALLOWED,
+        AllowLine(allow),
+        CloseLine(true)
+    )?;
     Ok(text.into_bytes())
 }

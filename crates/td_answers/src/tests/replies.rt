@@ -1,5 +1,5 @@
 //! Replies, byte for byte.
-use crate::{answer_is_told_in, fault_bytes, reply_bytes};
+use crate::tests::{says, turns_away};
 use std::test::Fail;
 use td_acts::{Answer, Refusal, Said};
 use td_base::{Eori, Grn, HolderNo, Lrn, Mrn, RefFault};
@@ -87,101 +87,94 @@ const NO_REFERENCE: [(WebFault, &str); 6] = [
     ),
 ];
 
+/// Other faults, and their replies.
+const TURNED_AWAY: [(WebFault, &str); 6] = [
+    (
+        WebFault::NoRoute,
+        "HTTP/1.1 404 Not Found\r\nContent-Type: application/json\r\nContent-Length: 20\r\n\r\n{\"error\":\"no-route\"}",
+    ),
+    (
+        WebFault::NoMethod {
+            allow: Allowed::Put,
+        },
+        "HTTP/1.1 405 Method Not Allowed\r\nContent-Type: application/json\r\nContent-Length: 21\r\nAllow: PUT\r\n\r\n{\"error\":\"no-method\"}",
+    ),
+    (
+        WebFault::NoMethod {
+            allow: Allowed::Post,
+        },
+        "HTTP/1.1 405 Method Not Allowed\r\nContent-Type: application/json\r\nContent-Length: 21\r\nAllow: POST\r\n\r\n{\"error\":\"no-method\"}",
+    ),
+    (
+        WebFault::BadHolder,
+        "HTTP/1.1 400 Bad Request\r\nContent-Type: application/json\r\nContent-Length: 22\r\n\r\n{\"error\":\"bad-holder\"}",
+    ),
+    (
+        WebFault::BadBody,
+        "HTTP/1.1 400 Bad Request\r\nContent-Type: application/json\r\nContent-Length: 20\r\n\r\n{\"error\":\"bad-body\"}",
+    ),
+    (
+        WebFault::BadField(Field::Eori),
+        "HTTP/1.1 400 Bad Request\r\nContent-Type: application/json\r\nContent-Length: 36\r\n\r\n{\"error\":\"bad-field\",\"field\":\"eori\"}",
+    ),
+];
+
+/// Answers of a holder, of an opening and of a declaration.
+const HOLDER: &str =
+    "HTTP/1.1 200 OK\r\nContent-Type: application/json\r\nContent-Length: 67\r\n\r\n{\"eori\":\"CH1234567\",\"guarantees\":0,\"holder\":\"000001\",\"movements\":0}";
+
+const OPENED: &str =
+    "HTTP/1.1 200 OK\r\nContent-Type: application/json\r\nContent-Length: 27\r\n\r\n{\"grn\":\"25CH0000010000014\"}";
+
+const IE028: &str =
+    "HTTP/1.1 200 OK\r\nContent-Type: application/json\r\nContent-Length: 57\r\n\r\n{\"lrn\":\"A1\",\"message\":\"IE028\",\"mrn\":\"25CH00000100000013\"}";
+
 #[test]
-fn writes_answers(rt: HostRuntime) -> Result<(), Fail> {
+fn a_holder_is_answered(rt: HostRuntime) -> Result<(), Fail> {
     let answer = Answer::Holder {
         holder: HolderNo::new(1).ok_or("a number")?,
         eori: Eori::read(b"CH1234567").ok_or("an EORI")?,
         guarantees: 0,
         movements: 0,
     };
-    answer_is_told_in(&answer);
-    let reply = reply_bytes(rt.alloc(), &Said::Answered(answer), false)?;
-    let want =
-        "HTTP/1.1 200 OK\r\nContent-Type: application/json\r\nContent-Length: 67\r\n\r\n{\"eori\":\"CH1234567\",\"guarantees\":0,\"holder\":\"000001\",\"movements\":0}";
-    assert!(rt; reply.as_slice() == want.as_bytes(), "{want}");
-    Ok(())
+    says(&rt, rt.alloc(), Said::Answered(answer), false, HOLDER)
 }
 
 #[test]
 fn an_opening_is_answered(rt: HostRuntime) -> Result<(), Fail> {
-    let answer = Answer::Opened {
-        grn: Grn::read(b"25CH0000010000014").ok().ok_or("a GRN")?,
-    };
-    let reply = reply_bytes(rt.alloc(), &Said::Answered(answer), false)?;
-    assert_eq!(rt;
-        reply.as_slice(),
-        b"HTTP/1.1 200 OK\r\nContent-Type: application/json\r\nContent-Length: 27\r\n\r\n{\"grn\":\"25CH0000010000014\"}".as_slice()
-    );
-    Ok(())
+    let grn = Grn::read(b"25CH0000010000014")?;
+    let answer = Answer::Opened { grn };
+    says(&rt, rt.alloc(), Said::Answered(answer), false, OPENED)
 }
 
 #[test]
 fn a_declaration_is_answered(rt: HostRuntime) -> Result<(), Fail> {
-    let answer = Answer::Ie028 {
-        lrn: Lrn::read(b"A1").ok_or("an LRN")?,
-        mrn: Mrn::read(b"25CH00000100000013").ok().ok_or("an MRN")?,
-    };
-    let reply = reply_bytes(rt.alloc(), &Said::Answered(answer), false)?;
-    assert_eq!(rt;
-        reply.as_slice(),
-        b"HTTP/1.1 200 OK\r\nContent-Type: application/json\r\nContent-Length: 57\r\n\r\n{\"lrn\":\"A1\",\"message\":\"IE028\",\"mrn\":\"25CH00000100000013\"}".as_slice()
-    );
-    Ok(())
+    let lrn = Lrn::read(b"A1").ok_or("an LRN")?;
+    let mrn = Mrn::read(b"25CH00000100000013")?;
+    let answer = Answer::Ie028 { lrn, mrn };
+    says(&rt, rt.alloc(), Said::Answered(answer), false, IE028)
 }
 
 #[test]
 fn writes_refusals(rt: HostRuntime) -> Result<(), Fail> {
-    for (why, close, want) in &REFUSED {
-        let reply = reply_bytes(rt.alloc(), &Said::Refused(*why), *close)?;
-        assert!(rt; reply.as_slice() == want.as_bytes(), "{want}");
+    for (why, close, reply) in REFUSED {
+        says(&rt, rt.alloc(), Said::Refused(why), close, reply)?;
     }
     Ok(())
 }
 
 #[test]
 fn writes_faults(rt: HostRuntime) -> Result<(), Fail> {
-    for (fault, want) in [
-        (
-            WebFault::NoRoute,
-            "HTTP/1.1 404 Not Found\r\nContent-Type: application/json\r\nContent-Length: 20\r\n\r\n{\"error\":\"no-route\"}",
-        ),
-        (
-            WebFault::NoMethod {
-                allow: Allowed::Put,
-            },
-            "HTTP/1.1 405 Method Not Allowed\r\nContent-Type: application/json\r\nContent-Length: 21\r\nAllow: PUT\r\n\r\n{\"error\":\"no-method\"}",
-        ),
-        (
-            WebFault::NoMethod {
-                allow: Allowed::Post,
-            },
-            "HTTP/1.1 405 Method Not Allowed\r\nContent-Type: application/json\r\nContent-Length: 21\r\nAllow: POST\r\n\r\n{\"error\":\"no-method\"}",
-        ),
-        (
-            WebFault::BadHolder,
-            "HTTP/1.1 400 Bad Request\r\nContent-Type: application/json\r\nContent-Length: 22\r\n\r\n{\"error\":\"bad-holder\"}",
-        ),
-        (
-            WebFault::BadBody,
-            "HTTP/1.1 400 Bad Request\r\nContent-Type: application/json\r\nContent-Length: 20\r\n\r\n{\"error\":\"bad-body\"}",
-        ),
-        (
-            WebFault::BadField(Field::Eori),
-            "HTTP/1.1 400 Bad Request\r\nContent-Type: application/json\r\nContent-Length: 36\r\n\r\n{\"error\":\"bad-field\",\"field\":\"eori\"}",
-        ),
-    ] {
-        let reply = fault_bytes(rt.alloc(), &fault, false)?;
-        assert!(rt; reply.as_slice() == want.as_bytes(), "{want}");
+    for (fault, reply) in TURNED_AWAY {
+        turns_away(&rt, rt.alloc(), fault, reply)?;
     }
     Ok(())
 }
 
 #[test]
 fn writes_why_a_reference_is_none(rt: HostRuntime) -> Result<(), Fail> {
-    for (fault, want) in &NO_REFERENCE {
-        let reply = fault_bytes(rt.alloc(), fault, false)?;
-        assert!(rt; reply.as_slice() == want.as_bytes(), "{want}");
+    for (fault, reply) in NO_REFERENCE {
+        turns_away(&rt, rt.alloc(), fault, reply)?;
     }
     Ok(())
 }

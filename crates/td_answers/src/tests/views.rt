@@ -1,5 +1,5 @@
 //! What views of movements and guarantees show, byte for byte.
-use crate::{answer_is_told_in, reply_bytes};
+use crate::tests::says;
 use std::alloc::Global;
 use std::test::Fail;
 use td_acts::{Answer, Said};
@@ -26,91 +26,85 @@ const UNUSED: &str =
 const ENDING: &str =
     "HTTP/1.1 200 OK\r\nContent-Type: application/json\r\nContent-Length: 141\r\n\r\n{\"codes\":[\"AB12\"],\"cover\":100,\"ends\":\"2025-03-17\",\"free\":0,\"grn\":\"25CH0000010000014\",\"guaranteed\":1000000,\"reference\":1000000,\"used\":1000000}";
 
+/// Guarantees' reference amounts, covers and ends, what is in use on them, and what is told of them.
+const GUARANTEES: [(u64, u64, &[u8], u64, &str); 3] = [
+    (1_000_000, 50, b"", 500_000, USED),
+    (2_000_001, 30, b"", 0, UNUSED),
+    (1_000_000, 100, b"2025-03-17", 1_000_000, ENDING),
+];
+
 // A line of so many cents on a guarantee.
-fn line(grn: &[u8], cents: u64) -> Result<Line, Fail> {
-    Ok(Line {
-        grn: Grn::read(grn)?,
-        cents: Cents::new(cents).ok_or("an amount")?,
-    })
+fn line(grn: &[u8], cents: u64) -> Option<Line> {
+    let grn = Grn::read(grn).ok()?;
+    let cents = Cents::new(cents)?;
+    Some(Line { grn, cents })
 }
 
 // A movement under that LRN and of those lines, as it was lodged.
-fn movement(lrn: &[u8], lines: MovementLines) -> Result<Movement, Fail> {
-    Ok(Movement {
-        mrn: Mrn::read(b"25CH00000100000013")?,
-        lrn: Lrn::read(lrn).ok_or("an LRN")?,
-        departure: OfficeNo::read(b"CH001251").ok_or("an office")?,
-        destination: OfficeNo::read(b"DE005600").ok_or("an office")?,
-        accepted: Day::read(b"2025-03-01").ok_or("a day")?,
+fn lodged(alloc: Global, lrn: &[u8], lines: &[Line]) -> Option<Movement> {
+    let mrn = Mrn::read(b"25CH00000100000013").ok()?;
+    let lrn = Lrn::read(lrn)?;
+    let departure = OfficeNo::read(b"CH001251")?;
+    let destination = OfficeNo::read(b"DE005600")?;
+    let accepted = Day::read(b"2025-03-01")?;
+    Some(Movement {
+        mrn,
+        lrn,
+        departure,
+        destination,
+        accepted,
         state: State::Accepted,
         limit: None,
         arrival: None,
         actual: None,
-        lines,
+        lines: MovementLines::new(Vec::from_slice(alloc, lines).ok()?),
     })
 }
 
-// A guarantee of that reference amount and cover, with no end.
-fn guarantee(alloc: Global, reference: u64, cover: u64) -> Result<Guarantee, Fail> {
-    let code = AccessCode::read(b"AB12").ok_or("a code")?;
-    Ok(Guarantee {
-        grn: Grn::read(FIRST)?,
-        reference: Cents::new(reference).ok_or("an amount")?,
-        cover: Cover::new(cover).ok_or("a cover")?,
-        ends: None,
-        codes: Codes::one(alloc, code)?,
-    })
-}
-
-// Whether this is the whole reply to the answer.
-fn is_told(alloc: Global, answer: Answer, reply: &str) -> Result<bool, Fail> {
-    answer_is_told_in(&answer);
-    let told = reply_bytes(alloc, &Said::Answered(answer), false)?;
-    Ok(told.as_slice() == reply.as_bytes())
+// What is told of a guarantee of that reference amount and cover, which ends on the day of that text, if it is one, and
+// of so many cents in use on it.
+fn standing(alloc: Global, reference: u64, cover: u64, ends: &[u8], used: u64) -> Option<Said> {
+    let grn = Grn::read(FIRST).ok()?;
+    let reference = Cents::new(reference)?;
+    let cover = Cover::new(cover)?;
+    let code = AccessCode::read(b"AB12")?;
+    let used = Cents::new(used)?;
+    let guarantee = Guarantee {
+        grn,
+        reference,
+        cover,
+        ends: Day::read(ends),
+        codes: Codes::one(alloc, code).ok()?,
+    };
+    Some(Said::Answered(Answer::Guarantee(guarantee, used)))
 }
 
 #[test]
 fn shows_a_movement_as_it_was_lodged(rt: HostRuntime) -> Result<(), Fail> {
-    let alloc = rt.alloc();
-    let lines = vec![in alloc; line(FIRST, 500_000)?]?;
-    let movement = movement(b"A1", MovementLines::new(lines))?;
-    assert!(rt; is_told(alloc, Answer::Movement(movement), LODGED)?);
-    Ok(())
+    let lines = [line(FIRST, 500_000).ok_or("a line")?];
+    let movement = lodged(rt.alloc(), b"A1", &lines).ok_or("a movement")?;
+    let said = Said::Answered(Answer::Movement(movement));
+    says(&rt, rt.alloc(), said, false, LODGED)
 }
 
 #[test]
 fn shows_a_movement_that_has_arrived(rt: HostRuntime) -> Result<(), Fail> {
-    let alloc = rt.alloc();
-    let lines = vec![in alloc; line(FIRST, 500_000)?, line(SECOND, 1)?]?;
-    let mut movement = movement(b"A1/b-2.c", MovementLines::new(lines))?;
+    let first = line(FIRST, 500_000).ok_or("a line")?;
+    let second = line(SECOND, 1).ok_or("a line")?;
+    let mut movement = lodged(rt.alloc(), b"A1/b-2.c", &[first, second]).ok_or("a movement")?;
     movement.state = State::Arrived;
     movement.limit = Day::read(b"2025-03-17");
     movement.arrival = Day::read(b"2025-03-15");
     movement.actual = OfficeNo::read(b"FR002300");
-    assert!(rt; is_told(alloc, Answer::Movement(movement), ARRIVED)?);
-    Ok(())
+    let said = Said::Answered(Answer::Movement(movement));
+    says(&rt, rt.alloc(), said, false, ARRIVED)
 }
 
 #[test]
 fn shows_guarantees_and_what_is_in_use(rt: HostRuntime) -> Result<(), Fail> {
-    let alloc = rt.alloc();
-    for (reference, cover, used, reply) in [
-        (1_000_000, 50, 500_000, USED),
-        (2_000_001, 30, 0, UNUSED),
-    ] {
-        let guarantee = guarantee(alloc, reference, cover)?;
-        let used = Cents::new(used).ok_or("an amount")?;
-        assert!(rt; is_told(alloc, Answer::Guarantee(guarantee, used), reply)?);
+    for (reference, cover, ends, used, reply) in GUARANTEES {
+        let said = standing(rt.alloc(), reference, cover, ends, used).ok_or("a guarantee")?;
+        says(&rt, rt.alloc(), said, false, reply)?;
     }
-    Ok(())
-}
-
-#[test]
-fn shows_a_guarantee_that_ends(rt: HostRuntime) -> Result<(), Fail> {
-    let alloc = rt.alloc();
-    let mut guarantee = guarantee(alloc, 1_000_000, 100)?;
-    guarantee.ends = Day::read(b"2025-03-17");
-    let used = Cents::new(1_000_000).ok_or("an amount")?;
-    assert!(rt; is_told(alloc, Answer::Guarantee(guarantee, used), ENDING)?);
     Ok(())
 }
