@@ -1,3 +1,6 @@
+//! The public calls.
+mod counted;
+
 use crate::*;
 use std::test::Fail;
 

@@ -1,2 +1,3 @@
 //! The public calls, with ample memory.
+mod last_reads;
 mod streams;

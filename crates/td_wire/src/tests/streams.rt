@@ -14,7 +14,7 @@ use td_base::Counted;
 
 /// A clock that stands still.
 #[derive(Drop)]
-struct Still(i64);
+pub(super) struct Still(pub(super) i64);
 
 impl Clock for Still {
     ghost ticks = { λ s at t. (at ≡ s.0) × (t ≡ s) };
@@ -26,7 +26,7 @@ impl Clock for Still {
 
 /// Answers every request alike.
 #[derive(Drop)]
-struct Same;
+pub(super) struct Same;
 
 fn made(bytes: Result<Vec<u8>, AllocError>) -> Reply {
     match bytes {
@@ -69,7 +69,7 @@ impl Read for Drip<'_> {
     }
 }
 
-const OK: &[u8] =
+pub(super) const OK: &[u8] =
     b"HTTP/1.1 200 OK\r\nContent-Type: application/json\r\nContent-Length: 2\r\n\r\n{}";
 
 const OK_CLOSE: &[u8] =
