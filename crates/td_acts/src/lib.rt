@@ -19,3 +19,6 @@ pub use laws::{fresh_book_says_its_account, writes_what_is_accepted, writes_what
 pub use lines::Lines;
 pub use rows::{Change, HolderRow, Loaded, Verdict};
 pub use said::{Answer, Refusal, Said};
+
+#[cfg(test)]
+mod tests;

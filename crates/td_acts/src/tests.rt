@@ -1,0 +1,254 @@
+//! The public calls, with ample memory: what is said to each command, and whether something is written.
+use crate::table::verdict;
+use crate::*;
+use std::alloc::{AllocError, Global};
+use std::test::Fail;
+use td_base::*;
+use td_guarantee::{Codes, Guarantee};
+use td_movement::{Line, Movement, MovementLines, State};
+
+/// 2025-03-01T09:00:00Z.
+const AT: i64 = 1_740_819_600;
+
+const G1: &[u8] = b"25CH0000010000014";
+
+const A1: &[u8] = b"25CH00000100000013";
+
+/// The row of holder 000001 with so many guarantees and movements.
+fn row(grn_count: u32, mrn_count: u32) -> Option<HolderRow> {
+    Some(HolderRow {
+        holder: HolderNo::new(1)?,
+        eori: Eori::read(b"CH1234567")?,
+        last_at: Moment::new(AT).ok()?,
+        grn_count,
+        mrn_count,
+    })
+}
+
+/// The first guarantee of that holder, of 10,000.00.
+fn guarantee(alloc: Global) -> Result<Guarantee, Fail> {
+    let code = AccessCode::read(b"AB12").ok_or("a code")?;
+    Ok(Guarantee {
+        grn: Grn::read(G1)?,
+        reference: Cents::new(1_000_000).ok_or("an amount")?,
+        cover: Cover::new(50).ok_or("a cover")?,
+        ends: None,
+        codes: Codes::one(alloc, code)?,
+    })
+}
+
+/// A line of 5,000.00 on it.
+fn line() -> Option<Line> {
+    Some(Line {
+        grn: Grn::read(G1).ok()?,
+        cents: Cents::new(500_000)?,
+    })
+}
+
+/// The movement that was declared with this line under the LRN A1.
+fn movement(alloc: Global) -> Result<Movement, Fail> {
+    let lines = MovementLines::new(vec![in alloc; line().ok_or("a line")?]?);
+    Ok(Movement {
+        mrn: Mrn::read(A1)?,
+        lrn: Lrn::read(b"A1").ok_or("an LRN")?,
+        departure: OfficeNo::read(b"CH001251").ok_or("an office")?,
+        destination: OfficeNo::read(b"DE005600").ok_or("an office")?,
+        accepted: Day::read(b"2025-03-01").ok_or("a day")?,
+        state: State::Accepted,
+        limit: None,
+        arrival: None,
+        actual: None,
+        lines,
+    })
+}
+
+/// The line with its code.
+fn lines(alloc: Global) -> Result<Lines, Fail> {
+    let line = line().ok_or("a line")?;
+    let code = AccessCode::read(b"AB12").ok_or("a code")?;
+    Ok(Lines::new(vec![in alloc; (line, code)]?).ok_or("lines")?)
+}
+
+/// The declaration of this line under the LRN A1.
+fn declaration(alloc: Global) -> Result<Command, Fail> {
+    Ok(Command::Ie015 {
+        holder: HolderNo::new(1).ok_or("a holder")?,
+        lrn: Lrn::read(b"A1").ok_or("an LRN")?,
+        departure: OfficeNo::read(b"CH001251").ok_or("an office")?,
+        destination: OfficeNo::read(b"DE005600").ok_or("an office")?,
+        lines: lines(alloc)?,
+    })
+}
+
+/// No rows but that of the holder, if there is one.
+fn holder_alone(alloc: Global, holder: Option<HolderRow>) -> Result<Loaded, Fail> {
+    Ok(Loaded {
+        country: Country::read(b"CH").ok_or("a country")?,
+        holder,
+        movements: Vec::new(alloc),
+        guarantees: Vec::new(alloc),
+    })
+}
+
+/// The holder's row, the guarantee with what is in use on it, and the movement, if it was lodged.
+fn with_guarantee(alloc: Global, used: u64, lodged: bool) -> Result<Loaded, Fail> {
+    let mut loaded = holder_alone(alloc, row(1, u32::from(lodged)))?;
+    let used = Cents::new(used).ok_or("an amount")?;
+    loaded.guarantees.push((guarantee(alloc)?, used))?;
+    if lodged {
+        loaded.movements.push(movement(alloc)?)?;
+    }
+    Ok(loaded)
+}
+
+/// What is said, in words.
+fn words(alloc: Global, said: &Said) -> Result<String, AllocError> {
+    match said {
+        Said::Refused(refusal) => String::from_str(alloc, refusal.name()),
+        Said::Answered(
+            Answer::Holder {
+                holder,
+                eori,
+                guarantees,
+                movements,
+            },
+        ) => format!(in alloc; "holder {holder} {eori} {guarantees} {movements}"),
+        Said::Answered(Answer::Opened { grn }) => format!(in alloc; "opened {grn}"),
+        Said::Answered(Answer::Ie028 { lrn, mrn }) => format!(in alloc; "IE028 {lrn} {mrn}"),
+        Said::Answered(Answer::Movement(movement)) => {
+            format!(in alloc; "movement {}", movement.mrn)
+        }
+        Said::Answered(Answer::Guarantee(guarantee, used)) => {
+            format!(in alloc; "guarantee {} {used}", guarantee.grn)
+        }
+    }
+}
+
+/// Whether this is said to a command, and something is written exactly where `writes` says so.
+fn is_decided(
+    alloc: Global,
+    loaded: &Loaded,
+    command: &Command,
+    want: &str,
+    writes: bool,
+) -> Result<bool, Fail> {
+    let verdict = verdict(alloc, loaded, AT, command)?;
+    let said = words(alloc, &verdict.said)?;
+    Ok(said.as_str() == want && verdict.change.row().is_some() == writes)
+}
+
+#[test]
+fn registrations_are_decided(rt: HostRuntime) -> Result<(), Fail> {
+    let command = Command::Register {
+        holder: HolderNo::new(1).ok_or("a holder")?,
+        eori: Eori::read(b"CH1234567").ok_or("an EORI")?,
+    };
+    let nobody = holder_alone(rt.alloc(), None)?;
+    assert!(rt;
+        is_decided(
+            rt.alloc(),
+            &nobody,
+            &command,
+            "holder 000001 CH1234567 0 0",
+            true
+        )?
+    );
+    let known = holder_alone(rt.alloc(), row(0, 0))?;
+    assert!(rt; is_decided(rt.alloc(), &known, &command, "holder-known", false)?);
+    Ok(())
+}
+
+#[test]
+fn openings_are_decided(rt: HostRuntime) -> Result<(), Fail> {
+    let command = Command::OpenGuarantee {
+        holder: HolderNo::new(1).ok_or("a holder")?,
+        reference: Reference::new(1_000_000).ok_or("an amount")?,
+        cover: Cover::new(50).ok_or("a cover")?,
+        code: AccessCode::read(b"AB12").ok_or("a code")?,
+    };
+    let loaded = holder_alone(rt.alloc(), row(0, 0))?;
+    assert!(rt;
+        is_decided(
+            rt.alloc(),
+            &loaded,
+            &command,
+            "opened 25CH0000010000014",
+            true
+        )?
+    );
+    Ok(())
+}
+
+#[test]
+fn declarations_are_decided(rt: HostRuntime) -> Result<(), Fail> {
+    let command = declaration(rt.alloc())?;
+    let first = with_guarantee(rt.alloc(), 0, false)?;
+    assert!(rt;
+        is_decided(
+            rt.alloc(),
+            &first,
+            &command,
+            "IE028 A1 25CH00000100000013",
+            true
+        )?
+    );
+    let again = with_guarantee(rt.alloc(), 0, true)?;
+    assert!(rt;
+        is_decided(
+            rt.alloc(),
+            &again,
+            &command,
+            "IE028 A1 25CH00000100000013",
+            false
+        )?
+    );
+    Ok(())
+}
+
+/// Whether a view shows this of the guarantee, the movement and what is in use.
+fn is_shown(alloc: Global, command: Command, want: &str) -> Result<bool, Fail> {
+    let loaded = with_guarantee(alloc, 500_000, true)?;
+    is_decided(alloc, &loaded, &command, want, false)
+}
+
+#[test]
+fn views_are_decided(rt: HostRuntime) -> Result<(), Fail> {
+    let holder = HolderNo::new(1).ok_or("a holder")?;
+    let (mrn, grn) = (Mrn::read(A1)?, Grn::read(G1)?);
+    let seen = Command::SeeHolder { holder };
+    assert!(rt; is_shown(rt.alloc(), seen, "holder 000001 CH1234567 1 1")?);
+    let seen = Command::SeeMovement { holder, mrn };
+    assert!(rt; is_shown(rt.alloc(), seen, "movement 25CH00000100000013")?);
+    let seen = Command::SeeGuarantee { holder, grn };
+    assert!(rt; is_shown(rt.alloc(), seen, "guarantee 25CH0000010000014 5000.00")?);
+    Ok(())
+}
+
+#[test]
+fn commands_have_owners(rt: HostRuntime) -> Result<(), Fail> {
+    let country = Country::read(b"CH").ok_or("a country")?;
+    let command = declaration(rt.alloc())?;
+    assert!(rt; owner(country, &command) == HolderNo::new(1) && known(&command));
+    writes_what_is_accepted();
+    writes_what_the_book_says();
+    fresh_book_says_its_account();
+    Ok(())
+}
+
+#[test]
+fn rows_are_found(rt: HostRuntime) -> Result<(), Fail> {
+    let guarantees = vec![in rt.alloc(); guarantee(rt.alloc())?]?;
+    assert!(rt; find_guarantee(&guarantees, &Grn::read(G1)?).is_some());
+    let movements = vec![in rt.alloc(); movement(rt.alloc())?]?;
+    assert!(rt; find_named(&movements, &Mrn::read(A1)?).is_some());
+    Ok(())
+}
+
+#[test]
+fn lines_are_taken(rt: HostRuntime) -> Result<(), Fail> {
+    assert!(rt; Lines::new(Vec::new(rt.alloc())).is_none());
+    let lines = lines(rt.alloc())?;
+    assert!(rt; lines.as_slice().len() == 1);
+    assert!(rt; lines.without_codes(rt.alloc())?.as_slice().len() == 1);
+    Ok(())
+}
