@@ -137,71 +137,65 @@ fn is_decided(
     Ok(said.as_str() == want && verdict.change.row().is_some() == writes)
 }
 
+/// The same where the holder's row stands alone, or none.
+fn is_decided_for(
+    alloc: Global,
+    holder: Option<HolderRow>,
+    command: &Command,
+    want: &str,
+    writes: bool,
+) -> Result<bool, Fail> {
+    let loaded = holder_alone(alloc, holder)?;
+    is_decided(alloc, &loaded, command, want, writes)
+}
+
+/// The registration of holder 000001.
+fn registration() -> Option<Command> {
+    Some(Command::Register {
+        holder: HolderNo::new(1)?,
+        eori: Eori::read(b"CH1234567")?,
+    })
+}
+
 #[test]
 fn registrations_are_decided(rt: HostRuntime) -> Result<(), Fail> {
-    let command = Command::Register {
-        holder: HolderNo::new(1).ok_or("a holder")?,
-        eori: Eori::read(b"CH1234567").ok_or("an EORI")?,
-    };
-    let nobody = holder_alone(rt.alloc(), None)?;
-    assert!(rt;
-        is_decided(
-            rt.alloc(),
-            &nobody,
-            &command,
-            "holder 000001 CH1234567 0 0",
-            true
-        )?
-    );
-    let known = holder_alone(rt.alloc(), row(0, 0))?;
-    assert!(rt; is_decided(rt.alloc(), &known, &command, "holder-known", false)?);
+    let command = registration().ok_or("a command")?;
+    let answer = "holder 000001 CH1234567 0 0";
+    assert!(rt; is_decided_for(rt.alloc(), None, &command, answer, true)?);
+    assert!(rt; is_decided_for(rt.alloc(), row(0, 0), &command, "holder-known", false)?);
     Ok(())
+}
+
+/// The opening of the guarantee.
+fn opening() -> Option<Command> {
+    Some(Command::OpenGuarantee {
+        holder: HolderNo::new(1)?,
+        reference: Reference::new(1_000_000)?,
+        cover: Cover::new(50)?,
+        code: AccessCode::read(b"AB12")?,
+    })
 }
 
 #[test]
 fn openings_are_decided(rt: HostRuntime) -> Result<(), Fail> {
-    let command = Command::OpenGuarantee {
-        holder: HolderNo::new(1).ok_or("a holder")?,
-        reference: Reference::new(1_000_000).ok_or("an amount")?,
-        cover: Cover::new(50).ok_or("a cover")?,
-        code: AccessCode::read(b"AB12").ok_or("a code")?,
-    };
-    let loaded = holder_alone(rt.alloc(), row(0, 0))?;
-    assert!(rt;
-        is_decided(
-            rt.alloc(),
-            &loaded,
-            &command,
-            "opened 25CH0000010000014",
-            true
-        )?
-    );
+    let command = opening().ok_or("a command")?;
+    let answer = "opened 25CH0000010000014";
+    assert!(rt; is_decided_for(rt.alloc(), row(0, 0), &command, answer, true)?);
     Ok(())
+}
+
+/// Whether the declaration gets its MRN, lodged before or not, and something is written exactly where it wasn't.
+fn is_allocated(alloc: Global, lodged: bool) -> Result<bool, Fail> {
+    let command = declaration(alloc)?;
+    let loaded = with_guarantee(alloc, 0, lodged)?;
+    let answer = "IE028 A1 25CH00000100000013";
+    is_decided(alloc, &loaded, &command, answer, !lodged)
 }
 
 #[test]
 fn declarations_are_decided(rt: HostRuntime) -> Result<(), Fail> {
-    let command = declaration(rt.alloc())?;
-    let first = with_guarantee(rt.alloc(), 0, false)?;
-    assert!(rt;
-        is_decided(
-            rt.alloc(),
-            &first,
-            &command,
-            "IE028 A1 25CH00000100000013",
-            true
-        )?
-    );
-    let again = with_guarantee(rt.alloc(), 0, true)?;
-    assert!(rt;
-        is_decided(
-            rt.alloc(),
-            &again,
-            &command,
-            "IE028 A1 25CH00000100000013",
-            false
-        )?
-    );
+    assert!(rt; is_allocated(rt.alloc(), false)?);
+    assert!(rt; is_allocated(rt.alloc(), true)?);
     Ok(())
 }
 
@@ -235,12 +229,22 @@ fn commands_have_owners(rt: HostRuntime) -> Result<(), Fail> {
     Ok(())
 }
 
+/// Whether the guarantee is found among guarantees.
+fn is_guarantee_found(alloc: Global) -> Result<bool, Fail> {
+    let guarantees = vec![in alloc; guarantee(alloc)?]?;
+    Ok(find_guarantee(&guarantees, &Grn::read(G1)?).is_some())
+}
+
+/// Whether the movement is found among movements.
+fn is_movement_found(alloc: Global) -> Result<bool, Fail> {
+    let movements = vec![in alloc; movement(alloc)?]?;
+    Ok(find_named(&movements, &Mrn::read(A1)?).is_some())
+}
+
 #[test]
 fn rows_are_found(rt: HostRuntime) -> Result<(), Fail> {
-    let guarantees = vec![in rt.alloc(); guarantee(rt.alloc())?]?;
-    assert!(rt; find_guarantee(&guarantees, &Grn::read(G1)?).is_some());
-    let movements = vec![in rt.alloc(); movement(rt.alloc())?]?;
-    assert!(rt; find_named(&movements, &Mrn::read(A1)?).is_some());
+    assert!(rt; is_guarantee_found(rt.alloc())?);
+    assert!(rt; is_movement_found(rt.alloc())?);
     Ok(())
 }
 
