@@ -1,5 +1,5 @@
 //! Runs of commands.
-ghost use Rattle.std.specs.Prelude.{◌≡◌, ℕ, IfOk, OnErr};
+ghost use Rattle.std.specs.Prelude.{◌≡◌, ℕ, All, IfOk, OnErr};
 ghost use Rattle.td_acts.specs.Book.{Book};
 ghost use Rattle.td_desk.specs.Content.{Content};
 ghost use Rattle.td_desk.specs.Sound.{IsSound};
@@ -49,6 +49,7 @@ pub fn run<D: Desk>(
     ensures live { D.is_clean desk.new → D.is_live desk.new → D.is_live desk.old }
     ensures private { D.is_clean desk.new → D.is_live desk.old → IsSound (D.content desk.old) → (books : ℕ → Book) → IsTied (D.content desk.old) books →
         IfOk result (λ outcomes. (c : Content) × IsRun (D.content desk.old).country books list.now outcomes.items c × (D.is_live desk.new → D.content desk.new ≡ c)) }
+    ensures store { IfOk result (λ outcomes. All (λ o. o ≡ Outcome.Failed Fault.Store → D.has_store) outcomes.items) }
 {
     let mut outcomes = Vec::with_capacity(alloc, list.len())?;
     for stamped in list {

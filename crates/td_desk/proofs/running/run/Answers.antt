@@ -1,6 +1,9 @@
 use Rattle.std.proofs.Common.{ap, ◌++◌, ◌∷◌, [], take, arith, ◌+◌, ◌≡◌, ◌∙◌, sym}
 use Rattle.std.proofs.lemmas.List.{take_more}
 use Rattle.std.proofs.lemmas.Grind.{common_steps}
+use Rattle.std.proofs.lemmas.List.Elements.{All-push}
+use Rattle.td_desk.specs.declared.fault.Fault.TheVariants as fault
+use Rattle.td_desk.specs.declared.running.Outcome.TheVariants as outcome
 use Rattle.td_desk.proofs.Turns.{run_on}
 use Rattle.td_desk.proofs.running.run.Goals as goal
 
@@ -14,6 +17,7 @@ loop-stamped-preserved g c =
     record {
       room = grind (arith, common_steps);
       one_each = grind (arith, common_steps);
+      stored = rw c.push_reserved.ensures.items (All-push (λ o. o ≡ outcome.Failed fault.Store → g.D.Desk.has_store) c.loop-stamped.outcomes.items c.perform-outcome.result c.loop-stamped.invariant.stored c.perform-outcome.ensures.store);
       clean = λ h. c.loop-stamped.invariant.clean (c.perform-outcome.ensures.clean h);
       live = λ h now. c.loop-stamped.invariant.live (c.perform-outcome.ensures.clean h) (c.perform-outcome.ensures.live h now);
       runs = λ h was_live sound books tied.
