@@ -13,3 +13,4 @@ mod Kept
 mod Storing
 pub mod Carrying
 pub mod Weighed
+pub mod Calls

@@ -1,11 +1,12 @@
 -- A run of commands, as each holder sees it.
-use Rattle.std.specs.Prelude.{◌≡◌, ℕ, ◌==◌, Bool, false, List, [], ◌∷◌, Option, Some, None, length, if◌then◌else◌}
+use Rattle.std.specs.Prelude.{◌≡◌, ◌⊎◌, ℕ, ◌==◌, Bool, false, List, [], ◌∷◌, Option, Some, None, length, if◌then◌else◌}
 use Rattle.td_acts.specs.declared.command.Stamped.{Stamped}
 use Rattle.td_acts.specs.declared.said.Said.{Said}
 use Rattle.td_acts.specs.Book.{Book, account_of, IsBegun}
 use Rattle.td_acts.specs.Commands.{owner_of}
 use Rattle.td_acts.specs.Table.{said}
 use Rattle.td_acts.specs.Machine.{machine_says, machine_book}
+use Rattle.td_desk.specs.declared.fault.Fault.{Fault}
 use Rattle.td_desk.specs.declared.running.Outcome.{Outcome}
 use Rattle.td_desk.specs.declared.running.Outcome.TheVariants as outcome
 use Rattle.td_desk.specs.Content.{Content, account_in}
@@ -34,6 +35,17 @@ told country H (s ∷ list) (outcome.Failed fault ∷ outcomes) = told country H
 pub record IsTied (rows : Content) (books : ℕ → Book) : Type 0 where
   pub each : (H : ℕ) → account_in H rows ≡ account_of H (books H)
   pub begun : (H : ℕ) → IsBegun (books H)
+
+-- How a command ended by the two calls that it makes of a desk, where called says how a call ended: by words where neither failed, else by the fault
+-- of the one that failed, which was the last.
+abbrev pub IsOutcomeOf : {S : Type 0} → (S → Option Fault → S → Type 0) → S → Outcome → S → Type 0
+IsOutcomeOf {S} called old (outcome.Said words) new = (weighed : S) × called old None weighed × called weighed None new
+IsOutcomeOf {S} called old (outcome.Failed why) new = called old (Some why) new ⊎ ((weighed : S) × called old None weighed × called weighed (Some why) new)
+
+-- each outcome is that of its own calls, one command after the other
+abbrev pub AreOutcomesOf : {S : Type 0} → (S → Option Fault → S → Type 0) → S → List Outcome → S → Type 0
+AreOutcomesOf called old [] new = new ≡ old
+AreOutcomesOf {S} called old (o ∷ outcomes) new = (next : S) × IsOutcomeOf called old o next × AreOutcomesOf called next outcomes new
 
 -- the outcome of one command, and the content after it: what is said is the model's verdict, and a failure changes nothing
 abbrev pub Performs : Content → Stamped → Outcome → Content → Type 0
