@@ -1,12 +1,14 @@
 -- What one more command adds to a run. No command and no list of rows is named here.
 use Rattle.std.proofs.Common.{◌≡◌, ◌≢◌, ℕ, Bool, true, false, List, [], ◌∷◌, ◌++◌, length, Option, Some, None, refl, sym, ◌∙◌, ap, subst, arith}
 use Rattle.std.specs.Prelude.{if◌then◌else◌}
+use Rattle.std.specs.List.{AllZip}
 use Rattle.std.proofs.lemmas.Bool.Decides.{nat_tests}
 use borrow.Author.Tests.{eqb-true, eq-eqb, both_ways}
 use Rattle.std.proofs.lemmas.List.{append-nil, length-append}
+use Rattle.std.proofs.lemmas.Slice.Zip.{all_zipped_more}
 use Rattle.td_acts.specs.declared.command.Stamped.{Stamped}
 use Rattle.td_acts.specs.declared.said.Said.{Said}
-use Rattle.td_acts.specs.Account.{Account}
+use Rattle.td_acts.specs.Account.{Account, empty_account}
 use Rattle.td_acts.specs.Book.{Book, account_of, IsBegun}
 use Rattle.td_acts.specs.Commands.{owner_of}
 use Rattle.td_acts.specs.Table.{said}
@@ -19,7 +21,7 @@ use Rattle.td_desk.specs.declared.running.Outcome.{Outcome}
 use Rattle.td_desk.specs.declared.running.Outcome.TheVariants as outcome
 use Rattle.td_desk.specs.Content.{Content, account_in, fresh}
 use Rattle.td_desk.specs.Weighing.{owner_account, account_for, Carries}
-use Rattle.td_desk.specs.Runs.{is_holder, heard, told, Performs, IsStep, IsRun}
+use Rattle.td_desk.specs.Runs.{is_holder, heard, told, IsToldOfNobody, Performs, IsStep, IsRun}
 use Rattle.td_desk.proofs.Fresh.{account_fresh, begun_fresh}
 
 heard-append : (c : List ℕ) (H : ℕ) (list : List Stamped) (outcomes : List Outcome) (s : Stamped) (o : Outcome) → length outcomes ≡ length list → heard c H (list ++ s ∷ []) (outcomes ++ o ∷ []) ≡ heard c H list outcomes ++ heard c H (s ∷ []) (o ∷ [])
@@ -94,11 +96,21 @@ module _ (c : List ℕ) (books : ℕ → Book) (list : List Stamped) (outcomes :
   each_by H true own carries = own_after H (is_holder_true H (owner_of c s.command) own) carries ∙ ap (account_of H) (sym (machine_book-append H (books H) (heard c H list outcomes) s))
   each_by H false other carries = rw append-nil (carries.others H (λ own. is_holder_false H (owner_of c s.command) other (rw (← runs.country_stays) own)) ∙ runs.tied.each H)
 
+  -- what is said to a command that nobody owns
+  nobodys_by : (words : Said) → words ≡ said (owner_account old s.command) s.at s.command → owner_of c s.command ≡ None → words ≡ said (empty_account c) s.at s.command
+  nobodys_by words says none =
+      let nobody : owner_of old.country s.command ≡ None = rw runs.country_stays none in
+      says ∙ ap (λ o. said (account_for o old) s.at s.command) nobody ∙ ap (λ country. said (empty_account country) s.at s.command) runs.country_stays
+
+  nobodys_more : (o : Outcome) → IsToldOfNobody c s o → AllZip (IsToldOfNobody c) (list ++ s ∷ []) (outcomes ++ o ∷ [])
+  nobodys_more o told = all_zipped_more (IsToldOfNobody c) list outcomes s o runs.nobodys told
+
   -- a run goes on by one command
   pub run_more : ((H : ℕ) → IsBegun (books H)) → (o : Outcome) → Performs old s o new → IsRun c books (list ++ s ∷ []) (outcomes ++ o ∷ []) new
   run_more begun (outcome.Failed f) same = record {
     one_each = simp length-append (omega (arith, runs.one_each));
     answers = λ H. answers_failed H f;
+    nobodys = nobodys_more (outcome.Failed f) tt;
     country_stays = rw same runs.country_stays;
     sound = rw same runs.sound;
     tied = record { each = λ H. each_failed H f same; begun = λ H. machine_begun H (books H) (heard c H (list ++ s ∷ []) (outcomes ++ outcome.Failed f ∷ [])) (begun H) };
@@ -106,6 +118,7 @@ module _ (c : List ℕ) (books : ℕ → Book) (list : List Stamped) (outcomes :
   run_more begun (outcome.Said words) performs = record {
     one_each = simp length-append (omega (arith, runs.one_each));
     answers = λ H. rw (told-append c H list outcomes s (outcome.Said words) runs.one_each, heard-append c H list outcomes s (outcome.Said words) runs.one_each) (answers_by H words (is_holder H (owner_of c s.command)) refl performs.0);
+    nobodys = nobodys_more (outcome.Said words) (nobodys_by words performs.0);
     country_stays = performs.1.country ∙ runs.country_stays;
     sound = performs.1.sound;
     tied = record { each = λ H. rw (heard-append c H list outcomes s (outcome.Said words) runs.one_each) (each_by H (is_holder H (owner_of c s.command)) refl performs.1); begun = λ H. machine_begun H (books H) (heard c H (list ++ s ∷ []) (outcomes ++ outcome.Said words ∷ [])) (begun H) };
