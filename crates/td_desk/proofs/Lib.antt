@@ -14,3 +14,4 @@ mod Storing
 pub mod Carrying
 pub mod Weighed
 pub mod Calls
+mod Agreeing
