@@ -4,10 +4,10 @@ use Rattle.std.specs.List.{AllZip}
 use Rattle.td_acts.specs.declared.command.Stamped.{Stamped}
 use Rattle.td_acts.specs.declared.said.Said.{Said}
 use Rattle.td_acts.specs.Account.{empty_account}
-use Rattle.td_acts.specs.Book.{Book, account_of, IsBegun}
+use Rattle.td_acts.specs.Book.{Book, account_of}
 use Rattle.td_acts.specs.Commands.{owner_of}
 use Rattle.td_acts.specs.Table.{said}
-use Rattle.td_acts.specs.Machine.{machine_says, machine_book}
+use Rattle.td_acts.specs.Machine.{machine_says, machine_book, IsGrown}
 use Rattle.td_desk.specs.declared.fault.Fault.{Fault}
 use Rattle.td_desk.specs.declared.running.Outcome.{Outcome}
 use Rattle.td_desk.specs.declared.running.Outcome.TheVariants as outcome
@@ -53,10 +53,11 @@ told country H (s ∷ list) [] = []
 told country H (s ∷ list) (outcome.Said said ∷ outcomes) = if is_holder H (owner_of country s.command) then said ∷ told country H list outcomes else told country H list outcomes
 told country H (s ∷ list) (outcome.Failed fault ∷ outcomes) = told country H list outcomes
 
--- Each holder's rows are what the holder's book says. A number that isn't registered has an empty book, and no rows.
+-- Each holder's rows are what the holder's book says, and each book has grown: every act in it was accepted over the acts before it. So a number
+-- that isn't registered has an empty book, and no rows.
 pub record IsTied (rows : Content) (books : ℕ → Book) : Type 0 where
   pub each : (H : ℕ) → account_in H rows ≡ account_of H (books H)
-  pub begun : (H : ℕ) → IsBegun (books H)
+  pub grown : (H : ℕ) → IsGrown H (books H)
 
 -- How a command ended by the two calls that it makes of a desk, where called says how a call ended: by words where neither failed, else by the fault
 -- of the one that failed, which was the last.

@@ -29,5 +29,5 @@ loop-stamped-preserved g c =
       live = λ h now. c.loop-stamped.invariant.live (c.perform-outcome.ensures.clean h) (c.perform-outcome.ensures.live h now);
       runs = λ h was_live sound books tied.
           let was = c.loop-stamped.invariant.runs (c.perform-outcome.ensures.clean h) was_live sound books tied in
-          rw (more, c.push_reserved.ensures.items) (run_on (content c.args.desk.now).country books before c.loop-stamped.outcomes.items c.stamped-item.result was.0 (content c.loop-stamped.desk) (content c.perform-outcome.new.desk) (is_live c.loop-stamped.desk) (is_live c.perform-outcome.new.desk) was.1 was.2 (c.perform-outcome.ensures.live h) tied.begun c.perform-outcome.result (c.perform-outcome.ensures.performs h));
+          rw (more, c.push_reserved.ensures.items) (run_on (content c.args.desk.now).country books before c.loop-stamped.outcomes.items c.stamped-item.result was.0 (content c.loop-stamped.desk) (content c.perform-outcome.new.desk) (is_live c.loop-stamped.desk) (is_live c.perform-outcome.new.desk) was.1 was.2 (c.perform-outcome.ensures.live h) c.perform-outcome.result (c.perform-outcome.ensures.performs h));
     }
