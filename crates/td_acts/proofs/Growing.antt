@@ -13,7 +13,7 @@ use Rattle.td_acts.specs.declared.command.Command.{Command}
 use Rattle.td_acts.specs.declared.command.Command.TheVariants.{Register, OpenGuarantee, Ie015, SeeHolder, SeeMovement, SeeGuarantee}
 use Rattle.td_acts.specs.declared.command.Stamped.{Stamped}
 use Rattle.td_acts.specs.declared.rows.Change.TheVariants as change
-use Rattle.td_acts.specs.Account.{Account, IsAccountOf}
+use Rattle.td_acts.specs.Account.{Account, IsAccountOf, ReferencesDiffer}
 use Rattle.td_acts.specs.Book.{Book, Act, eori_after, eori_in, last_in, serial_in, made_in, openings, declarations, opened_by, declared_by, eori_of, last_of, grn_count_before, mrn_count_before, grn_count_of, mrn_count_of, guarantees_of, movements_of, account_made, account_of, fresh_book}
 use Rattle.td_acts.specs.Commands.{owner_of}
 use Rattle.td_acts.specs.Acceptance.{is_accepted_at}
@@ -139,17 +139,20 @@ begun_from_grown : (H : ℕ) (book : Book) → IsGrown H book → IsBegun book
 begun_from_grown H book grown = begun_on H (fresh_book book.opening) book.acts (λ none. (refl, none_known book.opening.holder none)) grown
 
 -- what the book says after a command is the account with what is written for it
-pub account_after : (H : ℕ) (book : Book) (s : Stamped) → IsGrown H book → owner_of book.opening.country s.command ≡ Some H
+pub account_after : (H : ℕ) (book : Book) (s : Stamped) → IsGrown H book → ReferencesDiffer (account_of H book) → owner_of book.opening.country s.command ≡ Some H
     → account_of H (book_after H book s) ≡ applied (decided (account_of H book) s.at s.command).change (account_of H book)
-account_after H book s grown own = account_after_at H book (moment_of s.at) s.command (begun_from_grown H book grown) own
+account_after H book s grown differ own = account_after_at H book (moment_of s.at) s.command (begun_from_grown H book grown) own
 
 -- one more act that was accepted
 grown_on : (H : ℕ) (book : Book) (acts : List Act) (a : Act) → AreAccepted H book acts → owner_of book.opening.country a.command ≡ Some H
     → is_accepted_at (account_of H (with_acts book (book.acts ++ acts))) a.at a.command ≡ true → AreAccepted H book (acts ++ a ∷ [])
 grown_on H book [] a before own accepted = (own, subst (λ acts. is_accepted_at (account_of H (with_acts book acts)) a.at a.command ≡ true) (append-nil book.acts) accepted, tt)
-grown_on H book (b ∷ acts) a before own accepted =
-    (before.0, before.1, grown_on H (appended book b.at b.command) acts a before.2 own
-    (subst (λ acts. is_accepted_at (account_of H (with_acts book acts)) a.at a.command ≡ true) (sym (append_assoc book.acts (b ∷ []) acts)) accepted))
+grown_on H book (b ∷ acts) a before own accepted = (
+  before.0,
+  before.1,
+  grown_on H (appended book b.at b.command) acts a before.2 own
+      (subst (λ acts. is_accepted_at (account_of H (with_acts book acts)) a.at a.command ≡ true) (sym (append_assoc book.acts (b ∷ []) acts)) accepted),
+)
 
 -- the same where there may be no moment
 grown_after_at : (H : ℕ) (book : Book) (m : Option ℕ) (command : Command) → IsGrown H book → owner_of book.opening.country command ≡ Some H → IsGrown H (book_after_at H book m command)

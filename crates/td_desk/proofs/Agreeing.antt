@@ -8,7 +8,7 @@ use Rattle.td_acts.specs.Machine.{machine_says}
 use Rattle.td_desk.specs.declared.running.Outcome.{Outcome}
 use Rattle.td_desk.specs.declared.running.Outcome.TheVariants as outcome
 use Rattle.td_desk.specs.Content.{Content}
-use Rattle.td_desk.specs.Runs.{is_holder, is_failed, part, Agree, outcomes_of, failures, heard, told, IsRun}
+use Rattle.td_desk.specs.Runs.{is_holder, is_failed, part, Agree, failures, heard, told, IsRun}
 
 -- the commands of a part at which there was no failure
 abbrev answered : List Stamped → List Bool → List Stamped

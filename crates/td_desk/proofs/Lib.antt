@@ -15,3 +15,4 @@ pub mod Carrying
 pub mod Weighed
 pub mod Calls
 mod Agreeing
+pub mod Differing

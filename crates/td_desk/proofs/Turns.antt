@@ -8,7 +8,7 @@ use Rattle.std.proofs.lemmas.List.{append-nil, length-append}
 use Rattle.std.proofs.lemmas.Slice.Zip.{all_zipped_more}
 use Rattle.td_acts.specs.declared.command.Stamped.{Stamped}
 use Rattle.td_acts.specs.declared.said.Said.{Said}
-use Rattle.td_acts.specs.Account.{Account, empty_account}
+use Rattle.td_acts.specs.Account.{Account, empty_account, ReferencesDiffer}
 use Rattle.td_acts.specs.Book.{Book, account_of}
 use Rattle.td_acts.specs.Commands.{owner_of}
 use Rattle.td_acts.specs.Table.{said}
@@ -22,6 +22,7 @@ use Rattle.td_desk.specs.declared.running.Outcome.TheVariants as outcome
 use Rattle.td_desk.specs.Content.{Content, account_in, fresh}
 use Rattle.td_desk.specs.Weighing.{owner_account, account_for, Carries}
 use Rattle.td_desk.specs.Runs.{is_holder, heard, told, IsToldOfNobody, Performs, IsStep, IsRun}
+use Rattle.td_desk.proofs.Differing.{references_differ}
 use Rattle.td_desk.proofs.Fresh.{account_fresh}
 
 heard-append : (c : List ℕ) (H : ℕ) (list : List Stamped) (outcomes : List Outcome) (s : Stamped) (o : Outcome) → length outcomes ≡ length list → heard c H (list ++ s ∷ []) (outcomes ++ o ∷ []) ≡ heard c H list outcomes ++ heard c H (s ∷ []) (o ∷ [])
@@ -61,6 +62,10 @@ module _ (c : List ℕ) (books : ℕ → Book) (list : List Stamped) (outcomes :
   unfolding book
   same_account H = account_fresh H old ∙ runs.tied.each H
 
+  -- the references in H's account differ
+  differ : (H : ℕ) → ReferencesDiffer (account_in H old)
+  differ H = references_differ H old runs.sound
+
   -- the owner at the country of the owner's book
   owner_by_book : (H : ℕ) → owner_of c s.command ≡ Some H → owner_of (book H).opening.country s.command ≡ Some H
   unfolding book
@@ -86,9 +91,9 @@ module _ (c : List ℕ) (books : ℕ → Book) (list : List Stamped) (outcomes :
   own_after H own carries =
       let e = same_account H in
       carries.own H (owner H own)
-      ∙ account_after H (fresh H old) s tt (owner H own)
+      ∙ account_after H (fresh H old) s tt (subst ReferencesDiffer (sym (account_fresh H old)) (differ H)) (owner H own)
       ∙ ap (λ (a : Account). applied (decided a s.at s.command).change a) e
-      ∙ sym (account_after H (book H) s (runs.tied.grown H) (owner_by_book H own))
+      ∙ sym (account_after H (book H) s (runs.tied.grown H) (subst ReferencesDiffer (runs.tied.each H) (differ H)) (owner_by_book H own))
 
   answers_failed : (H : ℕ) (f : Fault) → told c H (list ++ s ∷ []) (outcomes ++ outcome.Failed f ∷ []) ≡ machine_says H (books H) (heard c H (list ++ s ∷ []) (outcomes ++ outcome.Failed f ∷ []))
   answers_failed H f = rw (told-append c H list outcomes s (outcome.Failed f) runs.one_each, heard-append c H list outcomes s (outcome.Failed f) runs.one_each, append-nil, append-nil) (runs.answers H)
