@@ -1,9 +1,10 @@
 -- What one more accepted change does to what a book says.
-use Rattle.std.proofs.Common.{◌≡◌, ℕ, ◌+◌, Bool, true, false, List, [], ◌∷◌, ◌++◌, Option, Some, None, refl, sym, ◌∙◌, append_assoc}
+use Rattle.std.proofs.Common.{◌≡◌, ℕ, ◌+◌, Bool, true, false, List, [], ◌∷◌, ◌++◌, Option, Some, None, refl, sym, ◌∙◌, subst, append_assoc}
 use Rattle.std.proofs.lemmas.Bool.{false≢true}
 use Rattle.std.proofs.lemmas.List.{append-nil}
 use Rattle.std.proofs.Math.Nat.{add-zero}
 use Rattle.std.specs.Prelude.{IfSome, if◌then◌else◌}
+use Rattle.std.specs.Option.{option_map}
 use Rattle.td_base.specs.Moment.{moment_of}
 use Rattle.td_acts.specs.declared.rows.HolderRow.{HolderRow}
 use Rattle.td_guarantee.specs.declared.guarantee.Guarantee.{Guarantee}
@@ -12,11 +13,11 @@ use Rattle.td_acts.specs.declared.command.Command.{Command}
 use Rattle.td_acts.specs.declared.command.Command.TheVariants.{Register, OpenGuarantee, Ie015, SeeHolder, SeeMovement, SeeGuarantee}
 use Rattle.td_acts.specs.declared.command.Stamped.{Stamped}
 use Rattle.td_acts.specs.declared.rows.Change.TheVariants as change
-use Rattle.td_acts.specs.Account.{Account, IsAccountOf}
-use Rattle.td_acts.specs.Book.{Book, Act, eori_after, eori_in, last_in, serial_in, made_in, openings, declarations, opened_by, declared_by, eori_of, last_of, grn_count_before, mrn_count_before, grn_count_of, mrn_count_of, guarantees_of, movements_of, account_made, account_of, fresh_book, IsBegun}
+use Rattle.td_acts.specs.Account.{Account, IsAccountOf, ReferencesDiffer}
+use Rattle.td_acts.specs.Book.{Book, Act, eori_after, eori_in, last_in, serial_in, made_in, openings, declarations, opened_by, declared_by, eori_of, last_of, grn_count_before, mrn_count_before, grn_count_of, mrn_count_of, guarantees_of, movements_of, account_made, account_of, fresh_book}
 use Rattle.td_acts.specs.Commands.{owner_of}
 use Rattle.td_acts.specs.Acceptance.{is_accepted_at}
-use Rattle.td_acts.specs.Machine.{appended, book_after, book_after_at}
+use Rattle.td_acts.specs.Machine.{appended, book_after, book_after_at, AreAccepted, IsGrown}
 use Rattle.td_acts.specs.Deciding.{decided, rows_written, change_in, applied}
 
 -- the EORI after one more act
@@ -79,6 +80,10 @@ step_made H country e at g m t gs ms (SeeHolder h) none own accepted = absurd (f
 step_made H country e at g m t gs ms (SeeMovement h mrn) none own accepted = absurd (false≢true accepted)
 step_made H country e at g m t gs ms (SeeGuarantee h grn) none own accepted = absurd (false≢true accepted)
 
+-- a book in which nobody is registered is empty
+abbrev IsBegun : Book → Type 0
+IsBegun book = eori_of book ≡ None → (book.acts ≡ []) × (book.opening.holder ≡ None)
+
 -- who isn't registered has used no serial
 none_used : (book : Book) → IsBegun book → eori_of book ≡ None → (grn_count_of book ≡ 0) × (mrn_count_of book ≡ 0)
 none_used book begun none = let h = begun none in (rw (h.0, h.1) refl, rw (h.0, h.1) refl)
@@ -100,11 +105,6 @@ account_after_at H book (Some t) command begun own = by_test (is_accepted_at (ac
     by_test true accepted = account_step H book t command begun own accepted
     by_test false other = refl
 
--- what the book says after a command is the account with what is written for it
-pub account_after : (H : ℕ) (book : Book) (s : Stamped) → IsBegun book → owner_of book.opening.country s.command ≡ Some H
-    → account_of H (book_after H book s) ≡ applied (decided (account_of H book) s.at s.command).change (account_of H book)
-account_after H book s begun own = account_after_at H book (moment_of s.at) s.command begun own
-
 -- who changes something is registered then
 registered_made : (H : ℕ) (country : List ℕ) (e : Option (List ℕ)) (at g m t : ℕ) (gs : List Guarantee) (ms : List Movement) (command : Command) → is_accepted_at (account_made H country e at g m gs ms) t command ≡ true → eori_after e command ≡ None → ⊥
 registered_made H country e at g m t gs ms (Register h x) accepted none = cc
@@ -116,18 +116,56 @@ registered_made H country e at g m t gs ms (SeeHolder h) accepted none = false�
 registered_made H country e at g m t gs ms (SeeMovement h mrn) accepted none = false≢true accepted
 registered_made H country e at g m t gs ms (SeeGuarantee h grn) accepted none = false≢true accepted
 
--- the same where there may be no moment
-begun_after_at : (H : ℕ) (book : Book) (m : Option ℕ) (command : Command) → IsBegun book → IsBegun (book_after_at H book m command)
-begun_after_at H book None command begun = begun
-begun_after_at H book (Some t) command begun = by_test (is_accepted_at (account_of H book) t command) refl
-  where
-    by_test : (b : Bool) → is_accepted_at (account_of H book) t command ≡ b → IsBegun (if b then appended book t command else book)
-    by_test true accepted = λ none. absurd (registered_made H book.opening.country (eori_of book) (last_of book) (grn_count_of book) (mrn_count_of book) t (guarantees_of H book) (movements_of H book) command accepted (sym (eori_in-append _ book.acts (record { at = t; command = command })) ∙ none))
-    by_test false other = begun
-
 -- a book stays begun
-pub begun_after : (H : ℕ) (book : Book) (s : Stamped) → IsBegun book → IsBegun (book_after H book s)
-begun_after H book s begun = begun_after_at H book (moment_of s.at) s.command begun
+begun_step : (H : ℕ) (book : Book) (a : Act) → is_accepted_at (account_of H book) a.at a.command ≡ true → IsBegun (appended book a.at a.command)
+begun_step H book a accepted = λ none.
+    absurd (registered_made H book.opening.country (eori_of book) (last_of book) (grn_count_of book) (mrn_count_of book) a.at (guarantees_of H book) (movements_of H book) a.command accepted (sym (eori_in-append _ book.acts a) ∙ none))
+
+-- the book with more acts
+abbrev with_acts : Book → List Act → Book
+with_acts book acts = record { opening = book.opening; acts = acts }
+
+begun_on : (H : ℕ) (book : Book) (acts : List Act) → IsBegun book → AreAccepted H book acts → IsBegun (with_acts book (book.acts ++ acts))
+begun_on H book [] begun accepted = subst (λ acts. IsBegun (with_acts book acts)) (sym (append-nil book.acts)) begun
+begun_on H book (a ∷ acts) begun accepted =
+    subst (λ acts. IsBegun (with_acts book acts)) (append_assoc book.acts (a ∷ []) acts) (begun_on H (appended book a.at a.command) acts (begun_step H book a accepted.1) accepted.2)
+
+none_known : (o : Option HolderRow) → option_map (λ (r : HolderRow). r.eori) o ≡ None → o ≡ None
+none_known None e = refl
+none_known (Some r) e = cc
+
+-- a book that has grown is empty where nobody is registered in it
+begun_from_grown : (H : ℕ) (book : Book) → IsGrown H book → IsBegun book
+begun_from_grown H book grown = begun_on H (fresh_book book.opening) book.acts (λ none. (refl, none_known book.opening.holder none)) grown
+
+-- what the book says after a command is the account with what is written for it
+pub account_after : (H : ℕ) (book : Book) (s : Stamped) → IsGrown H book → ReferencesDiffer (account_of H book) → owner_of book.opening.country s.command ≡ Some H
+    → account_of H (book_after H book s) ≡ applied (decided (account_of H book) s.at s.command).change (account_of H book)
+account_after H book s grown differ own = account_after_at H book (moment_of s.at) s.command (begun_from_grown H book grown) own
+
+-- one more act that was accepted
+grown_on : (H : ℕ) (book : Book) (acts : List Act) (a : Act) → AreAccepted H book acts → owner_of book.opening.country a.command ≡ Some H
+    → is_accepted_at (account_of H (with_acts book (book.acts ++ acts))) a.at a.command ≡ true → AreAccepted H book (acts ++ a ∷ [])
+grown_on H book [] a before own accepted = (own, subst (λ acts. is_accepted_at (account_of H (with_acts book acts)) a.at a.command ≡ true) (append-nil book.acts) accepted, tt)
+grown_on H book (b ∷ acts) a before own accepted = (
+  before.0,
+  before.1,
+  grown_on H (appended book b.at b.command) acts a before.2 own
+      (subst (λ acts. is_accepted_at (account_of H (with_acts book acts)) a.at a.command ≡ true) (sym (append_assoc book.acts (b ∷ []) acts)) accepted),
+)
+
+-- the same where there may be no moment
+grown_after_at : (H : ℕ) (book : Book) (m : Option ℕ) (command : Command) → IsGrown H book → owner_of book.opening.country command ≡ Some H → IsGrown H (book_after_at H book m command)
+grown_after_at H book None command grown own = grown
+grown_after_at H book (Some t) command grown own = by_test (is_accepted_at (account_of H book) t command) refl
+  where
+    by_test : (b : Bool) → is_accepted_at (account_of H book) t command ≡ b → IsGrown H (if b then appended book t command else book)
+    by_test true accepted = grown_on H (fresh_book book.opening) book.acts (record { at = t; command = command }) grown own accepted
+    by_test false other = grown
+
+-- a book goes on growing
+pub grown_after : (H : ℕ) (book : Book) (s : Stamped) → IsGrown H book → owner_of book.opening.country s.command ≡ Some H → IsGrown H (book_after H book s)
+grown_after H book s grown own = grown_after_at H book (moment_of s.at) s.command grown own
 
 fresh_made : (H : ℕ) (country : List ℕ) (o : Option HolderRow) (gs : List Guarantee) (ms : List Movement) → IfSome o (λ row. row.holder ≡ H)
     → account_of H (fresh_book (record { country = country; holder = o; guarantees = gs; movements = ms })) ≡ record { country = country; holder = o; guarantees = gs; movements = ms }

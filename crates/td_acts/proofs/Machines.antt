@@ -1,9 +1,8 @@
 -- What one more command does to a machine's list and its book.
 use Rattle.std.proofs.Common.{◌≡◌, ℕ, List, [], ◌∷◌, ◌++◌, refl, ap}
 use Rattle.td_acts.specs.declared.command.Stamped.{Stamped}
-use Rattle.td_acts.specs.Book.{Book, IsBegun}
+use Rattle.td_acts.specs.Book.{Book}
 use Rattle.td_acts.specs.Machine.{verdict, book_after, machine_says, machine_book}
-use Rattle.td_acts.proofs.Growing.{begun_after}
 
 -- one more command at the end of a machine's list
 pub machine_book-append : (H : ℕ) (book : Book) (list : List Stamped) (s : Stamped) → machine_book H book (list ++ s ∷ []) ≡ book_after H (machine_book H book list) s
@@ -13,8 +12,3 @@ machine_book-append H book (r ∷ list) s = machine_book-append H (book_after H 
 pub machine_says-append : (H : ℕ) (book : Book) (list : List Stamped) (s : Stamped) → machine_says H book (list ++ s ∷ []) ≡ machine_says H book list ++ verdict H (machine_book H book list) s.at s.command ∷ []
 machine_says-append H book [] s = refl
 machine_says-append H book (r ∷ list) s = ap (λ words. verdict H book r.at r.command ∷ words) (machine_says-append H (book_after H book r) list s)
-
--- the machine's books stay begun
-pub machine_begun : (H : ℕ) (book : Book) (list : List Stamped) → IsBegun book → IsBegun (machine_book H book list)
-machine_begun H book [] begun = begun
-machine_begun H book (s ∷ list) begun = machine_begun H (book_after H book s) list (begun_after H book s begun)

@@ -1,5 +1,5 @@
 -- What a desk keeps of one holder: the model's only view of the records.
-use Rattle.std.specs.Prelude.{◌≡◌, ℕ, List, [], Option, None, IfSome, find}
+use Rattle.std.specs.Prelude.{◌≡◌, ◌≢◌, ℕ, List, [], AllPairs, Option, None, IfSome, find}
 use Rattle.std.specs.Str.{bytes_eq}
 use Rattle.td_acts.specs.declared.rows.HolderRow.{HolderRow}
 use Rattle.td_guarantee.specs.declared.guarantee.Guarantee.{Guarantee}
@@ -19,6 +19,11 @@ empty_account country = record { country = country; holder = None; guarantees = 
 -- the row is that of that number
 pub record IsAccountOf (H : ℕ) (account : Account) : Type 0 where
   pub number : IfSome account.holder (λ row. row.holder ≡ H)
+
+-- no two guarantees have one GRN, and no two movements one MRN
+pub record ReferencesDiffer (account : Account) : Type 0 where
+  pub grns : AllPairs (λ a b. a.grn ≢ b.grn) account.guarantees
+  pub mrns : AllPairs (λ a b. a.mrn ≢ b.mrn) account.movements
 
 -- the guarantee with exactly this GRN
 abbrev pub guarantee_with : List ℕ → List Guarantee → Option Guarantee

@@ -1,6 +1,6 @@
 -- A holder's book: what was kept at the start, and the changes that were accepted since. Everything that a desk says of the
 -- holder is read from the book alone, from its beginning, in passes in which a later act overrides what earlier ones said.
-use Rattle.std.specs.Prelude.{◌≡◌, ℕ, ◌+◌, ◌%◌, List, [], ◌∷◌, ◌++◌, map, Option, Some, None}
+use Rattle.std.specs.Prelude.{ℕ, ◌+◌, ◌%◌, List, [], ◌∷◌, ◌++◌, map, Option, Some, None}
 use Rattle.std.specs.Option.{option_map, option_map_or}
 use Rattle.td_base.specs.Days.{day_of_moment, year_of}
 use Rattle.td_base.specs.References.{grn_text, mrn_text}
@@ -117,7 +117,3 @@ account_of H book = account_made H book.opening.country (eori_of book) (last_of 
 -- the book that begins with an account
 abbrev pub fresh_book : Account → Book
 fresh_book account = record { opening = account; acts = [] }
-
--- the book of a holder who isn't registered is empty: no change of that number was ever accepted
-abbrev pub IsBegun : Book → Type 0
-IsBegun book = eori_of book ≡ None → (book.acts ≡ []) × (book.opening.holder ≡ None)

@@ -1,11 +1,12 @@
 -- A holder's own machine: the verdicts on a list of commands, one after the other, each over the holder's book so far.
 -- Nothing of any other holder takes part.
-use Rattle.std.specs.Prelude.{ℕ, ℤ, List, [], ◌∷◌, ◌++◌, Option, Some, None, if◌then◌else◌}
+use Rattle.std.specs.Prelude.{◌≡◌, ℕ, ℤ, true, List, [], ◌∷◌, ◌++◌, Option, Some, None, if◌then◌else◌}
 use Rattle.td_base.specs.Moment.{moment_of}
 use Rattle.td_acts.specs.declared.command.Command.{Command}
 use Rattle.td_acts.specs.declared.command.Stamped.{Stamped}
 use Rattle.td_acts.specs.declared.said.Said.{Said}
-use Rattle.td_acts.specs.Book.{Book, account_of}
+use Rattle.td_acts.specs.Book.{Act, Book, account_of, fresh_book}
+use Rattle.td_acts.specs.Commands.{owner_of}
 use Rattle.td_acts.specs.Table.{said}
 use Rattle.td_acts.specs.Acceptance.{is_accepted_at}
 
@@ -35,3 +36,13 @@ machine_says H book (s ∷ list) = verdict H book s.at s.command ∷ machine_say
 abbrev pub machine_book : ℕ → Book → List Stamped → Book
 machine_book H book [] = book
 machine_book H book (s ∷ list) = machine_book H (book_after H book s) list
+
+-- Acts that came one after the other upon a book: each is H's own, and was accepted over what the book with the acts before it says.
+abbrev pub AreAccepted : ℕ → Book → List Act → Type 0
+AreAccepted H book [] = Unit {0}
+AreAccepted H book (a ∷ acts) =
+    (owner_of book.opening.country a.command ≡ Some H) × (is_accepted_at (account_of H book) a.at a.command ≡ true) × AreAccepted H (appended book a.at a.command) acts
+
+-- H's book has grown: all its acts came so upon its opening
+abbrev pub IsGrown : ℕ → Book → Type 0
+IsGrown H book = AreAccepted H (fresh_book book.opening) book.acts

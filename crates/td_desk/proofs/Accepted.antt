@@ -30,6 +30,7 @@ use Rattle.td_acts.specs.Declaring.{first_refusal, line_refusal, guarantee_refus
 use Rattle.td_acts.specs.Deciding.{rows_written, change_at, change_in}
 use Rattle.td_acts.specs.Lines.{line_of, IsLines, IsLineAmount}
 use Rattle.td_acts.specs.Table.{if_lrn_new, if_not_refused}
+use Rattle.td_guarantee.proofs.Ascending.{one_ascends}
 use Rattle.td_desk.specs.Sound.{IsHolderRow, AreCodes, IsGuaranteeRow, AreMovementLines, IsMovementRow}
 use Rattle.td_desk.proofs.Joined.{All-map, AllPairs-map, AllByRecursion-map}
 
@@ -122,7 +123,7 @@ day_is t moment = (omega (arith, moment.0, moment.1), omega (arith, moment.0, mo
 
 -- one code is a guarantee's codes
 one_code : (code : List ℕ) → IsAccessCode code → AreCodes (code ∷ [])
-one_code code form = record { some = omega arith; most = omega arith; form = λ k d within. let first : k ≡ 0 = omega (arith, within) in rw first form; distinct = λ i j d less within. absurd (omega (arith, less, within)) }
+one_code code form = record { some = omega arith; most = omega arith; form = λ k d within. let first : k ≡ 0 = omega (arith, within) in rw first form; order = one_ascends code }
 
 -- what an accepted command of H writes over H's account follows on it
 rows_are_for : (H : ℕ) (country : List ℕ) (o : Option HolderRow) (gs : List Guarantee) (ms : List Movement) (t : ℕ) (command : Command) → owner_of country command ≡ Some H → IsProper command → IsMoment t

@@ -9,7 +9,7 @@ use Rattle.td_acts.specs.declared.rows.Change.TheVariants as change
 use Rattle.td_acts.specs.declared.command.Command.{Command}
 use Rattle.td_acts.specs.declared.command.Command.TheVariants.{Register, OpenGuarantee, Ie015, SeeHolder, SeeMovement, SeeGuarantee}
 use Rattle.td_acts.specs.declared.command.Stamped.{Stamped}
-use Rattle.td_acts.specs.Account.{Account, empty_account}
+use Rattle.td_acts.specs.Account.{Account, empty_account, ReferencesDiffer}
 use Rattle.td_acts.specs.Book.{account_of}
 use Rattle.td_acts.specs.Commands.{owner_of, IsProper}
 use Rattle.td_acts.specs.Machine.{book_after}
@@ -21,7 +21,8 @@ use Rattle.td_desk.specs.Weighing.{account_for, owner_account, Carries}
 use Rattle.td_desk.proofs.Accepted.{IsFor, change_in_is_for}
 use Rattle.td_desk.proofs.Following.{sound_written, key_written, applied_written}
 use Rattle.td_desk.specs.Rows.{put_row}
-use Rattle.td_desk.proofs.Fresh.{is_account_in, account_fresh, begun_fresh}
+use Rattle.td_desk.proofs.Differing.{references_differ}
+use Rattle.td_desk.proofs.Fresh.{is_account_in, account_fresh}
 use Rattle.td_desk.proofs.Keyed.{row_at_has, row_at-put_row_same, row_at-put_row_other, Rises-put_row, All-put_row, All-row_at}
 
 -- the moment that the clock shows is in range
@@ -86,7 +87,7 @@ carries_for H rows s own sound proper =
       country = effect.country;
       own = λ K k. let same : H ≡ K = cc in
           subst (λ n. account_in n (changed c rows) ≡ account_of n (book_after n (fresh n rows) s)) same
-          (effect.own ∙ ap (applied c) (sym e) ∙ sym (account_after H (fresh H rows) s (begun_fresh H rows) own));
+          (effect.own ∙ ap (applied c) (sym e) ∙ sym (account_after H (fresh H rows) s tt (subst ReferencesDiffer (sym e) (references_differ H rows sound)) own));
       others = λ K k. effect.others K (λ same. k (own ∙ ap (λ n. Some n) same));
       sound = effect.sound;
     }

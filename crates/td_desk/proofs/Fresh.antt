@@ -1,11 +1,9 @@
 -- A holder's fresh book says what the rows are.
 use Rattle.std.proofs.Common.{◌≡◌, ℕ, List, Option, Some, None, refl}
 use Rattle.std.specs.Prelude.{IfSome}
-use Rattle.std.specs.Option.{option_map}
 use Rattle.td_acts.specs.declared.command.Command.{Command}
-use Rattle.td_acts.specs.declared.rows.HolderRow.{HolderRow}
 use Rattle.td_acts.specs.Account.{IsAccountOf}
-use Rattle.td_acts.specs.Book.{account_of, IsBegun}
+use Rattle.td_acts.specs.Book.{account_of}
 use Rattle.td_acts.specs.Commands.{owner_of}
 use Rattle.td_acts.proofs.Growing.{account_fresh_book}
 use Rattle.td_desk.specs.Content.{HolderRows, Content, account_with, account_in, rows_of, fresh, holder_key}
@@ -23,14 +21,6 @@ is_account_in H rows = record { number = number_with H rows.country (rows_of H r
 -- a book that begins now says what the rows are
 pub account_fresh : (H : ℕ) (rows : Content) → account_of H (fresh H rows) ≡ account_in H rows
 account_fresh H rows = account_fresh_book H (account_in H rows) (is_account_in H rows)
-
-none_known : (o : Option HolderRow) → option_map (λ (r : HolderRow). r.eori) o ≡ None → o ≡ None
-none_known None e = refl
-none_known (Some r) e = cc
-
--- a book that begins now is begun
-pub begun_fresh : (H : ℕ) (rows : Content) → IsBegun (fresh H rows)
-begun_fresh H rows = λ e. (refl, none_known (account_in H rows).holder e)
 
 kept_is : (o : Option ℕ) (rows : Content) → account_for o rows ≡ kept_for o rows
 kept_is None rows = refl

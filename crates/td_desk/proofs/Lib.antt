@@ -13,3 +13,6 @@ mod Kept
 mod Storing
 pub mod Carrying
 pub mod Weighed
+pub mod Calls
+mod Agreeing
+pub mod Differing

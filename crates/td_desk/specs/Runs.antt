@@ -1,11 +1,14 @@
 -- A run of commands, as each holder sees it.
-use Rattle.std.specs.Prelude.{◌≡◌, ℕ, ◌==◌, Bool, false, List, [], ◌∷◌, Option, Some, None, length, if◌then◌else◌}
+use Rattle.std.specs.Prelude.{◌≡◌, ◌⊎◌, ℕ, ◌==◌, Bool, true, false, List, [], ◌∷◌, Option, Some, None, length, map, filter, zip, if◌then◌else◌}
+use Rattle.std.specs.List.{AllZip}
 use Rattle.td_acts.specs.declared.command.Stamped.{Stamped}
 use Rattle.td_acts.specs.declared.said.Said.{Said}
-use Rattle.td_acts.specs.Book.{Book, account_of, IsBegun}
+use Rattle.td_acts.specs.Account.{empty_account}
+use Rattle.td_acts.specs.Book.{Book, account_of}
 use Rattle.td_acts.specs.Commands.{owner_of}
 use Rattle.td_acts.specs.Table.{said}
-use Rattle.td_acts.specs.Machine.{machine_says, machine_book}
+use Rattle.td_acts.specs.Machine.{machine_says, machine_book, IsGrown}
+use Rattle.td_desk.specs.declared.fault.Fault.{Fault}
 use Rattle.td_desk.specs.declared.running.Outcome.{Outcome}
 use Rattle.td_desk.specs.declared.running.Outcome.TheVariants as outcome
 use Rattle.td_desk.specs.Content.{Content, account_in}
@@ -16,7 +19,27 @@ abbrev pub is_holder : ℕ → Option ℕ → Bool
 is_holder H None = false
 is_holder H (Some owner) = owner == H
 
--- H's commands that did not fail, in order: H's part of the list
+-- H's part of a list: the commands that H owns, with their moments, in order
+abbrev pub part : List ℕ → ℕ → List Stamped → List Stamped
+part country H list = filter (λ s. is_holder H (owner_of country s.command)) list
+
+-- two lists agree on H: H's parts of them are equal, whatever stands between
+abbrev pub Agree : List ℕ → ℕ → List Stamped → List Stamped → Type 0
+Agree country H list other_list = part country H list ≡ part country H other_list
+
+abbrev pub is_failed : Outcome → Bool
+is_failed (outcome.Said words) = false
+is_failed (outcome.Failed why) = true
+
+-- how the commands of H's part ended, one by one
+abbrev pub outcomes_of : List ℕ → ℕ → List Stamped → List Outcome → List Outcome
+outcomes_of country H list outcomes = map (λ e. e.1) (filter (λ e. is_holder H (owner_of country e.0.command)) (zip list outcomes))
+
+-- the places in H's part at which a command failed
+abbrev pub failures : List ℕ → ℕ → List Stamped → List Outcome → List Bool
+failures country H list outcomes = map is_failed (outcomes_of country H list outcomes)
+
+-- H's commands that did not fail, in order
 abbrev pub heard : List ℕ → ℕ → List Stamped → List Outcome → List Stamped
 heard country H [] outcomes = []
 heard country H (s ∷ list) [] = []
@@ -30,10 +53,22 @@ told country H (s ∷ list) [] = []
 told country H (s ∷ list) (outcome.Said said ∷ outcomes) = if is_holder H (owner_of country s.command) then said ∷ told country H list outcomes else told country H list outcomes
 told country H (s ∷ list) (outcome.Failed fault ∷ outcomes) = told country H list outcomes
 
--- Each holder's rows are what the holder's book says. A number that isn't registered has an empty book, and no rows.
+-- Each holder's rows are what the holder's book says, and each book has grown: every act in it was accepted over the acts before it. So a number
+-- that isn't registered has an empty book, and no rows.
 pub record IsTied (rows : Content) (books : ℕ → Book) : Type 0 where
   pub each : (H : ℕ) → account_in H rows ≡ account_of H (books H)
-  pub begun : (H : ℕ) → IsBegun (books H)
+  pub grown : (H : ℕ) → IsGrown H (books H)
+
+-- How a command ended by the two calls that it makes of a desk, where called says how a call ended: by words where neither failed, else by the fault
+-- of the one that failed, which was the last.
+abbrev pub IsOutcomeOf : {S : Type 0} → (S → Option Fault → S → Type 0) → S → Outcome → S → Type 0
+IsOutcomeOf {S} called old (outcome.Said words) new = (weighed : S) × called old None weighed × called weighed None new
+IsOutcomeOf {S} called old (outcome.Failed why) new = called old (Some why) new ⊎ ((weighed : S) × called old None weighed × called weighed (Some why) new)
+
+-- each outcome is that of its own calls, one command after the other
+abbrev pub AreOutcomesOf : {S : Type 0} → (S → Option Fault → S → Type 0) → S → List Outcome → S → Type 0
+AreOutcomesOf called old [] new = new ≡ old
+AreOutcomesOf {S} called old (o ∷ outcomes) new = (next : S) × IsOutcomeOf called old o next × AreOutcomesOf called next outcomes new
 
 -- the outcome of one command, and the content after it: what is said is the model's verdict, and a failure changes nothing
 abbrev pub Performs : Content → Stamped → Outcome → Content → Type 0
@@ -45,11 +80,17 @@ abbrev pub IsStep : Type 0 → Type 0 → Content → Stamped → Outcome → Co
 IsStep was_live is_live old s (outcome.Said words) new = was_live × is_live × (IsSound old → Performs old s (outcome.Said words) new)
 IsStep was_live is_live old s (outcome.Failed fault) new = is_live → new ≡ old
 
--- To each holder at once, what was said is what the holder's own machine says to the holder's part of the list; in the end the
--- content is sound, and tied to the books that the machines end with.
+-- What is said to a command that nobody owns is what the table says over an account with nothing in it.
+abbrev pub IsToldOfNobody : List ℕ → Stamped → Outcome → Type 0
+IsToldOfNobody country s (outcome.Said words) = owner_of country s.command ≡ None → words ≡ said (empty_account country) s.at s.command
+IsToldOfNobody country s (outcome.Failed fault) = Unit {0}
+
+-- To each holder at once, what was said is what the holder's own machine says to the holder's commands that did not fail; what was said to
+-- commands that nobody owns rests on nobody's rows; in the end the content is sound, and tied to the books that the machines end with.
 pub record IsRun (country : List ℕ) (books : ℕ → Book) (list : List Stamped) (outcomes : List Outcome) (new : Content) : Type 0 where
   pub one_each : length outcomes ≡ length list
   pub answers : (H : ℕ) → told country H list outcomes ≡ machine_says H (books H) (heard country H list outcomes)
+  pub nobodys : AllZip (IsToldOfNobody country) list outcomes
   pub country_stays : new.country ≡ country
   pub sound : IsSound new
   pub tied : IsTied new (λ H. machine_book H (books H) (heard country H list outcomes))

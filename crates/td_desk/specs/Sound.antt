@@ -11,6 +11,7 @@ use Rattle.td_base.specs.Money.{IsReference, IsCover}
 use Rattle.td_base.specs.References.{grn_text, mrn_text}
 use Rattle.td_movement.specs.declared.line.Line.{Line}
 use Rattle.td_movement.specs.Status.{IsStatus}
+use Rattle.td_guarantee.specs.Codes.{AreAscending}
 use Rattle.td_guarantee.specs.Usage.{used_on}
 use Rattle.td_acts.specs.declared.rows.HolderRow.{HolderRow}
 use Rattle.td_guarantee.specs.declared.guarantee.Guarantee.{Guarantee}
@@ -26,12 +27,12 @@ pub record IsHolderRow (row : HolderRow) : Type 0 where
   pub eori : IsEori row.eori
   pub last_at : IsMoment row.last_at
 
--- a guarantee has 1 to 20 access codes, no two alike
+-- a guarantee has 1 to 20 access codes, in ascending order of their characters and no two alike
 pub record AreCodes (codes : List (List ℕ)) : Type 0 where
   pub some : 1 ≤ length codes
   pub most : length codes ≤ 20
   pub form : All IsAccessCode codes
-  pub distinct : AllPairs (λ a b. a ≢ b) codes
+  pub order : AreAscending codes
 
 -- guarantee n of a holder: its GRN was made of the desk's country, the holder and this serial, in some year
 pub record IsGuaranteeRow (country : List ℕ) (H n : ℕ) (g : Guarantee) : Type 0 where

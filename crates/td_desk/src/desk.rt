@@ -1,6 +1,7 @@
 //! What a desk promises.
-ghost use Rattle.std.specs.Prelude.{◌≡◌, ◌≢◌, ℤ, IfOk, OnOk, OnErr, IsOk};
-ghost use Rattle.td_desk.specs.declared.fault.Fault.TheVariants.{NoMemory, Store};
+ghost use Rattle.std.specs.Prelude.{◌≡◌, ◌≢◌, ℤ, Option, IfOk, OnOk, OnErr, IsOk};
+ghost use Rattle.std.specs.Result.{result_err};
+ghost use Rattle.td_desk.specs.declared.fault.Fault.{Fault};
 ghost use Rattle.td_acts.specs.declared.rows.Change.TheVariants as change;
 ghost use Rattle.td_acts.specs.declared.command.Stamped.{Stamped};
 ghost use Rattle.td_acts.specs.Commands.{IsProper};
@@ -28,6 +29,9 @@ pub trait Desk {
     /// A store stands behind it.
     ghost has_store: { Type 0 };
 
+    /// A call took it from one state to the other, and ended by this fault, or by none.
+    ghost called: { Self → Option Fault → Self → Type 0 };
+
     /// The country of its office.
     fn country(&self) -> Country
         ensures { is_clean self.now → is_live self.now → result ≡ (content self.now).country };
@@ -38,10 +42,12 @@ pub trait Desk {
         ensures clean { is_clean self.new → is_clean self.old }
         ensures live { is_clean self.new → is_live self.new → is_live self.old }
         ensures shown { is_clean self.new → OnOk result (is_live self.old × is_live self.new) }
+        ensures memory { is_clean self.new → is_live self.old → result ≡ Err Fault.NoMemory → is_live self.new }
         ensures same { is_clean self.new → is_live self.new → content self.new ≡ content self.old }
         ensures decision { is_clean self.new → is_live self.old → IsSound (content self.old) → IfOk result (IsWeighed (content self.old) at command.now) }
         ensures proper { IsProper command.now }
-        ensures store { result ≡ Err Fault.Store → has_store };
+        ensures store { result ≡ Err Fault.Store → has_store }
+        ensures call { called self.old (result_err result) self.new };
 
     /// Does what was decided on a command over the content as it is, and answers what is said to it. An `Err` changes nothing, and
     /// the decision is spent; a decision that changes nothing is never an `Err`.
@@ -51,11 +57,13 @@ pub trait Desk {
         ensures live { is_clean self.new → is_live self.new → is_live self.old }
         ensures shown { is_clean self.new → decision.change ≢ change.Nothing → OnOk result (is_live self.old × is_live self.new) }
         ensures stays { is_clean self.new → is_live self.old → OnOk result (is_live self.new) }
+        ensures memory { is_clean self.new → is_live self.old → result ≡ Err Fault.NoMemory → is_live self.new }
         ensures said { IfOk result (λ said. said ≡ decision.said) }
         ensures carried { is_clean self.new → is_live self.new → IsSound (content self.old) →
             OnOk result ((s : Stamped) → IsProper s.command → IsWeighed (content self.old) s.at s.command decision → Carries (content self.old) s (content self.new)) }
         ensures err { is_clean self.new → is_live self.new → OnErr result (content self.new ≡ content self.old) }
         ensures quiet { decision.change ≡ change.Nothing → IsOk result }
         ensures unchanged { decision.change ≡ change.Nothing → is_clean self.new → is_live self.new → content self.new ≡ content self.old }
-        ensures store { result ≡ Err Fault.Store → has_store };
+        ensures store { result ≡ Err Fault.Store → has_store }
+        ensures call { called self.old (result_err result) self.new };
 }

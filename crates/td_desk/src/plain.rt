@@ -1,5 +1,5 @@
 //! The plain desk: its rows stand in memory, and no store is behind it.
-ghost use Rattle.std.specs.Prelude.{◌≡◌, ◌≤◌, length, take_while, nat_lt, Some, option_map, IfOk, IsOk, OnOk, OnErr};
+ghost use Rattle.std.specs.Prelude.{◌≡◌, ◌≢◌, ◌≤◌, length, take_while, nat_lt, Some, option_map, IfOk, IsOk, OnOk, OnErr};
 ghost use Rattle.td_acts.specs.Deciding.{IsLoaded, row_in};
 ghost use Rattle.td_desk.specs.Rows.{Rises, Rises-prop, row_at, put_row};
 ghost use Rattle.td_desk.specs.Content.{changed, written, rows_or_new, holder_key, empty_content};
@@ -69,6 +69,7 @@ impl PlainDesk {
 }
 
 impl Desk for PlainDesk {
+    ghost use Rattle.td_desk.specs.declared.fault.Fault.TheVariants as fault;
     ghost use Rattle.td_desk.specs.Plain.{rows_in};
 
     ghost content = { rows_in };
@@ -78,6 +79,8 @@ impl Desk for PlainDesk {
     ghost is_live = { λ _. Unit {0} };
 
     ghost has_store = { ⊥ };
+
+    ghost called = { λ _ why _. why ≢ Some fault.Store };
 
     fn country(&self) -> Country {
         self.country

@@ -1,9 +1,9 @@
 //! Runs of commands.
-ghost use Rattle.std.specs.Prelude.{◌≡◌, ℕ, IfOk, OnErr};
+ghost use Rattle.std.specs.Prelude.{◌≡◌, ◌≢◌, ℕ, All, IfOk, OnErr};
 ghost use Rattle.td_acts.specs.Book.{Book};
 ghost use Rattle.td_desk.specs.Content.{Content};
 ghost use Rattle.td_desk.specs.Sound.{IsSound};
-ghost use Rattle.td_desk.specs.Runs.{IsStep, IsTied, IsRun};
+ghost use Rattle.td_desk.specs.Runs.{IsOutcomeOf, AreOutcomesOf, IsStep, IsTied, IsRun};
 
 use crate::desk::Desk;
 use crate::fault::Fault;
@@ -24,7 +24,9 @@ pub fn perform<D: Desk>(alloc: Global, desk: &mut D, stamped: &Stamped) -> Outco
     ensures clean { D.is_clean desk.new → D.is_clean desk.old }
     ensures live { D.is_clean desk.new → D.is_live desk.new → D.is_live desk.old }
     ensures performs { D.is_clean desk.new → IsStep (D.is_live desk.old) (D.is_live desk.new) (D.content desk.old) stamped.now result (D.content desk.new) }
+    ensures stays { D.is_clean desk.new → D.is_live desk.old → result ≢ Outcome.Failed Fault.Store → D.is_live desk.new }
     ensures store { result ≡ Outcome.Failed Fault.Store → D.has_store }
+    ensures calls { IsOutcomeOf D.called desk.old result desk.new }
 {
     match desk.weigh(alloc, stamped.at, &stamped.command) {
         Ok(decision) => match desk.carry(alloc, decision) {
@@ -49,6 +51,9 @@ pub fn run<D: Desk>(
     ensures live { D.is_clean desk.new → D.is_live desk.new → D.is_live desk.old }
     ensures private { D.is_clean desk.new → D.is_live desk.old → IsSound (D.content desk.old) → (books : ℕ → Book) → IsTied (D.content desk.old) books →
         IfOk result (λ outcomes. (c : Content) × IsRun (D.content desk.old).country books list.now outcomes.items c × (D.is_live desk.new → D.content desk.new ≡ c)) }
+    ensures stays { D.is_clean desk.new → D.is_live desk.old → IfOk result (λ outcomes. All (λ o. o ≢ Outcome.Failed Fault.Store) outcomes.items → D.is_live desk.new) }
+    ensures store { IfOk result (λ outcomes. All (λ o. o ≡ Outcome.Failed Fault.Store → D.has_store) outcomes.items) }
+    ensures calls { IfOk result (λ outcomes. AreOutcomesOf D.called desk.old outcomes.items desk.new) }
 {
     let mut outcomes = Vec::with_capacity(alloc, list.len())?;
     for stamped in list {

@@ -15,10 +15,13 @@ pub struct Codes {
 
 impl Model for Codes {
     ghost use Rattle.std.specs.Prelude.{List, ℕ};
+    ghost use Rattle.td_guarantee.specs.Codes.{AreAscending};
 
     ghost Value = { List (List ℕ) };
 
     ghost view = { λ c. c.items.items };
+
+    ghost invariant = { λ c. AreAscending c.items.items };
 }
 
 impl Codes {

@@ -1,7 +1,10 @@
 //! A desk over a store that a fault may shut, as a desk over a file is.
-ghost use Rattle.std.specs.Prelude.{◌≡◌, ℕ, true, IfOk, OnOk, OnErr, IsTrue};
+ghost use Rattle.std.specs.Prelude.{◌≡◌, ◌⊎◌, ℕ, true, false, Option, Some, None, IfOk, OnOk, OnErr, IsTrue};
+ghost use Rattle.std.specs.Result.{result_err};
 ghost use Rattle.td_acts.specs.Book.{Book};
 ghost use Rattle.td_acts.specs.Deciding.{IsLoaded};
+ghost use Rattle.td_desk.specs.declared.fault.Fault.{Fault};
+ghost use Rattle.td_desk.specs.declared.fault.Fault.TheVariants as fault;
 ghost use Rattle.td_desk.specs.Content.{Content, changed};
 ghost use Rattle.td_desk.specs.Sound.{IsSound};
 ghost use Rattle.td_desk.specs.Weighing.{kept_of};
@@ -24,6 +27,9 @@ pub trait Store: Drop {
     /// Its rows, while it is open.
     ghost rows: { Self → Content };
 
+    /// A call took it from one state to the other, and ended by this fault, or by none.
+    ghost called: { Self → Option Fault → Self → Type 0 };
+
     fn country(&self) -> Country
         ensures { is_kept self.now → is_open self.now → result ≡ (rows self.now).country };
 
@@ -32,6 +38,8 @@ pub trait Store: Drop {
         ensures kept { is_kept self.new → is_kept self.old }
         ensures open { is_kept self.new → is_open self.new → is_open self.old }
         ensures shown { is_kept self.new → OnOk result (is_open self.old × is_open self.new) }
+        ensures memory { is_kept self.new → is_open self.old → result ≡ Err Fault.NoMemory → is_open self.new }
+        ensures call { called self.old (result_err result) self.new }
         ensures same { is_kept self.new → is_open self.new → rows self.new ≡ rows self.old }
         ensures loaded { is_kept self.new → is_open self.old → IsSound (rows self.old) → IfOk result (IsLoaded (kept_of (rows self.old) command.now) command.now) };
 
@@ -40,6 +48,8 @@ pub trait Store: Drop {
         ensures kept { is_kept self.new → is_kept self.old }
         ensures open { is_kept self.new → is_open self.new → is_open self.old }
         ensures shown { is_kept self.new → OnOk result (is_open self.old × is_open self.new) }
+        ensures memory { is_kept self.new → is_open self.old → result ≡ Err Fault.NoMemory → is_open self.new }
+        ensures call { called self.old (result_err result) self.new }
         ensures written { is_kept self.new → is_open self.new → OnOk result (rows self.new ≡ changed change (rows self.old)) }
         ensures err { is_kept self.new → is_open self.new → OnErr result (rows self.new ≡ rows self.old) };
 }
@@ -66,6 +76,9 @@ impl<S: Store> Desk for StoreDesk<S> {
     ghost is_live = { λ d. S.is_open d.store };
 
     ghost has_store = { Unit {0} };
+
+    // The store's call ended so; or it ended well, and the desk itself found no memory; or the store was left alone.
+    ghost called = { λ old why new. S.called old.store why new.store ⊎ ((S.called old.store None new.store × (why ≡ Some fault.NoMemory)) ⊎ ((new.store ≡ old.store) × (why ≡ None))) };
 
     fn country(&self) -> Country {
         self.store.country()
@@ -140,6 +153,9 @@ impl Store for FaultyStore {
     ghost is_open = { λ s. IsTrue s.serving };
 
     ghost rows = { λ s. rows_in s.rows };
+
+    // A call that finds the store shut, or shuts it, and no other call, is the store's fault.
+    ghost called = { λ _ why new. (why ≡ Some fault.Store → new.serving ≡ false) × (new.serving ≡ false → why ≡ Some fault.Store) };
 
     fn country(&self) -> Country {
         self.rows.country()

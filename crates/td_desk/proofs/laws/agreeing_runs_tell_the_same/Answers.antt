@@ -1,9 +1,10 @@
-use Rattle.std.proofs.Common.{◌∙◌, sym, ap}
-use Rattle.td_acts.specs.Book.{Book}
-use Rattle.td_acts.specs.Machine.{machine_says}
-use Rattle.td_desk.specs.Runs.{heard}
+use Rattle.td_desk.proofs.Agreeing.{heard_alike, told_alike}
 use Rattle.td_desk.proofs.laws.agreeing_runs_tell_the_same.Goals as goal
 
-pub returns : goal.returns
-returns c = λ country H books others list other_list outcomes other_outcomes end other_end run other_run same_book same_part.
-    run.answers H ∙ ap (λ (book : Book). machine_says H book (heard country H list outcomes)) same_book ∙ ap (machine_says H (others H)) same_part ∙ sym (other_run.answers H)
+pub returns-clause-agreeing : goal.returns-clause-agreeing
+returns-clause-agreeing c = λ country H books others list other_list outcomes other_outcomes end other_end run other_run same_book agree failed.
+    told_alike country H books others list other_list outcomes other_outcomes end other_end run other_run same_book
+    (heard_alike country H list other_list outcomes other_outcomes run.one_each other_run.one_each agree failed)
+
+pub returns-clause-heard : goal.returns-clause-heard
+returns-clause-heard c = told_alike

@@ -1,9 +1,11 @@
-use Rattle.std.proofs.Common.{◌≡◌, ℕ, ◌≤◌, length, take, vec_len}
-use Rattle.std.specs.Prelude.{vec_capacity}
+use Rattle.std.proofs.Common.{◌≡◌, ◌≢◌, ℕ, ◌≤◌, length, take, vec_len}
+use Rattle.std.specs.Prelude.{vec_capacity, All}
 use Rattle.td_acts.specs.Book.{Book}
+use Rattle.td_desk.specs.declared.fault.Fault.TheVariants as fault
+use Rattle.td_desk.specs.declared.running.Outcome.TheVariants as outcome
 use Rattle.td_desk.specs.Content.{Content}
 use Rattle.td_desk.specs.Sound.{IsSound}
-use Rattle.td_desk.specs.Runs.{IsTied, IsRun}
+use Rattle.td_desk.specs.Runs.{AreOutcomesOf, IsTied, IsRun}
 use Rattle.td_desk.proofs.running.run.Given as goal
 
 abbrev pub invariant-loop-stamped : goal.invariant-loop-stamped
@@ -14,6 +16,9 @@ invariant-loop-stamped g l =
     record {
       room : length l.list ≤ vec_capacity l.outcomes;
       one_each : vec_len l.outcomes ≡ l.stamped-index;
+      stored : All (λ o. o ≡ outcome.Failed fault.Store → g.D.Desk.has_store) l.outcomes.items;
+      calls : AreOutcomesOf g.D.Desk.called l.fn.desk l.outcomes.items l.desk;
+      stays : is_clean l.desk → is_live l.fn.desk → All (λ o. o ≢ outcome.Failed fault.Store) l.outcomes.items → is_live l.desk;
       clean : is_clean l.desk → is_clean l.fn.desk;
       live : is_clean l.desk → is_live l.desk → is_live l.fn.desk;
       runs : is_clean l.desk → is_live l.fn.desk → IsSound (content l.fn.desk) → (books : ℕ → Book) → IsTied (content l.fn.desk) books →
