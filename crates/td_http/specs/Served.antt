@@ -20,7 +20,7 @@ desk_of s = s.desk
 
 -- what a request does to a service of a desk
 abbrev pub IsHandledBy : {D : Type 0} → (D → Content) → (D → Type 0) → (D → Type 0) → Type 0 → Service D → ℤ → Asked → Reply → Service D → Type 0
-IsHandledBy content is_clean is_live has_store = IsHandled (λ s. content (desk_of s)) (λ s. is_clean (desk_of s)) (λ s. is_live (desk_of s)) has_store
+IsHandledBy = IsHandled desk_of
 
 -- the reply to a HEAD request: a head alone, with the methods of the path where there is one
 abbrev pub IsHeadReply : List ℕ → Reply → Type 0

@@ -111,6 +111,7 @@ impl<D: Desk + Drop> Service<D> {
     }
 
     /// The reply to a request that comes at that number of seconds since 1970. A fixed reply is of a fault: the request changed nothing.
+    /// A request that can't be read doesn't ask the desk.
     pub fn handle(&mut self, alloc: Global, at: i64, request: &Request) -> Reply
         ensures { IsHandledBy D.content D.is_clean D.is_live D.has_store self.old at (asked request.now) result self.new }
     {

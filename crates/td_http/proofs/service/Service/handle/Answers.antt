@@ -1,3 +1,4 @@
+use Rattle.std.proofs.Common.{refl}
 use Rattle.td_wire.specs.Request.{asked}
 use Rattle.td_http.specs.Serving.{command_in}
 use Rattle.td_http.proofs.Handling.{unread_handled, unread_stores_nothing}
@@ -8,5 +9,6 @@ returns-in-Err g c = record {
   clean = λ clean. clean;
   live = λ clean live. live;
   handled = λ clean. unread_handled (g.D.Desk.is_live c.args.self.now.desk) (g.D.Desk.is_live c.args.self.now.desk) (g.D.Desk.content c.args.self.now.desk) c.args.at (command_in (asked c.args.request.now)) c.args.request.now.close c.in-Err.fault c.unread.result c.in-Err.ensures c.unread.ensures.memory c.unread.ensures.told;
+  unasked = λ why bad. refl;
   store = λ h. absurd (unread_stores_nothing c.in-Err.fault c.args.request.now.close c.unread.result c.unread.ensures.told h);
 }
