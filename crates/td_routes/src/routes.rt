@@ -1,6 +1,7 @@
 //! The paths of the desk, and the route of a request.
-ghost use Rattle.std.specs.Prelude.{◌≡◌, ◌≢◌, [], IfOk, IfErr, IsSome, MatchResult, OnOk, None, drop, map, option_map};
+ghost use Rattle.std.specs.Prelude.{◌≡◌, ◌≢◌, [], IfOk, IfErr, IsSome, MatchResult, Ok, OnOk, None, drop, map, option_map};
 ghost use Rattle.std.specs.Option.{ForSome};
+ghost use Rattle.std.specs.Str.{IsUtf8};
 ghost use Rattle.matchit.specs.Seek.{first};
 ghost use Rattle.td_routes.specs.Faults.{OrNoMemory};
 ghost use Rattle.td_routes.specs.declared.fault.WebFault.TheVariants.{NoMemory};
@@ -192,7 +193,11 @@ impl Routes {
 impl Routes {
     /// The methods of a path: `None` where the desk has no such path. Want of memory is `NoMemory`.
     pub fn methods(&mut self, alloc: Global, path: &[u8]) -> Result<Option<Allowed>, WebFault>
-        ensures { MatchResult result (λ methods. methods ≡ methods_of path.now) (λ e. e ≡ NoMemory) }
+        ensures methods { MatchResult result (λ methods. methods ≡ methods_of path.now) (λ e. e ≡ NoMemory) }
+        // Once the router is made it stays, and no memory is needed. It is made for any path that is text.
+        ensures ready { IsSome self.old.router → result ≡ Ok (methods_of path.now) }
+        ensures kept { IsSome self.old.router → IsSome self.new.router }
+        ensures made { OnOk result (IsUtf8 path.now → IsSome self.new.router) }
     {
         let Ok(path) = str::from_utf8(path) else {
             return Ok(None);
