@@ -28,10 +28,10 @@ abbrev pub table : List (List ℕ × Place)
 table =
     (codes "/office/holders/{h}", place.OfficeHolder)
     ∷ (codes "/office/holders/{h}/guarantees", place.OfficeGuarantees)
-    ∷ (codes "/holders/{h}/movements", place.Movements)
     ∷ (codes "/holders/{h}", place.Holder)
-    ∷ (codes "/holders/{h}/movements/{m}", place.Movement)
     ∷ (codes "/holders/{h}/guarantees/{g}", place.Guarantee)
+    ∷ (codes "/holders/{h}/movements", place.Movements)
+    ∷ (codes "/holders/{h}/movements/{m}", place.Movement)
     ∷ []
 
 -- one path more, read as the router reads it

@@ -18,10 +18,10 @@ use td_base::{Grn, HolderNo, Mrn};
 const PATHS: [(&str, Place); 6] = [
     ("/office/holders/{h}", Place::OfficeHolder),
     ("/office/holders/{h}/guarantees", Place::OfficeGuarantees),
-    ("/holders/{h}/movements", Place::Movements),
     ("/holders/{h}", Place::Holder),
-    ("/holders/{h}/movements/{m}", Place::Movement),
     ("/holders/{h}/guarantees/{g}", Place::Guarantee),
+    ("/holders/{h}/movements", Place::Movements),
+    ("/holders/{h}/movements/{m}", Place::Movement),
 ];
 
 // A router with these paths. They are of good form and don't conflict, so it only fails for want of memory.
