@@ -1,5 +1,5 @@
 -- A desk's service as a handler of requests, and what a stream at a desk tells each holder.
-use Rattle.std.specs.Prelude.{◌≡◌, ◌⊎◌, ℕ, ℤ, true, List, option_map}
+use Rattle.std.specs.Prelude.{◌≡◌, ◌⊎◌, ℕ, ℤ, true, List, option_and_then, option_map}
 use Rattle.td_acts.specs.Book.{Book}
 use Rattle.td_desk.specs.Content.{Content}
 use Rattle.td_desk.specs.Sound.{IsSound}
@@ -22,9 +22,9 @@ desk_of s = s.desk
 abbrev pub IsHandledBy : {D : Type 0} → (D → Content) → (D → Type 0) → (D → Type 0) → Type 0 → Service D → ℤ → Asked → Reply → Service D → Type 0
 IsHandledBy = IsHandled desk_of
 
--- the reply to a HEAD request: a head alone, with the methods of the path where there is one
+-- the reply to a HEAD request: a head alone, with the methods of the target's path where the desk has it
 abbrev pub IsHeadReply : List ℕ → Reply → Type 0
-IsHeadReply target reply = (reply ≡ NoMemory) ⊎ ((is_made reply ≡ true) × (reply_bytes reply ≡ head_text (option_map allowed_text (methods_of (path_of target)))))
+IsHeadReply target reply = (reply ≡ NoMemory) ⊎ ((is_made reply ≡ true) × (reply_bytes reply ≡ head_text (option_map allowed_text (option_and_then methods_of (path_of target)))))
 
 -- a HEAD request leaves the desk as it is
 pub record IsHeadHandledBy {D : Type 0} (old : Service D) (target : List ℕ) (reply : Reply) (new : Service D) : Type 0 where

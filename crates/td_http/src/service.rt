@@ -125,7 +125,10 @@ impl<D: Desk + Drop> Service<D> {
     pub fn head(&mut self, alloc: Global, target: &[u8]) -> Reply
         ensures { IsHeadHandledBy self.old target.now result self.new }
     {
-        match self.routes.methods(alloc, path(target)) {
+        let Some(path) = path(target) else {
+            return told_head(alloc, None);
+        };
+        match self.routes.methods(alloc, path) {
             Ok(methods) => told_head(alloc, methods),
             Err(_) => Reply::NoMemory,
         }
