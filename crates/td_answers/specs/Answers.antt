@@ -13,6 +13,8 @@ use Rattle.td_acts.specs.declared.said.Said.TheVariants.{Answered, Refused}
 use Rattle.td_routes.specs.Faults.{fault_allow, fault_name, field_name, reason_text}
 use Rattle.td_answers.specs.Objects.{guarantee_body, guarantee_data, movement_body, movement_data}
 use Rattle.td_wire.specs.ReplyText.{reply_text}
+use Rattle.td_base.specs.declared.references.RefFault.TheVariants.{Length, Form, CheckDigit}
+use Rattle.td_routes.specs.declared.fault.Field.TheVariants as field
 use Rattle.td_routes.specs.declared.fault.WebFault.{WebFault}
 use Rattle.td_routes.specs.declared.fault.WebFault.TheVariants.{NoRoute, NoMethod, BadHolder, BadMrn, BadGrn, BadBody, BadField, NoMemory}
 
@@ -87,6 +89,41 @@ answer_body (Opened grn) = codes "{\"grn\":\"" ++ (grn ++ codes "\"}")
 answer_body (Ie028 lrn mrn) = codes "{\"lrn\":\"" ++ (lrn ++ (codes "\",\"message\":\"IE028\",\"mrn\":\"" ++ (mrn ++ codes "\"}")))
 answer_body (Movement m) = movement_body m
 answer_body (Guarantee g used) = guarantee_body g used
+
+-- the bytes of a refusal's body
+abbrev pub refusal_body : Refusal → List ℕ
+refusal_body ClockRange = codes "{\"error\":\"clock-range\"}"
+refusal_body NoHolder = codes "{\"error\":\"no-holder\"}"
+refusal_body HolderKnown = codes "{\"error\":\"holder-known\"}"
+refusal_body ClockBack = codes "{\"error\":\"clock-back\"}"
+refusal_body NoMovement = codes "{\"error\":\"no-movement\"}"
+refusal_body NoGuarantee = codes "{\"error\":\"no-guarantee\"}"
+refusal_body BadCode = codes "{\"error\":\"bad-code\"}"
+refusal_body GuaranteeEnded = codes "{\"error\":\"guarantee-ended\"}"
+refusal_body LrnUsed = codes "{\"error\":\"lrn-used\"}"
+refusal_body SerialsSpent = codes "{\"error\":\"serials-spent\"}"
+
+-- the bytes of the body that tells why a request can't be read
+abbrev pub fault_text : WebFault → List ℕ
+fault_text NoRoute = codes "{\"error\":\"no-route\"}"
+fault_text (NoMethod allow) = codes "{\"error\":\"no-method\"}"
+fault_text BadHolder = codes "{\"error\":\"bad-holder\"}"
+fault_text (BadMrn Length) = codes "{\"error\":\"bad-mrn\",\"reason\":\"length\"}"
+fault_text (BadMrn Form) = codes "{\"error\":\"bad-mrn\",\"reason\":\"form\"}"
+fault_text (BadMrn CheckDigit) = codes "{\"error\":\"bad-mrn\",\"reason\":\"check-digit\"}"
+fault_text (BadGrn Length) = codes "{\"error\":\"bad-grn\",\"reason\":\"length\"}"
+fault_text (BadGrn Form) = codes "{\"error\":\"bad-grn\",\"reason\":\"form\"}"
+fault_text (BadGrn CheckDigit) = codes "{\"error\":\"bad-grn\",\"reason\":\"check-digit\"}"
+fault_text BadBody = codes "{\"error\":\"bad-body\"}"
+fault_text (BadField field.Eori) = codes "{\"error\":\"bad-field\",\"field\":\"eori\"}"
+fault_text (BadField field.Reference) = codes "{\"error\":\"bad-field\",\"field\":\"reference\"}"
+fault_text (BadField field.Cover) = codes "{\"error\":\"bad-field\",\"field\":\"cover\"}"
+fault_text (BadField field.Code) = codes "{\"error\":\"bad-field\",\"field\":\"code\"}"
+fault_text (BadField field.Lrn) = codes "{\"error\":\"bad-field\",\"field\":\"lrn\"}"
+fault_text (BadField field.Departure) = codes "{\"error\":\"bad-field\",\"field\":\"departure\"}"
+fault_text (BadField field.Destination) = codes "{\"error\":\"bad-field\",\"field\":\"destination\"}"
+fault_text (BadField field.Lines) = codes "{\"error\":\"bad-field\",\"field\":\"lines\"}"
+fault_text NoMemory = codes "{\"error\":\"no-memory\"}"
 
 -- the statuses of replies (RFC 9110, section 15)
 abbrev pub refusal_status : Refusal → ℕ

@@ -4,8 +4,8 @@
 ghost use Rattle.std.specs.Prelude.{◌≡◌, IfOk, string_bytes};
 ghost use Rattle.serde_json.specs.Written.{compact_text};
 ghost use Rattle.td_acts.specs.Names.{refusal_name};
-ghost use Rattle.td_acts.specs.declared.said.Said.TheVariants.{Answered};
-ghost use Rattle.td_answers.specs.Answers.{answer_body, answer_data, error_data, fault_data, fault_reply, fault_status, refusal_status, said_body, said_data, said_reply, said_status};
+ghost use Rattle.td_acts.specs.declared.said.Said.TheVariants.{Answered, Refused};
+ghost use Rattle.td_answers.specs.Answers.{answer_body, answer_data, error_data, fault_body, fault_data, fault_reply, fault_status, fault_text, refusal_body, refusal_status, said_body, said_data, said_reply, said_status};
 
 use crate::json::{Json, ToJson};
 use crate::objects::{guarantee_is_told_in, movement_is_told_in, write_guarantee};
@@ -154,6 +154,16 @@ pub fn fault_bytes(alloc: Global, fault: &WebFault, close: bool) -> Result<Vec<u
     let body = body_of(alloc, fault)?;
     json_reply(alloc, fault_status_of(fault), fault.allow(), close, &body)
 }
+
+/// The body of a refusal is these very bytes.
+pub fn refusal_is_told_in(refusal: Refusal)
+    ensures { said_body (Refused refusal) ≡ refusal_body refusal }
+{}
+
+/// The body that tells why a request can't be read is these very bytes.
+pub fn fault_is_told_in(fault: WebFault)
+    ensures { fault_body fault ≡ fault_text fault }
+{}
 
 /// The body of an answer is these very bytes: nothing in it is escaped.
 pub fn answer_is_told_in(answer: &Answer)
