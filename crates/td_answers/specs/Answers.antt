@@ -1,5 +1,5 @@
 -- The JSON of what the desk says, and the status of it. Keys stand in ascending order of bytes, and texts have no space between the parts.
-use Rattle.std.specs.Prelude.{ℕ, Bool, List, ◌++◌, codes, decimal, None}
+use Rattle.std.specs.Prelude.{ℕ, Bool, true, List, ◌++◌, codes, decimal, None}
 use Rattle.serde_json.specs.Data.{Data, number, unsigned, string, object, member, no_members}
 use Rattle.serde_json.specs.Written.{compact_text}
 use Rattle.td_base.specs.Holder.{holder_text}
@@ -152,9 +152,20 @@ fault_status BadBody = 400
 fault_status (BadField field) = 400
 fault_status NoMemory = 503
 
+-- whether the stream stops after a reply that tells why a request can't be read: always, where memory is missing
+abbrev pub stops_after : WebFault → Bool → Bool
+stops_after NoRoute close = close
+stops_after (NoMethod allow) close = close
+stops_after BadHolder close = close
+stops_after (BadMrn reason) close = close
+stops_after (BadGrn reason) close = close
+stops_after BadBody close = close
+stops_after (BadField field) close = close
+stops_after NoMemory close = true
+
 -- whole replies; the stream stops after one with `close`
 unfoldable pub said_reply : Said → Bool → List ℕ
 said_reply said close = reply_text (said_status said) None close (said_body said)
 
 unfoldable pub fault_reply : WebFault → Bool → List ℕ
-fault_reply fault close = reply_text (fault_status fault) (fault_allow fault) close (fault_body fault)
+fault_reply fault close = reply_text (fault_status fault) (fault_allow fault) (stops_after fault close) (fault_body fault)

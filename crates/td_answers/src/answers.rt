@@ -5,7 +5,9 @@ ghost use Rattle.std.specs.Prelude.{◌≡◌, IfOk, string_bytes};
 ghost use Rattle.serde_json.specs.Written.{compact_text};
 ghost use Rattle.td_acts.specs.Names.{refusal_name};
 ghost use Rattle.td_acts.specs.declared.said.Said.TheVariants.{Answered, Refused};
-ghost use Rattle.td_answers.specs.Answers.{answer_body, answer_data, error_data, fault_body, fault_data, fault_reply, fault_status, fault_text, refusal_body, refusal_status, said_body, said_data, said_reply, said_status};
+ghost use Rattle.td_answers.specs.Answers.{answer_body, answer_data, error_data, fault_body, fault_data, fault_reply, fault_status, fault_text, refusal_body, refusal_status, said_body, said_data, said_reply, said_status, stops_after};
+ghost use Rattle.td_routes.specs.declared.fault.WebFault.TheVariants.{NoMemory};
+ghost use Rattle.td_wire.specs.ReplyText.{no_memory_reply};
 
 use crate::json::{Json, ToJson};
 use crate::objects::{guarantee_is_told_in, movement_is_told_in, write_guarantee};
@@ -147,11 +149,24 @@ pub fn reply_bytes(alloc: Global, said: &Said, close: bool) -> Result<Vec<u8>, A
     json_reply(alloc, status_of(said), None, close, &body)
 }
 
-/// The whole reply to a request that can't be read. `close` tells that the stream stops after it.
+// Whether the stream stops after the reply.
+fn stops_after(fault: &WebFault, close: bool) -> bool
+    ensures { result ≡ stops_after fault.now close }
+{
+    match fault {
+        WebFault::NoMemory => true,
+        _ => close,
+    }
+}
+
+/// The whole reply to a request that can't be read. `close` tells that the stream stops after it; where memory is missing it always does,
+/// and the reply is the fixed one.
 pub fn fault_bytes(alloc: Global, fault: &WebFault, close: bool) -> Result<Vec<u8>, AllocError>
-    ensures { IfOk result (λ v. v.items ≡ fault_reply fault.now close) }
+    ensures told { IfOk result (λ v. v.items ≡ fault_reply fault.now close) }
+    ensures no_memory { fault.now ≡ NoMemory → IfOk result (λ v. v.items ≡ no_memory_reply) }
 {
     let body = body_of(alloc, fault)?;
+    let close = stops_after(fault, close);
     json_reply(alloc, fault_status_of(fault), fault.allow(), close, &body)
 }
 
