@@ -100,7 +100,7 @@ abbrev Serves : List ℕ → (ℕ → Book) → ℕ → List Exchange → Type 0
 Serves country books before es is_live new = (c : Content) × IsServed country books before es c × (is_live → new ≡ c)
 
 -- no fixed reply is made
-fixed_reply : (f : Fault) (close : Bool) (reply : Reply) → IsReplyTo (outcome.Failed f) close reply → is_made reply ≡ false
+pub fixed_reply : (f : Fault) (close : Bool) (reply : Reply) → IsReplyTo (outcome.Failed f) close reply → is_made reply ≡ false
 fixed_reply fault.NoMemory close reply is = ap is_made is
 fixed_reply fault.Store close reply is = ap is_made is
 
@@ -109,7 +109,7 @@ same_fault : (why other : WebFault) (asked : Result Command WebFault) → asked 
 same_fault why other asked is bad = cc
 
 -- the empty run
-no_run : (country : List ℕ) (books : ℕ → Book) (rows : Content) → rows.country ≡ country → IsSound rows → IsTied rows books → IsRun country books [] [] rows
+pub no_run : (country : List ℕ) (books : ℕ → Book) (rows : Content) → rows.country ≡ country → IsSound rows → IsTied rows books → IsRun country books [] [] rows
 no_run country books rows same sound tied = record {
   one_each = refl;
   answers = λ H. refl;

@@ -11,7 +11,7 @@ use Rattle.td_routes.specs.Faults.{allowed_text}
 use Rattle.td_wire.specs.Request.{Asked}
 use Rattle.td_wire.specs.ReplyText.{head_text, reply_bytes, is_made}
 use Rattle.td_routes.specs.Routes.{methods_of, path_of}
-use Rattle.td_http.specs.Serving.{IsHandled, IsServed}
+use Rattle.td_http.specs.Serving.{IsHandled, IsServed, IsServedAlone}
 use Rattle.td_wire.specs.Stream.{Exchange}
 
 -- the desk behind a service
@@ -37,3 +37,9 @@ abbrev pub IsPrivate : {D : Type 0} → (D → Content) → (D → Type 0) → (
 IsPrivate content is_clean is_live old new exchanges =
     is_clean (desk_of new) → is_live (desk_of old) → IsSound (content (desk_of old)) → (books : ℕ → Book) → IsTied (content (desk_of old)) books
     → (c : Content) × IsServed (content (desk_of old)).country books 0 exchanges c × (is_live (desk_of new) → content (desk_of new) ≡ c)
+
+-- The same of one request alone, from books to the books after it.
+abbrev pub IsPrivateAlone : {D : Type 0} → (D → Content) → (D → Type 0) → (D → Type 0) → Service D → ℤ → Asked → Reply → Service D → Type 0
+IsPrivateAlone content is_clean is_live old at asked reply new =
+    is_clean (desk_of new) → is_live (desk_of old) → IsSound (content (desk_of old)) → (books : ℕ → Book) → IsTied (content (desk_of old)) books
+    → (c : Content) × IsServedAlone (content (desk_of old)).country books at asked reply c × (is_live (desk_of new) → content (desk_of new) ≡ c)

@@ -97,3 +97,10 @@ pub record IsServed (country : List ℕ) (books : ℕ → Book) (before : ℕ) (
   pub country_stays : new.country ≡ country
   pub sound : IsSound new
   pub tied : IsTied new (λ H. machine_book H (books H) (commands_of (heard_in country H before es)))
+
+-- The same of one request alone. It is nobody's where it can't be read or its reply is a fixed one: then each book stays.
+pub record IsServedAlone (country : List ℕ) (books : ℕ → Book) (at : ℤ) (asked : Asked) (reply : Reply) (new : Content) : Type 0 where
+  pub answers : (H : ℕ) → told_by country H (command_in asked) (reply_bytes reply) (is_made reply) ≡ machine_replies H (books H) (heard_by country H (command_in asked) at asked.close (is_made reply))
+  pub country_stays : new.country ≡ country
+  pub sound : IsSound new
+  pub tied : IsTied new (λ H. machine_book H (books H) (commands_of (heard_by country H (command_in asked) at asked.close (is_made reply))))
