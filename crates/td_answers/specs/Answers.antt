@@ -1,5 +1,5 @@
 -- The JSON of what the desk says, and the status of it. Keys stand in ascending order of bytes, and texts have no space between the parts.
-use Rattle.std.specs.Prelude.{ℕ, Bool, List, ◌++◌, codes, decimal, None}
+use Rattle.std.specs.Prelude.{ℕ, Bool, true, List, ◌++◌, codes, decimal, None}
 use Rattle.serde_json.specs.Data.{Data, number, unsigned, string, object, member, no_members}
 use Rattle.serde_json.specs.Written.{compact_text}
 use Rattle.td_base.specs.Holder.{holder_text}
@@ -13,6 +13,8 @@ use Rattle.td_acts.specs.declared.said.Said.TheVariants.{Answered, Refused}
 use Rattle.td_routes.specs.Faults.{fault_allow, fault_name, field_name, reason_text}
 use Rattle.td_answers.specs.Objects.{guarantee_body, guarantee_data, movement_body, movement_data}
 use Rattle.td_wire.specs.ReplyText.{reply_text}
+use Rattle.td_base.specs.declared.references.RefFault.TheVariants.{Length, Form, CheckDigit}
+use Rattle.td_routes.specs.declared.fault.Field.TheVariants as field
 use Rattle.td_routes.specs.declared.fault.WebFault.{WebFault}
 use Rattle.td_routes.specs.declared.fault.WebFault.TheVariants.{NoRoute, NoMethod, BadHolder, BadMrn, BadGrn, BadBody, BadField, NoMemory}
 
@@ -88,6 +90,41 @@ answer_body (Ie028 lrn mrn) = codes "{\"lrn\":\"" ++ (lrn ++ (codes "\",\"messag
 answer_body (Movement m) = movement_body m
 answer_body (Guarantee g used) = guarantee_body g used
 
+-- the bytes of a refusal's body
+abbrev pub refusal_body : Refusal → List ℕ
+refusal_body ClockRange = codes "{\"error\":\"clock-range\"}"
+refusal_body NoHolder = codes "{\"error\":\"no-holder\"}"
+refusal_body HolderKnown = codes "{\"error\":\"holder-known\"}"
+refusal_body ClockBack = codes "{\"error\":\"clock-back\"}"
+refusal_body NoMovement = codes "{\"error\":\"no-movement\"}"
+refusal_body NoGuarantee = codes "{\"error\":\"no-guarantee\"}"
+refusal_body BadCode = codes "{\"error\":\"bad-code\"}"
+refusal_body GuaranteeEnded = codes "{\"error\":\"guarantee-ended\"}"
+refusal_body LrnUsed = codes "{\"error\":\"lrn-used\"}"
+refusal_body SerialsSpent = codes "{\"error\":\"serials-spent\"}"
+
+-- the bytes of the body that tells why a request can't be read
+abbrev pub fault_text : WebFault → List ℕ
+fault_text NoRoute = codes "{\"error\":\"no-route\"}"
+fault_text (NoMethod allow) = codes "{\"error\":\"no-method\"}"
+fault_text BadHolder = codes "{\"error\":\"bad-holder\"}"
+fault_text (BadMrn Length) = codes "{\"error\":\"bad-mrn\",\"reason\":\"length\"}"
+fault_text (BadMrn Form) = codes "{\"error\":\"bad-mrn\",\"reason\":\"form\"}"
+fault_text (BadMrn CheckDigit) = codes "{\"error\":\"bad-mrn\",\"reason\":\"check-digit\"}"
+fault_text (BadGrn Length) = codes "{\"error\":\"bad-grn\",\"reason\":\"length\"}"
+fault_text (BadGrn Form) = codes "{\"error\":\"bad-grn\",\"reason\":\"form\"}"
+fault_text (BadGrn CheckDigit) = codes "{\"error\":\"bad-grn\",\"reason\":\"check-digit\"}"
+fault_text BadBody = codes "{\"error\":\"bad-body\"}"
+fault_text (BadField field.Eori) = codes "{\"error\":\"bad-field\",\"field\":\"eori\"}"
+fault_text (BadField field.Reference) = codes "{\"error\":\"bad-field\",\"field\":\"reference\"}"
+fault_text (BadField field.Cover) = codes "{\"error\":\"bad-field\",\"field\":\"cover\"}"
+fault_text (BadField field.Code) = codes "{\"error\":\"bad-field\",\"field\":\"code\"}"
+fault_text (BadField field.Lrn) = codes "{\"error\":\"bad-field\",\"field\":\"lrn\"}"
+fault_text (BadField field.Departure) = codes "{\"error\":\"bad-field\",\"field\":\"departure\"}"
+fault_text (BadField field.Destination) = codes "{\"error\":\"bad-field\",\"field\":\"destination\"}"
+fault_text (BadField field.Lines) = codes "{\"error\":\"bad-field\",\"field\":\"lines\"}"
+fault_text NoMemory = codes "{\"error\":\"no-memory\"}"
+
 -- the statuses of replies (RFC 9110, section 15)
 abbrev pub refusal_status : Refusal → ℕ
 refusal_status ClockRange = 503
@@ -115,9 +152,20 @@ fault_status BadBody = 400
 fault_status (BadField field) = 400
 fault_status NoMemory = 503
 
+-- whether the stream stops after a reply that tells why a request can't be read: always, where memory is missing
+abbrev pub stops_after : WebFault → Bool → Bool
+stops_after NoRoute close = close
+stops_after (NoMethod allow) close = close
+stops_after BadHolder close = close
+stops_after (BadMrn reason) close = close
+stops_after (BadGrn reason) close = close
+stops_after BadBody close = close
+stops_after (BadField field) close = close
+stops_after NoMemory close = true
+
 -- whole replies; the stream stops after one with `close`
 unfoldable pub said_reply : Said → Bool → List ℕ
 said_reply said close = reply_text (said_status said) None close (said_body said)
 
 unfoldable pub fault_reply : WebFault → Bool → List ℕ
-fault_reply fault close = reply_text (fault_status fault) (fault_allow fault) close (fault_body fault)
+fault_reply fault close = reply_text (fault_status fault) (fault_allow fault) (stops_after fault close) (fault_body fault)

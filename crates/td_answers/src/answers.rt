@@ -4,8 +4,10 @@
 ghost use Rattle.std.specs.Prelude.{◌≡◌, IfOk, string_bytes};
 ghost use Rattle.serde_json.specs.Written.{compact_text};
 ghost use Rattle.td_acts.specs.Names.{refusal_name};
-ghost use Rattle.td_acts.specs.declared.said.Said.TheVariants.{Answered};
-ghost use Rattle.td_answers.specs.Answers.{answer_body, answer_data, error_data, fault_data, fault_reply, fault_status, refusal_status, said_body, said_data, said_reply, said_status};
+ghost use Rattle.td_acts.specs.declared.said.Said.TheVariants.{Answered, Refused};
+ghost use Rattle.td_answers.specs.Answers.{answer_body, answer_data, error_data, fault_body, fault_data, fault_reply, fault_status, fault_text, refusal_body, refusal_status, said_body, said_data, said_reply, said_status, stops_after};
+ghost use Rattle.td_routes.specs.declared.fault.WebFault.TheVariants.{NoMemory};
+ghost use Rattle.td_wire.specs.ReplyText.{no_memory_reply};
 
 use crate::json::{Json, ToJson};
 use crate::objects::{guarantee_is_told_in, movement_is_told_in, write_guarantee};
@@ -147,13 +149,36 @@ pub fn reply_bytes(alloc: Global, said: &Said, close: bool) -> Result<Vec<u8>, A
     json_reply(alloc, status_of(said), None, close, &body)
 }
 
-/// The whole reply to a request that can't be read. `close` tells that the stream stops after it.
+// Whether the stream stops after the reply.
+fn stops_after(fault: &WebFault, close: bool) -> bool
+    ensures { result ≡ stops_after fault.now close }
+{
+    match fault {
+        WebFault::NoMemory => true,
+        _ => close,
+    }
+}
+
+/// The whole reply to a request that can't be read. `close` tells that the stream stops after it; where memory is missing it always does,
+/// and the reply is the fixed one.
 pub fn fault_bytes(alloc: Global, fault: &WebFault, close: bool) -> Result<Vec<u8>, AllocError>
-    ensures { IfOk result (λ v. v.items ≡ fault_reply fault.now close) }
+    ensures told { IfOk result (λ v. v.items ≡ fault_reply fault.now close) }
+    ensures no_memory { fault.now ≡ NoMemory → IfOk result (λ v. v.items ≡ no_memory_reply) }
 {
     let body = body_of(alloc, fault)?;
+    let close = stops_after(fault, close);
     json_reply(alloc, fault_status_of(fault), fault.allow(), close, &body)
 }
+
+/// The body of a refusal is these very bytes.
+pub fn refusal_is_told_in(refusal: Refusal)
+    ensures { said_body (Refused refusal) ≡ refusal_body refusal }
+{}
+
+/// The body that tells why a request can't be read is these very bytes.
+pub fn fault_is_told_in(fault: WebFault)
+    ensures { fault_body fault ≡ fault_text fault }
+{}
 
 /// The body of an answer is these very bytes: nothing in it is escaped.
 pub fn answer_is_told_in(answer: &Answer)

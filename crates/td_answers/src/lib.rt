@@ -5,7 +5,9 @@ mod answers;
 mod json;
 mod objects;
 
-pub use answers::{answer_is_told_in, fault_bytes, reply_bytes};
+pub use answers::{
+    answer_is_told_in, fault_bytes, fault_is_told_in, refusal_is_told_in, reply_bytes,
+};
 
 #[cfg(test)]
 mod tests;

@@ -2,7 +2,7 @@
 mod replies;
 mod views;
 
-use crate::{answer_is_told_in, fault_bytes, reply_bytes};
+use crate::{answer_is_told_in, fault_bytes, fault_is_told_in, refusal_is_told_in, reply_bytes};
 use std::alloc::Global;
 use std::process::Abort;
 use std::test::Fail;
@@ -11,8 +11,9 @@ use td_routes::WebFault;
 
 // This is the whole reply to what is said. `close` tells that the stream stops after it.
 fn says(rt: &impl Abort, alloc: Global, said: Said, close: bool, reply: &str) -> Result<(), Fail> {
-    if let Said::Answered(answer) = &said {
-        answer_is_told_in(answer);
+    match &said {
+        Said::Answered(answer) => answer_is_told_in(answer),
+        Said::Refused(refusal) => refusal_is_told_in(*refusal),
     }
     let told = reply_bytes(alloc, &said, close)?;
     assert!(rt; told.as_slice() == reply.as_bytes());
@@ -21,6 +22,7 @@ fn says(rt: &impl Abort, alloc: Global, said: Said, close: bool, reply: &str) ->
 
 // This is the whole reply to the fault.
 fn turns_away(rt: &impl Abort, alloc: Global, fault: WebFault, reply: &str) -> Result<(), Fail> {
+    fault_is_told_in(fault);
     let told = fault_bytes(alloc, &fault, false)?;
     assert!(rt; told.as_slice() == reply.as_bytes());
     Ok(())

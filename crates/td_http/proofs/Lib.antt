@@ -1,3 +1,4 @@
 mod Handling
 mod Served
 mod Streamed
+mod Alone

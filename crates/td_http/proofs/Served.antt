@@ -100,7 +100,7 @@ abbrev Serves : List ℕ → (ℕ → Book) → ℕ → List Exchange → Type 0
 Serves country books before es is_live new = (c : Content) × IsServed country books before es c × (is_live → new ≡ c)
 
 -- no fixed reply is made
-fixed_reply : (f : Fault) (close : Bool) (reply : Reply) → IsReplyTo (outcome.Failed f) close reply → is_made reply ≡ false
+pub fixed_reply : (f : Fault) (close : Bool) (reply : Reply) → IsReplyTo (outcome.Failed f) close reply → is_made reply ≡ false
 fixed_reply fault.NoMemory close reply is = ap is_made is
 fixed_reply fault.Store close reply is = ap is_made is
 
@@ -109,7 +109,7 @@ same_fault : (why other : WebFault) (asked : Result Command WebFault) → asked 
 same_fault why other asked is bad = cc
 
 -- the empty run
-no_run : (country : List ℕ) (books : ℕ → Book) (rows : Content) → rows.country ≡ country → IsSound rows → IsTied rows books → IsRun country books [] [] rows
+pub no_run : (country : List ℕ) (books : ℕ → Book) (rows : Content) → rows.country ≡ country → IsSound rows → IsTied rows books → IsRun country books [] [] rows
 no_run country books rows same sound tied = record {
   one_each = refl;
   answers = λ H. refl;
@@ -146,26 +146,26 @@ module _ (country : List ℕ) (books : ℕ → Book) (before : ℕ) (e : Exchang
       (after.0, served_same country books before e es after.0 (λ H. rw is refl) (λ H. rw is refl) (λ other bad. subst (λ (f : WebFault). IsFaultReply f (question before e.wire).close e.reply) (same_fault why other (command_in (question before e.wire)) is bad) handled.1) after.1, after.2)
 
 -- a chain that ends clean was clean all along
-chain_clean : {C S : Type 0} (ticks : C → ℤ → C → Type 0) (content : S → Content) (is_clean is_live : S → Type 0) (has_store : Type 0) (es : List Exchange) (before : ℕ) (old new : C × S)
-    → Chain ticks (IsHandled content is_clean is_live has_store) before old es new → is_clean new.1 → is_clean old.1
-chain_clean {C} {S} ticks content is_clean is_live has_store [] before old new chain clean = subst (λ (x : C × S). is_clean x.1) chain clean
-chain_clean ticks content is_clean is_live has_store (e ∷ es) before old new chain clean =
-    chain.3.clean (chain_clean ticks content is_clean is_live has_store es (before + 1) (chain.0, chain.1) new chain.4 clean)
+chain_clean : {C S D : Type 0} (ticks : C → ℤ → C → Type 0) (desk : S → D) (content : D → Content) (is_clean is_live : D → Type 0) (has_store : Type 0) (es : List Exchange) (before : ℕ) (old new : C × S)
+    → Chain ticks (IsHandled desk content is_clean is_live has_store) before old es new → is_clean (desk new.1) → is_clean (desk old.1)
+chain_clean {C} {S} ticks desk content is_clean is_live has_store [] before old new chain clean = subst (λ (x : C × S). is_clean (desk x.1)) chain clean
+chain_clean ticks desk content is_clean is_live has_store (e ∷ es) before old new chain clean =
+    chain.3.clean (chain_clean ticks desk content is_clean is_live has_store es (before + 1) (chain.0, chain.1) new chain.4 clean)
 
 -- A chain of handled requests, from a content that is tied to books. The desk may be shut on the way: then rows is the content up to that.
-pub chain_served : {C S : Type 0} (ticks : C → ℤ → C → Type 0) (content : S → Content) (is_clean is_live : S → Type 0) (has_store : Type 0) (country : List ℕ)
+pub chain_served : {C S D : Type 0} (ticks : C → ℤ → C → Type 0) (desk : S → D) (content : D → Content) (is_clean is_live : D → Type 0) (has_store : Type 0) (country : List ℕ)
     (es : List Exchange) (before : ℕ) (books : ℕ → Book) (old new : C × S) (rows : Content)
-    → Chain ticks (IsHandled content is_clean is_live has_store) before old es new → is_clean new.1
-    → rows.country ≡ country → IsSound rows → IsTied rows books → (is_live old.1 → content old.1 ≡ rows)
-    → (c : Content) × IsServed country books before es c × (is_live new.1 → content new.1 ≡ c)
-chain_served {C} {S} ticks content is_clean is_live has_store country [] before books old new rows chain clean same_country sound tied same = (
+    → Chain ticks (IsHandled desk content is_clean is_live has_store) before old es new → is_clean (desk new.1)
+    → rows.country ≡ country → IsSound rows → IsTied rows books → (is_live (desk old.1) → content (desk old.1) ≡ rows)
+    → (c : Content) × IsServed country books before es c × (is_live (desk new.1) → content (desk new.1) ≡ c)
+chain_served {C} {S} ticks desk content is_clean is_live has_store country [] before books old new rows chain clean same_country sound tied same = (
   rows,
   record { answers = λ H. refl; faults = tt; country_stays = same_country; sound = sound; tied = record { each = tied.each; begun = tied.begun } },
-  subst (λ (x : C × S). is_live x.1 → content x.1 ≡ rows) (sym chain) same,
+  subst (λ (x : C × S). is_live (desk x.1) → content (desk x.1) ≡ rows) (sym chain) same,
 )
-chain_served ticks content is_clean is_live has_store country (e ∷ es) before books old new rows chain clean same_country sound tied same =
+chain_served ticks desk content is_clean is_live has_store country (e ∷ es) before books old new rows chain clean same_country sound tied same =
     let mid = chain.1 in
-    let mid_clean = chain_clean ticks content is_clean is_live has_store es (before + 1) (chain.0, mid) new chain.4 clean in
-    by_reading country books before e es (is_live old.1) (is_live mid) (is_live new.1) (content old.1) (content mid) (content new.1) rows same_country sound tied same (chain.3.live mid_clean)
-    (λ books' rows' same_country' sound' tied' same'. chain_served ticks content is_clean is_live has_store country es (before + 1) books' (chain.0, mid) new rows' chain.4 clean same_country' sound' tied' same')
+    let mid_clean = chain_clean ticks desk content is_clean is_live has_store es (before + 1) (chain.0, mid) new chain.4 clean in
+    by_reading country books before e es (is_live (desk old.1)) (is_live (desk mid)) (is_live (desk new.1)) (content (desk old.1)) (content (desk mid)) (content (desk new.1)) rows same_country sound tied same (chain.3.live mid_clean)
+    (λ books' rows' same_country' sound' tied' same'. chain_served ticks desk content is_clean is_live has_store country es (before + 1) books' (chain.0, mid) new rows' chain.4 clean same_country' sound' tied' same')
     (command_in (question before e.wire)) refl (chain.3.handled mid_clean)

@@ -20,6 +20,6 @@ pub stream_private : {C D : Type 0} (ticks : C → ℤ → C → Type 0) (conten
     → IsPrivate content is_clean is_live old new es
 stream_private ticks content is_clean is_live has_store old_clock new_clock old mid new es rest parting chain parted = λ clean live sound books tied.
     let stays = parting_stays mid new rest parting parted in
-    let served = chain_served ticks (λ s. content (desk_of s)) (λ s. is_clean (desk_of s)) (λ s. is_live (desk_of s)) has_store (content (desk_of old)).country es 0 books (old_clock, old) (new_clock, mid) (content (desk_of old))
+    let served = chain_served ticks desk_of content is_clean is_live has_store (content (desk_of old)).country es 0 books (old_clock, old) (new_clock, mid) (content (desk_of old))
     chain (subst is_clean stays clean) refl sound tied (λ _. refl) in
     (served.0, served.1, λ live_new. ap content stays ∙ served.2 (subst is_live stays live_new))

@@ -40,11 +40,13 @@ abbrev pub HandledAs : Type 0 → Type 0 → Content → ℤ → Result Command 
 HandledAs was_live is_live old at (Ok command) close reply new = (o : Outcome) × IsStep was_live is_live old (record { at = at; command = command }) o new × IsReplyTo o close reply
 HandledAs was_live is_live old at (Err why) close reply new = (is_live → new ≡ old) × IsFaultReply why close reply
 
--- The same at a service whose desk has this content, is clean and live so, and may have a store.
-pub record IsHandled {S : Type 0} (content : S → Content) (is_clean is_live : S → Type 0) (has_store : Type 0) (old : S) (at : ℤ) (asked : Asked) (reply : Reply) (new : S) : Type 0 where
-  pub clean : is_clean new → is_clean old
-  pub live : is_clean new → is_live new → is_live old
-  pub handled : is_clean new → HandledAs (is_live old) (is_live new) (content old) at (command_in asked) asked.close reply (content new)
+-- The same at a service whose desk has this content, is clean and live so, and may have a store. What can't be read is told from the request
+-- alone: the desk is the very same after it.
+pub record IsHandled {S D : Type 0} (desk : S → D) (content : D → Content) (is_clean is_live : D → Type 0) (has_store : Type 0) (old : S) (at : ℤ) (asked : Asked) (reply : Reply) (new : S) : Type 0 where
+  pub clean : is_clean (desk new) → is_clean (desk old)
+  pub live : is_clean (desk new) → is_live (desk new) → is_live (desk old)
+  pub handled : is_clean (desk new) → HandledAs (is_live (desk old)) (is_live (desk new)) (content (desk old)) at (command_in asked) asked.close reply (content (desk new))
+  pub unasked : (why : WebFault) → command_in asked ≡ Err why → desk new ≡ desk old
   pub store : reply ≡ Store → has_store
 
 -- a command that a holder's request asked, at its moment, and whether the reply tells that the stream stops
@@ -95,3 +97,10 @@ pub record IsServed (country : List ℕ) (books : ℕ → Book) (before : ℕ) (
   pub country_stays : new.country ≡ country
   pub sound : IsSound new
   pub tied : IsTied new (λ H. machine_book H (books H) (commands_of (heard_in country H before es)))
+
+-- The same of one request alone. It is nobody's where it can't be read or its reply is a fixed one: then each book stays.
+pub record IsServedAlone (country : List ℕ) (books : ℕ → Book) (at : ℤ) (asked : Asked) (reply : Reply) (new : Content) : Type 0 where
+  pub answers : (H : ℕ) → told_by country H (command_in asked) (reply_bytes reply) (is_made reply) ≡ machine_replies H (books H) (heard_by country H (command_in asked) at asked.close (is_made reply))
+  pub country_stays : new.country ≡ country
+  pub sound : IsSound new
+  pub tied : IsTied new (λ H. machine_book H (books H) (commands_of (heard_by country H (command_in asked) at asked.close (is_made reply))))

@@ -6,7 +6,9 @@ mod service;
 
 pub use desk_stream::serve_stream;
 pub use service::Service;
-pub use td_answers::{answer_is_told_in, fault_bytes, reply_bytes};
+pub use td_answers::{
+    answer_is_told_in, fault_bytes, fault_is_told_in, refusal_is_told_in, reply_bytes,
+};
 pub use td_routes::{Allowed, Field, Route, WebFault, read_command, route};
 pub use td_wire::{
     Clock, FramingError, Handler, Next, Reply, Request, StreamEnd, error_body, head_reply,

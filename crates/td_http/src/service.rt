@@ -91,7 +91,7 @@ fn unread(alloc: Global, fault: &WebFault, close: bool) -> Reply
 }
 
 impl<D: Desk + Drop> Service<D> {
-    ghost use Rattle.td_http.specs.Served.{desk_of, IsHandledBy, IsHeadHandledBy};
+    ghost use Rattle.td_http.specs.Served.{desk_of, IsHandledBy, IsHeadHandledBy, IsPrivateAlone};
 
     /// A service of the desk. It takes no memory.
     pub fn new(desk: D) -> Service<D>
@@ -111,8 +111,11 @@ impl<D: Desk + Drop> Service<D> {
     }
 
     /// The reply to a request that comes at that number of seconds since 1970. A fixed reply is of a fault: the request changed nothing.
+    /// A request that can't be read doesn't ask the desk.
     pub fn handle(&mut self, alloc: Global, at: i64, request: &Request) -> Reply
-        ensures { IsHandledBy D.content D.is_clean D.is_live D.has_store self.old at (asked request.now) result self.new }
+        ensures handled { IsHandledBy D.content D.is_clean D.is_live D.has_store self.old at (asked request.now) result self.new }
+        // To each holder it is as if the desk were the holder's alone.
+        ensures alone { IsPrivateAlone D.content D.is_clean D.is_live self.old at (asked request.now) result self.new }
     {
         match read_command_by(alloc, &mut self.routes, request) {
             Ok(command) => reply_to(alloc, &mut self.desk, at, &command, request.close),
@@ -124,7 +127,10 @@ impl<D: Desk + Drop> Service<D> {
     pub fn head(&mut self, alloc: Global, target: &[u8]) -> Reply
         ensures { IsHeadHandledBy self.old target.now result self.new }
     {
-        match self.routes.methods(alloc, path(target)) {
+        let Some(path) = path(target) else {
+            return told_head(alloc, None);
+        };
+        match self.routes.methods(alloc, path) {
             Ok(methods) => told_head(alloc, methods),
             Err(_) => Reply::NoMemory,
         }

@@ -1,5 +1,5 @@
 -- The route of a path by what a router of the table finds.
-use Rattle.std.proofs.Common.{◌≡◌, ◌≢◌, ℕ, List, [], ◌∷◌, map, drop, Option, None, option_map, Result, Ok, Err, refl, ap, ◌∙◌, rules}
+use Rattle.std.proofs.Common.{◌≡◌, ◌≢◌, ℕ, List, [], ◌∷◌, map, drop, Option, None, Some, option_map, Result, Ok, Err, refl, ap, ◌∙◌, rules}
 use Rattle.std.proofs.lemmas.Str.{is_utf8-from_IsUtf8}
 use Rattle.std.specs.Str.{IsUtf8}
 use Rattle.matchit.specs.Rows.{RowsOf}
@@ -10,7 +10,7 @@ use Rattle.td_routes.specs.declared.fault.WebFault.{WebFault}
 use Rattle.td_routes.specs.declared.fault.WebFault.TheVariants.{NoRoute, BadHolder}
 use Rattle.td_routes.specs.declared.table.Place.{Place}
 use Rattle.td_routes.specs.declared.table.Route.{Route}
-use Rattle.td_routes.specs.Routes.{table, filled, found, holder_part, part_at, route_by, route_of, AreTexts, PartsAreTexts, methods_at, methods_of}
+use Rattle.td_routes.specs.Routes.{table, filled, found, holder_part, part_at, route_by, route_of, AreTexts, PartsAreTexts, methods_at, methods_of, before_query, path_of}
 use Rattle.td_routes.proofs.Fitting.{IsBytes}
 use Rattle.td_routes.proofs.PathTexts.{is_utf8_false, parts_are_texts}
 
@@ -52,3 +52,11 @@ pub methods_found : (rows : RowsOf (RouteOf Place)) (path shown : List ℕ) (r :
     → r ≡ option_map (λ row. methods_at row.value) (first rows shown) → r ≡ methods_of path
 unfolding found
 methods_found rows path shown r same text made read = rw (is_utf8-from_IsUtf8 path text) (rw (made, same) at read)
+
+-- a target that isn't text has no path
+pub no_path : (target : List ℕ) → ¬ (IsUtf8 target) → None ≡ path_of target
+no_path target h = rw (is_utf8_false target h) refl
+
+-- the path of a target that is text
+pub path_is : (target : List ℕ) → IsUtf8 target → Some (before_query target) ≡ path_of target
+path_is target text = rw (is_utf8-from_IsUtf8 target text) refl

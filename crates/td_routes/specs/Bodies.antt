@@ -14,7 +14,7 @@ use Rattle.td_routes.specs.Routes.{route_of, path_of}
 use Rattle.td_routes.specs.declared.fault.Field.{Field}
 use Rattle.td_routes.specs.declared.fault.Field.TheVariants.{Eori, Reference, Cover, Code, Lrn, Departure, Destination, Lines}
 use Rattle.td_routes.specs.declared.fault.WebFault.{WebFault}
-use Rattle.td_routes.specs.declared.fault.WebFault.TheVariants.{BadBody, BadField}
+use Rattle.td_routes.specs.declared.fault.WebFault.TheVariants.{BadBody, BadField, NoRoute}
 use Rattle.td_routes.specs.declared.table.Route.{Route}
 use Rattle.td_routes.specs.declared.table.Route.TheVariants.{Register, OpenGuarantee, Ie015, SeeHolder, SeeMovement, SeeGuarantee}
 
@@ -64,6 +64,6 @@ command_at body (SeeHolder holder) = Ok (command.SeeHolder holder)
 command_at body (SeeMovement holder mrn) = Ok (command.SeeMovement holder mrn)
 command_at body (SeeGuarantee holder grn) = Ok (command.SeeGuarantee holder grn)
 
--- the command of a request, or the first fault
+-- the command of a request, or the first fault: a target that isn't text has no route
 abbrev pub command_of : List ℕ → List ℕ → List ℕ → Result Command WebFault
-command_of method target body = route_of method (path_of target) >>= command_at body
+command_of method target body = ok_or (path_of target) NoRoute >>= route_of method >>= command_at body

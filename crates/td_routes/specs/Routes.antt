@@ -28,10 +28,10 @@ abbrev pub table : List (List ℕ × Place)
 table =
     (codes "/office/holders/{h}", place.OfficeHolder)
     ∷ (codes "/office/holders/{h}/guarantees", place.OfficeGuarantees)
-    ∷ (codes "/holders/{h}/movements", place.Movements)
     ∷ (codes "/holders/{h}", place.Holder)
-    ∷ (codes "/holders/{h}/movements/{m}", place.Movement)
     ∷ (codes "/holders/{h}/guarantees/{g}", place.Guarantee)
+    ∷ (codes "/holders/{h}/movements", place.Movements)
+    ∷ (codes "/holders/{h}/movements/{m}", place.Movement)
     ∷ []
 
 -- one path more, read as the router reads it
@@ -124,6 +124,10 @@ abbrev pub PartsAreTexts : Option (RouteOf Place) → List ℕ → Type 0
 PartsAreTexts None path = ⊤
 PartsAreTexts (Some row) path = AreTexts (walk row.pattern row.text path row.names 0 0)
 
--- a target's path: what stands before its first `?`
-abbrev pub path_of : List ℕ → List ℕ
-path_of target = before_first (λ c. c == 63) target
+-- what stands before the first `?` of a target
+abbrev pub before_query : List ℕ → List ℕ
+before_query target = before_first (λ c. c == 63) target
+
+-- a target's path: what stands before its first `?`, where the whole target is text (UTF-8)
+abbrev pub path_of : List ℕ → Option (List ℕ)
+path_of target = if is_utf8 target then Some (before_query target) else None

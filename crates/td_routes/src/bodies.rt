@@ -1,10 +1,10 @@
 //! The command of a request.
-ghost use Rattle.std.specs.Prelude.{◌≡◌, ◌⊎◌, MatchResult, Ok, Err, position, ◌==◌};
+ghost use Rattle.std.specs.Prelude.{◌≡◌, ◌⊎◌, MatchResult, Ok, Err, option_map, position, ◌==◌};
 ghost use Rattle.serde_json.specs.View.{view};
 ghost use Rattle.td_routes.specs.Bodies.{command_of, declaration_of, object_of, opening_of, registration_of, text_field};
 ghost use Rattle.td_routes.specs.Parts.{office_read};
 ghost use Rattle.td_routes.specs.Faults.{OrNoMemory};
-ghost use Rattle.td_routes.specs.Routes.{path_of};
+ghost use Rattle.td_routes.specs.Routes.{before_query, path_of};
 ghost use Rattle.td_routes.specs.declared.fault.WebFault.TheVariants.{NoMemory};
 
 use crate::body_fields::{code_in, cover_in, eori_in, lrn_in, office_in, reference_in};
@@ -37,7 +37,8 @@ pub fn read_command_by(
     ensures { OrNoMemory result
         (command_of request.now.method request.now.target.items request.now.body.items) }
 {
-    match routes.route(alloc, &request.method, path(&request.target))? {
+    let path = path(&request.target).ok_or(WebFault::NoRoute)?;
+    match routes.route(alloc, &request.method, path)? {
         Route::Register { holder } => {
             let body = read_object(alloc, &request.body)?;
             read_registration(holder, &body)
@@ -63,13 +64,23 @@ fn query_at(target: &[u8]) -> Option<usize>
     target.iter().position(|c| *c == b'?')
 }
 
-// A target up to its first `?`.
-pub fn path(target: &[u8]) -> &[u8]
-    ensures { result.now ≡ path_of target.now }
+// What stands before the first `?` of a target.
+fn before_query(target: &[u8]) -> &[u8]
+    ensures { result.now ≡ before_query target.now }
 {
     match query_at(target) {
         Some(end) => &target[..end],
         None => target,
+    }
+}
+
+/// The path of a target: what stands before its first `?`. A target that isn't text (UTF-8) has none, wherever it isn't.
+pub fn path(target: &[u8]) -> Option<&[u8]>
+    ensures { option_map (λ path. path.now) result ≡ path_of target.now }
+{
+    match str::from_utf8(target) {
+        Ok(_) => Some(before_query(target)),
+        Err(_) => None,
     }
 }
 

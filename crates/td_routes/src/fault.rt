@@ -31,7 +31,7 @@ pub enum Field {
 /// Why a request can't be read. The order is that of the tests: the first that fails is told.
 #[derive(Clone, Copy, Debug, PartialEq, Eq)]
 pub enum WebFault {
-    /// The desk has no such path.
+    /// The desk has no such path, or the target isn't text.
     NoRoute,
     /// The path has other methods.
     NoMethod { allow: Allowed },

@@ -1,6 +1,7 @@
 //! The paths of the desk, and the route of a request.
-ghost use Rattle.std.specs.Prelude.{◌≡◌, ◌≢◌, [], IfOk, IfErr, IsSome, MatchResult, OnOk, None, drop, map, option_map};
+ghost use Rattle.std.specs.Prelude.{◌≡◌, ◌≢◌, [], IfOk, IfErr, IsSome, MatchResult, Ok, OnOk, None, drop, map, option_map};
 ghost use Rattle.std.specs.Option.{ForSome};
+ghost use Rattle.std.specs.Str.{IsUtf8};
 ghost use Rattle.matchit.specs.Seek.{first};
 ghost use Rattle.td_routes.specs.Faults.{OrNoMemory};
 ghost use Rattle.td_routes.specs.declared.fault.WebFault.TheVariants.{NoMemory};
@@ -17,10 +18,10 @@ use td_base::{Grn, HolderNo, Mrn};
 const PATHS: [(&str, Place); 6] = [
     ("/office/holders/{h}", Place::OfficeHolder),
     ("/office/holders/{h}/guarantees", Place::OfficeGuarantees),
-    ("/holders/{h}/movements", Place::Movements),
     ("/holders/{h}", Place::Holder),
-    ("/holders/{h}/movements/{m}", Place::Movement),
     ("/holders/{h}/guarantees/{g}", Place::Guarantee),
+    ("/holders/{h}/movements", Place::Movements),
+    ("/holders/{h}/movements/{m}", Place::Movement),
 ];
 
 // A router with these paths. They are of good form and don't conflict, so it only fails for want of memory.
@@ -192,7 +193,11 @@ impl Routes {
 impl Routes {
     /// The methods of a path: `None` where the desk has no such path. Want of memory is `NoMemory`.
     pub fn methods(&mut self, alloc: Global, path: &[u8]) -> Result<Option<Allowed>, WebFault>
-        ensures { MatchResult result (λ methods. methods ≡ methods_of path.now) (λ e. e ≡ NoMemory) }
+        ensures methods { MatchResult result (λ methods. methods ≡ methods_of path.now) (λ e. e ≡ NoMemory) }
+        // Once the router is made it stays, and no memory is needed. It is made for any path that is text.
+        ensures ready { IsSome self.old.router → result ≡ Ok (methods_of path.now) }
+        ensures kept { IsSome self.old.router → IsSome self.new.router }
+        ensures made { OnOk result (IsUtf8 path.now → IsSome self.new.router) }
     {
         let Ok(path) = str::from_utf8(path) else {
             return Ok(None);

@@ -367,6 +367,8 @@ fn fault_of(
 fn tells_what_is_no_text(rt: HostRuntime) -> Result<(), Fail> {
     let target = fault_of(rt.alloc(), "GET", b"/holders/00000\xff", b"")?;
     assert!(rt; target == Some(WebFault::NoRoute));
+    let query = fault_of(rt.alloc(), "GET", b"/holders/000001?\xff", b"")?;
+    assert!(rt; query == Some(WebFault::NoRoute));
     let body = fault_of(
         rt.alloc(),
         "PUT",
