@@ -1,5 +1,5 @@
 -- One stream of requests on a new desk.
-use Rattle.std.specs.Prelude.{◌≡◌, ℕ, ℤ, List, Option}
+use Rattle.std.specs.Prelude.{◌≡◌, ℕ, ℤ, List, Option, None, Some}
 use Rattle.td_base.specs.declared.counted.Counted.{Counted}
 use Rattle.td_acts.specs.Account.{empty_account}
 use Rattle.td_acts.specs.Book.{fresh_book}
@@ -25,3 +25,22 @@ pub record IsPiped {R W C : Type 0} (remaining : R → Option (List ℕ)) (conte
       (record { reader = reader; writer = writer; clock = clock; handler = opened })
       (record { reader = reader_left; writer = writer_left; clock = clock_left; handler = left }) end
   pub private : IsServed country (λ H. fresh_book (empty_account country)) 0 served.run.exchanges (rows_in (desk_of left))
+
+-- What a job leaves whose stream ended so: a stream that was served, or, where there was no memory for the desk, both sides as they were.
+abbrev pub PipesAs : {R W C : Type 0} → (R → Option (List ℕ)) → (W → Option (List ℕ)) → (C → ℤ → C → Type 0) → List ℕ
+    → Counted R → Counted R → Counted W → Counted W → C → Option StreamEnd → Type 0
+PipesAs remaining contents ticks country reader reader_left writer writer_left clock (Some end) =
+    IsPiped remaining contents ticks country reader reader_left writer writer_left clock end
+PipesAs remaining contents ticks country reader reader_left writer writer_left clock None = (reader_left ≡ reader) × (writer_left ≡ writer)
+
+-- The moments of a job's requests: the one of the job, or, where it has none, any that the machine's clock shows. What the clock itself
+-- is in between is left out.
+abbrev pub IsMoment : Option ℤ → Unit {0} → ℤ → Unit {0} → Type 0
+IsMoment (Some at) old now new = now ≡ at
+IsMoment None old now new = Unit {0}
+
+-- what a job of this country leaves, at this moment or by the machine's clock
+abbrev pub IsDone : {R W : Type 0} → (R → Option (List ℕ)) → (W → Option (List ℕ)) → List ℕ → Option ℤ
+    → Counted R → Counted R → Counted W → Counted W → Option StreamEnd → Type 0
+IsDone remaining contents country at reader reader_left writer writer_left end =
+    PipesAs {C = Unit {0}} remaining contents (IsMoment at) country reader reader_left writer writer_left tt end

@@ -1,8 +1,9 @@
 //! The jobs of the program.
-ghost use Rattle.std.specs.Prelude.{◌≡◌, ◌⊎◌, codes, Option, IfSome};
+ghost use Rattle.std.specs.Prelude.{◌≡◌, ◌≢◌, ◌⊎◌, ℕ, ℤ, codes, List, Option};
+ghost use Rattle.std.specs.IoError.{error_kind};
 ghost use Rattle.td_cli.specs.declared.words.NoJob.{NoJob};
 ghost use Rattle.td_wire.specs.declared.stream.StreamEnd.{StreamEnd};
-ghost use Rattle.td_cli.specs.Piped.{IsPiped};
+ghost use Rattle.td_cli.specs.Piped.{PipesAs, IsDone};
 ghost use Rattle.td_cli.specs.Statuses.{status_of_end, line_of_end, IsTold, IsAnswered};
 
 use crate::clock::{FixedClock, MachineClock};
@@ -22,7 +23,7 @@ const FAULT: u8 = 1;
 const WRONG_WORDS: u8 = 2;
 
 /// Does what the words ask for, and gives the program's status. The first word is the program's name; replies go to `out`, and the
-/// text of wrong words, or one line for a fault, to `errors`. A text that can't be written is dropped.
+/// text of wrong words, or one line for a fault, to `errors`. A text that can't be written is dropped. The input is read by a job alone.
 pub fn perform<R: Read, W: Write, E: Write>(
     rt: &(impl AllocGlobal + std::rt::Clock),
     words: &[String],
@@ -30,29 +31,34 @@ pub fn perform<R: Read, W: Write, E: Write>(
     out: &mut Counted<W>,
     errors: &mut Counted<E>,
 ) -> u8
-    ensures { ((end : Option StreamEnd) × (result ≡ status_of_end end) × IsTold E.contents errors.old errors.new (line_of_end end))
-        ⊎ ((no_job : NoJob) × IsAnswered W.contents E.contents out.old out.new errors.old errors.new no_job result) }
+    ensures { ((country : List ℕ) × (at : Option ℤ) × (end : Option StreamEnd) × IsDone R.remaining W.contents country at input.old input.new out.old out.new end
+        × (result ≡ status_of_end end) × IsTold E.contents errors.old errors.new (line_of_end end))
+        ⊎ ((no_job : NoJob) × (input.new ≡ input.old) × IsAnswered W.contents E.contents out.old out.new errors.old errors.new no_job result) }
 {
     match read_words(rt.alloc(), words) {
         Ok(job) => {
-            let end = done(rt, &job, input, out);
+            let Job::Pipe { country, at } = &job;
+            let end = done(rt, *country, *at, input, out);
             status_of(end, errors)
         }
         Err(no_job) => told(&no_job, out, errors),
     }
 }
 
-// Does a job, and answers how its stream ended. `None`: there was no memory for the desk.
+// Does a job of this country, at this moment or by the machine's clock, and answers how its stream ended. `None`: there was no memory
+// for the desk.
 fn done<R: Read, W: Write>(
     rt: &(impl AllocGlobal + std::rt::Clock),
-    job: &Job,
+    country: Country,
+    at: Option<i64>,
     input: &mut Counted<R>,
     out: &mut Counted<W>,
-) -> Option<StreamEnd> {
-    let Job::Pipe { country, at } = job;
+) -> Option<StreamEnd>
+    ensures { IsDone R.remaining W.contents country at input.old input.new out.old out.new result }
+{
     match at {
-        Some(at) => pipe(rt.alloc(), *country, FixedClock { at: *at }, input, out),
-        None => pipe(rt.alloc(), *country, MachineClock { rt }, input, out),
+        Some(at) => pipe(rt.alloc(), country, FixedClock { at }, input, out),
+        None => pipe(rt.alloc(), country, MachineClock { rt }, input, out),
     }
 }
 
@@ -76,19 +82,21 @@ fn told<W: Write, E: Write>(no_job: &NoJob, out: &mut Counted<W>, errors: &mut C
     }
 }
 
-/// The status where the words themselves couldn't be read: there was no memory for them, or they aren't text.
+/// The status where the words themselves couldn't be read: there was no memory for them, or they aren't text. The kind of the error
+/// says which.
 pub(crate) fn unread_words<E: Write>(error: &io::Error, errors: &mut Counted<E>) -> u8
-    ensures { ((result ≡ 1) × IsTold E.contents errors.old errors.new (codes "transit-desk: no-memory\n"))
-        ⊎ ((result ≡ 2) × IsTold E.contents errors.old errors.new (codes "error: the words of the command line aren't UTF-8 text\n")) }
+    ensures { ((error_kind error.now ≡ ErrorKind.OutOfMemory) × (result ≡ 1) × IsTold E.contents errors.old errors.new (codes "transit-desk: no-memory\n"))
+        ⊎ ((error_kind error.now ≢ ErrorKind.OutOfMemory) × (result ≡ 2)
+        × IsTold E.contents errors.old errors.new (codes "error: the words of the command line aren't UTF-8 text\n")) }
 {
-    if error.kind() == ErrorKind::OutOfMemory {
-        return fault(errors, "transit-desk: no-memory\n");
-    }
-    let _told = write_whole(
-        errors,
-        b"error: the words of the command line aren't UTF-8 text\n",
-    );
-    WRONG_WORDS
+    let ErrorKind::OutOfMemory = error.kind() else {
+        let _told = write_whole(
+            errors,
+            b"error: the words of the command line aren't UTF-8 text\n",
+        );
+        return WRONG_WORDS;
+    };
+    fault(errors, "transit-desk: no-memory\n")
 }
 
 // Says a fault, and gives its status.
@@ -108,7 +116,7 @@ fn pipe<R: Read, W: Write, C: Clock + Drop>(
     input: &mut Counted<R>,
     out: &mut Counted<W>,
 ) -> Option<StreamEnd>
-    ensures { IfSome result (λ end. IsPiped R.remaining W.contents C.ticks country input.old input.new out.old out.new clock end) }
+    ensures { PipesAs R.remaining W.contents C.ticks country input.old input.new out.old out.new clock result }
 {
     let Ok(desk) = PlainDesk::new(alloc, country) else {
         return None;

@@ -1,8 +1,8 @@
 //! Guarantees opened, and their references.
 
 use super::exchanges::{
-    Exchange, NO_HOLDER, OPEN, OPENED, OTHER_OPEN, OTHER_OPENED, OTHER_REGISTER, OTHER_SEE,
-    OTHER_SHOWN, assert_replies,
+    A1, A1_LODGED, Exchange, NO_HOLDER, OPEN, OPENED, OTHER_OPEN, OTHER_OPENED, OTHER_REGISTER,
+    OTHER_SEE, OTHER_SHOWN, assert_replies,
 };
 use super::first_requests::{REGISTER, SEE, SHOWN};
 use super::{WORDS, words_at};
@@ -79,26 +79,85 @@ const UZ_A1: &[u8] =
 const UZ_A1_LODGED: &[u8] =
     b"HTTP/1.1 200 OK\r\nContent-Type: application/json\r\nContent-Length: 57\r\n\r\n{\"lrn\":\"A1\",\"message\":\"IE028\",\"mrn\":\"25UZ00000100000018\"}";
 
-// A country, and what is told at a desk of it.
-const DESKS: [(&str, &[Exchange]); 3] = [
+// The same of CH and DE in two years: 33488 and 33490 (CH), 33468 and 33470 (DE), and of the movements 66256, 66258, 66236 and 66238.
+const CH_OPENED_IN_2026: &[u8] =
+    b"HTTP/1.1 200 OK\r\nContent-Type: application/json\r\nContent-Length: 27\r\n\r\n{\"grn\":\"26CH0000010000016\"}";
+
+const CH_A1_IN_2026: &[u8] =
+    b"POST /holders/000001/movements HTTP/1.1\r\nContent-Length: 127\r\n\r\n{\"lrn\":\"A1\",\"departure\":\"CH001251\",\"destination\":\"DE005600\",\"lines\":[{\"grn\":\"26CH0000010000016\",\"code\":\"AB12\",\"cents\":500000}]}";
+
+const CH_A1_LODGED_IN_2026: &[u8] =
+    b"HTTP/1.1 200 OK\r\nContent-Type: application/json\r\nContent-Length: 57\r\n\r\n{\"lrn\":\"A1\",\"message\":\"IE028\",\"mrn\":\"26CH00000100000015\"}";
+
+const DE_OPENED: &[u8] =
+    b"HTTP/1.1 200 OK\r\nContent-Type: application/json\r\nContent-Length: 27\r\n\r\n{\"grn\":\"25DE0000010000016\"}";
+
+const DE_A1: &[u8] =
+    b"POST /holders/000001/movements HTTP/1.1\r\nContent-Length: 127\r\n\r\n{\"lrn\":\"A1\",\"departure\":\"CH001251\",\"destination\":\"DE005600\",\"lines\":[{\"grn\":\"25DE0000010000016\",\"code\":\"AB12\",\"cents\":500000}]}";
+
+const DE_A1_LODGED: &[u8] =
+    b"HTTP/1.1 200 OK\r\nContent-Type: application/json\r\nContent-Length: 57\r\n\r\n{\"lrn\":\"A1\",\"message\":\"IE028\",\"mrn\":\"25DE00000100000015\"}";
+
+const DE_OPENED_IN_2026: &[u8] =
+    b"HTTP/1.1 200 OK\r\nContent-Type: application/json\r\nContent-Length: 27\r\n\r\n{\"grn\":\"26DE0000010000018\"}";
+
+const DE_A1_IN_2026: &[u8] =
+    b"POST /holders/000001/movements HTTP/1.1\r\nContent-Length: 127\r\n\r\n{\"lrn\":\"A1\",\"departure\":\"CH001251\",\"destination\":\"DE005600\",\"lines\":[{\"grn\":\"26DE0000010000018\",\"code\":\"AB12\",\"cents\":500000}]}";
+
+const DE_A1_LODGED_IN_2026: &[u8] =
+    b"HTTP/1.1 200 OK\r\nContent-Type: application/json\r\nContent-Length: 57\r\n\r\n{\"lrn\":\"A1\",\"message\":\"IE028\",\"mrn\":\"26DE00000100000017\"}";
+
+// A country, a moment, and what is told at a desk of the country then: 2025-03-01, 9 o'clock, or the first second of 2026.
+const DESKS: [(&str, &str, &[Exchange]); 7] = [
     (
         "BE",
+        "1740819600",
         &[(REGISTER, SHOWN), (OPEN, BE_OPENED), (BE_A1, BE_A1_LODGED)],
     ),
     (
         "LV",
+        "1740819600",
         &[(REGISTER, SHOWN), (OPEN, LV_OPENED), (LV_A1, LV_A1_LODGED)],
     ),
     (
         "UZ",
+        "1740819600",
         &[(REGISTER, SHOWN), (OPEN, UZ_OPENED), (UZ_A1, UZ_A1_LODGED)],
+    ),
+    (
+        "CH",
+        "1740819600",
+        &[(REGISTER, SHOWN), (OPEN, OPENED), (A1, A1_LODGED)],
+    ),
+    (
+        "CH",
+        "1767225600",
+        &[
+            (REGISTER, SHOWN),
+            (OPEN, CH_OPENED_IN_2026),
+            (CH_A1_IN_2026, CH_A1_LODGED_IN_2026),
+        ],
+    ),
+    (
+        "DE",
+        "1740819600",
+        &[(REGISTER, SHOWN), (OPEN, DE_OPENED), (DE_A1, DE_A1_LODGED)],
+    ),
+    (
+        "DE",
+        "1767225600",
+        &[
+            (REGISTER, SHOWN),
+            (OPEN, DE_OPENED_IN_2026),
+            (DE_A1_IN_2026, DE_A1_LODGED_IN_2026),
+        ],
     ),
 ];
 
 #[test]
-fn desks_of_other_countries_have_their_check_digits(rt: HostRuntime) -> Result<(), Fail> {
-    for (country, exchanges) in &DESKS {
-        assert_replies(&rt, &words_at(country, "1740819600"), exchanges)?;
+fn desks_of_countries_and_years_have_their_check_digits(rt: HostRuntime) -> Result<(), Fail> {
+    for (country, at, exchanges) in &DESKS {
+        assert_replies(&rt, &words_at(country, at), exchanges)?;
     }
     Ok(())
 }
