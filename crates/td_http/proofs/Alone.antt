@@ -4,9 +4,9 @@ use Rattle.std.specs.Prelude.{if◌then◌else◌}
 use Rattle.td_acts.specs.declared.command.Command.{Command}
 use Rattle.td_acts.specs.declared.command.Stamped.{Stamped}
 use Rattle.td_acts.specs.declared.said.Said.{Said}
-use Rattle.td_acts.specs.Book.{Book, account_of, IsBegun}
+use Rattle.td_acts.specs.Book.{Book, account_of}
 use Rattle.td_acts.specs.Commands.{owner_of}
-use Rattle.td_acts.specs.Machine.{verdict, machine_book, machine_says}
+use Rattle.td_acts.specs.Machine.{verdict, machine_book, machine_says, IsGrown}
 use Rattle.td_desk.specs.declared.running.Outcome.{Outcome}
 use Rattle.td_desk.specs.declared.running.Outcome.TheVariants as outcome
 use Rattle.td_desk.specs.Content.{Content}
@@ -52,7 +52,7 @@ module _ (books : ℕ → Book) (at : ℤ) (asked : Asked) (reply : Reply) (was_
     answers = λ H. rw (none_heard H, none_told H) refl;
     country_stays = refl;
     sound = sound;
-    tied = record { each = λ H. rw (none_heard H) (tied.each H); begun = λ H. rw (none_heard H) (tied.begun H) };
+    tied = record { each = λ H. rw (none_heard H) (tied.each H); grown = λ H. rw (none_heard H) (tied.grown H) };
   }
 
   -- it was a command that was carried
@@ -64,7 +64,7 @@ module _ (books : ℕ → Book) (at : ℤ) (asked : Asked) (reply : Reply) (was_
     sound = first.sound;
     tied = record {
       each = λ H. first.tied.each H ∙ ap (account_of H) (books_are H);
-      begun = λ H. subst IsBegun (books_are H) (first.tied.begun H);
+      grown = λ H. subst (λ (b : Book). IsGrown H b) (books_are H) (first.tied.grown H);
     };
   }
     where
@@ -80,7 +80,7 @@ module _ (books : ℕ → Book) (at : ℤ) (asked : Asked) (reply : Reply) (was_
       (old, nobodys (λ H. rw (is, fixed) refl) (λ H. rw (is, fixed) refl), step)
   by_outcome command is (outcome.Said words) step told =
       let run = no_run old.country books old refl sound tied in
-      let first = run_more old.country books [] [] (record { at = at; command = command }) old new run tied.begun (outcome.Said words) (step.2 sound) in
+      let first = run_more old.country books [] [] (record { at = at; command = command }) old new run (outcome.Said words) (step.2 sound) in
       (new, carried command words is told.0 told.1 first, λ live. refl)
 
   by_reading : (r : Result Command WebFault) → command_in asked ≡ r → HandledAs was_live is_live old at r asked.close reply new → Alone

@@ -4,9 +4,9 @@ use Rattle.std.specs.Prelude.{if◌then◌else◌}
 use Rattle.td_acts.specs.declared.command.Command.{Command}
 use Rattle.td_acts.specs.declared.command.Stamped.{Stamped}
 use Rattle.td_acts.specs.declared.said.Said.{Said}
-use Rattle.td_acts.specs.Book.{Book, account_of, IsBegun}
+use Rattle.td_acts.specs.Book.{Book, account_of}
 use Rattle.td_acts.specs.Commands.{owner_of}
-use Rattle.td_acts.specs.Machine.{verdict, book_after, machine_book, machine_says}
+use Rattle.td_acts.specs.Machine.{verdict, book_after, machine_book, machine_says, IsGrown}
 use Rattle.td_desk.specs.declared.fault.Fault.{Fault}
 use Rattle.td_desk.specs.declared.fault.Fault.TheVariants as fault
 use Rattle.td_desk.specs.declared.running.Outcome.{Outcome}
@@ -44,7 +44,7 @@ module _ (country : List ℕ) (books : ℕ → Book) (before : ℕ) (e : Exchang
     sound = served.sound;
     tied = record {
       each = λ H. rw (none_heard H) (served.tied.each H);
-      begun = λ H. rw (none_heard H) (served.tied.begun H);
+      grown = λ H. rw (none_heard H) (served.tied.grown H);
     };
   }
 
@@ -85,7 +85,7 @@ module _ (country : List ℕ) (books : ℕ → Book) (before : ℕ) (e : Exchang
     sound = served.sound;
     tied = record {
       each = λ H. served.tied.each H ∙ ap (account_of H) (books_are H);
-      begun = λ H. subst IsBegun (books_are H) (served.tied.begun H);
+      grown = λ H. subst (λ (b : Book). IsGrown H b) (books_are H) (served.tied.grown H);
     };
   }
     where
@@ -113,9 +113,10 @@ pub no_run : (country : List ℕ) (books : ℕ → Book) (rows : Content) → ro
 no_run country books rows same sound tied = record {
   one_each = refl;
   answers = λ H. refl;
+  nobodys = tt;
   country_stays = same;
   sound = sound;
-  tied = record { each = tied.each; begun = tied.begun };
+  tied = record { each = tied.each; grown = tied.grown };
 }
 
 -- one exchange and those after it, where rest says what those after it give from any books and rows
@@ -135,7 +136,7 @@ module _ (country : List ℕ) (books : ℕ → Book) (before : ℕ) (e : Exchang
       let at_rows = same step.0 in
       let sound_old : IsSound old = subst IsSound (sym at_rows) sound in
       let run = no_run country books old (rw at_rows same_country) sound_old (subst (λ (c : Content). IsTied c books) (sym at_rows) tied) in
-      let first = run_more country books [] [] (record { at = e.at; command = command }) old mid run tied.begun (outcome.Said words) (step.2 sound_old) in
+      let first = run_more country books [] [] (record { at = e.at; command = command }) old mid run (outcome.Said words) (step.2 sound_old) in
       let after = rest (books_after country books before e es command words is reply.0 reply.1 old mid first) mid first.country_stays first.sound first.tied (λ live. refl) in
       (after.0, served_more country books before e es command words is reply.0 reply.1 old mid first after.0 after.1, after.2)
 
@@ -160,7 +161,7 @@ pub chain_served : {C S D : Type 0} (ticks : C → ℤ → C → Type 0) (desk :
     → (c : Content) × IsServed country books before es c × (is_live (desk new.1) → content (desk new.1) ≡ c)
 chain_served {C} {S} ticks desk content is_clean is_live has_store country [] before books old new rows chain clean same_country sound tied same = (
   rows,
-  record { answers = λ H. refl; faults = tt; country_stays = same_country; sound = sound; tied = record { each = tied.each; begun = tied.begun } },
+  record { answers = λ H. refl; faults = tt; country_stays = same_country; sound = sound; tied = record { each = tied.each; grown = tied.grown } },
   subst (λ (x : C × S). is_live (desk x.1) → content (desk x.1) ≡ rows) (sym chain) same,
 )
 chain_served ticks desk content is_clean is_live has_store country (e ∷ es) before books old new rows chain clean same_country sound tied same =
