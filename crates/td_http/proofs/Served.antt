@@ -1,12 +1,14 @@
 -- What a chain of handled requests tells each holder.
-use Rattle.std.proofs.Common.{◌≡◌, ℕ, ℤ, ◌+◌, Bool, true, false, List, [], ◌∷◌, ◌++◌, Result, Ok, Err, refl, sym, ◌∙◌, ap, subst}
+use Rattle.std.proofs.Common.{◌≡◌, ℕ, ℤ, ◌+◌, Bool, true, false, List, [], ◌∷◌, ◌++◌, None, Result, Ok, Err, refl, sym, ◌∙◌, ap, subst}
 use Rattle.std.specs.Prelude.{if◌then◌else◌}
 use Rattle.td_acts.specs.declared.command.Command.{Command}
 use Rattle.td_acts.specs.declared.command.Stamped.{Stamped}
 use Rattle.td_acts.specs.declared.said.Said.{Said}
+use Rattle.td_acts.specs.Account.{empty_account}
 use Rattle.td_acts.specs.Book.{Book, account_of}
 use Rattle.td_acts.specs.Commands.{owner_of}
 use Rattle.td_acts.specs.Machine.{verdict, book_after, machine_book, machine_says, IsGrown}
+use Rattle.td_acts.specs.Table.{said}
 use Rattle.td_desk.specs.declared.fault.Fault.{Fault}
 use Rattle.td_desk.specs.declared.fault.Fault.TheVariants as fault
 use Rattle.td_desk.specs.declared.running.Outcome.{Outcome}
@@ -28,6 +30,13 @@ machine_book-++ : (H : ℕ) (book : Book) (xs ys : List Stamped) → machine_boo
 machine_book-++ H book [] ys = refl
 machine_book-++ H book (x ∷ xs) ys = machine_book-++ H (book_after H book x) xs ys
 
+-- a request is one command, or none
+same_command : (command other : Command) (asked : Result Command WebFault) → asked ≡ Ok command → asked ≡ Ok other → command ≡ other
+same_command command other asked is read = cc
+
+not_both : (command : Command) (why : WebFault) (asked : Result Command WebFault) → asked ≡ Err why → asked ≡ Ok command → ⊥
+not_both command why asked is read = cc
+
 -- the first exchange changes nothing in H's list
 module _ (country : List ℕ) (books : ℕ → Book) (before : ℕ) (e : Exchange) (es : List Exchange) where
   abbrev pub asked : Asked
@@ -36,10 +45,12 @@ module _ (country : List ℕ) (books : ℕ → Book) (before : ℕ) (e : Exchang
   -- an exchange that was a fault, or could not be read, adds nothing to what is served later
   pub served_same : (new : Content) → ((H : ℕ) → heard_by country H (command_in asked) e.at asked.close (is_made e.reply) ≡ []) → ((H : ℕ) → told_by country H (command_in asked) (reply_bytes e.reply) (is_made e.reply) ≡ [])
       → ((why : WebFault) → command_in asked ≡ Err why → IsFaultReply why asked.close e.reply)
+      → ((command : Command) → command_in asked ≡ Ok command → owner_of country command ≡ None → is_made e.reply ≡ true → reply_bytes e.reply ≡ said_reply (said (empty_account country) e.at command) asked.close)
       → IsServed country books (before + 1) es new → IsServed country books before (e ∷ es) new
-  served_same new none_heard none_told told served = record {
+  served_same new none_heard none_told told nobody served = record {
     answers = λ H. rw (none_heard H, none_told H) (served.answers H);
     faults = (told, served.faults);
+    nobodys = (nobody, served.nobodys);
     country_stays = served.country_stays;
     sound = served.sound;
     tied = record {
@@ -81,6 +92,7 @@ module _ (country : List ℕ) (books : ℕ → Book) (before : ℕ) (e : Exchang
   served_more new served = record {
     answers = λ H. rw (is, made) (answers_by H (is_holder H (owner_of country command)) (first.answers H) (served.answers H));
     faults = ((λ why bad. absurd (no_fault why (sym is ∙ bad))), served.faults);
+    nobodys = (λ other read none made. nobody_told other (same_command command other (command_in (question before e.wire)) is read) none, served.nobodys);
     country_stays = served.country_stays;
     sound = served.sound;
     tied = record {
@@ -91,6 +103,11 @@ module _ (country : List ℕ) (books : ℕ → Book) (before : ℕ) (e : Exchang
     where
       no_fault : (why : WebFault) → Ok command ≡ Err why → ⊥
       no_fault why bad = cc
+
+      nobody_told : (other : Command) → command ≡ other → owner_of country other ≡ None → reply_bytes e.reply ≡ said_reply (said (empty_account country) e.at other) (question before e.wire).close
+      nobody_told other same none =
+          subst (λ (c : Command). owner_of country c ≡ None → reply_bytes e.reply ≡ said_reply (said (empty_account country) e.at c) (question before e.wire).close) same
+          (λ own. bytes ∙ ap (λ (w : Said). said_reply w (question before e.wire).close) (first.nobodys.0 own)) none
 
       books_are : (H : ℕ) → machine_book H (books_after H) (commands_of (heard_in country H (before + 1) es)) ≡ machine_book H (books H) (commands_of (heard_in country H before (e ∷ es)))
       books_are H = rw (is, made) (commands_by H (is_holder H (owner_of country command)))
@@ -128,10 +145,13 @@ module _ (country : List ℕ) (books : ℕ → Book) (before : ℕ) (e : Exchang
   by_outcome command is (outcome.Failed f) step reply =
       let after = rest books rows same_country sound tied (λ live. step live ∙ same (back live)) in
       let fixed = fixed_reply f (question before e.wire).close e.reply reply in
-      (after.0, served_same country books before e es after.0 (λ H. rw (is, fixed) refl) (λ H. rw (is, fixed) refl) (λ why bad. absurd (no_fault command why (sym is ∙ bad))) after.1, after.2)
+      (after.0, served_same country books before e es after.0 (λ H. rw (is, fixed) refl) (λ H. rw (is, fixed) refl) (λ why bad. absurd (no_fault command why (sym is ∙ bad))) (λ other read none made. absurd (not_made (sym fixed ∙ made))) after.1, after.2)
     where
       no_fault : (command : Command) (why : WebFault) → Ok command ≡ Err why → ⊥
       no_fault command why bad = cc
+
+      not_made : false ≡ true → ⊥
+      not_made bad = cc
   by_outcome command is (outcome.Said words) step reply =
       let at_rows = same step.0 in
       let sound_old : IsSound old = subst IsSound (sym at_rows) sound in
@@ -144,7 +164,7 @@ module _ (country : List ℕ) (books : ℕ → Book) (before : ℕ) (e : Exchang
   by_reading (Ok command) is handled = by_outcome command is handled.0 handled.1 handled.2
   by_reading (Err why) is handled =
       let after = rest books rows same_country sound tied (λ live. handled.0 live ∙ same (back live)) in
-      (after.0, served_same country books before e es after.0 (λ H. rw is refl) (λ H. rw is refl) (λ other bad. subst (λ (f : WebFault). IsFaultReply f (question before e.wire).close e.reply) (same_fault why other (command_in (question before e.wire)) is bad) handled.1) after.1, after.2)
+      (after.0, served_same country books before e es after.0 (λ H. rw is refl) (λ H. rw is refl) (λ other bad. subst (λ (f : WebFault). IsFaultReply f (question before e.wire).close e.reply) (same_fault why other (command_in (question before e.wire)) is bad) handled.1) (λ command read none made. absurd (not_both command why (command_in (question before e.wire)) is read)) after.1, after.2)
 
 -- a chain that ends clean was clean all along
 chain_clean : {C S D : Type 0} (ticks : C → ℤ → C → Type 0) (desk : S → D) (content : D → Content) (is_clean is_live : D → Type 0) (has_store : Type 0) (es : List Exchange) (before : ℕ) (old new : C × S)
@@ -161,7 +181,7 @@ pub chain_served : {C S D : Type 0} (ticks : C → ℤ → C → Type 0) (desk :
     → (c : Content) × IsServed country books before es c × (is_live (desk new.1) → content (desk new.1) ≡ c)
 chain_served {C} {S} ticks desk content is_clean is_live has_store country [] before books old new rows chain clean same_country sound tied same = (
   rows,
-  record { answers = λ H. refl; faults = tt; country_stays = same_country; sound = sound; tied = record { each = tied.each; grown = tied.grown } },
+  record { answers = λ H. refl; faults = tt; nobodys = tt; country_stays = same_country; sound = sound; tied = record { each = tied.each; grown = tied.grown } },
   subst (λ (x : C × S). is_live (desk x.1) → content (desk x.1) ≡ rows) (sym chain) same,
 )
 chain_served ticks desk content is_clean is_live has_store country (e ∷ es) before books old new rows chain clean same_country sound tied same =

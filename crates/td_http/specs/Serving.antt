@@ -1,10 +1,12 @@
 -- What the desk's service does with a request, and what a stream of requests tells each holder.
-use Rattle.std.specs.Prelude.{◌≡◌, ℕ, ℤ, ◌+◌, ◌⊎◌, Bool, true, false, if◌then◌else◌, List, [], ◌∷◌, ◌++◌, map, Result, Ok, Err}
+use Rattle.std.specs.Prelude.{◌≡◌, ℕ, ℤ, ◌+◌, ◌⊎◌, Bool, true, false, if◌then◌else◌, List, [], ◌∷◌, ◌++◌, map, None, Result, Ok, Err}
 use Rattle.td_acts.specs.declared.command.Command.{Command}
 use Rattle.td_acts.specs.declared.command.Stamped.{Stamped}
+use Rattle.td_acts.specs.Account.{empty_account}
 use Rattle.td_acts.specs.Book.{Book}
 use Rattle.td_acts.specs.Commands.{owner_of}
 use Rattle.td_acts.specs.Machine.{verdict, book_after, machine_book}
+use Rattle.td_acts.specs.Table.{said}
 use Rattle.td_desk.specs.declared.fault.Fault.TheVariants as fault
 use Rattle.td_desk.specs.declared.running.Outcome.{Outcome}
 use Rattle.td_desk.specs.declared.running.Outcome.TheVariants as outcome
@@ -89,11 +91,19 @@ abbrev pub FaultsAreTold : ℕ → List Exchange → Type 0
 FaultsAreTold before [] = Unit {0}
 FaultsAreTold before (e ∷ es) = ((why : WebFault) → command_in (question before e.wire) ≡ Err why → IsFaultReply why (question before e.wire).close e.reply) × FaultsAreTold (before + 1) es
 
+-- the reply to each command that nobody owns is what the table says over an account with nothing in it
+abbrev pub NobodysAreTold : List ℕ → ℕ → List Exchange → Type 0
+NobodysAreTold country before [] = Unit {0}
+NobodysAreTold country before (e ∷ es) =
+    ((command : Command) → command_in (question before e.wire) ≡ Ok command → owner_of country command ≡ None → is_made e.reply ≡ true
+    → reply_bytes e.reply ≡ said_reply (said (empty_account country) e.at command) (question before e.wire).close) × NobodysAreTold country (before + 1) es
+
 -- To each holder at once, the bytes of the replies to the holder's requests are those of the holder's own machine; in the end the content is
 -- sound, and tied to the books that the machines end with.
 pub record IsServed (country : List ℕ) (books : ℕ → Book) (before : ℕ) (es : List Exchange) (new : Content) : Type 0 where
   pub answers : (H : ℕ) → told_in country H before es ≡ machine_replies H (books H) (heard_in country H before es)
   pub faults : FaultsAreTold before es
+  pub nobodys : NobodysAreTold country before es
   pub country_stays : new.country ≡ country
   pub sound : IsSound new
   pub tied : IsTied new (λ H. machine_book H (books H) (commands_of (heard_in country H before es)))
