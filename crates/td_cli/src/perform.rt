@@ -1,13 +1,14 @@
 //! The jobs of the program.
-ghost use Rattle.std.specs.Prelude.{◌≡◌, ◌≢◌, ◌⊎◌, ℕ, ℤ, codes, List, Option};
+ghost use Rattle.std.specs.Prelude.{◌≡◌, ◌≢◌, ◌⊎◌, ℕ, ℤ, codes, map, string_bytes, List, Option};
 ghost use Rattle.std.specs.IoError.{error_kind};
 ghost use Rattle.td_cli.specs.declared.words.NoJob.{NoJob};
 ghost use Rattle.td_wire.specs.declared.stream.StreamEnd.{StreamEnd};
 ghost use Rattle.td_cli.specs.Piped.{PipesAs, IsDone};
 ghost use Rattle.td_cli.specs.Statuses.{status_of_end, line_of_end, IsTold, IsAnswered};
+ghost use Rattle.td_cli.specs.Words.{AsksFor};
 
 use crate::clock::{FixedClock, MachineClock};
-use crate::words::{Job, NoJob, read_words};
+use crate::words::{NoJob, read_words};
 use std::alloc::Global;
 use std::io;
 use std::io::{ErrorKind, Read, Write};
@@ -31,14 +32,14 @@ pub fn perform<R: Read, W: Write, E: Write>(
     out: &mut Counted<W>,
     errors: &mut Counted<E>,
 ) -> u8
-    ensures { ((country : List ℕ) × (at : Option ℤ) × (end : Option StreamEnd) × IsDone R.remaining W.contents country at input.old input.new out.old out.new end
+    ensures { ((country : List ℕ) × (at : Option ℤ) × (end : Option StreamEnd) × AsksFor (map string_bytes words.now) country at
+        × IsDone R.remaining W.contents country at input.old input.new out.old out.new end
         × (result ≡ status_of_end end) × IsTold E.contents errors.old errors.new (line_of_end end))
         ⊎ ((no_job : NoJob) × (input.new ≡ input.old) × IsAnswered W.contents E.contents out.old out.new errors.old errors.new no_job result) }
 {
     match read_words(rt.alloc(), words) {
         Ok(job) => {
-            let Job::Pipe { country, at } = &job;
-            let end = done(rt, *country, *at, input, out);
+            let end = done(rt, job.country, job.at, input, out);
             status_of(end, errors)
         }
         Err(no_job) => told(&no_job, out, errors),

@@ -1,18 +1,21 @@
 //! The command line: which job its words ask for.
+ghost use Rattle.std.specs.Prelude.{◌≡◌, codes, false, map, string_bytes, IfOk, IfSome, Some};
+ghost use Rattle.std.specs.Str.Parse.{signed_digits_value};
+ghost use Rattle.clap.specs.Words.{app_of, first_value, found_of, rule_of};
+ghost use Rattle.clap.specs.declared.Command.TheViews.{out-Command};
+ghost use Rattle.td_cli.specs.Words.{option_rule, pipe_app, program_app, moment_in, AsksFor};
+
 use clap::error::ErrorKind;
 use clap::{Arg, ArgAction, ArgMatches, Command};
 use std::alloc::{AllocError, Global};
 use td_base::Country;
 
-/// What the words ask for.
+/// What the words ask for: one stream of requests, from standard input to standard output.
 #[derive(Clone, Copy, Debug, PartialEq, Eq)]
-pub(crate) enum Job {
-    /// One stream of requests, from standard input to standard output.
-    Pipe {
-        country: Country,
-        /// The moment of all requests, in seconds since 1970; with none, the machine's clock is asked for each.
-        at: Option<i64>,
-    },
+pub(crate) struct Job {
+    pub country: Country,
+    /// The moment of all requests, in seconds since 1970; with none, the machine's clock is asked for each.
+    pub at: Option<i64>,
 }
 
 /// Why the words ask for no job.
@@ -35,7 +38,10 @@ const COUNTRY: &str = "country";
 
 const AT: &str = "at";
 
-fn option<'a>(alloc: Global, name: &'a str, value: &'a str, help: &'a str) -> Arg<'a> {
+fn option<'a>(alloc: Global, name: &'a str, value: &'a str, help: &'a str) -> Arg<'a>
+    ensures rule { rule_of result ≡ option_rule name.entry.now }
+    ensures local { result.global ≡ false }
+{
     Arg::new(alloc, name)
         .long(name)
         .value_name(value)
@@ -43,7 +49,9 @@ fn option<'a>(alloc: Global, name: &'a str, value: &'a str, help: &'a str) -> Ar
         .action(ArgAction::Set)
 }
 
-fn pipe_command<'a>(alloc: Global) -> Result<Command<'a>, AllocError> {
+fn pipe_command<'a>(alloc: Global) -> Result<Command<'a>, AllocError>
+    ensures { IfOk result (λ c. (app_of c ≡ pipe_app) × ((out-Command c).has_globals ≡ false)) }
+{
     Command::new(alloc, "pipe")
         .about("Serves one stream of HTTP requests, from standard input to standard output")
         .arg(option(
@@ -61,7 +69,9 @@ fn pipe_command<'a>(alloc: Global) -> Result<Command<'a>, AllocError> {
         ))
 }
 
-fn program<'a>(alloc: Global) -> Result<Command<'a>, AllocError> {
+fn program<'a>(alloc: Global) -> Result<Command<'a>, AllocError>
+    ensures { IfOk result (λ c. app_of c ≡ program_app) }
+{
     Command::new(alloc, "transit-desk")
         .bin_name("transit-desk")?
         .about("The desk of a transit office")
@@ -70,7 +80,9 @@ fn program<'a>(alloc: Global) -> Result<Command<'a>, AllocError> {
 }
 
 /// The job that the words ask for; the first of them is the program's name.
-pub(crate) fn read_words(alloc: Global, words: &[String]) -> Result<Job, NoJob> {
+pub(crate) fn read_words(alloc: Global, words: &[String]) -> Result<Job, NoJob>
+    ensures { IfOk result (λ job. AsksFor (map string_bytes words.now) job.country job.at) }
+{
     match program(alloc)?.try_get_matches_from(words) {
         Ok(matches) => match matches.subcommand() {
             Some(("pipe", matches)) => pipe_job(alloc, matches),
@@ -92,14 +104,19 @@ fn no_job(alloc: Global, error: &clap::Error) -> Result<NoJob, AllocError> {
     })
 }
 
-fn pipe_job(alloc: Global, matches: &ArgMatches<'_>) -> Result<Job, NoJob> {
-    Ok(Job::Pipe {
+fn pipe_job(alloc: Global, matches: &ArgMatches<'_>) -> Result<Job, NoJob>
+    ensures country { IfOk result (λ job. first_value (found_of matches.now) (codes "country") ≡ Some job.country) }
+    ensures at { IfOk result (λ job. moment_in (first_value (found_of matches.now) (codes "at")) ≡ job.at) }
+{
+    Ok(Job {
         country: country_in(alloc, matches)?,
         at: seconds_in(alloc, matches)?,
     })
 }
 
-fn country_in(alloc: Global, matches: &ArgMatches<'_>) -> Result<Country, NoJob> {
+fn country_in(alloc: Global, matches: &ArgMatches<'_>) -> Result<Country, NoJob>
+    ensures { IfOk result (λ country. first_value (found_of matches.now) (codes "country") ≡ Some country) }
+{
     let text = matches.get_str(COUNTRY).unwrap_or("");
     match Country::read(text.as_bytes()) {
         Some(country) => Ok(country),
@@ -112,7 +129,9 @@ fn country_in(alloc: Global, matches: &ArgMatches<'_>) -> Result<Country, NoJob>
     }
 }
 
-fn seconds_in(alloc: Global, matches: &ArgMatches<'_>) -> Result<Option<i64>, NoJob> {
+fn seconds_in(alloc: Global, matches: &ArgMatches<'_>) -> Result<Option<i64>, NoJob>
+    ensures { IfOk result (λ at. moment_in (first_value (found_of matches.now) (codes "at")) ≡ at) }
+{
     let Some(text) = matches.get_str(AT) else {
         return Ok(None);
     };
@@ -128,7 +147,9 @@ fn seconds_in(alloc: Global, matches: &ArgMatches<'_>) -> Result<Option<i64>, No
 }
 
 // The number that the digits write, up to `i64::MAX`.
-fn decimal(text: &str) -> Option<i64> {
+fn decimal(text: &str) -> Option<i64>
+    ensures { IfSome result (λ n. n ≡ signed_digits_value 10 text.now) }
+{
     if text.bytes().all(|c| c.is_ascii_digit()) {
         text.parse::<i64>().ok()
     } else {
