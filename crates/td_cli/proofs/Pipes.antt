@@ -18,7 +18,7 @@ pub private_from_empty : (country : List ℕ) (opened left : Service PlainDesk) 
     → IsServed country (λ H. fresh_book (empty_account country)) 0 es (rows_in (desk_of left))
 private_from_empty country opened left es empty sound private =
     let books = λ (H : ℕ). fresh_book (empty_account country) in
-    let tied = subst (λ (rows : Content). IsTied rows books) (sym empty) (record { each = λ H. refl; begun = λ H none. (refl, refl) }) in
+    let tied = subst (λ (rows : Content). IsTied rows books) (sym empty) (record { each = λ H. refl; grown = λ H. tt }) in
     let served = private tt tt sound books tied in
     let at_country = subst (λ (rows : Content). IsServed rows.country books 0 es served.0) empty served.1 in
     subst (λ (rows : Content). IsServed country books 0 es rows) (sym (served.2 tt)) at_country
