@@ -1,5 +1,5 @@
 -- What the desk's service does with a request, and what a stream of requests tells each holder.
-use Rattle.std.specs.Prelude.{◌≡◌, ℕ, ℤ, ◌+◌, ◌⊎◌, Bool, true, false, if◌then◌else◌, List, [], ◌∷◌, ◌++◌, map, None, Result, Ok, Err}
+use Rattle.std.specs.Prelude.{◌≡◌, ℕ, ℤ, ◌+◌, ◌⊎◌, Bool, true, false, if◌then◌else◌, List, [], ◌∷◌, ◌++◌, map, None, Option, Result, Ok, Err}
 use Rattle.td_acts.specs.declared.command.Command.{Command}
 use Rattle.td_acts.specs.declared.command.Stamped.{Stamped}
 use Rattle.td_acts.specs.Account.{empty_account}
@@ -7,15 +7,17 @@ use Rattle.td_acts.specs.Book.{Book}
 use Rattle.td_acts.specs.Commands.{owner_of}
 use Rattle.td_acts.specs.Machine.{verdict, book_after, machine_book}
 use Rattle.td_acts.specs.Table.{said}
+use Rattle.td_acts.specs.declared.said.Said.{Said}
+use Rattle.td_desk.specs.declared.fault.Fault.{Fault}
 use Rattle.td_desk.specs.declared.fault.Fault.TheVariants as fault
 use Rattle.td_desk.specs.declared.running.Outcome.{Outcome}
 use Rattle.td_desk.specs.declared.running.Outcome.TheVariants as outcome
 use Rattle.td_desk.specs.Content.{Content}
 use Rattle.td_desk.specs.Sound.{IsSound}
-use Rattle.td_desk.specs.Runs.{IsStep, IsTied, is_holder}
+use Rattle.td_desk.specs.Runs.{IsOutcomeOf, IsStep, IsTied, is_holder}
 use Rattle.td_routes.specs.declared.fault.WebFault.{WebFault}
 use Rattle.td_wire.specs.declared.reply.Reply.{Reply}
-use Rattle.td_wire.specs.declared.reply.Reply.TheVariants.{NoMemory, Store}
+use Rattle.td_wire.specs.declared.reply.Reply.TheVariants.{Made, NoMemory, Store}
 use Rattle.td_wire.specs.Request.{Asked}
 use Rattle.td_wire.specs.ReplyText.{reply_bytes, is_made}
 use Rattle.td_answers.specs.Answers.{said_reply, fault_reply}
@@ -90,6 +92,18 @@ machine_replies H book (r ∷ list) = said_reply (verdict H book r.0.at r.0.comm
 abbrev pub FaultsAreTold : ℕ → List Exchange → Type 0
 FaultsAreTold before [] = Unit {0}
 FaultsAreTold before (e ∷ es) = ((why : WebFault) → command_in (question before e.wire) ≡ Err why → IsFaultReply why (question before e.wire).close e.reply) × FaultsAreTold (before + 1) es
+
+-- the fixed reply to each fault
+abbrev pub fixed_reply : Fault → Reply
+fixed_reply fault.NoMemory = NoMemory
+fixed_reply fault.Store = Store
+
+-- How a reply came about by the two calls that are made of a desk, where called says how a call ended: bytes where neither failed; the fixed
+-- reply of the fault that the last one ended by; and that of missing memory also where the bytes found none, at a desk that didn't fail.
+abbrev pub IsCausedBy : {S : Type 0} → (S → Option Fault → S → Type 0) → S → Reply → S → Type 0
+IsCausedBy called old (Made bytes) new = (words : Said) × IsOutcomeOf called old (outcome.Said words) new
+IsCausedBy called old NoMemory new = IsOutcomeOf called old (outcome.Failed fault.NoMemory) new ⊎ called old None new
+IsCausedBy called old Store new = IsOutcomeOf called old (outcome.Failed fault.Store) new
 
 -- the reply to each command that nobody owns is what the table says over an account with nothing in it
 abbrev pub NobodysAreTold : List ℕ → ℕ → List Exchange → Type 0

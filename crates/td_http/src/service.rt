@@ -1,14 +1,14 @@
 //! The desk as a service: a request is read, weighed, its reply is built, and only then it is carried.
-ghost use Rattle.std.specs.Prelude.{◌≡◌, ◌⊎◌, Bool, true, MatchResult, option_map};
+ghost use Rattle.std.specs.Prelude.{◌≡◌, ◌≢◌, ◌⊎◌, None, Bool, true, MatchResult, option_map};
 ghost use Rattle.td_routes.specs.Faults.{allowed_text};
 ghost use Rattle.td_wire.specs.ReplyText.{head_text, is_made, reply_bytes as made_bytes};
 ghost use Rattle.td_acts.specs.declared.command.Stamped.{Stamped};
 ghost use Rattle.td_acts.specs.declared.said.Said.{Said};
 ghost use Rattle.td_desk.specs.declared.fault.Fault.TheVariants as fault;
 ghost use Rattle.td_desk.specs.declared.running.Outcome.TheVariants as outcome;
-ghost use Rattle.td_desk.specs.Runs.{IsStep};
+ghost use Rattle.td_desk.specs.Runs.{IsOutcomeOf, IsStep};
 ghost use Rattle.td_wire.specs.Request.{asked};
-ghost use Rattle.td_http.specs.Serving.{IsReplyTo, IsFaultReply, HandledAs};
+ghost use Rattle.td_http.specs.Serving.{fixed_reply, IsCausedBy, IsReplyTo, IsFaultReply, HandledAs};
 ghost use Rattle.td_answers.specs.Answers.{said_reply};
 
 use std::alloc::Global;
@@ -39,6 +39,11 @@ fn answer<D: Desk>(
         (λ bytes. (words : Said) × (bytes.items ≡ said_reply words close) × IsStep (D.is_live desk.old) (D.is_live desk.new) (D.content desk.old) (record { at = at; command = command.now }) (outcome.Said words) (D.content desk.new))
         (λ why. IsStep (D.is_live desk.old) (D.is_live desk.new) (D.content desk.old) (record { at = at; command = command.now }) (outcome.Failed why) (D.content desk.new)) }
     ensures store { result ≡ Err fault.Store → D.has_store }
+    // a failure is the desk's own, or of missing memory for the bytes at a desk that didn't fail
+    ensures calls { MatchResult result
+        (λ bytes. (words : Said) × IsOutcomeOf D.called desk.old (outcome.Said words) desk.new)
+        (λ why. IsOutcomeOf D.called desk.old (outcome.Failed why) desk.new
+        ⊎ ((why ≡ fault.NoMemory) × D.called desk.old None desk.new)) }
 {
     let decision = desk.weigh(alloc, at, command)?;
     let bytes = match reply_bytes(alloc, decision.said(), close) {
@@ -56,6 +61,7 @@ fn answer<D: Desk>(
 fn failed(fault: Fault) -> Reply
     ensures fixed { (close : Bool) → IsReplyTo (outcome.Failed fault) close result }
     ensures store { result ≡ Reply.Store → fault ≡ Fault.Store }
+    ensures reply { result ≡ fixed_reply fault }
 {
     match fault {
         Fault::NoMemory => Reply::NoMemory,
@@ -69,6 +75,7 @@ fn reply_to<D: Desk>(alloc: Global, desk: &mut D, at: i64, command: &Command, cl
     ensures live { D.is_clean desk.new → D.is_live desk.new → D.is_live desk.old }
     ensures handled { D.is_clean desk.new → HandledAs (D.is_live desk.old) (D.is_live desk.new) (D.content desk.old) at (Ok command.now) close result (D.content desk.new) }
     ensures store { result ≡ Reply.Store → D.has_store }
+    ensures calls { IsCausedBy D.called desk.old result desk.new }
 {
     match answer(alloc, desk, at, command, close) {
         Ok(bytes) => Reply::Made(bytes),
@@ -114,7 +121,8 @@ impl<D: Desk + Drop> Service<D> {
     /// A request that can't be read doesn't ask the desk.
     pub fn handle(&mut self, alloc: Global, at: i64, request: &Request) -> Reply
         ensures handled { IsHandledBy D.content D.is_clean D.is_live D.has_store self.old at (asked request.now) result self.new }
-        // To each holder it is as if the desk were the holder's alone.
+        // A fixed reply is the fault that the desk answered, or missing memory at a desk that didn't fail.
+        ensures calls { (desk_of self.new ≡ desk_of self.old) × (result ≢ Reply.Store) ⊎ IsCausedBy D.called (desk_of self.old) result (desk_of self.new) }
         ensures alone { IsPrivateAlone D.content D.is_clean D.is_live self.old at (asked request.now) result self.new }
     {
         match read_command_by(alloc, &mut self.routes, request) {
