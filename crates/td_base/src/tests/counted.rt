@@ -1,5 +1,7 @@
 //! A counted reader or writer hands each call on, and answers what the inner one answered. No contract can say this of any
 //! inner one: what a reader has left doesn't tell how often it was asked.
+ghost use Rattle.std.specs.Prelude.{◌≤◌, IfOk};
+
 use crate::Counted;
 use std::io;
 use std::io::{ErrorKind, Read, Write};
@@ -12,7 +14,9 @@ struct Steps {
 }
 
 /// What is answered at a call.
-fn answer_at(call: u8) -> io::Result<usize> {
+fn answer_at(call: u8) -> io::Result<usize>
+    ensures { IfOk result (λ n. n ≤ 1) }
+{
     if call.is_multiple_of(3) {
         Err(ErrorKind::Other.into())
     } else if call.is_multiple_of(5) {

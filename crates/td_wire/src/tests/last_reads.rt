@@ -85,7 +85,7 @@ fn serve(alloc: Global, request: &[u8], last: Last) -> (StreamEnd, usize, u64) {
 fn is_so(alloc: Global, row: &(&[u8], Last, StreamEnd, usize)) -> bool {
     let (request, last, end, answered) = row;
     let (how, written, reads) = serve(alloc, request, *last);
-    how == *end && written == OK.len() * *answered && reads == 100_000
+    how == *end && written == OK.len().saturating_mul(*answered) && reads == 100_000
 }
 
 #[test]
