@@ -9,7 +9,7 @@ use Rattle.td_movement.specs.declared.movement.Movement.{Movement}
 use Rattle.td_acts.specs.declared.said.Refusal.{Refusal}
 use Rattle.td_acts.specs.declared.said.Refusal.TheVariants.{NoGuarantee, BadCode, GuaranteeEnded}
 use Rattle.td_guarantee.specs.Terms.{has_ended}
-use Rattle.td_acts.specs.Account.{guarantee_with}
+use Rattle.td_acts.specs.Account.{guarantee_by_grn}
 
 -- two lines on one guarantee, of one amount
 abbrev pub is_same_line : Line → Line → Bool
@@ -29,7 +29,7 @@ guarantee_refusal day code (Some g) =
 
 -- the refusal of a line on that day
 abbrev pub line_refusal : ℕ → List Guarantee → Line × List ℕ → Option Refusal
-line_refusal day guarantees l = guarantee_refusal day l.1 (guarantee_with l.0.grn guarantees)
+line_refusal day guarantees l = guarantee_refusal day l.1 (guarantee_by_grn l.0.grn guarantees)
 
 -- this refusal, else that one
 abbrev pub refusal_or : Option Refusal → Option Refusal → Option Refusal

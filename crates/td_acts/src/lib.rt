@@ -7,16 +7,21 @@ mod declaring;
 mod finding;
 mod laws;
 mod lines;
+mod needs;
 mod rows;
 mod said;
 mod serials;
 pub mod table;
 mod views;
 
-pub use command::{Command, Stamped, known, owner};
-pub use finding::{find_guarantee, find_named};
-pub use laws::{fresh_book_says_its_account, writes_what_is_accepted, writes_what_the_book_says};
+pub use command::{Command, Stamped, Subject, known, owner};
+pub use finding::{find_guarantee, find_movement_by_mrn};
+pub use laws::{
+    fresh_book_says_its_account, keeps_rows_sound, nobody_writes, writes_what_is_accepted,
+    writes_what_the_book_says,
+};
 pub use lines::Lines;
+pub use needs::Needs;
 pub use rows::{Change, HolderRow, Loaded, Verdict};
 pub use said::{Answer, Refusal, Said};
 

@@ -238,7 +238,7 @@ fn is_guarantee_found(alloc: Global) -> Result<bool, Fail> {
 /// Whether the movement is found among movements.
 fn is_movement_found(alloc: Global) -> Result<bool, Fail> {
     let movements = vec![in alloc; movement(alloc)?]?;
-    Ok(find_named(&movements, &Mrn::read(A1)?).is_some())
+    Ok(find_movement_by_mrn(&movements, &Mrn::read(A1)?).is_some())
 }
 
 #[test]

@@ -9,7 +9,8 @@ use Rattle.td_acts.specs.Commands.{owner_of, IsProper}
 use Rattle.td_acts.specs.Table.{said}
 use Rattle.td_acts.specs.Acceptance.{is_accepted}
 use Rattle.td_acts.specs.Machine.{book_after}
-use Rattle.td_acts.specs.Deciding.{decided, is_change}
+use Rattle.td_acts.specs.Changes.{is_change}
+use Rattle.td_acts.specs.Deciding.{decision_on}
 use Rattle.td_desk.specs.Content.{Content, account_in, fresh}
 use Rattle.td_desk.specs.Sound.{IsSound}
 
@@ -34,7 +35,7 @@ kept_of rows command = kept_for (owner_of rows.country command) rows
 pub record IsWeighed (rows : Content) (at : ℤ) (command : Command) (v : Verdict) : Type 0 where
   pub said : v.said ≡ said (owner_account rows command) at command
   pub changes : is_change v.change ≡ is_accepted (owner_account rows command) at command
-  pub written : v.change ≡ (decided (owner_account rows command) at command).change
+  pub written : v.change ≡ (decision_on (owner_account rows command) at command).change
 
 -- it is the decision on some command at some moment
 abbrev pub IsDecision : Content → Verdict → Type 0

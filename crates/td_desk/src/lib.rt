@@ -8,6 +8,7 @@ mod file;
 mod laws;
 mod plain;
 mod running;
+mod store;
 #[cfg(test)]
 mod tests;
 
@@ -17,4 +18,7 @@ pub use fault::Fault;
 pub use laws::{agreeing_runs_tell_the_same, empty_desk_is_tied, fresh_books_are_tied};
 pub use plain::PlainDesk;
 pub use running::{Outcome, perform, run};
-pub use td_acts::{Answer, Change, Command, HolderRow, Loaded, Refusal, Said, Stamped, Verdict};
+pub use store::Store;
+pub use td_acts::{
+    Answer, Change, Command, HolderRow, Loaded, Needs, Refusal, Said, Stamped, Subject, Verdict,
+};

@@ -1,7 +1,8 @@
 use Rattle.std.proofs.Common.{rules}
 use Rattle.std.specs.Prelude.{nat_lt}
 use Rattle.std.proofs.lemmas.List.Sorted.{IsPartitionPoint-from_clause}
-use Rattle.td_desk.specs.Content.{HolderRows, holder_key}
+use Rattle.td_acts.specs.Account.{HolderRows}
+use Rattle.td_desk.specs.Content.{holder_key}
 use Rattle.td_desk.proofs.Places.{parted, point_is}
 use Rattle.td_desk.proofs.plain.holders_below.Goals as goal
 

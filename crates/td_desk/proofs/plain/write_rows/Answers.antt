@@ -2,7 +2,9 @@ use Rattle.std.proofs.Common.{◌≡◌, ◌≢◌, ◌<◌, length, get_or, sym
 use Rattle.std.proofs.lemmas.Bool.Decides.{nat_tests}
 use Rattle.std.proofs.lemmas.List.{get_or_default}
 use Rattle.std.proofs.lemmas.Result.{on_ok_weaker}
-use Rattle.td_desk.specs.Content.{HolderRows, written, holder_key}
+use Rattle.td_acts.specs.Account.{HolderRows}
+use Rattle.td_acts.specs.Changes.{rows_after}
+use Rattle.td_desk.specs.Content.{holder_key}
 use Rattle.td_desk.specs.Rows.{Rises}
 use Rattle.td_desk.proofs.Places.{below}
 use Rattle.td_desk.proofs.Storing.{stored_in_place, order_stays, stored_new, order_new}
@@ -48,7 +50,7 @@ returns-clause-ok c =
     ] in
     c.in_ok-insert.ensures.items
     ∙ (stored_new files c.args.row c.args.change n c.requires.order c.requires.row (c.holders_below-at.ensures.value ∙ ap (below holder_key c.args.row.holder) c.deref.ensures.value)
-    c.write-2.new.self other (c.in_ok-write.ensures.ok ∙ ap (written c.args.change) c.new-file.ensures))
+    c.write-2.new.self other (c.in_ok-write.ensures.ok ∙ ap (rows_after c.args.change) c.new-file.ensures))
 
 -- the order stays
 pub returns-clause-order : goal.returns-clause-order
@@ -63,4 +65,4 @@ returns-clause-order c =
     ] in
     subst (Rises holder_key 0) (sym c.in_ok-insert.ensures.items)
     (order_new files c.args.row c.args.change n c.requires.order c.requires.row (c.holders_below-at.ensures.value ∙ ap (below holder_key c.args.row.holder) c.deref.ensures.value)
-    c.write-2.new.self other (c.in_ok-write.ensures.ok ∙ ap (written c.args.change) c.new-file.ensures))
+    c.write-2.new.self other (c.in_ok-write.ensures.ok ∙ ap (rows_after c.args.change) c.new-file.ensures))

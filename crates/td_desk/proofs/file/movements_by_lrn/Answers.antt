@@ -2,8 +2,8 @@ use Rattle.std.proofs.Common.{◌∷◌, [], ◌++◌, ℕ, List, sym, ◌∙◌
 use Rattle.std.specs.Prelude.{option_to_list, All, ◌≢◌}
 use Rattle.td_desk.specs.Rows.{IsFirstPlace}
 use Rattle.td_desk.proofs.PlaceOfLrn.{found_by_place, none_by_place}
-use Rattle.td_desk.proofs.file.movements_with.Goals as goal
-use Rattle.td_desk.proofs.file.movements_with.Goals.{in-Some+in_ok-copy+in_ok-push, in_default}
+use Rattle.td_desk.proofs.file.movements_by_lrn.Goals as goal
+use Rattle.td_desk.proofs.file.movements_by_lrn.Goals.{in-Some+in_ok-copy+in_ok-push, in_default}
 
 -- the movement at the place of the LRN, or none
 pub returns : goal.returns

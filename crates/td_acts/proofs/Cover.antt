@@ -15,9 +15,9 @@ use Rattle.td_movement.specs.declared.state.State.TheVariants.{Accepted}
 use Rattle.td_movement.specs.States.{is_counting}
 use Rattle.td_guarantee.specs.declared.guarantee.Guarantee.{Guarantee}
 use Rattle.td_guarantee.specs.Usage.{cents_on, lines_on, movement_on, used_on}
-use Rattle.td_acts.specs.Account.{guarantee_with}
-use Rattle.td_desk.specs.Content.{HolderRows}
-use Rattle.td_desk.specs.Sound.{AllNumbered, IsGuaranteeRow, IsMovementRow, IsCovered, AreHolderRows}
+use Rattle.td_acts.specs.Account.{guarantee_by_grn}
+use Rattle.td_acts.specs.Account.{HolderRows}
+use Rattle.td_acts.specs.Sound.{AllNumbered, IsGuaranteeRow, IsMovementRow, IsCovered, AreHolderRows}
 
 -- what holds of each holds of all with one more
 pub AllByRecursion-append : {X : Type 0} (P : X → Type 0) (xs : List X) (y : X) → AllByRecursion P xs → P y → AllByRecursion P (xs ++ y ∷ [])
@@ -48,15 +48,15 @@ used_off grn [] others = refl
 used_off grn (m ∷ ms) others = sum_by-cons (movement_on grn) m ms ∙ omega (arith, movement_off grn m others.0, used_off grn ms others.1)
 
 -- what is found among guarantees of other references is another
-found_other : (x grn : List ℕ) (gs : List Guarantee) → AllByRecursion (λ g. g.grn ≢ grn) gs → IsSome (guarantee_with x gs) → x ≢ grn
+found_other : (x grn : List ℕ) (gs : List Guarantee) → AllByRecursion (λ g. g.grn ≢ grn) gs → IsSome (guarantee_by_grn x gs) → x ≢ grn
 found_other x grn [] others some = cc
 found_other x grn (g ∷ gs) others some = by_test (bytes_eq g.grn x) refl (found_other x grn gs others.1) some
   where
-    by_test : (b : Bool) → bytes_eq g.grn x ≡ b → (IsSome (guarantee_with x gs) → x ≢ grn) → IsSome (if◌then◌else◌ {A = Option Guarantee} b (Some g) (guarantee_with x gs)) → x ≢ grn
+    by_test : (b : Bool) → bytes_eq g.grn x ≡ b → (IsSome (guarantee_by_grn x gs) → x ≢ grn) → IsSome (if◌then◌else◌ {A = Option Guarantee} b (Some g) (guarantee_by_grn x gs)) → x ≢ grn
     by_test true same later some = λ e. others.0 ((bytes_eq-Decides g.grn x).0 same ∙ e)
     by_test false h later some = later some
 
-lines_elsewhere : (grn : List ℕ) (gs : List Guarantee) → AllByRecursion (λ g. g.grn ≢ grn) gs → (lines : List Line) → AllByRecursion (λ l. IsSome (guarantee_with l.grn gs)) lines → AllByRecursion (λ l. l.grn ≢ grn) lines
+lines_elsewhere : (grn : List ℕ) (gs : List Guarantee) → AllByRecursion (λ g. g.grn ≢ grn) gs → (lines : List Line) → AllByRecursion (λ l. IsSome (guarantee_by_grn l.grn gs)) lines → AllByRecursion (λ l. l.grn ≢ grn) lines
 lines_elsewhere grn gs others [] own = tt
 lines_elsewhere grn gs others (l ∷ lines) own = (found_other l.grn grn gs others own.0, lines_elsewhere grn gs others lines own.1)
 

@@ -2,11 +2,11 @@ use Rattle.std.proofs.Common.{◌≡◌, ◌∷◌, [], ◌++◌, ℕ, List, Opt
 use Rattle.std.specs.Prelude.{IfSome, option_map, option_to_list}
 use Rattle.td_guarantee.specs.declared.guarantee.Guarantee.{Guarantee}
 use Rattle.td_guarantee.specs.Usage.{used_on}
-use Rattle.td_acts.specs.Account.{guarantee_with}
-use Rattle.td_desk.specs.Sound.{IsCovered}
+use Rattle.td_acts.specs.Account.{guarantee_by_grn}
+use Rattle.td_acts.specs.Sound.{IsCovered}
 use Rattle.td_desk.proofs.Found.{found_keeps}
-use Rattle.td_desk.proofs.file.entries_with.Goals as goal
-use Rattle.td_desk.proofs.file.entries_with.Goals.{in-Some+in_ok-copy+in_ok-push, in_default}
+use Rattle.td_desk.proofs.file.entries_by_grn.Goals as goal
+use Rattle.td_desk.proofs.file.entries_by_grn.Goals.{in-Some+in_ok-copy+in_ok-push, in_default}
 
 -- the guarantee that was found, or none
 pub returns : goal.returns
@@ -17,7 +17,7 @@ returns c = λ covered.
     elim c.match-find_guarantee.branch [
       | in-Some+in_ok-copy+in_ok-push w ↦
           let g = w.in-Some.guarantee.now in
-          let found : guarantee_with grn c.args.guarantees.now ≡ Some g = sym c.find_guarantee.ensures ∙ ap (option_map (λ found. found.now)) w.in-Some.is in
+          let found : guarantee_by_grn grn c.args.guarantees.now ≡ Some g = sym c.find_guarantee.ensures ∙ ap (option_map (λ found. found.now)) w.in-Some.is in
           let keeps : IsCovered movements g = subst (λ (o : Option Guarantee). IfSome o (IsCovered movements)) found (found_keeps (λ g. g.grn) (IsCovered movements) grn c.args.guarantees.now covered) in
           ap (λ v. v.items) w.found-is ∙ w.in_ok-push.ensures.items ∙ ap (λ l. l ++ (w.in_ok-copy.field-0, w.used_of-used.result) ∷ []) c.new-found.ensures.items
           ∙ ap₂ (λ copy used. (copy, used) ∷ []) w.in_ok-copy.ensures (w.used_of-used.ensures keeps) ∙ sym (ap entry found)
