@@ -11,36 +11,21 @@ use td_movement::Movement;
 pub fn find_movement_by_lrn<'a>(movements: &'a [Movement], lrn: &Lrn) -> Option<&'a Movement>
     ensures { option_map (λ found. found.now) result ≡ movement_by_lrn lrn.now movements.now }
 {
-    for movement in movements {
-        if movement.lrn.as_bytes() == lrn.as_bytes() {
-            return Some(movement);
-        }
-    }
-    None
+    movements.iter().find(|movement| movement.lrn.as_bytes() == lrn.as_bytes())
 }
 
 /// The movement with exactly an MRN, if there is one.
 pub fn find_movement_by_mrn<'a>(movements: &'a [Movement], mrn: &Mrn) -> Option<&'a Movement>
     ensures { option_map (λ found. found.now) result ≡ movement_by_mrn mrn.now movements.now }
 {
-    for movement in movements {
-        if movement.mrn == *mrn {
-            return Some(movement);
-        }
-    }
-    None
+    movements.iter().find(|movement| movement.mrn == *mrn)
 }
 
 /// The guarantee with exactly a GRN, if there is one.
 pub fn find_guarantee<'a>(guarantees: &'a [Guarantee], grn: &Grn) -> Option<&'a Guarantee>
     ensures { option_map (λ found. found.now) result ≡ guarantee_by_grn grn.now guarantees.now }
 {
-    for guarantee in guarantees {
-        if guarantee.grn == *grn {
-            return Some(guarantee);
-        }
-    }
-    None
+    guarantees.iter().find(|guarantee| guarantee.grn == *grn)
 }
 
 /// The guarantee with exactly a GRN among those that were loaded, and the amount in use on it, if there is one.

@@ -17,12 +17,12 @@ use Rattle.td_acts.proofs.AcceptedRows.{nobody_writes}
 use Rattle.td_acts.proofs.Following.{follows_on, row_after, nothing_without_row}
 use Rattle.td_acts.proofs.Growing.{account_said_after}
 use Rattle.td_desk.specs.Content.{Content, account_in, rows_of, fresh, content_after, content_after_row, holder_key}
-use Rattle.td_desk.specs.Rows.{put_row}
+use Rattle.keyed_rows.specs.Rows.{put_row}
 use Rattle.td_desk.specs.Sound.{IsSound}
 use Rattle.td_desk.specs.Weighing.{account_for, owner_account, Carries}
 use Rattle.td_desk.proofs.Differing.{references_differ}
 use Rattle.td_desk.proofs.Fresh.{account_fresh}
-use Rattle.td_desk.proofs.Keyed.{row_at_has, row_at-put_row_same, row_at-put_row_other, Rises-put_row, All-put_row, All-row_at}
+use Rattle.keyed_rows.proofs.Putting.{row_at_has, row_at-put_row_same, row_at-put_row_other, Rises-put_row, All-put_row, All-row_at}
 
 -- what new content does to H's account, to all others and to the rules, where a change of H's account was to be made
 pub record HasEffect (H : ℕ) (rows : Content) (c : Change) (new : Content) : Type 0 where

@@ -4,7 +4,7 @@ use Rattle.td_acts.specs.Sound.{AreHolderRows}
 use Rattle.td_acts.proofs.Differing.{differ_with}
 use Rattle.td_desk.specs.Content.{Content, account_in, rows_of, holder_key}
 use Rattle.td_desk.specs.Sound.{IsSound}
-use Rattle.td_desk.proofs.Keyed.{All-row_at}
+use Rattle.keyed_rows.proofs.Putting.{All-row_at}
 use Rattle.std.proofs.Common.{ℕ}
 
 -- the references in what a sound desk keeps of a holder differ

@@ -6,7 +6,7 @@ use Rattle.td_acts.specs.Account.{HolderRows}
 use Rattle.td_acts.specs.Sound.{IsCovered, AreHolderRows}
 use Rattle.td_desk.specs.Content.{Content, rows_of, holder_key}
 use Rattle.td_desk.specs.Sound.{IsSound}
-use Rattle.td_desk.proofs.Keyed.{All-row_at}
+use Rattle.keyed_rows.proofs.Putting.{All-row_at}
 
 -- the rows that are found keep the cover
 pub found_covered : (rows : Content) (H : ℕ) (h : HolderRows) → IsSound rows → rows_of H rows ≡ Some h → AllByRecursion (IsCovered h.movements) h.guarantees

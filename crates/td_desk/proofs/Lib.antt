@@ -1,6 +1,4 @@
-pub mod Keyed
 mod PlaceOfLrn
-mod Places
 pub mod Fresh
 pub mod Turns
 mod Found

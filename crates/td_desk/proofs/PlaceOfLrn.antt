@@ -7,7 +7,7 @@ use Rattle.std.proofs.lemmas.List.{get_or-map, length-map}
 use Rattle.std.proofs.lemmas.Slice.Eq.{bytes_eq-Decides}
 use Rattle.td_movement.specs.declared.movement.Movement.{Movement}
 use Rattle.td_acts.specs.Account.{movement_by_lrn}
-use Rattle.td_desk.specs.Rows.{IsFirstPlace}
+use Rattle.td_desk.specs.Places.{IsFirstPlace}
 
 -- a text that is another one is told apart
 pub told_apart : (a b : List ℕ) → a ≢ b → bytes_eq a b ≡ false

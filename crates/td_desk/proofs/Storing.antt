@@ -7,10 +7,10 @@ use Rattle.td_acts.specs.declared.rows.Change.{Change}
 use Rattle.td_acts.specs.Account.{HolderRows}
 use Rattle.td_acts.specs.Changes.{row_in, rows_after, rows_or_new}
 use Rattle.td_desk.specs.Content.{holder_key}
-use Rattle.td_desk.specs.Rows.{Rises, row_at, put_row}
+use Rattle.keyed_rows.specs.Rows.{Rises, row_at, put_row}
 use Rattle.td_acts.proofs.Following.{row_after}
-use Rattle.td_desk.proofs.Keyed.{Rises-put_row}
-use Rattle.td_desk.proofs.Places.{below, found_by, missed_by, set_by, insert_by}
+use Rattle.keyed_rows.proofs.Putting.{Rises-put_row}
+use Rattle.keyed_rows.proofs.Places.{below, found_by, missed_by, set_by, insert_by}
 
 -- the files with a change in them
 abbrev pub files_with : List HolderRows → HolderRow → Change → List HolderRows

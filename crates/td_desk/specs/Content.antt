@@ -5,7 +5,7 @@ use Rattle.td_acts.specs.declared.rows.Change.{Change}
 use Rattle.td_acts.specs.Account.{Account, HolderRows, account_with}
 use Rattle.td_acts.specs.Book.{Book, fresh_book}
 use Rattle.td_acts.specs.Changes.{row_in, rows_after, rows_or_new}
-use Rattle.td_desk.specs.Rows.{row_at, put_row}
+use Rattle.keyed_rows.specs.Rows.{row_at, put_row}
 
 pub record Content : Type 0 where
   pub country : List ℕ

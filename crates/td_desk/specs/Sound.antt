@@ -2,7 +2,7 @@
 use Rattle.std.specs.List.{AllByRecursion}
 use Rattle.td_base.specs.Country.{IsCountry}
 use Rattle.td_acts.specs.Sound.{AreHolderRows}
-use Rattle.td_desk.specs.Rows.{Rises}
+use Rattle.keyed_rows.specs.Rows.{Rises}
 use Rattle.td_desk.specs.Content.{Content, holder_key}
 
 -- the rows keep their rules

@@ -8,8 +8,9 @@ ghost use Rattle.td_acts.specs.Changes.{rows_after};
 ghost use Rattle.td_acts.specs.Deciding.{IsLoaded};
 ghost use Rattle.td_acts.specs.Needs.{need_said};
 ghost use Rattle.td_acts.specs.Sound.{IsCovered};
-ghost use Rattle.td_desk.specs.Rows.{IsFirstPlace};
+ghost use Rattle.td_desk.specs.Places.{IsFirstPlace};
 
+use keyed_rows::Keyed;
 use std::alloc::{AllocError, Global};
 use std::marker::Model;
 use td_acts::{Change, HolderRow, Lines, Loaded, Needs, find_guarantee, find_movement_by_mrn};
@@ -36,6 +37,16 @@ impl Model for HolderFile {
     ghost view = { λ f. record { row = f.row; guarantees = f.guarantees.items; movements = f.movements.items } };
 
     ghost invariant = { λ f. f.lrns.items ≡ map (λ m. m.lrn) f.movements.items };
+}
+
+impl Keyed for HolderFile {
+    ghost use Rattle.td_desk.specs.Content.{holder_key};
+
+    ghost key_of = { holder_key };
+
+    fn key(&self) -> u32 {
+        self.row.holder.number()
+    }
 }
 
 impl HolderFile {

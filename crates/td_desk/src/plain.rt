@@ -1,13 +1,14 @@
 //! The plain desk: its rows stand in memory, and no store is behind it.
-ghost use Rattle.std.specs.Prelude.{◌≡◌, ◌≢◌, ◌≤◌, length, take_while, nat_lt, Some, option_map, IfOk, OnOk, OnErr};
+ghost use Rattle.std.specs.Prelude.{◌≡◌, ◌≢◌, Some, IfOk, OnOk, OnErr};
 ghost use Rattle.td_acts.specs.Changes.{row_in, rows_after, rows_or_new};
-ghost use Rattle.td_desk.specs.Rows.{Rises, Rises-prop, row_at, put_row};
+ghost use Rattle.keyed_rows.specs.Rows.{Rises, Rises-prop, row_at, put_row};
 ghost use Rattle.td_desk.specs.Content.{holder_key, empty_content};
 ghost use Rattle.td_desk.specs.Sound.{IsSound};
 
 use crate::fault::Fault;
 use crate::file::HolderFile;
 use crate::store::Store;
+use keyed_rows::{find_row, rows_below};
 use std::alloc::{AllocError, Global};
 use td_acts::{Change, HolderRow, Loaded, Needs};
 use td_base::{Country, HolderNo};
@@ -58,7 +59,7 @@ impl Store for PlainDesk {
         let Some(holder) = owner else {
             return Ok(Loaded::nothing(alloc, self.country));
         };
-        match find_file(&self.holders, holder) {
+        match find_row(&self.holders, holder.number()) {
             Some(file) => Ok(file.load(alloc, self.country, needs)?),
             None => Ok(Loaded::nothing(alloc, self.country)),
         }
@@ -70,27 +71,6 @@ impl Store for PlainDesk {
         }
         Ok(())
     }
-}
-
-// How many files are of holders below this one: the place of the holder's file.
-fn holders_below(files: &[HolderFile], holder: HolderNo) -> usize
-    requires { Rises holder_key 0 files.now }
-    ensures value { result ≡ length (take_while (λ h. nat_lt h.row.holder holder) files.now) }
-    ensures bound { result ≤ length files.now }
-{
-    files.partition_point(|file| file.holder() < holder)
-}
-
-// The file of a holder.
-fn find_file(files: &[HolderFile], holder: HolderNo) -> Option<&HolderFile>
-    requires { Rises holder_key 0 files.now }
-    ensures { option_map (λ file. file.now) result ≡ row_at holder_key holder files.now }
-{
-    let file = files.get(holders_below(files, holder))?;
-    if file.holder() != holder {
-        return None;
-    }
-    Some(file)
 }
 
 // Writes the rows of a change, in which this is the holder's row, into the holder's file, or into a new one in its place.
@@ -106,7 +86,7 @@ fn write_rows(
     ensures err { OnErr result (files.new.items ≡ files.old.items) }
     ensures order { Rises holder_key 0 files.new.items }
 {
-    let at = holders_below(files, row.holder);
+    let at = rows_below(files, row.holder.number());
     if at < files.len() && files[at].holder() == row.holder {
         return files[at].write(change);
     }

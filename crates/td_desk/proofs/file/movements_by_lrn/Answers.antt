@@ -1,6 +1,6 @@
 use Rattle.std.proofs.Common.{◌∷◌, [], ◌++◌, ℕ, List, sym, ◌∙◌, ap, subst}
 use Rattle.std.specs.Prelude.{option_to_list, All, ◌≢◌}
-use Rattle.td_desk.specs.Rows.{IsFirstPlace}
+use Rattle.td_desk.specs.Places.{IsFirstPlace}
 use Rattle.td_desk.proofs.PlaceOfLrn.{found_by_place, none_by_place}
 use Rattle.td_desk.proofs.file.movements_by_lrn.Goals as goal
 use Rattle.td_desk.proofs.file.movements_by_lrn.Goals.{in-Some+in_ok-copy+in_ok-push, in_default}

@@ -1,5 +1,5 @@
 -- Rows in ascending order of their keys.
-use Rattle.std.specs.Prelude.{◌≡◌, ◌≢◌, ℕ, ◌+◌, ◌==◌, ◌<◌, ◌≤◌, length, slice_index_or as get_or, List, [], ◌∷◌, Option, find, nat_lt, if◌then◌else◌}
+use Rattle.std.specs.Prelude.{ℕ, ◌+◌, ◌==◌, ◌≤◌, List, [], ◌∷◌, Option, find, nat_lt, if◌then◌else◌}
 use Rattle.std.proofs.Math.Bridge.{le_prop}
 use mathlib.Core.HLevel.{×_prop, Unit-prop}
 
@@ -21,9 +21,3 @@ Rises-prop key low (r ∷ rows) = ×_prop le_prop (Rises-prop key (key r + 1) ro
 abbrev pub put_row : {R : Type 0} → (R → ℕ) → R → List R → List R
 put_row key row [] = row ∷ []
 put_row key row (r ∷ rows) = if nat_lt (key r) (key row) then r ∷ put_row key row rows else (if key r == key row then row ∷ rows else row ∷ r ∷ rows)
-
--- the first place at which x stands in a list
-pub record IsFirstPlace {X : Type 0} (x : X) (xs : List X) (at : ℕ) : Type 0 where
-  pub within : at < length xs
-  pub there : (d : X) → get_or xs at d ≡ x
-  pub first : (k : ℕ) (d : X) → k < at → get_or xs k d ≢ x

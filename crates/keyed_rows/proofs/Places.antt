@@ -4,7 +4,7 @@ use Rattle.std.specs.Prelude.{take_while, insert, nat_lt}
 use Rattle.std.specs.List.Sorted.{IsPartitionPoint, IsPartitionedBy}
 use Rattle.std.proofs.lemmas.Bool.Decides.{nat_tests}
 use Rattle.std.proofs.lemmas.Grind.{common_steps}
-use Rattle.td_desk.specs.Rows.{Rises, row_at, put_row}
+use Rattle.keyed_rows.specs.Rows.{Rises, row_at, put_row}
 
 -- a place between rows that pass a test and rows that fail it is the number of those that pass
 pub point_is : {R : Type 0} (p : R → Bool) (rows : List R) (i : ℕ) → i ≤ length rows → IsPartitionPoint (λ r. p r ≡ true) (λ r. p r ≡ false) rows i → i ≡ length (take_while p rows)

@@ -2,7 +2,7 @@
 use Rattle.std.proofs.Common.{◌≡◌, ◌≢◌, ℕ, ◌+◌, ◌≤◌, List, [], ◌∷◌, Some, IfSome, arith}
 use Rattle.std.specs.List.{AllByRecursion}
 use Rattle.std.proofs.lemmas.Bool.Decides.{nat_tests}
-use Rattle.td_desk.specs.Rows.{row_at, Rises, put_row}
+use Rattle.keyed_rows.specs.Rows.{row_at, Rises, put_row}
 
 module _ {R : Type 0} (key : R → ℕ) where
   -- the row that is found has the key
