@@ -20,4 +20,6 @@ Rises-prop key low (r ∷ rows) = ×_prop le_prop (Rises-prop key (key r + 1) ro
 -- the rows with this one in its place, instead of one with its key
 abbrev pub put_row : {R : Type 0} → (R → ℕ) → R → List R → List R
 put_row key row [] = row ∷ []
-put_row key row (r ∷ rows) = if nat_lt (key r) (key row) then r ∷ put_row key row rows else (if key r == key row then row ∷ rows else row ∷ r ∷ rows)
+put_row key row (r ∷ rows) =
+    if nat_lt (key r) (key row) then r ∷ put_row key row rows
+        else (if key r == key row then row ∷ rows else row ∷ r ∷ rows)

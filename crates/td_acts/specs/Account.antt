@@ -6,7 +6,8 @@ use Rattle.td_acts.specs.declared.rows.HolderRow.{HolderRow}
 use Rattle.td_guarantee.specs.declared.guarantee.Guarantee.{Guarantee}
 use Rattle.td_movement.specs.declared.movement.Movement.{Movement}
 
--- the desk's country, the holder's row if the holder is registered, and the holder's guarantees and movements by serial
+-- the desk's country, the holder's row if the holder is registered, and the holder's guarantees and
+-- movements by serial
 pub record Account : Type 0 where
   pub country : List ℕ
   pub holder : Option HolderRow

@@ -1,5 +1,6 @@
--- A holder's book: what was kept at the start, and the changes that were accepted since. Everything that a desk says of the
--- holder is read from the book alone, from its beginning, in passes in which a later act overrides what earlier ones said.
+-- A holder's book: what was kept at the start, and the changes that were accepted since. Everything that a
+-- desk says of the holder is read from the book alone, from its beginning, in passes in which a later act
+-- overrides what earlier ones said.
 use Rattle.std.specs.Prelude.{ℕ, ◌+◌, ◌%◌, List, [], ◌∷◌, ◌++◌, map, Option, Some, None}
 use Rattle.std.specs.Option.{option_map, option_map_or, option_or}
 use Rattle.td_base.specs.Days.{day_of_moment, year_of}
@@ -69,10 +70,12 @@ opened_by country H n t command = []
 -- the movement that the command declares at moment t for holder H, after n others
 abbrev pub declared_by : List ℕ → ℕ → ℕ → ℕ → Command → List Movement
 declared_by country H n t (Ie015 holder lrn departure destination lines) =
-    new_movement (mrn_text (year2_at t) country H (n + 1)) lrn departure destination (day_of_moment t) (map line_of lines) ∷ []
+    new_movement (mrn_text (year2_at t) country H (n + 1)) lrn departure destination (day_of_moment t)
+        (map line_of lines) ∷ []
 declared_by country H n t command = []
 
--- what the acts make, one after the other, where made says what an act makes after n others and uses how many serials it uses up
+-- what the acts make, one after the other, where made says what an act makes after n others and uses how
+-- many serials it uses up
 abbrev pub made_in : {R : Type 0} → (ℕ → ℕ → Command → List R) → (Command → ℕ) → ℕ → List Act → List R
 made_in made uses n [] = []
 made_in made uses n (a ∷ acts) = made n a.at a.command ++ made_in made uses (n + uses a.command) acts
@@ -101,24 +104,31 @@ mrn_count_of book = serial_in declarations (mrn_count_before book) book.acts
 
 -- guarantee n: that of the start, else the n-th opening
 abbrev pub guarantees_of : ℕ → Book → List Guarantee
-guarantees_of H book = book.opening.guarantees ++ made_in (opened_by book.opening.country H) openings (grn_count_before book) book.acts
+guarantees_of H book =
+    book.opening.guarantees ++ made_in (opened_by book.opening.country H) openings
+        (grn_count_before book) book.acts
 
 -- movement n: that of the start, else the n-th declaration
 abbrev pub movements_of : ℕ → Book → List Movement
-movements_of H book = book.opening.movements ++ made_in (declared_by book.opening.country H) declarations (mrn_count_before book) book.acts
+movements_of H book =
+    book.opening.movements ++ made_in (declared_by book.opening.country H) declarations
+        (mrn_count_before book) book.acts
 
 -- the account of these parts
 abbrev pub account_made : ℕ → List ℕ → Option (List ℕ) → ℕ → ℕ → ℕ → List Guarantee → List Movement → Account
 account_made H country eori at grns mrns guarantees movements = record {
   country = country;
-  holder = option_map (λ e. record { holder = H; eori = e; last_at = at; grn_count = grns; mrn_count = mrns }) eori;
+  holder =
+      option_map (λ e. record { holder = H; eori = e; last_at = at; grn_count = grns; mrn_count = mrns }) eori;
   guarantees = guarantees;
   movements = movements;
 }
 
 -- what the book says of holder H
 abbrev pub account_of : ℕ → Book → Account
-account_of H book = account_made H book.opening.country (eori_of book) (last_of book) (grn_count_of book) (mrn_count_of book) (guarantees_of H book) (movements_of H book)
+account_of H book =
+    account_made H book.opening.country (eori_of book) (last_of book) (grn_count_of book)
+        (mrn_count_of book) (guarantees_of H book) (movements_of H book)
 
 -- the book that begins with an account
 abbrev pub fresh_book : Account → Book

@@ -42,8 +42,10 @@ is_changing (SeeGuarantee holder grn) = false
 -- its parts are in the ranges of their types
 abbrev pub IsProper : Command → Type 0
 IsProper (Register holder eori) = IsHolderNumber holder × IsEori eori
-IsProper (OpenGuarantee holder reference cover code) = IsHolderNumber holder × IsReference reference × IsCover cover × IsAccessCode code
-IsProper (Ie015 holder lrn departure destination lines) = IsHolderNumber holder × IsLrn lrn × IsOfficeNo departure × IsOfficeNo destination × IsLines lines
+IsProper (OpenGuarantee holder reference cover code) =
+    IsHolderNumber holder × IsReference reference × IsCover cover × IsAccessCode code
+IsProper (Ie015 holder lrn departure destination lines) =
+    IsHolderNumber holder × IsLrn lrn × IsOfficeNo departure × IsOfficeNo destination × IsLines lines
 IsProper (SeeHolder holder) = IsHolderNumber holder
 IsProper (SeeMovement holder mrn) = IsHolderNumber holder × IsMrn mrn
 IsProper (SeeGuarantee holder grn) = IsHolderNumber holder × IsGrn grn

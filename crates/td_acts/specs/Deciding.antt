@@ -61,12 +61,14 @@ change_of account t (OpenGuarantee holder reference cover code) = if_row account
 change_of account t (Ie015 holder lrn departure destination lines) = if_row account.holder (λ row.
     let n = row.mrn_count + 1 in
     change.Declared (record row { last_at = t; mrn_count = n })
-    (new_movement (mrn_text (year2_at t) account.country holder n) lrn departure destination (day_of_moment t) (map line_of lines)))
+    (new_movement (mrn_text (year2_at t) account.country holder n) lrn departure destination
+        (day_of_moment t) (map line_of lines)))
 change_of account t command = change.Nothing
 
 -- that change where it is accepted, else nothing
 abbrev pub change_at : Account → ℕ → Command → Change
-change_at account t command = if is_accepted_at account t command then change_of account t command else change.Nothing
+change_at account t command =
+    if is_accepted_at account t command then change_of account t command else change.Nothing
 
 abbrev pub change_in : Option ℕ → Account → Command → Change
 change_in None account command = change.Nothing
@@ -74,16 +76,20 @@ change_in (Some t) account command = change_at account t command
 
 -- the model's verdict, and the rows to write for it
 abbrev pub decision_on : Account → ℤ → Command → Verdict
-decision_on account at command = record { said = said account at command; change = change_in (moment_of at) account command }
+decision_on account at command =
+    record { said = said account at command; change = change_in (moment_of at) account command }
 
 -- the verdict at a moment
 abbrev pub decision_at : Account → ℕ → Command → Verdict
-decision_at account t command = record { said = said_at account t command; change = change_at account t command }
+decision_at account t command =
+    record { said = said_at account t command; change = change_at account t command }
 
 -- the code's verdict is the model's, over any account of which so much was loaded
 abbrev pub IsVerdict : Loaded → ℤ → Command → Verdict → Type 0
-IsVerdict loaded at command v = (account : Account) → IsLoaded account (need_of command) loaded → v ≡ decision_on account at command
+IsVerdict loaded at command v =
+    (account : Account) → IsLoaded account (need_of command) loaded → v ≡ decision_on account at command
 
 -- the same at a moment
 abbrev pub IsVerdictAt : Loaded → ℕ → Command → Verdict → Type 0
-IsVerdictAt loaded t command v = (account : Account) → IsLoaded account (need_of command) loaded → v ≡ decision_at account t command
+IsVerdictAt loaded t command v =
+    (account : Account) → IsLoaded account (need_of command) loaded → v ≡ decision_at account t command

@@ -6,7 +6,8 @@ use Rattle.td_acts.specs.declared.command.Command.TheVariants.{Register, OpenGua
 use Rattle.td_acts.specs.declared.needs.Needs.{Needs}
 use Rattle.td_acts.specs.declared.needs.Needs.TheVariants as needs
 
--- nothing; a movement by its LRN and the guarantees of lines; a movement by its MRN; a guarantee and the amount in use on it
+-- nothing; a movement by its LRN and the guarantees of lines; a movement by its MRN; a guarantee and the
+-- amount in use on it
 pub data Need : Type 0 where
   nothing : Need
   lodging : List ℕ → List (Line × List ℕ) → Need

@@ -39,7 +39,8 @@ pub record IsGuaranteeRow (country : List ℕ) (H n : ℕ) (g : Guarantee) : Typ
   pub ends : IfSome g.ends IsDay
   pub codes : AreCodes g.codes
 
--- the lines of a movement: 1 to 9, each on a guarantee of the holder's own, no two on one, with amounts in range
+-- the lines of a movement: 1 to 9, each on a guarantee of the holder's own, no two on one, with amounts in
+-- range
 pub record AreMovementLines (guarantees : List Guarantee) (lines : List Line) : Type 0 where
   pub some : 1 ≤ length lines
   pub most : length lines ≤ 9
@@ -47,9 +48,10 @@ pub record AreMovementLines (guarantees : List Guarantee) (lines : List Line) : 
   pub distinct : AllPairs (λ l m. l.grn ≢ m.grn) lines
   pub own : AllByRecursion (λ l. IsSome (guarantee_by_grn l.grn guarantees)) lines
 
--- movement n of a holder: its MRN was made of the year of its acceptance, the desk's country, the holder and this serial, and it has the days and
--- offices of its state
-pub record IsMovementRow (country : List ℕ) (H : ℕ) (guarantees : List Guarantee) (n : ℕ) (m : Movement) : Type 0 where
+-- movement n of a holder: its MRN was made of the year of its acceptance, the desk's country, the holder
+-- and this serial, and it has the days and offices of its state
+pub record IsMovementRow (country : List ℕ) (H : ℕ) (guarantees : List Guarantee) (n : ℕ)
+    (m : Movement) : Type 0 where
   pub mrn : m.mrn ≡ mrn_text (year_of m.accepted % 100) country H n
   pub lrn : IsLrn m.lrn
   pub departure : IsOfficeNo m.departure
@@ -67,8 +69,8 @@ abbrev pub AllNumbered : {R : Type 0} → (ℕ → R → Type 0) → ℕ → Lis
 AllNumbered P n [] = Unit {0}
 AllNumbered P n (r ∷ rows) = P (n + 1) r × AllNumbered P (n + 1) rows
 
--- A holder's rows keep their rules: serials begin at 1 and none is left out, no two movements have one LRN, and the amount in use on each guarantee is
--- at most its reference amount.
+-- A holder's rows keep their rules: serials begin at 1 and none is left out, no two movements have one LRN,
+-- and the amount in use on each guarantee is at most its reference amount.
 pub record AreHolderRows (country : List ℕ) (h : HolderRows) : Type 0 where
   pub row : IsHolderRow h.row
   pub guarantees : AllNumbered (IsGuaranteeRow country h.row.holder) 0 h.guarantees

@@ -1,5 +1,6 @@
--- The table of refusals and answers: for each command the refusals in the order in which they are tested, then the answer.
--- It speaks of the owner's account alone; a command that nobody owns is judged over an account with nothing in it.
+-- The table of refusals and answers: for each command the refusals in the order in which they are tested,
+-- then the answer. It speaks of the owner's account alone; a command that nobody owns is judged over an
+-- account with nothing in it.
 use Rattle.std.specs.Prelude.{ℕ, ℤ, ◌+◌, nat_lt, nat_le, if◌then◌else◌, Bool, List, map, Option, Some, None}
 use Rattle.std.specs.Option.{is_some}
 use Rattle.td_base.specs.Days.{day_of_moment}
@@ -38,24 +39,27 @@ is_back t row = nat_lt t row.last_at
 abbrev pub is_spent : ℕ → ℕ → Bool
 is_spent greatest last = nat_le greatest last
 
--- The LRN rule: a declaration under a known LRN is a repeat where the contents are the same, and answered with its first answer, else
--- it is refused as lrn-used. Under a new LRN it is this.
+-- The LRN rule: a declaration under a known LRN is a repeat where the contents are the same, and answered
+-- with its first answer, else it is refused as lrn-used. Under a new LRN it is this.
 abbrev pub if_lrn_new : Option Movement → (Movement → Bool) → Said → Said
 if_lrn_new None is_repeat said = said
-if_lrn_new (Some m) is_repeat said = if is_repeat m then Answered (answer.Ie028 m.lrn m.mrn) else Refused LrnUsed
+if_lrn_new (Some m) is_repeat said =
+    if is_repeat m then Answered (answer.Ie028 m.lrn m.mrn) else Refused LrnUsed
 
 -- the refusal, else this
 abbrev pub if_not_refused : Option Refusal → Said → Said
 if_not_refused None said = said
 if_not_refused (Some refusal) said = Refused refusal
 
--- Registration (an act of the office): refused where the number is registered; a new holder has no guarantees and no movements.
+-- Registration (an act of the office): refused where the number is registered; a new holder has no
+-- guarantees and no movements.
 abbrev pub said_on_register : Account → ℕ → List ℕ → Said
 said_on_register account holder eori =
     refuse_if HolderKnown (is_some account.holder)
     (Answered (answer.Holder holder eori 0 0))
 
--- The opening of a guarantee (an act of the office): its GRN has the year of the moment and the holder's next serial.
+-- The opening of a guarantee (an act of the office): its GRN has the year of the moment and the holder's
+-- next serial.
 abbrev pub said_on_open : Account → ℕ → ℕ → Said
 said_on_open account t holder =
     or_refuse NoHolder account.holder (λ row.
@@ -89,13 +93,15 @@ said_on_see_movement account mrn =
 abbrev pub said_on_see_guarantee : Account → List ℕ → Said
 said_on_see_guarantee account grn =
     or_refuse NoHolder account.holder (λ row.
-    or_refuse NoGuarantee (guarantee_by_grn grn account.guarantees) (λ g. Answered (answer.Guarantee g (used_on g.grn account.movements))))
+    or_refuse NoGuarantee (guarantee_by_grn grn account.guarantees)
+        (λ g. Answered (answer.Guarantee g (used_on g.grn account.movements))))
 
 -- what is said at a moment
 abbrev pub said_at : Account → ℕ → Command → Said
 said_at account t (Register holder eori) = said_on_register account holder eori
 said_at account t (OpenGuarantee holder reference cover code) = said_on_open account t holder
-said_at account t (Ie015 holder lrn departure destination lines) = said_on_ie015 account t holder lrn departure destination lines
+said_at account t (Ie015 holder lrn departure destination lines) =
+    said_on_ie015 account t holder lrn departure destination lines
 said_at account t (SeeHolder holder) = said_on_see_holder account
 said_at account t (SeeMovement holder mrn) = said_on_see_movement account mrn
 said_at account t (SeeGuarantee holder grn) = said_on_see_guarantee account grn

@@ -67,7 +67,8 @@ impl Subject {
     ghost use Rattle.std.specs.Prelude.{◌≡◌};
     ghost use Rattle.td_acts.specs.Commands.{owner_of_subject};
 
-    /// The holder whom it belongs to at a desk of that country. The owner of a reference is read from its text alone.
+    /// The holder whom it belongs to at a desk of that country. The owner of a reference is read from its
+    /// text alone.
     pub fn owner(&self, country: Country) -> Option<HolderNo>
         ensures { result ≡ owner_of_subject country self.now }
     {
@@ -113,7 +114,8 @@ impl Command {
     }
 }
 
-/// The holder whose command it is at a desk of that country: the holder field, else the owner of the reference named.
+/// The holder whose command it is at a desk of that country: the holder field, else the owner of the
+/// reference named.
 pub fn owner(country: Country, command: &Command) -> Option<HolderNo>
     ensures { result ≡ owner_of country command.now }
 {

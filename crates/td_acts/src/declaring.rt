@@ -35,7 +35,8 @@ pub fn lodge(
     at: Moment,
     declaration: &Declaration<'_>,
 ) -> Result<Verdict, AllocError>
-    ensures { IfOk result (IsVerdictAt loaded.now at (Command.Ie015 declaration.now.holder declaration.now.lrn declaration.now.departure declaration.now.destination declaration.now.lines.now)) }
+    ensures { IfOk result (IsVerdictAt loaded.now at
+        (Command.Ie015 declaration.now.holder declaration.now.lrn declaration.now.departure declaration.now.destination declaration.now.lines.now)) }
 {
     let Some(row) = loaded.holder else {
         return Ok(Verdict::refused(Refusal::NoHolder));
@@ -69,7 +70,9 @@ pub fn lodge(
 
 // The verdict on a declaration under an LRN that the holder has used already.
 fn repeat(known: &Movement, declaration: &Declaration<'_>, lines: &MovementLines) -> Verdict
-    ensures said { result.said ≡ if_lrn_new (Some known.now) (has_contents declaration.now.departure declaration.now.destination lines.now) (Said.Refused Refusal.LrnUsed) }
+    ensures said { result.said ≡ if_lrn_new (Some known.now)
+        (has_contents declaration.now.departure declaration.now.destination lines.now)
+        (Said.Refused Refusal.LrnUsed) }
     ensures change { result.change ≡ Change.Nothing }
 {
     let same_offices = known.departure == declaration.departure
@@ -86,7 +89,8 @@ fn repeat(known: &Movement, declaration: &Declaration<'_>, lines: &MovementLines
     }
 }
 
-// The verdict on a declaration that nothing refuses: the holder's row as it is then, and the movement with this MRN.
+// The verdict on a declaration that nothing refuses: the holder's row as it is then, and the movement with
+// this MRN.
 fn accept(row: HolderRow, mrn: Mrn, declaration: &Declaration<'_>, lines: MovementLines) -> Verdict
     ensures said { result.said ≡ Said.Answered (Answer.Ie028 declaration.now.lrn mrn) }
     ensures change { let d = declaration.now in
@@ -120,7 +124,8 @@ fn refuse_line(
     line: &Line,
     code: &AccessCode,
 ) -> Option<Refusal>
-    ensures { result ≡ guarantee_refusal day code.now (guarantee_by_grn line.now.grn (map (λ e. e.0) guarantees.now)) }
+    ensures { result ≡ guarantee_refusal day code.now
+        (guarantee_by_grn line.now.grn (map (λ e. e.0) guarantees.now)) }
 {
     let Some((guarantee, _)) = find_entry(guarantees, &line.grn) else {
         return Some(Refusal::NoGuarantee);

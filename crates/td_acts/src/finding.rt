@@ -34,7 +34,8 @@ pub fn find_entry<'a>(
     grn: &Grn,
 ) -> Option<&'a (Guarantee, Cents)>
     ensures entry { option_map (λ found. found.now) result ≡ entry_by_grn grn.now entries.now }
-    ensures guarantee { option_map (λ found. found.now.0) result ≡ guarantee_by_grn grn.now (map (λ e. e.0) entries.now) }
+    ensures guarantee { option_map (λ found. found.now.0) result
+        ≡ guarantee_by_grn grn.now (map (λ e. e.0) entries.now) }
 {
     for entry in entries {
         if entry.0.grn == *grn {

@@ -6,7 +6,8 @@ pub fn writes_what_is_accepted()
     ensures { WritesWhatIsAccepted }
 {}
 
-/// What is written for a command turns the owner's account into the account of the owner's book after the command.
+/// What is written for a command turns the owner's account into the account of the owner's book after the
+/// command.
 pub fn writes_what_the_book_says()
     ensures { WritesWhatTheBookSays }
 {}

@@ -1,5 +1,6 @@
-//! What is asked of the desk and what it says: commands, answers and refusals, the rows of one holder, and the verdict on a
-//! command over these rows. The model that the verdict is proved to meet stands in `specs/`.
+//! What is asked of the desk and what it says: commands, answers and refusals, the rows of one holder, and
+//! the verdict on a command over these rows. The model that the verdict is proved to meet stands in
+//! `specs/`.
 #![tactic(auto)]
 
 mod command;

@@ -2,7 +2,8 @@
 use crate::lines::Lines;
 use td_base::{Grn, Lrn, Mrn};
 
-/// The rows of a command's owner that the verdict asks for. Who loads them matches these shapes and no commands.
+/// The rows of a command's owner that the verdict asks for. Who loads them matches these shapes and no
+/// commands.
 #[derive(Clone, Copy, Debug)]
 pub enum Needs<'a> {
     /// None.

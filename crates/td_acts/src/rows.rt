@@ -27,7 +27,8 @@ pub struct Loaded {
     pub holder: Option<HolderRow>,
     /// For a declaration the movement with its LRN, for a view the one with its MRN, if there is one.
     pub movements: Vec<Movement>,
-    /// Those guarantees that the command names, and the amounts in use on them, which a declaration doesn't ask for.
+    /// Those guarantees that the command names, and the amounts in use on them, which a declaration doesn't
+    /// ask for.
     pub guarantees: Vec<(Guarantee, Cents)>,
 }
 

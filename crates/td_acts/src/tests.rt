@@ -184,7 +184,8 @@ fn openings_are_decided(rt: HostRuntime) -> Result<(), Fail> {
     Ok(())
 }
 
-/// Whether the declaration gets its MRN, lodged before or not, and something is written exactly where it wasn't.
+/// Whether the declaration gets its MRN, lodged before or not, and something is written exactly where it
+/// wasn't.
 fn is_allocated(alloc: Global, lodged: bool) -> Result<bool, Fail> {
     let command = declaration(alloc)?;
     let loaded = with_guarantee(alloc, 0, lodged)?;

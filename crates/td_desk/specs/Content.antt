@@ -1,4 +1,5 @@
--- What a desk contains: the desk's country, and the rows of each registered holder, in ascending order of the holders' numbers.
+-- What a desk contains: the desk's country, and the rows of each registered holder, in ascending order of
+-- the holders' numbers.
 use Rattle.std.specs.Prelude.{ℕ, List, [], Option, Some, None}
 use Rattle.td_acts.specs.declared.rows.HolderRow.{HolderRow}
 use Rattle.td_acts.specs.declared.rows.Change.{Change}

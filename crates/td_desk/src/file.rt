@@ -24,7 +24,8 @@ pub(crate) struct HolderFile {
     row: HolderRow,
     guarantees: Vec<Guarantee>,
     movements: Vec<Movement>,
-    // The movements' LRNs side by side: a declaration's is looked for here, in far less memory than the movements take.
+    // The movements' LRNs side by side: a declaration's is looked for here, in far less memory than the
+    // movements take.
     lrns: Vec<Lrn>,
 }
 
@@ -99,7 +100,8 @@ impl HolderFile {
         country: Country,
         needs: &Needs<'_>,
     ) -> Result<Loaded, AllocError>
-        ensures { AllByRecursion (IsCovered self.now.movements) self.now.guarantees → IfOk result (IsLoaded (account_with country (Some self.now)) (need_said needs.now)) }
+        ensures { AllByRecursion (IsCovered self.now.movements) self.now.guarantees
+            → IfOk result (IsLoaded (account_with country (Some self.now)) (need_said needs.now)) }
     {
         let (movements, guarantees) = match needs {
             Needs::Nothing => (Vec::new(alloc), Vec::new(alloc)),
@@ -176,7 +178,8 @@ fn guarantees_of(
     guarantees: &[Guarantee],
     lines: &Lines,
 ) -> Result<Vec<(Guarantee, Cents)>, AllocError>
-    ensures { IfOk result (λ found. map (λ e. e.0) found.items ≡ filter_map (λ l. guarantee_by_grn l.0.grn guarantees.now) lines.now) }
+    ensures { IfOk result (λ found. map (λ e. e.0) found.items
+        ≡ filter_map (λ l. guarantee_by_grn l.0.grn guarantees.now) lines.now) }
 {
     let unasked = Cents::new(0).unwrap();
     let mut found = Vec::new(alloc);
@@ -196,7 +199,9 @@ fn entries_by_grn(
     grn: &Grn,
 ) -> Result<Vec<(Guarantee, Cents)>, AllocError>
     ensures { AllByRecursion (IsCovered movements.now) guarantees.now
-        → IfOk result (λ found. found.items ≡ option_to_list (option_map (λ g. (g, used_on g.grn movements.now)) (guarantee_by_grn grn.now guarantees.now))) }
+        → IfOk result (λ found. found.items
+            ≡ option_to_list (option_map (λ g. (g, used_on g.grn movements.now))
+            (guarantee_by_grn grn.now guarantees.now))) }
 {
     let mut found = Vec::new(alloc);
     if let Some(guarantee) = find_guarantee(guarantees, grn) {

@@ -1,4 +1,5 @@
-//! The desk: its content, what it promises to weigh and to carry, the plain desk in memory, and runs of commands.
+//! The desk: its content, what it promises to weigh and to carry, the plain desk in memory, and runs of
+//! commands.
 #![tactic(auto)]
 
 mod decision;

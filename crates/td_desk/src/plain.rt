@@ -73,7 +73,8 @@ impl Store for PlainDesk {
     }
 }
 
-// Writes the rows of a change, in which this is the holder's row, into the holder's file, or into a new one in its place.
+// Writes the rows of a change, in which this is the holder's row, into the holder's file, or into a new one
+// in its place.
 fn write_rows(
     alloc: Global,
     files: &mut Vec<HolderFile>,
@@ -82,7 +83,9 @@ fn write_rows(
 ) -> Result<(), AllocError>
     requires order { Rises holder_key 0 files.old.items }
     requires row { row_in change ≡ Some row }
-    ensures ok { OnOk result (files.new.items ≡ put_row holder_key (rows_after change (rows_or_new row (row_at holder_key row.holder files.old.items))) files.old.items) }
+    ensures ok { OnOk result (files.new.items
+        ≡ put_row holder_key (rows_after change
+        (rows_or_new row (row_at holder_key row.holder files.old.items))) files.old.items) }
     ensures err { OnErr result (files.new.items ≡ files.old.items) }
     ensures order { Rises holder_key 0 files.new.items }
 {

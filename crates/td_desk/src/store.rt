@@ -16,7 +16,8 @@ use td_acts::table::verdict;
 use td_acts::{Change, Command, Loaded, Needs, Said, Verdict, known, owner};
 use td_base::{Country, HolderNo};
 
-/// The rows of a desk, in memory or in a file. It knows no command: it loads what a verdict needs, and writes what a decision changes.
+/// The rows of a desk, in memory or in a file. It knows no command: it loads what a verdict needs, and
+/// writes what a decision changes.
 pub trait Store {
     /// Its country and rows.
     ghost rows: { Self → Content };
@@ -37,15 +38,17 @@ pub trait Store {
     fn office(&self) -> Country
         ensures { is_kept self.now → is_open self.now → result ≡ (rows self.now).country };
 
-    /// What a verdict needs of the rows of a command's owner: of a registered holder the holder's row and what is needed beside it, of
-    /// another number, and where nobody owns the command, nothing. An `Err` is want of memory or a fault of the store.
+    /// What a verdict needs of the rows of a command's owner: of a registered holder the holder's row and
+    /// what is needed beside it, of another number, and where nobody owns the command, nothing. An `Err` is
+    /// want of memory or a fault of the store.
     fn load(&mut self, alloc: Global, owner: Option<HolderNo>, needs: &Needs<'_>) -> Result<Loaded, Fault>
         ensures kept { is_kept self.new → is_kept self.old }
         ensures live { is_kept self.new → is_open self.new → is_open self.old }
         ensures shown { is_kept self.new → OnOk result (is_open self.old × is_open self.new) }
         ensures memory { is_kept self.new → is_open self.old → result ≡ Err Fault.NoMemory → is_open self.new }
         ensures same { is_kept self.new → is_open self.new → rows self.new ≡ rows self.old }
-        ensures loaded { is_kept self.new → is_open self.old → IsSound (rows self.old) → IfOk result (IsLoaded (kept_for owner (rows self.old)) (need_said needs.now)) }
+        ensures loaded { is_kept self.new → is_open self.old → IsSound (rows self.old)
+            → IfOk result (IsLoaded (kept_for owner (rows self.old)) (need_said needs.now)) }
         ensures store { result ≡ Err Fault.Store → may_fail }
         ensures call { asked self.old (result_err result) self.new };
 
@@ -55,7 +58,8 @@ pub trait Store {
         ensures live { is_kept self.new → is_open self.new → is_open self.old }
         ensures shown { is_kept self.new → OnOk result (is_open self.old × is_open self.new) }
         ensures memory { is_kept self.new → is_open self.old → result ≡ Err Fault.NoMemory → is_open self.new }
-        ensures written { is_kept self.new → is_open self.new → OnOk result (rows self.new ≡ content_after change (rows self.old)) }
+        ensures written { is_kept self.new → is_open self.new
+            → OnOk result (rows self.new ≡ content_after change (rows self.old)) }
         ensures err { is_kept self.new → is_open self.new → OnErr result (rows self.new ≡ rows self.old) }
         ensures store { result ≡ Err Fault.Store → may_fail }
         ensures call { asked self.old (result_err result) self.new };
@@ -72,7 +76,8 @@ impl<S: Store> Desk for S {
 
     ghost has_store = { S.may_fail };
 
-    // The store's call ended so; or it ended well, and the verdict on what it loaded found no memory; or the store was left alone.
+    // The store's call ended so; or it ended well, and the verdict on what it loaded found no memory; or
+    // the store was left alone.
     ghost called = { λ old why new. S.asked old why new ⊎ ((S.asked old None new × (why ≡ Some fault.NoMemory)) ⊎ ((new ≡ old) × (why ≡ None))) };
 
     fn country(&self) -> Country {
