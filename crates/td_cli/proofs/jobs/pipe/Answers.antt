@@ -2,7 +2,7 @@ use Rattle.std.proofs.Common.{◌∙◌, sym, subst, ap}
 use Rattle.td_desk.specs.Sound.{IsSound}
 use Rattle.td_desk.specs.Plain.{rows_in}
 use Rattle.td_cli.proofs.Pipes.{private_from_empty}
-use Rattle.td_cli.proofs.perform.pipe.Goals as goal
+use Rattle.td_cli.proofs.jobs.pipe.Goals as goal
 
 pub returns : goal.returns
 returns g c =

@@ -1,11 +1,8 @@
 //! The jobs of the program.
-ghost use Rattle.std.specs.Prelude.{◌≡◌, ◌≢◌, ◌⊎◌, ℕ, ℤ, codes, map, string_bytes, List, Option};
-ghost use Rattle.std.specs.IoError.{error_kind};
-ghost use Rattle.td_cli.specs.declared.words.NoJob.{NoJob};
-ghost use Rattle.td_wire.specs.declared.stream.StreamEnd.{StreamEnd};
+ghost use Rattle.std.specs.Prelude.{◌≡◌, map, string_bytes};
+ghost use Rattle.td_cli.specs.Performed.{IsPerformed, IsUnread};
 ghost use Rattle.td_cli.specs.Piped.{PipesAs, IsDone};
 ghost use Rattle.td_cli.specs.Statuses.{status_of_end, line_of_end, IsTold, IsAnswered};
-ghost use Rattle.td_cli.specs.Words.{AsksFor};
 
 use crate::clock::{FixedClock, MachineClock};
 use crate::words::{NoJob, read_words};
@@ -32,10 +29,8 @@ pub fn perform<R: Read, W: Write, E: Write>(
     out: &mut Counted<W>,
     errors: &mut Counted<E>,
 ) -> u8
-    ensures { ((country : List ℕ) × (at : Option ℤ) × (end : Option StreamEnd) × AsksFor (map string_bytes words.now) country at
-        × IsDone R.remaining W.contents country at input.old input.new out.old out.new end
-        × (result ≡ status_of_end end) × IsTold E.contents errors.old errors.new (line_of_end end))
-        ⊎ ((no_job : NoJob) × (input.new ≡ input.old) × IsAnswered W.contents E.contents out.old out.new errors.old errors.new no_job result) }
+    ensures { IsPerformed R.remaining W.contents E.contents (map string_bytes words.now)
+        input.old input.new out.old out.new errors.old errors.new result }
 {
     match read_words(rt.alloc(), words) {
         Ok(job) => {
@@ -86,9 +81,7 @@ fn told<W: Write, E: Write>(no_job: &NoJob, out: &mut Counted<W>, errors: &mut C
 /// The status where the words themselves couldn't be read: there was no memory for them, or they aren't text. The kind of the error
 /// says which.
 pub(crate) fn unread_words<E: Write>(error: &io::Error, errors: &mut Counted<E>) -> u8
-    ensures { ((error_kind error.now ≡ ErrorKind.OutOfMemory) × (result ≡ 1) × IsTold E.contents errors.old errors.new (codes "transit-desk: no-memory\n"))
-        ⊎ ((error_kind error.now ≢ ErrorKind.OutOfMemory) × (result ≡ 2)
-        × IsTold E.contents errors.old errors.new (codes "error: the words of the command line aren't UTF-8 text\n")) }
+    ensures { IsUnread E.contents error.now errors.old errors.new result }
 {
     let ErrorKind::OutOfMemory = error.kind() else {
         let _told = write_whole(

@@ -1,4 +1,4 @@
-use Rattle.td_cli.proofs.perform.status_of_stream.Goals as goal
+use Rattle.td_cli.proofs.jobs.status_of_stream.Goals as goal
 
 pub returns-in-Refused-clause-line : goal.returns-in-Refused-clause-line
 returns-in-Refused-clause-line g c = rw c.in-Refused.is c.fault.ensures.line
