@@ -1,3 +1,4 @@
+pub mod Decided
 mod Filled
 pub mod Counts
 pub mod Calls
