@@ -2,14 +2,14 @@ use Rattle.std.proofs.Common.{◌≡◌, ℕ, Option, Some, None, SomeIff, refl,
 use Rattle.std.proofs.lemmas.Grind.{common_steps}
 use Rattle.td_base.specs.Days.{IsDayText, number_in}
 use Rattle.td_base.proofs.DayTexts.{made_day_text, day_read_is}
-use Rattle.td_base.proofs.Slices.{rest_is}
+use Rattle.std.proofs.lemmas.List.{take_rest}
 use Rattle.td_base.proofs.day.Day.read.Goals as goal
 
 pub returns : goal.returns
 returns c =
     let year = c.in_ok-year.ensures.value in
     let month = c.in_ok-month.ensures.value in
-    let day = rw rest_is at c.in_ok-day.ensures.value in
+    let day = rw take_rest at c.in_ok-day.ensures.value in
     let found = c.in_ok-number_of.ensures.value in
     let text = c.args.text.now in
     let day_found : Option ℕ = Some c.in_ok-number_of.field-0 in
@@ -29,6 +29,6 @@ pub returns-in_err-number_of-clause-value : goal.returns-in_err-number_of-clause
 returns-in_err-number_of-clause-value c =
     let year = c.in_ok-year.ensures.value in
     let month = c.in_ok-month.ensures.value in
-    let day = rw rest_is at c.in_ok-day.ensures.value in
+    let day = rw take_rest at c.in_ok-day.ensures.value in
     let none : c.from_residual-in_err-number_of.result ≡ None = search rules in
     none ∙ day_read_is c.args.text.now None (λ h. c.in_err-number_of.ensures.value (rw (year.1, month.1, day.1) h.date))

@@ -7,7 +7,7 @@ use Rattle.td_base.specs.Money.{IsCentsText, cents_value}
 use Rattle.td_base.proofs.Amounts.{too_long, made_cents_text, SomeIff-same}
 use Rattle.td_base.proofs.Decided.{cents_read_is}
 use Rattle.td_base.proofs.Decimals.{ten_power_small}
-use Rattle.td_base.proofs.Slices.{rest_is}
+use Rattle.std.proofs.lemmas.List.{take_rest}
 use Rattle.td_base.proofs.money.Cents.read.Goals as goal
 use Rattle.td_base.proofs.money.Cents.read.Goals.{then-point-gt14-via-then-point-gt14, then-point-gt14-via-else-point-gt14+then-text-point-ne46, then-point-gt14-via-else-point-gt14+else-text-point-ne46+then-not-is_whole}
 
@@ -37,7 +37,7 @@ overflow_add-whole c =
     let a = c.in_ok-point.ensures in
     let size = length-take-le c.in_ok-point.point c.args.text.now (omega arith) in
     let power = ten_power_small (length (take c.in_ok-point.point c.args.text.now)) 14 (omega arith) in
-    let rest = rw rest_is at c.in_ok-cents.ensures.small in
+    let rest = rw take_rest at c.in_ok-cents.ensures.small in
     let behind = length-drop (c.in_ok-point.point + 1) c.args.text.now in
     let fraction = ten_power_small (length (drop (c.in_ok-point.point + 1) c.args.text.now)) 2 (omega arith) in
     omega (arith, c.in_ok-whole.ensures.small, rest)
@@ -46,7 +46,7 @@ pub returns : goal.returns
 returns c =
     let a = c.in_ok-point.ensures in
     let whole = c.in_ok-whole.ensures.value in
-    let cents = rw rest_is at c.in_ok-cents.ensures.value in
+    let cents = rw take_rest at c.in_ok-cents.ensures.value in
     let text = c.args.text.now in
     let form : SomeIff c.new.result (IsCentsText text) (cents_value text) = SomeIff-same c.new.result _ _ _ _
     (λ range. made_cents_text c.args.text.now c.in_ok-point.point a.0 a.1 (c.is_whole.ensures.form.0 c.if-not-is_whole.false) c.if-text-point-ne46.false cents.0 (rw (sym whole.1, sym cents.1) range))
