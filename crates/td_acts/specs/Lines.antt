@@ -1,5 +1,7 @@
 -- Lines of declarations: a guarantee and an amount, and beside them the guarantee's access code.
-use Rattle.std.specs.Prelude.{◌≢◌, ℕ, ◌^◌, ◌≤◌, List, length, All, AllPairs}
+use Rattle.std.specs.Prelude.{◌≢◌, ℕ, ◌^◌, ◌≤◌, Bool, true, not, ◌&&◌, nat_le, if◌then◌else◌, List, [], ◌∷◌, length, All, AllPairs, Option, Some, None}
+use Rattle.std.specs.List.{list_all}
+use Rattle.std.specs.Str.{bytes_eq}
 use Rattle.td_movement.specs.declared.line.Line.{Line}
 
 -- the line without its code
@@ -10,9 +12,28 @@ line_of l = l.0
 abbrev pub IsLineAmount : ℕ → Type 0
 IsLineAmount cents = (1 ≤ cents) × (cents ≤ 10 ^ 12)
 
+-- whether a number is one
+abbrev pub is_line_amount : ℕ → Bool
+is_line_amount cents = nat_le 1 cents && nat_le cents (10 ^ 12)
+
 -- the lines of a declaration
 pub record IsLines (lines : List (Line × List ℕ)) : Type 0 where
   pub some : 1 ≤ length lines
   pub most : length lines ≤ 9
   pub amounts : All (λ l. IsLineAmount l.0.cents) lines
   pub distinct : AllPairs (λ l m. l.0.grn ≢ m.0.grn) lines
+
+-- whether no two lines are on one guarantee
+abbrev pub are_distinct : List (Line × List ℕ) → Bool
+are_distinct [] = true
+are_distinct (line ∷ lines) = list_all (λ later. not (bytes_eq line.0.grn later.0.grn)) lines && are_distinct lines
+
+-- whether lines are those of a declaration
+abbrev pub are_lines : List (Line × List ℕ) → Bool
+are_lines lines =
+    nat_le 1 (length lines) && nat_le (length lines) 9
+    && list_all (λ line. is_line_amount line.0.cents) lines && are_distinct lines
+
+-- the lines, where they are those of a declaration
+abbrev pub lines_of : List (Line × List ℕ) → Option (List (Line × List ℕ))
+lines_of lines = if are_lines lines then Some lines else None

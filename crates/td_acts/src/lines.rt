@@ -2,7 +2,7 @@
 ghost use Rattle.std.specs.Prelude.{◌≡◌, ◌↔◌, List, IsTrue, IfOk, SomeIff, map};
 ghost use Rattle.std.specs.List.{list_any};
 ghost use Rattle.std.specs.Str.{bytes_eq};
-ghost use Rattle.td_acts.specs.Lines.{IsLines, IsLineAmount, line_of};
+ghost use Rattle.td_acts.specs.Lines.{IsLines, IsLineAmount, are_lines, is_line_amount, line_of, lines_of};
 
 use std::alloc::{AllocError, Global};
 use std::marker::Model;
@@ -38,7 +38,8 @@ impl Lines {
     /// These lines, in order. `None` for no line and more than 9, for an amount outside 1 to 10^12 cents,
     /// and where two lines name one guarantee.
     pub fn new(items: Vec<(Line, AccessCode)>) -> Option<Self>
-        ensures { SomeIff result (IsLines items.items) items.items }
+        ensures value { result ≡ lines_of items.items }
+        ensures form { SomeIff result (IsLines items.items) items.items }
     {
         if !are_lines(&items) {
             return None;
@@ -58,12 +59,12 @@ impl Lines {
     pub fn without_codes(&self, alloc: Global) -> Result<MovementLines, AllocError>
         ensures { IfOk result (λ lines. lines ≡ map line_of self.now) }
     {
-        Ok(MovementLines::new(lines_of(alloc, &self.items)?))
+        Ok(MovementLines::new(bare_lines(alloc, &self.items)?))
     }
 }
 
 // Lines without their codes.
-fn lines_of(alloc: Global, items: &[(Line, AccessCode)]) -> Result<Vec<Line>, AllocError>
+fn bare_lines(alloc: Global, items: &[(Line, AccessCode)]) -> Result<Vec<Line>, AllocError>
     ensures { IfOk result (λ lines. lines.items ≡ map line_of items.now) }
 {
     let lines = items.iter().map(|item| item.0).collect(alloc)?;
@@ -72,7 +73,8 @@ fn lines_of(alloc: Global, items: &[(Line, AccessCode)]) -> Result<Vec<Line>, Al
 
 // Whether these are the lines of a declaration.
 fn are_lines(items: &[(Line, AccessCode)]) -> bool
-    ensures { IsTrue result ↔ IsLines items.now }
+    ensures value { result ≡ are_lines items.now }
+    ensures form { IsTrue result ↔ IsLines items.now }
 {
     if items.is_empty() || items.len() > MAX_LINES {
         return false;
@@ -88,7 +90,8 @@ fn are_lines(items: &[(Line, AccessCode)]) -> bool
 
 // Whether an amount may stand in a line.
 fn is_line_amount(cents: Cents) -> bool
-    ensures { IsTrue result ↔ IsLineAmount cents }
+    ensures value { result ≡ is_line_amount cents }
+    ensures form { IsTrue result ↔ IsLineAmount cents }
 {
     let cents = cents.get();
     cents >= 1 && cents <= MAX_LINE_CENTS

@@ -55,8 +55,8 @@ SomeIff-same None P Q v w to from e h = λ q. h (from q)
 SomeIff-same (Some x) P Q v w to from e h = (to h.0, h.1 ∙ e)
 
 -- what is found at the point and behind it is what such a text is made of
-pub is_cents_text : (text : List ℕ) (point : ℕ) → 3 ≤ length text → point ≡ length text - 3 → IsWhole (take point text) → get_or text point 0 ≡ 46 → All IsAsciiDigit (drop (point + 1) text) → IsCents (100 * digits_value (take point text) + digits_value (drop (point + 1) text)) → IsCentsText text
-is_cents_text text point size e whole dot fraction range =
+pub made_cents_text : (text : List ℕ) (point : ℕ) → 3 ≤ length text → point ≡ length text - 3 → IsWhole (take point text) → get_or text point 0 ≡ 46 → All IsAsciiDigit (drop (point + 1) text) → IsCents (100 * digits_value (take point text) + digits_value (drop (point + 1) text)) → IsCentsText text
+made_cents_text text point size e whole dot fraction range =
     let same : point_of text ≡ point = omega arith in
     record {
       whole = rw same whole;
@@ -114,7 +114,7 @@ whole_and_cents n text small h =
     let point : point_of all ≡ length text = omega arith in
     let value : 100 * digits_value (take (length text) all) + digits_value (drop (length text + 1) all) ≡ n = rw (whole, rest, h.value, cents) (omega arith) in
     let digits = All-cons IsAsciiDigit (48 + n / 10 % 10) ((48 + n % 10) ∷ []) (omega arith, omega arith) (All-cons IsAsciiDigit (48 + n % 10) [] (omega arith, omega arith) (All-nil IsAsciiDigit)) in
-    (is_cents_text all (length text) (omega arith) (omega arith) (rw whole (record { size = h.size; digits = h.digits; shortest = shortest_decimal (n / 100) text h })) (get_or-append_seam text 46 ones 0) (rw rest digits) (rw value small), rw point value)
+    (made_cents_text all (length text) (omega arith) (omega arith) (rw whole (record { size = h.size; digits = h.digits; shortest = shortest_decimal (n / 100) text h })) (get_or-append_seam text 46 ones 0) (rw rest digits) (rw value small), rw point value)
 
 -- the text of an amount reads back
 pub cents_text_reads : (n : ℕ) → IsCents n → IsCentsText (cents_text n) × (cents_value (cents_text n) ≡ n)

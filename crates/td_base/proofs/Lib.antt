@@ -1,8 +1,5 @@
+pub mod Decided
 mod Filled
-pub mod Counts
-pub mod Calls
-pub mod Chaining
-mod Slices
 mod Sums
 mod Ascii
 mod Decimals

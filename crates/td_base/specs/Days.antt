@@ -1,7 +1,10 @@
 -- Days, by their number from 1970-01-01. What a date is and which number it has is the calendar's of `jiff`.
-use Rattle.std.specs.Prelude.{◌≡◌, ℕ, zero, suc, ◌+◌, ◌-◌, ◌/◌, ◌≤◌, ◌&&◌, nat_le, if◌then◌else◌, ℤ, pos, negsuc, unsigned_abs, List, ◌∷◌, ◌++◌, length, take, drop, slice_range, slice_get, Option, Some, None, All}
-use Rattle.std.specs.Char.{IsAsciiDigit}
-use Rattle.jiff_core.specs.Calendar.{days_from_civil, IsDate}
+use Rattle.std.specs.Prelude.{◌≡◌, ℕ, zero, suc, ◌+◌, ◌-◌, ◌/◌, ◌≤◌, Bool, ◌&&◌, nat_eq, nat_le, if◌then◌else◌, ℤ, pos, negsuc, unsigned_abs, List, ◌∷◌, ◌++◌, length, take, drop, slice_range, slice_get, Option, Some, None, All}
+use Rattle.std.specs.Char.{IsAsciiDigit, is_ascii_digit}
+use Rattle.std.specs.Int.{is_in_range}
+use Rattle.std.specs.List.{list_all}
+use Rattle.std.specs.Option.{option_eq}
+use Rattle.jiff_core.specs.Calendar.{days_from_civil, days_in_month, IsDate}
 use Rattle.td_base.specs.Digits.{fixed_decimal}
 use Rattle.td_base.specs.Holder.{digits_value}
 
@@ -66,6 +69,11 @@ pub record IsDateOfDesk (year month day : ℕ) : Type 0 where
   pub first : 2000 ≤ year
   pub last : year ≤ 2100
 
+-- whether three numbers are one
+abbrev pub is_date_of_desk : ℕ → ℕ → ℕ → Bool
+is_date_of_desk year month day =
+    is_in_range 2000 2100 year && is_in_range 1 12 month && is_in_range 1 (days_in_month (pos year) month) day
+
 -- the text of a day, character by character
 pub record IsDayText (text : List ℕ) : Type 0 where
   pub size : length text ≡ 10
@@ -75,3 +83,19 @@ pub record IsDayText (text : List ℕ) : Type 0 where
   pub second_dash : slice_get text 7 ≡ Some 45
   pub day : All IsAsciiDigit (drop 8 text)
   pub date : IsDateOfDesk (year_in text) (month_in text) (day_in text)
+
+-- whether a text has this form: `2025-03-01`
+abbrev pub has_day_form : List ℕ → Bool
+has_day_form text =
+    nat_eq (length text) 10
+    && list_all is_ascii_digit (take 4 text) && option_eq nat_eq (slice_get text 4) (Some 45)
+    && list_all is_ascii_digit (slice_range text 5 7) && option_eq nat_eq (slice_get text 7) (Some 45)
+    && list_all is_ascii_digit (drop 8 text)
+
+-- whether a text is that of a day
+abbrev pub is_day_text : List ℕ → Bool
+is_day_text text = has_day_form text && is_date_of_desk (year_in text) (month_in text) (day_in text)
+
+-- the day that a text names
+abbrev pub day_read : List ℕ → Option ℕ
+day_read text = if is_day_text text then Some (number_in text) else None

@@ -1,10 +1,20 @@
 -- Numbers of holders, and their texts.
-use Rattle.std.specs.Prelude.{◌≡◌, ℕ, ◌+◌, ◌-◌, ◌*◌, ◌/◌, ◌%◌, ◌≤◌, List, [], ◌∷◌, length, fold, All}
-use Rattle.std.specs.Char.{IsAsciiDigit}
+use Rattle.std.specs.Prelude.{◌≡◌, ℕ, ◌+◌, ◌-◌, ◌*◌, ◌/◌, ◌%◌, ◌≤◌, Bool, ◌&&◌, nat_eq, nat_le, if◌then◌else◌, List, [], ◌∷◌, length, fold, All, Option, Some, None}
+use Rattle.std.specs.Char.{IsAsciiDigit, is_ascii_digit}
+use Rattle.std.specs.Int.{is_in_range}
+use Rattle.std.specs.List.{list_all}
 
 -- a number that a holder may have
 abbrev pub IsHolderNumber : ℕ → Type 0
 IsHolderNumber n = (1 ≤ n) × (n ≤ 999999)
+
+-- whether a number is one
+abbrev pub is_holder_number : ℕ → Bool
+is_holder_number n = is_in_range 1 999999 n
+
+-- the holder of a number, where it has one
+abbrev pub holder_of : ℕ → Option ℕ
+holder_of n = if is_holder_number n then Some n else None
 
 -- the number that a text of digits shows
 abbrev pub digits_value : List ℕ → ℕ
@@ -15,6 +25,15 @@ pub record IsHolderText (text : List ℕ) : Type 0 where
   pub size : length text ≡ 6
   pub digits : All IsAsciiDigit text
   pub positive : 1 ≤ digits_value text
+
+-- whether a text is that
+abbrev pub is_holder_text : List ℕ → Bool
+is_holder_text text =
+    nat_eq (length text) 6 && list_all is_ascii_digit text && nat_le 1 (digits_value text)
+
+-- the holder that a text names
+abbrev pub holder_read : List ℕ → Option ℕ
+holder_read text = if is_holder_text text then Some (digits_value text) else None
 
 -- the number in six digits
 abbrev pub holder_text : ℕ → List ℕ

@@ -10,6 +10,6 @@ pub mod Digits
 pub mod Money
 pub mod Days
 pub mod References
-pub mod Counted
-pub mod Chains
-pub mod Writing
+pub use Rattle.counted_io.specs.Counted
+pub use Rattle.counted_io.specs.Chains
+pub use Rattle.counted_io.specs.Writing

@@ -1,12 +1,14 @@
 -- References: the MRN of a movement and the GRN of a guarantee (NCTS).
-use Rattle.std.specs.Prelude.{◌≡◌, ◌≢◌, ℕ, ◌+◌, ◌-◌, ◌≤◌, ◌&&◌, Bool, nat_lt, if◌then◌else◌, List, [], ◌∷◌, ◌++◌, length, take, drop, slice_range, slice_get, Option, Some, None, All, codes}
-use Rattle.std.specs.Char.{IsAsciiDigit, IsAsciiUppercase}
+use Rattle.std.specs.Prelude.{◌≡◌, ◌≢◌, ℕ, ◌+◌, ◌-◌, ◌≤◌, ◌&&◌, not, Bool, nat_eq, nat_lt, if◌then◌else◌, List, [], ◌∷◌, ◌++◌, length, take, drop, slice_range, slice_get, Option, Some, None, Result, Ok, Err, All, codes}
+use Rattle.std.specs.Char.{IsAsciiDigit, IsAsciiUppercase, is_ascii_digit, is_ascii_uppercase}
+use Rattle.std.specs.List.{list_all}
+use Rattle.std.specs.Option.{option_eq}
 use Rattle.std.specs.Str.{bytes_eq, all_ascii_digits}
 use Rattle.td_base.specs.CheckDigit.{check_of}
 use Rattle.td_base.specs.Country.{IsCountry}
 use Rattle.td_base.specs.Digits.{fixed_decimal}
 use Rattle.td_base.specs.Holder.{IsHolderNumber, digits_value}
-use Rattle.td_base.specs.Letters.{IsMark}
+use Rattle.td_base.specs.Letters.{IsMark, is_mark}
 use Rattle.td_base.specs.declared.references.RefFault.{RefFault}
 use Rattle.td_base.specs.declared.references.RefFault.TheVariants.{Length, Form, CheckDigit}
 
@@ -29,15 +31,29 @@ pub record HasForm (text : List ℕ) : Type 0 where
   pub identifier : All IsMark (identifier_of text)
   pub last : All IsAsciiDigit (drop (length text - 1) text)
 
+-- whether a text has this form
+abbrev pub has_form : List ℕ → Bool
+has_form text =
+    list_all is_ascii_digit (take 2 text) && list_all is_ascii_uppercase (country_of text)
+    && list_all is_mark (identifier_of text) && list_all is_ascii_digit (drop (length text - 1) text)
+
 -- the last is the check digit of all before it
 abbrev pub HasCheckDigit : List ℕ → Type 0
 HasCheckDigit text = slice_get text (length text - 1) ≡ Some (48 + check_of (front_of text))
+
+-- whether it is
+abbrev pub has_check_digit : List ℕ → Bool
+has_check_digit text = option_eq nat_eq (slice_get text (length text - 1)) (Some (48 + check_of (front_of text)))
 
 -- a reference of so many characters
 pub record IsReferenceText (places : ℕ) (text : List ℕ) : Type 0 where
   pub size : length text ≡ places
   pub form : HasForm text
   pub check : HasCheckDigit text
+
+-- whether a text is one
+abbrev pub is_reference_text : ℕ → List ℕ → Bool
+is_reference_text places text = nat_eq (length text) places && has_form text && has_check_digit text
 
 -- a GRN
 abbrev pub IsGrn : List ℕ → Type 0
@@ -53,7 +69,35 @@ IsFirstFault places text Length = length text ≢ places
 IsFirstFault places text Form = (length text ≡ places) × ¬ (HasForm text)
 IsFirstFault places text CheckDigit = (length text ≡ places) × HasForm text × ¬ (HasCheckDigit text)
 
--- how it is told
+-- of a text that is no such reference, the first of these that it isn't
+abbrev pub first_fault : ℕ → List ℕ → RefFault
+first_fault places text =
+    if not (nat_eq (length text) places) then Length
+    else if not (has_form text) then Form
+    else CheckDigit
+
+-- the reference that a text is, or the first fault
+abbrev pub reference_read : ℕ → List ℕ → Result (List ℕ) RefFault
+reference_read places text =
+    if is_reference_text places text then Ok text else Err (first_fault places text)
+
+-- whether a text is a GRN
+abbrev pub is_grn : List ℕ → Bool
+is_grn = is_reference_text 17
+
+-- whether a text is an MRN
+abbrev pub is_mrn : List ℕ → Bool
+is_mrn = is_reference_text 18
+
+-- the GRN that a text is, or the first fault
+abbrev pub grn_read : List ℕ → Result (List ℕ) RefFault
+grn_read = reference_read 17
+
+-- the MRN that a text is, or the first fault
+abbrev pub mrn_read : List ℕ → Result (List ℕ) RefFault
+mrn_read = reference_read 18
+
+-- how a fault is told
 abbrev pub fault_text : RefFault → List ℕ
 fault_text Length = codes "wrong length"
 fault_text Form = codes "wrong form"

@@ -1,6 +1,6 @@
 //! Access codes.
 ghost use Rattle.std.specs.Prelude.{◌≡◌, ℕ, List, Some, SomeIff};
-ghost use Rattle.td_base.specs.Codes.{IsAccessCode};
+ghost use Rattle.td_base.specs.Codes.{IsAccessCode, code_read};
 
 use crate::text::{is_marks, write_ascii};
 use std::fmt;
@@ -25,7 +25,8 @@ impl Model for AccessCode {
 impl AccessCode {
     /// Reads exactly four digits or capital letters.
     pub fn read(text: &[u8]) -> Option<Self>
-        ensures { SomeIff result (IsAccessCode text.now) text.now }
+        ensures value { result ≡ code_read text.now }
+        ensures form { SomeIff result (IsAccessCode text.now) text.now }
     {
         if text.len() != 4 || !is_marks(text) {
             return None;

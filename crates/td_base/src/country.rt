@@ -1,6 +1,6 @@
 //! Codes of countries.
 ghost use Rattle.std.specs.Prelude.{◌≡◌, ℕ, List, Some, SomeIff};
-ghost use Rattle.td_base.specs.Country.{IsCountry};
+ghost use Rattle.td_base.specs.Country.{IsCountry, country_read};
 
 use std::fmt;
 use std::marker::Model;
@@ -24,7 +24,8 @@ impl Model for Country {
 impl Country {
     /// Reads exactly two capital letters.
     pub fn read(text: &[u8]) -> Option<Self>
-        ensures { SomeIff result (IsCountry text.now) text.now }
+        ensures value { result ≡ country_read text.now }
+        ensures form { SomeIff result (IsCountry text.now) text.now }
     {
         match text {
             [a, b] if a.is_ascii_uppercase() && b.is_ascii_uppercase() => {

@@ -2,7 +2,7 @@
 ghost use Rattle.std.specs.Prelude.{◌≡◌, ℕ, ◌+◌, ◌%◌, ◌≤◌, ◌∷◌, ◌++◌, pos, Some, SomeIff, IfSome};
 ghost use Rattle.jiff.specs.Words.{epoch_day};
 ghost use Rattle.td_base.specs.Digits.{fixed_decimal};
-ghost use Rattle.td_base.specs.Days.{IsDay, IsDayText, IsDateOfDesk, day_number, day_at, day_of_moment, day_text, number_in, year_of, month_of, day_of};
+ghost use Rattle.td_base.specs.Days.{IsDay, IsDayText, IsDateOfDesk, day_number, day_at, day_of_moment, day_read, day_text, number_in, year_of, month_of, day_of};
 
 use crate::digits::{last_digit, read_digits};
 use crate::moment::Moment;
@@ -47,7 +47,8 @@ impl Day {
 
     /// Reads exactly four digits, `-`, two digits, `-` and two digits that name a day of these years.
     pub fn read(text: &[u8]) -> Option<Self>
-        ensures { SomeIff result (IsDayText text.now) (number_in text.now) }
+        ensures value { result ≡ day_read text.now }
+        ensures form { SomeIff result (IsDayText text.now) (number_in text.now) }
     {
         if text.len() != 10 || text[4] != b'-' || text[7] != b'-' {
             return None;

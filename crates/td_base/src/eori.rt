@@ -1,6 +1,6 @@
 //! Numbers of economic operators.
 ghost use Rattle.std.specs.Prelude.{◌≡◌, ◌↔◌, IsTrue, Some, SomeIff};
-ghost use Rattle.td_base.specs.Eori.{IsEori};
+ghost use Rattle.td_base.specs.Eori.{IsEori, is_eori, eori_read};
 
 use crate::text::{is_capitals, is_marks, write_ascii};
 use std::fmt;
@@ -32,7 +32,8 @@ impl Model for Eori {
 impl Eori {
     /// Reads exactly the texts of that form.
     pub fn read(text: &[u8]) -> Option<Self>
-        ensures { SomeIff result (IsEori text.now) text.now }
+        ensures value { result ≡ eori_read text.now }
+        ensures form { SomeIff result (IsEori text.now) text.now }
     {
         if !is_eori(text) {
             return None;
@@ -61,7 +62,8 @@ impl fmt::Display for Eori {
 }
 
 fn is_eori(text: &[u8]) -> bool
-    ensures { IsTrue result ↔ IsEori text.now }
+    ensures value { result ≡ is_eori text.now }
+    ensures form { IsTrue result ↔ IsEori text.now }
 {
     text.len() >= 3 && text.len() <= 17 && is_capitals(&text[..2]) && is_marks(&text[2..])
 }

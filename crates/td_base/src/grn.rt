@@ -1,13 +1,16 @@
 //! Guarantee reference numbers.
 ghost use Rattle.std.specs.Prelude.{◌≡◌, ℕ, ◌≤◌, List, Some, IfErr, OkIff, SomeIff};
-ghost use Rattle.td_base.specs.References.{IsGrn, IsGrnSerial, IsFirstFault, owner_of as owner_in, serial_of as serial_in, grn_text};
+ghost use Rattle.td_base.specs.References.{IsGrn, IsGrnSerial, IsFirstFault, owner_of as owner_in, serial_of as serial_in, grn_read, grn_text};
 
 use crate::country::Country;
 use crate::holder::HolderNo;
-use crate::references::{RefFault, owner_of, serial_of, test_reference, write_reference};
+use crate::references::{RefFault, make_reference, owner_of, read_reference, serial_of};
 use crate::text::write_ascii;
 use std::fmt;
 use std::marker::Model;
+
+/// The greatest serial of a holder's guarantees: it has six digits in the reference.
+const MAX_SERIAL: u32 = 999_999;
 
 /// A guarantee reference number (GRN) of NCTS: two digits of a year, two capital letters of a country, 12 digits or
 /// capital letters and a check digit. Contracts see it as its text.
@@ -33,12 +36,11 @@ impl Grn {
     /// Reads exactly the texts of a GRN. The error is `Length` for another length than 17, else `Form` where a
     /// place has a character of another class, else `CheckDigit`.
     pub fn read(text: &[u8]) -> Result<Self, RefFault>
+        ensures value { result ≡ grn_read text.now }
         ensures ok { OkIff result (IsGrn text.now) text.now }
         ensures err { IfErr result (IsFirstFault 17 text.now) }
     {
-        test_reference(text, 17)?;
-        let mut bytes = [0; 17];
-        bytes.copy_from_slice(text);
+        let bytes = read_reference(text)?;
         Ok(Grn { bytes })
     }
 
@@ -47,11 +49,7 @@ impl Grn {
     pub fn make(year2: u8, country: Country, holder: HolderNo, serial: u32) -> Option<Self>
         ensures { SomeIff result ((year2 ≤ 99) × IsGrnSerial serial) (grn_text year2 country holder serial) }
     {
-        if year2 > 99 || serial < 1 || serial > 999_999 {
-            return None;
-        }
-        let mut bytes = [0; 17];
-        write_reference(&mut bytes, year2, country, holder, serial);
+        let bytes = make_reference(year2, country, holder, serial, MAX_SERIAL)?;
         Some(Grn { bytes })
     }
 

@@ -1,6 +1,6 @@
 //! Numbers of holders.
 ghost use Rattle.std.specs.Prelude.{◌≡◌, ℕ, Some, SomeIff};
-ghost use Rattle.td_base.specs.Holder.{IsHolderNumber, IsHolderText, digits_value, holder_text};
+ghost use Rattle.td_base.specs.Holder.{IsHolderNumber, IsHolderText, digits_value, holder_of, holder_read, holder_text};
 
 use crate::digits::{last_digit, read_digits};
 use crate::text::write_ascii;
@@ -26,7 +26,8 @@ impl Model for HolderNo {
 impl HolderNo {
     /// The holder of that number: `None` for 0, and above 999999.
     pub fn new(number: u32) -> Option<Self>
-        ensures { SomeIff result (IsHolderNumber number) number }
+        ensures value { result ≡ holder_of number }
+        ensures range { SomeIff result (IsHolderNumber number) number }
     {
         if number >= 1 && number <= 999_999 {
             Some(HolderNo { number })
@@ -60,7 +61,8 @@ impl HolderNo {
 
     /// Reads exactly six digits that aren't all 0.
     pub fn read(text: &[u8]) -> Option<Self>
-        ensures { SomeIff result (IsHolderText text.now) (digits_value text.now) }
+        ensures value { result ≡ holder_read text.now }
+        ensures form { SomeIff result (IsHolderText text.now) (digits_value text.now) }
     {
         if text.len() != 6 {
             return None;

@@ -1,10 +1,9 @@
-//! The vocabulary of the desk: holders, references and check digits, money, days, codes, and readers and writers
-//! that are counted.
+//! The vocabulary of the desk: holders, references and check digits, money, days and codes. It hands on the readers and
+//! writers that are counted.
 #![tactic(auto)]
 
 mod access_code;
 mod checking;
-mod counted;
 mod country;
 mod day;
 mod digits;
@@ -21,11 +20,10 @@ mod references;
 #[cfg(test)]
 mod tests;
 mod text;
-mod writing;
 
 pub use access_code::AccessCode;
 pub use checking::{check_digit, letter_values_skip_elevens};
-pub use counted::Counted;
+pub use counted_io::{Counted, write_whole};
 pub use country::Country;
 pub use day::{Day, day_reads_back, days_begin_and_end};
 pub use eori::Eori;
@@ -38,4 +36,3 @@ pub use money::{Cents, Cover, Reference, cents_read_back};
 pub use mrn::{Mrn, made_mrn_reads_back};
 pub use office::OfficeNo;
 pub use references::{RefFault, made_references_differ};
-pub use writing::write_whole;

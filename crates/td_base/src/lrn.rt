@@ -1,6 +1,7 @@
 //! Local reference numbers.
-ghost use Rattle.std.specs.Prelude.{◌≡◌, ◌↔◌, IsTrue, Some, SomeIff};
-ghost use Rattle.td_base.specs.Codes.{IsLrn, IsLrnCharacter};
+ghost use Rattle.std.specs.Prelude.{◌≡◌, ◌↔◌, IsTrue, Some, SomeIff, All};
+ghost use Rattle.std.specs.List.{list_all};
+ghost use Rattle.td_base.specs.Codes.{IsLrn, IsLrnCharacter, is_lrn, is_lrn_character, lrn_read};
 
 use crate::text::write_ascii;
 use std::fmt;
@@ -33,7 +34,8 @@ impl Model for Lrn {
 impl Lrn {
     /// Reads exactly the texts of that form.
     pub fn read(text: &[u8]) -> Option<Self>
-        ensures { SomeIff result (IsLrn text.now) text.now }
+        ensures value { result ≡ lrn_read text.now }
+        ensures form { SomeIff result (IsLrn text.now) text.now }
     {
         if !is_lrn(text) {
             return None;
@@ -54,13 +56,22 @@ impl Lrn {
 }
 
 fn is_lrn(text: &[u8]) -> bool
-    ensures { IsTrue result ↔ IsLrn text.now }
+    ensures value { result ≡ is_lrn text.now }
+    ensures form { IsTrue result ↔ IsLrn text.now }
 {
-    text.len() >= 1 && text.len() <= 22 && text.iter().all(|c| is_lrn_character(*c))
+    text.len() >= 1 && text.len() <= 22 && are_lrn_characters(text)
+}
+
+fn are_lrn_characters(text: &[u8]) -> bool
+    ensures value { result ≡ list_all is_lrn_character text.now }
+    ensures characters { IsTrue result ↔ All IsLrnCharacter text.now }
+{
+    text.iter().all(|c| is_lrn_character(*c))
 }
 
 fn is_lrn_character(c: u8) -> bool
-    ensures { IsTrue result ↔ IsLrnCharacter c }
+    ensures value { result ≡ is_lrn_character c }
+    ensures form { IsTrue result ↔ IsLrnCharacter c }
 {
     c.is_ascii_alphanumeric() || c == b'-' || c == b'/' || c == b'.'
 }

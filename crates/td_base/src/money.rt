@@ -1,6 +1,6 @@
 //! Amounts of money, reference amounts and covers.
 ghost use Rattle.std.specs.Prelude.{◌≡◌, ℕ, ◌+◌, ◌*◌, ◌<◌, ◌≤◌, ◌↔◌, IsTrue, Some, SomeIff};
-ghost use Rattle.td_base.specs.Money.{IsCents, IsReference, IsCover, IsWhole, IsCentsText, share_of, cents_value, cents_text};
+ghost use Rattle.td_base.specs.Money.{IsCents, IsReference, IsCover, IsWhole, IsCentsText, is_whole, share_of, cents_of, cents_read, cents_value, cents_text, cover_of, reference_of};
 
 use crate::digits::{last_digit, read_digits};
 use crate::text::is_digits;
@@ -27,7 +27,8 @@ impl Model for Cents {
 impl Cents {
     /// The amount of that many cents: `None` above 10^15.
     pub fn new(cents: u64) -> Option<Self>
-        ensures { SomeIff result (IsCents cents) cents }
+        ensures value { result ≡ cents_of cents }
+        ensures range { SomeIff result (IsCents cents) cents }
     {
         if cents <= 1_000_000_000_000_000 {
             Some(Cents { cents })
@@ -39,7 +40,8 @@ impl Cents {
     /// Reads exactly a whole number with no needless 0 in front, a point and two digits: `0.01` and `1234.56`,
     /// but not `00.01`, `.01`, `1` or `1.0`.
     pub fn read(text: &[u8]) -> Option<Self>
-        ensures { SomeIff result (IsCentsText text.now) (cents_value text.now) }
+        ensures value { result ≡ cents_read text.now }
+        ensures form { SomeIff result (IsCentsText text.now) (cents_value text.now) }
     {
         let point = text.len().checked_sub(3)?;
         // More than 14 digits in front are above the greatest amount.
@@ -61,7 +63,8 @@ impl Cents {
 
     /// The sum of two amounts: `None` above 10^15.
     pub fn plus(self, other: Cents) -> Option<Self>
-        ensures { SomeIff result (IsCents (self + other)) (self + other) }
+        ensures value { result ≡ cents_of (self + other) }
+        ensures range { SomeIff result (IsCents (self + other)) (self + other) }
     {
         Cents::new(self.cents + other.cents)
     }
@@ -80,7 +83,8 @@ impl Cents {
 
 // Whether it is a whole number with no needless 0 in front.
 fn is_whole(text: &[u8]) -> bool
-    ensures { IsTrue result ↔ IsWhole text.now }
+    ensures value { result ≡ is_whole text.now }
+    ensures form { IsTrue result ↔ IsWhole text.now }
 {
     !text.is_empty() && (text[0] != b'0' || text.len() == 1) && is_digits(text)
 }
@@ -123,7 +127,8 @@ impl Model for Reference {
 impl Reference {
     /// The reference amount of that many cents: `None` for 0, and above 10^15.
     pub fn new(cents: u64) -> Option<Self>
-        ensures { SomeIff result (IsReference cents) cents }
+        ensures value { result ≡ reference_of cents }
+        ensures range { SomeIff result (IsReference cents) cents }
     {
         if cents >= 1 && cents <= 1_000_000_000_000_000 {
             Some(Reference { cents })
@@ -161,7 +166,8 @@ impl Model for Cover {
 impl Cover {
     /// The cover of that many percent: `None` unless it is 100, 50, 30 or 0.
     pub fn new(percent: u64) -> Option<Self>
-        ensures { SomeIff result (IsCover percent) percent }
+        ensures value { result ≡ cover_of percent }
+        ensures range { SomeIff result (IsCover percent) percent }
     {
         match percent {
             100 | 50 | 30 | 0 => Some(Cover { percent }),

@@ -1,13 +1,16 @@
 //! Movement reference numbers.
 ghost use Rattle.std.specs.Prelude.{◌≡◌, ℕ, ◌≤◌, List, Some, IfErr, OkIff, SomeIff};
-ghost use Rattle.td_base.specs.References.{IsMrn, IsMrnSerial, IsFirstFault, owner_of as owner_in, serial_of as serial_in, mrn_text};
+ghost use Rattle.td_base.specs.References.{IsMrn, IsMrnSerial, IsFirstFault, owner_of as owner_in, serial_of as serial_in, mrn_read, mrn_text};
 
 use crate::country::Country;
 use crate::holder::HolderNo;
-use crate::references::{RefFault, owner_of, serial_of, test_reference, write_reference};
+use crate::references::{RefFault, make_reference, owner_of, read_reference, serial_of};
 use crate::text::write_ascii;
 use std::fmt;
 use std::marker::Model;
+
+/// The greatest serial of a holder's movements: it has seven digits in the reference.
+const MAX_SERIAL: u32 = 9_999_999;
 
 /// A movement reference number (MRN) of NCTS: two digits of a year, two capital letters of a country, 13 digits or
 /// capital letters and a check digit. Contracts see it as its text.
@@ -33,12 +36,11 @@ impl Mrn {
     /// Reads exactly the texts of an MRN. The error is `Length` for another length than 18, else `Form` where a
     /// place has a character of another class, else `CheckDigit`.
     pub fn read(text: &[u8]) -> Result<Self, RefFault>
+        ensures value { result ≡ mrn_read text.now }
         ensures ok { OkIff result (IsMrn text.now) text.now }
         ensures err { IfErr result (IsFirstFault 18 text.now) }
     {
-        test_reference(text, 18)?;
-        let mut bytes = [0; 18];
-        bytes.copy_from_slice(text);
+        let bytes = read_reference(text)?;
         Ok(Mrn { bytes })
     }
 
@@ -47,11 +49,7 @@ impl Mrn {
     pub fn make(year2: u8, country: Country, holder: HolderNo, serial: u32) -> Option<Self>
         ensures { SomeIff result ((year2 ≤ 99) × IsMrnSerial serial) (mrn_text year2 country holder serial) }
     {
-        if year2 > 99 || serial < 1 || serial > 9_999_999 {
-            return None;
-        }
-        let mut bytes = [0; 18];
-        write_reference(&mut bytes, year2, country, holder, serial);
+        let bytes = make_reference(year2, country, holder, serial, MAX_SERIAL)?;
         Some(Mrn { bytes })
     }
 

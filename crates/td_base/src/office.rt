@@ -1,6 +1,6 @@
 //! Numbers of customs offices.
 ghost use Rattle.std.specs.Prelude.{◌≡◌, ℕ, List, ◌↔◌, IsTrue, Some, SomeIff};
-ghost use Rattle.td_base.specs.Codes.{IsOfficeNo};
+ghost use Rattle.td_base.specs.Codes.{IsOfficeNo, is_office_no, office_read};
 
 use crate::text::{is_capitals, is_marks, write_ascii};
 use std::fmt;
@@ -26,9 +26,10 @@ impl Model for OfficeNo {
 impl OfficeNo {
     /// Reads exactly the texts of that form.
     pub fn read(text: &[u8]) -> Option<Self>
-        ensures { SomeIff result (IsOfficeNo text.now) text.now }
+        ensures value { result ≡ office_read text.now }
+        ensures form { SomeIff result (IsOfficeNo text.now) text.now }
     {
-        if !is_office(text) {
+        if !is_office_no(text) {
             return None;
         }
         let mut bytes = [0; 8];
@@ -45,8 +46,9 @@ impl OfficeNo {
     }
 }
 
-fn is_office(text: &[u8]) -> bool
-    ensures { IsTrue result ↔ IsOfficeNo text.now }
+fn is_office_no(text: &[u8]) -> bool
+    ensures value { result ≡ is_office_no text.now }
+    ensures form { IsTrue result ↔ IsOfficeNo text.now }
 {
     text.len() == 8 && is_capitals(&text[..2]) && is_marks(&text[2..])
 }

@@ -1,8 +1,8 @@
 //! References: what prints, owns and numbers them. The texts of MRN and GRN differ in their length alone.
-ghost use Rattle.std.specs.Prelude.{◌≡◌, ◌+◌, ◌-◌, ◌≤◌, ◌++◌, length, IsTrue, ◌↔◌, Some, MatchResult};
+ghost use Rattle.std.specs.Prelude.{◌≡◌, ◌+◌, ◌-◌, ◌≤◌, ◌++◌, length, IsTrue, ◌↔◌, Some, SomeIff, IfSome, OkIff, IfErr};
 ghost use Rattle.td_base.specs.Country.{IsCountry};
 ghost use Rattle.td_base.specs.Digits.{fixed_decimal};
-ghost use Rattle.td_base.specs.References.{fault_text, IsReferenceText, IsFirstFault, HasForm, owner_of as owner_in, serial_of as serial_in};
+ghost use Rattle.td_base.specs.References.{fault_text, IsReferenceText, IsFirstFault, HasForm, has_form, reference_read, owner_of as owner_in, serial_of as serial_in};
 ghost use Rattle.td_base.specs.References.{reference_text, grn_text, mrn_text, IsGrnSerial, IsMrnSerial, TellsApart};
 
 use crate::checking::check_digit;
@@ -38,27 +38,32 @@ impl fmt::Display for RefFault {
 
 impl Error for RefFault {}
 
-/// Tests the length, then each place, then the check digit.
-pub fn test_reference(text: &[u8], places: usize) -> Result<(), RefFault>
-    requires { (5 ≤ places) × (places ≤ 41) }
-    ensures { MatchResult result (λ _. IsReferenceText places text.now) (IsFirstFault places text.now) }
+/// Reads a reference of `N` characters. Tests the length, then each place, then the check digit.
+pub fn read_reference<const N: usize>(text: &[u8]) -> Result<[u8; N], RefFault>
+    requires { (5 ≤ N) × (N ≤ 41) }
+    ensures value { result ≡ reference_read N text.now }
+    ensures ok { OkIff result (IsReferenceText N text.now) text.now }
+    ensures err { IfErr result (IsFirstFault N text.now) }
 {
-    if text.len() != places {
+    if text.len() != N {
         return Err(RefFault::Length);
     }
     if !has_form(text) {
         return Err(RefFault::Form);
     }
-    let last = places - 1;
+    let last = N - 1;
     if check_digit(&text[..last]) != Some(text[last] - b'0') {
         return Err(RefFault::CheckDigit);
     }
-    Ok(())
+    let mut bytes = [0; N];
+    bytes.copy_from_slice(text);
+    Ok(bytes)
 }
 
 fn has_form(text: &[u8]) -> bool
     requires { 5 ≤ length text.now }
-    ensures { IsTrue result ↔ HasForm text.now }
+    ensures value { result ≡ has_form text.now }
+    ensures form { IsTrue result ↔ HasForm text.now }
 {
     let last = text.len() - 1;
     is_digits(&text[..2])
@@ -92,8 +97,31 @@ pub fn serial_of(text: &[u8], country: Country) -> Option<u32>
     Some(serial as u32)
 }
 
-/// Writes a reference of that length: year, country, holder and serial in digits, and the check digit.
-pub fn write_reference(text: &mut [u8], year2: u8, country: Country, holder: HolderNo, serial: u32)
+/// A reference of `N` characters: year, country, holder and serial in digits, and the check digit. `None` for a year
+/// above 99, and for a serial of 0 or above the greatest.
+pub fn make_reference<const N: usize>(
+    year2: u8,
+    country: Country,
+    holder: HolderNo,
+    serial: u32,
+    greatest: u32,
+) -> Option<[u8; N]>
+    requires { (11 ≤ N) × (N ≤ 41) }
+    ensures text { SomeIff result
+        ((year2 ≤ 99) × ((1 ≤ serial) × (serial ≤ greatest)))
+        (reference_text year2 country (fixed_decimal 6 holder ++ fixed_decimal (N - 11) serial)) }
+    ensures form { IfSome result (IsReferenceText N) }
+{
+    if year2 > 99 || serial < 1 || serial > greatest {
+        return None;
+    }
+    let mut bytes = [0; N];
+    write_reference(&mut bytes, year2, country, holder, serial);
+    Some(bytes)
+}
+
+// Writes a reference of that length.
+fn write_reference(text: &mut [u8], year2: u8, country: Country, holder: HolderNo, serial: u32)
     requires { (11 ≤ length text.old) × (length text.old ≤ 41) }
     ensures text { text.new
         ≡ reference_text year2 country (fixed_decimal 6 holder ++ fixed_decimal (length text.old - 11) serial) }

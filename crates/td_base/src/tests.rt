@@ -1,6 +1,4 @@
 //! The public calls.
-mod counted;
-
 use crate::*;
 use std::test::Fail;
 

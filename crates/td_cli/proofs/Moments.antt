@@ -1,6 +1,6 @@
 -- What is said of a stream at a clock, said of the moments that the clock shows.
 use Rattle.std.proofs.Common.{◌≡◌, ℕ, ◌+◌, ℤ, List, [], ◌∷◌, Option, None, Some, ◌∙◌, refl, ap}
-use Rattle.td_base.specs.declared.counted.Counted.{Counted}
+use Rattle.counted_io.specs.declared.counted.Counted.{Counted}
 use Rattle.td_cli.specs.declared.clock.FixedClock.{FixedClock}
 use Rattle.td_cli.specs.Piped.{IsMoment, IsPiped, PipesAs}
 use Rattle.td_wire.specs.declared.reply.Reply.{Reply}

@@ -1,6 +1,6 @@
 -- One stream of requests on a new desk.
 use Rattle.std.specs.Prelude.{◌≡◌, ℕ, ℤ, List, Option, None, Some}
-use Rattle.td_base.specs.declared.counted.Counted.{Counted}
+use Rattle.counted_io.specs.declared.counted.Counted.{Counted}
 use Rattle.td_acts.specs.Account.{empty_account}
 use Rattle.td_acts.specs.Book.{fresh_book}
 use Rattle.td_desk.specs.declared.plain.PlainDesk.{PlainDesk}

@@ -1,9 +1,9 @@
 -- The program's statuses, and what it says beside the replies.
 use Rattle.std.specs.Prelude.{◌≡◌, ◌⊎◌, ℕ, List, [], codes, string_bytes, Option, None, Some}
 use Rattle.std.specs.Io.KnownBytes.{Appends}
-use Rattle.td_base.specs.declared.counted.Counted.{Counted}
-use Rattle.td_base.specs.Counted.{known_bytes}
-use Rattle.td_base.specs.Writing.{IsCutShort}
+use Rattle.counted_io.specs.declared.counted.Counted.{Counted}
+use Rattle.counted_io.specs.Counted.{known_bytes}
+use Rattle.counted_io.specs.Writing.{IsCutShort}
 use Rattle.td_cli.specs.declared.words.NoJob.{NoJob}
 use Rattle.td_cli.specs.declared.words.NoJob.TheVariants.{Help, Wrong, NoMemory}
 use Rattle.td_wire.specs.declared.stream.StreamEnd.{StreamEnd}

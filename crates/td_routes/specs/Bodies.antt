@@ -6,10 +6,12 @@ use Rattle.serde_json.specs.Read.{read}
 use Rattle.serde_json.specs.Find.{as_object}
 use Rattle.td_acts.specs.declared.command.Command.{Command}
 use Rattle.td_acts.specs.declared.command.Command.TheVariants as command
+use Rattle.td_base.specs.Codes.{code_read, lrn_read, office_read}
+use Rattle.td_base.specs.Eori.{eori_read}
+use Rattle.td_base.specs.Money.{cover_of, reference_of}
 use Rattle.td_routes.specs.BodyFields.{text_at, number_at}
 use Rattle.td_routes.specs.BodyLines.{lines_at}
 use Rattle.td_routes.specs.Faults.{field_name, ◌>>=◌}
-use Rattle.td_routes.specs.Parts.{eori_read, reference_of, cover_of, code_read, lrn_read, office_read}
 use Rattle.td_routes.specs.Routes.{route_of, path_of}
 use Rattle.td_routes.specs.declared.fault.Field.{Field}
 use Rattle.td_routes.specs.declared.fault.Field.TheVariants.{Eori, Reference, Cover, Code, Lrn, Departure, Destination, Lines}

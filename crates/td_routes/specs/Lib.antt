@@ -1,4 +1,3 @@
-pub mod Parts
 pub mod Faults
 pub mod Routes
 pub mod BodyFields

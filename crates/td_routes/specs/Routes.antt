@@ -10,8 +10,9 @@ use Rattle.matchit.specs.Params.{walk}
 use Rattle.matchit.specs.Route.{parse_route, Scan}
 use Rattle.matchit.specs.Seek.{first}
 use Rattle.matchit.specs.declared.error.InsertError.{InsertError}
+use Rattle.td_base.specs.Holder.{holder_read}
+use Rattle.td_base.specs.References.{is_mrn, is_grn, first_fault}
 use Rattle.td_routes.specs.Faults.{◌>>=◌}
-use Rattle.td_routes.specs.Parts.{holder_read, is_mrn, is_grn, first_fault}
 use Rattle.td_routes.specs.declared.fault.WebFault.{WebFault}
 use Rattle.td_routes.specs.declared.fault.WebFault.TheVariants.{NoRoute, NoMethod, BadHolder, BadMrn, BadGrn}
 use Rattle.td_routes.specs.declared.fault.Allowed.{Allowed}

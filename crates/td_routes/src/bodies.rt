@@ -1,8 +1,8 @@
 //! The command of a request.
 ghost use Rattle.std.specs.Prelude.{◌≡◌, ◌⊎◌, MatchResult, Ok, Err, option_map, position, ◌==◌};
 ghost use Rattle.serde_json.specs.View.{view};
+ghost use Rattle.td_base.specs.Codes.{office_read};
 ghost use Rattle.td_routes.specs.Bodies.{command_of, declaration_of, object_of, opening_of, registration_of, text_field};
-ghost use Rattle.td_routes.specs.Parts.{office_read};
 ghost use Rattle.td_routes.specs.Faults.{OrNoMemory};
 ghost use Rattle.td_routes.specs.Routes.{before_query, path_of};
 ghost use Rattle.td_routes.specs.declared.fault.WebFault.TheVariants.{NoMemory};

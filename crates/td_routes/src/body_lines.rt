@@ -1,10 +1,11 @@
 //! The lines of a declaration's body.
 ghost use Rattle.std.specs.Prelude.{◌≡◌, IfOk, codes, option_and_then, option_map};
 ghost use Rattle.serde_json.specs.View.{items_view, view};
+ghost use Rattle.std.specs.Result.{result_ok};
+ghost use Rattle.td_base.specs.References.{grn_read};
 ghost use Rattle.td_routes.specs.BodyFields.{text_at};
 ghost use Rattle.td_routes.specs.BodyLines.{line_in, lines_at, lines_in};
 ghost use Rattle.td_routes.specs.Faults.{field_name};
-ghost use Rattle.td_routes.specs.Parts.{grn_read};
 ghost use Rattle.td_routes.specs.declared.fault.Field.TheVariants as field;
 
 use crate::body_fields::{array_in, code_in, number_in, text_in};
@@ -56,7 +57,7 @@ fn line_in(object: &Value) -> Option<(Line, AccessCode)>
 }
 
 fn grn_in(object: &Value) -> Option<Grn>
-    ensures { result ≡ option_and_then grn_read (text_at (codes "grn") (view object.now)) }
+    ensures { result ≡ option_and_then (λ text. result_ok (grn_read text)) (text_at (codes "grn") (view object.now)) }
 {
     let text = text_in(object, "grn")?;
     Grn::read(text.as_bytes()).ok()

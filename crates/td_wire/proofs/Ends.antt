@@ -1,11 +1,11 @@
 -- What each way to end says, from what holds when the stream ends.
 use Rattle.std.proofs.Common.{◌≡◌, ℕ, ◌+◌, ◌-◌, ◌<◌, Bool, true, false, List, [], ◌∷◌, ◌++◌, length, take, arith, refl, sym, ap, subst, ◌∙◌, inl, inr}
 use Rattle.std.proofs.lemmas.List.{length-map}
-use Rattle.td_base.specs.declared.counted.Counted.{Counted}
-use Rattle.td_base.specs.Chains.{Wrote}
-use Rattle.td_base.specs.Writing.{IsCutShort, MadeWrites}
-use Rattle.td_base.proofs.Calls.{made_on}
-use Rattle.td_base.proofs.Chaining.{wrote_on, wrote_appends}
+use Rattle.counted_io.specs.declared.counted.Counted.{Counted}
+use Rattle.counted_io.specs.Chains.{Wrote}
+use Rattle.counted_io.specs.Writing.{IsCutShort, MadeWrites}
+use Rattle.counted_io.proofs.Calls.{made_on}
+use Rattle.counted_io.proofs.Chaining.{wrote_on, wrote_appends}
 use Rattle.td_wire.specs.declared.reply.Reply.{Reply}
 use Rattle.td_wire.specs.declared.stream.StreamEnd.TheVariants.{Asked, Served, WriteFault, Failed}
 use Rattle.td_wire.specs.ReplyText.{reply_bytes, is_made}

@@ -1,10 +1,10 @@
 -- What each stop of the reading says of the stream.
 use Rattle.std.proofs.Common.{◌≡◌, ◌≢◌, ℕ, ◌+◌, ◌-◌, ◌<◌, Bool, true, false, List, [], ◌++◌, ◌⊎◌, arith, refl, ap, inl, inr, subst, sym}
 use Rattle.std.proofs.lemmas.Bool.{cases_lt}
-use Rattle.td_base.specs.declared.counted.Counted.{Counted}
-use Rattle.td_base.specs.Chains.{Wrote}
-use Rattle.td_base.proofs.Calls.{made_on}
-use Rattle.td_base.proofs.Chaining.{wrote_nothing, wrote_on, wrote_appends}
+use Rattle.counted_io.specs.declared.counted.Counted.{Counted}
+use Rattle.counted_io.specs.Chains.{Wrote}
+use Rattle.counted_io.proofs.Calls.{made_on}
+use Rattle.counted_io.proofs.Chaining.{wrote_nothing, wrote_on, wrote_appends}
 use Rattle.td_wire.specs.declared.input.TheConstants.{MOST}
 use Rattle.td_wire.specs.declared.reading.Stop.{Stop}
 use Rattle.td_wire.specs.declared.reading.Stop.TheVariants as stop

@@ -7,11 +7,11 @@ use Rattle.std.proofs.lemmas.List.{length-append}
 use Rattle.std.proofs.lemmas.List.Folds.{concat-append}
 use Rattle.std.specs.List.{FoldsTo, concat}
 use Rattle.std.specs.Io.KnownBytes.{Consumes, IsAtEnd}
-use Rattle.td_base.specs.declared.counted.Counted.{Counted}
-use Rattle.td_base.specs.Chains.{IsRead, Brings, Brought}
-use Rattle.td_base.specs.Counted.{calls_of, known_bytes, HasMade, one_more}
-use Rattle.td_base.proofs.Calls.{made_none, made_more, made_on}
-use Rattle.td_base.proofs.Chaining.{FoldsTo-append}
+use Rattle.counted_io.specs.declared.counted.Counted.{Counted}
+use Rattle.counted_io.specs.Chains.{IsRead, Brings, Brought}
+use Rattle.counted_io.specs.Counted.{calls_of, known_bytes, HasMade, one_more}
+use Rattle.counted_io.proofs.Calls.{made_none, made_more, made_on}
+use Rattle.counted_io.proofs.Chaining.{FoldsTo-append}
 use Rattle.td_wire.specs.declared.reading.Stop.{Stop}
 use Rattle.td_wire.specs.declared.reading.Stop.TheVariants.{Closed, Cut, ReadsSpent, ReadFault, NoMemory, Refused, Head}
 use Rattle.td_wire.specs.Reading.{HasRead, ReadsOn, StopsAs, Finish, brought, ended, failed, LastRead, count_of, IsNeeded, KeepsRoom}

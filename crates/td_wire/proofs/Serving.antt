@@ -6,12 +6,12 @@ use Rattle.std.proofs.lemmas.Bool.{cases_lt}
 use Rattle.std.proofs.lemmas.List.{map-append, length-append}
 use Rattle.std.proofs.lemmas.Grind.{flat_map-append}
 use Rattle.std.proofs.lemmas.List.Elements.{All-append, All-cons, All-nil}
-use Rattle.td_base.specs.declared.counted.Counted.{Counted}
-use Rattle.td_base.specs.Chains.{Wrote}
-use Rattle.td_base.specs.Counted.{calls_of, HasMade}
-use Rattle.td_base.specs.Writing.{MadeWrites}
-use Rattle.td_base.proofs.Calls.{made_none, made_on}
-use Rattle.td_base.proofs.Chaining.{wrote_nothing, wrote_on}
+use Rattle.counted_io.specs.declared.counted.Counted.{Counted}
+use Rattle.counted_io.specs.Chains.{Wrote}
+use Rattle.counted_io.specs.Counted.{calls_of, HasMade}
+use Rattle.counted_io.specs.Writing.{MadeWrites}
+use Rattle.counted_io.proofs.Calls.{made_none, made_on}
+use Rattle.counted_io.proofs.Chaining.{wrote_nothing, wrote_on}
 use Rattle.td_wire.specs.declared.input.TheConstants.{MOST}
 use Rattle.td_wire.specs.declared.request.Request.{Request}
 use Rattle.td_wire.specs.declared.reply.Reply.{Reply}

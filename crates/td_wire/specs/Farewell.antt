@@ -1,8 +1,8 @@
 -- What is written where no further request is taken.
 use Rattle.std.specs.Prelude.{◌≡◌, ◌⊎◌, ℕ, true, false, if◌then◌else◌, List, Option}
-use Rattle.td_base.specs.declared.counted.Counted.{Counted}
-use Rattle.td_base.specs.Chains.{Wrote}
-use Rattle.td_base.specs.Writing.{IsCutShort, MadeWrites}
+use Rattle.counted_io.specs.declared.counted.Counted.{Counted}
+use Rattle.counted_io.specs.Chains.{Wrote}
+use Rattle.counted_io.specs.Writing.{IsCutShort, MadeWrites}
 use Rattle.td_wire.specs.declared.reading.Stop.{Stop}
 use Rattle.td_wire.specs.declared.reading.Stop.TheVariants as stop
 use Rattle.td_wire.specs.declared.reply.Reply.{Reply}

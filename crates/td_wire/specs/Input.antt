@@ -1,9 +1,9 @@
 -- The bytes that were read and not yet taken, and what one read does to them.
 use Rattle.std.specs.Prelude.{◌≡◌, ℕ, true, false, List, [], ◌++◌, drop, Option, vec_capacity}
 use Rattle.std.specs.Io.KnownBytes.{Consumes, IsAtEnd}
-use Rattle.td_base.specs.declared.counted.Counted.{Counted}
-use Rattle.td_base.specs.Chains.{IsRead, Brings}
-use Rattle.td_base.specs.Counted.{calls_of, known_bytes, one_more}
+use Rattle.counted_io.specs.declared.counted.Counted.{Counted}
+use Rattle.counted_io.specs.Chains.{IsRead, Brings}
+use Rattle.counted_io.specs.Counted.{calls_of, known_bytes, one_more}
 use Rattle.td_wire.specs.declared.input.Input.{Input}
 use Rattle.td_wire.specs.declared.input.Piece.{Piece}
 use Rattle.td_wire.specs.declared.input.Piece.TheVariants.{Bytes, End, Fault}

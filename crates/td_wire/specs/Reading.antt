@@ -2,9 +2,9 @@
 use Rattle.std.specs.Prelude.{◌≡◌, ℕ, ◌+◌, ◌-◌, ◌<◌, ◌≤◌, ◌⊎◌, true, false, List, [], ◌∷◌, ◌++◌, length, Option, Result, Ok, Err}
 use Rattle.std.specs.List.{concat}
 use Rattle.std.specs.Io.KnownBytes.{Consumes, IsAtEnd}
-use Rattle.td_base.specs.declared.counted.Counted.{Counted}
-use Rattle.td_base.specs.Counted.{calls_of, has_failed, known_bytes, HasMade}
-use Rattle.td_base.specs.Chains.{IsRead, Brought}
+use Rattle.counted_io.specs.declared.counted.Counted.{Counted}
+use Rattle.counted_io.specs.Counted.{calls_of, has_failed, known_bytes, HasMade}
+use Rattle.counted_io.specs.Chains.{IsRead, Brought}
 use Rattle.td_wire.specs.declared.input.TheConstants.{MOST}
 use Rattle.td_wire.specs.declared.request.Request.{Request}
 use Rattle.td_wire.specs.declared.reading.Stop.{Stop}

@@ -2,10 +2,10 @@
 use Rattle.std.specs.Prelude.{◌≡◌, ◌≢◌, ℕ, ◌+◌, ◌<◌, ◌≤◌, ◌⊎◌, ℤ, Bool, true, false, ◌||◌, ◌==◌, List, [], ◌∷◌, ◌++◌, length, take, map, All, Option, ⊤}
 use Rattle.std.specs.List.{concat, flat_map}
 use Rattle.std.specs.Io.KnownBytes.{Consumes, Appends, IsAtEnd}
-use Rattle.td_base.specs.declared.counted.Counted.{Counted}
-use Rattle.td_base.specs.Counted.{calls_of, has_failed, known_bytes, HasMade}
-use Rattle.td_base.specs.Chains.{Wrote}
-use Rattle.td_base.specs.Writing.{MadeWrites}
+use Rattle.counted_io.specs.declared.counted.Counted.{Counted}
+use Rattle.counted_io.specs.Counted.{calls_of, has_failed, known_bytes, HasMade}
+use Rattle.counted_io.specs.Chains.{Wrote}
+use Rattle.counted_io.specs.Writing.{MadeWrites}
 use Rattle.td_wire.specs.declared.framing.FramingError.{FramingError}
 use Rattle.td_wire.specs.declared.reply.Reply.{Reply}
 use Rattle.td_wire.specs.declared.stream.StreamEnd.{StreamEnd}

@@ -6,7 +6,7 @@ use crate::framing::MAX_BODY;
 use crate::next::MAX_HEAD;
 use std::alloc::{AllocError, Global};
 use std::io::Read;
-use td_base::Counted;
+use counted_io::Counted;
 
 /// The most bytes of a read.
 const PIECE: usize = 4096;

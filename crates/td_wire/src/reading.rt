@@ -10,7 +10,7 @@ use crate::next::{Next, next_request};
 use crate::request::Request;
 use std::alloc::Global;
 use std::io::Read;
-use td_base::Counted;
+use counted_io::Counted;
 
 /// Why no further request was taken from a stream.
 #[derive(Drop)]

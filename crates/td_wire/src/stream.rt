@@ -11,7 +11,7 @@ use crate::reply::Reply;
 use crate::request::Request;
 use std::alloc::Global;
 use std::io::{Read, Write};
-use td_base::{Counted, write_whole};
+use counted_io::{Counted, write_whole};
 
 /// The most requests of a stream.
 const MAX_REQUESTS: u32 = 1000;

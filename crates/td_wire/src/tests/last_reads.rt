@@ -4,7 +4,7 @@ use crate::{StreamEnd, serve_requests};
 use std::alloc::Global;
 use std::io;
 use std::io::{ErrorKind, Read};
-use td_base::Counted;
+use counted_io::Counted;
 
 /// What a reader does at its last call.
 #[derive(Clone, Copy, PartialEq, Eq)]

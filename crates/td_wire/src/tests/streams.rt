@@ -10,7 +10,7 @@ use std::alloc::{AllocError, Global};
 use std::io;
 use std::io::{ErrorKind, Read};
 use std::test::Fail;
-use td_base::Counted;
+use counted_io::Counted;
 
 /// A clock that stands still.
 #[derive(Drop)]

@@ -1,7 +1,6 @@
-use Rattle.td_routes.specs.Parts.{code_read}
+use Rattle.td_base.specs.Codes.{code_read}
 use Rattle.td_routes.proofs.BodyFacts.{read_of}
-use Rattle.td_routes.proofs.PartFacts.{code_read_is}
 use Rattle.td_routes.proofs.body_fields.code_in.Goals as goal
 
 pub returns : goal.returns
-returns c = read_of code_read _ _ _ (rw c.name.ensures at c.in_ok-text.ensures) (code_read_is _ _ (rw c.as_bytes.ensures.value at c.read.ensures))
+returns c = read_of code_read _ _ _ (rw c.name.ensures at c.in_ok-text.ensures) (rw c.as_bytes.ensures.value at c.read.ensures.value)

@@ -3,4 +3,4 @@ use Rattle.td_routes.proofs.PartFacts.{part_read_is}
 use Rattle.td_routes.proofs.routes.read_grn.Goals as goal
 
 pub returns : goal.returns
-returns c = part_read_is 17 BadGrn _ _ _ c.read.ensures.ok c.read.ensures.err c.map_err.ensures.cases
+returns c = part_read_is 17 BadGrn c.args.part.now _ _ c.read.ensures.value c.map_err.ensures.cases

@@ -2,8 +2,8 @@
 use Rattle.std.specs.Prelude.{◌≡◌, ℕ, ◌<◌, Bool, true, false, List, [], length, Option}
 use Rattle.std.specs.List.{FoldsTo, concat}
 use Rattle.std.specs.Io.KnownBytes.{Appends, Consumes}
-use Rattle.td_base.specs.declared.counted.Counted.{Counted}
-use Rattle.td_base.specs.Counted.{calls_of, has_failed, known_bytes, one_more}
+use Rattle.counted_io.specs.declared.counted.Counted.{Counted}
+use Rattle.counted_io.specs.Counted.{calls_of, has_failed, known_bytes, one_more}
 
 -- one read, which gave this piece, and failed or not
 pub record IsRead {R : Type 0} (remaining : R → Option (List ℕ)) (failed : Bool) (old : Counted R) (piece : List ℕ) (new : Counted R) : Type 0 where

@@ -1,7 +1,7 @@
 -- How a count rises.
 use Rattle.std.proofs.Common.{ℕ, ◌-◌, ◌^◌, arith, inl, inr}
 use Rattle.std.proofs.lemmas.Bool.{cases_lt}
-use Rattle.td_base.specs.Counted.{one_more, HasCalled, HasNotFallen}
+use Rattle.counted_io.specs.Counted.{one_more, HasCalled, HasNotFallen}
 
 -- one more call is a call
 pub called_more : (old mid : ℕ) → HasNotFallen old mid → HasCalled old (one_more mid)

@@ -1,8 +1,8 @@
 use Rattle.std.proofs.Common.{ℕ, length, ◌-◌, ◌≤◌, take, true}
 use Rattle.std.specs.Io.KnownBytes.{Appends}
-use Rattle.td_base.specs.Counted.{known_bytes, calls_of, HasMade, HasNotFallen}
-use Rattle.td_base.specs.Chains.{Wrote}
-use Rattle.td_base.proofs.writing.write_whole.Given as goal
+use Rattle.counted_io.specs.Counted.{known_bytes, calls_of, HasMade, HasNotFallen}
+use Rattle.counted_io.specs.Chains.{Wrote}
+use Rattle.counted_io.proofs.writing.write_whole.Given as goal
 
 abbrev pub invariant-loop-sent : goal.invariant-loop-sent
 invariant-loop-sent g l = record {

@@ -16,7 +16,7 @@ pub struct Counted<T> {
 }
 
 impl<T> Counted<T> {
-    ghost use Rattle.td_base.specs.Counted.{calls_of, has_failed, inner_of};
+    ghost use Rattle.counted_io.specs.Counted.{calls_of, has_failed, inner_of};
 
     /// No call was made yet, and none failed.
     pub fn new(inner: T) -> Counted<T>
@@ -54,7 +54,7 @@ impl<T> Counted<T> {
 }
 
 impl<R: Read> Read for Counted<R> {
-    ghost use Rattle.td_base.specs.Counted.{calls_of, has_failed, known_bytes, one_more};
+    ghost use Rattle.counted_io.specs.Counted.{calls_of, has_failed, known_bytes, one_more};
 
     ghost remaining = { known_bytes R.remaining };
 
@@ -72,7 +72,7 @@ impl<R: Read> Read for Counted<R> {
 }
 
 impl<W: Write> Write for Counted<W> {
-    ghost use Rattle.td_base.specs.Counted.{calls_of, has_failed, known_bytes, one_more};
+    ghost use Rattle.counted_io.specs.Counted.{calls_of, has_failed, known_bytes, one_more};
 
     ghost contents = { known_bytes W.contents };
 

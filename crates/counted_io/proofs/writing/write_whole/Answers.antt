@@ -1,14 +1,14 @@
 use Rattle.std.proofs.Common.{◌≡◌, ℕ, ◌+◌, ◌-◌, ◌<◌, [], true, false, arith, subst, sym, List, take, drop, length, inl, Option, rules}
 use Rattle.std.proofs.KnownBytes.{Appends-trans, Appends-nil}
-use Rattle.td_base.specs.declared.counted.Counted.{Counted}
-use Rattle.td_base.specs.Counted.{calls_of, one_more, HasCalled, HasMade}
-use Rattle.td_base.specs.Writing.{IsCutShort, MadeWrites}
-use Rattle.td_base.specs.Chains.{IsWrite, TakesSome, Wrote}
-use Rattle.td_base.proofs.Calls.{made_more, made_none}
-use Rattle.td_base.proofs.Chaining.{wrote_nothing, wrote_more, wrote_last, wrote_appends}
-use Rattle.td_base.proofs.Counts.{called_more, not_fallen}
-use Rattle.td_base.proofs.Slices.{more_sent, more_fits, some_taken}
-use Rattle.td_base.proofs.writing.write_whole.Goals as goal
+use Rattle.counted_io.specs.declared.counted.Counted.{Counted}
+use Rattle.counted_io.specs.Counted.{calls_of, one_more, HasCalled, HasMade}
+use Rattle.counted_io.specs.Writing.{IsCutShort, MadeWrites}
+use Rattle.counted_io.specs.Chains.{IsWrite, TakesSome, Wrote}
+use Rattle.counted_io.proofs.Calls.{made_more, made_none}
+use Rattle.counted_io.proofs.Chaining.{wrote_nothing, wrote_more, wrote_last, wrote_appends}
+use Rattle.counted_io.proofs.Counts.{called_more, not_fallen}
+use Rattle.counted_io.proofs.Slices.{more_sent, more_fits, some_taken}
+use Rattle.counted_io.proofs.writing.write_whole.Goals as goal
 
 -- a write after some
 one_write : (n a b c : ℕ) → HasMade n a b → c ≡ one_more b → (m : ℕ) × HasMade m a c

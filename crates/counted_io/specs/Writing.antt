@@ -1,9 +1,9 @@
 -- What is written of a message.
 use Rattle.std.specs.Prelude.{◌≡◌, ℕ, ◌<◌, Bool, true, false, List, length, take, Option}
 use Rattle.std.specs.Io.KnownBytes.{Appends}
-use Rattle.td_base.specs.declared.counted.Counted.{Counted}
-use Rattle.td_base.specs.Chains.{Wrote}
-use Rattle.td_base.specs.Counted.{calls_of, has_failed, known_bytes, HasMade}
+use Rattle.counted_io.specs.declared.counted.Counted.{Counted}
+use Rattle.counted_io.specs.Chains.{Wrote}
+use Rattle.counted_io.specs.Counted.{calls_of, has_failed, known_bytes, HasMade}
 
 -- only the first n bytes of the message were taken, since the last write, one of these, failed or took nothing
 pub record IsCutShort {W : Type 0} (contents : W → Option (List ℕ)) (old new : Counted W) (message : List ℕ) : Type 0 where

@@ -1,7 +1,7 @@
 -- Calls after calls.
 use Rattle.std.proofs.Common.{ℕ, ◌+◌, ◌-◌, ◌^◌, arith, inl, inr}
 use Rattle.std.proofs.lemmas.Bool.{cases_lt}
-use Rattle.td_base.specs.Counted.{one_more, HasMade}
+use Rattle.counted_io.specs.Counted.{one_more, HasMade}
 
 -- no call
 pub made_none : (a : ℕ) → HasMade 0 a a

@@ -1,9 +1,9 @@
 //! All bytes to a writer.
 ghost use Rattle.std.specs.Prelude.{◌≡◌, ◌≤◌, ℕ, length, take, true, false};
 ghost use Rattle.std.specs.Io.KnownBytes.{Appends};
-ghost use Rattle.td_base.specs.Counted.{calls_of, has_failed, known_bytes, HasCalled};
-ghost use Rattle.td_base.specs.Writing.{IsCutShort, MadeWrites};
-ghost use Rattle.td_base.specs.Chains.{Wrote};
+ghost use Rattle.counted_io.specs.Counted.{calls_of, has_failed, known_bytes, HasCalled};
+ghost use Rattle.counted_io.specs.Writing.{IsCutShort, MadeWrites};
+ghost use Rattle.counted_io.specs.Chains.{Wrote};
 
 use crate::counted::Counted;
 use std::io::Write;

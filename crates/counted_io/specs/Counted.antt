@@ -1,6 +1,6 @@
 -- What a counted reader or writer has seen.
 use Rattle.std.specs.Prelude.{◌≡◌, ◌<◌, ◌≤◌, ◌⊎◌, ℕ, ◌+◌, ◌-◌, ◌^◌, min, List, Option, Bool}
-use Rattle.td_base.specs.declared.counted.Counted.{Counted}
+use Rattle.counted_io.specs.declared.counted.Counted.{Counted}
 
 -- the count after one more call, which stays at the greatest u64
 abbrev pub one_more : ℕ → ℕ

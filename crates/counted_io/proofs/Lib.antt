@@ -1,0 +1,4 @@
+pub mod Counts
+pub mod Calls
+pub mod Chaining
+mod Slices

@@ -1,0 +1,3 @@
+pub mod Counted
+pub mod Chains
+pub mod Writing
