@@ -16,15 +16,19 @@ use Rattle.td_acts.specs.declared.rows.Change.{Change}
 use Rattle.td_acts.specs.declared.rows.Change.TheVariants as change
 use Rattle.td_acts.specs.declared.said.Answer.{Answer}
 use Rattle.td_acts.specs.declared.said.Refusal.{Refusal}
-use Rattle.td_acts.specs.declared.said.Refusal.TheVariants.{ClockBack, SerialsSpent}
+use Rattle.td_acts.specs.declared.said.Refusal.TheVariants.{ClockBack, SerialsSpent, NoMovement, WrongState}
 use Rattle.td_acts.specs.declared.said.Said.TheVariants.{Answered, Refused}
-use Rattle.td_acts.specs.Account.{Account, guarantee_by_grn, movement_by_lrn}
+use Rattle.td_acts.specs.declared.rows.NewStatus.{NewStatus}
+use Rattle.td_movement.specs.declared.state.State.{State}
+use Rattle.td_movement.specs.Status.{IsStatus}
+use Rattle.td_acts.specs.Account.{Account, ReferencesDiffer, guarantee_by_grn, movement_by_lrn, movement_by_mrn}
+use Rattle.td_acts.specs.Changes.{with_status, moved}
 use Rattle.td_acts.specs.Acceptance.{is_answer}
 use Rattle.td_acts.specs.Declaring.{first_refusal, line_refusal, guarantee_refusal, refusal_or}
 use Rattle.td_acts.specs.Lines.{line_of, IsLines, IsLineAmount}
-use Rattle.td_acts.specs.Table.{if_lrn_new, if_not_refused}
+use Rattle.td_acts.specs.Table.{or_refuse, if_lrn_new, if_not_refused}
 use Rattle.td_guarantee.proofs.Ascending.{one_ascends}
-use Rattle.td_acts.specs.Sound.{IsHolderRow, AreCodes, IsGuaranteeRow, AreMovementLines, IsMovementRow}
+use Rattle.td_acts.specs.Sound.{IsHolderRow, AreCodes, IsGuaranteeRow, AreMovementLines, IsMovementRow, IsCovered}
 use Rattle.td_acts.proofs.Joined.{All-map, AllPairs-map, AllByRecursion-map}
 
 -- a new holder's row, where there was none
@@ -55,18 +59,44 @@ pub record IsDeclared (country : List ℕ) (H : ℕ) (account : Account) (row : 
   pub fresh : movement_by_lrn m.lrn account.movements ≡ None
   pub accepted : m.state ≡ Accepted
 
+-- the holder's row with a moment, and a movement of the holder's in a new state, in which it has the days and offices of that state, and
+-- no more is in use than before on any guarantee that doesn't cover it
+pub record IsMoved (account : Account) (row : HolderRow) (status : NewStatus) : Type 0 where
+  pub old : HolderRow
+  pub known : account.holder ≡ Some old
+  pub moment : IsMoment row.last_at
+  pub next : row ≡ record old { last_at = row.last_at }
+  pub movement : Movement
+  pub found : movement_by_mrn status.mrn account.movements ≡ Some movement
+  pub keeps : IsStatus movement → IsStatus (with_status status movement)
+  pub cover : ReferencesDiffer account → AllByRecursion (IsCovered account.movements) account.guarantees → AllByRecursion (IsCovered (map (moved status) account.movements)) account.guarantees
+
 -- the rows of a change follow on H's account
 abbrev pub IsFor : List ℕ → ℕ → Account → Change → Type 0
 IsFor country H account change.Nothing = Unit {0}
 IsFor country H account (change.Registered row) = IsRegistered H account.holder row
 IsFor country H account (change.Opened row g) = IsOpened country H account.holder row g
 IsFor country H account (change.Declared row m) = IsDeclared country H account row m
+IsFor country H account (change.Moved row status) = IsMoved account row status
 
 -- a guarantee is opened where neither the clock nor the serials refuse it
 pub opened_facts : (back spent : Bool) (a : Answer) → is_answer (if back then Refused ClockBack else (if spent then Refused SerialsSpent else Answered a)) && true ≡ true → (back ≡ false) × (spent ≡ false)
 opened_facts true spent a accepted = cc
 opened_facts false true a accepted = cc
 opened_facts false false a accepted = (refl, refl)
+
+-- a movement moves where the clock doesn't refuse it, it is there, and its state has the move
+pub moved_facts : (back : Bool) (o : Option Movement) (next : Movement → Option State) (a : Movement → State → Answer)
+    → is_answer (if back then Refused ClockBack else or_refuse NoMovement o (λ m. or_refuse (WrongState m.state) (next m) (λ state. Answered (a m state)))) && true ≡ true
+    → (back ≡ false) × (m : Movement) × (o ≡ Some m) × (state : State) × (next m ≡ Some state)
+moved_facts true o next a accepted = cc
+moved_facts false None next a accepted = cc
+moved_facts false (Some m) next a accepted = by_state (next m) refl accepted
+  where
+    by_state : (s : Option State) → next m ≡ s → is_answer (or_refuse (WrongState m.state) s (λ state. Answered (a m state))) && true ≡ true
+        → (false ≡ false) × (n : Movement) × (Some m ≡ Some n) × (state : State) × (next n ≡ Some state)
+    by_state None e accepted = cc
+    by_state (Some state) e accepted = (refl, m, refl, state, e)
 
 -- nothing is true and false
 never : (b : Bool) → b && false ≡ true → ⊥

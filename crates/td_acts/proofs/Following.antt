@@ -1,8 +1,9 @@
 -- Rows that follow on a holder's rows: the account with them, and the rules that they keep.
-use Rattle.std.proofs.Common.{◌≡◌, ◌≢◌, ℕ, zero, suc, ◌+◌, ◌<◌, Bool, true, false, List, [], ◌∷◌, ◌++◌, length, Option, Some, None, refl, sym, ◌∙◌, ap, subst, arith, get_or}
+use Rattle.std.proofs.Common.{◌≡◌, ◌≢◌, ℕ, zero, suc, ◌+◌, ◌<◌, Bool, true, false, List, [], ◌∷◌, ◌++◌, length, map, Option, Some, None, refl, sym, ◌∙◌, ap, subst, arith, get_or}
 use Rattle.std.specs.Prelude.{IfSome, IsSome, unwrap_or, if◌then◌else◌}
+use Rattle.std.specs.List.{AllByRecursion}
 use Rattle.std.specs.Str.{bytes_eq}
-use Rattle.std.proofs.lemmas.List.{length-append}
+use Rattle.std.proofs.lemmas.List.{length-append, length-map}
 use Rattle.std.proofs.lemmas.Slice.Eq.{bytes_eq-Decides}
 use Rattle.td_base.specs.Country.{IsCountry}
 use Rattle.td_base.specs.Moment.{IsMoment, moment_of}
@@ -13,15 +14,19 @@ use Rattle.td_guarantee.specs.declared.guarantee.Guarantee.{Guarantee}
 use Rattle.td_movement.specs.declared.movement.Movement.{Movement}
 use Rattle.td_acts.specs.declared.rows.Change.{Change}
 use Rattle.td_acts.specs.declared.rows.Change.TheVariants as change
-use Rattle.td_acts.specs.Account.{HolderRows, account_with, guarantee_by_grn, movement_by_lrn}
-use Rattle.td_acts.specs.Changes.{account_after, row_in, rows_after, rows_or_new}
+use Rattle.td_acts.specs.Account.{HolderRows, account_with, guarantee_by_grn, movement_by_lrn, movement_by_mrn}
+use Rattle.td_acts.specs.declared.rows.NewStatus.{NewStatus}
+use Rattle.td_movement.specs.Status.{IsStatus}
+use Rattle.td_acts.specs.Changes.{account_after, row_in, rows_after, rows_or_new, with_status, moved}
+use Rattle.td_acts.proofs.Differing.{differ_with}
+use Rattle.td_acts.proofs.Steps.{rows_moved, lrn_moved}
 use Rattle.td_acts.specs.Sound.{IsGuaranteeRow, AreMovementLines, IsMovementRow, IsCovered, AreHolderRows}
 use Rattle.td_acts.specs.Deciding.{decision_on}
 use Rattle.td_acts.specs.Laws.{KeepsRowsSound}
 use Rattle.td_acts.proofs.Accepted.{IsFor}
 use Rattle.td_acts.proofs.AcceptedRows.{change_in_is_for, moment_is}
 use Rattle.td_acts.proofs.Cover.{AllByRecursion-append, unused_when_new, covered_with_accepted}
-use Rattle.td_acts.proofs.Joined.{AllPairs-append, AllNumbered-append, AllNumbered-weaker, AllByRecursion-weaker}
+use Rattle.td_acts.proofs.Joined.{AllPairs-append, AllPairs-map, AllNumbered-append, AllNumbered-weaker, AllByRecursion-weaker}
 
 -- the row of the rows after a change is that of the change
 pub row_after : (c : Change) (row : HolderRow) (h : HolderRows) → row_in c ≡ Some row → (rows_after c h).row ≡ row
@@ -39,6 +44,7 @@ nothing_without_row change.Nothing none = refl
 nothing_without_row (change.Registered row) none = cc
 nothing_without_row (change.Opened row g) none = cc
 nothing_without_row (change.Declared row m) none = cc
+nothing_without_row (change.Moved row status) none = cc
 
 -- this one, or another that is there still
 some_either : (b : Bool) (f : Guarantee) (o p : Option Guarantee) → (IsSome o → IsSome p) → IsSome (if◌then◌else◌ {A = Option Guarantee} b (Some f) o) → IsSome (if◌then◌else◌ {A = Option Guarantee} b (Some f) p)
@@ -106,6 +112,23 @@ sound_declared country h m t moment left is fresh accepted sound = record {
   cover = AllByRecursion-weaker (IsCovered h.movements) (IsCovered (h.movements ++ m ∷ [])) (λ g. covered_with_accepted h.movements m g accepted) h.guarantees sound.cover;
 }
 
+-- and so with a movement of theirs in a new state
+sound_moved : (country : List ℕ) (h : HolderRows) (status : NewStatus) (found : Movement) (t : ℕ) → IsCountry country → IsMoment t → movement_by_mrn status.mrn h.movements ≡ Some found
+    → (IsStatus found → IsStatus (with_status status found)) → AllByRecursion (IsCovered (map (moved status) h.movements)) h.guarantees → AreHolderRows country h
+    → AreHolderRows country (record { row = record h.row { last_at = t }; guarantees = h.guarantees; movements = map (moved status) h.movements })
+sound_moved country h status found t form moment is keeps cover sound = record {
+  row = record { number = sound.row.number; eori = sound.row.eori; last_at = moment };
+  guarantees = sound.guarantees;
+  grn_count = sound.grn_count;
+  grn_most = sound.grn_most;
+  movements = rows_moved country h.row.holder h.guarantees status h.movements found (differ_with country (Some h) form sound).mrns is keeps sound.movements;
+  mrn_count = simp length-map sound.mrn_count;
+  mrn_most = sound.mrn_most;
+  lrns = AllPairs-map (moved status) (λ (a b : Movement). a.lrn ≢ b.lrn) h.movements (λ m. m)
+      (λ i j d less within same. sound.lrns i j d less within (sym (lrn_moved status (get_or h.movements i d)) ∙ same ∙ lrn_moved status (get_or h.movements j d)));
+  cover = cover;
+}
+
 -- the row that was there
 the_row : (r : HolderRow) (old : HolderRow) → Some r ≡ Some old → old ≡ r
 the_row r old e = cc
@@ -140,6 +163,12 @@ sound_after country H (Some h) (change.Declared r m) row form has is number soun
     let left : h.row.mrn_count < 9999999 = subst (λ (o : HolderRow). o.mrn_count < 9999999) same is.left in
     let movement : IsMovementRow country h.row.holder h.guarantees (h.row.mrn_count + 1) m = subst (λ n. IsMovementRow country n h.guarantees (h.row.mrn_count + 1) m) (sym number) (subst (λ (o : HolderRow). IsMovementRow country H h.guarantees (o.mrn_count + 1) m) same is.movement) in
     subst (λ (x : HolderRow). AreHolderRows country (record { row = x; guarantees = h.guarantees; movements = h.movements ++ m ∷ [] })) (sym next) (sound_declared country h m r.last_at is.moment left movement is.fresh is.accepted sound)
+sound_after country H None (change.Moved r status) row form has is number sound = let some = is.known in cc
+sound_after country H (Some h) (change.Moved r status) row form has is number sound =
+    let same : is.old ≡ h.row = the_row h.row is.old is.known in
+    let next : r ≡ record h.row { last_at = r.last_at } = subst (λ (o : HolderRow). r ≡ record o { last_at = r.last_at }) same is.next in
+    subst (λ (x : HolderRow). AreHolderRows country (record { row = x; guarantees = h.guarantees; movements = map (moved status) h.movements })) (sym next)
+    (sound_moved country h status is.movement r.last_at form is.moment is.found is.keeps (is.cover (differ_with country (Some h) form sound) sound.cover) sound)
 
 -- the number of a row that is there
 number_of : (H : ℕ) (country : List ℕ) (o : Option HolderRows) (old : HolderRow) → IfSome o (λ h. h.row.holder ≡ H) → (account_with country o).holder ≡ Some old → old.holder ≡ H
@@ -154,6 +183,9 @@ number_after country H o (change.Opened r g) row has is number =
     let same : r ≡ row = cc in
     subst (λ (r : HolderRow). r.holder ≡ H) same (ap (λ (r : HolderRow). r.holder) is.next ∙ number_of H country o is.old number is.known)
 number_after country H o (change.Declared r m) row has is number =
+    let same : r ≡ row = cc in
+    subst (λ (r : HolderRow). r.holder ≡ H) same (ap (λ (r : HolderRow). r.holder) is.next ∙ number_of H country o is.old number is.known)
+number_after country H o (change.Moved r status) row has is number =
     let same : r ≡ row = cc in
     subst (λ (r : HolderRow). r.holder ≡ H) same (ap (λ (r : HolderRow). r.holder) is.next ∙ number_of H country o is.old number is.known)
 

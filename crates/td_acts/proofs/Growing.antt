@@ -1,5 +1,5 @@
 -- What one more accepted change does to what a book says.
-use Rattle.std.proofs.Common.{◌≡◌, ℕ, ◌+◌, Bool, true, false, List, [], ◌∷◌, ◌++◌, Option, Some, None, refl, sym, ◌∙◌, ap, subst, append_assoc}
+use Rattle.std.proofs.Common.{◌≡◌, ℕ, ◌+◌, Bool, true, false, List, [], ◌∷◌, ◌++◌, map, Option, Some, None, refl, sym, ◌∙◌, ap, subst, append_assoc}
 use Rattle.std.proofs.lemmas.List.{append-nil}
 use Rattle.std.specs.Prelude.{IfSome, if◌then◌else◌}
 use Rattle.std.specs.Option.{option_map, option_or}
@@ -11,7 +11,7 @@ use Rattle.td_acts.specs.declared.command.Command.{Command}
 use Rattle.td_acts.specs.declared.command.Stamped.{Stamped}
 use Rattle.td_acts.specs.declared.rows.Change.TheVariants as change
 use Rattle.td_acts.specs.Account.{Account, IsAccountOf, ReferencesDiffer}
-use Rattle.td_acts.specs.Book.{Book, Act, eori_given, eori_after, eori_in, last_in, serial_in, made_in, openings, declarations, opened_by, declared_by, eori_of, last_of, grn_count_before, mrn_count_before, grn_count_of, mrn_count_of, guarantees_of, movements_of, account_made, account_of, fresh_book}
+use Rattle.td_acts.specs.Book.{Book, Act, eori_given, eori_after, eori_in, last_in, serial_in, rows_in, guarantee_said, movement_said, openings, declarations, opened_by, declared_by, eori_of, last_of, grn_count_before, mrn_count_before, grn_count_of, mrn_count_of, guarantees_of, movements_of, account_made, account_of, fresh_book}
 use Rattle.td_acts.specs.Commands.{owner_of}
 use Rattle.td_acts.specs.Acceptance.{is_accepted_at}
 use Rattle.td_acts.specs.Machine.{appended, book_after, book_after_at, AreAccepted, IsGrown}
@@ -34,15 +34,17 @@ serial_in-append : (uses : Command → ℕ) (n : ℕ) (acts : List Act) (a : Act
 serial_in-append uses n [] a = refl
 serial_in-append uses n (b ∷ acts) a = serial_in-append uses (n + uses b.command) acts a
 
--- one more act makes what it makes behind all before
-made_in-append : {R : Type 0} (made : ℕ → ℕ → Command → List R) (uses : Command → ℕ) (n : ℕ) (acts : List Act) (a : Act) → made_in made uses n (acts ++ a ∷ []) ≡ made_in made uses n acts ++ made (serial_in uses n acts) a.at a.command
-made_in-append made uses n [] a = rw append-nil refl
-made_in-append made uses n (b ∷ acts) a = rw (made_in-append made uses (n + uses b.command) acts a, append_assoc) refl
+-- one more act says its own of all rows before, and what it makes stands behind them
+rows_in-append : {R : Type 0} (said : ℕ → Command → R → R) (made : ℕ → ℕ → Command → List R) (uses : Command → ℕ) (n : ℕ) (rows : List R) (acts : List Act) (a : Act)
+    → rows_in said made uses n rows (acts ++ a ∷ []) ≡ map (said a.at a.command) (rows_in said made uses n rows acts) ++ made (serial_in uses n acts) a.at a.command
+rows_in-append said made uses n rows [] a = refl
+rows_in-append said made uses n rows (b ∷ acts) a = rows_in-append said made uses (n + uses b.command) (map (said b.at b.command) rows ++ made n b.at b.command) acts a
 
 -- what the book with one more act says
 account_of-appended : (H : ℕ) (book : Book) (t : ℕ) (command : Command) → account_of H (appended book t command)
     ≡ account_made H book.opening.country (eori_after (eori_of book) command) t (grn_count_of book + openings command) (mrn_count_of book + declarations command)
-    (guarantees_of H book ++ opened_by book.opening.country H (grn_count_of book) t command) (movements_of H book ++ declared_by book.opening.country H (mrn_count_of book) t command)
+    (map (guarantee_said t command) (guarantees_of H book) ++ opened_by book.opening.country H (grn_count_of book) t command)
+    (map (movement_said t command) (movements_of H book) ++ declared_by book.opening.country H (mrn_count_of book) t command)
 account_of-appended H book t command =
     let a : Act = record { at = t; command = command } in
     let country = book.opening.country in
@@ -51,10 +53,8 @@ account_of-appended H book t command =
       last_in-append _ book.acts a,
       serial_in-append openings _ book.acts a,
       serial_in-append declarations _ book.acts a,
-      made_in-append (opened_by country H) openings (grn_count_before book) book.acts a,
-      made_in-append (declared_by country H) declarations (mrn_count_before book) book.acts a,
-      append_assoc,
-      append_assoc,
+      rows_in-append guarantee_said (opened_by country H) openings (grn_count_before book) book.opening.guarantees book.acts a,
+      rows_in-append movement_said (declared_by country H) declarations (mrn_count_before book) book.opening.movements book.acts a,
     ) refl
 
 -- a book in which nobody is registered is empty
@@ -148,8 +148,8 @@ grown_after H book s grown own = grown_after_at H book (moment_of s.at) s.comman
 
 fresh_made : (H : ℕ) (country : List ℕ) (o : Option HolderRow) (gs : List Guarantee) (ms : List Movement) → IfSome o (λ row. row.holder ≡ H)
     → account_of H (fresh_book (record { country = country; holder = o; guarantees = gs; movements = ms })) ≡ record { country = country; holder = o; guarantees = gs; movements = ms }
-fresh_made H country None gs ms is = rw (append-nil, append-nil) refl
-fresh_made H country (Some row) gs ms is = rw (append-nil, append-nil, ← is) refl
+fresh_made H country None gs ms is = refl
+fresh_made H country (Some row) gs ms is = rw (← is) refl
 
 -- a book that begins with an account says that account
 pub account_fresh_book : (H : ℕ) (account : Account) → IsAccountOf H account → account_of H (fresh_book account) ≡ account

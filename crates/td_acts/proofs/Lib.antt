@@ -4,6 +4,7 @@ pub mod Lodging
 pub mod Machines
 pub mod Cover
 pub mod Accepted
+pub mod Steps
 pub mod EachCommand
 pub mod Growing
 pub mod Written

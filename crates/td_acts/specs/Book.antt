@@ -1,15 +1,17 @@
 -- A holder's book: what was kept at the start, and the changes that were accepted since. Everything that a
 -- desk says of the holder is read from the book alone, from its beginning, in passes in which a later act
 -- overrides what earlier ones said.
-use Rattle.std.specs.Prelude.{ℕ, ◌+◌, ◌%◌, List, [], ◌∷◌, ◌++◌, map, Option, Some, None}
+use Rattle.std.specs.Prelude.{ℕ, ◌+◌, ◌%◌, List, [], ◌∷◌, ◌++◌, map, Option, Some, None, if◌then◌else◌}
 use Rattle.std.specs.Option.{option_map, option_map_or, option_or}
+use Rattle.std.specs.Str.{bytes_eq}
 use Rattle.td_base.specs.Days.{day_of_moment, year_of}
 use Rattle.td_base.specs.References.{grn_text, mrn_text}
 use Rattle.td_acts.specs.declared.rows.HolderRow.{HolderRow}
 use Rattle.td_guarantee.specs.declared.guarantee.Guarantee.{Guarantee}
 use Rattle.td_movement.specs.declared.movement.Movement.{Movement}
+use Rattle.td_movement.specs.declared.state.State.TheVariants.{Cancelled}
 use Rattle.td_acts.specs.declared.command.Command.{Command}
-use Rattle.td_acts.specs.declared.command.Command.TheVariants.{Register, OpenGuarantee, Ie015}
+use Rattle.td_acts.specs.declared.command.Command.TheVariants.{Register, OpenGuarantee, Ie015, Ie014}
 use Rattle.td_acts.specs.Account.{Account}
 use Rattle.td_acts.specs.Lines.{line_of}
 use Rattle.td_acts.specs.NewRows.{new_guarantee, new_movement}
@@ -74,11 +76,25 @@ declared_by country H n t (Ie015 holder lrn departure destination lines) =
         (map line_of lines) ∷ []
 declared_by country H n t command = []
 
--- what the acts make, one after the other, where made says what an act makes after n others and uses how
--- many serials it uses up
-abbrev pub made_in : {R : Type 0} → (ℕ → ℕ → Command → List R) → (Command → ℕ) → ℕ → List Act → List R
-made_in made uses n [] = []
-made_in made uses n (a ∷ acts) = made n a.at a.command ++ made_in made uses (n + uses a.command) acts
+-- the movement with this MRN as an act says that it is; any other as it was
+abbrev pub if_named : List ℕ → (Movement → Movement) → Movement → Movement
+if_named mrn said m = if bytes_eq m.mrn mrn then said m else m
+
+-- What a command says of the movement that it names: its state, and the days and the office that come with it.
+abbrev pub movement_said : ℕ → Command → Movement → Movement
+movement_said t (Ie014 holder mrn) = if_named mrn (λ m. record m { state = Cancelled })
+movement_said t command = λ m. m
+
+-- what a command says of the guarantee that it names
+abbrev pub guarantee_said : ℕ → Command → Guarantee → Guarantee
+guarantee_said t command = λ g. g
+
+-- The rows after all acts, where n serials are used before: each act says anew what it says of the rows before it, and what
+-- it makes stands behind them.
+abbrev pub rows_in : {R : Type 0} → (ℕ → Command → R → R) → (ℕ → ℕ → Command → List R) → (Command → ℕ) → ℕ → List R → List Act → List R
+rows_in said made uses n rows [] = rows
+rows_in said made uses n rows (a ∷ acts) =
+    rows_in said made uses (n + uses a.command) (map (said a.at a.command) rows ++ made n a.at a.command) acts
 
 abbrev pub eori_of : Book → Option (List ℕ)
 eori_of book = eori_in (option_map (λ (r : HolderRow). r.eori) book.opening.holder) book.acts
@@ -105,14 +121,14 @@ mrn_count_of book = serial_in declarations (mrn_count_before book) book.acts
 -- guarantee n: that of the start, else the n-th opening
 abbrev pub guarantees_of : ℕ → Book → List Guarantee
 guarantees_of H book =
-    book.opening.guarantees ++ made_in (opened_by book.opening.country H) openings
-        (grn_count_before book) book.acts
+    rows_in guarantee_said (opened_by book.opening.country H) openings
+        (grn_count_before book) book.opening.guarantees book.acts
 
--- movement n: that of the start, else the n-th declaration
+-- movement n: that of the start, else the n-th declaration, in the state that the last act naming it says
 abbrev pub movements_of : ℕ → Book → List Movement
 movements_of H book =
-    book.opening.movements ++ made_in (declared_by book.opening.country H) declarations
-        (mrn_count_before book) book.acts
+    rows_in movement_said (declared_by book.opening.country H) declarations
+        (mrn_count_before book) book.opening.movements book.acts
 
 -- the account of these parts
 abbrev pub account_made : ℕ → List ℕ → Option (List ℕ) → ℕ → ℕ → ℕ → List Guarantee → List Movement → Account

@@ -1,11 +1,13 @@
 -- What a change of one holder's rows does to them: these shapes stand for all commands.
-use Rattle.std.specs.Prelude.{List, [], ◌∷◌, ◌++◌, Option, Some, None, Bool, true, false, unwrap_or}
+use Rattle.std.specs.Prelude.{List, [], ◌∷◌, ◌++◌, map, Option, Some, None, Bool, true, false, unwrap_or, if◌then◌else◌}
 use Rattle.std.specs.Option.{option_or}
+use Rattle.std.specs.Str.{bytes_eq}
 use Rattle.td_guarantee.specs.declared.guarantee.Guarantee.{Guarantee}
 use Rattle.td_movement.specs.declared.movement.Movement.{Movement}
 use Rattle.td_acts.specs.declared.rows.HolderRow.{HolderRow}
+use Rattle.td_acts.specs.declared.rows.NewStatus.{NewStatus}
 use Rattle.td_acts.specs.declared.rows.Change.{Change}
-use Rattle.td_acts.specs.declared.rows.Change.TheVariants.{Nothing, Registered, Opened, Declared}
+use Rattle.td_acts.specs.declared.rows.Change.TheVariants.{Nothing, Registered, Opened, Declared, Moved}
 use Rattle.td_acts.specs.Account.{Account, HolderRows}
 
 -- there is something to write
@@ -14,6 +16,7 @@ is_change Nothing = false
 is_change (Registered row) = true
 is_change (Opened row guarantee) = true
 is_change (Declared row movement) = true
+is_change (Moved row status) = true
 
 -- the holder's row in a change
 abbrev pub row_in : Change → Option HolderRow
@@ -21,6 +24,7 @@ row_in Nothing = None
 row_in (Registered row) = Some row
 row_in (Opened row guarantee) = Some row
 row_in (Declared row movement) = Some row
+row_in (Moved row status) = Some row
 
 -- the guarantees after a change: an opened one stands behind the others
 abbrev pub guarantees_after : Change → List Guarantee → List Guarantee
@@ -28,13 +32,28 @@ guarantees_after Nothing guarantees = guarantees
 guarantees_after (Registered row) guarantees = guarantees
 guarantees_after (Opened row guarantee) guarantees = guarantees ++ guarantee ∷ []
 guarantees_after (Declared row movement) guarantees = guarantees
+guarantees_after (Moved row status) guarantees = guarantees
 
--- the movements after a change: a declared one stands behind the others
+-- the movement in a new state, with the days and the office that come with it
+abbrev pub with_status : NewStatus → Movement → Movement
+with_status status m = record m {
+  state = status.state;
+  limit = option_or status.limit m.limit;
+  arrival = option_or status.arrival m.arrival;
+  actual = option_or status.actual m.actual;
+}
+
+-- the movement in its new state, where it is the one that has moved
+abbrev pub moved : NewStatus → Movement → Movement
+moved status m = if bytes_eq m.mrn status.mrn then with_status status m else m
+
+-- the movements after a change: a declared one stands behind the others, and one that has moved in its place
 abbrev pub movements_after : Change → List Movement → List Movement
 movements_after Nothing movements = movements
 movements_after (Registered row) movements = movements
 movements_after (Opened row guarantee) movements = movements
 movements_after (Declared row movement) movements = movements ++ movement ∷ []
+movements_after (Moved row status) movements = map (moved status) movements
 
 -- a registered holder's rows after a change
 abbrev pub rows_after : Change → HolderRows → HolderRows

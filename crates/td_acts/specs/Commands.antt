@@ -6,7 +6,7 @@ use Rattle.td_base.specs.Codes.{IsAccessCode, IsLrn, IsOfficeNo}
 use Rattle.td_base.specs.Money.{IsReference, IsCover}
 use Rattle.td_base.specs.References.{IsGrn, IsMrn, owner_of as reference_owner}
 use Rattle.td_acts.specs.declared.command.Command.{Command}
-use Rattle.td_acts.specs.declared.command.Command.TheVariants.{Register, OpenGuarantee, Ie015, SeeHolder, SeeMovement, SeeGuarantee}
+use Rattle.td_acts.specs.declared.command.Command.TheVariants.{Register, OpenGuarantee, Ie015, Ie014, SeeHolder, SeeMovement, SeeGuarantee}
 use Rattle.td_acts.specs.declared.command.Subject.{Subject}
 use Rattle.td_acts.specs.declared.command.Subject.TheVariants.{Holder, Movement, Guarantee}
 use Rattle.td_acts.specs.Lines.{IsLines}
@@ -22,6 +22,7 @@ abbrev pub subject_of : Command → Subject
 subject_of (Register holder eori) = Holder holder
 subject_of (OpenGuarantee holder reference cover code) = Holder holder
 subject_of (Ie015 holder lrn departure destination lines) = Holder holder
+subject_of (Ie014 holder mrn) = Holder holder
 subject_of (SeeHolder holder) = Holder holder
 subject_of (SeeMovement holder mrn) = Holder holder
 subject_of (SeeGuarantee holder grn) = Holder holder
@@ -35,6 +36,7 @@ abbrev pub is_changing : Command → Bool
 is_changing (Register holder eori) = true
 is_changing (OpenGuarantee holder reference cover code) = true
 is_changing (Ie015 holder lrn departure destination lines) = true
+is_changing (Ie014 holder mrn) = true
 is_changing (SeeHolder holder) = false
 is_changing (SeeMovement holder mrn) = false
 is_changing (SeeGuarantee holder grn) = false
@@ -46,6 +48,7 @@ IsProper (OpenGuarantee holder reference cover code) =
     IsHolderNumber holder × IsReference reference × IsCover cover × IsAccessCode code
 IsProper (Ie015 holder lrn departure destination lines) =
     IsHolderNumber holder × IsLrn lrn × IsOfficeNo departure × IsOfficeNo destination × IsLines lines
+IsProper (Ie014 holder mrn) = IsHolderNumber holder × IsMrn mrn
 IsProper (SeeHolder holder) = IsHolderNumber holder
 IsProper (SeeMovement holder mrn) = IsHolderNumber holder × IsMrn mrn
 IsProper (SeeGuarantee holder grn) = IsHolderNumber holder × IsGrn grn

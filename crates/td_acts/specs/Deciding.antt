@@ -8,13 +8,16 @@ use Rattle.td_base.specs.Moment.{moment_of}
 use Rattle.td_base.specs.References.{grn_text, mrn_text}
 use Rattle.td_guarantee.specs.declared.guarantee.Guarantee.{Guarantee}
 use Rattle.td_guarantee.specs.Usage.{used_on}
+use Rattle.td_movement.specs.declared.state.State.{State}
+use Rattle.td_movement.specs.declared.state.State.TheVariants.{Cancelled}
 use Rattle.td_acts.specs.declared.rows.HolderRow.{HolderRow}
 use Rattle.td_acts.specs.declared.rows.Loaded.{Loaded}
+use Rattle.td_acts.specs.declared.rows.NewStatus.{NewStatus}
 use Rattle.td_acts.specs.declared.rows.Change.{Change}
 use Rattle.td_acts.specs.declared.rows.Change.TheVariants as change
 use Rattle.td_acts.specs.declared.rows.Verdict.{Verdict}
 use Rattle.td_acts.specs.declared.command.Command.{Command}
-use Rattle.td_acts.specs.declared.command.Command.TheVariants.{Register, OpenGuarantee, Ie015}
+use Rattle.td_acts.specs.declared.command.Command.TheVariants.{Register, OpenGuarantee, Ie015, Ie014}
 use Rattle.td_acts.specs.Account.{Account, guarantee_by_grn, movement_by_mrn, movement_by_lrn}
 use Rattle.td_acts.specs.Book.{year2_at}
 use Rattle.td_acts.specs.Lines.{line_of}
@@ -51,6 +54,10 @@ abbrev pub if_row : Option HolderRow → (HolderRow → Change) → Change
 if_row None rows_for = change.Nothing
 if_row (Some row) rows_for = rows_for row
 
+-- a state with which no day and no office come
+abbrev pub new_state : List ℕ → State → NewStatus
+new_state mrn state = record { mrn = mrn; state = state; limit = None; arrival = None; actual = None }
+
 -- what the command changes where it is accepted
 abbrev pub change_of : Account → ℕ → Command → Change
 change_of account t (Register holder eori) = change.Registered (new_holder_row holder eori t)
@@ -63,6 +70,8 @@ change_of account t (Ie015 holder lrn departure destination lines) = if_row acco
     change.Declared (record row { last_at = t; mrn_count = n })
     (new_movement (mrn_text (year2_at t) account.country holder n) lrn departure destination
         (day_of_moment t) (map line_of lines)))
+change_of account t (Ie014 holder mrn) = if_row account.holder (λ row.
+    change.Moved (record row { last_at = t }) (new_state mrn Cancelled))
 change_of account t command = change.Nothing
 
 -- that change where it is accepted, else nothing

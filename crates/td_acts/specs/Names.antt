@@ -1,7 +1,7 @@
 -- The names of refusals, as replies and result files show them.
 use Rattle.std.specs.Prelude.{ℕ, List, codes}
 use Rattle.td_acts.specs.declared.said.Refusal.{Refusal}
-use Rattle.td_acts.specs.declared.said.Refusal.TheVariants.{ClockRange, NoHolder, HolderKnown, ClockBack, NoMovement, NoGuarantee, BadCode, GuaranteeEnded, LrnUsed, SerialsSpent}
+use Rattle.td_acts.specs.declared.said.Refusal.TheVariants.{ClockRange, NoHolder, HolderKnown, ClockBack, NoMovement, NoGuarantee, BadCode, GuaranteeEnded, LrnUsed, SerialsSpent, WrongState}
 
 abbrev pub refusal_name : Refusal → List ℕ
 refusal_name ClockRange = codes "clock-range"
@@ -14,3 +14,4 @@ refusal_name BadCode = codes "bad-code"
 refusal_name GuaranteeEnded = codes "guarantee-ended"
 refusal_name LrnUsed = codes "lrn-used"
 refusal_name SerialsSpent = codes "serials-spent"
+refusal_name (WrongState state) = codes "wrong-state"

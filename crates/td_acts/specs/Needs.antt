@@ -2,7 +2,7 @@
 use Rattle.std.specs.Prelude.{ℕ, List}
 use Rattle.td_movement.specs.declared.line.Line.{Line}
 use Rattle.td_acts.specs.declared.command.Command.{Command}
-use Rattle.td_acts.specs.declared.command.Command.TheVariants.{Register, OpenGuarantee, Ie015, SeeHolder, SeeMovement, SeeGuarantee}
+use Rattle.td_acts.specs.declared.command.Command.TheVariants.{Register, OpenGuarantee, Ie015, Ie014, SeeHolder, SeeMovement, SeeGuarantee}
 use Rattle.td_acts.specs.declared.needs.Needs.{Needs}
 use Rattle.td_acts.specs.declared.needs.Needs.TheVariants as needs
 
@@ -19,6 +19,7 @@ abbrev pub need_of : Command → Need
 need_of (Register holder eori) = nothing
 need_of (OpenGuarantee holder reference cover code) = nothing
 need_of (Ie015 holder lrn departure destination lines) = lodging lrn lines
+need_of (Ie014 holder mrn) = movement mrn
 need_of (SeeHolder holder) = nothing
 need_of (SeeMovement holder mrn) = movement mrn
 need_of (SeeGuarantee holder grn) = guarantee grn

@@ -10,11 +10,13 @@ use Rattle.td_movement.specs.declared.line.Line.{Line}
 use Rattle.td_acts.specs.declared.rows.HolderRow.{HolderRow}
 use Rattle.td_movement.specs.declared.movement.Movement.{Movement}
 use Rattle.td_guarantee.specs.Usage.{used_on}
+use Rattle.td_movement.specs.Moves.{state_after}
+use Rattle.td_movement.specs.declared.moves.Move.TheVariants.{Cancel}
 use Rattle.td_acts.specs.declared.command.Command.{Command}
-use Rattle.td_acts.specs.declared.command.Command.TheVariants.{Register, OpenGuarantee, Ie015, SeeHolder, SeeMovement, SeeGuarantee}
+use Rattle.td_acts.specs.declared.command.Command.TheVariants.{Register, OpenGuarantee, Ie015, Ie014, SeeHolder, SeeMovement, SeeGuarantee}
 use Rattle.td_acts.specs.declared.said.Answer.TheVariants as answer
 use Rattle.td_acts.specs.declared.said.Refusal.{Refusal}
-use Rattle.td_acts.specs.declared.said.Refusal.TheVariants.{ClockRange, NoHolder, HolderKnown, ClockBack, NoMovement, NoGuarantee, LrnUsed, SerialsSpent}
+use Rattle.td_acts.specs.declared.said.Refusal.TheVariants.{ClockRange, NoHolder, HolderKnown, ClockBack, NoMovement, NoGuarantee, LrnUsed, SerialsSpent, WrongState}
 use Rattle.td_acts.specs.declared.said.Said.{Said}
 use Rattle.td_acts.specs.declared.said.Said.TheVariants.{Answered, Refused}
 use Rattle.td_acts.specs.Account.{Account, guarantee_by_grn, movement_by_mrn, movement_by_lrn}
@@ -77,6 +79,15 @@ said_on_ie015 account t holder lrn departure destination lines =
     (if_not_refused (first_refusal (day_of_moment t) account.guarantees lines)
     (Answered (answer.Ie028 lrn (mrn_text (year2_at t) account.country holder (row.mrn_count + 1))))))))
 
+-- The holder's request to cancel a declaration (IE014): only before the release.
+abbrev pub said_on_ie014 : Account → ℕ → List ℕ → Said
+said_on_ie014 account t mrn =
+    or_refuse NoHolder account.holder (λ row.
+    refuse_if ClockBack (is_back t row)
+    (or_refuse NoMovement (movement_by_mrn mrn account.movements) (λ m.
+    or_refuse (WrongState m.state) (state_after m.state Cancel) (λ state.
+    Answered (answer.Ie014 m.mrn)))))
+
 -- A view of a holder: the EORI and the holder's own counts.
 abbrev pub said_on_see_holder : Account → Said
 said_on_see_holder account =
@@ -102,6 +113,7 @@ said_at account t (Register holder eori) = said_on_register account holder eori
 said_at account t (OpenGuarantee holder reference cover code) = said_on_open account t holder
 said_at account t (Ie015 holder lrn departure destination lines) =
     said_on_ie015 account t holder lrn departure destination lines
+said_at account t (Ie014 holder mrn) = said_on_ie014 account t mrn
 said_at account t (SeeHolder holder) = said_on_see_holder account
 said_at account t (SeeMovement holder mrn) = said_on_see_movement account mrn
 said_at account t (SeeGuarantee holder grn) = said_on_see_guarantee account grn

@@ -29,6 +29,11 @@ pub enum Command {
         destination: OfficeNo,
         lines: Lines,
     },
+    /// A holder asks to cancel a declaration (IE014).
+    Ie014 {
+        holder: HolderNo,
+        mrn: Mrn,
+    },
     /// The holder's EORI, and how many guarantees and movements the holder has.
     SeeHolder {
         holder: HolderNo,
@@ -93,6 +98,7 @@ impl Command {
             Command::Register { holder, .. }
             | Command::OpenGuarantee { holder, .. }
             | Command::Ie015 { holder, .. }
+            | Command::Ie014 { holder, .. }
             | Command::SeeHolder { holder }
             | Command::SeeMovement { holder, .. }
             | Command::SeeGuarantee { holder, .. } => Subject::Holder(*holder),
@@ -108,7 +114,7 @@ impl Command {
             | Command::OpenGuarantee { .. }
             | Command::SeeHolder { .. } => Needs::Nothing,
             Command::Ie015 { lrn, lines, .. } => Needs::Lodging(*lrn, lines),
-            Command::SeeMovement { mrn, .. } => Needs::Movement(*mrn),
+            Command::Ie014 { mrn, .. } | Command::SeeMovement { mrn, .. } => Needs::Movement(*mrn),
             Command::SeeGuarantee { grn, .. } => Needs::Guarantee(*grn),
         }
     }
@@ -150,7 +156,9 @@ pub fn known(command: &Command) -> bool
             holder.number() >= 1 && texts && !lines.as_slice().is_empty()
         }
         Command::SeeHolder { holder } => holder.number() >= 1,
-        Command::SeeMovement { holder, mrn } => holder.number() >= 1 && mrn.as_bytes().len() == 18,
+        Command::Ie014 { holder, mrn } | Command::SeeMovement { holder, mrn } => {
+            holder.number() >= 1 && mrn.as_bytes().len() == 18
+        }
         Command::SeeGuarantee { holder, grn } => {
             holder.number() >= 1 && grn.as_bytes().len() == 17
         }

@@ -8,6 +8,7 @@ mod declaring;
 mod finding;
 mod laws;
 mod lines;
+mod moving;
 mod needs;
 mod rows;
 mod said;
@@ -23,7 +24,7 @@ pub use laws::{
 };
 pub use lines::Lines;
 pub use needs::Needs;
-pub use rows::{Change, HolderRow, Loaded, Verdict};
+pub use rows::{Change, HolderRow, Loaded, NewStatus, Verdict};
 pub use said::{Answer, Refusal, Said};
 
 #[cfg(test)]

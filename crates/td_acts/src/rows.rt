@@ -3,9 +3,9 @@ ghost use Rattle.std.specs.Prelude.{◌≡◌};
 
 use crate::said::{Answer, Refusal, Said};
 use std::alloc::Global;
-use td_base::{Cents, Country, Eori, HolderNo, Moment};
+use td_base::{Cents, Country, Day, Eori, HolderNo, Moment, Mrn, OfficeNo};
 use td_guarantee::Guarantee;
-use td_movement::Movement;
+use td_movement::{Movement, State};
 
 /// The row of a registered holder.
 #[derive(Clone, Copy, Debug, PartialEq, Eq)]
@@ -50,6 +50,20 @@ impl Loaded {
     }
 }
 
+/// What is said of a movement that has moved: its state, and the days and the office that come with it. Those
+/// that don't come with it stay as they are.
+#[derive(Clone, Copy, Debug, PartialEq, Eq)]
+pub struct NewStatus {
+    pub mrn: Mrn,
+    pub state: State,
+    /// The day by which it has to arrive, where it is released.
+    pub limit: Option<Day>,
+    /// The day of its arrival, where it arrives.
+    pub arrival: Option<Day>,
+    /// The office at which it arrives.
+    pub actual: Option<OfficeNo>,
+}
+
 /// The rows to write for a verdict: shapes that stand for all commands.
 #[derive(Debug, Drop)]
 pub enum Change {
@@ -61,6 +75,8 @@ pub enum Change {
     Opened(HolderRow, Guarantee),
     /// The holder's row as it is now, and a new movement.
     Declared(HolderRow, Movement),
+    /// The holder's row as it is now, and what is said of a movement that has moved.
+    Moved(HolderRow, NewStatus),
 }
 
 impl Change {
@@ -72,9 +88,10 @@ impl Change {
     {
         match self {
             Change::Nothing => None,
-            Change::Registered(row) | Change::Opened(row, _) | Change::Declared(row, _) => {
-                Some(*row)
-            }
+            Change::Registered(row)
+            | Change::Opened(row, _)
+            | Change::Declared(row, _)
+            | Change::Moved(row, _) => Some(*row),
         }
     }
 }

@@ -3,7 +3,7 @@ ghost use Rattle.std.specs.Prelude.{◌≡◌};
 
 use td_base::{Cents, Eori, Grn, HolderNo, Lrn, Mrn};
 use td_guarantee::Guarantee;
-use td_movement::Movement;
+use td_movement::{Movement, State};
 
 /// The answer to a command that is not refused.
 #[derive(Debug, Drop)]
@@ -23,6 +23,10 @@ pub enum Answer {
     /// To a declaration: MRN allocated (IE028), for the declaration's LRN.
     Ie028 {
         lrn: Lrn,
+        mrn: Mrn,
+    },
+    /// To a request to cancel a declaration (IE014): the movement is cancelled.
+    Ie014 {
         mrn: Mrn,
     },
     /// To a view of a movement: the movement as it is.
@@ -54,6 +58,10 @@ pub enum Refusal {
     LrnUsed,
     /// The holder has used up all serials.
     SerialsSpent,
+    /// The movement's state doesn't allow the move.
+    WrongState {
+        state: State,
+    },
 }
 
 impl Refusal {
@@ -74,6 +82,7 @@ impl Refusal {
             Refusal::GuaranteeEnded => "guarantee-ended",
             Refusal::LrnUsed => "lrn-used",
             Refusal::SerialsSpent => "serials-spent",
+            Refusal::WrongState { .. } => "wrong-state",
         }
     }
 }

@@ -4,6 +4,7 @@ ghost use Rattle.td_acts.specs.Deciding.{IsVerdict, IsVerdictAt};
 
 use crate::command::Command;
 use crate::declaring::{Declaration, lodge};
+use crate::moving::cancel;
 use crate::rows::{Change, HolderRow, Loaded, Verdict};
 use crate::said::{Answer, Refusal, Said};
 use crate::serials::next_grn;
@@ -61,6 +62,7 @@ fn verdict_at(
             };
             lodge(alloc, loaded, at, &declaration)
         }
+        Command::Ie014 { holder, mrn } => Ok(cancel(loaded, at, *holder, mrn)),
         Command::SeeHolder { holder } => Ok(see_holder(loaded, *holder)),
         Command::SeeMovement { holder, mrn } => see_movement(alloc, loaded, *holder, mrn),
         Command::SeeGuarantee { holder, grn } => see_guarantee(alloc, loaded, *holder, grn),

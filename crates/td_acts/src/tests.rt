@@ -115,6 +115,7 @@ fn words(alloc: Global, said: &Said) -> Result<String, AllocError> {
         ) => format!(in alloc; "holder {holder} {eori} {guarantees} {movements}"),
         Said::Answered(Answer::Opened { grn }) => format!(in alloc; "opened {grn}"),
         Said::Answered(Answer::Ie028 { lrn, mrn }) => format!(in alloc; "IE028 {lrn} {mrn}"),
+        Said::Answered(Answer::Ie014 { mrn }) => format!(in alloc; "IE014 {mrn}"),
         Said::Answered(Answer::Movement(movement)) => {
             format!(in alloc; "movement {}", movement.mrn)
         }
