@@ -64,6 +64,21 @@ pub struct NewStatus {
     pub actual: Option<OfficeNo>,
 }
 
+impl NewStatus {
+    ghost use Rattle.std.specs.Prelude.{◌≡◌};
+    ghost use Rattle.td_acts.specs.Changes.{with_status};
+
+    /// Puts it into a movement.
+    pub fn put_in(&self, movement: &mut Movement)
+        ensures { movement.new ≡ with_status self.now movement.old }
+    {
+        movement.state = self.state;
+        movement.limit = self.limit.or(movement.limit);
+        movement.arrival = self.arrival.or(movement.arrival);
+        movement.actual = self.actual.or(movement.actual);
+    }
+}
+
 /// The rows to write for a verdict: shapes that stand for all commands.
 #[derive(Debug, Drop)]
 pub enum Change {

@@ -4,6 +4,7 @@ pub mod Turns
 mod Found
 mod Loading
 mod Kept
+mod Mapping
 mod Storing
 pub mod Carrying
 pub mod Weighed

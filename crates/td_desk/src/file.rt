@@ -4,7 +4,7 @@ ghost use Rattle.std.specs.Prelude.{option_map};
 ghost use Rattle.std.specs.List.{AllByRecursion};
 ghost use Rattle.td_guarantee.specs.Usage.{used_on};
 ghost use Rattle.td_acts.specs.Account.{account_with, guarantee_by_grn, movement_by_mrn, movement_by_lrn};
-ghost use Rattle.td_acts.specs.Changes.{rows_after};
+ghost use Rattle.td_acts.specs.Changes.{moved, rows_after};
 ghost use Rattle.td_acts.specs.Deciding.{IsLoaded};
 ghost use Rattle.td_acts.specs.Needs.{need_said};
 ghost use Rattle.td_acts.specs.Sound.{IsCovered};
@@ -13,7 +13,7 @@ ghost use Rattle.td_desk.specs.Places.{IsFirstPlace};
 use keyed_rows::Keyed;
 use std::alloc::{AllocError, Global};
 use std::marker::Model;
-use td_acts::{Change, HolderRow, Lines, Loaded, Needs, find_guarantee, find_movement_by_mrn};
+use td_acts::{Change, HolderRow, Lines, Loaded, Needs, NewStatus, find_guarantee, find_movement_by_mrn};
 use td_base::{Cents, Country, Grn, HolderNo, Lrn, Mrn};
 use td_guarantee::{Guarantee, in_use};
 use td_movement::Movement;
@@ -89,6 +89,10 @@ impl HolderFile {
                 self.lrns.push_reserved(lrn);
                 self.row = row;
             }
+            Change::Moved(row, status) => {
+                put_status(&mut self.movements, &status);
+                self.row = row;
+            }
         }
         Ok(())
     }
@@ -124,6 +128,17 @@ impl HolderFile {
             movements,
             guarantees,
         })
+    }
+}
+
+// Puts the movement that has moved into its new state.
+fn put_status(movements: &mut [Movement], status: &NewStatus)
+    ensures { movements.new ≡ map (moved status.now) movements.old }
+{
+    for movement in movements.iter_mut() {
+        if movement.mrn == status.mrn {
+            status.put_in(movement);
+        }
     }
 }
 

@@ -51,6 +51,7 @@ fn answer_words(alloc: Global, answer: &Answer) -> Result<String, AllocError> {
         } => format!(in alloc; "holder {holder} {eori} {guarantees} {movements}"),
         Answer::Opened { grn } => format!(in alloc; "opened {grn}"),
         Answer::Ie028 { lrn, mrn } => format!(in alloc; "IE028 {lrn} {mrn}"),
+        Answer::Ie014 { mrn } => format!(in alloc; "IE014 {mrn}"),
         Answer::Movement(movement) => {
             let mrn = movement.mrn;
             let lrn = movement.lrn;
