@@ -1,6 +1,6 @@
 -- The check digit of ISO 6346, over digits and capital letters.
 use Rattle.std.specs.Prelude.{ℕ, ◌+◌, ◌-◌, ◌*◌, ◌%◌, ◌^◌, ◌≤◌, ◌==◌, nat_lt, if◌then◌else◌, List, [], ◌∷◌, length, slice_index, All}
-use Rattle.td_base.specs.Letters.{IsMark}
+use Rattle.ascii_text.specs.Letters.{IsMark}
 
 -- the values of the letters from A to Z: from 10 on, and 11, 22 and 33 are left out
 abbrev pub letter_values : List ℕ

@@ -6,9 +6,9 @@ use Rattle.std.specs.Option.{option_eq}
 use Rattle.std.specs.Str.{bytes_eq, all_ascii_digits}
 use Rattle.td_base.specs.CheckDigit.{check_of}
 use Rattle.td_base.specs.Country.{IsCountry}
-use Rattle.td_base.specs.Digits.{fixed_decimal}
-use Rattle.td_base.specs.Holder.{IsHolderNumber, digits_value}
-use Rattle.td_base.specs.Letters.{IsMark, is_mark}
+use Rattle.ascii_text.specs.Digits.{digits_value, fixed_decimal}
+use Rattle.td_base.specs.Holder.{IsHolderNumber}
+use Rattle.ascii_text.specs.Letters.{IsMark, is_mark}
 use Rattle.td_base.specs.declared.references.RefFault.{RefFault}
 use Rattle.td_base.specs.declared.references.RefFault.TheVariants.{Length, Form, CheckDigit}
 

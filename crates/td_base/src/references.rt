@@ -1,15 +1,14 @@
 //! References: what prints, owns and numbers them. The texts of MRN and GRN differ in their length alone.
 ghost use Rattle.std.specs.Prelude.{◌≡◌, ◌+◌, ◌-◌, ◌≤◌, ◌++◌, length, IsTrue, ◌↔◌, Some, SomeIff, IfSome, OkIff, IfErr};
 ghost use Rattle.td_base.specs.Country.{IsCountry};
-ghost use Rattle.td_base.specs.Digits.{fixed_decimal};
+ghost use Rattle.ascii_text.specs.Digits.{fixed_decimal};
 ghost use Rattle.td_base.specs.References.{fault_text, IsReferenceText, IsFirstFault, HasForm, has_form, reference_read, owner_of as owner_in, serial_of as serial_in};
 ghost use Rattle.td_base.specs.References.{reference_text, grn_text, mrn_text, IsGrnSerial, IsMrnSerial, TellsApart};
 
 use crate::checking::check_digit;
 use crate::country::Country;
-use crate::digits::{read_digits, write_digits};
 use crate::holder::HolderNo;
-use crate::text::{is_capitals, is_digits, is_marks};
+use ascii_text::{is_capitals, is_digits, is_marks, read_digits, write_digits};
 use std::error::Error;
 use std::fmt;
 
