@@ -9,10 +9,10 @@ use Rattle.std.proofs.lemmas.Fmt.{decimal-digits_value}
 use Rattle.std.proofs.lemmas.List.{length-take-le, length-drop}
 use Rattle.std.proofs.lemmas.Option.{slice_get-get_or}
 use Rattle.std.proofs.lemmas.Str.Parse.{IsNumeralModel, numerals_by_fold, tells_by_index}
-use Rattle.td_base.specs.Money.{IsWhole, IsCentsText, cents_text, cents_value, point_of}
 use Rattle.ascii_text.proofs.Decimals.{two_digits}
 use Rattle.ascii_text.proofs.DigitsAgain.{below_power, digits_again}
 use Rattle.ascii_text.proofs.Places.{around}
+use Rattle.td_base.specs.Money.{IsWhole, IsCentsText, cents_text, cents_value, point_of}
 
 -- a holder's text in six digits
 six_digits : (n : ℕ) → holder_text n ≡ fixed_decimal 6 n

@@ -5,11 +5,11 @@ use Rattle.std.specs.Int.{is_in_range}
 use Rattle.std.specs.List.{list_all}
 use Rattle.ascii_text.specs.Digits.{digits_value}
 
--- a number that a holder may have
+-- a number that a holder may have: it is printed in six digits, and 0 is no holder's
 abbrev pub IsHolderNumber : ℕ → Type 0
 IsHolderNumber n = (1 ≤ n) × (n ≤ 999999)
 
--- whether a number is one
+-- whether a number is that
 abbrev pub is_holder_number : ℕ → Bool
 is_holder_number n = is_in_range 1 999999 n
 

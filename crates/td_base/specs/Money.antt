@@ -6,8 +6,8 @@ use Rattle.std.specs.Fmt.{decimal}
 use Rattle.std.specs.List.{list_all}
 use Rattle.std.specs.Option.{option_eq}
 
--- An amount in cents. The limit is the desk's own, the Convention has none: a hundred times as much fits in 64 bits, so
--- a share can be taken of every amount.
+-- An amount in cents. The limit is the desk's own: a hundred times as much fits in 64 bits, so a
+-- share can be taken of every amount.
 abbrev pub IsCents : ℕ → Type 0
 IsCents n = n ≤ 10 ^ 15
 

@@ -1,5 +1,5 @@
-//! The vocabulary of the desk: holders, references and check digits, money and codes. It hands on the days and moments,
-//! and the readers and writers that are counted.
+//! The vocabulary of the desk: holders, references and check digits, money and codes. It hands on
+//! the days and moments, and the readers and writers that are counted.
 #![tactic(auto)]
 
 mod access_code;

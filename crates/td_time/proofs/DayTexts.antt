@@ -9,11 +9,11 @@ use Rattle.std.proofs.lemmas.List.Elements.{All-append, All-cons, All-weaker}
 use Rattle.std.proofs.lemmas.Option.{slice_get-get_or}
 use Rattle.jiff_core.specs.Calendar.{days_in_month}
 use Rattle.jiff_core.proofs.CalendarLemmas.{days_in_month_bounds}
-use Rattle.td_time.specs.Days.{IsDateOfDesk, IsDayText, is_date_of_desk, is_day_text, day_number, day_read, number_in, year_in, month_in, day_in}
 use Rattle.ascii_text.specs.Digits.{digits_value, fixed_decimal}
 use Rattle.ascii_text.proofs.Ascii.{IsAscii-from}
 use Rattle.ascii_text.proofs.Decided.{digits_decided, range_decided, some_decided, some_where}
 use Rattle.ascii_text.proofs.Decimals.{two_digits, four_digits, fixed_decimal_digits, digits_value-fixed_decimal}
+use Rattle.td_time.specs.Days.{IsDateOfDesk, IsDayText, is_date_of_desk, is_day_text, day_number, day_read, number_in, year_in, month_in, day_in}
 
 -- a date in digits
 abbrev pub date_text : ℕ → ℕ → ℕ → List ℕ

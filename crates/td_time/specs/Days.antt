@@ -7,7 +7,8 @@ use Rattle.std.specs.Option.{option_eq}
 use Rattle.jiff_core.specs.Calendar.{days_from_civil, days_in_month, IsDate}
 use Rattle.ascii_text.specs.Digits.{digits_value, fixed_decimal}
 
--- from 2000-01-01 to 2100-12-31
+-- From 2000-01-01 to 2100-12-31. The last moment is in 2099, and a day that is counted on from it
+-- may lie in the year after.
 abbrev pub IsDay : ℕ → Type 0
 IsDay n = (10957 ≤ n) × (n ≤ 47846)
 
@@ -71,7 +72,8 @@ pub record IsDateOfDesk (year month day : ℕ) : Type 0 where
 -- whether three numbers are one
 abbrev pub is_date_of_desk : ℕ → ℕ → ℕ → Bool
 is_date_of_desk year month day =
-    is_in_range 2000 2100 year && is_in_range 1 12 month && is_in_range 1 (days_in_month (pos year) month) day
+    is_in_range 2000 2100 year && is_in_range 1 12 month
+    && is_in_range 1 (days_in_month (pos year) month) day
 
 -- the text of a day, character by character
 pub record IsDayText (text : List ℕ) : Type 0 where
