@@ -1,24 +1,23 @@
 -- What one more accepted change does to what a book says.
-use Rattle.std.proofs.Common.{◌≡◌, ℕ, ◌+◌, Bool, true, false, List, [], ◌∷◌, ◌++◌, Option, Some, None, refl, sym, ◌∙◌, subst, append_assoc}
-use Rattle.std.proofs.lemmas.Bool.{false≢true}
+use Rattle.std.proofs.Common.{◌≡◌, ℕ, ◌+◌, Bool, true, false, List, [], ◌∷◌, ◌++◌, Option, Some, None, refl, sym, ◌∙◌, ap, subst, append_assoc}
 use Rattle.std.proofs.lemmas.List.{append-nil}
-use Rattle.std.proofs.Math.Nat.{add-zero}
 use Rattle.std.specs.Prelude.{IfSome, if◌then◌else◌}
-use Rattle.std.specs.Option.{option_map}
+use Rattle.std.specs.Option.{option_map, option_or}
 use Rattle.td_base.specs.Moment.{moment_of}
 use Rattle.td_acts.specs.declared.rows.HolderRow.{HolderRow}
 use Rattle.td_guarantee.specs.declared.guarantee.Guarantee.{Guarantee}
 use Rattle.td_movement.specs.declared.movement.Movement.{Movement}
 use Rattle.td_acts.specs.declared.command.Command.{Command}
-use Rattle.td_acts.specs.declared.command.Command.TheVariants.{Register, OpenGuarantee, Ie015, SeeHolder, SeeMovement, SeeGuarantee}
 use Rattle.td_acts.specs.declared.command.Stamped.{Stamped}
 use Rattle.td_acts.specs.declared.rows.Change.TheVariants as change
 use Rattle.td_acts.specs.Account.{Account, IsAccountOf, ReferencesDiffer}
-use Rattle.td_acts.specs.Book.{Book, Act, eori_after, eori_in, last_in, serial_in, made_in, openings, declarations, opened_by, declared_by, eori_of, last_of, grn_count_before, mrn_count_before, grn_count_of, mrn_count_of, guarantees_of, movements_of, account_made, account_of, fresh_book}
+use Rattle.td_acts.specs.Book.{Book, Act, eori_given, eori_after, eori_in, last_in, serial_in, made_in, openings, declarations, opened_by, declared_by, eori_of, last_of, grn_count_before, mrn_count_before, grn_count_of, mrn_count_of, guarantees_of, movements_of, account_made, account_of, fresh_book}
 use Rattle.td_acts.specs.Commands.{owner_of}
 use Rattle.td_acts.specs.Acceptance.{is_accepted_at}
 use Rattle.td_acts.specs.Machine.{appended, book_after, book_after_at, AreAccepted, IsGrown}
-use Rattle.td_acts.specs.Deciding.{decided, rows_written, change_in, applied}
+use Rattle.td_acts.specs.Changes.{account_after}
+use Rattle.td_acts.specs.Deciding.{decision_on, change_of, change_in}
+use Rattle.td_acts.proofs.EachCommand.{accepted_unregistered, step_made}
 
 -- the EORI after one more act
 eori_in-append : (known : Option (List ℕ)) (acts : List Act) (a : Act) → eori_in known (acts ++ a ∷ []) ≡ eori_after (eori_in known acts) a.command
@@ -58,28 +57,6 @@ account_of-appended H book t command =
       append_assoc,
     ) refl
 
--- The parts of the account grow by the rows of an accepted command. Where nobody is registered, no serial was used.
-step_made : (H : ℕ) (country : List ℕ) (e : Option (List ℕ)) (at g m t : ℕ) (gs : List Guarantee) (ms : List Movement) (command : Command) → (e ≡ None → (g ≡ 0) × (m ≡ 0))
-    → owner_of country command ≡ Some H → is_accepted_at (account_made H country e at g m gs ms) t command ≡ true
-    → account_made H country (eori_after e command) t (g + openings command) (m + declarations command) (gs ++ opened_by country H g t command) (ms ++ declared_by country H m t command)
-    ≡ applied (rows_written (account_made H country e at g m gs ms) t command) (account_made H country e at g m gs ms)
-step_made H country None at g m t gs ms (Register h x) none own accepted =
-    let same : h ≡ H = cc in
-    let zero = none refl in
-    rw (same, zero.0, zero.1, append-nil, append-nil) refl
-step_made H country (Some e) at g m t gs ms (Register h x) none own accepted = absurd (false≢true accepted)
-step_made H country None at g m t gs ms (OpenGuarantee h reference cover code) none own accepted = absurd (false≢true accepted)
-step_made H country (Some e) at g m t gs ms (OpenGuarantee h reference cover code) none own accepted =
-    let same : h ≡ H = cc in
-    rw (same, add-zero, append-nil) refl
-step_made H country None at g m t gs ms (Ie015 h lrn departure destination lines) none own accepted = absurd (false≢true accepted)
-step_made H country (Some e) at g m t gs ms (Ie015 h lrn departure destination lines) none own accepted =
-    let same : h ≡ H = cc in
-    rw (same, add-zero, append-nil) refl
-step_made H country e at g m t gs ms (SeeHolder h) none own accepted = absurd (false≢true accepted)
-step_made H country e at g m t gs ms (SeeMovement h mrn) none own accepted = absurd (false≢true accepted)
-step_made H country e at g m t gs ms (SeeGuarantee h grn) none own accepted = absurd (false≢true accepted)
-
 -- a book in which nobody is registered is empty
 abbrev IsBegun : Book → Type 0
 IsBegun book = eori_of book ≡ None → (book.acts ≡ []) × (book.opening.holder ≡ None)
@@ -90,31 +67,33 @@ none_used book begun none = let h = begun none in (rw (h.0, h.1) refl, rw (h.0, 
 
 -- what the book with an accepted command says is the account with the rows of the command
 account_step : (H : ℕ) (book : Book) (t : ℕ) (command : Command) → IsBegun book → owner_of book.opening.country command ≡ Some H
-    → is_accepted_at (account_of H book) t command ≡ true → account_of H (appended book t command) ≡ applied (rows_written (account_of H book) t command) (account_of H book)
+    → is_accepted_at (account_of H book) t command ≡ true → account_of H (appended book t command) ≡ account_after (change_of (account_of H book) t command) (account_of H book)
 account_step H book t command begun own accepted =
     account_of-appended H book t command
     ∙ step_made H book.opening.country (eori_of book) (last_of book) (grn_count_of book) (mrn_count_of book) t (guarantees_of H book) (movements_of H book) command (none_used book begun) own accepted
 
 -- the same where there may be no moment
-account_after_at : (H : ℕ) (book : Book) (m : Option ℕ) (command : Command) → IsBegun book → owner_of book.opening.country command ≡ Some H
-    → account_of H (book_after_at H book m command) ≡ applied (change_in m (account_of H book) command) (account_of H book)
-account_after_at H book None command begun own = refl
-account_after_at H book (Some t) command begun own = by_test (is_accepted_at (account_of H book) t command) refl
+account_said_after_at : (H : ℕ) (book : Book) (m : Option ℕ) (command : Command) → IsBegun book → owner_of book.opening.country command ≡ Some H
+    → account_of H (book_after_at H book m command) ≡ account_after (change_in m (account_of H book) command) (account_of H book)
+account_said_after_at H book None command begun own = refl
+account_said_after_at H book (Some t) command begun own = by_test (is_accepted_at (account_of H book) t command) refl
   where
-    by_test : (b : Bool) → is_accepted_at (account_of H book) t command ≡ b → account_of H (if b then appended book t command else book) ≡ applied (if b then rows_written (account_of H book) t command else change.Nothing) (account_of H book)
+    by_test : (b : Bool) → is_accepted_at (account_of H book) t command ≡ b → account_of H (if b then appended book t command else book) ≡ account_after (if b then change_of (account_of H book) t command else change.Nothing) (account_of H book)
     by_test true accepted = account_step H book t command begun own accepted
     by_test false other = refl
 
+-- an EORI that is known stays known
+known_still : (given : Option (List ℕ)) (e : List ℕ) → option_or given (Some e) ≡ None → ⊥
+known_still None e none = cc
+known_still (Some x) e none = cc
+
 -- who changes something is registered then
 registered_made : (H : ℕ) (country : List ℕ) (e : Option (List ℕ)) (at g m t : ℕ) (gs : List Guarantee) (ms : List Movement) (command : Command) → is_accepted_at (account_made H country e at g m gs ms) t command ≡ true → eori_after e command ≡ None → ⊥
-registered_made H country e at g m t gs ms (Register h x) accepted none = cc
-registered_made H country None at g m t gs ms (OpenGuarantee h reference cover code) accepted none = false≢true accepted
-registered_made H country (Some e) at g m t gs ms (OpenGuarantee h reference cover code) accepted none = cc
-registered_made H country None at g m t gs ms (Ie015 h lrn departure destination lines) accepted none = false≢true accepted
-registered_made H country (Some e) at g m t gs ms (Ie015 h lrn departure destination lines) accepted none = cc
-registered_made H country e at g m t gs ms (SeeHolder h) accepted none = false≢true accepted
-registered_made H country e at g m t gs ms (SeeMovement h mrn) accepted none = false≢true accepted
-registered_made H country e at g m t gs ms (SeeGuarantee h grn) accepted none = false≢true accepted
+registered_made H country None at g m t gs ms command accepted none =
+    let r = accepted_unregistered country gs ms t command accepted in
+    let given : eori_after None command ≡ Some r.1 = ap (eori_after None) r.2 in
+    cc
+registered_made H country (Some e) at g m t gs ms command accepted none = known_still (eori_given command) e none
 
 -- a book stays begun
 begun_step : (H : ℕ) (book : Book) (a : Act) → is_accepted_at (account_of H book) a.at a.command ≡ true → IsBegun (appended book a.at a.command)
@@ -139,9 +118,9 @@ begun_from_grown : (H : ℕ) (book : Book) → IsGrown H book → IsBegun book
 begun_from_grown H book grown = begun_on H (fresh_book book.opening) book.acts (λ none. (refl, none_known book.opening.holder none)) grown
 
 -- what the book says after a command is the account with what is written for it
-pub account_after : (H : ℕ) (book : Book) (s : Stamped) → IsGrown H book → ReferencesDiffer (account_of H book) → owner_of book.opening.country s.command ≡ Some H
-    → account_of H (book_after H book s) ≡ applied (decided (account_of H book) s.at s.command).change (account_of H book)
-account_after H book s grown differ own = account_after_at H book (moment_of s.at) s.command (begun_from_grown H book grown) own
+pub account_said_after : (H : ℕ) (book : Book) (s : Stamped) → IsGrown H book → ReferencesDiffer (account_of H book) → owner_of book.opening.country s.command ≡ Some H
+    → account_of H (book_after H book s) ≡ account_after (decision_on (account_of H book) s.at s.command).change (account_of H book)
+account_said_after H book s grown differ own = account_said_after_at H book (moment_of s.at) s.command (begun_from_grown H book grown) own
 
 -- one more act that was accepted
 grown_on : (H : ℕ) (book : Book) (acts : List Act) (a : Act) → AreAccepted H book acts → owner_of book.opening.country a.command ≡ Some H

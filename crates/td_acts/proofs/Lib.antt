@@ -1,5 +1,12 @@
-pub mod Growing
+pub mod Joined
 pub mod Earlier
 pub mod Lodging
 pub mod Machines
+pub mod Cover
+pub mod Accepted
+pub mod EachCommand
+pub mod Growing
 pub mod Written
+pub mod AcceptedRows
+pub mod Following
+pub mod Differing

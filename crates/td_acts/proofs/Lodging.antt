@@ -17,30 +17,30 @@ use Rattle.td_acts.specs.declared.command.Command.TheVariants.{Ie015}
 use Rattle.td_acts.specs.declared.said.Answer.TheVariants as answer
 use Rattle.td_acts.specs.declared.said.Refusal.{Refusal}
 use Rattle.td_acts.specs.declared.said.Said.TheVariants.{Answered, Refused}
-use Rattle.td_acts.specs.Account.{guarantee_with, movement_with}
+use Rattle.td_acts.specs.Account.{guarantee_by_grn, movement_by_lrn}
 use Rattle.td_acts.specs.Book.{year2_at}
 use Rattle.td_acts.specs.Declaring.{first_refusal, guarantee_refusal, refusal_or}
-use Rattle.td_acts.specs.Deciding.{decided_at, entry_with}
+use Rattle.td_acts.specs.Deciding.{decision_at, entry_by_grn}
 use Rattle.td_acts.specs.Lines.{line_of}
 use Rattle.td_acts.specs.Serials.{next_serial}
 
 -- a guarantee is found as its entry is
-pub named_entry : (grn : List ℕ) (es : List (Guarantee × ℕ)) → guarantee_with grn (map (λ e. e.0) es) ≡ option_map (λ e. e.0) (entry_with grn es)
+pub named_entry : (grn : List ℕ) (es : List (Guarantee × ℕ)) → guarantee_by_grn grn (map (λ e. e.0) es) ≡ option_map (λ e. e.0) (entry_by_grn grn es)
 named_entry grn [] = refl
 named_entry grn (e ∷ es) = by_test (bytes_eq e.0.grn grn) (named_entry grn es)
   where
-    by_test : (b : Bool) → guarantee_with grn (map (λ e. e.0) es) ≡ option_map (λ e. e.0) (entry_with grn es)
-        → if◌then◌else◌ {A = Option Guarantee} b (Some e.0) (guarantee_with grn (map (λ e. e.0) es)) ≡ option_map (λ e. e.0) (if◌then◌else◌ {A = Option (Guarantee × ℕ)} b (Some e) (entry_with grn es))
+    by_test : (b : Bool) → guarantee_by_grn grn (map (λ e. e.0) es) ≡ option_map (λ e. e.0) (entry_by_grn grn es)
+        → if◌then◌else◌ {A = Option Guarantee} b (Some e.0) (guarantee_by_grn grn (map (λ e. e.0) es)) ≡ option_map (λ e. e.0) (if◌then◌else◌ {A = Option (Guarantee × ℕ)} b (Some e) (entry_by_grn grn es))
     by_test true later = refl
     by_test false later = later
 
 -- lines are tested by what is found for them alone
-pub same_refusal : (day : ℕ) (es : List (Guarantee × ℕ)) (gs : List Guarantee) (lines : List (Line × List ℕ)) → AllByRecursion (λ l. option_map (λ e. e.0) (entry_with l.0.grn es) ≡ guarantee_with l.0.grn gs) lines
+pub same_refusal : (day : ℕ) (es : List (Guarantee × ℕ)) (gs : List Guarantee) (lines : List (Line × List ℕ)) → AllByRecursion (λ l. option_map (λ e. e.0) (entry_by_grn l.0.grn es) ≡ guarantee_by_grn l.0.grn gs) lines
     → first_refusal day (map (λ e. e.0) es) lines ≡ first_refusal day gs lines
 same_refusal day es gs [] found = refl
 same_refusal day es gs (l ∷ lines) found =
     ap (λ o. refusal_or (guarantee_refusal day l.1 o) (first_refusal day (map (λ e. e.0) es) lines)) (named_entry l.0.grn es ∙ found.0)
-    ∙ ap (refusal_or (guarantee_refusal day l.1 (guarantee_with l.0.grn gs))) (same_refusal day es gs lines found.1)
+    ∙ ap (refusal_or (guarantee_refusal day l.1 (guarantee_by_grn l.0.grn gs))) (same_refusal day es gs lines found.1)
 
 -- the parts of an equal pair
 parts : (p q : ℕ × List ℕ) → Some p ≡ Some q → (q.0 ≡ p.0) × (q.1 ≡ p.1)
@@ -66,10 +66,10 @@ lodged None t mrn lrn departure destination lines serial row = record {
 
 -- the table's verdict where no refusal before the lines comes
 pub lodged_at : (country : List ℕ) (o : Option HolderRow) (gs : List Guarantee) (ms : List Movement) (t holder : ℕ) (lrn departure destination : List ℕ) (lines : List (Line × List ℕ)) (row : HolderRow) (serial : ℕ) (mrn : List ℕ) (refusal : Option Refusal)
-    → o ≡ Some row → nat_lt t row.last_at ≡ false → movement_with lrn ms ≡ None
+    → o ≡ Some row → nat_lt t row.last_at ≡ false → movement_by_lrn lrn ms ≡ None
     → next_serial 9999999 row.mrn_count (mrn_text (year2_at t) country holder) ≡ Some (serial, mrn)
     → first_refusal (day_of_moment t) gs lines ≡ refusal
-    → decided_at (record { country = country; holder = o; guarantees = gs; movements = ms }) t (Ie015 holder lrn departure destination lines) ≡ lodged refusal t mrn lrn departure destination (map line_of lines) serial row
+    → decision_at (record { country = country; holder = o; guarantees = gs; movements = ms }) t (Ie015 holder lrn departure destination lines) ≡ lodged refusal t mrn lrn departure destination (map line_of lines) serial row
 lodged_at country o gs ms t holder lrn departure destination lines row serial mrn None own not_back unknown next tested =
     let left = serial_left 9999999 row.mrn_count serial (mrn_text (year2_at t) country holder) mrn next in
     rw (own, not_back, unknown, left.0, tested, left.1, left.2) refl

@@ -6,7 +6,7 @@ use Rattle.td_acts.specs.declared.command.Command.{Command}
 use Rattle.td_acts.specs.declared.command.Command.TheVariants.{Ie015}
 use Rattle.td_acts.specs.declared.said.Said.{Said}
 use Rattle.td_acts.specs.declared.said.Said.TheVariants.{Answered, Refused}
-use Rattle.td_acts.specs.Account.{Account, movement_with}
+use Rattle.td_acts.specs.Account.{Account, movement_by_lrn}
 use Rattle.td_acts.specs.Commands.{is_changing}
 use Rattle.td_acts.specs.Table.{said_at}
 
@@ -16,12 +16,14 @@ is_answer (Refused refusal) = false
 
 -- A declaration under an LRN that the holder has used already. Where it is answered it is a repeat.
 abbrev pub has_known_lrn : Account → Command → Bool
-has_known_lrn account (Ie015 holder lrn departure destination lines) = is_some (movement_with lrn account.movements)
+has_known_lrn account (Ie015 holder lrn departure destination lines) =
+    is_some (movement_by_lrn lrn account.movements)
 has_known_lrn account command = false
 
 -- an answered command that is neither a view nor a repeat; refusals, views and repeats are no changes
 abbrev pub is_accepted_at : Account → ℕ → Command → Bool
-is_accepted_at account t command = is_changing command && is_answer (said_at account t command) && not (has_known_lrn account command)
+is_accepted_at account t command =
+    is_changing command && is_answer (said_at account t command) && not (has_known_lrn account command)
 
 -- at no moment nothing is accepted
 abbrev pub is_accepted_in : Option ℕ → Account → Command → Bool

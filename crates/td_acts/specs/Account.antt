@@ -1,11 +1,13 @@
 -- What a desk keeps of one holder: the model's only view of the records.
 use Rattle.std.specs.Prelude.{◌≡◌, ◌≢◌, ℕ, List, [], AllPairs, Option, None, IfSome, find}
+use Rattle.std.specs.Option.{option_map, option_map_or}
 use Rattle.std.specs.Str.{bytes_eq}
 use Rattle.td_acts.specs.declared.rows.HolderRow.{HolderRow}
 use Rattle.td_guarantee.specs.declared.guarantee.Guarantee.{Guarantee}
 use Rattle.td_movement.specs.declared.movement.Movement.{Movement}
 
--- the desk's country, the holder's row if the holder is registered, and the holder's guarantees and movements by serial
+-- the desk's country, the holder's row if the holder is registered, and the holder's guarantees and
+-- movements by serial
 pub record Account : Type 0 where
   pub country : List ℕ
   pub holder : Option HolderRow
@@ -15,6 +17,21 @@ pub record Account : Type 0 where
 -- nothing is kept: the account of a number that isn't registered, and of a command that nobody owns
 abbrev pub empty_account : List ℕ → Account
 empty_account country = record { country = country; holder = None; guarantees = []; movements = [] }
+
+-- a registered holder's row, and the holder's own guarantees and movements by serial
+pub record HolderRows : Type 0 where
+  pub row : HolderRow
+  pub guarantees : List Guarantee
+  pub movements : List Movement
+
+-- the account of a holder with these rows, or of a number that isn't registered
+abbrev pub account_with : List ℕ → Option HolderRows → Account
+account_with country found = record {
+  country = country;
+  holder = option_map (λ (h : HolderRows). h.row) found;
+  guarantees = option_map_or (λ (h : HolderRows). h.guarantees) found [];
+  movements = option_map_or (λ (h : HolderRows). h.movements) found [];
+}
 
 -- the row is that of that number
 pub record IsAccountOf (H : ℕ) (account : Account) : Type 0 where
@@ -26,13 +43,13 @@ pub record ReferencesDiffer (account : Account) : Type 0 where
   pub mrns : AllPairs (λ a b. a.mrn ≢ b.mrn) account.movements
 
 -- the guarantee with exactly this GRN
-abbrev pub guarantee_with : List ℕ → List Guarantee → Option Guarantee
-guarantee_with grn guarantees = find (λ g. bytes_eq g.grn grn) guarantees
+abbrev pub guarantee_by_grn : List ℕ → List Guarantee → Option Guarantee
+guarantee_by_grn grn guarantees = find (λ g. bytes_eq g.grn grn) guarantees
 
 -- the movement with exactly this MRN
-abbrev pub movement_named : List ℕ → List Movement → Option Movement
-movement_named mrn movements = find (λ m. bytes_eq m.mrn mrn) movements
+abbrev pub movement_by_mrn : List ℕ → List Movement → Option Movement
+movement_by_mrn mrn movements = find (λ m. bytes_eq m.mrn mrn) movements
 
 -- the movement with this LRN
-abbrev pub movement_with : List ℕ → List Movement → Option Movement
-movement_with lrn movements = find (λ m. bytes_eq m.lrn lrn) movements
+abbrev pub movement_by_lrn : List ℕ → List Movement → Option Movement
+movement_by_lrn lrn movements = find (λ m. bytes_eq m.lrn lrn) movements

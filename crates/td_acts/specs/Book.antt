@@ -1,17 +1,18 @@
--- A holder's book: what was kept at the start, and the changes that were accepted since. Everything that a desk says of the
--- holder is read from the book alone, from its beginning, in passes in which a later act overrides what earlier ones said.
+-- A holder's book: what was kept at the start, and the changes that were accepted since. Everything that a
+-- desk says of the holder is read from the book alone, from its beginning, in passes in which a later act
+-- overrides what earlier ones said.
 use Rattle.std.specs.Prelude.{ℕ, ◌+◌, ◌%◌, List, [], ◌∷◌, ◌++◌, map, Option, Some, None}
-use Rattle.std.specs.Option.{option_map, option_map_or}
+use Rattle.std.specs.Option.{option_map, option_map_or, option_or}
 use Rattle.td_base.specs.Days.{day_of_moment, year_of}
 use Rattle.td_base.specs.References.{grn_text, mrn_text}
 use Rattle.td_acts.specs.declared.rows.HolderRow.{HolderRow}
 use Rattle.td_guarantee.specs.declared.guarantee.Guarantee.{Guarantee}
 use Rattle.td_movement.specs.declared.movement.Movement.{Movement}
-use Rattle.td_movement.specs.declared.state.State.TheVariants.{Accepted}
 use Rattle.td_acts.specs.declared.command.Command.{Command}
 use Rattle.td_acts.specs.declared.command.Command.TheVariants.{Register, OpenGuarantee, Ie015}
 use Rattle.td_acts.specs.Account.{Account}
 use Rattle.td_acts.specs.Lines.{line_of}
+use Rattle.td_acts.specs.NewRows.{new_guarantee, new_movement}
 
 -- an accepted change and its moment
 pub record Act : Type 0 where
@@ -22,10 +23,14 @@ pub record Book : Type 0 where
   pub opening : Account
   pub acts : List Act
 
--- the EORI under which the command registers the holder, else the one known before
+-- the EORI under which the command registers the holder
+abbrev pub eori_given : Command → Option (List ℕ)
+eori_given (Register holder eori) = Some eori
+eori_given command = None
+
+-- that EORI, else the one known before
 abbrev pub eori_after : Option (List ℕ) → Command → Option (List ℕ)
-eori_after known (Register holder eori) = Some eori
-eori_after known command = known
+eori_after known command = option_or (eori_given command) known
 
 -- the holder's EORI after all acts: none where nobody was registered
 abbrev pub eori_in : Option (List ℕ) → List Act → Option (List ℕ)
@@ -58,15 +63,19 @@ year2_at t = year_of (day_of_moment t) % 100
 
 -- the guarantee that the command opens at moment t for holder H, after n others
 abbrev pub opened_by : List ℕ → ℕ → ℕ → ℕ → Command → List Guarantee
-opened_by country H n t (OpenGuarantee holder reference cover code) = record { grn = grn_text (year2_at t) country H (n + 1); reference = reference; cover = cover; ends = None; codes = code ∷ [] } ∷ []
+opened_by country H n t (OpenGuarantee holder reference cover code) =
+    new_guarantee (grn_text (year2_at t) country H (n + 1)) reference cover code ∷ []
 opened_by country H n t command = []
 
 -- the movement that the command declares at moment t for holder H, after n others
 abbrev pub declared_by : List ℕ → ℕ → ℕ → ℕ → Command → List Movement
-declared_by country H n t (Ie015 holder lrn departure destination lines) = record { mrn = mrn_text (year2_at t) country H (n + 1); lrn = lrn; departure = departure; destination = destination; accepted = day_of_moment t; state = Accepted; limit = None; arrival = None; actual = None; lines = map line_of lines } ∷ []
+declared_by country H n t (Ie015 holder lrn departure destination lines) =
+    new_movement (mrn_text (year2_at t) country H (n + 1)) lrn departure destination (day_of_moment t)
+        (map line_of lines) ∷ []
 declared_by country H n t command = []
 
--- what the acts make, one after the other, where made says what an act makes after n others and uses how many serials it uses up
+-- what the acts make, one after the other, where made says what an act makes after n others and uses how
+-- many serials it uses up
 abbrev pub made_in : {R : Type 0} → (ℕ → ℕ → Command → List R) → (Command → ℕ) → ℕ → List Act → List R
 made_in made uses n [] = []
 made_in made uses n (a ∷ acts) = made n a.at a.command ++ made_in made uses (n + uses a.command) acts
@@ -95,24 +104,31 @@ mrn_count_of book = serial_in declarations (mrn_count_before book) book.acts
 
 -- guarantee n: that of the start, else the n-th opening
 abbrev pub guarantees_of : ℕ → Book → List Guarantee
-guarantees_of H book = book.opening.guarantees ++ made_in (opened_by book.opening.country H) openings (grn_count_before book) book.acts
+guarantees_of H book =
+    book.opening.guarantees ++ made_in (opened_by book.opening.country H) openings
+        (grn_count_before book) book.acts
 
 -- movement n: that of the start, else the n-th declaration
 abbrev pub movements_of : ℕ → Book → List Movement
-movements_of H book = book.opening.movements ++ made_in (declared_by book.opening.country H) declarations (mrn_count_before book) book.acts
+movements_of H book =
+    book.opening.movements ++ made_in (declared_by book.opening.country H) declarations
+        (mrn_count_before book) book.acts
 
 -- the account of these parts
 abbrev pub account_made : ℕ → List ℕ → Option (List ℕ) → ℕ → ℕ → ℕ → List Guarantee → List Movement → Account
 account_made H country eori at grns mrns guarantees movements = record {
   country = country;
-  holder = option_map (λ e. record { holder = H; eori = e; last_at = at; grn_count = grns; mrn_count = mrns }) eori;
+  holder =
+      option_map (λ e. record { holder = H; eori = e; last_at = at; grn_count = grns; mrn_count = mrns }) eori;
   guarantees = guarantees;
   movements = movements;
 }
 
 -- what the book says of holder H
 abbrev pub account_of : ℕ → Book → Account
-account_of H book = account_made H book.opening.country (eori_of book) (last_of book) (grn_count_of book) (mrn_count_of book) (guarantees_of H book) (movements_of H book)
+account_of H book =
+    account_made H book.opening.country (eori_of book) (last_of book) (grn_count_of book)
+        (mrn_count_of book) (guarantees_of H book) (movements_of H book)
 
 -- the book that begins with an account
 abbrev pub fresh_book : Account → Book

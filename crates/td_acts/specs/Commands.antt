@@ -4,19 +4,31 @@ use Rattle.td_base.specs.Holder.{IsHolderNumber}
 use Rattle.td_base.specs.Eori.{IsEori}
 use Rattle.td_base.specs.Codes.{IsAccessCode, IsLrn, IsOfficeNo}
 use Rattle.td_base.specs.Money.{IsReference, IsCover}
-use Rattle.td_base.specs.References.{IsGrn, IsMrn}
+use Rattle.td_base.specs.References.{IsGrn, IsMrn, owner_of as reference_owner}
 use Rattle.td_acts.specs.declared.command.Command.{Command}
 use Rattle.td_acts.specs.declared.command.Command.TheVariants.{Register, OpenGuarantee, Ie015, SeeHolder, SeeMovement, SeeGuarantee}
+use Rattle.td_acts.specs.declared.command.Subject.{Subject}
+use Rattle.td_acts.specs.declared.command.Subject.TheVariants.{Holder, Movement, Guarantee}
 use Rattle.td_acts.specs.Lines.{IsLines}
 
--- The holder whose command it is, at a desk of that country: the holder field, else the owner of the reference that it names.
+-- the holder whom a subject belongs to, at a desk of that country: read from a reference's text alone
+abbrev pub owner_of_subject : List ℕ → Subject → Option ℕ
+owner_of_subject country (Holder holder) = Some holder
+owner_of_subject country (Movement mrn) = reference_owner country mrn
+owner_of_subject country (Guarantee grn) = reference_owner country grn
+
+-- what a command is about: its holder, or the movement or guarantee that an office acts on
+abbrev pub subject_of : Command → Subject
+subject_of (Register holder eori) = Holder holder
+subject_of (OpenGuarantee holder reference cover code) = Holder holder
+subject_of (Ie015 holder lrn departure destination lines) = Holder holder
+subject_of (SeeHolder holder) = Holder holder
+subject_of (SeeMovement holder mrn) = Holder holder
+subject_of (SeeGuarantee holder grn) = Holder holder
+
+-- the holder whose command it is: the holder field, else the owner of the reference that it names
 abbrev pub owner_of : List ℕ → Command → Option ℕ
-owner_of country (Register holder eori) = Some holder
-owner_of country (OpenGuarantee holder reference cover code) = Some holder
-owner_of country (Ie015 holder lrn departure destination lines) = Some holder
-owner_of country (SeeHolder holder) = Some holder
-owner_of country (SeeMovement holder mrn) = Some holder
-owner_of country (SeeGuarantee holder grn) = Some holder
+owner_of country command = owner_of_subject country (subject_of command)
 
 -- the command changes something where it is answered, and isn't a repeat; the others are views
 abbrev pub is_changing : Command → Bool
@@ -30,8 +42,10 @@ is_changing (SeeGuarantee holder grn) = false
 -- its parts are in the ranges of their types
 abbrev pub IsProper : Command → Type 0
 IsProper (Register holder eori) = IsHolderNumber holder × IsEori eori
-IsProper (OpenGuarantee holder reference cover code) = IsHolderNumber holder × IsReference reference × IsCover cover × IsAccessCode code
-IsProper (Ie015 holder lrn departure destination lines) = IsHolderNumber holder × IsLrn lrn × IsOfficeNo departure × IsOfficeNo destination × IsLines lines
+IsProper (OpenGuarantee holder reference cover code) =
+    IsHolderNumber holder × IsReference reference × IsCover cover × IsAccessCode code
+IsProper (Ie015 holder lrn departure destination lines) =
+    IsHolderNumber holder × IsLrn lrn × IsOfficeNo departure × IsOfficeNo destination × IsLines lines
 IsProper (SeeHolder holder) = IsHolderNumber holder
 IsProper (SeeMovement holder mrn) = IsHolderNumber holder × IsMrn mrn
 IsProper (SeeGuarantee holder grn) = IsHolderNumber holder × IsGrn grn

@@ -9,16 +9,18 @@ use Rattle.td_movement.specs.declared.movement.Movement.{Movement}
 use Rattle.td_acts.specs.declared.said.Refusal.{Refusal}
 use Rattle.td_acts.specs.declared.said.Refusal.TheVariants.{NoGuarantee, BadCode, GuaranteeEnded}
 use Rattle.td_guarantee.specs.Terms.{has_ended}
-use Rattle.td_acts.specs.Account.{guarantee_with}
+use Rattle.td_acts.specs.Account.{guarantee_by_grn}
 
 -- two lines on one guarantee, of one amount
 abbrev pub is_same_line : Line → Line → Bool
 is_same_line a b = bytes_eq a.grn b.grn && (a.cents == b.cents)
 
--- The movement has the contents of a declaration: the offices, and the lines one by one in their order. Codes are no part of it.
+-- The movement has the contents of a declaration: the offices, and the lines one by one in their order.
+-- Codes are no part of it.
 abbrev pub has_contents : List ℕ → List ℕ → List Line → Movement → Bool
 has_contents departure destination lines movement =
-    bytes_eq movement.departure departure && bytes_eq movement.destination destination && pointwise is_same_line movement.lines lines
+    bytes_eq movement.departure departure && bytes_eq movement.destination destination
+        && pointwise is_same_line movement.lines lines
 
 -- the first of a line's tests that refuses it: its guarantee, the code, the guarantee's end
 abbrev pub guarantee_refusal : ℕ → List ℕ → Option Guarantee → Option Refusal
@@ -29,7 +31,7 @@ guarantee_refusal day code (Some g) =
 
 -- the refusal of a line on that day
 abbrev pub line_refusal : ℕ → List Guarantee → Line × List ℕ → Option Refusal
-line_refusal day guarantees l = guarantee_refusal day l.1 (guarantee_with l.0.grn guarantees)
+line_refusal day guarantees l = guarantee_refusal day l.1 (guarantee_by_grn l.0.grn guarantees)
 
 -- this refusal, else that one
 abbrev pub refusal_or : Option Refusal → Option Refusal → Option Refusal
@@ -39,4 +41,5 @@ refusal_or (Some refusal) later = Some refusal
 -- the refusal of the first line that is refused: all tests of a line come before those of the next
 abbrev pub first_refusal : ℕ → List Guarantee → List (Line × List ℕ) → Option Refusal
 first_refusal day guarantees [] = None
-first_refusal day guarantees (l ∷ lines) = refusal_or (line_refusal day guarantees l) (first_refusal day guarantees lines)
+first_refusal day guarantees (l ∷ lines) =
+    refusal_or (line_refusal day guarantees l) (first_refusal day guarantees lines)

@@ -3,6 +3,7 @@ ghost use Rattle.std.specs.Prelude.{◌≡◌, true};
 ghost use Rattle.td_acts.specs.Commands.{owner_of, IsProper};
 
 use crate::lines::Lines;
+use crate::needs::Needs;
 use td_base::{AccessCode, Country, Cover, Eori, Grn, HolderNo, Lrn, Mrn, OfficeNo, Reference};
 
 /// What is asked of the desk.
@@ -51,18 +52,74 @@ pub struct Stamped {
     pub command: Command,
 }
 
-/// The holder whose command it is at a desk of that country: the holder field, else the owner of the reference named.
-pub fn owner(_country: Country, command: &Command) -> Option<HolderNo>
-    ensures { result ≡ owner_of _country command.now }
-{
-    match command {
-        Command::Register { holder, .. }
-        | Command::OpenGuarantee { holder, .. }
-        | Command::Ie015 { holder, .. }
-        | Command::SeeHolder { holder }
-        | Command::SeeMovement { holder, .. }
-        | Command::SeeGuarantee { holder, .. } => Some(*holder),
+/// What a command is about.
+#[derive(Clone, Copy, Debug, PartialEq, Eq)]
+pub enum Subject {
+    /// A holder.
+    Holder(HolderNo),
+    /// The movement with an MRN, on which an office acts.
+    Movement(Mrn),
+    /// The guarantee with a GRN, on which an office acts.
+    Guarantee(Grn),
+}
+
+impl Subject {
+    ghost use Rattle.std.specs.Prelude.{◌≡◌};
+    ghost use Rattle.td_acts.specs.Commands.{owner_of_subject};
+
+    /// The holder whom it belongs to at a desk of that country. The owner of a reference is read from its
+    /// text alone.
+    pub fn owner(&self, country: Country) -> Option<HolderNo>
+        ensures { result ≡ owner_of_subject country self.now }
+    {
+        match self {
+            Subject::Holder(holder) => Some(*holder),
+            Subject::Movement(mrn) => mrn.owner(country),
+            Subject::Guarantee(grn) => grn.owner(country),
+        }
     }
+}
+
+impl Command {
+    ghost use Rattle.std.specs.Prelude.{◌≡◌};
+    ghost use Rattle.td_acts.specs.Commands.{subject_of};
+    ghost use Rattle.td_acts.specs.Needs.{need_of, need_said};
+
+    /// What it is about: its holder, or the movement or guarantee that an office acts on.
+    pub fn subject(&self) -> Subject
+        ensures { result ≡ subject_of self.now }
+    {
+        match self {
+            Command::Register { holder, .. }
+            | Command::OpenGuarantee { holder, .. }
+            | Command::Ie015 { holder, .. }
+            | Command::SeeHolder { holder }
+            | Command::SeeMovement { holder, .. }
+            | Command::SeeGuarantee { holder, .. } => Subject::Holder(*holder),
+        }
+    }
+
+    /// What the verdict on it needs of its owner's rows.
+    pub fn needs(&self) -> Needs<'_>
+        ensures { need_said result ≡ need_of self.now }
+    {
+        match self {
+            Command::Register { .. }
+            | Command::OpenGuarantee { .. }
+            | Command::SeeHolder { .. } => Needs::Nothing,
+            Command::Ie015 { lrn, lines, .. } => Needs::Lodging(*lrn, lines),
+            Command::SeeMovement { mrn, .. } => Needs::Movement(*mrn),
+            Command::SeeGuarantee { grn, .. } => Needs::Guarantee(*grn),
+        }
+    }
+}
+
+/// The holder whose command it is at a desk of that country: the holder field, else the owner of the
+/// reference named.
+pub fn owner(country: Country, command: &Command) -> Option<HolderNo>
+    ensures { result ≡ owner_of country command.now }
+{
+    command.subject().owner(country)
 }
 
 /// Always true: what the types of a command's parts say of them, as a fact that proofs can use.

@@ -1,13 +1,14 @@
 //! Declarations: the LRN rule, and the tests of the lines.
-ghost use Rattle.std.specs.Prelude.{◌≡◌, Some, None, IfOk, map, option_map};
-ghost use Rattle.td_acts.specs.Account.{guarantee_with};
+ghost use Rattle.std.specs.Prelude.{◌≡◌, Some, IfOk, map, option_map};
+ghost use Rattle.td_acts.specs.Account.{guarantee_by_grn};
 ghost use Rattle.td_base.specs.Days.{day_of_moment};
+ghost use Rattle.td_acts.specs.NewRows.{new_movement};
 ghost use Rattle.td_acts.specs.Table.{if_lrn_new};
 ghost use Rattle.td_acts.specs.Declaring.{has_contents, guarantee_refusal, first_refusal};
 ghost use Rattle.td_acts.specs.Deciding.{IsVerdictAt};
 
 use crate::command::Command;
-use crate::finding::{find_entry, find_movement};
+use crate::finding::{find_entry, find_movement_by_lrn};
 use crate::lines::Lines;
 use crate::rows::{Change, HolderRow, Loaded, Verdict};
 use crate::said::{Answer, Refusal, Said};
@@ -34,7 +35,8 @@ pub fn lodge(
     at: Moment,
     declaration: &Declaration<'_>,
 ) -> Result<Verdict, AllocError>
-    ensures { IfOk result (IsVerdictAt loaded.now at (Command.Ie015 declaration.now.holder declaration.now.lrn declaration.now.departure declaration.now.destination declaration.now.lines.now)) }
+    ensures { IfOk result (IsVerdictAt loaded.now at
+        (Command.Ie015 declaration.now.holder declaration.now.lrn declaration.now.departure declaration.now.destination declaration.now.lines.now)) }
 {
     let Some(row) = loaded.holder else {
         return Ok(Verdict::refused(Refusal::NoHolder));
@@ -43,7 +45,7 @@ pub fn lodge(
         return Ok(Verdict::refused(Refusal::ClockBack));
     }
     let lines = declaration.lines.without_codes(alloc)?;
-    if let Some(known) = find_movement(&loaded.movements, &declaration.lrn) {
+    if let Some(known) = find_movement_by_lrn(&loaded.movements, &declaration.lrn) {
         return Ok(repeat(known, declaration, &lines));
     }
     let country = loaded.country;
@@ -68,7 +70,9 @@ pub fn lodge(
 
 // The verdict on a declaration under an LRN that the holder has used already.
 fn repeat(known: &Movement, declaration: &Declaration<'_>, lines: &MovementLines) -> Verdict
-    ensures said { result.said ≡ if_lrn_new (Some known.now) (has_contents declaration.now.departure declaration.now.destination lines.now) (Said.Refused Refusal.LrnUsed) }
+    ensures said { result.said ≡ if_lrn_new (Some known.now)
+        (has_contents declaration.now.departure declaration.now.destination lines.now)
+        (Said.Refused Refusal.LrnUsed) }
     ensures change { result.change ≡ Change.Nothing }
 {
     let same_offices = known.departure == declaration.departure
@@ -85,10 +89,12 @@ fn repeat(known: &Movement, declaration: &Declaration<'_>, lines: &MovementLines
     }
 }
 
-// The verdict on a declaration that nothing refuses: the holder's row as it is then, and the movement with this MRN.
+// The verdict on a declaration that nothing refuses: the holder's row as it is then, and the movement with
+// this MRN.
 fn accept(row: HolderRow, mrn: Mrn, declaration: &Declaration<'_>, lines: MovementLines) -> Verdict
     ensures said { result.said ≡ Said.Answered (Answer.Ie028 declaration.now.lrn mrn) }
-    ensures change { result.change ≡ Change.Declared row (record { mrn = mrn; lrn = declaration.now.lrn; departure = declaration.now.departure; destination = declaration.now.destination; accepted = day_of_moment row.last_at; state = State.Accepted; limit = None; arrival = None; actual = None; lines = lines }) }
+    ensures change { let d = declaration.now in
+        result.change ≡ Change.Declared row (new_movement mrn d.lrn d.departure d.destination (day_of_moment row.last_at) lines) }
 {
     let movement = Movement {
         mrn,
@@ -118,7 +124,8 @@ fn refuse_line(
     line: &Line,
     code: &AccessCode,
 ) -> Option<Refusal>
-    ensures { result ≡ guarantee_refusal day code.now (guarantee_with line.now.grn (map (λ e. e.0) guarantees.now)) }
+    ensures { result ≡ guarantee_refusal day code.now
+        (guarantee_by_grn line.now.grn (map (λ e. e.0) guarantees.now)) }
 {
     let Some((guarantee, _)) = find_entry(guarantees, &line.grn) else {
         return Some(Refusal::NoGuarantee);

@@ -1,46 +1,31 @@
 //! Movements and guarantees found among others.
 ghost use Rattle.std.specs.Prelude.{◌≡◌, map, option_map};
-ghost use Rattle.td_acts.specs.Account.{guarantee_with, movement_named, movement_with};
-ghost use Rattle.td_acts.specs.Deciding.{entry_with};
+ghost use Rattle.td_acts.specs.Account.{guarantee_by_grn, movement_by_mrn, movement_by_lrn};
+ghost use Rattle.td_acts.specs.Deciding.{entry_by_grn};
 
 use td_base::{Cents, Grn, Lrn, Mrn};
 use td_guarantee::Guarantee;
 use td_movement::Movement;
 
 /// The movement with exactly an LRN, if there is one.
-pub fn find_movement<'a>(movements: &'a [Movement], lrn: &Lrn) -> Option<&'a Movement>
-    ensures { option_map (λ found. found.now) result ≡ movement_with lrn.now movements.now }
+pub fn find_movement_by_lrn<'a>(movements: &'a [Movement], lrn: &Lrn) -> Option<&'a Movement>
+    ensures { option_map (λ found. found.now) result ≡ movement_by_lrn lrn.now movements.now }
 {
-    for movement in movements {
-        if movement.lrn.as_bytes() == lrn.as_bytes() {
-            return Some(movement);
-        }
-    }
-    None
+    movements.iter().find(|movement| movement.lrn.as_bytes() == lrn.as_bytes())
 }
 
 /// The movement with exactly an MRN, if there is one.
-pub fn find_named<'a>(movements: &'a [Movement], mrn: &Mrn) -> Option<&'a Movement>
-    ensures { option_map (λ found. found.now) result ≡ movement_named mrn.now movements.now }
+pub fn find_movement_by_mrn<'a>(movements: &'a [Movement], mrn: &Mrn) -> Option<&'a Movement>
+    ensures { option_map (λ found. found.now) result ≡ movement_by_mrn mrn.now movements.now }
 {
-    for movement in movements {
-        if movement.mrn == *mrn {
-            return Some(movement);
-        }
-    }
-    None
+    movements.iter().find(|movement| movement.mrn == *mrn)
 }
 
 /// The guarantee with exactly a GRN, if there is one.
 pub fn find_guarantee<'a>(guarantees: &'a [Guarantee], grn: &Grn) -> Option<&'a Guarantee>
-    ensures { option_map (λ found. found.now) result ≡ guarantee_with grn.now guarantees.now }
+    ensures { option_map (λ found. found.now) result ≡ guarantee_by_grn grn.now guarantees.now }
 {
-    for guarantee in guarantees {
-        if guarantee.grn == *grn {
-            return Some(guarantee);
-        }
-    }
-    None
+    guarantees.iter().find(|guarantee| guarantee.grn == *grn)
 }
 
 /// The guarantee with exactly a GRN among those that were loaded, and the amount in use on it, if there is one.
@@ -48,8 +33,9 @@ pub fn find_entry<'a>(
     entries: &'a [(Guarantee, Cents)],
     grn: &Grn,
 ) -> Option<&'a (Guarantee, Cents)>
-    ensures entry { option_map (λ found. found.now) result ≡ entry_with grn.now entries.now }
-    ensures guarantee { option_map (λ found. found.now.0) result ≡ guarantee_with grn.now (map (λ e. e.0) entries.now) }
+    ensures entry { option_map (λ found. found.now) result ≡ entry_by_grn grn.now entries.now }
+    ensures guarantee { option_map (λ found. found.now.0) result
+        ≡ guarantee_by_grn grn.now (map (λ e. e.0) entries.now) }
 {
     for entry in entries {
         if entry.0.grn == *grn {

@@ -1,5 +1,6 @@
-//! What is asked of the desk and what it says: commands, answers and refusals, the rows of one holder, and the verdict on a
-//! command over these rows. The model that the verdict is proved to meet stands in `specs/`.
+//! What is asked of the desk and what it says: commands, answers and refusals, the rows of one holder, and
+//! the verdict on a command over these rows. The model that the verdict is proved to meet stands in
+//! `specs/`.
 #![tactic(auto)]
 
 mod command;
@@ -7,16 +8,21 @@ mod declaring;
 mod finding;
 mod laws;
 mod lines;
+mod needs;
 mod rows;
 mod said;
 mod serials;
 pub mod table;
 mod views;
 
-pub use command::{Command, Stamped, known, owner};
-pub use finding::{find_guarantee, find_named};
-pub use laws::{fresh_book_says_its_account, writes_what_is_accepted, writes_what_the_book_says};
+pub use command::{Command, Stamped, Subject, known, owner};
+pub use finding::{find_guarantee, find_movement_by_mrn};
+pub use laws::{
+    fresh_book_says_its_account, keeps_rows_sound, nobody_writes, writes_what_is_accepted,
+    writes_what_the_book_says,
+};
 pub use lines::Lines;
+pub use needs::Needs;
 pub use rows::{Change, HolderRow, Loaded, Verdict};
 pub use said::{Answer, Refusal, Said};
 

@@ -15,8 +15,8 @@ const MAX_LINES: usize = 9;
 /// The greatest amount of a line, in cents.
 const MAX_LINE_CENTS: u64 = 1_000_000_000_000;
 
-/// The lines of a declaration, each with the access code of its guarantee: 1 to 9 of them, each of 1 to 10^12 cents, and
-/// no two on one guarantee.
+/// The lines of a declaration, each with the access code of its guarantee: 1 to 9 of them, each of 1 to
+/// 10^12 cents, and no two on one guarantee.
 #[derive(Debug, Drop)]
 pub struct Lines {
     items: Vec<(Line, AccessCode)>,
@@ -35,8 +35,8 @@ impl Model for Lines {
 }
 
 impl Lines {
-    /// These lines, in order. `None` for no line and more than 9, for an amount outside 1 to 10^12 cents, and where two
-    /// lines name one guarantee.
+    /// These lines, in order. `None` for no line and more than 9, for an amount outside 1 to 10^12 cents,
+    /// and where two lines name one guarantee.
     pub fn new(items: Vec<(Line, AccessCode)>) -> Option<Self>
         ensures value { result ≡ lines_of items.items }
         ensures form { SomeIff result (IsLines items.items) items.items }

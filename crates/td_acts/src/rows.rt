@@ -2,6 +2,7 @@
 ghost use Rattle.std.specs.Prelude.{◌≡◌};
 
 use crate::said::{Answer, Refusal, Said};
+use std::alloc::Global;
 use td_base::{Cents, Country, Eori, HolderNo, Moment};
 use td_guarantee::Guarantee;
 use td_movement::Movement;
@@ -26,11 +27,30 @@ pub struct Loaded {
     pub holder: Option<HolderRow>,
     /// For a declaration the movement with its LRN, for a view the one with its MRN, if there is one.
     pub movements: Vec<Movement>,
-    /// Those guarantees that the command names, and the amounts in use on them; a declaration doesn't ask for these amounts, and then they are 0.
+    /// Those guarantees that the command names, and the amounts in use on them, which a declaration doesn't
+    /// ask for.
     pub guarantees: Vec<(Guarantee, Cents)>,
 }
 
-/// The rows to write for a verdict.
+impl Loaded {
+    ghost use Rattle.td_acts.specs.Account.{empty_account};
+    ghost use Rattle.td_acts.specs.Needs.{Need};
+    ghost use Rattle.td_acts.specs.Deciding.{IsLoaded};
+
+    /// What is loaded of a number that isn't registered, and for a command that nobody owns.
+    pub fn nothing(alloc: Global, country: Country) -> Self
+        ensures { (need : Need) → IsLoaded (empty_account country) need result }
+    {
+        Loaded {
+            country,
+            holder: None,
+            movements: Vec::new(alloc),
+            guarantees: Vec::new(alloc),
+        }
+    }
+}
+
+/// The rows to write for a verdict: shapes that stand for all commands.
 #[derive(Debug, Drop)]
 pub enum Change {
     /// None: for refusals, views and repeats.
@@ -44,7 +64,7 @@ pub enum Change {
 }
 
 impl Change {
-    ghost use Rattle.td_acts.specs.Deciding.{row_in};
+    ghost use Rattle.td_acts.specs.Changes.{row_in};
 
     /// The holder's row in it, if there is something to write.
     pub fn row(&self) -> Option<HolderRow>

@@ -8,7 +8,8 @@ use td_movement::Movement;
 /// The answer to a command that is not refused.
 #[derive(Debug, Drop)]
 pub enum Answer {
-    /// To a registration and a view of a holder: the EORI, and the holder's own numbers of guarantees and movements.
+    /// To a registration and a view of a holder: the EORI, and the holder's own numbers of guarantees and
+    /// movements.
     Holder {
         holder: HolderNo,
         eori: Eori,

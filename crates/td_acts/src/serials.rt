@@ -12,8 +12,8 @@ const LAST_GRN: u32 = 999_999;
 /// The greatest serial of a holder's movements.
 const LAST_MRN: u32 = 9_999_999;
 
-/// The serial after the last one of a holder's guarantees, and the GRN made of it in the year of a moment. `None` where
-/// the holder has used up all serials.
+/// The serial after the last one of a holder's guarantees, and the GRN made of it in the year of a moment.
+/// `None` where the holder has used up all serials.
 pub fn next_grn(country: Country, holder: HolderNo, at: Moment, last: u32) -> Option<(u32, Grn)>
     ensures { result ≡ next_serial LAST_GRN last (grn_text (year2_at at) country holder) }
 {
@@ -24,8 +24,8 @@ pub fn next_grn(country: Country, holder: HolderNo, at: Moment, last: u32) -> Op
     Some((last + 1, grn))
 }
 
-/// The serial after the last one of a holder's movements, and the MRN made of it in the year of a moment. `None` where
-/// the holder has used up all serials.
+/// The serial after the last one of a holder's movements, and the MRN made of it in the year of a moment.
+/// `None` where the holder has used up all serials.
 pub fn next_mrn(country: Country, holder: HolderNo, at: Moment, last: u32) -> Option<(u32, Mrn)>
     ensures { result ≡ next_serial LAST_MRN last (mrn_text (year2_at at) country holder) }
 {

@@ -12,8 +12,9 @@ use std::alloc::{AllocError, Global};
 use td_base::{AccessCode, Cover, Eori, HolderNo, Moment, Reference};
 use td_guarantee::{Codes, Guarantee};
 
-/// The verdict on a command at a number of seconds since 1970, over what was loaded of its owner's rows. Where that is just
-/// what the verdict needs of the owner's account, it is the table's; else it is only some verdict. `AllocError`: want of memory.
+/// The verdict on a command at a number of seconds since 1970, over what was loaded of its owner's rows.
+/// Where that is just what the verdict needs of the owner's account, it is the table's; else it is only
+/// some verdict. `AllocError`: want of memory.
 pub fn verdict(
     alloc: Global,
     loaded: &Loaded,

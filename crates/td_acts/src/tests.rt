@@ -184,7 +184,8 @@ fn openings_are_decided(rt: HostRuntime) -> Result<(), Fail> {
     Ok(())
 }
 
-/// Whether the declaration gets its MRN, lodged before or not, and something is written exactly where it wasn't.
+/// Whether the declaration gets its MRN, lodged before or not, and something is written exactly where it
+/// wasn't.
 fn is_allocated(alloc: Global, lodged: bool) -> Result<bool, Fail> {
     let command = declaration(alloc)?;
     let loaded = with_guarantee(alloc, 0, lodged)?;
@@ -238,7 +239,7 @@ fn is_guarantee_found(alloc: Global) -> Result<bool, Fail> {
 /// Whether the movement is found among movements.
 fn is_movement_found(alloc: Global) -> Result<bool, Fail> {
     let movements = vec![in alloc; movement(alloc)?]?;
-    Ok(find_named(&movements, &Mrn::read(A1)?).is_some())
+    Ok(find_movement_by_mrn(&movements, &Mrn::read(A1)?).is_some())
 }
 
 #[test]

@@ -3,7 +3,7 @@ ghost use Rattle.std.specs.Prelude.{◌≡◌, ℕ, IfOk};
 ghost use Rattle.td_acts.specs.Deciding.{IsVerdictAt};
 
 use crate::command::Command;
-use crate::finding::{find_entry, find_named};
+use crate::finding::{find_entry, find_movement_by_mrn};
 use crate::rows::{Change, HolderRow, Loaded, Verdict};
 use crate::said::{Answer, Refusal, Said};
 use std::alloc::{AllocError, Global};
@@ -31,7 +31,7 @@ pub fn see_movement(
     if loaded.holder.is_none() {
         return Ok(Verdict::refused(Refusal::NoHolder));
     }
-    let Some(movement) = find_named(&loaded.movements, mrn) else {
+    let Some(movement) = find_movement_by_mrn(&loaded.movements, mrn) else {
         return Ok(Verdict::refused(Refusal::NoMovement));
     };
     Ok(Verdict::shown(Answer::Movement(movement.copy(alloc)?)))

@@ -1,3 +1,4 @@
 pub mod Statuses
 pub mod Piped
 pub mod Words
+pub mod Performed

@@ -3,18 +3,23 @@ mod declarations;
 mod devices;
 mod exchanges;
 mod first_requests;
+mod heads;
+mod machine_clock;
 mod many_declarations;
 mod many_holders;
+mod memory;
 mod moments;
+mod nine_lines;
 mod openings;
 mod privacy;
 mod repeats;
 mod streams;
 mod texts;
 mod views;
+mod waiting_clients;
 mod wrong_words;
 
-use crate::perform::perform;
+use crate::jobs::perform;
 use std::alloc::{AllocError, Global};
 use std::io::Read;
 use std::process::Abort;
@@ -142,3 +147,6 @@ const WORDS: [&str; 6] = [
     "--at",
     "1740819600",
 ];
+
+/// The same without a moment: the machine's clock is asked.
+const WORDS_WITHOUT_MOMENT: [&str; 4] = ["transit-desk", "pipe", "--country", "CH"];

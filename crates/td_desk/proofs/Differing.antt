@@ -1,43 +1,11 @@
 -- In sound rows no two references of a holder are alike.
-use Rattle.std.proofs.Common.{◌≢◌, ℕ, zero, suc, ◌+◌, ◌<◌, ◌≤◌, ◌%◌, List, [], ◌∷◌, length, get_or, Option, Some, None, sym, ◌∙◌, subst, arith}
-use Rattle.std.specs.Prelude.{AllPairs, IfSome}
-use Rattle.td_base.specs.Country.{IsCountry}
-use Rattle.td_base.specs.Days.{year_of}
-use Rattle.td_base.specs.Holder.{IsHolderNumber}
-use Rattle.td_base.proofs.MadeReferences.{made_apart}
-use Rattle.td_guarantee.specs.declared.guarantee.Guarantee.{Guarantee}
-use Rattle.td_movement.specs.declared.movement.Movement.{Movement}
 use Rattle.td_acts.specs.Account.{ReferencesDiffer}
-use Rattle.td_desk.specs.Content.{HolderRows, Content, account_with, account_in, rows_of, holder_key}
-use Rattle.td_desk.specs.Sound.{AllNumbered, IsGuaranteeRow, IsMovementRow, AreHolderRows, IsSound}
-use Rattle.td_desk.proofs.Keyed.{All-row_at}
-
--- the row at a place has the number of the place
-numbered_at : {R : Type 0} (P : ℕ → R → Type 0) (n : ℕ) (rows : List R) (k : ℕ) (d : R) → k < length rows → AllNumbered P n rows → P (n + k + 1) (get_or rows k d)
-numbered_at P n [] k d within all = absurd (omega (arith, within))
-numbered_at P n (r ∷ rows) zero d within all = subst (λ m. P m r) (omega arith) all.0
-numbered_at P n (r ∷ rows) (suc k) d within all = subst (λ m. P m (get_or rows k d)) (omega arith) (numbered_at P (n + 1) rows k d (omega (arith, within)) all.1)
-
-grns_differ : (country : List ℕ) (H : ℕ) (gs : List Guarantee) → IsCountry country → IsHolderNumber H → length gs ≤ 999999 → AllNumbered (IsGuaranteeRow country H) 0 gs → AllPairs (λ a b. a.grn ≢ b.grn) gs
-grns_differ country H gs form number most all = λ j k d less within same.
-    let first = numbered_at (IsGuaranteeRow country H) 0 gs j d (omega (arith, less, within)) all in
-    let second = numbered_at (IsGuaranteeRow country H) 0 gs k d within all in
-    let apart = made_apart 6 first.grn.0 second.grn.0 country country H H (0 + j + 1) (0 + k + 1) form form number number (omega (arith, less, within, most)) (omega (arith, within, most)) (sym first.grn.2 ∙ same ∙ second.grn.2) in
-    absurd (omega (arith, apart.1, less))
-
-mrns_differ : (country : List ℕ) (H : ℕ) (gs : List Guarantee) (ms : List Movement) → IsCountry country → IsHolderNumber H → length ms ≤ 9999999 → AllNumbered (IsMovementRow country H gs) 0 ms → AllPairs (λ a b. a.mrn ≢ b.mrn) ms
-mrns_differ country H gs ms form number most all = λ j k d less within same.
-    let first = numbered_at (IsMovementRow country H gs) 0 ms j d (omega (arith, less, within)) all in
-    let second = numbered_at (IsMovementRow country H gs) 0 ms k d within all in
-    let apart = made_apart 7 (year_of (get_or ms j d).accepted % 100) (year_of (get_or ms k d).accepted % 100) country country H H (0 + j + 1) (0 + k + 1) form form number number (omega (arith, less, within, most)) (omega (arith, within, most)) (sym first.mrn ∙ same ∙ second.mrn) in
-    absurd (omega (arith, apart.1, less))
-
-differ_with : (country : List ℕ) (o : Option HolderRows) → IsCountry country → IfSome o (AreHolderRows country) → ReferencesDiffer (account_with country o)
-differ_with country None form rules = record { grns = λ j k d less within. absurd (omega (arith, within)); mrns = λ j k d less within. absurd (omega (arith, within)) }
-differ_with country (Some h) form rules = record {
-  grns = grns_differ country h.row.holder h.guarantees form rules.row.number (omega (arith, rules.grn_count, rules.grn_most)) rules.guarantees;
-  mrns = mrns_differ country h.row.holder h.guarantees h.movements form rules.row.number (omega (arith, rules.mrn_count, rules.mrn_most)) rules.movements;
-}
+use Rattle.td_acts.specs.Sound.{AreHolderRows}
+use Rattle.td_acts.proofs.Differing.{differ_with}
+use Rattle.td_desk.specs.Content.{Content, account_in, rows_of, holder_key}
+use Rattle.td_desk.specs.Sound.{IsSound}
+use Rattle.keyed_rows.proofs.Putting.{All-row_at}
+use Rattle.std.proofs.Common.{ℕ}
 
 -- the references in what a sound desk keeps of a holder differ
 pub references_differ : (H : ℕ) (rows : Content) → IsSound rows → ReferencesDiffer (account_in H rows)

@@ -2,13 +2,13 @@
 use Rattle.std.proofs.Common.{◌≡◌, ℕ, List, Option, Some, None, refl}
 use Rattle.std.specs.Prelude.{IfSome}
 use Rattle.td_acts.specs.declared.command.Command.{Command}
-use Rattle.td_acts.specs.Account.{IsAccountOf}
+use Rattle.td_acts.specs.Account.{HolderRows, account_with, IsAccountOf}
 use Rattle.td_acts.specs.Book.{account_of}
 use Rattle.td_acts.specs.Commands.{owner_of}
 use Rattle.td_acts.proofs.Growing.{account_fresh_book}
-use Rattle.td_desk.specs.Content.{HolderRows, Content, account_with, account_in, rows_of, fresh, holder_key}
+use Rattle.td_desk.specs.Content.{Content, account_in, rows_of, fresh, holder_key}
 use Rattle.td_desk.specs.Weighing.{account_for, owner_account, kept_for, kept_of}
-use Rattle.td_desk.proofs.Keyed.{row_at_has}
+use Rattle.keyed_rows.proofs.Putting.{row_at_has}
 
 number_with : (H : ℕ) (country : List ℕ) (o : Option HolderRows) → IfSome o (λ h. holder_key h ≡ H) → IfSome (account_with country o).holder (λ row. row.holder ≡ H)
 number_with H country None is = tt

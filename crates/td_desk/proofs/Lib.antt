@@ -1,12 +1,6 @@
-pub mod Keyed
-mod Joined
 mod PlaceOfLrn
-mod Places
 pub mod Fresh
 pub mod Turns
-mod Accepted
-mod Cover
-mod Following
 mod Found
 mod Loading
 mod Kept

@@ -6,8 +6,8 @@ use Rattle.std.specs.Str.{bytes_eq}
 use Rattle.std.proofs.lemmas.List.{get_or-map, length-map}
 use Rattle.std.proofs.lemmas.Slice.Eq.{bytes_eq-Decides}
 use Rattle.td_movement.specs.declared.movement.Movement.{Movement}
-use Rattle.td_acts.specs.Account.{movement_with}
-use Rattle.td_desk.specs.Rows.{IsFirstPlace}
+use Rattle.td_acts.specs.Account.{movement_by_lrn}
+use Rattle.td_desk.specs.Places.{IsFirstPlace}
 
 -- a text that is another one is told apart
 pub told_apart : (a b : List ℕ) → a ≢ b → bytes_eq a b ≡ false
@@ -18,14 +18,14 @@ told_apart a b other = by_test (bytes_eq a b) refl
     by_test false h = h
 
 -- the movement at a place with the LRN is found, where those before have others
-found_at_place : (lrn : List ℕ) (ms : List Movement) (at : ℕ) (d : Movement) → at < length ms → (get_or ms at d).lrn ≡ lrn → ((k : ℕ) → k < at → (get_or ms k d).lrn ≢ lrn) → movement_with lrn ms ≡ Some (get_or ms at d)
+found_at_place : (lrn : List ℕ) (ms : List Movement) (at : ℕ) (d : Movement) → at < length ms → (get_or ms at d).lrn ≡ lrn → ((k : ℕ) → k < at → (get_or ms k d).lrn ≢ lrn) → movement_by_lrn lrn ms ≡ Some (get_or ms at d)
 found_at_place lrn [] at d within there first = absurd (omega (arith, within))
 found_at_place lrn (m ∷ ms) zero d within there first = rw ((bytes_eq-Decides m.lrn lrn).1 there) refl
 found_at_place lrn (m ∷ ms) (suc at) d within there first =
     rw (told_apart m.lrn lrn (first zero (omega arith))) (found_at_place lrn ms at d (omega (arith, within)) there (λ k before. first (suc k) (omega (arith, before))))
 
 -- the movement at the first place of an LRN among the movements' is the one that is found
-pub found_by_place : (lrn : List ℕ) (ms : List Movement) (at : ℕ) (d : Movement) → IsFirstPlace lrn (map (λ (m : Movement). m.lrn) ms) at → movement_with lrn ms ≡ Some (get_or ms at d)
+pub found_by_place : (lrn : List ℕ) (ms : List Movement) (at : ℕ) (d : Movement) → IsFirstPlace lrn (map (λ (m : Movement). m.lrn) ms) at → movement_by_lrn lrn ms ≡ Some (get_or ms at d)
 found_by_place lrn ms at d is =
     let within : at < length ms = simp length-map at is.within in
     found_at_place lrn ms at d within
@@ -33,7 +33,7 @@ found_by_place lrn ms at d is =
     (λ k before same. is.first k lrn before (get_or-map (λ (m : Movement). m.lrn) ms k d lrn (omega (arith, before, within)) ∙ same))
 
 -- where the LRN is none of theirs, no movement is found
-pub none_by_place : (lrn : List ℕ) (ms : List Movement) → All (λ l. l ≢ lrn) (map (λ (m : Movement). m.lrn) ms) → movement_with lrn ms ≡ None
+pub none_by_place : (lrn : List ℕ) (ms : List Movement) → All (λ l. l ≢ lrn) (map (λ (m : Movement). m.lrn) ms) → movement_by_lrn lrn ms ≡ None
 none_by_place lrn [] none = refl
 none_by_place lrn (m ∷ ms) none = rw (told_apart m.lrn lrn (none zero lrn (omega arith))) (none_by_place lrn ms (λ k d within. none (suc k) d (omega (arith, within))))
 

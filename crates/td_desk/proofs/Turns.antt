@@ -13,8 +13,9 @@ use Rattle.td_acts.specs.Book.{Book, account_of}
 use Rattle.td_acts.specs.Commands.{owner_of}
 use Rattle.td_acts.specs.Table.{said}
 use Rattle.td_acts.specs.Machine.{verdict, book_after, machine_says, machine_book, IsGrown}
-use Rattle.td_acts.specs.Deciding.{decided, applied}
-use Rattle.td_acts.proofs.Growing.{account_after, grown_after}
+use Rattle.td_acts.specs.Changes.{account_after}
+use Rattle.td_acts.specs.Deciding.{decision_on}
+use Rattle.td_acts.proofs.Growing.{account_said_after, grown_after}
 use Rattle.td_acts.proofs.Machines.{machine_says-append, machine_book-append}
 use Rattle.td_desk.specs.declared.fault.Fault.{Fault}
 use Rattle.td_desk.specs.declared.running.Outcome.{Outcome}
@@ -91,9 +92,9 @@ module _ (c : List ℕ) (books : ℕ → Book) (list : List Stamped) (outcomes :
   own_after H own carries =
       let e = same_account H in
       carries.own H (owner H own)
-      ∙ account_after H (fresh H old) s tt (subst ReferencesDiffer (sym (account_fresh H old)) (differ H)) (owner H own)
-      ∙ ap (λ (a : Account). applied (decided a s.at s.command).change a) e
-      ∙ sym (account_after H (book H) s (runs.tied.grown H) (subst ReferencesDiffer (runs.tied.each H) (differ H)) (owner_by_book H own))
+      ∙ account_said_after H (fresh H old) s tt (subst ReferencesDiffer (sym (account_fresh H old)) (differ H)) (owner H own)
+      ∙ ap (λ (a : Account). account_after (decision_on a s.at s.command).change a) e
+      ∙ sym (account_said_after H (book H) s (runs.tied.grown H) (subst ReferencesDiffer (runs.tied.each H) (differ H)) (owner_by_book H own))
 
   answers_failed : (H : ℕ) (f : Fault) → told c H (list ++ s ∷ []) (outcomes ++ outcome.Failed f ∷ []) ≡ machine_says H (books H) (heard c H (list ++ s ∷ []) (outcomes ++ outcome.Failed f ∷ []))
   answers_failed H f = rw (told-append c H list outcomes s (outcome.Failed f) runs.one_each, heard-append c H list outcomes s (outcome.Failed f) runs.one_each, append-nil, append-nil) (runs.answers H)

@@ -33,7 +33,8 @@ is_failed (outcome.Failed why) = true
 
 -- how the commands of H's part ended, one by one
 abbrev pub outcomes_of : List ℕ → ℕ → List Stamped → List Outcome → List Outcome
-outcomes_of country H list outcomes = map (λ e. e.1) (filter (λ e. is_holder H (owner_of country e.0.command)) (zip list outcomes))
+outcomes_of country H list outcomes =
+    map (λ e. e.1) (filter (λ e. is_holder H (owner_of country e.0.command)) (zip list outcomes))
 
 -- the places in H's part at which a command failed
 abbrev pub failures : List ℕ → ℕ → List Stamped → List Outcome → List Bool
@@ -43,53 +44,68 @@ failures country H list outcomes = map is_failed (outcomes_of country H list out
 abbrev pub heard : List ℕ → ℕ → List Stamped → List Outcome → List Stamped
 heard country H [] outcomes = []
 heard country H (s ∷ list) [] = []
-heard country H (s ∷ list) (outcome.Said said ∷ outcomes) = if is_holder H (owner_of country s.command) then s ∷ heard country H list outcomes else heard country H list outcomes
+heard country H (s ∷ list) (outcome.Said said ∷ outcomes) =
+    if is_holder H (owner_of country s.command) then s ∷ heard country H list outcomes
+        else heard country H list outcomes
 heard country H (s ∷ list) (outcome.Failed fault ∷ outcomes) = heard country H list outcomes
 
 -- what was said to them
 abbrev pub told : List ℕ → ℕ → List Stamped → List Outcome → List Said
 told country H [] outcomes = []
 told country H (s ∷ list) [] = []
-told country H (s ∷ list) (outcome.Said said ∷ outcomes) = if is_holder H (owner_of country s.command) then said ∷ told country H list outcomes else told country H list outcomes
+told country H (s ∷ list) (outcome.Said said ∷ outcomes) =
+    if is_holder H (owner_of country s.command) then said ∷ told country H list outcomes
+        else told country H list outcomes
 told country H (s ∷ list) (outcome.Failed fault ∷ outcomes) = told country H list outcomes
 
--- Each holder's rows are what the holder's book says, and each book has grown: every act in it was accepted over the acts before it. So a number
--- that isn't registered has an empty book, and no rows.
+-- Each holder's rows are what the holder's book says, and each book has grown: every act in it was accepted
+-- over the acts before it. So a number that isn't registered has an empty book, and no rows.
 pub record IsTied (rows : Content) (books : ℕ → Book) : Type 0 where
   pub each : (H : ℕ) → account_in H rows ≡ account_of H (books H)
   pub grown : (H : ℕ) → IsGrown H (books H)
 
--- How a command ended by the two calls that it makes of a desk, where called says how a call ended: by words where neither failed, else by the fault
--- of the one that failed, which was the last.
+-- How a command ended by the two calls that it makes of a desk, where called says how a call ended: by
+-- words where neither failed, else by the fault of the one that failed, which was the last.
 abbrev pub IsOutcomeOf : {S : Type 0} → (S → Option Fault → S → Type 0) → S → Outcome → S → Type 0
-IsOutcomeOf {S} called old (outcome.Said words) new = (weighed : S) × called old None weighed × called weighed None new
-IsOutcomeOf {S} called old (outcome.Failed why) new = called old (Some why) new ⊎ ((weighed : S) × called old None weighed × called weighed (Some why) new)
+IsOutcomeOf {S} called old (outcome.Said words) new =
+    (weighed : S) × called old None weighed × called weighed None new
+IsOutcomeOf {S} called old (outcome.Failed why) new =
+    called old (Some why) new ⊎ ((weighed : S) × called old None weighed × called weighed (Some why) new)
 
 -- each outcome is that of its own calls, one command after the other
 abbrev pub AreOutcomesOf : {S : Type 0} → (S → Option Fault → S → Type 0) → S → List Outcome → S → Type 0
 AreOutcomesOf called old [] new = new ≡ old
-AreOutcomesOf {S} called old (o ∷ outcomes) new = (next : S) × IsOutcomeOf called old o next × AreOutcomesOf called next outcomes new
+AreOutcomesOf {S} called old (o ∷ outcomes) new =
+    (next : S) × IsOutcomeOf called old o next × AreOutcomesOf called next outcomes new
 
--- the outcome of one command, and the content after it: what is said is the model's verdict, and a failure changes nothing
+-- the outcome of one command, and the content after it: what is said is the model's verdict, and a failure
+-- changes nothing
 abbrev pub Performs : Content → Stamped → Outcome → Content → Type 0
-Performs old s (outcome.Said words) new = (words ≡ said (owner_account old s.command) s.at s.command) × Carries old s new
+Performs old s (outcome.Said words) new =
+    (words ≡ said (owner_account old s.command) s.at s.command) × Carries old s new
 Performs old s (outcome.Failed fault) new = new ≡ old
 
--- The same at a desk that a fault may shut: an answer shows that the desk was live and is; a failure leaves the content of a live one.
+-- The same at a desk that a fault may shut: an answer shows that the desk was live and is; a failure leaves
+-- the content of a live one.
 abbrev pub IsStep : Type 0 → Type 0 → Content → Stamped → Outcome → Content → Type 0
-IsStep was_live is_live old s (outcome.Said words) new = was_live × is_live × (IsSound old → Performs old s (outcome.Said words) new)
+IsStep was_live is_live old s (outcome.Said words) new =
+    was_live × is_live × (IsSound old → Performs old s (outcome.Said words) new)
 IsStep was_live is_live old s (outcome.Failed fault) new = is_live → new ≡ old
 
 -- What is said to a command that nobody owns is what the table says over an account with nothing in it.
 abbrev pub IsToldOfNobody : List ℕ → Stamped → Outcome → Type 0
-IsToldOfNobody country s (outcome.Said words) = owner_of country s.command ≡ None → words ≡ said (empty_account country) s.at s.command
+IsToldOfNobody country s (outcome.Said words) =
+    owner_of country s.command ≡ None → words ≡ said (empty_account country) s.at s.command
 IsToldOfNobody country s (outcome.Failed fault) = Unit {0}
 
--- To each holder at once, what was said is what the holder's own machine says to the holder's commands that did not fail; what was said to
--- commands that nobody owns rests on nobody's rows; in the end the content is sound, and tied to the books that the machines end with.
-pub record IsRun (country : List ℕ) (books : ℕ → Book) (list : List Stamped) (outcomes : List Outcome) (new : Content) : Type 0 where
+-- To each holder at once, what was said is what the holder's own machine says to the holder's commands that
+-- did not fail; what was said to commands that nobody owns rests on nobody's rows; in the end the content
+-- is sound, and tied to the books that the machines end with.
+pub record IsRun (country : List ℕ) (books : ℕ → Book) (list : List Stamped) (outcomes : List Outcome)
+    (new : Content) : Type 0 where
   pub one_each : length outcomes ≡ length list
-  pub answers : (H : ℕ) → told country H list outcomes ≡ machine_says H (books H) (heard country H list outcomes)
+  pub answers : (H : ℕ) → told country H list outcomes
+      ≡ machine_says H (books H) (heard country H list outcomes)
   pub nobodys : AllZip (IsToldOfNobody country) list outcomes
   pub country_stays : new.country ≡ country
   pub sound : IsSound new

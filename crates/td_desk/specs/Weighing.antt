@@ -9,7 +9,8 @@ use Rattle.td_acts.specs.Commands.{owner_of, IsProper}
 use Rattle.td_acts.specs.Table.{said}
 use Rattle.td_acts.specs.Acceptance.{is_accepted}
 use Rattle.td_acts.specs.Machine.{book_after}
-use Rattle.td_acts.specs.Deciding.{decided, is_change}
+use Rattle.td_acts.specs.Changes.{is_change}
+use Rattle.td_acts.specs.Deciding.{decision_on}
 use Rattle.td_desk.specs.Content.{Content, account_in, fresh}
 use Rattle.td_desk.specs.Sound.{IsSound}
 
@@ -29,21 +30,23 @@ kept_for (Some H) rows = account_in H rows
 abbrev pub kept_of : Content → Command → Account
 kept_of rows command = kept_for (owner_of rows.country command) rows
 
--- The decision on a command: what it says is the model's verdict over the fresh book of the command's owner, it changes something
--- exactly where the model accepts the command, and what it writes is the rows of that command.
+-- The decision on a command: what it says is the model's verdict over the fresh book of the command's
+-- owner, it changes something exactly where the model accepts the command, and what it writes is the rows
+-- of that command.
 pub record IsWeighed (rows : Content) (at : ℤ) (command : Command) (v : Verdict) : Type 0 where
   pub said : v.said ≡ said (owner_account rows command) at command
   pub changes : is_change v.change ≡ is_accepted (owner_account rows command) at command
-  pub written : v.change ≡ (decided (owner_account rows command) at command).change
+  pub written : v.change ≡ (decision_on (owner_account rows command) at command).change
 
 -- it is the decision on some command at some moment
 abbrev pub IsDecision : Content → Verdict → Type 0
 IsDecision rows v = (at : ℤ) × (command : Command) × IsProper command × IsWeighed rows at command v
 
--- What a command that was carried does to the content: the owner's rows are those of the owner's book with the command, the country and
--- every other holder's rows are as before, and the content is sound.
+-- What a command that was carried does to the content: the owner's rows are those of the owner's book with
+-- the command, the country and every other holder's rows are as before, and the content is sound.
 pub record Carries (old : Content) (s : Stamped) (new : Content) : Type 0 where
   pub country : new.country ≡ old.country
-  pub own : (H : ℕ) → owner_of old.country s.command ≡ Some H → account_in H new ≡ account_of H (book_after H (fresh H old) s)
+  pub own : (H : ℕ) → owner_of old.country s.command ≡ Some H
+      → account_in H new ≡ account_of H (book_after H (fresh H old) s)
   pub others : (H : ℕ) → owner_of old.country s.command ≢ Some H → account_in H new ≡ account_in H old
   pub sound : IsSound new

@@ -3,15 +3,17 @@ ghost use Rattle.std.specs.Prelude.{◌≡◌, ◌≢◌, [], Some, None, map, o
 ghost use Rattle.std.specs.Prelude.{option_map};
 ghost use Rattle.std.specs.List.{AllByRecursion};
 ghost use Rattle.td_guarantee.specs.Usage.{used_on};
-ghost use Rattle.td_acts.specs.Account.{guarantee_with, movement_named, movement_with};
+ghost use Rattle.td_acts.specs.Account.{account_with, guarantee_by_grn, movement_by_mrn, movement_by_lrn};
+ghost use Rattle.td_acts.specs.Changes.{rows_after};
 ghost use Rattle.td_acts.specs.Deciding.{IsLoaded};
-ghost use Rattle.td_desk.specs.Content.{account_with, written};
-ghost use Rattle.td_desk.specs.Rows.{IsFirstPlace};
-ghost use Rattle.td_desk.specs.Sound.{IsCovered};
+ghost use Rattle.td_acts.specs.Needs.{need_said};
+ghost use Rattle.td_acts.specs.Sound.{IsCovered};
+ghost use Rattle.td_desk.specs.Places.{IsFirstPlace};
 
+use keyed_rows::Keyed;
 use std::alloc::{AllocError, Global};
 use std::marker::Model;
-use td_acts::{Change, Command, HolderRow, Lines, Loaded, find_guarantee, find_named};
+use td_acts::{Change, HolderRow, Lines, Loaded, Needs, find_guarantee, find_movement_by_mrn};
 use td_base::{Cents, Country, Grn, HolderNo, Lrn, Mrn};
 use td_guarantee::{Guarantee, in_use};
 use td_movement::Movement;
@@ -22,19 +24,30 @@ pub(crate) struct HolderFile {
     row: HolderRow,
     guarantees: Vec<Guarantee>,
     movements: Vec<Movement>,
-    // The movements' LRNs side by side: a declaration's is looked for here, in far less memory than the movements take.
+    // The movements' LRNs side by side: a declaration's is looked for here, in far less memory than the
+    // movements take.
     lrns: Vec<Lrn>,
 }
 
 impl Model for HolderFile {
     ghost use Rattle.std.specs.Prelude.{◌≡◌, map};
-    ghost use Rattle.td_desk.specs.Content.{HolderRows};
+    ghost use Rattle.td_acts.specs.Account.{HolderRows};
 
     ghost Value = { HolderRows };
 
     ghost view = { λ f. record { row = f.row; guarantees = f.guarantees.items; movements = f.movements.items } };
 
     ghost invariant = { λ f. f.lrns.items ≡ map (λ m. m.lrn) f.movements.items };
+}
+
+impl Keyed for HolderFile {
+    ghost use Rattle.td_desk.specs.Content.{holder_key};
+
+    ghost key_of = { holder_key };
+
+    fn key(&self) -> u32 {
+        self.row.holder.number()
+    }
 }
 
 impl HolderFile {
@@ -59,7 +72,7 @@ impl HolderFile {
 
     /// Writes the rows of a change. `AllocError`: want of memory, and nothing is written.
     pub fn write(&mut self, change: Change) -> Result<(), AllocError>
-        ensures ok { OnOk result (self.new ≡ written change self.old) }
+        ensures ok { OnOk result (self.new ≡ rows_after change self.old) }
         ensures err { OnErr result (self.new ≡ self.old) }
     {
         match change {
@@ -80,29 +93,30 @@ impl HolderFile {
         Ok(())
     }
 
-    /// What the verdict on a command of the holder needs. `AllocError`: want of memory.
+    /// What is needed of the rows, and the holder's row. `AllocError`: want of memory.
     pub fn load(
         &self,
         alloc: Global,
         country: Country,
-        command: &Command,
+        needs: &Needs<'_>,
     ) -> Result<Loaded, AllocError>
-        ensures { AllByRecursion (IsCovered self.now.movements) self.now.guarantees → IfOk result (IsLoaded (account_with country (Some self.now)) command.now) }
+        ensures { AllByRecursion (IsCovered self.now.movements) self.now.guarantees
+            → IfOk result (IsLoaded (account_with country (Some self.now)) (need_said needs.now)) }
     {
-        let (movements, guarantees) = match command {
-            Command::Ie015 { lrn, lines, .. } => (
-                movements_with(alloc, &self.movements, &self.lrns, lrn)?,
+        let (movements, guarantees) = match needs {
+            Needs::Nothing => (Vec::new(alloc), Vec::new(alloc)),
+            Needs::Lodging(lrn, lines) => (
+                movements_by_lrn(alloc, &self.movements, &self.lrns, lrn)?,
                 guarantees_of(alloc, &self.guarantees, lines)?,
             ),
-            Command::SeeMovement { mrn, .. } => (
-                movements_named(alloc, &self.movements, mrn)?,
+            Needs::Movement(mrn) => (
+                movements_by_mrn(alloc, &self.movements, mrn)?,
                 Vec::new(alloc),
             ),
-            Command::SeeGuarantee { grn, .. } => (
+            Needs::Guarantee(grn) => (
                 Vec::new(alloc),
-                entries_with(alloc, &self.guarantees, &self.movements, grn)?,
+                entries_by_grn(alloc, &self.guarantees, &self.movements, grn)?,
             ),
-            _ => (Vec::new(alloc), Vec::new(alloc)),
         };
         Ok(Loaded {
             country,
@@ -114,14 +128,14 @@ impl HolderFile {
 }
 
 // The movement with an LRN, if there is one, by the place of the LRN among theirs.
-fn movements_with(
+fn movements_by_lrn(
     alloc: Global,
     movements: &[Movement],
     lrns: &[Lrn],
     lrn: &Lrn,
 ) -> Result<Vec<Movement>, AllocError>
     requires { lrns.now ≡ map (λ m. m.lrn) movements.now }
-    ensures { IfOk result (λ found. found.items ≡ option_to_list (movement_with lrn.now movements.now)) }
+    ensures { IfOk result (λ found. found.items ≡ option_to_list (movement_by_lrn lrn.now movements.now)) }
 {
     let mut found = Vec::new(alloc);
     if let Some(at) = find_place(lrns, lrn) {
@@ -144,15 +158,15 @@ fn find_place(lrns: &[Lrn], lrn: &Lrn) -> Option<usize>
 }
 
 // The movement with an MRN, if there is one.
-fn movements_named(
+fn movements_by_mrn(
     alloc: Global,
     movements: &[Movement],
     mrn: &Mrn,
 ) -> Result<Vec<Movement>, AllocError>
-    ensures { IfOk result (λ found. found.items ≡ option_to_list (movement_named mrn.now movements.now)) }
+    ensures { IfOk result (λ found. found.items ≡ option_to_list (movement_by_mrn mrn.now movements.now)) }
 {
     let mut found = Vec::new(alloc);
-    if let Some(movement) = find_named(movements, mrn) {
+    if let Some(movement) = find_movement_by_mrn(movements, mrn) {
         found.push(movement.copy(alloc)?)?;
     }
     Ok(found)
@@ -164,7 +178,8 @@ fn guarantees_of(
     guarantees: &[Guarantee],
     lines: &Lines,
 ) -> Result<Vec<(Guarantee, Cents)>, AllocError>
-    ensures { IfOk result (λ found. map (λ e. e.0) found.items ≡ filter_map (λ l. guarantee_with l.0.grn guarantees.now) lines.now) }
+    ensures { IfOk result (λ found. map (λ e. e.0) found.items
+        ≡ filter_map (λ l. guarantee_by_grn l.0.grn guarantees.now) lines.now) }
 {
     let unasked = Cents::new(0).unwrap();
     let mut found = Vec::new(alloc);
@@ -177,14 +192,16 @@ fn guarantees_of(
 }
 
 // The guarantee with a GRN, if there is one, and the amount in use on it.
-fn entries_with(
+fn entries_by_grn(
     alloc: Global,
     guarantees: &[Guarantee],
     movements: &[Movement],
     grn: &Grn,
 ) -> Result<Vec<(Guarantee, Cents)>, AllocError>
     ensures { AllByRecursion (IsCovered movements.now) guarantees.now
-        → IfOk result (λ found. found.items ≡ option_to_list (option_map (λ g. (g, used_on g.grn movements.now)) (guarantee_with grn.now guarantees.now))) }
+        → IfOk result (λ found. found.items
+            ≡ option_to_list (option_map (λ g. (g, used_on g.grn movements.now))
+            (guarantee_by_grn grn.now guarantees.now))) }
 {
     let mut found = Vec::new(alloc);
     if let Some(guarantee) = find_guarantee(guarantees, grn) {

@@ -11,7 +11,8 @@ pub fn fresh_books_are_tied()
     ensures { FreshBooksAreTied }
 {}
 
-/// The headline: two lists of commands that agree, moments included, on a holder's commands, of which the same failed, tell that holder the same.
+/// The headline: two lists of commands that agree, moments included, on a holder's commands, of which the
+/// same failed, tell that holder the same.
 pub fn agreeing_runs_tell_the_same()
     ensures agreeing { AgreeingRunsTellTheSame }
     ensures heard { HeardAlikeIsToldTheSame }

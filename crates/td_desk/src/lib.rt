@@ -1,4 +1,5 @@
-//! The desk: its content, what it promises to weigh and to carry, the plain desk in memory, and runs of commands.
+//! The desk: its content, what it promises to weigh and to carry, the plain desk in memory, and runs of
+//! commands.
 #![tactic(auto)]
 
 mod decision;
@@ -8,6 +9,7 @@ mod file;
 mod laws;
 mod plain;
 mod running;
+mod store;
 #[cfg(test)]
 mod tests;
 
@@ -17,4 +19,7 @@ pub use fault::Fault;
 pub use laws::{agreeing_runs_tell_the_same, empty_desk_is_tied, fresh_books_are_tied};
 pub use plain::PlainDesk;
 pub use running::{Outcome, perform, run};
-pub use td_acts::{Answer, Change, Command, HolderRow, Loaded, Refusal, Said, Stamped, Verdict};
+pub use store::Store;
+pub use td_acts::{
+    Answer, Change, Command, HolderRow, Loaded, Needs, Refusal, Said, Stamped, Subject, Verdict,
+};

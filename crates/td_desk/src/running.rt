@@ -23,8 +23,11 @@ pub enum Outcome {
 pub fn perform<D: Desk>(alloc: Global, desk: &mut D, stamped: &Stamped) -> Outcome
     ensures clean { D.is_clean desk.new → D.is_clean desk.old }
     ensures live { D.is_clean desk.new → D.is_live desk.new → D.is_live desk.old }
-    ensures performs { D.is_clean desk.new → IsStep (D.is_live desk.old) (D.is_live desk.new) (D.content desk.old) stamped.now result (D.content desk.new) }
-    ensures stays { D.is_clean desk.new → D.is_live desk.old → result ≢ Outcome.Failed Fault.Store → D.is_live desk.new }
+    ensures performs { D.is_clean desk.new
+        → IsStep (D.is_live desk.old) (D.is_live desk.new) (D.content desk.old) stamped.now result
+        (D.content desk.new) }
+    ensures stays { D.is_clean desk.new → D.is_live desk.old → result ≢ Outcome.Failed Fault.Store
+        → D.is_live desk.new }
     ensures store { result ≡ Outcome.Failed Fault.Store → D.has_store }
     ensures calls { IsOutcomeOf D.called desk.old result desk.new }
 {
@@ -37,10 +40,12 @@ pub fn perform<D: Desk>(alloc: Global, desk: &mut D, stamped: &Stamped) -> Outco
     }
 }
 
-/// Does commands in order, and answers the outcome of each. Room for the outcomes is made first: `AllocError` leaves the desk as it was.
+/// Does commands in order, and answers the outcome of each. Room for the outcomes is made first:
+/// `AllocError` leaves the desk as it was.
 ///
-/// To each holder, what is said is what the holder's own machine says to the holder's part of the list: nothing that other holders
-/// do, or that fails, is seen in it. Where a fault shut the desk on the way, this holds of the content up to then.
+/// To each holder, what is said is what the holder's own machine says to the holder's part of the list:
+/// nothing that other holders do, or that fails, is seen in it. Where a fault shut the desk on the way,
+/// this holds of the content up to then.
 pub fn run<D: Desk>(
     alloc: Global,
     desk: &mut D,
@@ -49,10 +54,16 @@ pub fn run<D: Desk>(
     ensures err { OnErr result (desk.new ≡ desk.old) }
     ensures clean { D.is_clean desk.new → D.is_clean desk.old }
     ensures live { D.is_clean desk.new → D.is_live desk.new → D.is_live desk.old }
-    ensures private { D.is_clean desk.new → D.is_live desk.old → IsSound (D.content desk.old) → (books : ℕ → Book) → IsTied (D.content desk.old) books →
-        IfOk result (λ outcomes. (c : Content) × IsRun (D.content desk.old).country books list.now outcomes.items c × (D.is_live desk.new → D.content desk.new ≡ c)) }
-    ensures stays { D.is_clean desk.new → D.is_live desk.old → IfOk result (λ outcomes. All (λ o. o ≢ Outcome.Failed Fault.Store) outcomes.items → D.is_live desk.new) }
-    ensures store { IfOk result (λ outcomes. All (λ o. o ≡ Outcome.Failed Fault.Store → D.has_store) outcomes.items) }
+    ensures private { D.is_clean desk.new → D.is_live desk.old → IsSound (D.content desk.old)
+        → (books : ℕ → Book) → IsTied (D.content desk.old) books →
+        IfOk result (λ outcomes. (c : Content)
+            × IsRun (D.content desk.old).country books list.now outcomes.items c
+            × (D.is_live desk.new → D.content desk.new ≡ c)) }
+    ensures stays { D.is_clean desk.new → D.is_live desk.old
+        → IfOk result (λ outcomes. All (λ o. o ≢ Outcome.Failed Fault.Store) outcomes.items
+        → D.is_live desk.new) }
+    ensures store { IfOk result (λ outcomes. All
+        (λ o. o ≡ Outcome.Failed Fault.Store → D.has_store) outcomes.items) }
     ensures calls { IfOk result (λ outcomes. AreOutcomesOf D.called desk.old outcomes.items desk.new) }
 {
     let mut outcomes = Vec::with_capacity(alloc, list.len())?;

@@ -6,7 +6,7 @@ use crate::{Desk, Outcome, PlainDesk, run};
 use std::alloc::{AllocError, Global};
 use std::process::Abort;
 use std::test::Fail;
-use store::{FaultyStore, StoreDesk, run_stored};
+use store::{FaultyStore, run_stored};
 use td_acts::{Answer, Command, Said, Stamped};
 use td_base::{Country, Eori, HolderNo};
 
@@ -141,8 +141,7 @@ fn assert_shut(
     answered: usize,
 ) -> Result<(), Fail> {
     let alloc = rt.alloc();
-    let store = FaultyStore::new(alloc, country().ok_or("country")?, good_calls)?;
-    let mut desk = StoreDesk::new(store);
+    let mut desk = FaultyStore::new(alloc, country().ok_or("country")?, good_calls)?;
     let outcomes = run_stored(alloc, &mut desk, &list(alloc)?)?;
     let mut wanted = WANTED;
     for at in answered..wanted.len() {

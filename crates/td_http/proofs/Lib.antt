@@ -2,3 +2,4 @@ mod Handling
 mod Served
 mod Streamed
 mod Alone
+mod Alike

@@ -2,9 +2,11 @@
 #![tactic(auto)]
 
 mod desk_stream;
+mod laws;
 mod service;
 
 pub use desk_stream::serve_stream;
+pub use laws::{agreeing_streams_tell_the_same, equal_requests_are_told_the_same};
 pub use service::Service;
 pub use td_answers::{
     answer_is_told_in, fault_bytes, fault_is_told_in, refusal_is_told_in, reply_bytes,

@@ -4,7 +4,7 @@ use super::exchanges::{assert_closed, service_of_ch};
 use super::texts::many;
 use super::{Done, Due, WORDS, assert_due, assert_job, words_of};
 use crate::clock::FixedClock;
-use crate::perform::perform;
+use crate::jobs::perform;
 use std::alloc::{AllocError, Global};
 use std::process::Abort;
 use std::rt::Clock;

@@ -1,5 +1,5 @@
 //! Openings and declarations, by `run`: on the plain desk and at the desk over a store.
-use super::store::{FaultyStore, StoreDesk, run_stored};
+use super::store::{FaultyStore, run_stored};
 use super::{AT, assert_said, country, register, see};
 use crate::{PlainDesk, run};
 use std::alloc::Global;
@@ -152,8 +152,7 @@ fn holders_lodge_on_the_plain_desk(rt: HostRuntime) -> Result<(), Fail> {
 #[test]
 fn holders_lodge_at_the_desk_over_a_store(rt: HostRuntime) -> Result<(), Fail> {
     let alloc = rt.alloc();
-    let store = FaultyStore::new(alloc, country().ok_or("country")?, 100)?;
-    let mut desk = StoreDesk::new(store);
+    let mut desk = FaultyStore::new(alloc, country().ok_or("country")?, 100)?;
     let outcomes = run_stored(alloc, &mut desk, &list(alloc)?)?;
     assert_said(&rt, &outcomes, &LODGED)?;
     let outcomes = run_stored(alloc, &mut desk, &views(alloc)?)?;

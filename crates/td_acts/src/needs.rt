@@ -1,0 +1,17 @@
+//! What the verdict on a command needs of its owner's rows, beside the holder's own row.
+use crate::lines::Lines;
+use td_base::{Grn, Lrn, Mrn};
+
+/// The rows of a command's owner that the verdict asks for. Who loads them matches these shapes and no
+/// commands.
+#[derive(Clone, Copy, Debug)]
+pub enum Needs<'a> {
+    /// None.
+    Nothing,
+    /// The movement with an LRN, and the guarantees of lines.
+    Lodging(Lrn, &'a Lines),
+    /// The movement with an MRN.
+    Movement(Mrn),
+    /// The guarantee with a GRN, and the amount in use on it.
+    Guarantee(Grn),
+}

@@ -1,0 +1,14 @@
+//! The desk's program over any reader and writers: the jobs that the words of the command line ask for. The program itself only hands
+//! the machine's own in.
+#![tactic(auto)]
+
+mod clock;
+mod jobs;
+mod program;
+#[cfg(test)]
+mod tests;
+mod words;
+
+pub use clock::{FixedClock, MachineClock};
+pub use jobs::perform;
+pub use program::{run_program, words_of};

@@ -1,0 +1,20 @@
+use Rattle.std.proofs.Common.{◌≡◌, ℕ, Option, w64, ◌∙◌, ap, subst}
+use Rattle.std.proofs.lemmas.Int.{to_z-of_z}
+use Rattle.td_acts.specs.Deciding.{IsLoaded}
+use Rattle.td_acts.specs.Commands.{owner_of}
+use Rattle.td_acts.specs.Needs.{Need, need_of}
+use Rattle.td_desk.specs.Weighing.{kept_for, kept_of}
+use Rattle.td_desk.proofs.Weighed.{weighed_by}
+use Rattle.td_desk.proofs.store.AnyDesk.weigh.Goals as goal
+
+pub returns-clause-decision : goal.returns-clause-decision
+returns-clause-decision g c = λ clean live sound.
+    let rows = g.S.Store.rows c.args.self.now in
+    let command = c.args.command.now in
+    let country : c.office.result ≡ rows.country = c.office.ensures (c.load.ensures.kept clean) live in
+    let owner : c.owner-owner.result ≡ owner_of rows.country command = c.owner-owner.ensures ∙ ap (λ country. owner_of country command) country in
+    let loaded : IsLoaded (kept_of rows command) (need_of command) c.in_ok-loaded.loaded =
+    subst (λ (o : Option ℕ). IsLoaded (kept_for o rows) (need_of command) c.in_ok-loaded.loaded) owner
+    (subst (λ (n : Need). IsLoaded (kept_for c.owner-owner.result rows) n c.in_ok-loaded.loaded) c.needs.ensures (c.in_ok-loaded.ensures.loaded clean live sound)) in
+    weighed_by rows c.args.at command c.in_ok-loaded.loaded c.in_ok-verdict.verdict c.new.result loaded
+    (rw (to_z-of_z w64 c.args.at c.ranges.at) at c.in_ok-verdict.ensures) c.new.ensures

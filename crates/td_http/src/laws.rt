@@ -1,0 +1,56 @@
+//! Laws of what a holder is told over HTTP, as contracts of functions that do nothing.
+ghost use Rattle.std.specs.Prelude.{◌≡◌, ℕ, ℤ, List, Ok, Some};
+ghost use Rattle.td_acts.specs.declared.command.Command.{Command};
+ghost use Rattle.td_acts.specs.Book.{Book};
+ghost use Rattle.td_acts.specs.Commands.{owner_of};
+ghost use Rattle.td_wire.specs.declared.reply.Reply.{Reply};
+ghost use Rattle.td_wire.specs.declared.stream.StreamEnd.{StreamEnd};
+ghost use Rattle.td_wire.specs.Request.{Asked};
+ghost use Rattle.td_wire.specs.ReplyText.{reply_bytes};
+ghost use Rattle.td_wire.specs.Stream.{Sides};
+ghost use Rattle.td_http.specs.declared.service.Service.{Service};
+ghost use Rattle.td_http.specs.Laws.{IsRequestAt, IsStreamAt, TellAlike, fault_told};
+ghost use Rattle.td_http.specs.Serving.{command_in};
+
+use std::io::{Read, Write};
+use td_desk::Desk;
+use td_wire::Clock;
+
+/// The headline, over the bytes of two streams. They may be served at different desks of one country, to different readers and writers,
+/// from contents as different as one likes for all holders but H. Where the requests that were handled agree on H's commands (their
+/// moments and whether a reply has to tell that the stream stops included), and the same of these failed, H has the same replies, byte
+/// for byte.
+pub fn agreeing_streams_tell_the_same<
+    R: Read,
+    W: Write,
+    C: Clock,
+    D: Desk,
+    OtherR: Read,
+    OtherW: Write,
+    OtherC: Clock,
+    OtherD: Desk,
+>()
+    ensures { (country : List ℕ) (H : ℕ) (books others : ℕ → Book)
+        (old new : Sides R W C (Service D)) (end : StreamEnd)
+        (other_old other_new : Sides OtherR OtherW OtherC (Service OtherD)) (other_end : StreamEnd)
+        → (one : IsStreamAt R.remaining W.contents C.ticks D.content D.is_clean D.is_live D.has_store
+        country books old new end)
+        → (other : IsStreamAt OtherR.remaining OtherW.contents OtherC.ticks OtherD.content OtherD.is_clean
+        OtherD.is_live OtherD.has_store country others other_old other_new other_end)
+        → books H ≡ others H
+        → TellAlike country H one.served.run.exchanges other.served.run.exchanges }
+{}
+
+/// The same of one request each: a command of H's at one moment, whose replies have to tell the same of the stream's end, and of which
+/// both failed by one fault or neither did, has equal replies.
+pub fn equal_requests_are_told_the_same<D: Desk, OtherD: Desk>()
+    ensures { (country : List ℕ) (H : ℕ) (books others : ℕ → Book) (command : Command) (at : ℤ)
+        (old new : Service D) (asked : Asked) (reply : Reply)
+        (other_old other_new : Service OtherD) (other_asked : Asked) (other_reply : Reply)
+        → IsRequestAt D.content D.is_clean D.is_live country books old at asked reply new
+        → IsRequestAt OtherD.content OtherD.is_clean OtherD.is_live country others other_old at other_asked other_reply other_new
+        → books H ≡ others H → owner_of country command ≡ Some H
+        → command_in asked ≡ Ok command → command_in other_asked ≡ Ok command → asked.close ≡ other_asked.close
+        → fault_told reply ≡ fault_told other_reply
+        → reply_bytes reply ≡ reply_bytes other_reply }
+{}

@@ -1,0 +1,14 @@
+//! The desk's program: `td_cli` on the machine's own input and outputs.
+#![tactic(auto)]
+
+use std::process::ExitCode;
+use td_base::Counted;
+use td_cli::{run_program, words_of};
+
+fn main(rt: HostRuntime) -> ExitCode {
+    let mut input = Counted::new(rt.stdin());
+    let mut out = Counted::new(rt.stdout());
+    let mut errors = Counted::new(rt.stderr());
+    let status = run_program(&rt, words_of(&rt), &mut input, &mut out, &mut errors);
+    ExitCode::from(status)
+}
