@@ -6,7 +6,7 @@ use Rattle.td_desk.specs.Content.{Content}
 use Rattle.td_desk.specs.Sound.{IsSound}
 use Rattle.td_desk.specs.Weighing.{IsWeighed, Carries}
 use Rattle.td_answers.specs.Answers.{said_reply}
-use Rattle.td_http.proofs.service.answer.Goals as goal
+use Rattle.td_http.proofs.service.weigh_and_carry.Goals as goal
 
 pub returns-clause-answered : goal.returns-clause-answered
 returns-clause-answered g c = λ clean.
