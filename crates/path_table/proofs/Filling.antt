@@ -24,7 +24,7 @@ next_filled pattern_of rows i row old new within here is =
     let earlier : take (i + 1) rows ≡ take i rows ++ row ∷ [] = take_more rows i row within ∙ ap (λ r. take i rows ++ r ∷ []) (sym here) in
     let place : length (take i rows) ≡ i = length-take-le i rows (omega (arith, within)) in
     rw (rest, earlier, is) (ap (λ n. filled_behind pattern_of (take i rows ++ row ∷ []) (drop (i + 1) rows)
-        (cond (list_any (λ r. bytes_eq (pattern_of r) (pattern_of row)) (take i rows)) old (with_read (parse_route (pattern_of row)) n old))) place)
+    (cond (list_any (λ r. bytes_eq (pattern_of r) (pattern_of row)) (take i rows)) old (with_read (parse_route (pattern_of row)) n old))) place)
 
 -- what is said of the rows before one
 pub earlier_is : {R : Type 0} (pattern_of : R → List ℕ) (rows : List R) (place : ℕ) (row : R) (pattern : List ℕ) (b : Bool)

@@ -1,5 +1,5 @@
 -- What `matchit` finds in the router of sound rows is the row whose pattern the path fits.
-use Rattle.std.proofs.Common.{◌≡◌, ℕ, zero, suc, ◌+◌, ◌<◌, ◌≤◌, List, [], ◌∷◌, ◌++◌, length, map, filter, find, Option, None, Some, Result, Ok, Err, Bool, true, false, cond, ◌⊎◌, inl, inr, refl, sym, ap, ◌∙◌, arith, rules, subst, append_assoc}
+use Rattle.std.proofs.Common.{◌≡◌, ℕ, zero, suc, ◌+◌, ◌<◌, ◌≤◌, List, [], ◌∷◌, ◌++◌, length, map, find, Option, None, Some, Result, Ok, Err, Bool, true, false, cond, ◌⊎◌, inl, inr, refl, sym, ap, ◌∙◌, arith, rules, subst, append_assoc}
 use Rattle.std.proofs.lemmas.Bool.{and_parts, and_from, or_cases, or_left, or_right}
 use Rattle.std.proofs.lemmas.Bool.Decides.{nat_tests}
 use Rattle.std.proofs.lemmas.List.{append-nil, length-append}
@@ -87,17 +87,13 @@ module _ {R : Type 0} where
   all_at p f (x ∷ rows) (suc i) row all at = all_at p f rows i row (and_parts (p (f x)) (list_all p (map f rows)) all).1 at
 
   -- tests that agree on each row
-  abbrev pub AllSame : (R → Bool) → (R → Bool) → List R → Type 0
+  abbrev AllSame : (R → Bool) → (R → Bool) → List R → Type 0
   AllSame p q [] = ⊤
   AllSame p q (x ∷ rows) = (p x ≡ q x) × AllSame p q rows
 
-  pub find_same : (p q : R → Bool) (rows : List R) → AllSame p q rows → find p rows ≡ find q rows
+  find_same : (p q : R → Bool) (rows : List R) → AllSame p q rows → find p rows ≡ find q rows
   find_same p q [] same = refl
   find_same p q (x ∷ rows) same = rw (same.0, find_same p q rows same.1) refl
-
-  pub filter_same : (p q : R → Bool) (rows : List R) → AllSame p q rows → filter p rows ≡ filter q rows
-  filter_same p q [] same = refl
-  filter_same p q (x ∷ rows) same = rw (same.0, filter_same p q rows same.1) refl
 
   -- a row behind others, none of which passes
   find_behind : (p : R → Bool) (earlier : List R) (row : R) (rows : List R) → list_any p earlier ≡ false → p row ≡ true → find p (earlier ++ row ∷ rows) ≡ Some row
@@ -123,7 +119,7 @@ module _ {R : Type 0} where
 
 module _ {R : Type 0} (pattern_of : R → List ℕ) where
   -- of rows that are apart, those with one pattern are those that a path fits which fits that pattern
-  pub same_rows : (row : R) (path : List ℕ) (rows : List R) → fits (pattern_of row) path ≡ true → list_all (are_apart (pattern_of row)) (map pattern_of rows) ≡ true
+  same_rows : (row : R) (path : List ℕ) (rows : List R) → fits (pattern_of row) path ≡ true → list_all (are_apart (pattern_of row)) (map pattern_of rows) ≡ true
       → AllSame (λ x. fits (pattern_of x) path) (λ x. bytes_eq (pattern_of x) (pattern_of row)) rows
   same_rows row path [] here apart = tt
   same_rows row path (x ∷ rows) here apart =
@@ -171,16 +167,19 @@ module _ {R : Type 0} (pattern_of : R → List ℕ) where
   entry_of all earlier row rows whole plain new =
       let both = and_parts (nat_le (length (pattern_of row)) 1000) _ plain in
       let read = plain_read (pattern_of row) both.1 (some_segment (pattern_of row)) in
-      let short : length (pattern_of row) ≤ 1000 = let test = both.0 in grind (arith, nat_tests) in
-      (read.0, read.1, record {
-        row = row;
-        at = rw whole (get_behind earlier row rows);
-        first_is = rw whole (find_behind (λ x. bytes_eq (pattern_of x) (pattern_of row)) earlier row rows new (same_bytes (pattern_of row)));
-        tokens_are = read.1.pattern_is;
-        pattern_is = refl;
-        count = read.1.count ∙ ap param_count (sym read.1.pattern_is);
-        short = omega (arith, short, read.1.short);
-      })
+      let short : length (pattern_of row) ≤ 1000 = let test = both.0 in grind (arith, nat_tests) in (
+        read.0,
+        read.1,
+        record {
+          row = row;
+          at = rw whole (get_behind earlier row rows);
+          first_is = rw whole (find_behind (λ x. bytes_eq (pattern_of x) (pattern_of row)) earlier row rows new (same_bytes (pattern_of row)));
+          tokens_are = read.1.pattern_is;
+          pattern_is = refl;
+          count = read.1.count ∙ ap param_count (sym read.1.pattern_is);
+          short = omega (arith, short, read.1.short);
+        },
+      )
 
   -- each route of the router is an entry
   entries : (all earlier rows : List R) (router : RowsOf (RouteOf ℕ)) → all ≡ earlier ++ rows → list_all is_plain (map pattern_of rows) ≡ true → AllRows (IsEntry all) router
@@ -342,34 +341,3 @@ module _ {R : Type 0} (pattern_of : R → List ℕ) where
   none_found rows router path is sound bytes none =
       let P : RowsOf (RouteOf ℕ) → Type 0 = λ router. MatchOption (first router path) (find (λ x. fits (pattern_of x) path) rows ≡ None) (IsFound rows path) in
       MatchOption-at_none _ _ none (subst P (sym is) (look_up rows path sound bytes))
-
-  -- ---- rows with the pattern of the row that was found
-
-  found_passes : (p : R → Bool) (rows : List R) (row : R) → find p rows ≡ Some row → p row ≡ true
-  found_passes p [] row found = absurd (let never : None ≡ Some row = found in search rules)
-  found_passes p (x ∷ rows) row found = by (p x) refl found (found_passes p rows row)
-    where
-      by : (v : Bool) → p x ≡ v → cond v (Some x) (find p rows) ≡ Some row → (find p rows ≡ Some row → p row ≡ true) → p row ≡ true
-      by true e found more =
-          let same : x ≡ row = search rules in
-          rw (← same) e
-      by false e found more = more found
-
-  all_found : (p : R → Bool) (q : List ℕ → Bool) (rows : List R) (row : R) → find p rows ≡ Some row → list_all q (map pattern_of rows) ≡ true → q (pattern_of row) ≡ true
-  all_found p q [] row found all = absurd (let never : None ≡ Some row = found in search rules)
-  all_found p q (x ∷ rows) row found all = by (p x) found (and_parts (q (pattern_of x)) (list_all q (map pattern_of rows)) all) (all_found p q rows row)
-    where
-      by : (v : Bool) → cond v (Some x) (find p rows) ≡ Some row → (q (pattern_of x) ≡ true) × (list_all q (map pattern_of rows) ≡ true)
-          → (find p rows ≡ Some row → list_all q (map pattern_of rows) ≡ true → q (pattern_of row) ≡ true) → q (pattern_of row) ≡ true
-      by true found all more =
-          let same : x ≡ row = search rules in
-          rw (← same) all.0
-      by false found all more = more found all.1
-
-  -- the rows that a path fits are those with the pattern of the row that is found
-  pub same_as_found : (rows : List R) (path : List ℕ) (row : R) → is_sound (map pattern_of rows) ≡ true → find (λ x. fits (pattern_of x) path) rows ≡ Some row
-      → AllSame (λ x. fits (pattern_of x) path) (λ x. bytes_eq (pattern_of x) (pattern_of row)) rows
-  same_as_found rows path row sound found =
-      let both = and_parts (list_all is_plain (map pattern_of rows)) _ sound in
-      let apart = all_found (λ x. fits (pattern_of x) path) (λ a. list_all (are_apart a) (map pattern_of rows)) rows row found both.1 in
-      same_rows row path rows (found_passes (λ x. fits (pattern_of x) path) rows row found) apart

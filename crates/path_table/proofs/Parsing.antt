@@ -231,10 +231,12 @@ pub plain_read : (pattern : List ℕ) → list_all is_plain_segment (segments pa
 plain_read pattern plain some =
     let r = read_segments (segments pattern) [] [] [] 0 false plain some in
     let text : scan scan_start pattern ≡ Ok r.end = ap (scan scan_start) (sym (join_with_byte-slice_split slash pattern)) ∙ r.read in
-    let good : shape_error r.end.pattern ≡ None = rw r.pattern (shape_is_good (tokens (segments pattern)) (tokens_strict (segments pattern) plain)) in
-    (r.end, record {
-      read = rw (text, good) refl;
-      pattern_is = r.pattern;
-      count = r.names ∙ zero-add (param_count (tokens (segments pattern)));
-      short = omega (arith, ap length r.pattern, tokens_short (segments pattern), ap length (join_with_byte-slice_split slash pattern));
-    })
+    let good : shape_error r.end.pattern ≡ None = rw r.pattern (shape_is_good (tokens (segments pattern)) (tokens_strict (segments pattern) plain)) in (
+      r.end,
+      record {
+        read = rw (text, good) refl;
+        pattern_is = r.pattern;
+        count = r.names ∙ zero-add (param_count (tokens (segments pattern)));
+        short = omega (arith, ap length r.pattern, tokens_short (segments pattern), ap length (join_with_byte-slice_split slash pattern));
+      },
+    )

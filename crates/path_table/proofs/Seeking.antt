@@ -443,7 +443,7 @@ module _ {K : Type 0} where
           let short = ap length is in
           let here = rw is at some in
           rw is (again (with_suffix (slash ∷ []) (step param_token rows)) (slash ∷ more) (omega (arith, small, long, short, length-append (part path) (rest path)))
-              (slash_rows (λ t k. is_strict t ≡ true) (step param_token rows) (strict param_token)) (some_slash more (step param_token rows) here go_on))
+          (slash_rows (λ t k. is_strict t ≡ true) (step param_token rows) (strict param_token)) (some_slash more (step param_token rows) here go_on))
 
       by_part_of : (v : Bool) → (b == slash) ≡ v → SomeRow (λ t. is_some_text (cond v [] (b ∷ part path)) && token_fits t (cond v (b ∷ path) (rest path))) (step param_token rows)
           → is_found (behind_part (step param_token rows) (cond v [] (b ∷ part path)) (cond v (b ∷ path) (rest path))) ≡ true

@@ -18,8 +18,7 @@ cut_texts path more is text =
     let byte : get_or path n 0 ≡ slash = ap (λ p. get_or p n 0) whole ∙ get_or_at (part path) slash more 0 n refl in
     let low : get_or path n 0 < 128 = omega (arith, byte) in
     let front = IsUtf8-take path n text (IsCharBoundary-before_ascii path n within low) in
-    let behind = IsUtf8-drop path (n + 1) text (IsCharBoundary-after_ascii path n text within low) in
-    (
+    let behind = IsUtf8-drop path (n + 1) text (IsCharBoundary-after_ascii path n text within low) in (
       subst IsUtf8 (ap (take n) whole ∙ take_at (part path) (slash ∷ more) n refl) front,
       subst IsUtf8 (sym (drop-drop 1 n path) ∙ ap (drop 1) (ap (drop n) whole ∙ drop_at (part path) (slash ∷ more) n refl)) behind,
     )
