@@ -9,3 +9,6 @@ mod table;
 
 pub use parts::Parts;
 pub use table::{Found, PathTable, Row};
+
+#[cfg(test)]
+mod tests;
