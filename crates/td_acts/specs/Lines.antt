@@ -26,7 +26,8 @@ pub record IsLines (lines : List (Line × List ℕ)) : Type 0 where
 -- whether no two lines are on one guarantee
 abbrev pub are_distinct : List (Line × List ℕ) → Bool
 are_distinct [] = true
-are_distinct (line ∷ lines) = list_all (λ later. not (bytes_eq line.0.grn later.0.grn)) lines && are_distinct lines
+are_distinct (line ∷ lines) =
+    list_all (λ later. not (bytes_eq line.0.grn later.0.grn)) lines && are_distinct lines
 
 -- whether lines are those of a declaration
 abbrev pub are_lines : List (Line × List ℕ) → Bool

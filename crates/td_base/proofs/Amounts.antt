@@ -13,8 +13,8 @@ use Rattle.std.proofs.Math.ListN.{get_or-append}
 use Rattle.std.proofs.Math.Seq.{take-append_seam, drop-append-add, get_or-append_seam}
 use Rattle.std.proofs.lemmas.Nat.{mul-le}
 use Rattle.std.proofs.lemmas.Bool.{cases_lt}
-use Rattle.td_base.proofs.Decimals.{ten_power_small}
-use Rattle.td_base.specs.Holder.{digits_value}
+use Rattle.ascii_text.proofs.Decimals.{ten_power_small}
+use Rattle.ascii_text.specs.Digits.{digits_value}
 use Rattle.td_base.specs.Money.{IsWhole, IsCents, IsCentsText, cents_value, cents_text, point_of}
 
 -- digits behind a number make it no smaller than with zeros there

@@ -1,14 +1,12 @@
-pub mod Decided
+pub use Rattle.ascii_text.proofs.Decided
+mod Readers
 mod Filled
 mod Sums
 mod Ascii
-mod Decimals
 mod Amounts
 mod ReferenceParts
 mod Owners
 pub mod Checked
 pub mod MadeReferences
 mod Written
-mod Calendar
-mod DayTexts
 mod Printed

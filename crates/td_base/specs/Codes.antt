@@ -2,7 +2,7 @@
 use Rattle.std.specs.Prelude.{◌≡◌, ◌⊎◌, ℕ, ◌≤◌, Bool, ◌&&◌, ◌||◌, ◌==◌, nat_eq, nat_le, if◌then◌else◌, List, length, take, drop, All, Option, Some, None}
 use Rattle.std.specs.Char.{IsAsciiUppercase, IsAsciiAlphanumeric, is_ascii_uppercase, is_ascii_alphanumeric}
 use Rattle.std.specs.List.{list_all}
-use Rattle.td_base.specs.Letters.{IsMark, is_mark}
+use Rattle.ascii_text.specs.Letters.{IsMark, is_mark}
 
 -- an access code: four digits or capital letters
 pub record IsAccessCode (text : List ℕ) : Type 0 where

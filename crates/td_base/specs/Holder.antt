@@ -1,24 +1,21 @@
 -- Numbers of holders, and their texts.
-use Rattle.std.specs.Prelude.{◌≡◌, ℕ, ◌+◌, ◌-◌, ◌*◌, ◌/◌, ◌%◌, ◌≤◌, Bool, ◌&&◌, nat_eq, nat_le, if◌then◌else◌, List, [], ◌∷◌, length, fold, All, Option, Some, None}
+use Rattle.std.specs.Prelude.{◌≡◌, ℕ, ◌+◌, ◌/◌, ◌%◌, ◌≤◌, Bool, ◌&&◌, nat_eq, nat_le, if◌then◌else◌, List, [], ◌∷◌, length, All, Option, Some, None}
 use Rattle.std.specs.Char.{IsAsciiDigit, is_ascii_digit}
 use Rattle.std.specs.Int.{is_in_range}
 use Rattle.std.specs.List.{list_all}
+use Rattle.ascii_text.specs.Digits.{digits_value}
 
--- a number that a holder may have
+-- a number that a holder may have: it is printed in six digits, and 0 is no holder's
 abbrev pub IsHolderNumber : ℕ → Type 0
 IsHolderNumber n = (1 ≤ n) × (n ≤ 999999)
 
--- whether a number is one
+-- whether a number is that
 abbrev pub is_holder_number : ℕ → Bool
 is_holder_number n = is_in_range 1 999999 n
 
 -- the holder of a number, where it has one
 abbrev pub holder_of : ℕ → Option ℕ
 holder_of n = if is_holder_number n then Some n else None
-
--- the number that a text of digits shows
-abbrev pub digits_value : List ℕ → ℕ
-digits_value text = fold (λ n c. 10 * n + (c - 48)) 0 text
 
 -- six digits, and not all of them 0
 pub record IsHolderText (text : List ℕ) : Type 0 where

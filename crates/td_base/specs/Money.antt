@@ -1,13 +1,13 @@
 -- Amounts in cents, reference amounts and covers.
+use Rattle.ascii_text.specs.Digits.{digits_value}
 use Rattle.std.specs.Prelude.{◌≡◌, ◌⊎◌, ℕ, ◌+◌, ◌-◌, ◌*◌, ◌/◌, ◌%◌, ◌^◌, ◌≤◌, Bool, not, ◌&&◌, ◌||◌, ◌==◌, nat_eq, nat_le, if◌then◌else◌, List, [], ◌∷◌, ◌++◌, length, take, drop, slice_get, Option, Some, None, All}
 use Rattle.std.specs.Char.{IsAsciiDigit, is_ascii_digit}
 use Rattle.std.specs.Fmt.{decimal}
 use Rattle.std.specs.List.{list_all}
 use Rattle.std.specs.Option.{option_eq}
-use Rattle.td_base.specs.Holder.{digits_value}
 
--- An amount in cents. The limit is the desk's own, the Convention has none: a hundred times as much fits in 64 bits, so
--- a share can be taken of every amount.
+-- An amount in cents. The limit is the desk's own: a hundred times as much fits in 64 bits, so a
+-- share can be taken of every amount.
 abbrev pub IsCents : ℕ → Type 0
 IsCents n = n ≤ 10 ^ 15
 

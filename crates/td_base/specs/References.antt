@@ -4,11 +4,11 @@ use Rattle.std.specs.Char.{IsAsciiDigit, IsAsciiUppercase, is_ascii_digit, is_as
 use Rattle.std.specs.List.{list_all}
 use Rattle.std.specs.Option.{option_eq}
 use Rattle.std.specs.Str.{bytes_eq, all_ascii_digits}
+use Rattle.ascii_text.specs.Digits.{digits_value, fixed_decimal}
+use Rattle.ascii_text.specs.Letters.{IsMark, is_mark}
 use Rattle.td_base.specs.CheckDigit.{check_of}
 use Rattle.td_base.specs.Country.{IsCountry}
-use Rattle.td_base.specs.Digits.{fixed_decimal}
-use Rattle.td_base.specs.Holder.{IsHolderNumber, digits_value}
-use Rattle.td_base.specs.Letters.{IsMark, is_mark}
+use Rattle.td_base.specs.Holder.{IsHolderNumber}
 use Rattle.td_base.specs.declared.references.RefFault.{RefFault}
 use Rattle.td_base.specs.declared.references.RefFault.TheVariants.{Length, Form, CheckDigit}
 
@@ -43,7 +43,8 @@ HasCheckDigit text = slice_get text (length text - 1) ≡ Some (48 + check_of (f
 
 -- whether it is
 abbrev pub has_check_digit : List ℕ → Bool
-has_check_digit text = option_eq nat_eq (slice_get text (length text - 1)) (Some (48 + check_of (front_of text)))
+has_check_digit text =
+    option_eq nat_eq (slice_get text (length text - 1)) (Some (48 + check_of (front_of text)))
 
 -- a reference of so many characters
 pub record IsReferenceText (places : ℕ) (text : List ℕ) : Type 0 where
@@ -140,11 +141,11 @@ abbrev pub mrn_text : ℕ → List ℕ → ℕ → ℕ → List ℕ
 mrn_text year country holder serial =
     reference_text year country (fixed_decimal 6 holder ++ fixed_decimal 7 serial)
 
--- the serials of guarantees
+-- the serials of guarantees: a GRN has six digits for them
 abbrev pub IsGrnSerial : ℕ → Type 0
 IsGrnSerial serial = (1 ≤ serial) × (serial ≤ 999999)
 
--- the serials of movements
+-- the serials of movements: an MRN has seven digits for them
 abbrev pub IsMrnSerial : ℕ → Type 0
 IsMrnSerial serial = (1 ≤ serial) × (serial ≤ 9999999)
 

@@ -2,7 +2,7 @@
 ghost use Rattle.std.specs.Prelude.{◌≡◌, ℕ, List, Some, SomeIff};
 ghost use Rattle.td_base.specs.Codes.{IsAccessCode, code_read};
 
-use crate::text::{is_marks, write_ascii};
+use ascii_text::{is_marks, write_ascii};
 use std::fmt;
 use std::marker::Model;
 

@@ -2,7 +2,7 @@
 ghost use Rattle.std.specs.Prelude.{◌≡◌, ◌↔◌, IsTrue, Some, SomeIff};
 ghost use Rattle.td_base.specs.Eori.{IsEori, is_eori, eori_read};
 
-use crate::text::{is_capitals, is_marks, write_ascii};
+use ascii_text::{is_capitals, is_marks, write_ascii};
 use std::fmt;
 use std::marker::Model;
 

@@ -1,9 +1,9 @@
 //! Numbers of holders.
 ghost use Rattle.std.specs.Prelude.{◌≡◌, ℕ, Some, SomeIff};
-ghost use Rattle.td_base.specs.Holder.{IsHolderNumber, IsHolderText, digits_value, holder_of, holder_read, holder_text};
+ghost use Rattle.ascii_text.specs.Digits.{digits_value};
+ghost use Rattle.td_base.specs.Holder.{IsHolderNumber, IsHolderText, holder_of, holder_read, holder_text};
 
-use crate::digits::{last_digit, read_digits};
-use crate::text::write_ascii;
+use ascii_text::{last_digit, read_digits, write_ascii};
 use std::fmt;
 use std::marker::Model;
 

@@ -1,9 +1,10 @@
 //! What holds of all texts that are printed.
+ghost use Rattle.ascii_text.specs.Digits.{digits_value};
 ghost use Rattle.td_base.specs.Codes.{IsAccessCode, IsLrn, IsOfficeNo};
 ghost use Rattle.td_base.specs.Country.{IsCountry};
 ghost use Rattle.std.specs.Prelude.{◌≡◌};
-ghost use Rattle.td_base.specs.Holder.{IsHolderText, digits_value, holder_text};
-ghost use Rattle.td_base.specs.Days.{IsDayText, day_text, number_in};
+ghost use Rattle.td_time.specs.Days.{IsDayText, day_text, number_in};
+ghost use Rattle.td_base.specs.Holder.{IsHolderText, holder_text};
 ghost use Rattle.td_base.specs.Money.{IsCentsText, cents_text, cents_value};
 ghost use Rattle.td_base.specs.Eori.{IsEori};
 ghost use Rattle.td_base.specs.References.{IsGrn, IsMrn};

@@ -1,38 +1,33 @@
-//! The vocabulary of the desk: holders, references and check digits, money, days and codes. It hands on the readers and
-//! writers that are counted.
+//! The vocabulary of the desk: holders, references and check digits, money and codes. It hands on
+//! the days and moments, and the readers and writers that are counted.
 #![tactic(auto)]
 
 mod access_code;
 mod checking;
 mod country;
-mod day;
-mod digits;
 mod eori;
 mod grn;
 mod holder;
 mod laws;
 mod lrn;
-mod moment;
 mod money;
 mod mrn;
 mod office;
 mod references;
 #[cfg(test)]
 mod tests;
-mod text;
 
 pub use access_code::AccessCode;
 pub use checking::{check_digit, letter_values_skip_elevens};
 pub use counted_io::{Counted, write_whole};
 pub use country::Country;
-pub use day::{Day, day_reads_back, days_begin_and_end};
 pub use eori::Eori;
 pub use grn::{Grn, made_grn_reads_back};
 pub use holder::{HolderNo, holder_reads_back};
 pub use laws::{read_texts_are_printed, texts_read_back};
 pub use lrn::Lrn;
-pub use moment::{ClockRange, Moment};
 pub use money::{Cents, Cover, Reference, cents_read_back};
 pub use mrn::{Mrn, made_mrn_reads_back};
 pub use office::OfficeNo;
 pub use references::{RefFault, made_references_differ};
+pub use td_time::{ClockRange, Day, Moment, day_reads_back, days_begin_and_end};

@@ -3,7 +3,7 @@ ghost use Rattle.std.specs.Prelude.{◌≡◌, ◌↔◌, IsTrue, Some, SomeIff,
 ghost use Rattle.std.specs.List.{list_all};
 ghost use Rattle.td_base.specs.Codes.{IsLrn, IsLrnCharacter, is_lrn, is_lrn_character, lrn_read};
 
-use crate::text::write_ascii;
+use ascii_text::write_ascii;
 use std::fmt;
 use std::marker::Model;
 

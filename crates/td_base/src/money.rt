@@ -2,8 +2,7 @@
 ghost use Rattle.std.specs.Prelude.{◌≡◌, ℕ, ◌+◌, ◌*◌, ◌<◌, ◌≤◌, ◌↔◌, IsTrue, Some, SomeIff};
 ghost use Rattle.td_base.specs.Money.{IsCents, IsReference, IsCover, IsWhole, IsCentsText, is_whole, share_of, cents_of, cents_read, cents_value, cents_text, cover_of, reference_of};
 
-use crate::digits::{last_digit, read_digits};
-use crate::text::is_digits;
+use ascii_text::{is_digits, last_digit, read_digits};
 use std::fmt;
 use std::marker::Model;
 

@@ -5,7 +5,7 @@ ghost use Rattle.td_base.specs.References.{IsMrn, IsMrnSerial, IsFirstFault, own
 use crate::country::Country;
 use crate::holder::HolderNo;
 use crate::references::{RefFault, make_reference, owner_of, read_reference, serial_of};
-use crate::text::write_ascii;
+use ascii_text::write_ascii;
 use std::fmt;
 use std::marker::Model;
 

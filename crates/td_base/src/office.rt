@@ -2,7 +2,7 @@
 ghost use Rattle.std.specs.Prelude.{◌≡◌, ℕ, List, ◌↔◌, IsTrue, Some, SomeIff};
 ghost use Rattle.td_base.specs.Codes.{IsOfficeNo, is_office_no, office_read};
 
-use crate::text::{is_capitals, is_marks, write_ascii};
+use ascii_text::{is_capitals, is_marks, write_ascii};
 use std::fmt;
 use std::marker::Model;
 

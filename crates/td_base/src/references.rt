@@ -1,15 +1,14 @@
 //! References: what prints, owns and numbers them. The texts of MRN and GRN differ in their length alone.
 ghost use Rattle.std.specs.Prelude.{◌≡◌, ◌+◌, ◌-◌, ◌≤◌, ◌++◌, length, IsTrue, ◌↔◌, Some, SomeIff, IfSome, OkIff, IfErr};
+ghost use Rattle.ascii_text.specs.Digits.{fixed_decimal};
 ghost use Rattle.td_base.specs.Country.{IsCountry};
-ghost use Rattle.td_base.specs.Digits.{fixed_decimal};
 ghost use Rattle.td_base.specs.References.{fault_text, IsReferenceText, IsFirstFault, HasForm, has_form, reference_read, owner_of as owner_in, serial_of as serial_in};
 ghost use Rattle.td_base.specs.References.{reference_text, grn_text, mrn_text, IsGrnSerial, IsMrnSerial, TellsApart};
 
 use crate::checking::check_digit;
 use crate::country::Country;
-use crate::digits::{read_digits, write_digits};
 use crate::holder::HolderNo;
-use crate::text::{is_capitals, is_digits, is_marks};
+use ascii_text::{is_capitals, is_digits, is_marks, read_digits, write_digits};
 use std::error::Error;
 use std::fmt;
 
@@ -38,7 +37,8 @@ impl fmt::Display for RefFault {
 
 impl Error for RefFault {}
 
-/// Reads a reference of `N` characters. Tests the length, then each place, then the check digit.
+/// Reads a reference of `N` characters, or tells the first fault: the length is tested, then each
+/// place, then the check digit.
 pub fn read_reference<const N: usize>(text: &[u8]) -> Result<[u8; N], RefFault>
     requires { (5 ≤ N) × (N ≤ 41) }
     ensures value { result ≡ reference_read N text.now }
@@ -97,8 +97,8 @@ pub fn serial_of(text: &[u8], country: Country) -> Option<u32>
     Some(serial as u32)
 }
 
-/// A reference of `N` characters: year, country, holder and serial in digits, and the check digit. `None` for a year
-/// above 99, and for a serial of 0 or above the greatest.
+/// A reference of `N` characters: year, country, holder and serial in digits, and the check digit.
+/// `None` for a year above 99, and for a serial of 0 or above the greatest.
 pub fn make_reference<const N: usize>(
     year2: u8,
     country: Country,

@@ -15,14 +15,14 @@ pub record Shows {C : Type 0} (ticks : C → ℤ → C → Type 0) (moments : Un
   pub first : keeps clock
   pub each : (old : C) (at : ℤ) (new : C) → keeps old → ticks old at new → moments tt at tt × keeps new
 
-chain_by : {C H : Type 0} (ticks : C → ℤ → C → Type 0) (moments : Unit {0} → ℤ → Unit {0} → Type 0) (answers : H → ℤ → request.Asked → Reply → H → Type 0)
+chain_by : {C H : Type 0} (ticks : C → ℤ → C → Type 0) (moments : Unit {0} → ℤ → Unit {0} → Type 0) (handles : H → ℤ → request.Asked → Reply → H → Type 0)
     (keeps : C → Type 0) → ((old : C) (at : ℤ) (new : C) → keeps old → ticks old at new → moments tt at tt × keeps new)
-    → (before : ℕ) (old new : C × H) (es : List Exchange) → keeps old.0 → Chain ticks answers before old es new
-    → Chain moments answers before (tt, old.1) es (tt, new.1)
-chain_by ticks moments answers keeps each before old new [] kept chain = λ i. (tt, (chain i).1)
-chain_by ticks moments answers keeps each before old new (e ∷ es) kept chain =
+    → (before : ℕ) (old new : C × H) (es : List Exchange) → keeps old.0 → Chain ticks handles before old es new
+    → Chain moments handles before (tt, old.1) es (tt, new.1)
+chain_by ticks moments handles keeps each before old new [] kept chain = λ i. (tt, (chain i).1)
+chain_by ticks moments handles keeps each before old new (e ∷ es) kept chain =
     let tick = each old.0 e.at chain.0 kept chain.2 in
-    (tt, chain.1, tick.0, chain.3, chain_by ticks moments answers keeps each (before + 1) (chain.0, chain.1) new es tick.1 chain.4)
+    (tt, chain.1, tick.0, chain.3, chain_by ticks moments handles keeps each (before + 1) (chain.0, chain.1) new es tick.1 chain.4)
 
 -- no way to end speaks of the clock
 ends_by : {R W C H : Type 0} (remaining : R → Option (List ℕ)) (reader reader_left : Counted R) (writer writer_left : Counted W) (clock clock_left : C)
@@ -42,19 +42,19 @@ ends_by remaining reader reader_left writer writer_left clock clock_left handler
 ends_by remaining reader reader_left writer writer_left clock clock_left handler handler_left run WriteFault is = is
 
 serves_by : {R W C H : Type 0} (remaining : R → Option (List ℕ)) (contents : W → Option (List ℕ)) (ticks : C → ℤ → C → Type 0)
-    (moments : Unit {0} → ℤ → Unit {0} → Type 0) (answers : H → ℤ → request.Asked → Reply → H → Type 0) (heads : H → List ℕ → Reply → H → Type 0)
+    (moments : Unit {0} → ℤ → Unit {0} → Type 0) (handles : H → ℤ → request.Asked → Reply → H → Type 0) (heads : H → List ℕ → Reply → H → Type 0)
     (reader reader_left : Counted R) (writer writer_left : Counted W) (clock clock_left : C) (handler handler_left : H) → Shows ticks moments clock → (end : StreamEnd)
-    → Serves remaining contents ticks answers heads (record { reader = reader; writer = writer; clock = clock; handler = handler })
+    → Serves remaining contents ticks handles heads (record { reader = reader; writer = writer; clock = clock; handler = handler })
     (record { reader = reader_left; writer = writer_left; clock = clock_left; handler = handler_left }) end
-    → Serves remaining contents moments answers heads (record { reader = reader; writer = writer; clock = tt {0}; handler = handler })
+    → Serves remaining contents moments handles heads (record { reader = reader; writer = writer; clock = tt {0}; handler = handler })
     (record { reader = reader_left; writer = writer_left; clock = tt {0}; handler = handler_left }) end
-serves_by remaining contents ticks moments answers heads reader reader_left writer writer_left clock clock_left handler handler_left shows end served =
+serves_by remaining contents ticks moments handles heads reader reader_left writer writer_left clock clock_left handler handler_left shows end served =
     record {
       run = served.run;
       consumed = served.consumed;
       reading = served.reading;
       at_most = served.at_most;
-      chain = chain_by ticks moments answers shows.keeps shows.each 0 (clock, handler) (clock_left, served.run.handler) served.run.exchanges shows.first served.chain;
+      chain = chain_by ticks moments handles shows.keeps shows.each 0 (clock, handler) (clock_left, served.run.handler) served.run.exchanges shows.first served.chain;
       parting = served.parting;
       appended = served.appended;
       whole = served.whole;

@@ -3,21 +3,21 @@ use Rattle.std.specs.Prelude.{◌≡◌, ◌≢◌, ◌⊎◌, ℕ, ℤ, List, c
 use Rattle.std.specs.IoError.{error_kind}
 use Rattle.std.specs.declared.io.Error.{Error}
 use Rattle.std.specs.declared.io.ErrorKind.TheVariants.{OutOfMemory}
-use Rattle.td_base.specs.declared.counted.Counted.{Counted}
+use Rattle.counted_io.specs.declared.counted.Counted.{Counted}
 use Rattle.td_cli.specs.declared.words.NoJob.{NoJob}
 use Rattle.td_cli.specs.Piped.{IsDone}
-use Rattle.td_cli.specs.Statuses.{status_of_end, line_of_end, IsTold, IsAnswered}
+use Rattle.td_cli.specs.Statuses.{status_of_end, message_of_end, IsTold, IsAnswered}
 use Rattle.td_cli.specs.Words.{AsksFor}
 use Rattle.td_wire.specs.declared.stream.StreamEnd.{StreamEnd}
 
--- The words ask for a job, which was done at that country and moment, and its end has its status and its line; or they
+-- The words ask for a job, which was done at that country and moment, and its end has its status and its message; or they
 -- ask for none: then nothing was read, and they were answered.
 abbrev pub IsPerformed : {R W E : Type 0} → (R → Option (List ℕ)) → (W → Option (List ℕ)) → (E → Option (List ℕ)) → List (List ℕ)
     → Counted R → Counted R → Counted W → Counted W → Counted E → Counted E → ℕ → Type 0
 IsPerformed remaining contents said words reader reader_left writer writer_left errors errors_left status =
     ((country : List ℕ) × (at : Option ℤ) × (end : Option StreamEnd) × AsksFor words country at
     × IsDone remaining contents country at reader reader_left writer writer_left end
-    × (status ≡ status_of_end end) × IsTold said errors errors_left (line_of_end end))
+    × (status ≡ status_of_end end) × IsTold said errors errors_left (message_of_end end))
     ⊎ ((no_job : NoJob) × (reader_left ≡ reader)
     × IsAnswered contents said writer writer_left errors errors_left no_job status)
 

@@ -23,18 +23,18 @@ status_of_end (Some WriteFault) = 1
 status_of_end (Some Failed) = 1
 status_of_end None = 1
 
--- the line on standard error, and none where the status is 0
-abbrev pub line_of_end : Option StreamEnd → List ℕ
-line_of_end (Some Closed) = []
-line_of_end (Some Asked) = []
-line_of_end (Some Served) = []
-line_of_end (Some Refused) = codes "transit-desk: stream refused\n"
-line_of_end (Some Cut) = codes "transit-desk: stream cut\n"
-line_of_end (Some ReadsSpent) = codes "transit-desk: stream reads-spent\n"
-line_of_end (Some ReadFault) = codes "transit-desk: stream read-fault\n"
-line_of_end (Some WriteFault) = codes "transit-desk: stream write-fault\n"
-line_of_end (Some Failed) = codes "transit-desk: stream failed\n"
-line_of_end None = codes "transit-desk: no-memory\n"
+-- the message on standard error, one line, and none where the status is 0
+abbrev pub message_of_end : Option StreamEnd → List ℕ
+message_of_end (Some Closed) = []
+message_of_end (Some Asked) = []
+message_of_end (Some Served) = []
+message_of_end (Some Refused) = codes "transit-desk: stream refused\n"
+message_of_end (Some Cut) = codes "transit-desk: stream cut\n"
+message_of_end (Some ReadsSpent) = codes "transit-desk: stream reads-spent\n"
+message_of_end (Some ReadFault) = codes "transit-desk: stream read-fault\n"
+message_of_end (Some WriteFault) = codes "transit-desk: stream write-fault\n"
+message_of_end (Some Failed) = codes "transit-desk: stream failed\n"
+message_of_end None = codes "transit-desk: no-memory\n"
 
 -- the text was written, or as much of it as the writer took
 abbrev pub IsTold : {W : Type 0} → (W → Option (List ℕ)) → Counted W → Counted W → List ℕ → Type 0

@@ -2,7 +2,7 @@
 ghost use Rattle.std.specs.Prelude.{◌≡◌, map, string_bytes};
 ghost use Rattle.td_cli.specs.Performed.{IsPerformed, IsUnread};
 ghost use Rattle.td_cli.specs.Piped.{PipesAs, IsDone};
-ghost use Rattle.td_cli.specs.Statuses.{status_of_end, line_of_end, IsTold, IsAnswered};
+ghost use Rattle.td_cli.specs.Statuses.{status_of_end, message_of_end, IsTold, IsAnswered};
 
 use crate::clock::{FixedClock, MachineClock};
 use crate::words::{NoJob, read_words};
@@ -21,7 +21,7 @@ const FAULT: u8 = 1;
 const WRONG_WORDS: u8 = 2;
 
 /// Does what the words ask for, and gives the program's status. The first word is the program's name; replies go to `out`, and the
-/// text of wrong words, or one line for a fault, to `errors`. A text that can't be written is dropped. The input is read by a job alone.
+/// text of wrong words, or one message for a fault, to `errors`. A text that can't be written is dropped. The input is read by a job alone.
 pub fn perform<R: Read, W: Write, E: Write>(
     rt: &(impl AllocGlobal + std::rt::Clock),
     words: &[String],
@@ -34,16 +34,16 @@ pub fn perform<R: Read, W: Write, E: Write>(
 {
     match read_words(rt.alloc(), words) {
         Ok(job) => {
-            let end = done(rt, job.country, job.at, input, out);
+            let end = do_job(rt, job.country, job.at, input, out);
             status_of(end, errors)
         }
-        Err(no_job) => told(&no_job, out, errors),
+        Err(no_job) => tell(&no_job, out, errors),
     }
 }
 
 // Does a job of this country, at this moment or by the machine's clock, and answers how its stream ended. `None`: there was no memory
 // for the desk.
-fn done<R: Read, W: Write>(
+fn do_job<R: Read, W: Write>(
     rt: &(impl AllocGlobal + std::rt::Clock),
     country: Country,
     at: Option<i64>,
@@ -59,7 +59,7 @@ fn done<R: Read, W: Write>(
 }
 
 // Says why the words ask for no job, and gives the status of it. Help that was asked for goes to `out`.
-fn told<W: Write, E: Write>(no_job: &NoJob, out: &mut Counted<W>, errors: &mut Counted<E>) -> u8
+fn tell<W: Write, E: Write>(no_job: &NoJob, out: &mut Counted<W>, errors: &mut Counted<E>) -> u8
     ensures { IsAnswered W.contents E.contents out.old out.new errors.old errors.new no_job.now result }
 {
     match no_job {
@@ -94,11 +94,11 @@ pub(crate) fn unread_words<E: Write>(error: &io::Error, errors: &mut Counted<E>)
 }
 
 // Says a fault, and gives its status.
-fn fault<E: Write>(errors: &mut Counted<E>, line: &str) -> u8
+fn fault<E: Write>(errors: &mut Counted<E>, message: &str) -> u8
     ensures status { result ≡ 1 }
-    ensures line { IsTold E.contents errors.old errors.new line.now }
+    ensures message { IsTold E.contents errors.old errors.new message.now }
 {
-    let _said = write_whole(errors, line.as_bytes());
+    let _said = write_whole(errors, message.as_bytes());
     FAULT
 }
 
@@ -122,7 +122,7 @@ fn pipe<R: Read, W: Write, C: Clock + Drop>(
 // The status where a stream ended so, or where there was no memory for the desk; a fault is said.
 fn status_of<E: Write>(end: Option<StreamEnd>, errors: &mut Counted<E>) -> u8
     ensures status { result ≡ status_of_end end }
-    ensures line { IsTold E.contents errors.old errors.new (line_of_end end) }
+    ensures message { IsTold E.contents errors.old errors.new (message_of_end end) }
 {
     match end {
         Some(end) => status_of_stream(end, errors),
@@ -133,7 +133,7 @@ fn status_of<E: Write>(end: Option<StreamEnd>, errors: &mut Counted<E>) -> u8
 // The same for a stream.
 fn status_of_stream<E: Write>(end: StreamEnd, errors: &mut Counted<E>) -> u8
     ensures status { result ≡ status_of_end (Some end) }
-    ensures line { IsTold E.contents errors.old errors.new (line_of_end (Some end)) }
+    ensures message { IsTold E.contents errors.old errors.new (message_of_end (Some end)) }
 {
     match end {
         StreamEnd::Closed | StreamEnd::Asked | StreamEnd::Served => DONE,

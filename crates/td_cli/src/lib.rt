@@ -4,11 +4,12 @@
 
 mod clock;
 mod jobs;
+mod laws;
 mod program;
 #[cfg(test)]
 mod tests;
 mod words;
 
-pub use clock::{FixedClock, MachineClock};
 pub use jobs::perform;
+pub use laws::agreeing_jobs_tell_the_same;
 pub use program::{run_program, words_of};

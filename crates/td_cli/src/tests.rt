@@ -4,6 +4,7 @@ mod devices;
 mod exchanges;
 mod first_requests;
 mod heads;
+mod laws;
 mod machine_clock;
 mod many_declarations;
 mod many_holders;
@@ -44,7 +45,7 @@ struct Due<'a> {
 }
 
 impl<'a> Due<'a> {
-    /// Of a job that is done: these replies, and no line.
+    /// Of a job that is done: these replies, and no message.
     fn replies(out: &'a [u8]) -> Due<'a> {
         Due {
             status: 0,
@@ -101,7 +102,7 @@ fn assert_status(rt: &impl Abort, done: &Done, status: u8) {
     assert_eq!(rt; done.status, status);
 }
 
-/// The job ended with this status, and said this line.
+/// The job ended with this status, and said this message.
 fn assert_ended(rt: &impl Abort, done: &Done, status: u8, errors: &[u8]) -> Result<(), Fail> {
     assert_status(rt, done, status);
     assert_text(rt, &done.errors, errors)

@@ -25,6 +25,8 @@ impl Model for Codes {
 }
 
 impl Codes {
+    ghost use Rattle.td_guarantee.specs.Codes.{AreAscending};
+
     /// One code alone. `AllocError`: want of memory.
     pub fn one(alloc: Global, code: AccessCode) -> Result<Self, AllocError>
         ensures { IfOk result (λ codes. codes ≡ code ∷ []) }
@@ -42,7 +44,8 @@ impl Codes {
 
     /// The codes, in order.
     pub fn as_slice(&self) -> &[AccessCode]
-        ensures { result.now ≡ self.now }
+        ensures value { result.now ≡ self.now }
+        ensures ascending { AreAscending result.now }
     {
         self.items.as_slice()
     }

@@ -14,15 +14,15 @@ use Rattle.td_wire.specs.declared.reply.Reply.{Reply}
 use Rattle.td_wire.specs.declared.reply.Reply.TheVariants.{Made, NoMemory, Store}
 use Rattle.td_answers.specs.Answers.{said_reply}
 use Rattle.td_wire.specs.Request.{Asked}
-use Rattle.td_wire.specs.ReplyText.{reply_bytes, is_made}
+use Rattle.td_wire.specs.ReplyText.{bytes_of, is_made}
 use Rattle.td_wire.specs.Stream.{Exchange, question}
 use Rattle.td_http.specs.declared.service.Service.{Service}
 use Rattle.td_http.specs.Served.{desk_of, IsPrivate}
-use Rattle.td_http.specs.Serving.{Request, command_in, heard_by, heard_in, told_by, told_in, machine_replies, fixed_reply, IsServed, IsServedAlone}
+use Rattle.td_http.specs.Serving.{Demand, command_in, heard_by, heard_in, told_by, told_in, machine_replies, fixed_reply, IsServed, IsServedAlone}
 use Rattle.td_http.specs.Laws.{asked_by, asked_in, replies_by, replies_in, fault_told, TellAlike, IsDeskOf, IsRequestAt}
 
 -- the requests that did not fail
-abbrev still : List Request → List Bool → List Request
+abbrev still : List Demand → List Bool → List Demand
 still [] made = []
 still (r ∷ rs) [] = []
 still (r ∷ rs) (true ∷ made) = r ∷ still rs made
@@ -33,7 +33,7 @@ abbrev filled : List (Option Fault) → List (List ℕ) → List (List ℕ)
 filled [] told = []
 filled (None ∷ faults) [] = []
 filled (None ∷ faults) (bytes ∷ told) = bytes ∷ filled faults told
-filled (Some f ∷ faults) told = reply_bytes (fixed_reply f) ∷ filled faults told
+filled (Some f ∷ faults) told = bytes_of (fixed_reply f) ∷ filled faults told
 
 abbrev is_none : Option Fault → Bool
 is_none None = true
@@ -49,9 +49,9 @@ flags_are [] = refl
 flags_are (reply ∷ replies) = rw (made_is reply, flags_are replies) refl
 
 -- one exchange
-still_first : (b : Bool) (r : Request) (reply : Reply) (later heard : List Request) (replies : List Reply) → heard ≡ still later (map is_made replies)
+still_first : (b : Bool) (r : Demand) (reply : Reply) (later heard : List Demand) (replies : List Reply) → heard ≡ still later (map is_made replies)
     → (if is_made reply then (if b then r ∷ [] else []) else []) ++ heard ≡ still ((if b then r ∷ [] else []) ++ later) (map is_made ((if b then reply ∷ [] else []) ++ replies))
-still_first true r (Made bytes) later heard replies same = ap (λ (rs : List Request). r ∷ rs) same
+still_first true r (Made bytes) later heard replies same = ap (λ (rs : List Demand). r ∷ rs) same
 still_first true r NoMemory later heard replies same = same
 still_first true r Store later heard replies same = same
 still_first false r (Made bytes) later heard replies same = same
@@ -63,7 +63,7 @@ heard_split : (country : List ℕ) (H : ℕ) (command : Command) (at : ℤ) (clo
 heard_split country H command at close true = refl
 heard_split country H command at close false = refl
 
-still_by : (country : List ℕ) (H : ℕ) (asked : Result Command WebFault) (at : ℤ) (close : Bool) (reply : Reply) (later heard : List Request) (replies : List Reply)
+still_by : (country : List ℕ) (H : ℕ) (asked : Result Command WebFault) (at : ℤ) (close : Bool) (reply : Reply) (later heard : List Demand) (replies : List Reply)
     → heard ≡ still later (map is_made replies)
     → heard_by country H asked at close (is_made reply) ++ heard ≡ still (asked_by country H asked at close ++ later) (map is_made (replies_by country H asked reply ++ replies))
 still_by country H (Ok command) at close reply later heard replies same =
@@ -77,11 +77,11 @@ heard_are country H before (e ∷ es) =
     still_by country H (command_in (question before e.wire)) e.at (question before e.wire).close e.reply (asked_in country H (before + 1) es) (heard_in country H (before + 1) es) (replies_in country H (before + 1) es)
     (heard_are country H (before + 1) es)
 
-filled_first : (b : Bool) (reply : Reply) (told : List (List ℕ)) (replies : List Reply) → map reply_bytes replies ≡ filled (map fault_told replies) told
-    → map reply_bytes ((if b then reply ∷ [] else []) ++ replies) ≡ filled (map fault_told ((if b then reply ∷ [] else []) ++ replies)) ((if is_made reply then (if b then reply_bytes reply ∷ [] else []) else []) ++ told)
+filled_first : (b : Bool) (reply : Reply) (told : List (List ℕ)) (replies : List Reply) → map bytes_of replies ≡ filled (map fault_told replies) told
+    → map bytes_of ((if b then reply ∷ [] else []) ++ replies) ≡ filled (map fault_told ((if b then reply ∷ [] else []) ++ replies)) ((if is_made reply then (if b then bytes_of reply ∷ [] else []) else []) ++ told)
 filled_first true (Made bytes) told replies same = ap (λ (texts : List (List ℕ)). bytes.items ∷ texts) same
-filled_first true NoMemory told replies same = ap (λ (texts : List (List ℕ)). reply_bytes NoMemory ∷ texts) same
-filled_first true Store told replies same = ap (λ (texts : List (List ℕ)). reply_bytes Store ∷ texts) same
+filled_first true NoMemory told replies same = ap (λ (texts : List (List ℕ)). bytes_of NoMemory ∷ texts) same
+filled_first true Store told replies same = ap (λ (texts : List (List ℕ)). bytes_of Store ∷ texts) same
 filled_first false (Made bytes) told replies same = same
 filled_first false NoMemory told replies same = same
 filled_first false Store told replies same = same
@@ -92,15 +92,15 @@ told_split country H command bytes true = refl
 told_split country H command bytes false = refl
 
 filled_by : (country : List ℕ) (H : ℕ) (asked : Result Command WebFault) (reply : Reply) (told : List (List ℕ)) (replies : List Reply)
-    → map reply_bytes replies ≡ filled (map fault_told replies) told
-    → map reply_bytes (replies_by country H asked reply ++ replies) ≡ filled (map fault_told (replies_by country H asked reply ++ replies)) (told_by country H asked (reply_bytes reply) (is_made reply) ++ told)
+    → map bytes_of replies ≡ filled (map fault_told replies) told
+    → map bytes_of (replies_by country H asked reply ++ replies) ≡ filled (map fault_told (replies_by country H asked reply ++ replies)) (told_by country H asked (bytes_of reply) (is_made reply) ++ told)
 filled_by country H (Ok command) reply told replies same =
-    rw (told_split country H command (reply_bytes reply) (is_made reply)) (filled_first (is_holder H (owner_of country command)) reply told replies same)
+    rw (told_split country H command (bytes_of reply) (is_made reply)) (filled_first (is_holder H (owner_of country command)) reply told replies same)
 filled_by country H (Err why) reply told replies same = same
 
 -- the bytes of all replies
 bytes_are : (country : List ℕ) (H before : ℕ) (es : List Exchange)
-    → map reply_bytes (replies_in country H before es) ≡ filled (map fault_told (replies_in country H before es)) (told_in country H before es)
+    → map bytes_of (replies_in country H before es) ≡ filled (map fault_told (replies_in country H before es)) (told_in country H before es)
 bytes_are country H before [] = refl
 bytes_are country H before (e ∷ es) =
     filled_by country H (command_in (question before e.wire)) e.reply (told_in country H (before + 1) es) (replies_in country H (before + 1) es) (bytes_are country H (before + 1) es)
@@ -109,8 +109,8 @@ bytes_are country H before (e ∷ es) =
 pub tell_alike : (country : List ℕ) (H : ℕ) (books others : ℕ → Book) (es fs : List Exchange) (new other_new : Content)
     → IsServed country books 0 es new → IsServed country others 0 fs other_new → books H ≡ others H → TellAlike country H es fs
 tell_alike country H books others es fs new other_new one other same = record {
-  all = λ agree alike. bytes_are country H 0 es ∙ (rw (alike, told_if agree (flags alike)) refl) ∙ sym (bytes_are country H 0 fs);
-  answered = told_if;
+  replies = λ agree alike. bytes_are country H 0 es ∙ (rw (alike, told_if agree (flags alike)) refl) ∙ sym (bytes_are country H 0 fs);
+  told = told_if;
   heard = told_as;
 }
   where
@@ -151,9 +151,9 @@ served_alone_at content is_clean is_live country books old new at asked reply re
     (served.0, subst (λ (c : List ℕ). IsServedAlone c books at asked reply served.0) request.desk.country_is served.1)
 
 pub reply_alike : (country : List ℕ) (H : ℕ) (book : Book) (command : Command) (at : ℤ) (close : Bool) (reply other : Reply) → owner_of country command ≡ Some H → fault_told reply ≡ fault_told other
-    → told_by country H (Ok command) (reply_bytes reply) (is_made reply) ≡ machine_replies H book (heard_by country H (Ok command) at close (is_made reply))
-    → told_by country H (Ok command) (reply_bytes other) (is_made other) ≡ machine_replies H book (heard_by country H (Ok command) at close (is_made other))
-    → reply_bytes reply ≡ reply_bytes other
+    → told_by country H (Ok command) (bytes_of reply) (is_made reply) ≡ machine_replies H book (heard_by country H (Ok command) at close (is_made reply))
+    → told_by country H (Ok command) (bytes_of other) (is_made other) ≡ machine_replies H book (heard_by country H (Ok command) at close (is_made other))
+    → bytes_of reply ≡ bytes_of other
 reply_alike country H book command at close (Made bytes) (Made others) own alike told other_told =
     told_alone country H book command at close bytes.items own told ∙ sym (told_alone country H book command at close others.items own other_told)
 reply_alike country H book command at close NoMemory NoMemory own alike told other_told = refl

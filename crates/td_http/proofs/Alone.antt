@@ -16,7 +16,7 @@ use Rattle.td_desk.proofs.Turns.{run_more}
 use Rattle.td_routes.specs.declared.fault.WebFault.{WebFault}
 use Rattle.td_wire.specs.declared.reply.Reply.{Reply}
 use Rattle.td_wire.specs.Request.{Asked}
-use Rattle.td_wire.specs.ReplyText.{reply_bytes, is_made}
+use Rattle.td_wire.specs.ReplyText.{bytes_of, is_made}
 use Rattle.td_answers.specs.Answers.{said_reply}
 use Rattle.td_http.specs.declared.service.Service.{Service}
 use Rattle.td_http.specs.Served.{desk_of, IsHandledBy, IsPrivateAlone}
@@ -46,7 +46,7 @@ module _ (books : ℕ → Book) (at : ℤ) (asked : Asked) (reply : Reply) (was_
   Alone = (c : Content) × IsServedAlone old.country books at asked reply c × (is_live → new ≡ c)
 
   -- it was nobody's
-  nobodys : ((H : ℕ) → heard_by old.country H (command_in asked) at asked.close (is_made reply) ≡ []) → ((H : ℕ) → told_by old.country H (command_in asked) (reply_bytes reply) (is_made reply) ≡ [])
+  nobodys : ((H : ℕ) → heard_by old.country H (command_in asked) at asked.close (is_made reply) ≡ []) → ((H : ℕ) → told_by old.country H (command_in asked) (bytes_of reply) (is_made reply) ≡ [])
       → IsServedAlone old.country books at asked reply old
   nobodys none_heard none_told = record {
     answers = λ H. rw (none_heard H, none_told H) refl;
@@ -56,10 +56,10 @@ module _ (books : ℕ → Book) (at : ℤ) (asked : Asked) (reply : Reply) (was_
   }
 
   -- it was a command that was carried
-  carried : (command : Command) (words : Said) → command_in asked ≡ Ok command → is_made reply ≡ true → reply_bytes reply ≡ said_reply words asked.close
+  carried : (command : Command) (words : Said) → command_in asked ≡ Ok command → is_made reply ≡ true → bytes_of reply ≡ said_reply words asked.close
       → IsRun old.country books (record { at = at; command = command } ∷ []) (outcome.Said words ∷ []) new → IsServedAlone old.country books at asked reply new
   carried command words is made bytes first = record {
-    answers = λ H. rw (is, made) (answers_by H (books H) stamped words asked.close (reply_bytes reply) bytes (is_holder H (owner_of old.country command)) (first.answers H));
+    answers = λ H. rw (is, made) (answers_by H (books H) stamped words asked.close (bytes_of reply) bytes (is_holder H (owner_of old.country command)) (first.answers H));
     country_stays = first.country_stays;
     sound = first.sound;
     tied = record {

@@ -2,4 +2,4 @@ mod Handling
 mod Served
 mod Streamed
 mod Alone
-mod Alike
+pub mod Alike

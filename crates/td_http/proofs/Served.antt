@@ -20,7 +20,7 @@ use Rattle.td_desk.proofs.Turns.{run_more}
 use Rattle.td_routes.specs.declared.fault.WebFault.{WebFault}
 use Rattle.td_wire.specs.declared.reply.Reply.{Reply}
 use Rattle.td_wire.specs.Request.{Asked}
-use Rattle.td_wire.specs.ReplyText.{reply_bytes, is_made}
+use Rattle.td_wire.specs.ReplyText.{bytes_of, is_made}
 use Rattle.td_wire.specs.Stream.{Exchange, Chain, question}
 use Rattle.td_answers.specs.Answers.{said_reply}
 use Rattle.td_http.specs.Serving.{command_in, IsReplyTo, IsFaultReply, HandledAs, IsHandled, heard_by, heard_in, told_by, told_in, commands_of, machine_replies, IsServed}
@@ -43,9 +43,9 @@ module _ (country : List ℕ) (books : ℕ → Book) (before : ℕ) (e : Exchang
   asked = question before e.wire
 
   -- an exchange that was a fault, or could not be read, adds nothing to what is served later
-  pub served_same : (new : Content) → ((H : ℕ) → heard_by country H (command_in asked) e.at asked.close (is_made e.reply) ≡ []) → ((H : ℕ) → told_by country H (command_in asked) (reply_bytes e.reply) (is_made e.reply) ≡ [])
+  pub served_same : (new : Content) → ((H : ℕ) → heard_by country H (command_in asked) e.at asked.close (is_made e.reply) ≡ []) → ((H : ℕ) → told_by country H (command_in asked) (bytes_of e.reply) (is_made e.reply) ≡ [])
       → ((why : WebFault) → command_in asked ≡ Err why → IsFaultReply why asked.close e.reply)
-      → ((command : Command) → command_in asked ≡ Ok command → owner_of country command ≡ None → is_made e.reply ≡ true → reply_bytes e.reply ≡ said_reply (said (empty_account country) e.at command) asked.close)
+      → ((command : Command) → command_in asked ≡ Ok command → owner_of country command ≡ None → is_made e.reply ≡ true → bytes_of e.reply ≡ said_reply (said (empty_account country) e.at command) asked.close)
       → IsServed country books (before + 1) es new → IsServed country books before (e ∷ es) new
   served_same new none_heard none_told told nobody served = record {
     answers = λ H. rw (none_heard H, none_told H) (served.answers H);
@@ -61,7 +61,7 @@ module _ (country : List ℕ) (books : ℕ → Book) (before : ℕ) (e : Exchang
 
 -- the first exchange was a command that was carried
 module _ (country : List ℕ) (books : ℕ → Book) (before : ℕ) (e : Exchange) (es : List Exchange) (command : Command) (words : Said)
-    (is : command_in (question before e.wire) ≡ Ok command) (made : is_made e.reply ≡ true) (bytes : reply_bytes e.reply ≡ said_reply words (question before e.wire).close)
+    (is : command_in (question before e.wire) ≡ Ok command) (made : is_made e.reply ≡ true) (bytes : bytes_of e.reply ≡ said_reply words (question before e.wire).close)
     (old mid : Content) (first : IsRun country books (record { at = e.at; command = command } ∷ []) (outcome.Said words ∷ []) mid) where
   abbrev pub stamped : Stamped
   stamped = record { at = e.at; command = command }
@@ -75,7 +75,7 @@ module _ (country : List ℕ) (books : ℕ → Book) (before : ℕ) (e : Exchang
 
   answers_by : (H : ℕ) (b : Bool) → (if b then words ∷ [] else []) ≡ machine_says H (books H) (if b then stamped ∷ [] else [])
       → told_in country H (before + 1) es ≡ machine_replies H (machine_book H (books H) (if b then stamped ∷ [] else [])) (heard_in country H (before + 1) es)
-      → (if b then reply_bytes e.reply ∷ [] else []) ++ told_in country H (before + 1) es
+      → (if b then bytes_of e.reply ∷ [] else []) ++ told_in country H (before + 1) es
       ≡ machine_replies H (books H) ((if b then (stamped, (question before e.wire).close) ∷ [] else []) ++ heard_in country H (before + 1) es)
   answers_by H true said rest =
       let same : words ≡ verdict H (books H) e.at command = first_of words (verdict H (books H) e.at command) said in
@@ -104,9 +104,9 @@ module _ (country : List ℕ) (books : ℕ → Book) (before : ℕ) (e : Exchang
       no_fault : (why : WebFault) → Ok command ≡ Err why → ⊥
       no_fault why bad = cc
 
-      nobody_told : (other : Command) → command ≡ other → owner_of country other ≡ None → reply_bytes e.reply ≡ said_reply (said (empty_account country) e.at other) (question before e.wire).close
+      nobody_told : (other : Command) → command ≡ other → owner_of country other ≡ None → bytes_of e.reply ≡ said_reply (said (empty_account country) e.at other) (question before e.wire).close
       nobody_told other same none =
-          subst (λ (c : Command). owner_of country c ≡ None → reply_bytes e.reply ≡ said_reply (said (empty_account country) e.at c) (question before e.wire).close) same
+          subst (λ (c : Command). owner_of country c ≡ None → bytes_of e.reply ≡ said_reply (said (empty_account country) e.at c) (question before e.wire).close) same
           (λ own. bytes ∙ ap (λ (w : Said). said_reply w (question before e.wire).close) (first.nobodys.0 own)) none
 
       books_are : (H : ℕ) → machine_book H (books_after H) (commands_of (heard_in country H (before + 1) es)) ≡ machine_book H (books H) (commands_of (heard_in country H before (e ∷ es)))

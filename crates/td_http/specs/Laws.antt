@@ -13,21 +13,21 @@ use Rattle.td_wire.specs.declared.reply.Reply.{Reply}
 use Rattle.td_wire.specs.declared.reply.Reply.TheVariants.{Made, NoMemory, Store}
 use Rattle.td_wire.specs.declared.stream.StreamEnd.{StreamEnd}
 use Rattle.td_wire.specs.Request.{Asked}
-use Rattle.td_wire.specs.ReplyText.{reply_bytes, is_made}
+use Rattle.td_wire.specs.ReplyText.{bytes_of, is_made}
 use Rattle.td_wire.specs.Stream.{Exchange, Serves, Sides, question}
 use Rattle.td_http.specs.declared.service.Service.{Service}
 use Rattle.td_http.specs.Served.{desk_of, IsHandledBy, IsHeadHandledBy, IsPrivate, IsPrivateAlone}
-use Rattle.td_http.specs.Serving.{Request, command_in, heard_in, told_in}
+use Rattle.td_http.specs.Serving.{Demand, command_in, heard_in, told_in}
 
 -- H's commands among the exchanges that come after so many, whether they failed or not: each with its
 -- moment, and whether its reply has to tell that the stream stops
-abbrev pub asked_by : List ℕ → ℕ → Result Command WebFault → ℤ → Bool → List Request
+abbrev pub asked_by : List ℕ → ℕ → Result Command WebFault → ℤ → Bool → List Demand
 asked_by country H (Ok command) at close =
     if is_holder H (owner_of country command) then (record { at = at; command = command }, close) ∷ []
     else []
 asked_by country H (Err why) at close = []
 
-abbrev pub asked_in : List ℕ → ℕ → ℕ → List Exchange → List Request
+abbrev pub asked_in : List ℕ → ℕ → ℕ → List Exchange → List Demand
 asked_in country H before [] = []
 asked_in country H before (e ∷ es) =
     asked_by country H (command_in (question before e.wire)) e.at (question before e.wire).close
@@ -69,7 +69,7 @@ FailTogether country H es others =
 -- the bytes of all replies to H's commands are equal, those to commands that failed included
 abbrev pub ReplyAlike : List ℕ → ℕ → List Exchange → List Exchange → Type 0
 ReplyAlike country H es others =
-    map reply_bytes (replies_in country H 0 es) ≡ map reply_bytes (replies_in country H 0 others)
+    map bytes_of (replies_in country H 0 es) ≡ map bytes_of (replies_in country H 0 others)
 
 -- those of H's commands that did not fail are equal in the two
 abbrev pub HeardAlike : List ℕ → ℕ → List Exchange → List Exchange → Type 0
@@ -79,12 +79,15 @@ HeardAlike country H es others = heard_in country H 0 es ≡ heard_in country H 
 abbrev pub ToldAlike : List ℕ → ℕ → List Exchange → List Exchange → Type 0
 ToldAlike country H es others = told_in country H 0 es ≡ told_in country H 0 others
 
--- What two lists of exchanges tell H alike. Where they agree on H and the same of H's commands failed by the same
--- faults, all replies to H's commands are equal, byte for byte; where these failed by whatever faults, or other
--- commands of H's failed beside those that are equal, the replies to the commands that did not fail are.
+-- What two lists of exchanges tell H alike. Where they agree on H and the same of H's commands failed by
+-- the same faults, all replies to H's commands are equal, byte for byte; where these failed by whatever
+-- faults, or other commands of H's failed beside those that are equal, the replies to the commands that
+-- did not fail are.
 pub record TellAlike (country : List ℕ) (H : ℕ) (es others : List Exchange) : Type 0 where
-  pub all : StreamsAgree country H es others → FailAlike country H es others → ReplyAlike country H es others
-  pub answered : StreamsAgree country H es others → FailTogether country H es others → ToldAlike country H es others
+  pub replies : StreamsAgree country H es others → FailAlike country H es others
+      → ReplyAlike country H es others
+  pub told : StreamsAgree country H es others → FailTogether country H es others
+      → ToldAlike country H es others
   pub heard : HeardAlike country H es others → ToldAlike country H es others
 
 -- a desk of a country, which no fault has shut, and whose content is sound and tied to books
@@ -95,18 +98,22 @@ pub record IsDeskOf {D : Type 0} (content : D → Content) (is_live : D → Type
   pub sound : IsSound (content (desk_of service))
   pub tied : IsTied (content (desk_of service)) books
 
--- A stream that was served at such a desk, and left it clean: the last two parts are what `serve_stream` promises.
+-- A stream that was served at such a desk, and left it clean. The last two parts are what `serve_stream`
+-- promises.
 pub record IsStreamAt {R W C D : Type 0} (remaining : R → Option (List ℕ)) (contents : W → Option (List ℕ))
-    (ticks : C → ℤ → C → Type 0) (content : D → Content) (is_clean is_live : D → Type 0) (has_store : Type 0)
+    (ticks : C → ℤ → C → Type 0)
+    (content : D → Content) (is_clean is_live : D → Type 0) (has_store : Type 0)
     (country : List ℕ) (books : ℕ → Book) (old new : Sides R W C (Service D)) (end : StreamEnd) : Type 0 where
   pub desk : IsDeskOf content is_live country books old.handler
   pub clean : is_clean (desk_of new.handler)
-  pub served : Serves remaining contents ticks (IsHandledBy content is_clean is_live has_store) IsHeadHandledBy old new end
+  pub served : Serves remaining contents ticks
+      (IsHandledBy content is_clean is_live has_store) IsHeadHandledBy old new end
   pub private : IsPrivate content is_clean is_live old.handler new.handler served.run.exchanges
 
--- One request that was handled at such a desk: the last part is what `Service::handle` promises.
-pub record IsRequestAt {D : Type 0} (content : D → Content) (is_clean is_live : D → Type 0) (country : List ℕ)
-    (books : ℕ → Book) (old : Service D) (at : ℤ) (asked : Asked) (reply : Reply) (new : Service D) : Type 0 where
+-- One request that was handled at such a desk. The last part is what `Service::handle` promises.
+pub record IsRequestAt {D : Type 0} (content : D → Content) (is_clean is_live : D → Type 0)
+    (country : List ℕ) (books : ℕ → Book)
+    (old : Service D) (at : ℤ) (asked : Asked) (reply : Reply) (new : Service D) : Type 0 where
   pub desk : IsDeskOf content is_live country books old
   pub clean : is_clean (desk_of new)
   pub private : IsPrivateAlone content is_clean is_live old at asked reply new

@@ -9,7 +9,7 @@ use Rattle.td_wire.specs.declared.reply.Reply.TheVariants.{NoMemory}
 use Rattle.td_http.specs.declared.service.Service.{Service}
 use Rattle.td_routes.specs.Faults.{allowed_text}
 use Rattle.td_wire.specs.Request.{Asked}
-use Rattle.td_wire.specs.ReplyText.{head_text, reply_bytes, is_made}
+use Rattle.td_wire.specs.ReplyText.{head_text, bytes_of, is_made}
 use Rattle.td_routes.specs.Routes.{methods_of, path_of}
 use Rattle.td_http.specs.Serving.{IsHandled, IsServed, IsServedAlone}
 use Rattle.td_wire.specs.Stream.{Exchange}
@@ -24,7 +24,7 @@ IsHandledBy = IsHandled desk_of
 
 -- the reply to a HEAD request: a head alone, with the methods of the target's path where the desk has it
 abbrev pub IsHeadReply : List ℕ → Reply → Type 0
-IsHeadReply target reply = (reply ≡ NoMemory) ⊎ ((is_made reply ≡ true) × (reply_bytes reply ≡ head_text (option_map allowed_text (option_and_then methods_of (path_of target)))))
+IsHeadReply target reply = (reply ≡ NoMemory) ⊎ ((is_made reply ≡ true) × (bytes_of reply ≡ head_text (option_map allowed_text (option_and_then methods_of (path_of target)))))
 
 -- a HEAD request leaves the desk as it is
 pub record IsHeadHandledBy {D : Type 0} (old : Service D) (target : List ℕ) (reply : Reply) (new : Service D) : Type 0 where

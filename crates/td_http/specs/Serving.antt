@@ -19,7 +19,7 @@ use Rattle.td_routes.specs.declared.fault.WebFault.{WebFault}
 use Rattle.td_wire.specs.declared.reply.Reply.{Reply}
 use Rattle.td_wire.specs.declared.reply.Reply.TheVariants.{Made, NoMemory, Store}
 use Rattle.td_wire.specs.Request.{Asked}
-use Rattle.td_wire.specs.ReplyText.{reply_bytes, is_made}
+use Rattle.td_wire.specs.ReplyText.{bytes_of, is_made}
 use Rattle.td_answers.specs.Answers.{said_reply, fault_reply}
 use Rattle.td_routes.specs.Bodies.{command_of}
 use Rattle.td_wire.specs.Stream.{Exchange, question}
@@ -30,13 +30,13 @@ command_in a = command_of a.method a.target a.body
 
 -- the reply that tells how a command ended
 abbrev pub IsReplyTo : Outcome → Bool → Reply → Type 0
-IsReplyTo (outcome.Said words) close reply = (is_made reply ≡ true) × (reply_bytes reply ≡ said_reply words close)
+IsReplyTo (outcome.Said words) close reply = (is_made reply ≡ true) × (bytes_of reply ≡ said_reply words close)
 IsReplyTo (outcome.Failed fault.NoMemory) close reply = reply ≡ NoMemory
 IsReplyTo (outcome.Failed fault.Store) close reply = reply ≡ Store
 
 -- the reply to a request that can't be read, want of memory aside
 abbrev pub IsFaultReply : WebFault → Bool → Reply → Type 0
-IsFaultReply why close reply = (reply ≡ NoMemory) ⊎ ((is_made reply ≡ true) × (reply_bytes reply ≡ fault_reply why close))
+IsFaultReply why close reply = (reply ≡ NoMemory) ⊎ ((is_made reply ≡ true) × (bytes_of reply ≡ fault_reply why close))
 
 -- What a request does to a desk. A command is one step of the desk, and the reply tells how it ended; a request that can't be read changes
 -- nothing, and its reply depends on the request alone.
@@ -53,17 +53,17 @@ pub record IsHandled {S D : Type 0} (desk : S → D) (content : D → Content) (
   pub unasked : (why : WebFault) → command_in asked ≡ Err why → desk new ≡ desk old
   pub store : reply ≡ Store → has_store
 
--- a command that a holder's request asked, at its moment, and whether the reply tells that the stream stops
-abbrev pub Request : Type 0
-Request = Stamped × Bool
+-- a demand: the command that a holder's request asks, its moment, and whether the reply tells that the stream stops
+abbrev pub Demand : Type 0
+Demand = Stamped × Bool
 
 -- H's requests among the exchanges that come after so many: those that can be read and whose reply isn't a fixed one of a fault
-abbrev pub heard_by : List ℕ → ℕ → Result Command WebFault → ℤ → Bool → Bool → List Request
+abbrev pub heard_by : List ℕ → ℕ → Result Command WebFault → ℤ → Bool → Bool → List Demand
 heard_by country H (Ok command) at close true = if is_holder H (owner_of country command) then (record { at = at; command = command }, close) ∷ [] else []
 heard_by country H (Ok command) at close false = []
 heard_by country H (Err why) at close made = []
 
-abbrev pub heard_in : List ℕ → ℕ → ℕ → List Exchange → List Request
+abbrev pub heard_in : List ℕ → ℕ → ℕ → List Exchange → List Demand
 heard_in country H before [] = []
 heard_in country H before (e ∷ es) =
     heard_by country H (command_in (question before e.wire)) e.at (question before e.wire).close (is_made e.reply) ++ heard_in country H (before + 1) es
@@ -77,14 +77,14 @@ told_by country H (Err why) bytes made = []
 abbrev pub told_in : List ℕ → ℕ → ℕ → List Exchange → List (List ℕ)
 told_in country H before [] = []
 told_in country H before (e ∷ es) =
-    told_by country H (command_in (question before e.wire)) (reply_bytes e.reply) (is_made e.reply) ++ told_in country H (before + 1) es
+    told_by country H (command_in (question before e.wire)) (bytes_of e.reply) (is_made e.reply) ++ told_in country H (before + 1) es
 
 -- the commands of requests
-abbrev pub commands_of : List Request → List Stamped
+abbrev pub commands_of : List Demand → List Stamped
 commands_of list = map (λ r. r.0) list
 
 -- the replies of H's own machine to a list of H's requests
-abbrev pub machine_replies : ℕ → Book → List Request → List (List ℕ)
+abbrev pub machine_replies : ℕ → Book → List Demand → List (List ℕ)
 machine_replies H book [] = []
 machine_replies H book (r ∷ list) = said_reply (verdict H book r.0.at r.0.command) r.1 ∷ machine_replies H (book_after H book r.0) list
 
@@ -110,7 +110,7 @@ abbrev pub NobodysAreTold : List ℕ → ℕ → List Exchange → Type 0
 NobodysAreTold country before [] = Unit {0}
 NobodysAreTold country before (e ∷ es) =
     ((command : Command) → command_in (question before e.wire) ≡ Ok command → owner_of country command ≡ None → is_made e.reply ≡ true
-    → reply_bytes e.reply ≡ said_reply (said (empty_account country) e.at command) (question before e.wire).close) × NobodysAreTold country (before + 1) es
+    → bytes_of e.reply ≡ said_reply (said (empty_account country) e.at command) (question before e.wire).close) × NobodysAreTold country (before + 1) es
 
 -- To each holder at once, the bytes of the replies to the holder's requests are those of the holder's own machine; in the end the content is
 -- sound, and tied to the books that the machines end with.
@@ -124,7 +124,7 @@ pub record IsServed (country : List ℕ) (books : ℕ → Book) (before : ℕ) (
 
 -- The same of one request alone. It is nobody's where it can't be read or its reply is a fixed one: then each book stays.
 pub record IsServedAlone (country : List ℕ) (books : ℕ → Book) (at : ℤ) (asked : Asked) (reply : Reply) (new : Content) : Type 0 where
-  pub answers : (H : ℕ) → told_by country H (command_in asked) (reply_bytes reply) (is_made reply) ≡ machine_replies H (books H) (heard_by country H (command_in asked) at asked.close (is_made reply))
+  pub answers : (H : ℕ) → told_by country H (command_in asked) (bytes_of reply) (is_made reply) ≡ machine_replies H (books H) (heard_by country H (command_in asked) at asked.close (is_made reply))
   pub country_stays : new.country ≡ country
   pub sound : IsSound new
   pub tied : IsTied new (λ H. machine_book H (books H) (commands_of (heard_by country H (command_in asked) at asked.close (is_made reply))))

@@ -13,9 +13,9 @@ use td_wire::{Clock, Handler, Reply, Request, StreamEnd, serve_requests};
 impl<D: Desk + Drop> Handler for Service<D> {
     ghost use Rattle.td_http.specs.Served.{IsHandledBy, IsHeadHandledBy};
 
-    ghost answers = { IsHandledBy D.content D.is_clean D.is_live D.has_store };
+    ghost handles = { IsHandledBy D.content D.is_clean D.is_live D.has_store };
 
-    ghost answers_head = { IsHeadHandledBy };
+    ghost handles_head = { IsHeadHandledBy };
 
     fn handle(&mut self, alloc: Global, at: i64, request: &Request) -> Reply {
         self.handle(alloc, at, request)

@@ -6,7 +6,7 @@ ghost use Rattle.td_acts.specs.Commands.{owner_of};
 ghost use Rattle.td_wire.specs.declared.reply.Reply.{Reply};
 ghost use Rattle.td_wire.specs.declared.stream.StreamEnd.{StreamEnd};
 ghost use Rattle.td_wire.specs.Request.{Asked};
-ghost use Rattle.td_wire.specs.ReplyText.{reply_bytes};
+ghost use Rattle.td_wire.specs.ReplyText.{bytes_of};
 ghost use Rattle.td_wire.specs.Stream.{Sides};
 ghost use Rattle.td_http.specs.declared.service.Service.{Service};
 ghost use Rattle.td_http.specs.Laws.{IsRequestAt, IsStreamAt, TellAlike, fault_told};
@@ -16,10 +16,11 @@ use std::io::{Read, Write};
 use td_desk::Desk;
 use td_wire::Clock;
 
-/// The headline, over the bytes of two streams. They may be served at different desks of one country, to different readers and writers,
-/// from contents as different as one likes for all holders but H. Where the requests that were handled agree on H's commands (their
-/// moments and whether a reply has to tell that the stream stops included), and the same of these failed, H has the same replies, byte
-/// for byte.
+/// The headline, over the bytes of two streams, each as a call of `serve_stream` leaves it. They may be
+/// served at different desks of one country, over different readers, writers and clocks, from contents
+/// as different as one likes for all holders but H. Where the requests that were handled agree on H's
+/// commands (their moments and whether a reply has to tell that the stream stops included), and the same
+/// of these failed, H has the same replies, byte for byte.
 pub fn agreeing_streams_tell_the_same<
     R: Read,
     W: Write,
@@ -41,16 +42,18 @@ pub fn agreeing_streams_tell_the_same<
         → TellAlike country H one.served.run.exchanges other.served.run.exchanges }
 {}
 
-/// The same of one request each: a command of H's at one moment, whose replies have to tell the same of the stream's end, and of which
-/// both failed by one fault or neither did, has equal replies.
+/// The same of one call of `Service::handle` each: a command of H's at one moment, whose replies have to
+/// tell the same of the stream's end, and which failed by one fault or not at all, has equal replies.
 pub fn equal_requests_are_told_the_same<D: Desk, OtherD: Desk>()
     ensures { (country : List ℕ) (H : ℕ) (books others : ℕ → Book) (command : Command) (at : ℤ)
         (old new : Service D) (asked : Asked) (reply : Reply)
         (other_old other_new : Service OtherD) (other_asked : Asked) (other_reply : Reply)
         → IsRequestAt D.content D.is_clean D.is_live country books old at asked reply new
-        → IsRequestAt OtherD.content OtherD.is_clean OtherD.is_live country others other_old at other_asked other_reply other_new
+        → IsRequestAt OtherD.content OtherD.is_clean OtherD.is_live country others
+        other_old at other_asked other_reply other_new
         → books H ≡ others H → owner_of country command ≡ Some H
-        → command_in asked ≡ Ok command → command_in other_asked ≡ Ok command → asked.close ≡ other_asked.close
+        → command_in asked ≡ Ok command → command_in other_asked ≡ Ok command
+        → asked.close ≡ other_asked.close
         → fault_told reply ≡ fault_told other_reply
-        → reply_bytes reply ≡ reply_bytes other_reply }
+        → bytes_of reply ≡ bytes_of other_reply }
 {}

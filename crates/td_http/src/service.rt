@@ -1,7 +1,7 @@
 //! The desk as a service: a request is read, weighed, its reply is built, and only then it is carried.
 ghost use Rattle.std.specs.Prelude.{◌≡◌, ◌≢◌, ◌⊎◌, None, Bool, true, MatchResult, option_map};
 ghost use Rattle.td_routes.specs.Faults.{allowed_text};
-ghost use Rattle.td_wire.specs.ReplyText.{head_text, is_made, reply_bytes as made_bytes};
+ghost use Rattle.td_wire.specs.ReplyText.{head_text, is_made, bytes_of};
 ghost use Rattle.td_acts.specs.declared.command.Stamped.{Stamped};
 ghost use Rattle.td_acts.specs.declared.said.Said.{Said};
 ghost use Rattle.td_desk.specs.declared.fault.Fault.TheVariants as fault;
@@ -26,7 +26,7 @@ pub struct Service<D: Desk + Drop> {
 }
 
 // Weighs a command, builds the bytes of the reply, and carries the decision, in this order: what could not be told isn't done.
-fn answer<D: Desk>(
+fn weigh_and_carry<D: Desk>(
     alloc: Global,
     desk: &mut D,
     at: i64,
@@ -58,7 +58,7 @@ fn answer<D: Desk>(
 }
 
 // The fixed reply to a command that failed: it changed nothing.
-fn failed(fault: Fault) -> Reply
+fn reply_to_fault(fault: Fault) -> Reply
     ensures fixed { (close : Bool) → IsReplyTo (outcome.Failed fault) close result }
     ensures store { result ≡ Reply.Store → fault ≡ Fault.Store }
     ensures reply { result ≡ fixed_reply fault }
@@ -77,14 +77,14 @@ fn reply_to<D: Desk>(alloc: Global, desk: &mut D, at: i64, command: &Command, cl
     ensures store { result ≡ Reply.Store → D.has_store }
     ensures calls { IsCausedBy D.called desk.old result desk.new }
 {
-    match answer(alloc, desk, at, command, close) {
+    match weigh_and_carry(alloc, desk, at, command, close) {
         Ok(bytes) => Reply::Made(bytes),
-        Err(fault) => failed(fault),
+        Err(fault) => reply_to_fault(fault),
     }
 }
 
 // The reply to a request that can't be read: it changes nothing.
-fn unread(alloc: Global, fault: &WebFault, close: bool) -> Reply
+fn reply_to_unread(alloc: Global, fault: &WebFault, close: bool) -> Reply
     ensures memory { fault.now ≡ WebFault.NoMemory → result ≡ Reply.NoMemory }
     ensures told { IsFaultReply fault.now close result }
 {
@@ -127,7 +127,7 @@ impl<D: Desk + Drop> Service<D> {
     {
         match read_command_by(alloc, &mut self.routes, request) {
             Ok(command) => reply_to(alloc, &mut self.desk, at, &command, request.close),
-            Err(fault) => unread(alloc, &fault, request.close),
+            Err(fault) => reply_to_unread(alloc, &fault, request.close),
         }
     }
 
@@ -136,18 +136,18 @@ impl<D: Desk + Drop> Service<D> {
         ensures { IsHeadHandledBy self.old target.now result self.new }
     {
         let Some(path) = path(target) else {
-            return told_head(alloc, None);
+            return reply_to_head(alloc, None);
         };
         match self.routes.methods(alloc, path) {
-            Ok(methods) => told_head(alloc, methods),
+            Ok(methods) => reply_to_head(alloc, methods),
             Err(_) => Reply::NoMemory,
         }
     }
 }
 
 // A head that tells methods.
-fn told_head(alloc: Global, methods: Option<Allowed>) -> Reply
-    ensures { (result ≡ Reply.NoMemory) ⊎ ((is_made result ≡ true) × (made_bytes result ≡ head_text (option_map allowed_text methods))) }
+fn reply_to_head(alloc: Global, methods: Option<Allowed>) -> Reply
+    ensures { (result ≡ Reply.NoMemory) ⊎ ((is_made result ≡ true) × (bytes_of result ≡ head_text (option_map allowed_text methods))) }
 {
     let allow = match methods {
         Some(methods) => Some(methods.text()),

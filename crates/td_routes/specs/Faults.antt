@@ -1,19 +1,33 @@
 -- Why a request can't be read: names, and what the reply says beside them.
-use Rattle.std.specs.Prelude.{◌≡◌, ◌⊎◌, ℕ, List, codes, Option, Some, None, Result, Ok, Err}
+use Rattle.std.specs.Prelude.{◌≡◌, ◌⊎◌, ℕ, Bool, List, [], ◌∷◌, ◌++◌, flat_map, codes, if◌then◌else◌, Option, Some, None, Result, Ok, Err}
 use Rattle.td_base.specs.declared.references.RefFault.{RefFault}
 use Rattle.td_base.specs.declared.references.RefFault.TheVariants.{Length, Form, CheckDigit}
 use Rattle.td_routes.specs.declared.fault.Allowed.{Allowed}
-use Rattle.td_routes.specs.declared.fault.Allowed.TheVariants.{Get, Post, Put}
+use Rattle.td_routes.specs.declared.table.Verb.{Verb}
+use Rattle.td_routes.specs.declared.table.Verb.TheVariants.{Get, Post, Put}
 use Rattle.td_routes.specs.declared.fault.Field.{Field}
 use Rattle.td_routes.specs.declared.fault.Field.TheVariants.{Eori, Reference, Cover, Code, Lrn, Departure, Destination, Lines}
 use Rattle.td_routes.specs.declared.fault.WebFault.{WebFault}
 use Rattle.td_routes.specs.declared.fault.WebFault.TheVariants.{NoRoute, NoMethod, BadHolder, BadMrn, BadGrn, BadBody, BadField, NoMemory}
 
--- the methods of a path, as `Allow` lists them
+-- the name of a method
+abbrev pub verb_text : Verb → List ℕ
+verb_text Get = codes "GET"
+verb_text Post = codes "POST"
+verb_text Put = codes "PUT"
+
+-- a text, where the test passes
+abbrev pub text_where : Bool → List ℕ → List (List ℕ)
+text_where test text = if test then text ∷ [] else []
+
+-- texts, joined by `, `
+abbrev pub joined : List (List ℕ) → List ℕ
+joined [] = []
+joined (text ∷ texts) = text ++ flat_map (λ next. codes ", " ++ next) texts
+
+-- the methods of a path, as `Allow` lists them: in alphabetical order, joined by `, `
 abbrev pub allowed_text : Allowed → List ℕ
-allowed_text Get = codes "GET"
-allowed_text Post = codes "POST"
-allowed_text Put = codes "PUT"
+allowed_text allowed = joined (text_where allowed.get (verb_text Get) ++ (text_where allowed.post (verb_text Post) ++ text_where allowed.put (verb_text Put)))
 
 -- a field's key in the body
 abbrev pub field_name : Field → List ℕ

@@ -57,7 +57,8 @@ fn line_in(object: &Value) -> Option<(Line, AccessCode)>
 }
 
 fn grn_in(object: &Value) -> Option<Grn>
-    ensures { result ≡ option_and_then (λ text. result_ok (grn_read text)) (text_at (codes "grn") (view object.now)) }
+    ensures { result
+        ≡ option_and_then (λ text. result_ok (grn_read text)) (text_at (codes "grn") (view object.now)) }
 {
     let text = text_in(object, "grn")?;
     Grn::read(text.as_bytes()).ok()

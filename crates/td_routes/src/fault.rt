@@ -9,10 +9,13 @@ use td_base::RefFault;
 
 /// The methods that a path of the desk has.
 #[derive(Clone, Copy, Debug, PartialEq, Eq)]
-pub enum Allowed {
-    Get,
-    Post,
-    Put,
+pub struct Allowed {
+    /// Whether it has `GET`.
+    pub get: bool,
+    /// Whether it has `POST`.
+    pub post: bool,
+    /// Whether it has `PUT`.
+    pub put: bool,
 }
 
 /// A field of a request's body.
@@ -57,10 +60,15 @@ impl Allowed {
     pub fn text(self) -> &'static str
         ensures { result.now ≡ allowed_text self }
     {
-        match self {
-            Allowed::Get => "GET",
-            Allowed::Post => "POST",
-            Allowed::Put => "PUT",
+        match (self.get, self.post, self.put) {
+            (false, false, false) => "",
+            (true, false, false) => "GET",
+            (false, true, false) => "POST",
+            (false, false, true) => "PUT",
+            (true, true, false) => "GET, POST",
+            (true, false, true) => "GET, PUT",
+            (false, true, true) => "POST, PUT",
+            (true, true, true) => "GET, POST, PUT",
         }
     }
 }

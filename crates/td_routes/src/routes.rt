@@ -1,55 +1,17 @@
-//! The paths of the desk, and the route of a request.
-ghost use Rattle.std.specs.Prelude.{◌≡◌, ◌≢◌, [], IfOk, IfErr, IsSome, MatchResult, Ok, OnOk, None, drop, map, option_map};
+//! The route of a request, by the desk's paths.
+ghost use Rattle.std.specs.Prelude.{◌≡◌, IsSome, IfErr, IfOk, MatchResult, Ok, OnOk, None, map, option_map};
 ghost use Rattle.std.specs.Option.{ForSome};
 ghost use Rattle.std.specs.Str.{IsUtf8};
-ghost use Rattle.matchit.specs.Seek.{first};
 ghost use Rattle.td_routes.specs.Faults.{OrNoMemory};
+ghost use Rattle.td_routes.specs.Routes.{table, row_shown, pattern_in, row_with, methods_with, holder_part, mrn_part, grn_part, part_at, holder_in, holder_and_grn, holder_and_mrn, route_with, route_in, route_of, methods_of};
 ghost use Rattle.td_routes.specs.declared.fault.WebFault.TheVariants.{NoMemory};
-ghost use Rattle.matchit.specs.Params.{walk};
-ghost use Rattle.td_routes.specs.Routes.{table, filled, found, line_at, holder_part, mrn_part, grn_part, part_at, route_with, route_by, route_of, AreTexts, PartsAreTexts, methods_at, methods_of};
 
 use crate::fault::{Allowed, WebFault};
-use crate::table::{Line, Place, Route};
+use crate::table::{Endpoint, ROWS, Route, Row, Verb};
 use http::Method;
-use matchit::{InsertError, Params, ParamsIter, Router};
+use path_table::{Parts, PathTable};
 use std::alloc::Global;
 use td_base::{Grn, HolderNo, Mrn};
-
-const PATHS: [(&str, Place); 6] = [
-    ("/office/holders/{h}", Place::OfficeHolder),
-    ("/office/holders/{h}/guarantees", Place::OfficeGuarantees),
-    ("/holders/{h}", Place::Holder),
-    ("/holders/{h}/guarantees/{g}", Place::Guarantee),
-    ("/holders/{h}/movements", Place::Movements),
-    ("/holders/{h}/movements/{m}", Place::Movement),
-];
-
-// A router with these paths. They are of good form and don't conflict, so it only fails for want of memory.
-fn router_of(alloc: Global, paths: &[(&str, Place)]) -> Result<Router<Place>, InsertError>
-    ensures { IfOk result (λ r. r ≡ filled (map (λ p. (p.0.now, p.1)) paths.now) []) }
-{
-    let mut router = Router::new(alloc);
-    for (path, place) in paths {
-        router.insert(path, *place)?;
-    }
-    Ok(router)
-}
-
-fn line_for(place: Place, method: &Method) -> Result<Line, WebFault>
-    ensures { result ≡ line_at place method.now }
-{
-    match (place, method.as_str()) {
-        (Place::OfficeHolder, "PUT") => Ok(Line::Register),
-        (Place::OfficeGuarantees, "POST") => Ok(Line::OpenGuarantee),
-        (Place::Movements, "POST") => Ok(Line::Ie015),
-        (Place::Holder, "GET") => Ok(Line::SeeHolder),
-        (Place::Movement, "GET") => Ok(Line::SeeMovement),
-        (Place::Guarantee, "GET") => Ok(Line::SeeGuarantee),
-        _ => Err(WebFault::NoMethod {
-            allow: methods_for(place),
-        }),
-    }
-}
 
 fn read_holder(part: &[u8]) -> Result<HolderNo, WebFault>
     ensures { result ≡ holder_part part.now }
@@ -69,101 +31,141 @@ fn read_grn(part: &[u8]) -> Result<Grn, WebFault>
     Grn::read(part).map_err(WebFault::BadGrn)
 }
 
-// The next part of the path. Where there is none it is empty.
-fn next_part<'p>(parts: &mut ParamsIter<'_, '_, 'p>) -> &'p [u8]
-    ensures part { AreTexts parts.old → result.now ≡ part_at 0 (map (λ p. p.1) parts.old) }
-    ensures rest { parts.old ≢ [] → parts.new ≡ drop 1 parts.old }
+// The part at a place, from the left: empty where there are fewer.
+fn part_at<'p>(parts: &Parts<'_, 'p>, place: usize) -> &'p [u8]
+    ensures { result.now ≡ part_at place parts.now }
 {
-    match parts.next() {
-        Some((_, part)) => part.as_bytes(),
+    match parts.get(place) {
+        Some(part) => part.as_bytes(),
         None => &[],
     }
 }
 
-fn read_parts(line: Line, params: &Params<'_, '_>) -> Result<Route, WebFault>
-    ensures { let parts = walk params.now.pattern.now params.now.text.now params.now.path.now params.now.names.now 0 0 in
-        AreTexts parts → result ≡ route_with (map (λ p. p.1) parts) line }
+// A path that names a holder.
+fn holder_in(parts: &Parts<'_, '_>) -> Result<HolderNo, WebFault>
+    ensures { result ≡ holder_in parts.now }
 {
-    let mut parts = params.iter();
-    match line {
-        Line::Register => Ok(Route::Register {
-            holder: read_holder(next_part(&mut parts))?,
-        }),
-        Line::OpenGuarantee => Ok(Route::OpenGuarantee {
-            holder: read_holder(next_part(&mut parts))?,
-        }),
-        Line::Ie015 => Ok(Route::Ie015 {
-            holder: read_holder(next_part(&mut parts))?,
-        }),
-        Line::SeeHolder => Ok(Route::SeeHolder {
-            holder: read_holder(next_part(&mut parts))?,
-        }),
-        Line::SeeMovement => Ok(Route::SeeMovement {
-            holder: read_holder(next_part(&mut parts))?,
-            mrn: read_mrn(next_part(&mut parts))?,
-        }),
-        Line::SeeGuarantee => Ok(Route::SeeGuarantee {
-            holder: read_holder(next_part(&mut parts))?,
-            grn: read_grn(next_part(&mut parts))?,
-        }),
-    }
+    read_holder(part_at(parts, 0))
 }
 
-// The route of a path in a router.
-fn find(router: &Router<Place>, method: &Method, path: &str) -> Result<Route, WebFault>
-    ensures { PartsAreTexts (first router.now path.now) path.now
-        → result ≡ route_by (first router.now path.now) method.now path.now }
+// A path that names a holder and a guarantee.
+fn holder_and_grn(parts: &Parts<'_, '_>) -> Result<(HolderNo, Grn), WebFault>
+    ensures { result ≡ holder_and_grn parts.now }
 {
-    match router.at(path) {
-        Ok(found) => {
-            let line = line_for(*found.value, method)?;
-            read_parts(line, &found.params)
+    let holder = read_holder(part_at(parts, 0))?;
+    let grn = read_grn(part_at(parts, 1))?;
+    Ok((holder, grn))
+}
+
+// A path that names a holder and a movement.
+fn holder_and_mrn(parts: &Parts<'_, '_>) -> Result<(HolderNo, Mrn), WebFault>
+    ensures { result ≡ holder_and_mrn parts.now }
+{
+    let holder = read_holder(part_at(parts, 0))?;
+    let mrn = read_mrn(part_at(parts, 1))?;
+    Ok((holder, mrn))
+}
+
+fn read_parts(endpoint: Endpoint, parts: &Parts<'_, '_>) -> Result<Route, WebFault>
+    ensures { result ≡ route_with parts.now endpoint }
+{
+    match endpoint {
+        Endpoint::Register => {
+            let holder = holder_in(parts)?;
+            Ok(Route::Register { holder })
         }
-        Err(_) => Err(WebFault::NoRoute),
+        Endpoint::OpenGuarantee => {
+            let holder = holder_in(parts)?;
+            Ok(Route::OpenGuarantee { holder })
+        }
+        Endpoint::SeeHolder => {
+            let holder = holder_in(parts)?;
+            Ok(Route::SeeHolder { holder })
+        }
+        Endpoint::SeeGuarantee => {
+            let (holder, grn) = holder_and_grn(parts)?;
+            Ok(Route::SeeGuarantee { holder, grn })
+        }
+        Endpoint::Ie015 => {
+            let holder = holder_in(parts)?;
+            Ok(Route::Ie015 { holder })
+        }
+        Endpoint::SeeMovement => {
+            let (holder, mrn) = holder_and_mrn(parts)?;
+            Ok(Route::SeeMovement { holder, mrn })
+        }
     }
 }
 
-// The methods of a place.
-fn methods_for(place: Place) -> Allowed
-    ensures { result ≡ methods_at place }
+// The row with this pattern and this method.
+fn row_with<'t>(rows: &'t [Row], pattern: &str, method: &str) -> Option<&'t Row>
+    ensures { option_map (λ row. row_shown row.now) result
+        ≡ row_with (map row_shown rows.now) pattern.now method.now }
 {
-    match place {
-        Place::OfficeHolder => Allowed::Put,
-        Place::OfficeGuarantees | Place::Movements => Allowed::Post,
-        Place::Holder | Place::Movement | Place::Guarantee => Allowed::Get,
+    for row in rows {
+        if row.path == pattern && row.method.name() == method {
+            return Some(row);
+        }
     }
+    None
 }
 
-// The methods of a path in a router.
-fn find_methods(router: &Router<Place>, path: &str) -> Option<Allowed>
-    ensures { result ≡ option_map (λ row. methods_at row.value) (first router.now path.now) }
+// The methods of the rows with this pattern.
+fn methods_with(rows: &[Row], pattern: &str) -> Allowed
+    ensures { result ≡ methods_with (map row_shown rows.now) pattern.now }
 {
-    match router.at(path) {
-        Ok(found) => Some(methods_for(*found.value)),
-        Err(_) => None,
+    Allowed {
+        get: row_with(rows, pattern, Verb::Get.name()).is_some(),
+        post: row_with(rows, pattern, Verb::Post.name()).is_some(),
+        put: row_with(rows, pattern, Verb::Put.name()).is_some(),
     }
 }
 
-// The router of the desk's paths: the one at hand, or a new one.
-fn table_router(alloc: Global, at_hand: Option<Router<Place>>) -> Result<Router<Place>, WebFault>
-    requires { ForSome at_hand (λ r. r ≡ filled table []) }
-    ensures ok { IfOk result (λ r. r ≡ filled table []) }
-    ensures err { IfErr result (λ e. (e ≡ NoMemory) × (at_hand ≡ None)) }
+// The route of a method and a path in a table.
+fn find(table: &PathTable<'_, Row>, method: &Method, path: &str) -> Result<Route, WebFault>
+    ensures { result ≡ route_in (map row_shown table.now.rows.now) method.now path.now }
+{
+    let Some(found) = table.find(path) else {
+        return Err(WebFault::NoRoute);
+    };
+    let pattern = found.row.path;
+    match row_with(table.rows, pattern, method.as_str()) {
+        Some(row) => read_parts(row.endpoint, &found.parts),
+        None => Err(WebFault::NoMethod {
+            allow: methods_with(table.rows, pattern),
+        }),
+    }
+}
+
+// The methods of a path in a table.
+fn find_methods(table: &PathTable<'_, Row>, path: &str) -> Option<Allowed>
+    ensures { result ≡ option_map (methods_with (map row_shown table.now.rows.now))
+        (pattern_in (map row_shown table.now.rows.now) path.now) }
+{
+    let found = table.find(path)?;
+    Some(methods_with(table.rows, found.row.path))
+}
+
+// The table of the desk's paths: the one at hand, or a new one.
+fn desk_table(
+    alloc: Global,
+    at_hand: Option<PathTable<'static, Row>>,
+) -> Result<PathTable<'static, Row>, WebFault>
+    requires { ForSome at_hand (λ t. map row_shown t.rows.now ≡ table) }
+    ensures ok { IfOk result (λ t. map row_shown t.rows.now ≡ table) }
+    ensures err { IfErr result (λ e. (e ≡ NoMemory) × (at_hand.entry ≡ None)) }
 {
     match at_hand {
-        Some(router) => Ok(router),
-        None => match router_of(alloc, &PATHS) {
-            Ok(router) => Ok(router),
-            Err(_) => Err(WebFault::NoMemory),
-        },
+        Some(table) => Ok(table),
+        None => Ok(PathTable::new(alloc, &ROWS)?),
     }
 }
 
 /// The desk's paths, looked up by one router for all requests. It is made at the first of them.
 #[derive(Drop)]
 pub struct Routes {
-    router: Option<Router<Place>>,
-    ghost of_table: { ForSome router (λ r. r ≡ filled table []) },
+    router: Option<PathTable<'static, Row>>,
+    ghost of_table: { ForSome router (λ t. map row_shown t.rows.now ≡ table) },
 }
 
 impl Routes {
@@ -183,9 +185,9 @@ impl Routes {
         let Ok(path) = str::from_utf8(path) else {
             return Err(WebFault::NoRoute);
         };
-        let router = table_router(alloc, self.router.take())?;
-        let route = find(&router, method, path);
-        self.router = Some(router);
+        let table = desk_table(alloc, self.router.take())?;
+        let route = find(&table, method, path);
+        self.router = Some(table);
         route
     }
 }
@@ -202,9 +204,9 @@ impl Routes {
         let Ok(path) = str::from_utf8(path) else {
             return Ok(None);
         };
-        let router = table_router(alloc, self.router.take())?;
-        let methods = find_methods(&router, path);
-        self.router = Some(router);
+        let table = desk_table(alloc, self.router.take())?;
+        let methods = find_methods(&table, path);
+        self.router = Some(table);
         Ok(methods)
     }
 }

@@ -1,29 +1,79 @@
-//! The table of requests: paths, their methods, and the parts that they name.
+//! The table of requests: methods and paths, and what they ask for.
+ghost use Rattle.std.specs.Prelude.{◌≡◌};
+ghost use Rattle.td_routes.specs.Faults.{verb_text};
+
 use td_base::{Grn, HolderNo, Mrn};
 
-/// A path of the table.
+/// A method that a path of the desk may have (RFC 9110, section 9.3).
 #[derive(Clone, Copy, Debug, PartialEq, Eq)]
-pub(crate) enum Place {
-    OfficeHolder,
-    OfficeGuarantees,
-    Movements,
-    Holder,
-    Movement,
-    Guarantee,
+pub(crate) enum Verb {
+    Get,
+    Post,
+    Put,
 }
 
-/// A line of the table: a path and a method of it, named like its command.
+impl Verb {
+    /// The method's name.
+    pub(crate) fn name(self) -> &'static str
+        ensures { result.now ≡ verb_text self }
+    {
+        match self {
+            Verb::Get => "GET",
+            Verb::Post => "POST",
+            Verb::Put => "PUT",
+        }
+    }
+}
+
+/// What a method of a path asks for, named like its command.
 #[derive(Clone, Copy, Debug, PartialEq, Eq)]
-pub(crate) enum Line {
+pub(crate) enum Endpoint {
     Register,
     OpenGuarantee,
-    Ie015,
     SeeHolder,
-    SeeMovement,
     SeeGuarantee,
+    Ie015,
+    SeeMovement,
 }
 
-/// A line of the table with the parts of its path.
+/// A row of the table: a method, the pattern of its paths, and what they ask for.
+#[derive(Clone, Copy, Debug)]
+pub(crate) struct Row {
+    pub method: Verb,
+    pub path: &'static str,
+    pub endpoint: Endpoint,
+}
+
+// A row in one line.
+macro_rules! row {
+    ($method:ident, $path:literal, $endpoint:ident) => {
+        Row {
+            method: Verb::$method,
+            path: $path,
+            endpoint: Endpoint::$endpoint,
+        }
+    };
+}
+
+/// The rows, in the table's order.
+pub(crate) static ROWS: [Row; 6] = [
+    row!(Put, "/office/holders/{h}", Register),
+    row!(Post, "/office/holders/{h}/guarantees", OpenGuarantee),
+    row!(Get, "/holders/{h}", SeeHolder),
+    row!(Get, "/holders/{h}/guarantees/{g}", SeeGuarantee),
+    row!(Post, "/holders/{h}/movements", Ie015),
+    row!(Get, "/holders/{h}/movements/{m}", SeeMovement),
+];
+
+impl path_table::Row for Row {
+    ghost pattern = { λ row. row.path.now };
+
+    fn pattern(&self) -> &str {
+        self.path
+    }
+}
+
+/// A row of the table with the parts of its path.
 #[derive(Clone, Copy, Debug, PartialEq, Eq)]
 pub enum Route {
     /// `PUT /office/holders/H`

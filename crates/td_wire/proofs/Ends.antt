@@ -8,7 +8,7 @@ use Rattle.counted_io.proofs.Calls.{made_on}
 use Rattle.counted_io.proofs.Chaining.{wrote_on, wrote_appends}
 use Rattle.td_wire.specs.declared.reply.Reply.{Reply}
 use Rattle.td_wire.specs.declared.stream.StreamEnd.TheVariants.{Asked, Served, WriteFault, Failed}
-use Rattle.td_wire.specs.ReplyText.{reply_bytes, is_made}
+use Rattle.td_wire.specs.ReplyText.{bytes_of, is_made}
 use Rattle.td_wire.specs.Stream.{Exchange, replies_of, wires_of, silence, Sides, Run}
 use Rattle.td_wire.proofs.Needs.{left_at_end}
 use Rattle.td_wire.proofs.Serving.{Words, IsServed, Serving, Handled, replies_sent, no_parting, count_push}
@@ -24,12 +24,12 @@ run_of {now = now} {unread = unread} {left = left} h written =
 pub cut_reply : {R W C H : Type 0} {k : Words R W C H}
     {old now : Sides R W C H} {unread : List ℕ} {room left served : ℕ} {close : Bool} {reply : Reply}
     → Handled k old now unread room left served close reply → served < 1000
-    → (writer : Counted W) → IsCutShort k.contents now.writer writer (reply_bytes reply) → MadeWrites now.writer writer false
+    → (writer : Counted W) → IsCutShort k.contents now.writer writer (bytes_of reply) → MadeWrites now.writer writer false
     → IsServed k old (record now { writer = writer }) WriteFault
 cut_reply {k = k} {old = old} {now = now} {reply = reply} h few writer cut writes =
-    let written = replies_of h.before ++ take cut.taken (reply_bytes reply) in
+    let written = replies_of h.before ++ take cut.taken (bytes_of reply) in
     let count = h.count in
-    let wrote = wrote_on k.contents old.writer now.writer writer (replies_of h.before) (take cut.taken (reply_bytes reply)) false h.wrote cut.wrote in
+    let wrote = wrote_on k.contents old.writer now.writer writer (replies_of h.before) (take cut.taken (bytes_of reply)) false h.wrote cut.wrote in
     record {
       run = run_of h written;
       consumed = h.read.consumed;
@@ -56,8 +56,8 @@ cut_reply {k = k} {old = old} {now = now} {reply = reply} h few writer cut write
           silent = refl;
           breaks = record {
             taken = cut.taken;
-            short = subst (λ r. cut.taken < length (reply_bytes r)) (sym h.reply_is) cut.short;
-            is = ap (λ r. replies_of h.before ++ take cut.taken (reply_bytes r)) (sym h.reply_is);
+            short = subst (λ r. cut.taken < length (bytes_of r)) (sym h.reply_is) cut.short;
+            is = ap (λ r. replies_of h.before ++ take cut.taken (bytes_of r)) (sym h.reply_is);
           };
           left = h.over;
         }),
@@ -68,7 +68,7 @@ cut_reply {k = k} {old = old} {now = now} {reply = reply} h few writer cut write
 pub fixed_reply : {R W C H : Type 0} {k : Words R W C H}
     {old now : Sides R W C H} {unread : List ℕ} {room left served : ℕ} {close : Bool} {reply : Reply}
     → Handled k old now unread room left served close reply → served < 1000
-    → (writer : Counted W) → Wrote k.contents now.writer writer (reply_bytes reply) true
+    → (writer : Counted W) → Wrote k.contents now.writer writer (bytes_of reply) true
     → is_made reply ≡ false → IsServed k old (record now { writer = writer }) Failed
 fixed_reply {k = k} {old = old} {now = now} {reply = reply} h few writer sent fixed =
     let count = h.count in
@@ -97,7 +97,7 @@ fixed_reply {k = k} {old = old} {now = now} {reply = reply} h few writer sent fi
 pub asked_reply : {R W C H : Type 0} {k : Words R W C H}
     {old now : Sides R W C H} {unread : List ℕ} {room left served : ℕ} {close : Bool} {reply : Reply}
     → Handled k old now unread room left served close reply → served < 1000
-    → (writer : Counted W) → Wrote k.contents now.writer writer (reply_bytes reply) true
+    → (writer : Counted W) → Wrote k.contents now.writer writer (bytes_of reply) true
     → is_made reply ≡ true → close ≡ true → IsServed k old (record now { writer = writer }) Asked
 asked_reply {k = k} {old = old} {now = now} {reply = reply} h few writer sent made asks =
     let count = h.count in

@@ -17,7 +17,7 @@ use Rattle.td_wire.specs.declared.request.Request.{Request}
 use Rattle.td_wire.specs.declared.reply.Reply.{Reply}
 use Rattle.td_wire.specs.declared.stream.StreamEnd.{StreamEnd}
 use Rattle.td_wire.specs.Request as request
-use Rattle.td_wire.specs.ReplyText.{reply_bytes, is_made}
+use Rattle.td_wire.specs.ReplyText.{bytes_of, is_made}
 use Rattle.td_wire.specs.Reading.{HasRead, ReadsOn, Takes, KeepsRoom, brought}
 use Rattle.td_wire.specs.Wire.{Wire, IsWire, IsRequestOn, wire_bytes, Splits, asks_close}
 use Rattle.td_wire.specs.Stream.{Exchange, question, Chain, wires_of, replies_of, HasNotReadOn, GoesOn, silence, parting_bytes, Sides, Serves}
@@ -25,26 +25,26 @@ use Rattle.td_wire.proofs.Needs.{IsLeftOver, left_after}
 use Rattle.td_wire.proofs.Readings.{HasRead-trans, read_none}
 
 -- one exchange more at the end of a chain
-Chain-push : {C H : Type 0} (ticks : C → ℤ → C → Type 0) (answers : H → ℤ → request.Asked → Reply → H → Type 0)
+Chain-push : {C H : Type 0} (ticks : C → ℤ → C → Type 0) (handles : H → ℤ → request.Asked → Reply → H → Type 0)
     (n : ℕ) (old mid : C × H) (es : List Exchange) (e : Exchange) (clock : C) (handler : H)
-    → Chain ticks answers n old es mid → ticks mid.0 e.at clock → answers mid.1 e.at (question (n + length es) e.wire) e.reply handler
-    → Chain ticks answers n old (es ++ e ∷ []) (clock, handler)
-Chain-push ticks answers n old mid [] e clock handler chain tick answer = (
+    → Chain ticks handles n old es mid → ticks mid.0 e.at clock → handles mid.1 e.at (question (n + length es) e.wire) e.reply handler
+    → Chain ticks handles n old (es ++ e ∷ []) (clock, handler)
+Chain-push ticks handles n old mid [] e clock handler chain tick answer = (
   clock,
   handler,
   subst (λ s. ticks s.0 e.at clock) chain tick,
-  subst (λ s. answers s.1 e.at (question n e.wire) e.reply handler) chain
-      (subst (λ (k : ℕ). answers mid.1 e.at (question k e.wire) e.reply handler) (let none : n + 0 ≡ n = omega arith in none) answer),
+  subst (λ s. handles s.1 e.at (question n e.wire) e.reply handler) chain
+      (subst (λ (k : ℕ). handles mid.1 e.at (question k e.wire) e.reply handler) (let none : n + 0 ≡ n = omega arith in none) answer),
   refl,
 )
-Chain-push ticks answers n old mid (x ∷ es) e clock handler chain tick answer =
+Chain-push ticks handles n old mid (x ∷ es) e clock handler chain tick answer =
     let place : n + length (x ∷ es) ≡ (n + 1) + length es = omega arith in (
       chain.0,
       chain.1,
       chain.2,
       chain.3,
-      Chain-push ticks answers (n + 1) (chain.0, chain.1) mid es e clock handler chain.4 tick
-          (subst (λ (k : ℕ). answers mid.1 e.at (question k e.wire) e.reply handler) place answer),
+      Chain-push ticks handles (n + 1) (chain.0, chain.1) mid es e clock handler chain.4 tick
+          (subst (λ (k : ℕ). handles mid.1 e.at (question k e.wire) e.reply handler) place answer),
     )
 
 -- the bytes of one request more
@@ -69,16 +69,16 @@ Splits-more given more unread wires splits =
     record { whole = ap (λ (b : List ℕ). b ++ more) splits.whole ∙ append_assoc (flat_map wire_bytes wires) unread more; each = splits.each }
 
 -- the bytes of one reply more
-replies_push : (es : List Exchange) (e : Exchange) → replies_of (es ++ e ∷ []) ≡ replies_of es ++ reply_bytes e.reply
+replies_push : (es : List Exchange) (e : Exchange) → replies_of (es ++ e ∷ []) ≡ replies_of es ++ bytes_of e.reply
 replies_push es e =
-    flat_map-append (λ (x : Exchange). reply_bytes x.reply) es (e ∷ []) ∙ ap (λ (b : List ℕ). replies_of es ++ b) (append-nil (reply_bytes e.reply))
+    flat_map-append (λ (x : Exchange). bytes_of x.reply) es (e ∷ []) ∙ ap (λ (b : List ℕ). replies_of es ++ b) (append-nil (bytes_of e.reply))
 
 -- what is known of the bytes of a reader and a writer, and what a clock and a handler may do
 pub record Words (R W C H : Type 0) : Type 1 where
   pub remaining : R → Option (List ℕ)
   pub contents : W → Option (List ℕ)
   pub ticks : C → ℤ → C → Type 0
-  pub answers : H → ℤ → request.Asked → Reply → H → Type 0
+  pub handles : H → ℤ → request.Asked → Reply → H → Type 0
   pub heads : H → List ℕ → Reply → H → Type 0
 
 -- the sides, one after the other
@@ -87,7 +87,7 @@ sides reader writer clock handler = record { reader = reader; writer = writer; c
 
 -- the stream was served, in these words
 abbrev pub IsServed : {R W C H : Type 0} → Words R W C H → Sides R W C H → Sides R W C H → StreamEnd → Type 0
-IsServed k old new end = Serves k.remaining k.contents k.ticks k.answers k.heads old new end
+IsServed k old new end = Serves k.remaining k.contents k.ticks k.handles k.heads old new end
 
 -- what holds between two requests
 pub record Serving {R W C H : Type 0} (k : Words R W C H)
@@ -98,7 +98,7 @@ pub record Serving {R W C H : Type 0} (k : Words R W C H)
   pub over : IsLeftOver read.pieces unread
   pub roomy : left < 100000 → MOST ≤ room
   pub reading : Splits given (wires_of exchanges) unread
-  pub chain : Chain k.ticks k.answers 0 (old.clock, old.handler) exchanges (now.clock, now.handler)
+  pub chain : Chain k.ticks k.handles 0 (old.clock, old.handler) exchanges (now.clock, now.handler)
   pub wrote : Wrote k.contents old.writer now.writer (replies_of exchanges) true
   pub writes : ℕ
   pub made : HasMade writes (calls_of old.writer) (calls_of now.writer)
@@ -135,7 +135,7 @@ pub record Handled {R W C H : Type 0} (k : Words R W C H)
   pub over : HasNotReadOn read.pieces unread
   pub roomy : left < 100000 → MOST ≤ room
   pub reading : Splits given (wires_of (before ++ last ∷ [])) unread
-  pub chain : Chain k.ticks k.answers 0 (old.clock, old.handler) (before ++ last ∷ []) (now.clock, now.handler)
+  pub chain : Chain k.ticks k.handles 0 (old.clock, old.handler) (before ++ last ∷ []) (now.clock, now.handler)
   pub wrote : Wrote k.contents old.writer now.writer (replies_of before) true
   pub writes : ℕ
   pub made : HasMade writes (calls_of old.writer) (calls_of now.writer)
@@ -161,7 +161,7 @@ pub handled : {R W C H : Type 0} {k : Words R W C H}
     → (reader : Counted R) (more rest : List ℕ) (wider fewer : ℕ) (r : Request) → ReadsOn k.remaining now.reader reader unread more left fewer brought
     → KeepsRoom room wider left fewer → Takes (unread ++ more) rest r
     → (at : ℤ) (clock : C) → k.ticks now.clock at clock
-    → (reply : Reply) (handler : H) → k.answers now.handler at (record (request.asked r) { close = r.close || (served + 1 == 1000) }) reply handler
+    → (reply : Reply) (handler : H) → k.handles now.handler at (record (request.asked r) { close = r.close || (served + 1 == 1000) }) reply handler
     → Handled k old (record { reader = reader; writer = now.writer; clock = clock; handler = handler }) rest wider fewer served r.close reply
 unfolding HasRead-trans
 handled {k = k} {old = old} {now = now} {unread = unread} {room = room} {left = left} {served = served} s reader more rest wider fewer r reads keeps takes at clock tick reply handler answer =
@@ -169,8 +169,8 @@ handled {k = k} {old = old} {now = now} {unread = unread} {room = room} {left = 
     let asked = asked_is served takes.wire r takes.request in
     let count = s.count in
     let place : 0 + length s.exchanges ≡ served = omega arith in
-    let question_is : k.answers now.handler at (question (0 + length s.exchanges) takes.wire) reply handler =
-    rw place (subst (λ (a : request.Asked). k.answers now.handler at a reply handler) asked answer) in
+    let question_is : k.handles now.handler at (question (0 + length s.exchanges) takes.wire) reply handler =
+    rw place (subst (λ (a : request.Asked). k.handles now.handler at a reply handler) asked answer) in
     record {
       given = s.given ++ more;
       before = s.exchanges;
@@ -179,7 +179,7 @@ handled {k = k} {old = old} {now = now} {unread = unread} {room = room} {left = 
       over = left_after s.read.pieces reads.read.pieces unread more rest takes.wire s.over reads.needed reads.read.given_is takes.is_wire takes.whole;
       roomy = room_through room wider left fewer s.roomy s.read.spent reads.read.spent keeps;
       reading = Splits-push s.given more unread rest s.exchanges last s.reading takes.whole takes.is_wire;
-      chain = Chain-push k.ticks k.answers 0 (old.clock, old.handler) (now.clock, now.handler) s.exchanges last clock handler s.chain tick question_is;
+      chain = Chain-push k.ticks k.handles 0 (old.clock, old.handler) (now.clock, now.handler) s.exchanges last clock handler s.chain tick question_is;
       wrote = s.wrote;
       writes = s.writes;
       made = s.made;
@@ -199,10 +199,10 @@ count_push es e = length-append es (e ∷ [])
 
 -- a reply after some replies
 pub replies_sent : {W : Type 0} (contents : W → Option (List ℕ)) (old now new : Counted W) (es : List Exchange) (e : Exchange) (reply : Reply)
-    → Wrote contents old now (replies_of es) true → Wrote contents now new (reply_bytes reply) true → e.reply ≡ reply
+    → Wrote contents old now (replies_of es) true → Wrote contents now new (bytes_of reply) true → e.reply ≡ reply
     → Wrote contents old new (replies_of (es ++ e ∷ [])) true
 replies_sent contents old now new es e reply before sent is =
-    let text : replies_of (es ++ e ∷ []) ≡ replies_of es ++ reply_bytes reply = replies_push es e ∙ ap (λ r. replies_of es ++ reply_bytes r) is in
+    let text : replies_of (es ++ e ∷ []) ≡ replies_of es ++ bytes_of reply = replies_push es e ∙ ap (λ r. replies_of es ++ bytes_of r) is in
     rw text (wrote_on contents old now new _ _ true before sent)
 
 -- where nothing is written after the replies
@@ -213,7 +213,7 @@ no_parting es = sym (append-nil (replies_of es))
 pub goes_on : {R W C H : Type 0} {k : Words R W C H}
     {old now : Sides R W C H} {unread : List ℕ} {room left served : ℕ} {close : Bool} {reply : Reply}
     → Handled k old now unread room left served close reply
-    → (writer : Counted W) → Wrote k.contents now.writer writer (reply_bytes reply) true → MadeWrites now.writer writer true
+    → (writer : Counted W) → Wrote k.contents now.writer writer (bytes_of reply) true → MadeWrites now.writer writer true
     → is_made reply ≡ true → close ≡ false
     → Serving k old (record now { writer = writer }) unread room left (served + 1)
 goes_on {k = k} {old = old} {now = now} {reply = reply} h writer sent writes made stays =

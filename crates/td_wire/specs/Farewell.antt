@@ -8,7 +8,7 @@ use Rattle.td_wire.specs.declared.reading.Stop.TheVariants as stop
 use Rattle.td_wire.specs.declared.reply.Reply.{Reply}
 use Rattle.td_wire.specs.declared.stream.StreamEnd.{StreamEnd}
 use Rattle.td_wire.specs.declared.stream.StreamEnd.TheVariants.{Closed, Refused, Cut, ReadsSpent, ReadFault, WriteFault, Failed}
-use Rattle.td_wire.specs.ReplyText.{framing_reply, no_memory_reply, reply_bytes, is_made}
+use Rattle.td_wire.specs.ReplyText.{framing_reply, no_memory_reply, bytes_of, is_made}
 
 -- the message was written and the stream ended so, or it was cut short
 abbrev pub SendsLast : {W : Type 0} → (W → Option (List ℕ)) → Counted W → Counted W → List ℕ → StreamEnd → StreamEnd → Type 0
@@ -26,4 +26,4 @@ Farewell contents heads old new before after stop.NoMemory end = SendsLast conte
 Farewell contents heads old new before after (stop.Refused e) end = SendsLast contents old new (framing_reply e) Refused end × (after ≡ before)
 Farewell contents heads old new before after (stop.Head target) end =
     (reply : Reply) × heads before target.items reply after
-    × SendsLast contents old new (reply_bytes reply) (if is_made reply then Refused else Failed) end
+    × SendsLast contents old new (bytes_of reply) (if is_made reply then Refused else Failed) end

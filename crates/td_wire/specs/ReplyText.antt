@@ -60,10 +60,10 @@ abbrev pub store_reply : List ℕ
 store_reply = reply_text 500 None true (error_text (codes "store"))
 
 -- the bytes of a reply
-abbrev pub reply_bytes : Reply → List ℕ
-reply_bytes (Made bytes) = bytes.items
-reply_bytes NoMemory = no_memory_reply
-reply_bytes Store = store_reply
+abbrev pub bytes_of : Reply → List ℕ
+bytes_of (Made bytes) = bytes.items
+bytes_of NoMemory = no_memory_reply
+bytes_of Store = store_reply
 
 -- it is the reply of a handler, and not a fixed one that a fault has
 abbrev pub is_made : Reply → Bool

@@ -11,7 +11,7 @@ use Rattle.td_wire.specs.declared.reply.Reply.{Reply}
 use Rattle.td_wire.specs.declared.stream.StreamEnd.{StreamEnd}
 use Rattle.td_wire.specs.declared.stream.StreamEnd.TheVariants.{Closed, Asked, Served, Refused, Cut, ReadsSpent, ReadFault, WriteFault, Failed}
 use Rattle.td_wire.specs.Request as request
-use Rattle.td_wire.specs.ReplyText.{framing_reply, no_memory_reply, reply_bytes, is_made}
+use Rattle.td_wire.specs.ReplyText.{framing_reply, no_memory_reply, bytes_of, is_made}
 use Rattle.td_wire.specs.Reading.{Finish, brought, ended, failed, Reads, count_of}
 use Rattle.td_wire.specs.Wire.{Wire, Splits, asks_close, IsOpen, IsRefusedFor, IsHeadRequest, BeginsServed}
 
@@ -30,17 +30,17 @@ question before w =
 -- handler that the one before left.
 abbrev pub Chain : {C H : Type 0} → (C → ℤ → C → Type 0) → (H → ℤ → request.Asked → Reply → H → Type 0)
     → ℕ → C × H → List Exchange → C × H → Type 0
-Chain ticks answers before old [] new = new ≡ old
-Chain {C} {H} ticks answers before old (e ∷ es) new =
-    (clock : C) × (handler : H) × ticks old.0 e.at clock × answers old.1 e.at (question before e.wire) e.reply handler
-    × Chain ticks answers (before + 1) (clock, handler) es new
+Chain ticks handles before old [] new = new ≡ old
+Chain {C} {H} ticks handles before old (e ∷ es) new =
+    (clock : C) × (handler : H) × ticks old.0 e.at clock × handles old.1 e.at (question before e.wire) e.reply handler
+    × Chain ticks handles (before + 1) (clock, handler) es new
 
 -- the requests, and the bytes of the replies
 abbrev pub wires_of : List Exchange → List Wire
 wires_of es = map (λ e. e.wire) es
 
 abbrev pub replies_of : List Exchange → List ℕ
-replies_of es = flat_map (λ e. reply_bytes e.reply) es
+replies_of es = flat_map (λ e. bytes_of e.reply) es
 
 -- the stream goes on after the reply, unless the request is the thousandth
 pub record GoesOn (e : Exchange) : Type 0 where
@@ -58,7 +58,7 @@ pub data Parting : Type 0 where
 abbrev pub parting_bytes : Parting → List ℕ
 parting_bytes silence = []
 parting_bytes (refusal e) = framing_reply e
-parting_bytes (to_head target reply) = reply_bytes reply
+parting_bytes (to_head target reply) = bytes_of reply
 parting_bytes no_memory = no_memory_reply
 
 -- it answers what the rest begins with, and leads from one state of the handler to another
@@ -199,7 +199,7 @@ pub record CutAtReply {H : Type 0} (run : Run H) : Type 0 where
   pub last : Exchange
   pub ended : EndedBy run.exchanges last
   pub silent : run.parting ≡ silence
-  pub breaks : BreaksOff (replies_of ended.before) (reply_bytes last.reply) run.written
+  pub breaks : BreaksOff (replies_of ended.before) (bytes_of last.reply) run.written
   pub left : HasNotReadOn run.pieces run.rest
 
 -- what is written after the replies wasn't written whole, and the replies were
@@ -225,13 +225,13 @@ EndsAs remaining old new run WriteFault =
 -- brought bytes that were needed, but for the last one where the stream ended by it; each write took bytes, but for the last
 -- one where the stream ended by that.
 pub record Serves {R W C H : Type 0} (remaining : R → Option (List ℕ)) (contents : W → Option (List ℕ))
-    (ticks : C → ℤ → C → Type 0) (answers : H → ℤ → request.Asked → Reply → H → Type 0) (heads : H → List ℕ → Reply → H → Type 0)
+    (ticks : C → ℤ → C → Type 0) (handles : H → ℤ → request.Asked → Reply → H → Type 0) (heads : H → List ℕ → Reply → H → Type 0)
     (old new : Sides R W C H) (end : StreamEnd) : Type 0 where
   pub run : Run H
   pub consumed : Consumes (known_bytes remaining old.reader) (known_bytes remaining new.reader) run.given
   pub reading : Splits run.given (wires_of run.exchanges) run.rest
   pub at_most : length run.exchanges ≤ 1000
-  pub chain : Chain ticks answers 0 (old.clock, old.handler) run.exchanges (new.clock, run.handler)
+  pub chain : Chain ticks handles 0 (old.clock, old.handler) run.exchanges (new.clock, run.handler)
   pub parting : IsParting heads run.handler new.handler run.rest run.parting
   pub appended : Appends (known_bytes contents old.writer) (known_bytes contents new.writer) run.written
   pub whole : end ≢ WriteFault → run.written ≡ replies_of run.exchanges ++ parting_bytes run.parting

@@ -1,7 +1,7 @@
 //! The bytes of replies.
 ghost use Rattle.std.specs.Prelude.{◌≡◌, IfOk, Some, string_bytes};
 ghost use Rattle.std.specs.Option.{option_copied};
-ghost use Rattle.td_wire.specs.ReplyText.{allow_line, close_line, reply_text, head_text, error_text, framing_reply, reply_bytes, is_made};
+ghost use Rattle.td_wire.specs.ReplyText.{allow_line, close_line, reply_text, head_text, error_text, framing_reply, bytes_of, is_made};
 
 use crate::framing::FramingError;
 use http::StatusCode;
@@ -43,7 +43,7 @@ pub enum Reply {
 impl Reply {
     /// The bytes. Those of a fixed reply take no memory.
     pub fn as_bytes(&self) -> &[u8]
-        ensures { result.now ≡ reply_bytes self.now }
+        ensures { result.now ≡ bytes_of self.now }
     {
         match self {
             Reply::Made(bytes) => bytes,

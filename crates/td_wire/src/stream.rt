@@ -42,7 +42,7 @@ pub enum StreamEnd {
     Failed,
 }
 
-/// What answers requests. Each implementation says by `answers` and `answers_head` which replies it may give, and what
+/// What answers requests. Each implementation says by `handles` and `handles_head` which replies it may give, and what
 /// becomes of it.
 pub trait Handler {
     ghost use Rattle.std.specs.Prelude.{ℕ, ℤ, List};
@@ -50,29 +50,29 @@ pub trait Handler {
     ghost use Rattle.td_wire.specs.declared.reply.Reply.{Reply};
 
     // the old state, the moment, the request, the reply, the new state
-    ghost answers: { Self → ℤ → Asked → Reply → Self → Type 0 };
+    ghost handles: { Self → ℤ → Asked → Reply → Self → Type 0 };
 
     // the old state, the target, the reply, the new state
-    ghost answers_head: { Self → List ℕ → Reply → Self → Type 0 };
+    ghost handles_head: { Self → List ℕ → Reply → Self → Type 0 };
 
     /// The reply to a request that came at this moment, in seconds since 1970-01-01T00:00:00Z.
     fn handle(&mut self, alloc: Global, at: i64, request: &Request) -> Reply
-        ensures { answers self.old at (asked request.now) result self.new };
+        ensures { handles self.old at (asked request.now) result self.new };
 
     /// The reply to a HEAD request, whose body isn't read.
     fn head(&mut self, alloc: Global, target: &[u8]) -> Reply
-        ensures { answers_head self.old target.now result self.new };
+        ensures { handles_head self.old target.now result self.new };
 }
 
 /// The reply to a request that came whole at this moment. The last one of a stream closes it.
-fn answer<H: Handler>(
+fn reply_to<H: Handler>(
     alloc: Global,
     at: i64,
     handler: &mut H,
     mut request: Request,
     last: bool,
 ) -> Reply
-    ensures { H.answers handler.old at (record (asked request) { close = request.close || last }) result handler.new }
+    ensures { H.handles handler.old at (record (asked request) { close = request.close || last }) result handler.new }
 {
     if last {
         request.close = true;
@@ -87,7 +87,7 @@ fn end_stream<W: Write, H: Handler>(
     handler: &mut H,
     stop: Stop,
 ) -> StreamEnd
-    ensures { Farewell W.contents H.answers_head writer.old writer.new handler.old handler.new stop result }
+    ensures { Farewell W.contents H.handles_head writer.old writer.new handler.old handler.new stop result }
 {
     match stop {
         Stop::Closed => StreamEnd::Closed,
@@ -131,7 +131,7 @@ pub fn serve_requests<R: Read, W: Write, C: Clock, H: Handler>(
     clock: &mut C,
     handler: &mut H,
 ) -> StreamEnd
-    ensures { Serves R.remaining W.contents C.ticks H.answers H.answers_head
+    ensures { Serves R.remaining W.contents C.ticks H.handles H.handles_head
         (record { reader = reader.old; writer = writer.old; clock = clock.old; handler = handler.old })
         (record { reader = reader.new; writer = writer.new; clock = clock.new; handler = handler.new })
         result }
@@ -145,7 +145,7 @@ pub fn serve_requests<R: Read, W: Write, C: Clock, H: Handler>(
         };
         let asks = request.close;
         let at = clock.seconds();
-        let reply = answer(alloc, at, handler, request, served + 1 == MAX_REQUESTS);
+        let reply = reply_to(alloc, at, handler, request, served + 1 == MAX_REQUESTS);
         if !write_whole(writer, reply.as_bytes()) {
             return StreamEnd::WriteFault;
         }

@@ -1,3 +1,4 @@
 //! The public calls, with ample memory.
 mod last_reads;
+mod long_replies;
 mod streams;

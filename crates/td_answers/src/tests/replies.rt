@@ -88,22 +88,40 @@ const NO_REFERENCE: [(WebFault, &str); 6] = [
 ];
 
 /// Other faults, and their replies.
-const TURNED_AWAY: [(WebFault, &str); 6] = [
+const TURNED_AWAY: [(WebFault, &str); 7] = [
     (
         WebFault::NoRoute,
         "HTTP/1.1 404 Not Found\r\nContent-Type: application/json\r\nContent-Length: 20\r\n\r\n{\"error\":\"no-route\"}",
     ),
     (
         WebFault::NoMethod {
-            allow: Allowed::Put,
+            allow: Allowed {
+                get: false,
+                post: false,
+                put: true,
+            },
         },
         "HTTP/1.1 405 Method Not Allowed\r\nContent-Type: application/json\r\nContent-Length: 21\r\nAllow: PUT\r\n\r\n{\"error\":\"no-method\"}",
     ),
     (
         WebFault::NoMethod {
-            allow: Allowed::Post,
+            allow: Allowed {
+                get: false,
+                post: true,
+                put: false,
+            },
         },
         "HTTP/1.1 405 Method Not Allowed\r\nContent-Type: application/json\r\nContent-Length: 21\r\nAllow: POST\r\n\r\n{\"error\":\"no-method\"}",
+    ),
+    (
+        WebFault::NoMethod {
+            allow: Allowed {
+                get: true,
+                post: true,
+                put: false,
+            },
+        },
+        "HTTP/1.1 405 Method Not Allowed\r\nContent-Type: application/json\r\nContent-Length: 21\r\nAllow: GET, POST\r\n\r\n{\"error\":\"no-method\"}",
     ),
     (
         WebFault::BadHolder,

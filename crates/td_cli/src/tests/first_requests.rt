@@ -27,7 +27,7 @@ const READ_FAULT: &[u8] = b"transit-desk: stream read-fault\n";
 
 const CUT: &[u8] = b"transit-desk: stream cut\n";
 
-// A prefix of a stream that ends there, or fails there, in one piece and byte by byte: these replies come, and this line where it ends.
+// A prefix of a stream that ends there, or fails there, in one piece and byte by byte: these replies come, and this message where it ends.
 fn assert_ends(
     rt: &(impl AllocGlobal + Clock + Abort),
     prefix: &[u8],
@@ -49,8 +49,8 @@ fn assert_ends(
     assert_job(rt, &WORDS, Drip::failing(prefix), failed)
 }
 
-// The line where the two requests are cut there: none between requests.
-fn line_at(end: usize) -> &'static [u8] {
+// The message where the two requests are cut there: none between requests.
+fn message_at(end: usize) -> &'static [u8] {
     if end == 0 || end == REGISTER.len() || end == REGISTER.len() + SEE.len() {
         b""
     } else {
@@ -63,7 +63,7 @@ fn assert_prefix(rt: &(impl AllocGlobal + Clock + Abort), prefix: &[u8]) -> Resu
     let end = prefix.len();
     let whole = usize::from(end >= REGISTER.len()) + usize::from(end == REGISTER.len() + SEE.len());
     let replies = many(rt.alloc(), b"", SHOWN, whole, b"")?;
-    assert_ends(rt, prefix, &replies, line_at(end))
+    assert_ends(rt, prefix, &replies, message_at(end))
 }
 
 fn assert_prefixes(rt: &(impl AllocGlobal + Clock + Abort), input: &[u8]) -> Result<(), Fail> {

@@ -49,14 +49,14 @@ const REFUSED: &[u8] = b"transit-desk: stream refused\n";
 
 const CUT: &[u8] = b"transit-desk: stream cut\n";
 
-// An input of a front, a unit so many times, and a back; the replies to it, and the line on standard error.
+// An input of a front, a unit so many times, and a back; the replies to it, and the message on standard error.
 struct Row {
     front: &'static [u8],
     unit: &'static [u8],
     times: usize,
     back: &'static [u8],
     reply: &'static [u8],
-    line: &'static [u8],
+    message: &'static [u8],
 }
 
 // Heads at their limits of bytes and of fields, and past them.
@@ -67,7 +67,7 @@ const HEADS: [Row; 6] = [
         times: 8187,
         back: b"",
         reply: TOO_LARGE,
-        line: REFUSED,
+        message: REFUSED,
     },
     Row {
         front: b"GET /",
@@ -75,7 +75,7 @@ const HEADS: [Row; 6] = [
         times: 8186,
         back: b"",
         reply: b"",
-        line: CUT,
+        message: CUT,
     },
     Row {
         front: b"GET /holders/000002 HTTP/1.1\r\nX:",
@@ -83,7 +83,7 @@ const HEADS: [Row; 6] = [
         times: 8156,
         back: b"\r\n\r\n",
         reply: NO_HOLDER,
-        line: DONE,
+        message: DONE,
     },
     Row {
         front: b"GET /holders/000002 HTTP/1.1\r\nX:",
@@ -91,7 +91,7 @@ const HEADS: [Row; 6] = [
         times: 8157,
         back: b"\r\n\r\n",
         reply: TOO_LARGE,
-        line: REFUSED,
+        message: REFUSED,
     },
     Row {
         front: b"GET /holders/000002 HTTP/1.1\r\n",
@@ -99,7 +99,7 @@ const HEADS: [Row; 6] = [
         times: 64,
         back: b"\r\n",
         reply: NO_HOLDER,
-        line: DONE,
+        message: DONE,
     },
     Row {
         front: b"GET /holders/000002 HTTP/1.1\r\n",
@@ -107,7 +107,7 @@ const HEADS: [Row; 6] = [
         times: 65,
         back: b"\r\n",
         reply: BAD_HEAD,
-        line: REFUSED,
+        message: REFUSED,
     },
 ];
 
@@ -119,7 +119,7 @@ const BODIES: [Row; 8] = [
         times: 65537,
         back: b"",
         reply: BODY_TOO_LARGE,
-        line: REFUSED,
+        message: REFUSED,
     },
     Row {
         front: b"PUT /office/holders/000002 HTTP/1.1\r\nContent-Length: 65536\r\n\r\n",
@@ -127,7 +127,7 @@ const BODIES: [Row; 8] = [
         times: 65535,
         back: b"",
         reply: b"",
-        line: CUT,
+        message: CUT,
     },
     Row {
         front: b"PUT /office/holders/000002 HTTP/1.1\r\nContent-Length: 65536\r\n\r\n",
@@ -135,7 +135,7 @@ const BODIES: [Row; 8] = [
         times: 65536,
         back: b"",
         reply: BAD_BODY,
-        line: DONE,
+        message: DONE,
     },
     Row {
         front: b"PUT /office/holders/000002 HTTP/1.1\r\nContent-Length: ",
@@ -143,7 +143,7 @@ const BODIES: [Row; 8] = [
         times: 23,
         back: b"\r\n\r\n",
         reply: BODY_TOO_LARGE,
-        line: REFUSED,
+        message: REFUSED,
     },
     Row {
         front: b"PUT /office/holders/000002 HTTP/1.1\r\nContent-Length: ",
@@ -151,7 +151,7 @@ const BODIES: [Row; 8] = [
         times: 200,
         back: b"5\r\n\r\naaaaa",
         reply: BAD_BODY,
-        line: DONE,
+        message: DONE,
     },
     Row {
         front: b"PUT /office/holders/000002 HTTP/1.1\r\nContent-Length: +5\r\n\r\n",
@@ -159,7 +159,7 @@ const BODIES: [Row; 8] = [
         times: 5,
         back: b"",
         reply: BAD_LENGTH,
-        line: REFUSED,
+        message: REFUSED,
     },
     Row {
         front: b"PUT /office/holders/000002 HTTP/1.1\r\n",
@@ -167,7 +167,7 @@ const BODIES: [Row; 8] = [
         times: 2,
         back: b"\r\naaaaa",
         reply: BAD_LENGTH,
-        line: REFUSED,
+        message: REFUSED,
     },
     Row {
         front: b"PUT /office/holders/000002 HTTP/1.1\r\nContent-Length: +5\r\nTransfer-Encoding: chunked\r\n\r\n",
@@ -175,7 +175,7 @@ const BODIES: [Row; 8] = [
         times: 5,
         back: b"",
         reply: TRANSFER_ENCODING,
-        line: REFUSED,
+        message: REFUSED,
     },
 ];
 
@@ -187,7 +187,7 @@ const LAST_REQUESTS: [Row; 7] = [
         times: 0,
         back: b"",
         reply: HEAD_REPLY,
-        line: REFUSED,
+        message: REFUSED,
     },
     Row {
         front: b"HEAD /holders/000002 HTTP/1.1\r\nContent-Length: 3\r\n\r\n",
@@ -195,7 +195,7 @@ const LAST_REQUESTS: [Row; 7] = [
         times: 2,
         back: b"",
         reply: HEAD_REPLY,
-        line: REFUSED,
+        message: REFUSED,
     },
     Row {
         front: b"HEAD /nothing HTTP/1.1\r\n\r\n",
@@ -203,7 +203,7 @@ const LAST_REQUESTS: [Row; 7] = [
         times: 0,
         back: b"",
         reply: b"HTTP/1.1 405 Method Not Allowed\r\nConnection: close\r\n\r\n",
-        line: REFUSED,
+        message: REFUSED,
     },
     Row {
         front: b"GET /holders/000002 HTTP/1.0\r\n\r\n",
@@ -211,7 +211,7 @@ const LAST_REQUESTS: [Row; 7] = [
         times: 1,
         back: b"",
         reply: NO_HOLDER_CLOSE,
-        line: DONE,
+        message: DONE,
     },
     Row {
         front: b"GET /holders/000002 HTTP/1.0\r\nConnection: keep-alive\r\n\r\n",
@@ -219,7 +219,7 @@ const LAST_REQUESTS: [Row; 7] = [
         times: 1,
         back: b"",
         reply: NO_HOLDER_CLOSE,
-        line: DONE,
+        message: DONE,
     },
     Row {
         front: b"GET /holders/000002 HTTP/1.1\r\nConnection: a, b\r\n",
@@ -227,7 +227,7 @@ const LAST_REQUESTS: [Row; 7] = [
         times: 1,
         back: b"\r\nGET / ",
         reply: NO_HOLDER_CLOSE,
-        line: DONE,
+        message: DONE,
     },
     Row {
         front: b"GET /holders/000002 HTTP/1.1\r\nConnection: close-not, not close\r\nExpect: 100-continue\r\n",
@@ -235,16 +235,16 @@ const LAST_REQUESTS: [Row; 7] = [
         times: 2,
         back: b"\r\n",
         reply: NO_HOLDER,
-        line: DONE,
+        message: DONE,
     },
 ];
 
 fn assert_framed(rt: &(impl AllocGlobal + Clock + Abort), row: &Row) -> Result<(), Fail> {
     let input = many(rt.alloc(), row.front, row.unit, row.times, row.back)?;
     let due = Due {
-        status: u8::from(!row.line.is_empty()),
+        status: u8::from(!row.message.is_empty()),
         out: row.reply,
-        errors: row.line,
+        errors: row.message,
     };
     assert_job(rt, &WORDS, input.as_slice(), due)
 }
@@ -410,12 +410,7 @@ fn is_joined(out: &[u8], replies: &[&[u8]]) -> bool {
 }
 
 fn is_due_after_faults(out: &[u8]) -> bool {
-    for replies in &REPLIES {
-        if is_joined(out, replies) {
-            return true;
-        }
-    }
-    false
+    REPLIES.iter().any(|replies| is_joined(out, replies))
 }
 
 // The input is served three times at most, as long as its streams fail.

@@ -317,13 +317,22 @@ fn tells_unknown_paths(rt: HostRuntime) -> Result<(), Fail> {
     all_told(&rt, &NO_ROUTE, WebFault::NoRoute)
 }
 
+// This method alone.
+fn only(method: &str) -> Allowed {
+    Allowed {
+        get: method == "GET",
+        post: method == "POST",
+        put: method == "PUT",
+    }
+}
+
 #[test]
 fn tells_the_allowed_method(rt: HostRuntime) -> Result<(), Fail> {
-    let allow = Allowed::Get;
+    let allow = only("GET");
     all_told(&rt, &ONLY_GET, WebFault::NoMethod { allow })?;
-    let allow = Allowed::Put;
+    let allow = only("PUT");
     all_told(&rt, &ONLY_PUT, WebFault::NoMethod { allow })?;
-    let allow = Allowed::Post;
+    let allow = only("POST");
     all_told(&rt, &ONLY_POST, WebFault::NoMethod { allow })
 }
 

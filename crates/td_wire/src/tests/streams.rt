@@ -36,9 +36,9 @@ fn made(bytes: Result<Vec<u8>, AllocError>) -> Reply {
 }
 
 impl Handler for Same {
-    ghost answers = { λ s at asked reply t. ⊤ };
+    ghost handles = { λ s at asked reply t. ⊤ };
 
-    ghost answers_head = { λ s target reply t. ⊤ };
+    ghost handles_head = { λ s target reply t. ⊤ };
 
     fn handle(&mut self, alloc: Global, _at: i64, request: &Request) -> Reply {
         made(json_reply(alloc, StatusCode::OK, None, request.close, "{}"))

@@ -2,7 +2,7 @@ use Rattle.std.proofs.Common.{Err, Ok, arith}
 use Rattle.td_base.specs.References.{IsReferenceText}
 use Rattle.td_base.specs.declared.references.RefFault.TheVariants.{CheckDigit}
 use Rattle.td_base.proofs.Checked.{check_fits, check_differs}
-use Rattle.td_base.proofs.Decided.{reference_read_is}
+use Rattle.td_base.proofs.Readers.{reference_read_is}
 use Rattle.td_base.proofs.references.read_reference.Goals as goal
 
 pub returns-then-ne : goal.returns-then-ne

@@ -1,7 +1,7 @@
 use Rattle.std.proofs.Common.{ap, sym, ◌∙◌, Some}
 use Rattle.std.specs.Char.{IsAsciiDigit}
 use Rattle.std.proofs.lemmas.List.Elements.{All-drop}
-use Rattle.td_base.specs.Holder.{digits_value}
+use Rattle.ascii_text.specs.Digits.{digits_value}
 use Rattle.td_base.specs.References.{identifier_of}
 use Rattle.td_base.proofs.Owners.{owned_since, owned_gives, serial_is, serial_place}
 use Rattle.td_base.proofs.references.serial_of.Goals as goal

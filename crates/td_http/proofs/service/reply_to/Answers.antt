@@ -10,7 +10,7 @@ returns-in-Ok-clause-handled g c = λ clean.
 
 pub returns-in-Err-clause-handled : goal.returns-in-Err-clause-handled
 returns-in-Err-clause-handled g c = λ clean.
-    (outcome.Failed c.in-Err.fault, c.in-Err.ensures.answered clean, c.failed.ensures.fixed c.args.close)
+    (outcome.Failed c.in-Err.fault, c.in-Err.ensures.answered clean, c.reply_to_fault.ensures.fixed c.args.close)
 
 pub returns-in-Err-clause-store : goal.returns-in-Err-clause-store
-returns-in-Err-clause-store g c = λ h. c.in-Err.ensures.store (ap Err (c.failed.ensures.store h))
+returns-in-Err-clause-store g c = λ h. c.in-Err.ensures.store (ap Err (c.reply_to_fault.ensures.store h))

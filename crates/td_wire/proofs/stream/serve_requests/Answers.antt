@@ -7,24 +7,24 @@ use Rattle.td_wire.specs.Input.{unread, room_of}
 use Rattle.td_wire.proofs.stream.serve_requests.Given.{Over}
 use Rattle.td_wire.proofs.stream.serve_requests.Invariants.{words_of}
 use Rattle.td_wire.proofs.stream.serve_requests.Goals as goal
-use Rattle.td_wire.proofs.stream.serve_requests.Goals.{After-answer-reply}
+use Rattle.td_wire.proofs.stream.serve_requests.Goals.{After-reply_to-reply}
 
 -- the request was read and handled
-handled_here : (g : Over) (c : After-answer-reply g)
+handled_here : (g : Over) (c : After-reply_to-reply g)
     → Handled (words_of g) (sides c.args.reader.now c.args.writer.now c.args.clock.now c.args.handler.now)
-    (sides c.read_request.new.reader c.loop-served.writer c.seconds-at.new.self c.answer-reply.new.handler)
-    (unread c.read_request.new.input) (room_of c.read_request.new.input) c.read_request.new.reads c.loop-served.served c.in-Ok.request.close c.answer-reply.result
+    (sides c.read_request.new.reader c.loop-served.writer c.seconds-at.new.self c.reply_to-reply.new.handler)
+    (unread c.read_request.new.input) (room_of c.read_request.new.input) c.read_request.new.reads c.loop-served.served c.in-Ok.request.close c.reply_to-reply.result
 handled_here g c =
     let fits : SFits w64 c.seconds-at.result = search rules in
     handled c.loop-served.invariant _ _ _ _ _ c.in-Ok.request c.in-Ok.ensures.read.1 c.in-Ok.ensures.room c.in-Ok.ensures.read.2
-    _ _ c.seconds-at.ensures c.answer-reply.result _ (rw (to_z-of_z w64 _ fits) at c.answer-reply.ensures)
+    _ _ c.seconds-at.ensures c.reply_to-reply.result _ (rw (to_z-of_z w64 _ fits) at c.reply_to-reply.ensures)
 
 pub loop-served-init : goal.loop-served-init
 loop-served-init g c = serving_first _ _ _ _ c.new-input.ensures
 
 pub loop-served-preserved : goal.loop-served-preserved
 loop-served-preserved g c =
-    let h = handled_here g (goal.at.loop-served-preserved g c).After-answer-reply in
+    let h = handled_here g (goal.at.loop-served-preserved g c).After-reply_to-reply in
     let sent = rw c.as_bytes.ensures at (c.if-not-write_whole.ensures.chain refl) in
     goes_on h _ sent c.if-not-write_whole.ensures.writes (sym c.if-not-is_made.ensures) c.if-asks.false
 
@@ -35,19 +35,19 @@ returns-in-Err g c =
 
 pub returns-then-not-write_whole : goal.returns-then-not-write_whole
 returns-then-not-write_whole g c =
-    let h = handled_here g (goal.at.returns-then-not-write_whole g c).After-answer-reply in
+    let h = handled_here g (goal.at.returns-then-not-write_whole g c).After-reply_to-reply in
     let cut = rw c.as_bytes.ensures at (c.if-not-write_whole.ensures.cut refl) in
     cut_reply h c.loop-served-test.true _ cut c.if-not-write_whole.ensures.writes
 
 pub returns-then-not-is_made : goal.returns-then-not-is_made
 returns-then-not-is_made g c =
-    let h = handled_here g (goal.at.returns-then-not-is_made g c).After-answer-reply in
+    let h = handled_here g (goal.at.returns-then-not-is_made g c).After-reply_to-reply in
     let sent = rw c.as_bytes.ensures at (c.if-not-write_whole.ensures.chain refl) in
     fixed_reply h c.loop-served-test.true _ sent (sym c.if-not-is_made.ensures)
 
 pub returns-then-asks : goal.returns-then-asks
 returns-then-asks g c =
-    let h = handled_here g (goal.at.returns-then-asks g c).After-answer-reply in
+    let h = handled_here g (goal.at.returns-then-asks g c).After-reply_to-reply in
     let sent = rw c.as_bytes.ensures at (c.if-not-write_whole.ensures.chain refl) in
     asked_reply h c.loop-served-test.true _ sent (sym c.if-not-is_made.ensures) c.if-asks.true
 

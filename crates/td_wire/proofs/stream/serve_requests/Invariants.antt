@@ -9,8 +9,8 @@ words_of g = record {
   remaining = g.R.Read.remaining;
   contents = g.W.Write.contents;
   ticks = g.C.Clock.ticks;
-  answers = g.H.Handler.answers;
-  heads = g.H.Handler.answers_head;
+  handles = g.H.Handler.handles;
+  heads = g.H.Handler.handles_head;
 }
 
 abbrev pub invariant-loop-served : goal.invariant-loop-served

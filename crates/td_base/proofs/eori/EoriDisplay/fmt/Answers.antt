@@ -1,4 +1,4 @@
-use Rattle.td_base.proofs.Ascii.{IsAscii-from_letters}
+use Rattle.ascii_text.proofs.Ascii.{IsAscii-from_letters}
 use Rattle.td_base.proofs.eori.EoriDisplay.fmt.Goals as goal
 
 pub write_ascii-requires : goal.write_ascii-requires

@@ -1,5 +1,5 @@
 use Rattle.std.proofs.Common.{rules}
-use Rattle.td_base.proofs.Decided.{holder_read_is}
+use Rattle.td_base.proofs.Readers.{holder_read_is}
 use Rattle.td_base.proofs.holder.HolderNo.read.Goals as goal
 
 pub returns-clause-value : goal.returns-clause-value

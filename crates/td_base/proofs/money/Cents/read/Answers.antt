@@ -3,10 +3,10 @@ use Rattle.std.proofs.lemmas.Bool.{false≢true}
 use Rattle.std.proofs.lemmas.Grind.{common_steps}
 use Rattle.std.proofs.lemmas.List.{length-take-le, length-drop}
 use Rattle.std.proofs.lemmas.Option.{get_or_from_slice_get}
+use Rattle.ascii_text.proofs.Decimals.{ten_power_small}
 use Rattle.td_base.specs.Money.{IsCentsText, cents_value}
 use Rattle.td_base.proofs.Amounts.{too_long, made_cents_text, SomeIff-same}
-use Rattle.td_base.proofs.Decided.{cents_read_is}
-use Rattle.td_base.proofs.Decimals.{ten_power_small}
+use Rattle.td_base.proofs.Readers.{cents_read_is}
 use Rattle.std.proofs.lemmas.List.{take_rest}
 use Rattle.td_base.proofs.money.Cents.read.Goals as goal
 use Rattle.td_base.proofs.money.Cents.read.Goals.{then-point-gt14-via-then-point-gt14, then-point-gt14-via-else-point-gt14+then-text-point-ne46, then-point-gt14-via-else-point-gt14+else-text-point-ne46+then-not-is_whole}

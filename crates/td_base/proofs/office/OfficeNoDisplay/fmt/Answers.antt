@@ -1,4 +1,4 @@
-use Rattle.td_base.proofs.Ascii.{IsAscii-from_letters}
+use Rattle.ascii_text.proofs.Ascii.{IsAscii-from_letters}
 use Rattle.td_base.proofs.office.OfficeNoDisplay.fmt.Goals as goal
 
 pub write_ascii-requires : goal.write_ascii-requires

@@ -9,9 +9,9 @@ pub returns-in-Err-clause-handled : goal.returns-in-Err-clause-handled
 returns-in-Err-clause-handled g c = record {
   clean = λ clean. clean;
   live = λ clean live. live;
-  handled = λ clean. unread_handled (g.D.Desk.is_live c.args.self.now.desk) (g.D.Desk.is_live c.args.self.now.desk) (g.D.Desk.content c.args.self.now.desk) c.args.at (command_in (asked c.args.request.now)) c.args.request.now.close c.in-Err.fault c.unread.result c.in-Err.ensures c.unread.ensures.memory c.unread.ensures.told;
+  handled = λ clean. unread_handled (g.D.Desk.is_live c.args.self.now.desk) (g.D.Desk.is_live c.args.self.now.desk) (g.D.Desk.content c.args.self.now.desk) c.args.at (command_in (asked c.args.request.now)) c.args.request.now.close c.in-Err.fault c.reply_to_unread.result c.in-Err.ensures c.reply_to_unread.ensures.memory c.reply_to_unread.ensures.told;
   unasked = λ why bad. refl;
-  store = λ h. absurd (unread_stores_nothing c.in-Err.fault c.args.request.now.close c.unread.result c.unread.ensures.told h);
+  store = λ h. absurd (unread_stores_nothing c.in-Err.fault c.args.request.now.close c.reply_to_unread.result c.reply_to_unread.ensures.told h);
 }
 
 pub returns-in-Err-clause-alone : goal.returns-in-Err-clause-alone

@@ -1,0 +1,4 @@
+pub mod Segments
+pub mod Sound
+pub mod Filled
+pub mod Taken

@@ -1,0 +1,47 @@
+//! The parts of a path.
+ghost use Rattle.std.specs.Prelude.{◌≡◌, option_map};
+ghost use Rattle.std.specs.List.{slice_get};
+
+use matchit::Params;
+use std::marker::Model;
+
+/// The parts of a path that the names of a pattern stand for, from left to right.
+#[derive(Drop)]
+pub struct Parts<'t, 'p> {
+    params: Params<'t, 'p>,
+}
+
+impl<'t, 'p> Model for Parts<'t, 'p> {
+    ghost use Rattle.std.specs.Prelude.{ℕ, List};
+    ghost use Rattle.std.specs.List.{AllByRecursion};
+    ghost use Rattle.std.specs.Str.{IsUtf8};
+    ghost use Rattle.path_table.specs.Taken.{taken};
+
+    ghost Value = { List (List ℕ) };
+
+    ghost view = { λ a. taken a.params };
+
+    ghost invariant = { λ a. AllByRecursion IsUtf8 (taken a.params) };
+}
+
+impl<'t, 'p> Parts<'t, 'p> {
+    ghost use Rattle.std.specs.List.{AllByRecursion};
+    ghost use Rattle.std.specs.Str.{IsUtf8};
+    ghost use Rattle.path_table.specs.Taken.{taken};
+
+    // What the parameters of a match took.
+    pub(crate) fn of(params: Params<'t, 'p>) -> Parts<'t, 'p>
+        requires { AllByRecursion IsUtf8 (taken params) }
+        ensures { result ≡ taken params.entry }
+    {
+        Parts { params }
+    }
+
+    /// The part at this place from the left, counted from 0: `None` where the pattern has fewer names.
+    pub fn get(&self, place: usize) -> Option<&'p str>
+        ensures { option_map (λ part. part.now) result ≡ slice_get self.now place }
+    {
+        let (_, part) = self.params.iter().nth(place)?;
+        Some(part)
+    }
+}

@@ -1,8 +1,0 @@
-use Rattle.td_base.proofs.Calendar.{first_day, last_day}
-use Rattle.td_base.proofs.day.days_begin_and_end.Goals as goal
-
-pub returns-clause-first : goal.returns-clause-first
-returns-clause-first c = first_day
-
-pub returns-clause-last : goal.returns-clause-last
-returns-clause-last c = last_day

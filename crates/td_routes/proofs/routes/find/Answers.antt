@@ -1,0 +1,20 @@
+use Rattle.std.proofs.Common.{refl, sym}
+use Rattle.td_routes.proofs.RouteFacts.{pattern_found}
+use Rattle.td_routes.proofs.routes.find.Goals as goal
+
+pub returns-in_default : goal.returns-in_default
+returns-in_default c =
+    let pattern = pattern_found c.args.path.now c.args.table.now.rows.now _ c.in_default.ensures.row in
+    rw pattern refl
+
+pub returns-in-Some-row_with : goal.returns-in-Some-row_with
+returns-in-Some-row_with c =
+    let pattern = pattern_found c.args.path.now c.args.table.now.rows.now _ c.in-Some.ensures.row in
+    let row = rw (c.as_str.ensures.value) at c.in-Some-row_with.ensures in
+    rw (pattern, ← row, c.read_parts.ensures, c.in-Some.ensures.parts) refl
+
+pub returns-in-None : goal.returns-in-None
+returns-in-None c =
+    let pattern = pattern_found c.args.path.now c.args.table.now.rows.now _ c.in-Some.ensures.row in
+    let none = rw (c.as_str.ensures.value) at c.in-None.ensures in
+    rw (pattern, ← none, c.methods_with.ensures) refl

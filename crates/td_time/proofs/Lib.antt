@@ -1,0 +1,3 @@
+mod Calendar
+mod DayTexts
+pub mod DayAgain
