@@ -3,11 +3,13 @@ use Rattle.std.specs.Prelude.{ℕ, Bool, true, List, ◌++◌, codes, decimal, N
 use Rattle.serde_json.specs.Data.{Data, number, unsigned, string, object, member, no_members}
 use Rattle.serde_json.specs.Written.{compact_text}
 use Rattle.td_base.specs.Holder.{holder_text}
+use Rattle.td_movement.specs.States.{state_name}
+use Rattle.td_movement.specs.declared.state.State.TheVariants.{Cancelled}
 use Rattle.td_acts.specs.Names.{refusal_name}
 use Rattle.td_acts.specs.declared.said.Answer.{Answer}
-use Rattle.td_acts.specs.declared.said.Answer.TheVariants.{Holder, Opened, Ie028, Movement, Guarantee}
+use Rattle.td_acts.specs.declared.said.Answer.TheVariants.{Holder, Opened, Ie028, Ie014, Movement, Guarantee}
 use Rattle.td_acts.specs.declared.said.Refusal.{Refusal}
-use Rattle.td_acts.specs.declared.said.Refusal.TheVariants.{ClockRange, NoHolder, HolderKnown, ClockBack, NoMovement, NoGuarantee, BadCode, GuaranteeEnded, LrnUsed, SerialsSpent}
+use Rattle.td_acts.specs.declared.said.Refusal.TheVariants.{ClockRange, NoHolder, HolderKnown, ClockBack, NoMovement, NoGuarantee, BadCode, GuaranteeEnded, LrnUsed, SerialsSpent, WrongState}
 use Rattle.td_acts.specs.declared.said.Said.{Said}
 use Rattle.td_acts.specs.declared.said.Said.TheVariants.{Answered, Refused}
 use Rattle.td_routes.specs.Faults.{fault_allow, fault_name, field_name, reason_text}
@@ -37,11 +39,19 @@ ie028_data lrn mrn =
     (member (codes "message") (string (codes "IE028"))
     (member (codes "mrn") (string mrn) no_members)))
 
+-- a message about a movement, and the state in which the movement is then
+abbrev pub state_data : List ℕ → List ℕ → List ℕ → Data
+state_data message mrn state =
+    object (member (codes "message") (string message)
+    (member (codes "mrn") (string mrn)
+    (member (codes "state") (string state) no_members)))
+
 -- an answer
 abbrev pub answer_data : Answer → Data
 answer_data (Holder holder eori guarantees movements) = holder_data eori guarantees (holder_text holder) movements
 answer_data (Opened grn) = opened_data grn
 answer_data (Ie028 lrn mrn) = ie028_data lrn mrn
+answer_data (Ie014 mrn) = state_data (codes "IE014") mrn (state_name Cancelled)
 answer_data (Movement m) = movement_data m
 answer_data (Guarantee g used) = guarantee_data g used
 
@@ -57,10 +67,19 @@ field_data name field = object (member (codes "error") (string name) (member (co
 abbrev pub reason_data : List ℕ → List ℕ → Data
 reason_data name reason = object (member (codes "error") (string name) (member (codes "reason") (string reason) no_members))
 
+-- an error and the state that it is about
+abbrev pub wrong_state_data : List ℕ → List ℕ → Data
+wrong_state_data name state = object (member (codes "error") (string name) (member (codes "state") (string state) no_members))
+
+-- a refusal
+abbrev pub refusal_data : Refusal → Data
+refusal_data (WrongState state) = wrong_state_data (refusal_name (WrongState state)) (state_name state)
+refusal_data refusal = error_data (refusal_name refusal)
+
 -- what is said
 abbrev pub said_data : Said → Data
 said_data (Answered answer) = answer_data answer
-said_data (Refused refusal) = error_data (refusal_name refusal)
+said_data (Refused refusal) = refusal_data refusal
 
 -- why a request can't be read
 abbrev pub fault_data : WebFault → Data
@@ -87,6 +106,7 @@ answer_body (Holder holder eori guarantees movements) =
     ++ (codes ",\"holder\":\"" ++ (holder_text holder ++ (codes "\",\"movements\":" ++ (decimal movements ++ codes "}")))))))
 answer_body (Opened grn) = codes "{\"grn\":\"" ++ (grn ++ codes "\"}")
 answer_body (Ie028 lrn mrn) = codes "{\"lrn\":\"" ++ (lrn ++ (codes "\",\"message\":\"IE028\",\"mrn\":\"" ++ (mrn ++ codes "\"}")))
+answer_body (Ie014 mrn) = codes "{\"message\":\"IE014\",\"mrn\":\"" ++ (mrn ++ codes "\",\"state\":\"cancelled\"}")
 answer_body (Movement m) = movement_body m
 answer_body (Guarantee g used) = guarantee_body g used
 
@@ -102,6 +122,7 @@ refusal_body BadCode = codes "{\"error\":\"bad-code\"}"
 refusal_body GuaranteeEnded = codes "{\"error\":\"guarantee-ended\"}"
 refusal_body LrnUsed = codes "{\"error\":\"lrn-used\"}"
 refusal_body SerialsSpent = codes "{\"error\":\"serials-spent\"}"
+refusal_body (WrongState state) = codes "{\"error\":\"wrong-state\",\"state\":\"" ++ (state_name state ++ codes "\"}")
 
 -- the bytes of the body that tells why a request can't be read
 abbrev pub fault_text : WebFault → List ℕ
@@ -137,6 +158,7 @@ refusal_status BadCode = 403
 refusal_status GuaranteeEnded = 409
 refusal_status LrnUsed = 409
 refusal_status SerialsSpent = 409
+refusal_status (WrongState state) = 409
 
 abbrev pub said_status : Said → ℕ
 said_status (Answered answer) = 200

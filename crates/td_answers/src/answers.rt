@@ -3,9 +3,8 @@
 
 ghost use Rattle.std.specs.Prelude.{◌≡◌, IfOk, string_bytes};
 ghost use Rattle.serde_json.specs.Written.{compact_text};
-ghost use Rattle.td_acts.specs.Names.{refusal_name};
 ghost use Rattle.td_acts.specs.declared.said.Said.TheVariants.{Answered, Refused};
-ghost use Rattle.td_answers.specs.Answers.{answer_body, answer_data, error_data, fault_body, fault_data, fault_reply, fault_status, fault_text, refusal_body, refusal_status, said_body, said_data, said_reply, said_status, stops_after};
+ghost use Rattle.td_answers.specs.Answers.{answer_body, answer_data, fault_body, fault_data, fault_reply, fault_status, fault_text, refusal_body, refusal_data, refusal_status, said_body, said_data, said_reply, said_status, stops_after};
 ghost use Rattle.td_routes.specs.declared.fault.WebFault.TheVariants.{NoMemory};
 ghost use Rattle.td_wire.specs.ReplyText.{no_memory_reply};
 
@@ -41,6 +40,11 @@ impl ToJson for Answer {
                 Json(lrn),
                 Json(mrn)
             ),
+            Answer::Ie014 { mrn } => write!(
+                f,
+                r#"{{"message":"IE014","mrn":{},"state":"cancelled"}}"#,
+                Json(mrn)
+            ),
             Answer::Movement(movement) => movement.write_json(f),
             Answer::Guarantee(guarantee, used) => write_guarantee(f, guarantee, *used),
         }
@@ -48,10 +52,18 @@ impl ToJson for Answer {
 }
 
 impl ToJson for Refusal {
-    ghost shown = { λ refusal. error_data (refusal_name refusal) };
+    ghost shown = { refusal_data };
 
     fn write_json<W: fmt::Write>(&self, f: &mut fmt::Formatter<W>) -> fmt::Result {
-        write!(f, r#"{{"error":"{}"}}"#, self.name())
+        match self {
+            Refusal::WrongState { state } => write!(
+                f,
+                r#"{{"error":"{}","state":{}}}"#,
+                self.name(),
+                Json(state)
+            ),
+            _ => write!(f, r#"{{"error":"{}"}}"#, self.name()),
+        }
     }
 }
 
@@ -123,6 +135,7 @@ fn refusal_status_of(refusal: &Refusal) -> StatusCode
         Refusal::GuaranteeEnded => StatusCode::CONFLICT,
         Refusal::LrnUsed => StatusCode::CONFLICT,
         Refusal::SerialsSpent => StatusCode::CONFLICT,
+        Refusal::WrongState { .. } => StatusCode::CONFLICT,
     }
 }
 
@@ -193,6 +206,9 @@ pub fn answer_is_told_in(answer: &Answer)
         }
         Answer::Ie028 { lrn, mrn } => {
             let _lrn = lrn.as_bytes();
+            let _mrn = mrn.as_bytes();
+        }
+        Answer::Ie014 { mrn } => {
             let _mrn = mrn.as_bytes();
         }
         Answer::Movement(movement) => movement_is_told_in(movement),

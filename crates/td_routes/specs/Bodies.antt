@@ -18,7 +18,7 @@ use Rattle.td_routes.specs.declared.fault.Field.TheVariants.{Eori, Reference, Co
 use Rattle.td_routes.specs.declared.fault.WebFault.{WebFault}
 use Rattle.td_routes.specs.declared.fault.WebFault.TheVariants.{BadBody, BadField, NoRoute}
 use Rattle.td_routes.specs.declared.table.Route.{Route}
-use Rattle.td_routes.specs.declared.table.Route.TheVariants.{Register, OpenGuarantee, Ie015, SeeHolder, SeeMovement, SeeGuarantee}
+use Rattle.td_routes.specs.declared.table.Route.TheVariants.{Register, OpenGuarantee, Ie015, Ie014, SeeHolder, SeeMovement, SeeGuarantee}
 
 -- the data, where it is an object
 abbrev pub object_in : Data → Result Data WebFault
@@ -62,6 +62,7 @@ abbrev pub command_at : List ℕ → Route → Result Command WebFault
 command_at body (Register holder) = object_of body >>= registration_of holder
 command_at body (OpenGuarantee holder) = object_of body >>= opening_of holder
 command_at body (Ie015 holder) = object_of body >>= declaration_of holder
+command_at body (Ie014 holder mrn) = Ok (command.Ie014 holder mrn)
 command_at body (SeeHolder holder) = Ok (command.SeeHolder holder)
 command_at body (SeeMovement holder mrn) = Ok (command.SeeMovement holder mrn)
 command_at body (SeeGuarantee holder grn) = Ok (command.SeeGuarantee holder grn)

@@ -13,7 +13,7 @@ use Rattle.td_routes.specs.declared.fault.WebFault.TheVariants.{NoRoute, NoMetho
 use Rattle.td_routes.specs.declared.table.Endpoint.{Endpoint}
 use Rattle.td_routes.specs.declared.table.Endpoint.TheVariants as endpoint
 use Rattle.td_routes.specs.declared.table.Route.{Route}
-use Rattle.td_routes.specs.declared.table.Route.TheVariants.{Register, OpenGuarantee, Ie015, SeeHolder, SeeMovement, SeeGuarantee}
+use Rattle.td_routes.specs.declared.table.Route.TheVariants.{Register, OpenGuarantee, Ie015, Ie014, SeeHolder, SeeMovement, SeeGuarantee}
 use Rattle.td_routes.specs.declared.table.Row.{Row}
 use Rattle.td_routes.specs.declared.table.Verb.{Verb}
 use Rattle.td_routes.specs.declared.table.Verb.TheVariants.{Get, Post, Put}
@@ -40,6 +40,7 @@ table =
     ∷ row_of Get (codes "/holders/{h}/guarantees/{g}") endpoint.SeeGuarantee
     ∷ row_of Post (codes "/holders/{h}/movements") endpoint.Ie015
     ∷ row_of Get (codes "/holders/{h}/movements/{m}") endpoint.SeeMovement
+    ∷ row_of Post (codes "/holders/{h}/movements/{m}/ie014") endpoint.Ie014
     ∷ []
 
 -- the pattern that a path fits, of the first such row
@@ -96,6 +97,7 @@ route_with parts endpoint.SeeHolder = holder_in parts >>= λ holder. Ok (SeeHold
 route_with parts endpoint.SeeGuarantee = holder_and_grn parts >>= λ named. Ok (SeeGuarantee named.0 named.1)
 route_with parts endpoint.Ie015 = holder_in parts >>= λ holder. Ok (Ie015 holder)
 route_with parts endpoint.SeeMovement = holder_and_mrn parts >>= λ named. Ok (SeeMovement named.0 named.1)
+route_with parts endpoint.Ie014 = holder_and_mrn parts >>= λ named. Ok (Ie014 named.0 named.1)
 
 -- the route of a method and a path among rows: the path's pattern, its row with the method, and the parts
 abbrev pub route_in : List TableRow → List ℕ → List ℕ → Result Route WebFault

@@ -51,6 +51,7 @@ pub fn read_command_by(
             let body = read_object(alloc, &request.body)?;
             read_declaration(alloc, holder, &body)
         }
+        Route::Ie014 { holder, mrn } => Ok(Command::Ie014 { holder, mrn }),
         Route::SeeHolder { holder } => Ok(Command::SeeHolder { holder }),
         Route::SeeMovement { holder, mrn } => Ok(Command::SeeMovement { holder, mrn }),
         Route::SeeGuarantee { holder, grn } => Ok(Command::SeeGuarantee { holder, grn }),

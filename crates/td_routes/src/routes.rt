@@ -94,6 +94,10 @@ fn read_parts(endpoint: Endpoint, parts: &Parts<'_, '_>) -> Result<Route, WebFau
             let (holder, mrn) = holder_and_mrn(parts)?;
             Ok(Route::SeeMovement { holder, mrn })
         }
+        Endpoint::Ie014 => {
+            let (holder, mrn) = holder_and_mrn(parts)?;
+            Ok(Route::Ie014 { holder, mrn })
+        }
     }
 }
 

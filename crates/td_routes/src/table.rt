@@ -34,6 +34,7 @@ pub(crate) enum Endpoint {
     SeeGuarantee,
     Ie015,
     SeeMovement,
+    Ie014,
 }
 
 /// A row of the table: a method, the pattern of its paths, and what they ask for.
@@ -56,13 +57,14 @@ macro_rules! row {
 }
 
 /// The rows, in the table's order.
-pub(crate) static ROWS: [Row; 6] = [
+pub(crate) static ROWS: [Row; 7] = [
     row!(Put, "/office/holders/{h}", Register),
     row!(Post, "/office/holders/{h}/guarantees", OpenGuarantee),
     row!(Get, "/holders/{h}", SeeHolder),
     row!(Get, "/holders/{h}/guarantees/{g}", SeeGuarantee),
     row!(Post, "/holders/{h}/movements", Ie015),
     row!(Get, "/holders/{h}/movements/{m}", SeeMovement),
+    row!(Post, "/holders/{h}/movements/{m}/ie014", Ie014),
 ];
 
 impl path_table::Row for Row {
@@ -86,6 +88,8 @@ pub enum Route {
     SeeHolder { holder: HolderNo },
     /// `GET /holders/H/movements/M`
     SeeMovement { holder: HolderNo, mrn: Mrn },
+    /// `POST /holders/H/movements/M/ie014`
+    Ie014 { holder: HolderNo, mrn: Mrn },
     /// `GET /holders/H/guarantees/G`
     SeeGuarantee { holder: HolderNo, grn: Grn },
 }
