@@ -11,7 +11,8 @@ use Rattle.td_acts.specs.declared.command.Command.{Command}
 use Rattle.td_acts.specs.Account.{Account, empty_account}
 use Rattle.td_acts.specs.Acceptance.{is_accepted_at}
 use Rattle.td_acts.specs.Commands.{owner_of, IsProper}
-use Rattle.td_acts.specs.Deciding.{change_of, change_at, change_in}
+use Rattle.td_acts.specs.Deciding.{change_at, change_in}
+use Rattle.td_acts.specs.Effects.{change_of}
 use Rattle.td_acts.proofs.Accepted.{IsFor}
 use Rattle.td_acts.proofs.EachCommand.{accepted_unregistered, rows_are_for}
 

@@ -20,11 +20,12 @@ use Rattle.td_movement.specs.declared.state.State.TheVariants.{Accepted, Cancell
 use Rattle.td_acts.specs.declared.said.Answer.TheVariants as answer
 use Rattle.td_acts.specs.Account.{movement_by_lrn, movement_by_mrn}
 use Rattle.td_acts.specs.Acceptance.{is_accepted_at}
-use Rattle.td_acts.specs.Book.{year2_at, eori_after, openings, declarations, opened_by, declared_by, guarantee_said, movement_said, account_made}
+use Rattle.td_acts.specs.Book.{eori_after, account_made}
+use Rattle.td_acts.specs.Effects.{year2_at, openings, declarations, opened_by, declared_by, guarantee_said, movement_said}
 use Rattle.td_acts.specs.Commands.{owner_of, IsProper}
 use Rattle.td_acts.specs.Declaring.{first_refusal, has_contents}
 use Rattle.td_acts.specs.Changes.{account_after, is_change}
-use Rattle.td_acts.specs.Deciding.{change_of, new_state}
+use Rattle.td_acts.specs.Effects.{change_of, new_state}
 use Rattle.td_acts.specs.Lines.{line_of}
 use Rattle.td_acts.proofs.Accepted.{IsFor, opened_facts, lodged_facts, day_is, one_code, lines_kept, named_if_fine, moved_facts}
 use Rattle.td_acts.proofs.Steps.{map-id, cancelled_from, cancelled_status, uncounted_moved}

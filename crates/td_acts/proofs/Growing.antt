@@ -11,12 +11,14 @@ use Rattle.td_acts.specs.declared.command.Command.{Command}
 use Rattle.td_acts.specs.declared.command.Stamped.{Stamped}
 use Rattle.td_acts.specs.declared.rows.Change.TheVariants as change
 use Rattle.td_acts.specs.Account.{Account, IsAccountOf, ReferencesDiffer}
-use Rattle.td_acts.specs.Book.{Book, Act, eori_given, eori_after, eori_in, last_in, serial_in, rows_in, guarantee_said, movement_said, openings, declarations, opened_by, declared_by, eori_of, last_of, grn_count_before, mrn_count_before, grn_count_of, mrn_count_of, guarantees_of, movements_of, account_made, account_of, fresh_book}
+use Rattle.td_acts.specs.Book.{Book, Act, eori_after, eori_in, last_in, serial_in, rows_in, eori_of, last_of, grn_count_before, mrn_count_before, grn_count_of, mrn_count_of, guarantees_of, movements_of, account_made, account_of, fresh_book}
+use Rattle.td_acts.specs.Effects.{eori_given, guarantee_said, movement_said, openings, declarations, opened_by, declared_by}
 use Rattle.td_acts.specs.Commands.{owner_of}
 use Rattle.td_acts.specs.Acceptance.{is_accepted_at}
 use Rattle.td_acts.specs.Machine.{appended, book_after, book_after_at, AreAccepted, IsGrown}
 use Rattle.td_acts.specs.Changes.{account_after}
-use Rattle.td_acts.specs.Deciding.{decision_on, change_of, change_in}
+use Rattle.td_acts.specs.Deciding.{decision_on, change_in}
+use Rattle.td_acts.specs.Effects.{change_of}
 use Rattle.td_acts.proofs.EachCommand.{accepted_unregistered, step_made}
 
 -- the EORI after one more act

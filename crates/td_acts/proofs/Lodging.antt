@@ -18,7 +18,7 @@ use Rattle.td_acts.specs.declared.said.Answer.TheVariants as answer
 use Rattle.td_acts.specs.declared.said.Refusal.{Refusal}
 use Rattle.td_acts.specs.declared.said.Said.TheVariants.{Answered, Refused}
 use Rattle.td_acts.specs.Account.{guarantee_by_grn, movement_by_lrn}
-use Rattle.td_acts.specs.Book.{year2_at}
+use Rattle.td_acts.specs.Effects.{year2_at}
 use Rattle.td_acts.specs.Declaring.{first_refusal, guarantee_refusal, refusal_or}
 use Rattle.td_acts.specs.Deciding.{decision_at, entry_by_grn}
 use Rattle.td_acts.specs.Lines.{line_of}

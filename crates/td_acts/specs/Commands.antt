@@ -1,4 +1,5 @@
--- Commands: whose they are, and what their parts keep to.
+-- Commands: whose they are, what their parts keep to, and what the verdict on them needs of their owners' accounts, beside the
+-- holder's own row.
 use Rattle.std.specs.Prelude.{ℕ, List, Option, Some, Bool, true, false}
 use Rattle.td_base.specs.Holder.{IsHolderNumber}
 use Rattle.td_base.specs.Eori.{IsEori}
@@ -9,6 +10,9 @@ use Rattle.td_acts.specs.declared.command.Command.{Command}
 use Rattle.td_acts.specs.declared.command.Command.TheVariants.{Register, OpenGuarantee, Ie015, Ie014, SeeHolder, SeeMovement, SeeGuarantee}
 use Rattle.td_acts.specs.declared.command.Subject.{Subject}
 use Rattle.td_acts.specs.declared.command.Subject.TheVariants.{Holder, Movement, Guarantee}
+use Rattle.td_movement.specs.declared.line.Line.{Line}
+use Rattle.td_acts.specs.declared.needs.Needs.{Needs}
+use Rattle.td_acts.specs.declared.needs.Needs.TheVariants as needs
 use Rattle.td_acts.specs.Lines.{IsLines}
 
 -- the holder whom a subject belongs to, at a desk of that country: read from a reference's text alone
@@ -52,3 +56,28 @@ IsProper (Ie014 holder mrn) = IsHolderNumber holder × IsMrn mrn
 IsProper (SeeHolder holder) = IsHolderNumber holder
 IsProper (SeeMovement holder mrn) = IsHolderNumber holder × IsMrn mrn
 IsProper (SeeGuarantee holder grn) = IsHolderNumber holder × IsGrn grn
+
+-- nothing; a movement by its LRN and the guarantees of lines; a movement by its MRN; a guarantee and the
+-- amount in use on it
+pub data Need : Type 0 where
+  nothing : Need
+  lodging : List ℕ → List (Line × List ℕ) → Need
+  movement : List ℕ → Need
+  guarantee : List ℕ → Need
+
+-- what a command needs
+abbrev pub need_of : Command → Need
+need_of (Register holder eori) = nothing
+need_of (OpenGuarantee holder reference cover code) = nothing
+need_of (Ie015 holder lrn departure destination lines) = lodging lrn lines
+need_of (Ie014 holder mrn) = movement mrn
+need_of (SeeHolder holder) = nothing
+need_of (SeeMovement holder mrn) = movement mrn
+need_of (SeeGuarantee holder grn) = guarantee grn
+
+-- what the code's value says
+abbrev pub need_said : Needs → Need
+need_said needs.Nothing = nothing
+need_said (needs.Lodging lrn lines) = lodging lrn lines.now
+need_said (needs.Movement mrn) = movement mrn
+need_said (needs.Guarantee grn) = guarantee grn

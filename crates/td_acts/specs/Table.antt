@@ -20,7 +20,7 @@ use Rattle.td_acts.specs.declared.said.Refusal.TheVariants.{ClockRange, NoHolder
 use Rattle.td_acts.specs.declared.said.Said.{Said}
 use Rattle.td_acts.specs.declared.said.Said.TheVariants.{Answered, Refused}
 use Rattle.td_acts.specs.Account.{Account, guarantee_by_grn, movement_by_mrn, movement_by_lrn}
-use Rattle.td_acts.specs.Book.{year2_at}
+use Rattle.td_acts.specs.Effects.{year2_at}
 use Rattle.td_acts.specs.Lines.{line_of}
 use Rattle.td_acts.specs.Declaring.{has_contents, first_refusal}
 

@@ -88,7 +88,7 @@ impl Subject {
 impl Command {
     ghost use Rattle.std.specs.Prelude.{◌≡◌};
     ghost use Rattle.td_acts.specs.Commands.{subject_of};
-    ghost use Rattle.td_acts.specs.Needs.{need_of, need_said};
+    ghost use Rattle.td_acts.specs.Commands.{need_of, need_said};
 
     /// What it is about: its holder, or the movement or guarantee that an office acts on.
     pub fn subject(&self) -> Subject

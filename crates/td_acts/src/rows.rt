@@ -34,7 +34,7 @@ pub struct Loaded {
 
 impl Loaded {
     ghost use Rattle.td_acts.specs.Account.{empty_account};
-    ghost use Rattle.td_acts.specs.Needs.{Need};
+    ghost use Rattle.td_acts.specs.Commands.{Need};
     ghost use Rattle.td_acts.specs.Deciding.{IsLoaded};
 
     /// What is loaded of a number that isn't registered, and for a command that nobody owns.

@@ -6,7 +6,7 @@ ghost use Rattle.td_guarantee.specs.Usage.{used_on};
 ghost use Rattle.td_acts.specs.Account.{account_with, guarantee_by_grn, movement_by_mrn, movement_by_lrn};
 ghost use Rattle.td_acts.specs.Changes.{moved, rows_after};
 ghost use Rattle.td_acts.specs.Deciding.{IsLoaded};
-ghost use Rattle.td_acts.specs.Needs.{need_said};
+ghost use Rattle.td_acts.specs.Commands.{need_said};
 ghost use Rattle.td_acts.specs.Sound.{IsCovered};
 ghost use Rattle.td_desk.specs.Places.{IsFirstPlace};
 

@@ -8,7 +8,7 @@ use Rattle.td_acts.specs.Account.{account_with, guarantee_by_grn, movement_by_mr
 use Rattle.td_acts.specs.declared.needs.Needs.{Needs}
 use Rattle.td_acts.specs.declared.rows.Loaded.{Loaded}
 use Rattle.td_acts.specs.Deciding.{IsLookedUp}
-use Rattle.td_acts.specs.Needs.{need_said}
+use Rattle.td_acts.specs.Commands.{need_said}
 use Rattle.td_acts.specs.Sound.{IsCovered}
 use Rattle.td_desk.proofs.Loading.{taken, lodging_looked_up, movement_looked_up, guarantee_looked_up}
 use Rattle.td_desk.proofs.file.HolderFile.load.Goals as goal
