@@ -3,7 +3,7 @@ use Rattle.std.specs.Prelude.{◌≡◌, ◌≢◌, ◌⊎◌, ℕ, ℤ, List, c
 use Rattle.std.specs.IoError.{error_kind}
 use Rattle.std.specs.declared.io.Error.{Error}
 use Rattle.std.specs.declared.io.ErrorKind.TheVariants.{OutOfMemory}
-use Rattle.td_base.specs.declared.counted.Counted.{Counted}
+use Rattle.counted_io.specs.declared.counted.Counted.{Counted}
 use Rattle.td_cli.specs.declared.words.NoJob.{NoJob}
 use Rattle.td_cli.specs.Piped.{IsDone}
 use Rattle.td_cli.specs.Statuses.{status_of_end, line_of_end, IsTold, IsAnswered}
