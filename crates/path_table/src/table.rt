@@ -1,7 +1,7 @@
 //! The table.
 ghost use Rattle.std.specs.Prelude.{ℕ, List, ◌≡◌, map, find, option_map, bytes_eq, IsTrue, IfOk, IfSome};
 ghost use Rattle.std.specs.List.{list_any};
-ghost use Rattle.path_table.specs.Filled.{filled};
+ghost use Rattle.path_table.specs.Routers.{router_for};
 ghost use Rattle.path_table.specs.Segments.{fits, parts_of};
 ghost use Rattle.path_table.specs.Sound.{is_sound};
 
@@ -25,7 +25,7 @@ pub struct PathTable<'t, R: Row> {
     pub rows: &'t [R],
     router: Router<usize>,
     ghost sound: { IsTrue (is_sound (map R.pattern rows.now)) },
-    ghost of_rows: { router ≡ filled R.pattern rows.now },
+    ghost of_rows: { router ≡ router_for R.pattern rows.now },
 }
 
 /// The row that a path fits.
@@ -47,7 +47,7 @@ fn is_earlier<R: Row>(rows: &[R], pattern: &str) -> bool
 // The router of these rows: each pattern once, with the place of its first row. Where the patterns are of good form and
 // don't conflict, it only fails for want of memory.
 fn router_of<R: Row>(alloc: Global, rows: &[R]) -> Result<Router<usize>, InsertError>
-    ensures { IfOk result (λ router. router ≡ filled R.pattern rows.now) }
+    ensures { IfOk result (λ router. router ≡ router_for R.pattern rows.now) }
 {
     let mut router = Router::new(alloc);
     for (place, row) in rows.iter().enumerate() {

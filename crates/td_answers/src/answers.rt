@@ -142,7 +142,7 @@ fn fault_status_of(fault: &WebFault) -> StatusCode
 }
 
 /// The whole reply to a command on which the desk says that. `close` tells that the stream stops after it.
-pub fn reply_bytes(alloc: Global, said: &Said, close: bool) -> Result<Vec<u8>, AllocError>
+pub fn said_bytes(alloc: Global, said: &Said, close: bool) -> Result<Vec<u8>, AllocError>
     ensures { IfOk result (λ v. v.items ≡ said_reply said.now close) }
 {
     let body = body_of(alloc, said)?;

@@ -6,7 +6,7 @@ mod json;
 mod objects;
 
 pub use answers::{
-    answer_is_told_in, fault_bytes, fault_is_told_in, refusal_is_told_in, reply_bytes,
+    answer_is_told_in, fault_bytes, fault_is_told_in, refusal_is_told_in, said_bytes,
 };
 
 #[cfg(test)]

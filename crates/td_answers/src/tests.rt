@@ -2,7 +2,7 @@
 mod replies;
 mod views;
 
-use crate::{answer_is_told_in, fault_bytes, fault_is_told_in, refusal_is_told_in, reply_bytes};
+use crate::{answer_is_told_in, fault_bytes, fault_is_told_in, refusal_is_told_in, said_bytes};
 use std::alloc::Global;
 use std::process::Abort;
 use std::test::Fail;
@@ -15,7 +15,7 @@ fn says(rt: &impl Abort, alloc: Global, said: Said, close: bool, reply: &str) ->
         Said::Answered(answer) => answer_is_told_in(answer),
         Said::Refused(refusal) => refusal_is_told_in(*refusal),
     }
-    let told = reply_bytes(alloc, &said, close)?;
+    let told = said_bytes(alloc, &said, close)?;
     assert!(rt; told.as_slice() == reply.as_bytes());
     Ok(())
 }

@@ -7,7 +7,7 @@ mod service;
 pub use desk_stream::serve_stream;
 pub use service::Service;
 pub use td_answers::{
-    answer_is_told_in, fault_bytes, fault_is_told_in, refusal_is_told_in, reply_bytes,
+    answer_is_told_in, fault_bytes, fault_is_told_in, refusal_is_told_in, said_bytes,
 };
 pub use td_routes::{Allowed, Field, Route, WebFault, read_command, route};
 pub use td_wire::{

@@ -13,7 +13,7 @@ ghost use Rattle.td_answers.specs.Answers.{said_reply};
 
 use std::alloc::Global;
 use td_acts::Command;
-use td_answers::{fault_bytes, reply_bytes};
+use td_answers::{fault_bytes, said_bytes};
 use td_desk::{Desk, Fault};
 use td_routes::{Allowed, Routes, WebFault, path, read_command_by};
 use td_wire::{Reply, Request, head_reply};
@@ -46,7 +46,7 @@ fn answer<D: Desk>(
         ⊎ ((why ≡ fault.NoMemory) × D.called desk.old None desk.new)) }
 {
     let decision = desk.weigh(alloc, at, command)?;
-    let bytes = match reply_bytes(alloc, decision.said(), close) {
+    let bytes = match said_bytes(alloc, decision.said(), close) {
         Ok(bytes) => bytes,
         Err(error) => {
             decision.waive();

@@ -1,6 +1,6 @@
 use Rattle.std.proofs.Common.{◌∙◌}
 use Rattle.td_answers.specs.Answers.{said_reply}
-use Rattle.td_answers.proofs.answers.reply_bytes.Goals as goal
+use Rattle.td_answers.proofs.answers.said_bytes.Goals as goal
 
 pub returns : goal.returns
 unfolding said_reply
