@@ -27,7 +27,9 @@ comma_list (text ∷ texts) = text ++ flat_map (λ next. codes ", " ++ next) tex
 
 -- the methods of a path, as `Allow` lists them: in alphabetical order, joined by `, `
 abbrev pub allowed_text : Allowed → List ℕ
-allowed_text allowed = comma_list (text_where allowed.get (verb_text Get) ++ (text_where allowed.post (verb_text Post) ++ text_where allowed.put (verb_text Put)))
+allowed_text allowed =
+    comma_list (text_where allowed.get (verb_text Get)
+    ++ (text_where allowed.post (verb_text Post) ++ text_where allowed.put (verb_text Put)))
 
 -- a field's key in the body
 abbrev pub field_name : Field → List ℕ
