@@ -1,10 +1,10 @@
 -- What `matchit` finds in the router of sound rows is the row whose pattern the path fits.
-use Rattle.std.proofs.Common.{◌≡◌, ℕ, zero, suc, ◌+◌, ◌<◌, ◌≤◌, List, [], ◌∷◌, ◌++◌, length, map, find, Option, None, Some, Result, Ok, Err, Bool, true, false, cond, ◌⊎◌, inl, inr, refl, sym, ap, ◌∙◌, arith, rules, subst, append_assoc}
+use Rattle.std.proofs.Common.{◌≡◌, ℕ, zero, suc, ◌≤◌, List, [], ◌∷◌, ◌++◌, length, map, find, Option, None, Some, Bool, true, false, cond, ◌⊎◌, inl, inr, refl, sym, ap, ◌∙◌, arith, rules, subst, append_assoc}
 use Rattle.std.proofs.lemmas.Bool.{and_parts, and_from, or_cases, or_left, or_right}
 use Rattle.std.proofs.lemmas.Bool.Decides.{nat_tests}
-use Rattle.std.proofs.lemmas.List.{append-nil, length-append}
+use Rattle.std.proofs.lemmas.List.{append-nil}
 use Rattle.std.proofs.lemmas.Option.{MatchOption-at_some, MatchOption-at_none}
-use Rattle.std.specs.Prelude.{◌&&◌, ◌||◌, not, nat_lt, nat_le, bytes_eq, ⊤, MatchOption, is_some as is_found}
+use Rattle.std.specs.Prelude.{◌||◌, nat_le, bytes_eq, ⊤, MatchOption}
 use Rattle.std.specs.Cmp.Lexicographic.{pointwise, bytes_decides}
 use Rattle.std.specs.List.{list_all, list_any, slice_get}
 use Rattle.matchit.specs.Order.{placed}
@@ -13,9 +13,9 @@ use Rattle.matchit.specs.Route.{parse_route, Scan}
 use Rattle.matchit.specs.Router.{RouteOf, route_from}
 use Rattle.matchit.specs.Rows.{RowsOf, comes_before}
 use Rattle.matchit.specs.Seek.{first}
-use Rattle.path_table.specs.Filled.{with_read, filled_behind, filled}
+use Rattle.path_table.specs.Routers.{with_read, router_behind, router_for}
 use Rattle.path_table.specs.Segments.{segments, is_some_text, is_named, segment_fits, fits, parts_of}
-use Rattle.path_table.specs.Sound.{is_plain_segment, is_plain, can_share, can_meet, are_apart, is_sound}
+use Rattle.path_table.specs.Sound.{is_plain_segment, is_plain, can_share, are_apart, is_sound}
 use Rattle.path_table.proofs.Tokens.{token_fits, is_strict, param_count, token_parts}
 use Rattle.path_table.proofs.Seeking.{AllRows, SomeRow, IsBytes, all_weaker, found_fits, fits_found}
 use Rattle.path_table.proofs.Walking.{params_are}
@@ -183,8 +183,8 @@ module _ {R : Type 0} (pattern_of : R → List ℕ) where
 
   -- each route of the router is an entry
   entries : (all earlier rows : List R) (router : RowsOf (RouteOf ℕ)) → all ≡ earlier ++ rows → list_all is_plain (map pattern_of rows) ≡ true → AllRows (IsEntry all) router
-      → AllRows (IsEntry all) (filled_behind pattern_of earlier rows router)
-  unfolding filled_behind
+      → AllRows (IsEntry all) (router_behind pattern_of earlier rows router)
+  unfolding router_behind
   entries all earlier [] router whole plain good = good
   entries all earlier (row ∷ rows) router whole plain good =
       let both = and_parts (is_plain (pattern_of row)) (list_all is_plain (map pattern_of rows)) plain in
@@ -259,8 +259,8 @@ module _ {R : Type 0} (pattern_of : R → List ℕ) where
 
   kept : (path : List ℕ) (earlier rows : List R) (router : RowsOf (RouteOf ℕ)) → list_all is_plain (map pattern_of rows) ≡ true
       → (list_any (λ r. fits (pattern_of r) path) earlier ≡ true → SomeRow (λ t. token_fits t path) router)
-      → list_any (λ r. fits (pattern_of r) path) (earlier ++ rows) ≡ true → SomeRow (λ t. token_fits t path) (filled_behind pattern_of earlier rows router)
-  unfolding filled_behind
+      → list_any (λ r. fits (pattern_of r) path) (earlier ++ rows) ≡ true → SomeRow (λ t. token_fits t path) (router_behind pattern_of earlier rows router)
+  unfolding router_behind
   kept path earlier [] router plain some any = some (sym (ap (list_any (λ r. fits (pattern_of r) path)) (append-nil earlier)) ∙ any)
   kept path earlier (row ∷ rows) router plain some any =
       let both = and_parts (is_plain (pattern_of row)) (list_all is_plain (map pattern_of rows)) plain in
@@ -307,36 +307,36 @@ module _ {R : Type 0} (pattern_of : R → List ℕ) where
 
   -- `matchit` finds the row whose pattern the path fits, and finds none where there is none
   pub look_up : (rows : List R) (path : List ℕ) → is_sound (map pattern_of rows) ≡ true → IsBytes path
-      → MatchOption (first (filled pattern_of rows) path) (find (λ x. fits (pattern_of x) path) rows ≡ None) (IsFound rows path)
-  look_up rows path sound bytes = by (first (filled pattern_of rows) path) refl
+      → MatchOption (first (router_for pattern_of rows) path) (find (λ x. fits (pattern_of x) path) rows ≡ None) (IsFound rows path)
+  look_up rows path sound bytes = by (first (router_for pattern_of rows) path) refl
     where
       plain : list_all is_plain (map pattern_of rows) ≡ true
       plain = (and_parts (list_all is_plain (map pattern_of rows)) _ sound).0
 
-      all : AllRows (IsEntry rows) (filled pattern_of rows)
+      all : AllRows (IsEntry rows) (router_for pattern_of rows)
       all = entries rows [] rows [] refl plain tt
 
-      none_fits : first (filled pattern_of rows) path ≡ None → (v : Bool) → list_any (λ x. fits (pattern_of x) path) rows ≡ v → find (λ x. fits (pattern_of x) path) rows ≡ None
+      none_fits : first (router_for pattern_of rows) path ≡ None → (v : Bool) → list_any (λ x. fits (pattern_of x) path) rows ≡ v → find (λ x. fits (pattern_of x) path) rows ≡ None
       none_fits none true e =
           let some = kept path [] rows [] plain (λ never. absurd (let h : false ≡ true = never in search rules)) e in
-          let strict = all_weaker _ (λ t k. is_strict t ≡ true) (λ t k h. h.0) (filled pattern_of rows) (good_entries rows plain (filled pattern_of rows) all) in
-          let is = fits_found (length path) (filled pattern_of rows) path (omega arith) strict some in
+          let strict = all_weaker _ (λ t k. is_strict t ≡ true) (λ t k h. h.0) (router_for pattern_of rows) (good_entries rows plain (router_for pattern_of rows) all) in
+          let is = fits_found (length path) (router_for pattern_of rows) path (omega arith) strict some in
           absurd (let never : false ≡ true = rw none at is in search rules)
       none_fits none false e = find_none (λ x. fits (pattern_of x) path) rows e
 
-      by : (o : Option (RouteOf ℕ)) → first (filled pattern_of rows) path ≡ o → MatchOption o (find (λ x. fits (pattern_of x) path) rows ≡ None) (IsFound rows path)
+      by : (o : Option (RouteOf ℕ)) → first (router_for pattern_of rows) path ≡ o → MatchOption o (find (λ x. fits (pattern_of x) path) rows ≡ None) (IsFound rows path)
       by None e = none_fits e (list_any (λ x. fits (pattern_of x) path) rows) refl
       by (Some r) e =
           is_found_row rows path r sound
-          (found_fits (length path) r (filled pattern_of rows) path (Matches rows) (omega arith) bytes (good_entries rows plain (filled pattern_of rows) all) e)
+          (found_fits (length path) r (router_for pattern_of rows) path (Matches rows) (omega arith) bytes (good_entries rows plain (router_for pattern_of rows) all) e)
 
-  pub row_found : (rows : List R) (router : RowsOf (RouteOf ℕ)) (path : List ℕ) (r : RouteOf ℕ) → router ≡ filled pattern_of rows → is_sound (map pattern_of rows) ≡ true → IsBytes path
+  pub row_found : (rows : List R) (router : RowsOf (RouteOf ℕ)) (path : List ℕ) (r : RouteOf ℕ) → router ≡ router_for pattern_of rows → is_sound (map pattern_of rows) ≡ true → IsBytes path
       → first router path ≡ Some r → IsFound rows path r
   row_found rows router path r is sound bytes found =
       let P : RowsOf (RouteOf ℕ) → Type 0 = λ router. MatchOption (first router path) (find (λ x. fits (pattern_of x) path) rows ≡ None) (IsFound rows path) in
       MatchOption-at_some _ _ r found (subst P (sym is) (look_up rows path sound bytes))
 
-  pub none_found : (rows : List R) (router : RowsOf (RouteOf ℕ)) (path : List ℕ) → router ≡ filled pattern_of rows → is_sound (map pattern_of rows) ≡ true → IsBytes path
+  pub none_found : (rows : List R) (router : RowsOf (RouteOf ℕ)) (path : List ℕ) → router ≡ router_for pattern_of rows → is_sound (map pattern_of rows) ≡ true → IsBytes path
       → first router path ≡ None → find (λ x. fits (pattern_of x) path) rows ≡ None
   none_found rows router path is sound bytes none =
       let P : RowsOf (RouteOf ℕ) → Type 0 = λ router. MatchOption (first router path) (find (λ x. fits (pattern_of x) path) rows ≡ None) (IsFound rows path) in

@@ -1,17 +1,16 @@
 -- What `matchit` reads in the text of a plain pattern: the tokens of its segments.
-use Rattle.std.proofs.Common.{◌≡◌, ℕ, suc, ◌+◌, ◌<◌, ◌≤◌, List, [], ◌∷◌, ◌++◌, length, Result, Ok, Err, Option, None, Some, Bool, true, false, cond, refl, sym, ap, ◌∙◌, arith, rules, subst, ◌==◌, append_assoc, zero-add}
-use Rattle.std.proofs.lemmas.Bool.{and_parts, and_from, not-true, or_parts}
+use Rattle.std.proofs.Common.{◌≡◌, ℕ, ◌+◌, ◌<◌, ◌≤◌, List, [], ◌∷◌, ◌++◌, length, Ok, None, Bool, true, false, cond, refl, sym, ap, ◌∙◌, arith, rules, ◌==◌, append_assoc, zero-add}
+use Rattle.std.proofs.lemmas.Bool.{and_parts, not-true, or_parts}
 use Rattle.std.proofs.lemmas.Bool.Decides.{nat_tests}
 use Rattle.std.proofs.lemmas.List.{append-nil, length-append}
 use Rattle.std.proofs.lemmas.List.Splits.{join_with_byte-slice_split}
-use Rattle.std.specs.Prelude.{◌&&◌, not, nat_lt, nat_le}
+use Rattle.std.specs.Prelude.{◌&&◌, nat_lt}
 use Rattle.std.specs.List.{list_all, join_with_byte}
 use Rattle.matchit.specs.Rows.{param_token, catch_all_token}
-use Rattle.matchit.specs.Route.{Scan, scan, scan_start, parse_route, shape_error, outside, opened, named, name_closed}
-use Rattle.matchit.specs.Seek.{slash, segment}
-use Rattle.matchit.specs.declared.error.InsertError.{InsertError}
+use Rattle.matchit.specs.Route.{Scan, scan, scan_start, parse_route, shape_error, outside, named, name_closed}
+use Rattle.matchit.specs.Seek.{slash}
 use Rattle.path_table.specs.Segments.{segments, is_named}
-use Rattle.path_table.specs.Sound.{is_plain_character, is_closed, is_name, is_plain_segment, is_plain}
+use Rattle.path_table.specs.Sound.{is_plain_character, is_closed, is_name, is_plain_segment}
 use Rattle.path_table.proofs.Tokens.{goes_on, is_strict, param_count}
 use Rattle.path_table.proofs.Patterns.{token_of, tokens, tokens_strict}
 

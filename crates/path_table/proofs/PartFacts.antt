@@ -1,5 +1,5 @@
 -- The part at a place, by the calls of an iterator over what a match took.
-use Rattle.std.proofs.Common.{◌≡◌, ℕ, zero, suc, ◌≤◌, List, [], ◌∷◌, length, map, Option, None, Some, option_map, Bor, refl, sym, ap, ◌∙◌, arith, rules}
+use Rattle.std.proofs.Common.{◌≡◌, ℕ, zero, suc, ◌≤◌, List, [], ◌∷◌, length, map, Option, None, Some, option_map, Bor, refl, ap, ◌∙◌, arith}
 use Rattle.std.specs.Iterator.{YieldsThen, SkipsThenYields}
 use Rattle.std.specs.List.{AllByRecursion, slice_get}
 use Rattle.std.specs.Prelude.{MatchOption}

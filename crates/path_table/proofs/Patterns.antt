@@ -1,16 +1,16 @@
 -- A pattern's tokens fit a path as its segments do, and take the same parts.
-use Rattle.std.proofs.Common.{◌≡◌, ℕ, suc, ◌<◌, List, [], ◌∷◌, ◌++◌, length, map, filter, Bool, true, false, cond, refl, sym, ap, ◌∙◌, arith, rules, subst, ◌==◌}
+use Rattle.std.proofs.Common.{◌≡◌, ℕ, ◌<◌, List, [], ◌∷◌, ◌++◌, length, map, filter, Bool, true, false, cond, refl, sym, ap, ◌∙◌, arith, rules, ◌==◌}
 use Rattle.std.proofs.lemmas.Bool.{and_parts, and_from, not-true, or_parts}
 use Rattle.std.proofs.lemmas.Bool.Decides.{nat_tests}
 use Rattle.std.proofs.lemmas.List.{append-nil}
-use Rattle.std.specs.Prelude.{◌&&◌, not, nat_lt, nat_eq, bytes_eq}
+use Rattle.std.specs.Prelude.{◌&&◌, nat_lt, bytes_eq}
 use Rattle.std.specs.Cmp.Lexicographic.{pointwise, bytes_decides}
-use Rattle.std.specs.List.{list_all, slice_split, zip, onto_first}
+use Rattle.std.specs.List.{list_all, zip, onto_first}
 use Rattle.matchit.specs.Rows.{param_token}
 use Rattle.matchit.specs.Seek.{slash}
 use Rattle.path_table.specs.Segments.{segments, is_some_text, is_named, segment_fits}
-use Rattle.path_table.specs.Sound.{is_plain_character, is_closed, is_name, is_plain_segment}
-use Rattle.path_table.proofs.Tokens.{part, rest, is_none, begins, behind, token_fits, goes_on, is_strict, RestIs, at_end, at_slash, rest_is, part-rest, param_count, token_parts}
+use Rattle.path_table.specs.Sound.{is_plain_character, is_name, is_plain_segment}
+use Rattle.path_table.proofs.Tokens.{part, rest, is_none, begins, behind, token_fits, goes_on, is_strict, RestIs, at_end, at_slash, rest_is, part-rest, token_parts}
 
 -- the tokens of a segment, and of segments
 abbrev pub token_of : List ℕ → List ℕ

@@ -1,16 +1,16 @@
 -- The row that a look-up of `matchit` finds fits the path, and it finds one where one fits.
-use Rattle.std.proofs.Common.{◌≡◌, ℕ, zero, suc, ◌+◌, ◌-◌, ◌<◌, ◌≤◌, List, [], ◌∷◌, ◌++◌, length, drop, get_or, Option, Some, None, Bool, true, false, cond, ◌⊎◌, inl, inr, refl, sym, ap, ◌∙◌, arith, rules, subst, ◌==◌}
+use Rattle.std.proofs.Common.{◌≡◌, ℕ, zero, suc, ◌-◌, ◌<◌, ◌≤◌, List, [], ◌∷◌, ◌++◌, length, drop, get_or, Option, Some, None, Bool, true, false, cond, ◌⊎◌, inl, inr, refl, sym, ap, ◌∙◌, arith, rules, subst, ◌==◌}
 use Rattle.std.proofs.lemmas.Bool.{and_parts, and_from}
 use Rattle.std.proofs.lemmas.Bool.Decides.{nat_tests}
 use Rattle.std.proofs.Math.Bool.{and-false}
 use Rattle.std.proofs.Math.Seq.{drop-length}
-use Rattle.std.proofs.lemmas.List.{drop_at, drop_all, length-append, length-drop, append-nil}
-use Rattle.std.specs.Prelude.{⊤, ◌&&◌, ◌||◌, nat_lt, nat_eq, is_some as is_found}
-use Rattle.std.specs.Cmp.Lexicographic.{pointwise, bytes_decides}
+use Rattle.std.proofs.lemmas.List.{drop_at, length-append, append-nil}
+use Rattle.std.specs.Prelude.{⊤, ◌&&◌, nat_lt, nat_eq, is_some as is_found}
+use Rattle.std.specs.Cmp.Lexicographic.{pointwise}
 use Rattle.matchit.specs.Rows.{RowsOf, param_token, catch_all_token}
-use Rattle.matchit.specs.Seek.{slash, segment, has_slash, same_text, cuts, better, own, step, or_else, longest_from, longest_suffix, with_suffix, param_step, seek}
+use Rattle.matchit.specs.Seek.{slash, segment, has_slash, same_text, cuts, own, step, or_else, longest_from, with_suffix, param_step, seek}
 use Rattle.path_table.specs.Segments.{is_some_text}
-use Rattle.path_table.proofs.Tokens.{part, rest, is_none, begins, behind, token_fits, goes_on, is_strict, part-rest, has_slash-part, RestIs, at_end, at_slash, rest_is}
+use Rattle.path_table.proofs.Tokens.{part, rest, begins, behind, token_fits, goes_on, is_strict, part-rest, has_slash-part, RestIs, at_end, at_slash, rest_is}
 
 -- ---- the segment at the start of a path
 

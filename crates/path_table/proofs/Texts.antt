@@ -1,13 +1,13 @@
 -- The segments of a path that is text are texts.
 use Rattle.std.proofs.Common.{◌≡◌, ℕ, zero, suc, ◌+◌, ◌<◌, ◌≤◌, List, [], ◌∷◌, ◌++◌, length, take, drop, get_or, map, filter, Bool, true, false, cond, refl, sym, ap, ◌∙◌, arith, subst}
 use Rattle.std.proofs.lemmas.List.{append-nil, drop-drop, length-append, take_at, drop_at, get_or_at}
-use Rattle.std.proofs.lemmas.Str.{IsUtf8-nil, IsUtf8-take, IsUtf8-drop, IsCharBoundary-before_ascii, IsCharBoundary-after_ascii}
+use Rattle.std.proofs.lemmas.Str.{IsUtf8-take, IsUtf8-drop, IsCharBoundary-before_ascii, IsCharBoundary-after_ascii}
 use Rattle.std.specs.List.{AllByRecursion, zip}
 use Rattle.std.specs.Str.{IsUtf8}
 use Rattle.matchit.specs.Seek.{slash}
 use Rattle.path_table.specs.Segments.{segments, is_named, parts_of}
 use Rattle.path_table.proofs.Tokens.{part, rest, part-rest, RestIs, at_end, at_slash, rest_is}
-use Rattle.path_table.proofs.Patterns.{segments_are, segment_parts, later}
+use Rattle.path_table.proofs.Patterns.{segments_are, segment_parts}
 
 -- a text that is cut at a slash
 cut_texts : (path more : List ℕ) → rest path ≡ slash ∷ more → IsUtf8 path → IsUtf8 (part path) × IsUtf8 more

@@ -1,9 +1,9 @@
 -- How the tokens of a pattern fit a path, as `matchit` has them: a byte, or a parameter, which takes what stands before the next slash.
-use Rattle.std.proofs.Common.{◌≡◌, ℕ, suc, ◌==◌, List, [], ◌∷◌, ◌++◌, Bool, true, false, cond, refl, ap, ◌∙◌, arith, rules}
+use Rattle.std.proofs.Common.{◌≡◌, ℕ, suc, ◌==◌, List, [], ◌∷◌, ◌++◌, Bool, true, false, cond, refl, ap, arith}
 use Rattle.std.proofs.lemmas.Bool.Decides.{nat_tests}
 use Rattle.std.specs.Prelude.{◌&&◌, nat_lt}
 use Rattle.matchit.specs.Rows.{param_token}
-use Rattle.matchit.specs.Seek.{slash, segment, has_slash}
+use Rattle.matchit.specs.Seek.{slash, has_slash}
 use Rattle.path_table.specs.Segments.{is_some_text}
 
 -- what stands before the first slash, and what stands from it on

@@ -1,12 +1,12 @@
 -- What `matchit` says that the parameters of a pattern took of a path that fits it.
-use Rattle.std.proofs.Common.{◌≡◌, ℕ, zero, suc, ◌+◌, ◌-◌, ◌<◌, ◌≤◌, List, [], ◌∷◌, ◌++◌, length, take, drop, get_or, map, Bool, true, false, cond, refl, sym, ap, ◌∙◌, arith, rules, subst, ◌==◌}
+use Rattle.std.proofs.Common.{◌≡◌, ℕ, suc, ◌+◌, ◌-◌, ◌<◌, ◌≤◌, List, [], ◌∷◌, ◌++◌, length, take, drop, get_or, map, Bool, true, false, cond, refl, sym, ap, ◌∙◌, arith, rules, ◌==◌}
 use Rattle.std.proofs.lemmas.Bool.{and_parts}
 use Rattle.std.proofs.lemmas.Bool.Decides.{nat_tests}
-use Rattle.std.proofs.lemmas.List.{drop-drop, drop_all, drop_at, take_at, length-append, length-drop, get_or-drop, append-nil}
+use Rattle.std.proofs.lemmas.List.{drop-drop, drop_at, take_at, length-append, length-drop, get_or-drop, append-nil}
 use Rattle.std.proofs.Math.Bool.{and-false}
 use Rattle.std.specs.Prelude.{◌&&◌, nat_lt, nat_le}
 use Rattle.matchit.specs.Rows.{param_token}
-use Rattle.matchit.specs.Params.{walk, wild_from, wild_stop, part_of, after_token}
+use Rattle.matchit.specs.Params.{walk, wild_stop, part_of, after_token}
 use Rattle.matchit.specs.Seek.{slash, segment}
 use Rattle.path_table.specs.Segments.{is_some_text}
 use Rattle.path_table.proofs.Tokens.{part, rest, is_none, begins, behind, token_fits, goes_on, is_strict, part-rest, has_slash-part, param_count, token_parts}

@@ -1,4 +1,4 @@
 pub mod Segments
 pub mod Sound
-pub mod Filled
+pub mod Routers
 pub mod Taken

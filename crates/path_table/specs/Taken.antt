@@ -4,5 +4,5 @@ use Rattle.matchit.specs.Params.{walk}
 use Rattle.matchit.specs.declared.params.Params.{Params}
 
 -- the parts, from left to right
-abbrev pub taken : Params → List (List ℕ)
-taken params = map (λ n. n.1) (walk params.pattern.now params.text.now params.path.now params.names.now 0 0)
+abbrev pub taken_parts : Params → List (List ℕ)
+taken_parts params = map (λ n. n.1) (walk params.pattern.now params.text.now params.path.now params.names.now 0 0)

@@ -15,24 +15,24 @@ impl<'t, 'p> Model for Parts<'t, 'p> {
     ghost use Rattle.std.specs.Prelude.{ℕ, List};
     ghost use Rattle.std.specs.List.{AllByRecursion};
     ghost use Rattle.std.specs.Str.{IsUtf8};
-    ghost use Rattle.path_table.specs.Taken.{taken};
+    ghost use Rattle.path_table.specs.Taken.{taken_parts};
 
     ghost Value = { List (List ℕ) };
 
-    ghost view = { λ a. taken a.params };
+    ghost view = { λ a. taken_parts a.params };
 
-    ghost invariant = { λ a. AllByRecursion IsUtf8 (taken a.params) };
+    ghost invariant = { λ a. AllByRecursion IsUtf8 (taken_parts a.params) };
 }
 
 impl<'t, 'p> Parts<'t, 'p> {
     ghost use Rattle.std.specs.List.{AllByRecursion};
     ghost use Rattle.std.specs.Str.{IsUtf8};
-    ghost use Rattle.path_table.specs.Taken.{taken};
+    ghost use Rattle.path_table.specs.Taken.{taken_parts};
 
     // What the parameters of a match took.
     pub(crate) fn of(params: Params<'t, 'p>) -> Parts<'t, 'p>
-        requires { AllByRecursion IsUtf8 (taken params) }
-        ensures { result ≡ taken params.entry }
+        requires { AllByRecursion IsUtf8 (taken_parts params) }
+        ensures { result ≡ taken_parts params.entry }
     {
         Parts { params }
     }

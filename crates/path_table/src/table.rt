@@ -1,7 +1,7 @@
 //! The table.
 ghost use Rattle.std.specs.Prelude.{ℕ, List, ◌≡◌, map, find, option_map, bytes_eq, IsTrue, IfOk, IfSome};
 ghost use Rattle.std.specs.List.{list_any};
-ghost use Rattle.path_table.specs.Filled.{filled};
+ghost use Rattle.path_table.specs.Routers.{router_for};
 ghost use Rattle.path_table.specs.Segments.{fits, parts_of};
 ghost use Rattle.path_table.specs.Sound.{is_sound};
 
@@ -25,7 +25,7 @@ pub struct PathTable<'t, R: Row> {
     pub rows: &'t [R],
     router: Router<usize>,
     ghost sound: { IsTrue (is_sound (map R.pattern rows.now)) },
-    ghost of_rows: { router ≡ filled R.pattern rows.now },
+    ghost of_rows: { router ≡ router_for R.pattern rows.now },
 }
 
 /// The row that a path fits.
@@ -44,10 +44,10 @@ fn is_earlier<R: Row>(rows: &[R], pattern: &str) -> bool
     rows.iter().any(|row| row.pattern() == pattern)
 }
 
-// The router of these rows: each pattern once, with the place of its first row. Where the patterns are of good form and
-// don't conflict, it only fails for want of memory.
+// The router of these rows: each pattern once, with the place of its first row. Where the patterns are plain and no path
+// fits two, it only fails for want of memory.
 fn router_of<R: Row>(alloc: Global, rows: &[R]) -> Result<Router<usize>, InsertError>
-    ensures { IfOk result (λ router. router ≡ filled R.pattern rows.now) }
+    ensures { IfOk result (λ router. router ≡ router_for R.pattern rows.now) }
 {
     let mut router = Router::new(alloc);
     for (place, row) in rows.iter().enumerate() {
@@ -60,7 +60,9 @@ fn router_of<R: Row>(alloc: Global, rows: &[R]) -> Result<Router<usize>, InsertE
 }
 
 impl<'t, R: Row> PathTable<'t, R> {
-    /// A table of these rows. Their patterns are plain, and no path fits two different ones.
+    /// A table of these rows. Their patterns are plain (at most 1,000 bytes, and each segment of ASCII characters other
+    /// than `*`, `{` and `}`, or a name of such characters in braces), and no path fits two different ones.
+    /// `AllocError`: want of memory.
     pub fn new(alloc: Global, rows: &'t [R]) -> Result<PathTable<'t, R>, AllocError>
         requires { IsTrue (is_sound (map R.pattern rows.now)) }
         ensures { IfOk result (λ table. table.rows.now ≡ rows.now) }

@@ -1,3 +1,2 @@
-mod ArrayTexts
 mod PlainText
 mod PlainObjects

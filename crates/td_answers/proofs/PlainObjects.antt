@@ -8,6 +8,9 @@ use Rattle.serde_json.specs.Data.{Data, number, unsigned, string, object, member
 use Rattle.serde_json.specs.View.{items_of}
 use Rattle.serde_json.specs.Written.{compact_text, items_text}
 use Rattle.serde_json.proofs.OnLiterals.{serde_json_on_literals}
+use Rattle.json_text.specs.Unescaped.{in_quotes}
+use Rattle.json_text.proofs.Arrays.{written_array}
+use Rattle.json_text.proofs.Texts.{written_class, written_text}
 use Rattle.td_base.specs.Codes.{IsAccessCode, IsLrn, IsOfficeNo}
 use Rattle.td_base.specs.Days.{day_text, year_of, month_of, day_of}
 use Rattle.td_base.specs.Digits.{fixed_decimal}
@@ -19,8 +22,8 @@ use Rattle.td_movement.specs.declared.line.Line.{Line}
 use Rattle.td_movement.specs.declared.movement.Movement.{Movement}
 use Rattle.td_movement.specs.declared.state.State.{State}
 use Rattle.td_movement.specs.declared.state.State.TheVariants.{Accepted, Cancelled, Released, Enquired, Arrived, Discrepant, Cleared, WrittenOff}
-use Rattle.td_answers.specs.Objects.{array_of, text_data, day_data, line_data, lines_data, codes_data, movement_data, guarantee_data, in_quotes, text_body, day_body, in_brackets, line_body, movement_body, guarantee_body}
-use Rattle.td_answers.proofs.PlainText.{digit_unescaped, mark_unescaped, written_class, written_lrn, written_reference, written_text}
+use Rattle.td_answers.specs.Objects.{text_data, day_data, line_data, lines_data, codes_data, movement_data, guarantee_data, text_body, day_body, line_body, movement_body, guarantee_body}
+use Rattle.td_answers.proofs.PlainText.{digit_unescaped, mark_unescaped, written_lrn, written_reference}
 
 -- ---- texts
 
@@ -64,22 +67,6 @@ written_office_if (Some office) h = written_office office h
 written_day_if : (day : Option ℕ) → compact_text (day_data day) ≡ day_body day
 written_day_if None = refl
 written_day_if (Some day) = written_day day
-
--- ---- arrays
-
--- what stands behind the first element of an array
-later_written : {X : Type 0} (shows : X → Data) (body : X → List ℕ) (P : X → Type 0) → ((x : X) → P x → compact_text (shows x) ≡ body x)
-    → (xs : List X) → All P xs → items_text true (items_of (map shows xs)) ≡ flat_map (λ next. codes "," ++ next) (map body xs) ++ codes "]"
-later_written shows body P each [] all = refl
-later_written shows body P each (x ∷ xs) all =
-    rw (each x (All-head P x xs all), later_written shows body P each xs (All-tail P x xs all)) (ap (λ text. 44 ∷ text) (sym (append_assoc (body x) _ (codes "]"))))
-
--- an array
-written_array : {X : Type 0} (shows : X → Data) (body : X → List ℕ) (P : X → Type 0) → ((x : X) → P x → compact_text (shows x) ≡ body x)
-    → (xs : List X) → All P xs → compact_text (array_of shows xs) ≡ in_brackets (map body xs)
-written_array shows body P each [] all = refl
-written_array shows body P each (x ∷ xs) all =
-    rw (each x (All-head P x xs all), later_written shows body P each xs (All-tail P x xs all)) (ap (λ text. 91 ∷ text) (sym (append_assoc (body x) _ (codes "]"))))
 
 -- ---- objects
 

@@ -10,6 +10,8 @@ use Rattle.std.specs.Prelude.{◌&&◌, Bool, nat_lt, codes, decimal}
 use Rattle.serde_json.specs.Data.{Data, number, unsigned, string, object, member, no_members}
 use Rattle.serde_json.specs.Written.{compact_text}
 use Rattle.serde_json.proofs.OnLiterals.{serde_json_on_literals}
+use Rattle.json_text.specs.Unescaped.{in_quotes, is_unescaped}
+use Rattle.json_text.proofs.Texts.{between, beyond, written_class, written_text}
 use Rattle.td_base.specs.Codes.{IsLrn, IsLrnCharacter}
 use Rattle.td_base.specs.Eori.{IsEori}
 use Rattle.td_base.specs.Holder.{holder_text}
@@ -21,54 +23,6 @@ use Rattle.td_acts.specs.declared.said.Said.TheVariants.{Answered}
 use Rattle.td_answers.specs.Answers.{said_body, answer_body}
 
 -- ---- characters
-
--- a character that is written as it is: behind the quote, and no backslash
-abbrev pub is_unescaped : ℕ → Bool
-is_unescaped c = nat_lt 34 c && not (c == 92)
-
--- what follows such a character in a text is written behind it
-written_next : (c : ℕ) (text : List ℕ) → is_unescaped c ≡ true → compact_text (string text) ≡ 34 ∷ (text ++ 34 ∷ []) → compact_text (string (c ∷ text)) ≡ 34 ∷ c ∷ (text ++ 34 ∷ [])
-unfolding serde_json_on_literals
-written_next c text plain rest =
-    let low : nat_lt 34 c ≡ true = (and_parts (nat_lt 34 c) (not (c == 92)) plain).0 in
-    let slash : (c == 92) ≡ false = not-true _ (and_parts (nat_lt 34 c) (not (c == 92)) plain).1 in
-    let quote : (c == 34) ≡ false = grind (arith, nat_tests) in
-    let backspace : (c == 8) ≡ false = grind (arith, nat_tests) in
-    let feed : (c == 12) ≡ false = grind (arith, nat_tests) in
-    let line : (c == 10) ≡ false = grind (arith, nat_tests) in
-    let carriage : (c == 13) ≡ false = grind (arith, nat_tests) in
-    let tab : (c == 9) ≡ false = grind (arith, nat_tests) in
-    let control : nat_lt c 32 ≡ false = grind (arith, nat_tests) in
-    rw (quote, slash, backspace, feed, line, carriage, tab, control) (ap (λ t. 34 ∷ c ∷ drop 1 t) rest)
-
--- a text of such characters is written as it is
-pub written_text : (text : List ℕ) → list_all is_unescaped text ≡ true → compact_text (string text) ≡ 34 ∷ (text ++ 34 ∷ [])
-written_text [] h = refl
-written_text (c ∷ text) h =
-    let both = and_parts (is_unescaped c) (list_all is_unescaped text) h in
-    written_next c text both.0 (written_text text both.1)
-
--- so is a text of characters of a class that has only such ones
-pub written_class : (P : ℕ → Type 0) → ((c : ℕ) → P c → is_unescaped c ≡ true) → (text : List ℕ) → All P text → compact_text (string text) ≡ 34 ∷ (text ++ 34 ∷ [])
-written_class P each text all = written_text text (every text all)
-  where
-    every : (text : List ℕ) → All P text → list_all is_unescaped text ≡ true
-    every [] all = refl
-    every (c ∷ text) all = rw (each c (All-head P c text all), every text (All-tail P c text all)) refl
-
--- a character between the quote and the backslash
-between : (c : ℕ) → 34 < c → c < 92 → is_unescaped c ≡ true
-between c low high =
-    let above : nat_lt 34 c ≡ true = grind (arith, nat_tests) in
-    let other : (c == 92) ≡ false = grind (arith, nat_tests) in
-    rw (above, other) refl
-
--- or above the backslash
-beyond : (c : ℕ) → 92 < c → is_unescaped c ≡ true
-beyond c low =
-    let above : nat_lt 34 c ≡ true = grind (arith, nat_tests) in
-    let other : (c == 92) ≡ false = grind (arith, nat_tests) in
-    rw (above, other) refl
 
 -- digits and capital letters are written as they are
 pub mark_unescaped : (c : ℕ) → IsMark c → is_unescaped c ≡ true
@@ -87,7 +41,7 @@ lrn_unescaped c (inr (inr (inr point))) = rw point refl
 -- ---- texts
 
 -- an EORI is written as it is
-pub written_eori : (text : List ℕ) → IsEori text → compact_text (string text) ≡ 34 ∷ (text ++ 34 ∷ [])
+pub written_eori : (text : List ℕ) → IsEori text → compact_text (string text) ≡ in_quotes text
 written_eori text h =
     let letters = All-weaker IsAsciiUppercase IsMark (λ c h. inr h) (take 2 text) h.country in
     let all = All-append IsMark (take 2 text) (drop 2 text) letters h.marks in
@@ -98,19 +52,19 @@ pub digit_unescaped : (n : ℕ) → is_unescaped (48 + n % 10) ≡ true
 digit_unescaped n = between (48 + n % 10) (omega arith) (omega arith)
 
 -- so is a holder's number
-pub written_holder : (n : ℕ) → compact_text (string (holder_text n)) ≡ 34 ∷ (holder_text n ++ 34 ∷ [])
+pub written_holder : (n : ℕ) → compact_text (string (holder_text n)) ≡ in_quotes (holder_text n)
 written_holder n =
     written_text (holder_text n) (rw (digit_unescaped (n / 100000), digit_unescaped (n / 10000), digit_unescaped (n / 1000), digit_unescaped (n / 100), digit_unescaped (n / 10), digit_unescaped n) refl)
 
 -- so is a reference
-pub written_reference : (places : ℕ) (text : List ℕ) → 5 ≤ places → IsReferenceText places text → compact_text (string text) ≡ 34 ∷ (text ++ 34 ∷ [])
+pub written_reference : (places : ℕ) (text : List ℕ) → 5 ≤ places → IsReferenceText places text → compact_text (string text) ≡ in_quotes text
 written_reference places text some h =
     let last = All-weaker IsAsciiDigit IsMark (λ c h. inl h) (drop (length text - 1) text) h.form.last in
     let all = All-append IsMark (front_of text) (drop (length text - 1) text) (front_marks text (omega (arith, h.size)) h.form) last in
     written_class IsMark mark_unescaped text (All-same IsMark text _ (sym (take-append-drop (length text - 1) text)) all)
 
 -- so is an LRN
-pub written_lrn : (text : List ℕ) → IsLrn text → compact_text (string text) ≡ 34 ∷ (text ++ 34 ∷ [])
+pub written_lrn : (text : List ℕ) → IsLrn text → compact_text (string text) ≡ in_quotes text
 written_lrn text h = written_class IsLrnCharacter lrn_unescaped text h.characters
 
 -- ---- answers

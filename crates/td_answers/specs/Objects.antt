@@ -1,7 +1,8 @@
 -- The JSON objects that show a movement and a guarantee, and their texts. Keys stand in ascending order of bytes.
-use Rattle.std.specs.Prelude.{ℕ, ◌-◌, List, [], ◌∷◌, ◌++◌, map, flat_map, codes, decimal, Option, None, Some}
-use Rattle.serde_json.specs.Data.{Data, null, number, unsigned, string, array, object, member, no_members}
-use Rattle.serde_json.specs.View.{items_of}
+use Rattle.std.specs.Prelude.{ℕ, ◌-◌, List, ◌++◌, map, codes, decimal, Option, None, Some}
+use Rattle.json_text.specs.Shown.{array_of, or_null}
+use Rattle.json_text.specs.Unescaped.{in_brackets, in_quotes}
+use Rattle.serde_json.specs.Data.{Data, number, unsigned, string, object, member, no_members}
 use Rattle.td_base.specs.Days.{day_text}
 use Rattle.td_base.specs.Money.{share_of}
 use Rattle.td_guarantee.specs.declared.guarantee.Guarantee.{Guarantee}
@@ -14,15 +15,6 @@ abbrev pub free_on : Guarantee → ℕ → ℕ
 free_on g used = g.reference - used
 
 -- ---- the objects
-
--- a value that there may be
-abbrev pub or_null : {X : Type 0} → (X → Data) → Option X → Data
-or_null shows None = null
-or_null shows (Some x) = shows x
-
--- values in their order
-abbrev pub array_of : {X : Type 0} → (X → Data) → List X → Data
-array_of shows xs = array (items_of (map shows xs))
 
 -- a text that there may be
 abbrev pub text_data : Option (List ℕ) → Data
@@ -72,10 +64,6 @@ guarantee_data g used =
 
 -- ---- their texts, in which nothing is escaped
 
--- a text as it is
-abbrev pub in_quotes : List ℕ → List ℕ
-in_quotes text = codes "\"" ++ (text ++ codes "\"")
-
 -- a text that there may be
 abbrev pub text_body : Option (List ℕ) → List ℕ
 text_body None = codes "null"
@@ -85,15 +73,6 @@ text_body (Some text) = in_quotes text
 abbrev pub day_body : Option ℕ → List ℕ
 day_body None = codes "null"
 day_body (Some day) = in_quotes (day_text day)
-
--- texts with commas between them
-abbrev pub with_commas : List (List ℕ) → List ℕ
-with_commas [] = []
-with_commas (text ∷ texts) = text ++ flat_map (λ next. codes "," ++ next) texts
-
--- the array of such texts
-abbrev pub in_brackets : List (List ℕ) → List ℕ
-in_brackets texts = codes "[" ++ (with_commas texts ++ codes "]")
 
 -- a line of a movement
 abbrev pub line_body : Line → List ℕ

@@ -1,5 +1,5 @@
 -- The route of a path by what the table finds.
-use Rattle.std.proofs.Common.{◌≡◌, ℕ, List, map, Bool, true, false, Option, None, Some, option_map, Result, Ok, Err, [], ◌∷◌, cond, find, refl, sym, ap, ◌∙◌}
+use Rattle.std.proofs.Common.{◌≡◌, ℕ, List, map, Bool, true, false, Option, None, Some, option_map, Result, Err, [], ◌∷◌, cond, find, refl, sym, ap, ◌∙◌}
 use Rattle.std.proofs.lemmas.Str.{is_utf8-from_IsUtf8, IsUtf8-from_is_utf8}
 use Rattle.std.specs.Str.{IsUtf8, is_utf8}
 use Rattle.td_routes.specs.declared.fault.Allowed.{Allowed}

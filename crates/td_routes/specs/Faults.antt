@@ -21,13 +21,15 @@ abbrev pub text_where : Bool → List ℕ → List (List ℕ)
 text_where test text = if test then text ∷ [] else []
 
 -- texts, joined by `, `
-abbrev pub joined : List (List ℕ) → List ℕ
-joined [] = []
-joined (text ∷ texts) = text ++ flat_map (λ next. codes ", " ++ next) texts
+abbrev pub comma_list : List (List ℕ) → List ℕ
+comma_list [] = []
+comma_list (text ∷ texts) = text ++ flat_map (λ next. codes ", " ++ next) texts
 
 -- the methods of a path, as `Allow` lists them: in alphabetical order, joined by `, `
 abbrev pub allowed_text : Allowed → List ℕ
-allowed_text allowed = joined (text_where allowed.get (verb_text Get) ++ (text_where allowed.post (verb_text Post) ++ text_where allowed.put (verb_text Put)))
+allowed_text allowed =
+    comma_list (text_where allowed.get (verb_text Get)
+    ++ (text_where allowed.post (verb_text Post) ++ text_where allowed.put (verb_text Put)))
 
 -- a field's key in the body
 abbrev pub field_name : Field → List ℕ
@@ -57,7 +59,7 @@ fault_name BadBody = codes "bad-body"
 fault_name (BadField field) = codes "bad-field"
 fault_name NoMemory = codes "no-memory"
 
--- what the reply's line `Allow` lists
+-- what the reply's field `Allow` lists
 abbrev pub fault_allow : WebFault → Option (List ℕ)
 fault_allow NoRoute = None
 fault_allow (NoMethod allow) = Some (allowed_text allow)

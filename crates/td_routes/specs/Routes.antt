@@ -84,10 +84,16 @@ abbrev pub holder_in : List (List ℕ) → Result ℕ WebFault
 holder_in parts = holder_part (part_at 0 parts)
 
 abbrev pub holder_and_grn : List (List ℕ) → Result (ℕ × List ℕ) WebFault
-holder_and_grn parts = holder_part (part_at 0 parts) >>= λ holder. grn_part (part_at 1 parts) >>= λ grn. Ok (holder, grn)
+holder_and_grn parts =
+    holder_part (part_at 0 parts) >>= λ holder.
+    grn_part (part_at 1 parts) >>= λ grn.
+    Ok (holder, grn)
 
 abbrev pub holder_and_mrn : List (List ℕ) → Result (ℕ × List ℕ) WebFault
-holder_and_mrn parts = holder_part (part_at 0 parts) >>= λ holder. mrn_part (part_at 1 parts) >>= λ mrn. Ok (holder, mrn)
+holder_and_mrn parts =
+    holder_part (part_at 0 parts) >>= λ holder.
+    mrn_part (part_at 1 parts) >>= λ mrn.
+    Ok (holder, mrn)
 
 -- the route of a row and the parts of its path
 abbrev pub route_with : List (List ℕ) → Endpoint → Result Route WebFault

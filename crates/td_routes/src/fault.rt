@@ -126,7 +126,7 @@ impl WebFault {
         }
     }
 
-    /// What the reply's line `Allow` lists: only where the path has other methods.
+    /// What the reply's field `Allow` lists: only where the path has other methods.
     pub fn allow(&self) -> Option<&'static str>
         ensures { option_copied result ≡ fault_allow self.now }
     {

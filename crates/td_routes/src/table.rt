@@ -1,4 +1,4 @@
-//! The table of requests: methods and paths, and what they ask for.
+//! The table of routes: methods, patterns of paths, and what they ask for.
 ghost use Rattle.std.specs.Prelude.{◌≡◌};
 ghost use Rattle.td_routes.specs.Faults.{verb_text};
 

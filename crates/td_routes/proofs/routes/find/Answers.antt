@@ -1,4 +1,4 @@
-use Rattle.std.proofs.Common.{refl, sym}
+use Rattle.std.proofs.Common.{refl}
 use Rattle.td_routes.proofs.RouteFacts.{pattern_found}
 use Rattle.td_routes.proofs.routes.find.Goals as goal
 

@@ -13,13 +13,18 @@ with_read (Ok s) place router = placed (s.pattern, route_from s place) router
 with_read (Err e) place router = router
 
 module _ {R : Type 0} (pattern_of : R → List ℕ) where
-  -- the patterns of these rows put in one after another, behind those of earlier rows: each pattern once
-  unfoldable pub filled_behind : List R → List R → RowsOf (RouteOf ℕ) → RowsOf (RouteOf ℕ)
-  filled_behind earlier [] router = router
-  filled_behind earlier (row ∷ rows) router =
-      filled_behind (earlier ++ row ∷ []) rows
-      (if list_any (λ r. bytes_eq (pattern_of r) (pattern_of row)) earlier then router else with_read (parse_route (pattern_of row)) (length earlier) router)
+  -- the pattern of a row put in behind those of earlier rows: each pattern once
+  abbrev pub with_row : List R → R → RowsOf (RouteOf ℕ) → RowsOf (RouteOf ℕ)
+  with_row earlier row router =
+      if list_any (λ r. bytes_eq (pattern_of r) (pattern_of row)) earlier then router
+      else with_read (parse_route (pattern_of row)) (length earlier) router
+
+  -- the patterns of these rows put in one after another
+  unfoldable pub router_behind : List R → List R → RowsOf (RouteOf ℕ) → RowsOf (RouteOf ℕ)
+  router_behind earlier [] router = router
+  router_behind earlier (row ∷ rows) router =
+      router_behind (earlier ++ row ∷ []) rows (with_row earlier row router)
 
   -- the router of the rows
-  abbrev pub filled : List R → RowsOf (RouteOf ℕ)
-  filled rows = filled_behind [] rows []
+  abbrev pub router_for : List R → RowsOf (RouteOf ℕ)
+  router_for rows = router_behind [] rows []
