@@ -18,7 +18,7 @@ use Rattle.td_base.specs.Holder.{holder_text}
 use Rattle.td_base.specs.Letters.{IsMark}
 use Rattle.td_base.specs.References.{front_of, IsGrn, IsMrn, IsReferenceText}
 use Rattle.td_base.proofs.Checked.{front_marks}
-use Rattle.td_acts.specs.declared.said.Answer.TheVariants.{Holder, Opened, Ie028}
+use Rattle.td_acts.specs.declared.said.Answer.TheVariants.{Holder, Opened, Ie028, Ie014}
 use Rattle.td_acts.specs.declared.said.Said.TheVariants.{Answered}
 use Rattle.td_answers.specs.Answers.{said_body, answer_body}
 
@@ -101,3 +101,14 @@ ie028_object l m tl tm same_l same_m = rw (same_l, same_m) refl
 pub declaration_told : (lrn mrn : List ℕ) → IsLrn lrn → IsMrn mrn → said_body (Answered (Ie028 lrn mrn)) ≡ answer_body (Ie028 lrn mrn)
 declaration_told lrn mrn hl hm =
     ie028_object (string lrn) (string mrn) _ _ (written_lrn lrn hl) (written_reference 18 mrn (omega arith) hm) ∙ simp append_assoc
+
+-- an object of the message's name, a text and the state
+cancelled_object : (m : Data) (tm : List ℕ) → compact_text m ≡ tm
+    → compact_text (object (member (codes "message") (string (codes "IE014")) (member (codes "mrn") m (member (codes "state") (string (codes "cancelled")) no_members))))
+    ≡ codes "{\"message\":\"IE014\",\"mrn\":" ++ (tm ++ codes ",\"state\":\"cancelled\"}")
+unfolding serde_json_on_literals
+cancelled_object m tm same = rw same refl
+
+-- what is told of a cancellation
+pub cancellation_told : (mrn : List ℕ) → IsMrn mrn → said_body (Answered (Ie014 mrn)) ≡ answer_body (Ie014 mrn)
+cancellation_told mrn h = cancelled_object (string mrn) _ (written_reference 18 mrn (omega arith) h) ∙ simp append_assoc
