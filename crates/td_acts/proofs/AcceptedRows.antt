@@ -12,7 +12,7 @@ use Rattle.td_acts.specs.Account.{Account, empty_account}
 use Rattle.td_acts.specs.Acceptance.{is_accepted_at}
 use Rattle.td_acts.specs.Commands.{owner_of, IsProper}
 use Rattle.td_acts.specs.Deciding.{change_at, change_in}
-use Rattle.td_acts.specs.Effects.{change_of}
+use Rattle.td_acts.specs.Deciding.{change_of}
 use Rattle.td_acts.proofs.Accepted.{IsFor}
 use Rattle.td_acts.proofs.EachCommand.{accepted_unregistered, rows_are_for}
 

@@ -25,7 +25,7 @@ use Rattle.td_acts.specs.Effects.{year2_at, openings, declarations, opened_by, d
 use Rattle.td_acts.specs.Commands.{owner_of, IsProper}
 use Rattle.td_acts.specs.Declaring.{first_refusal, has_contents}
 use Rattle.td_acts.specs.Changes.{account_after, is_change}
-use Rattle.td_acts.specs.Effects.{change_of, new_state}
+use Rattle.td_acts.specs.Deciding.{change_of, new_state}
 use Rattle.td_acts.specs.Lines.{line_of}
 use Rattle.td_acts.proofs.Accepted.{IsFor, opened_facts, lodged_facts, day_is, one_code, lines_kept, named_if_fine, moved_facts}
 use Rattle.td_acts.proofs.Steps.{map-id, cancelled_from, cancelled_status, uncounted_moved}

@@ -18,7 +18,7 @@ use Rattle.td_acts.specs.Acceptance.{is_accepted_at}
 use Rattle.td_acts.specs.Machine.{appended, book_after, book_after_at, AreAccepted, IsGrown}
 use Rattle.td_acts.specs.Changes.{account_after}
 use Rattle.td_acts.specs.Deciding.{decision_on, change_in}
-use Rattle.td_acts.specs.Effects.{change_of}
+use Rattle.td_acts.specs.Deciding.{change_of}
 use Rattle.td_acts.proofs.EachCommand.{accepted_unregistered, step_made}
 
 -- the EORI after one more act

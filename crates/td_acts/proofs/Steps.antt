@@ -17,7 +17,7 @@ use Rattle.td_guarantee.specs.Usage.{movement_on, used_on}
 use Rattle.td_acts.specs.declared.rows.NewStatus.{NewStatus}
 use Rattle.td_acts.specs.Account.{movement_by_mrn}
 use Rattle.td_acts.specs.Changes.{with_status, moved}
-use Rattle.td_acts.specs.Effects.{new_state}
+use Rattle.td_acts.specs.Deciding.{new_state}
 use Rattle.td_acts.specs.Sound.{AllNumbered, IsMovementRow, IsCovered}
 use Rattle.td_acts.proofs.Joined.{AllByRecursion-weaker}
 

@@ -8,7 +8,7 @@ use Rattle.td_acts.specs.Account.{Account}
 use Rattle.td_acts.specs.Acceptance.{is_accepted_at, is_accepted_in, is_accepted}
 use Rattle.td_acts.specs.Changes.{is_change}
 use Rattle.td_acts.specs.Deciding.{decision_on, change_at, change_in}
-use Rattle.td_acts.specs.Effects.{change_of}
+use Rattle.td_acts.specs.Deciding.{change_of}
 use Rattle.td_acts.proofs.EachCommand.{some_made}
 
 -- where the rows of a command would be some, those that are written are some just where it is accepted
