@@ -1,6 +1,6 @@
 //! The headline over two runs of the program, as the contract of a function that does nothing.
 ghost use Rattle.std.specs.Prelude.{ℕ, ℤ, List, Option, Some};
-ghost use Rattle.td_base.specs.declared.counted.Counted.{Counted};
+ghost use Rattle.counted_io.specs.declared.counted.Counted.{Counted};
 ghost use Rattle.td_cli.specs.Piped.{IsDone};
 ghost use Rattle.td_http.specs.Laws.{TellAlike};
 ghost use Rattle.td_wire.specs.declared.stream.StreamEnd.{StreamEnd};
