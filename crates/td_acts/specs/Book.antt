@@ -1,7 +1,7 @@
 -- A holder's book: what was kept at the start, and the changes that were accepted since. Everything that a
 -- desk says of the holder is read from the book alone, from its beginning, in passes in which a later act
 -- overrides what earlier ones said.
-use Rattle.std.specs.Prelude.{ℕ, ◌+◌, List, [], ◌∷◌, ◌++◌, map, Option, Some, None}
+use Rattle.std.specs.Prelude.{ℕ, ◌+◌, List, [], ◌∷◌, ◌++◌, map, Option}
 use Rattle.std.specs.Option.{option_map, option_map_or, option_or}
 use Rattle.td_acts.specs.declared.rows.HolderRow.{HolderRow}
 use Rattle.td_guarantee.specs.declared.guarantee.Guarantee.{Guarantee}

@@ -25,7 +25,7 @@ pub struct HolderRow {
 pub struct Loaded {
     pub country: Country,
     pub holder: Option<HolderRow>,
-    /// For a declaration the movement with its LRN, for a view the one with its MRN, if there is one.
+    /// For a declaration the movement with its LRN, for a cancellation and a view the one with its MRN, if there is one.
     pub movements: Vec<Movement>,
     /// Those guarantees that the command names, and the amounts in use on them, which a declaration doesn't
     /// ask for.

@@ -201,6 +201,33 @@ fn declarations_are_decided(rt: HostRuntime) -> Result<(), Fail> {
     Ok(())
 }
 
+/// Whether this is said to a request to cancel the movement, and something is written exactly where `writes` says so.
+fn is_cancelled(
+    alloc: Global,
+    loaded: &Loaded,
+    want: &str,
+    writes: bool,
+) -> Result<bool, Fail> {
+    let command = Command::Ie014 {
+        holder: HolderNo::new(1).ok_or("a holder")?,
+        mrn: Mrn::read(A1)?,
+    };
+    is_decided(alloc, loaded, &command, want, writes)
+}
+
+#[test]
+fn cancellations_are_decided(rt: HostRuntime) -> Result<(), Fail> {
+    let none = holder_alone(rt.alloc(), row(1, 1))?;
+    assert!(rt; is_cancelled(rt.alloc(), &none, "no-movement", false)?);
+    let mut lodged = with_guarantee(rt.alloc(), 0, true)?;
+    assert!(rt; is_cancelled(rt.alloc(), &lodged, "IE014 25CH00000100000013", true)?);
+    for movement in lodged.movements.iter_mut() {
+        movement.state = State::Released;
+    }
+    assert!(rt; is_cancelled(rt.alloc(), &lodged, "wrong-state", false)?);
+    Ok(())
+}
+
 /// Whether a view shows this of the guarantee, the movement and what is in use.
 fn is_shown(alloc: Global, command: Command, want: &str) -> Result<bool, Fail> {
     let loaded = with_guarantee(alloc, 500_000, true)?;
@@ -225,10 +252,20 @@ fn commands_have_owners(rt: HostRuntime) -> Result<(), Fail> {
     let country = Country::read(b"CH").ok_or("a country")?;
     let command = declaration(rt.alloc())?;
     assert!(rt; owner(country, &command) == HolderNo::new(1) && known(&command));
+    let movement = Subject::Movement(Mrn::read(A1)?);
+    assert!(rt; movement.owner(country) == HolderNo::new(1));
+    let guarantee = Subject::Guarantee(Grn::read(G1)?);
+    assert!(rt; guarantee.owner(Country::read(b"DE").ok_or("a country")?).is_none());
+    Ok(())
+}
+
+#[test]
+fn laws_hold() {
     writes_what_is_accepted();
     writes_what_the_book_says();
     fresh_book_says_its_account();
-    Ok(())
+    keeps_rows_sound();
+    nobody_writes();
 }
 
 /// Whether the guarantee is found among guarantees.

@@ -21,5 +21,6 @@ pub use plain::PlainDesk;
 pub use running::{Outcome, perform, run};
 pub use store::Store;
 pub use td_acts::{
-    Answer, Change, Command, HolderRow, Loaded, Needs, Refusal, Said, Stamped, Subject, Verdict,
+    Answer, Change, Command, HolderRow, Loaded, Needs, NewStatus, Refusal, Said, Stamped, Subject,
+    Verdict,
 };
