@@ -22,4 +22,4 @@ abbrev pub put_row : {R : Type 0} → (R → ℕ) → R → List R → List R
 put_row key row [] = row ∷ []
 put_row key row (r ∷ rows) =
     if nat_lt (key r) (key row) then r ∷ put_row key row rows
-        else (if key r == key row then row ∷ rows else row ∷ r ∷ rows)
+    else (if key r == key row then row ∷ rows else row ∷ r ∷ rows)

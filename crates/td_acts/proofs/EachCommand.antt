@@ -134,4 +134,3 @@ rows_are_for H country (Some row) gs ms t (Ie014 h mrn) own proper moment accept
 rows_are_for H country o gs ms t (SeeHolder h) own proper moment accepted = cc
 rows_are_for H country o gs ms t (SeeMovement h mrn) own proper moment accepted = cc
 rows_are_for H country o gs ms t (SeeGuarantee h grn) own proper moment accepted = cc
-

@@ -71,13 +71,13 @@ mrn_count_of book = serial_in declarations (mrn_count_before book) book.acts
 abbrev pub guarantees_of : ℕ → Book → List Guarantee
 guarantees_of H book =
     rows_in guarantee_said (opened_by book.opening.country H) openings
-        (grn_count_before book) book.opening.guarantees book.acts
+    (grn_count_before book) book.opening.guarantees book.acts
 
 -- movement n: that of the start, else the n-th declaration, in the state that the last act naming it says
 abbrev pub movements_of : ℕ → Book → List Movement
 movements_of H book =
     rows_in movement_said (declared_by book.opening.country H) declarations
-        (mrn_count_before book) book.opening.movements book.acts
+    (mrn_count_before book) book.opening.movements book.acts
 
 -- the account of these parts
 abbrev pub account_made : ℕ → List ℕ → Option (List ℕ) → ℕ → ℕ → ℕ → List Guarantee → List Movement → Account
@@ -93,7 +93,7 @@ account_made H country eori at grns mrns guarantees movements = record {
 abbrev pub account_of : ℕ → Book → Account
 account_of H book =
     account_made H book.opening.country (eori_of book) (last_of book) (grn_count_of book)
-        (mrn_count_of book) (guarantees_of H book) (movements_of H book)
+    (mrn_count_of book) (guarantees_of H book) (movements_of H book)
 
 -- the book that begins with an account
 abbrev pub fresh_book : Account → Book

@@ -36,7 +36,7 @@ IsLookedUp account nothing loaded = Unit {0}
 IsLookedUp account (lodging lrn lines) loaded =
     (movement_by_lrn lrn loaded.movements.items ≡ movement_by_lrn lrn account.movements)
     × AllByRecursion (λ l. option_map (λ e. e.0) (entry_by_grn l.0.grn loaded.guarantees.items)
-        ≡ guarantee_by_grn l.0.grn account.guarantees) lines
+    ≡ guarantee_by_grn l.0.grn account.guarantees) lines
 IsLookedUp account (movement mrn) loaded =
     movement_by_mrn mrn loaded.movements.items ≡ movement_by_mrn mrn account.movements
 IsLookedUp account (guarantee grn) loaded =
@@ -69,7 +69,7 @@ change_of account t (Ie015 holder lrn departure destination lines) = if_row acco
     let n = row.mrn_count + 1 in
     change.Declared (record row { last_at = t; mrn_count = n })
     (new_movement (mrn_text (year2_at t) account.country holder n) lrn departure destination
-        (day_of_moment t) (map line_of lines)))
+    (day_of_moment t) (map line_of lines)))
 change_of account t (Ie014 holder mrn) = if_row account.holder (λ row.
     change.Moved (record row { last_at = t }) (new_state mrn Cancelled))
 change_of account t command = change.Nothing

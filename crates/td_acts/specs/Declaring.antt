@@ -20,7 +20,7 @@ is_same_line a b = bytes_eq a.grn b.grn && (a.cents == b.cents)
 abbrev pub has_contents : List ℕ → List ℕ → List Line → Movement → Bool
 has_contents departure destination lines movement =
     bytes_eq movement.departure departure && bytes_eq movement.destination destination
-        && pointwise is_same_line movement.lines lines
+    && pointwise is_same_line movement.lines lines
 
 -- the first of a line's tests that refuses it: its guarantee, the code, the guarantee's end
 abbrev pub guarantee_refusal : ℕ → List ℕ → Option Guarantee → Option Refusal

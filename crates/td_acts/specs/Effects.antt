@@ -40,7 +40,7 @@ opened_by country H n t command = []
 abbrev pub declared_by : List ℕ → ℕ → ℕ → ℕ → Command → List Movement
 declared_by country H n t (Ie015 holder lrn departure destination lines) =
     new_movement (mrn_text (year2_at t) country H (n + 1)) lrn departure destination (day_of_moment t)
-        (map line_of lines) ∷ []
+    (map line_of lines) ∷ []
 declared_by country H n t command = []
 
 -- the movement with this MRN as an act says that it is; any other as it was

@@ -19,15 +19,15 @@ use Rattle.td_acts.specs.Sound.{AreHolderRows}
 abbrev pub WritesWhatIsAccepted : Type 0
 WritesWhatIsAccepted =
     (account : Account) (at : ℤ) (command : Command)
-        → is_change (decision_on account at command).change ≡ is_accepted account at command
+    → is_change (decision_on account at command).change ≡ is_accepted account at command
 
 -- what is written is what the book with the command says, where the references in the account differ
 abbrev pub WritesWhatTheBookSays : Type 0
 WritesWhatTheBookSays =
     (H : ℕ) (book : Book) (s : Stamped) → IsGrown H book → ReferencesDiffer (account_of H book)
-        → owner_of book.opening.country s.command ≡ Some H
+    → owner_of book.opening.country s.command ≡ Some H
     → account_of H (book_after H book s)
-        ≡ account_after (decision_on (account_of H book) s.at s.command).change (account_of H book)
+    ≡ account_after (decision_on (account_of H book) s.at s.command).change (account_of H book)
 
 -- a book that begins with an account says that account
 abbrev pub FreshBookSaysItsAccount : Type 0
@@ -49,11 +49,11 @@ KeepsRowsSound =
     → IfSome found (λ h. h.row.holder ≡ H) → IfSome found (AreHolderRows country)
     → owner_of country s.command ≡ Some H → IsProper s.command
     → let change = (decision_on (account_with country found) s.at s.command).change in
-      (row : HolderRow) → row_in change ≡ Some row
-          → FollowsOn country H found change (rows_after change (rows_or_new row found))
+    (row : HolderRow) → row_in change ≡ Some row
+    → FollowsOn country H found change (rows_after change (rows_or_new row found))
 
 -- nothing is written for a command that nobody owns
 abbrev pub NobodyWrites : Type 0
 NobodyWrites =
     (country : List ℕ) (s : Stamped) → owner_of country s.command ≡ None
-        → (decision_on (empty_account country) s.at s.command).change ≡ Nothing
+    → (decision_on (empty_account country) s.at s.command).change ≡ Nothing

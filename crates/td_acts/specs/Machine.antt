@@ -45,8 +45,8 @@ abbrev pub AreAccepted : ℕ → Book → List Act → Type 0
 AreAccepted H book [] = Unit {0}
 AreAccepted H book (a ∷ acts) =
     (owner_of book.opening.country a.command ≡ Some H)
-        × (is_accepted_at (account_of H book) a.at a.command ≡ true)
-        × AreAccepted H (appended book a.at a.command) acts
+    × (is_accepted_at (account_of H book) a.at a.command ≡ true)
+    × AreAccepted H (appended book a.at a.command) acts
 
 -- H's book has grown: all its acts came so upon its opening
 abbrev pub IsGrown : ℕ → Book → Type 0

@@ -105,7 +105,7 @@ abbrev pub said_on_see_guarantee : Account → List ℕ → Said
 said_on_see_guarantee account grn =
     or_refuse NoHolder account.holder (λ row.
     or_refuse NoGuarantee (guarantee_by_grn grn account.guarantees)
-        (λ g. Answered (answer.Guarantee g (used_on g.grn account.movements))))
+    (λ g. Answered (answer.Guarantee g (used_on g.grn account.movements))))
 
 -- what is said at a moment
 abbrev pub said_at : Account → ℕ → Command → Said

@@ -110,9 +110,8 @@ impl Command {
         ensures { need_said result ≡ need_of self.now }
     {
         match self {
-            Command::Register { .. }
-            | Command::OpenGuarantee { .. }
-            | Command::SeeHolder { .. } => Needs::Nothing,
+            Command::Register { .. } | Command::OpenGuarantee { .. } | Command::SeeHolder { .. } =>
+                Needs::Nothing,
             Command::Ie015 { lrn, lines, .. } => Needs::Lodging(*lrn, lines),
             Command::Ie014 { mrn, .. } | Command::SeeMovement { mrn, .. } => Needs::Movement(*mrn),
             Command::SeeGuarantee { grn, .. } => Needs::Guarantee(*grn),

@@ -11,7 +11,9 @@ use td_movement::Movement;
 pub fn find_movement_by_lrn<'a>(movements: &'a [Movement], lrn: &Lrn) -> Option<&'a Movement>
     ensures { option_map (λ found. found.now) result ≡ movement_by_lrn lrn.now movements.now }
 {
-    movements.iter().find(|movement| movement.lrn.as_bytes() == lrn.as_bytes())
+    movements
+        .iter()
+        .find(|movement| movement.lrn.as_bytes() == lrn.as_bytes())
 }
 
 /// The movement with exactly an MRN, if there is one.

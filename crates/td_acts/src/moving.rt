@@ -27,12 +27,15 @@ pub fn cancel(loaded: &Loaded, at: Moment, holder: HolderNo, mrn: &Mrn) -> Verdi
     };
     Verdict {
         said: Said::Answered(Answer::Ie014 { mrn: movement.mrn }),
-        change: Change::Moved(HolderRow { last_at: at, ..row }, NewStatus {
-            mrn: *mrn,
-            state,
-            limit: None,
-            arrival: None,
-            actual: None,
-        }),
+        change: Change::Moved(
+            HolderRow { last_at: at, ..row },
+            NewStatus {
+                mrn: *mrn,
+                state,
+                limit: None,
+                arrival: None,
+                actual: None,
+            },
+        ),
     }
 }

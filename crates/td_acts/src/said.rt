@@ -59,9 +59,7 @@ pub enum Refusal {
     /// The holder has used up all serials.
     SerialsSpent,
     /// The movement's state doesn't allow the move.
-    WrongState {
-        state: State,
-    },
+    WrongState { state: State },
 }
 
 impl Refusal {

@@ -202,12 +202,7 @@ fn declarations_are_decided(rt: HostRuntime) -> Result<(), Fail> {
 }
 
 /// Whether this is said to a request to cancel the movement, and something is written exactly where `writes` says so.
-fn is_cancelled(
-    alloc: Global,
-    loaded: &Loaded,
-    want: &str,
-    writes: bool,
-) -> Result<bool, Fail> {
+fn is_cancelled(alloc: Global, loaded: &Loaded, want: &str, writes: bool) -> Result<bool, Fail> {
     let command = Command::Ie014 {
         holder: HolderNo::new(1).ok_or("a holder")?,
         mrn: Mrn::read(A1)?,
@@ -255,7 +250,11 @@ fn commands_have_owners(rt: HostRuntime) -> Result<(), Fail> {
     let movement = Subject::Movement(Mrn::read(A1)?);
     assert!(rt; movement.owner(country) == HolderNo::new(1));
     let guarantee = Subject::Guarantee(Grn::read(G1)?);
-    assert!(rt; guarantee.owner(Country::read(b"DE").ok_or("a country")?).is_none());
+    assert!(rt;
+        guarantee
+            .owner(Country::read(b"DE").ok_or("a country")?)
+            .is_none()
+    );
     Ok(())
 }
 

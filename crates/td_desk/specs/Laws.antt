@@ -13,8 +13,8 @@ use Rattle.td_desk.specs.Runs.{Agree, failures, heard, told, IsTied, IsRun}
 abbrev pub EmptyDeskIsTied : Type 0
 EmptyDeskIsTied =
     (country : List ℕ) → IsCountry country
-        → IsSound (empty_content country)
-        × IsTied (empty_content country) (λ H. fresh_book (empty_account country))
+    → IsSound (empty_content country)
+    × IsTied (empty_content country) (λ H. fresh_book (empty_account country))
 
 -- every content is tied to the books that begin with it
 abbrev pub FreshBooksAreTied : Type 0
@@ -26,10 +26,10 @@ FreshBooksAreTied = (rows : Content) → IsTied rows (λ H. fresh H rows)
 abbrev pub AgreeingRunsTellTheSame : Type 0
 AgreeingRunsTellTheSame =
     (country : List ℕ) (H : ℕ) (books others : ℕ → Book) (list other_list : List Stamped)
-        (outcomes other_outcomes : List Outcome) (end other_end : Content)
+    (outcomes other_outcomes : List Outcome) (end other_end : Content)
     → IsRun country books list outcomes end → IsRun country others other_list other_outcomes other_end
     → books H ≡ others H → Agree country H list other_list
-        → failures country H list outcomes ≡ failures country H other_list other_outcomes
+    → failures country H list outcomes ≡ failures country H other_list other_outcomes
     → told country H list outcomes ≡ told country H other_list other_outcomes
 
 -- The same where H's commands that did not fail are equal in the two, whatever commands of H's failed
@@ -37,7 +37,7 @@ AgreeingRunsTellTheSame =
 abbrev pub HeardAlikeIsToldTheSame : Type 0
 HeardAlikeIsToldTheSame =
     (country : List ℕ) (H : ℕ) (books others : ℕ → Book) (list other_list : List Stamped)
-        (outcomes other_outcomes : List Outcome) (end other_end : Content)
+    (outcomes other_outcomes : List Outcome) (end other_end : Content)
     → IsRun country books list outcomes end → IsRun country others other_list other_outcomes other_end
     → books H ≡ others H → heard country H list outcomes ≡ heard country H other_list other_outcomes
     → told country H list outcomes ≡ told country H other_list other_outcomes

@@ -46,7 +46,7 @@ heard country H [] outcomes = []
 heard country H (s ∷ list) [] = []
 heard country H (s ∷ list) (outcome.Said said ∷ outcomes) =
     if is_holder H (owner_of country s.command) then s ∷ heard country H list outcomes
-        else heard country H list outcomes
+    else heard country H list outcomes
 heard country H (s ∷ list) (outcome.Failed fault ∷ outcomes) = heard country H list outcomes
 
 -- what was said to them
@@ -55,7 +55,7 @@ told country H [] outcomes = []
 told country H (s ∷ list) [] = []
 told country H (s ∷ list) (outcome.Said said ∷ outcomes) =
     if is_holder H (owner_of country s.command) then said ∷ told country H list outcomes
-        else told country H list outcomes
+    else told country H list outcomes
 told country H (s ∷ list) (outcome.Failed fault ∷ outcomes) = told country H list outcomes
 
 -- Each holder's rows are what the holder's book says, and each book has grown: every act in it was accepted

@@ -65,8 +65,8 @@ pub trait Desk {
         ensures said { IfOk result (λ said. said ≡ decision.said) }
         ensures carried { is_clean self.new → is_live self.new → IsSound (content self.old) →
             OnOk result ((s : Stamped) → IsProper s.command
-                → IsWeighed (content self.old) s.at s.command decision
-                → Carries (content self.old) s (content self.new)) }
+            → IsWeighed (content self.old) s.at s.command decision
+            → Carries (content self.old) s (content self.new)) }
         ensures err { is_clean self.new → is_live self.new
             → OnErr result (content self.new ≡ content self.old) }
         ensures quiet { decision.change ≡ change.Nothing → IsOk result }

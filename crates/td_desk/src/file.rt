@@ -13,7 +13,9 @@ ghost use Rattle.td_desk.specs.Places.{IsFirstPlace};
 use keyed_rows::Keyed;
 use std::alloc::{AllocError, Global};
 use std::marker::Model;
-use td_acts::{Change, HolderRow, Lines, Loaded, Needs, NewStatus, find_guarantee, find_movement_by_mrn};
+use td_acts::{
+    Change, HolderRow, Lines, Loaded, Needs, NewStatus, find_guarantee, find_movement_by_mrn,
+};
 use td_base::{Cents, Country, Grn, HolderNo, Lrn, Mrn};
 use td_guarantee::{Guarantee, in_use};
 use td_movement::Movement;
@@ -215,8 +217,8 @@ fn entries_by_grn(
 ) -> Result<Vec<(Guarantee, Cents)>, AllocError>
     ensures { AllByRecursion (IsCovered movements.now) guarantees.now
         → IfOk result (λ found. found.items
-            ≡ option_to_list (option_map (λ g. (g, used_on g.grn movements.now))
-            (guarantee_by_grn grn.now guarantees.now))) }
+        ≡ option_to_list (option_map (λ g. (g, used_on g.grn movements.now))
+        (guarantee_by_grn grn.now guarantees.now))) }
 {
     let mut found = Vec::new(alloc);
     if let Some(guarantee) = find_guarantee(guarantees, grn) {

@@ -55,7 +55,12 @@ impl Store for PlainDesk {
         self.country
     }
 
-    fn load(&mut self, alloc: Global, owner: Option<HolderNo>, needs: &Needs<'_>) -> Result<Loaded, Fault> {
+    fn load(
+        &mut self,
+        alloc: Global,
+        owner: Option<HolderNo>,
+        needs: &Needs<'_>,
+    ) -> Result<Loaded, Fault> {
         let Some(holder) = owner else {
             return Ok(Loaded::nothing(alloc, self.country));
         };

@@ -57,8 +57,8 @@ pub fn run<D: Desk>(
     ensures private { D.is_clean desk.new → D.is_live desk.old → IsSound (D.content desk.old)
         → (books : ℕ → Book) → IsTied (D.content desk.old) books →
         IfOk result (λ outcomes. (c : Content)
-            × IsRun (D.content desk.old).country books list.now outcomes.items c
-            × (D.is_live desk.new → D.content desk.new ≡ c)) }
+        × IsRun (D.content desk.old).country books list.now outcomes.items c
+        × (D.is_live desk.new → D.content desk.new ≡ c)) }
     ensures stays { D.is_clean desk.new → D.is_live desk.old
         → IfOk result (λ outcomes. All (λ o. o ≢ Outcome.Failed Fault.Store) outcomes.items
         → D.is_live desk.new) }

@@ -41,7 +41,12 @@ pub trait Store {
     /// What a verdict needs of the rows of a command's owner: of a registered holder the holder's row and
     /// what is needed beside it, of another number, and where nobody owns the command, nothing. An `Err` is
     /// want of memory or a fault of the store.
-    fn load(&mut self, alloc: Global, owner: Option<HolderNo>, needs: &Needs<'_>) -> Result<Loaded, Fault>
+    fn load(
+        &mut self,
+        alloc: Global,
+        owner: Option<HolderNo>,
+        needs: &Needs<'_>,
+    ) -> Result<Loaded, Fault>
         ensures kept { is_kept self.new → is_kept self.old }
         ensures live { is_kept self.new → is_open self.new → is_open self.old }
         ensures shown { is_kept self.new → OnOk result (is_open self.old × is_open self.new) }

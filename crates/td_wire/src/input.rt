@@ -4,9 +4,9 @@ ghost use Rattle.td_wire.specs.declared.input.TheConstants.{MOST};
 
 use crate::framing::MAX_BODY;
 use crate::next::MAX_HEAD;
+use counted_io::Counted;
 use std::alloc::{AllocError, Global};
 use std::io::Read;
-use counted_io::Counted;
 
 /// The most bytes of a read.
 const PIECE: usize = 4096;

@@ -8,9 +8,9 @@ use crate::framing::FramingError;
 use crate::input::{Input, Piece};
 use crate::next::{Next, next_request};
 use crate::request::Request;
+use counted_io::Counted;
 use std::alloc::Global;
 use std::io::Read;
-use counted_io::Counted;
 
 /// Why no further request was taken from a stream.
 #[derive(Drop)]

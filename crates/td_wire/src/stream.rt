@@ -9,9 +9,9 @@ use crate::input::Input;
 use crate::reading::{Stop, read_request};
 use crate::reply::Reply;
 use crate::request::Request;
+use counted_io::{Counted, write_whole};
 use std::alloc::Global;
 use std::io::{Read, Write};
-use counted_io::{Counted, write_whole};
 
 /// The most requests of a stream.
 const MAX_REQUESTS: u32 = 1000;

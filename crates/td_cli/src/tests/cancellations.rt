@@ -7,7 +7,8 @@ use super::exchanges::{
 use super::first_requests::{REGISTER, SEE, SHOWN};
 use std::test::Fail;
 
-const CANCEL_A1: &[u8] = b"POST /holders/000001/movements/25CH00000100000013/ie014 HTTP/1.1\r\n\r\n";
+const CANCEL_A1: &[u8] =
+    b"POST /holders/000001/movements/25CH00000100000013/ie014 HTTP/1.1\r\n\r\n";
 
 const CANCELLED_A1: &[u8] =
     b"HTTP/1.1 200 OK\r\nContent-Type: application/json\r\nContent-Length: 66\r\n\r\n{\"message\":\"IE014\",\"mrn\":\"25CH00000100000013\",\"state\":\"cancelled\"}";

@@ -19,8 +19,8 @@ pub fn run_stored<S: Store>(
     ensures private { S.is_kept desk.new → S.is_open desk.old → IsSound (S.rows desk.old)
         → (books : ℕ → Book) → IsTied (S.rows desk.old) books →
         IfOk result (λ outcomes. (c : Content)
-            × IsRun (S.rows desk.old).country books list.now outcomes.items c
-            × (S.is_open desk.new → S.rows desk.new ≡ c)) }
+        × IsRun (S.rows desk.old).country books list.now outcomes.items c
+        × (S.is_open desk.new → S.rows desk.new ≡ c)) }
 {
     run(alloc, desk, list)
 }
@@ -70,15 +70,19 @@ impl Store for FaultyStore {
     ghost may_fail = { Unit {0} };
 
     // A call that finds the store shut, or shuts it, and no other call, is the store's fault.
-    ghost asked =
-        { λ _ why new. (why ≡ Some fault.Store → new.serving ≡ false)
-            × (new.serving ≡ false → why ≡ Some fault.Store) };
+    ghost asked = { λ _ why new. (why ≡ Some fault.Store → new.serving ≡ false)
+        × (new.serving ≡ false → why ≡ Some fault.Store) };
 
     fn office(&self) -> Country {
         self.rows.office()
     }
 
-    fn load(&mut self, alloc: Global, owner: Option<HolderNo>, needs: &Needs<'_>) -> Result<Loaded, Fault> {
+    fn load(
+        &mut self,
+        alloc: Global,
+        owner: Option<HolderNo>,
+        needs: &Needs<'_>,
+    ) -> Result<Loaded, Fault> {
         if !self.serve() {
             return Err(Fault::Store);
         }

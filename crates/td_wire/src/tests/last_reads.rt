@@ -1,10 +1,10 @@
 //! Streams that come byte by byte and end at the very last of the 100,000 reads.
 use super::streams::{OK, Same, Still};
 use crate::{StreamEnd, serve_requests};
+use counted_io::Counted;
 use std::alloc::Global;
 use std::io;
 use std::io::{ErrorKind, Read};
-use counted_io::Counted;
 
 /// What a reader does at its last call.
 #[derive(Clone, Copy, PartialEq, Eq)]

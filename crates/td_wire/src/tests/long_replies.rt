@@ -3,10 +3,10 @@ ghost use Rattle.std.specs.Prelude.{⊤};
 
 use super::streams::Still;
 use crate::{Handler, Reply, Request, StreamEnd, head_reply, json_reply, serve_requests};
+use counted_io::Counted;
 use http::StatusCode;
 use std::alloc::{AllocError, Global};
 use std::test::Fail;
-use td_base::Counted;
 
 /// Answers each request with its own body.
 #[derive(Drop)]

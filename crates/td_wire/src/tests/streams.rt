@@ -5,12 +5,12 @@ use crate::{
     Clock, FramingError, Handler, Next, Reply, Request, StreamEnd, error_body, head_reply,
     json_reply, next_request, one_reading, serve_requests,
 };
+use counted_io::Counted;
 use http::StatusCode;
 use std::alloc::{AllocError, Global};
 use std::io;
 use std::io::{ErrorKind, Read};
 use std::test::Fail;
-use counted_io::Counted;
 
 /// A clock that stands still.
 #[derive(Drop)]
