@@ -107,6 +107,7 @@ fn words_of(alloc: Global, command: &Command) -> Result<String, AllocError> {
             let lines = line_words(alloc, lines)?;
             format!(in alloc; "declare {holder} {lrn} {departure} {destination}{lines}")
         }
+        Command::Ie014 { holder, mrn } => format!(in alloc; "cancel {holder} movement {mrn}"),
         Command::SeeHolder { holder } => format!(in alloc; "see {holder}"),
         Command::SeeMovement { holder, mrn } => format!(in alloc; "see {holder} movement {mrn}"),
         Command::SeeGuarantee { holder, grn } => {
