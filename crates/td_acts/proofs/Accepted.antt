@@ -1,6 +1,7 @@
 -- What an accepted command of H writes: rows of H, in their ranges, that follow on the rows before.
-use Rattle.std.proofs.Common.{◌≡◌, ◌≢◌, ℕ, ◌+◌, ◌<◌, Bool, true, false, List, [], ◌∷◌, map, Option, Some, None, refl, arith}
-use Rattle.std.specs.Prelude.{◌&&◌, not, if◌then◌else◌, IsSome}
+use Rattle.std.proofs.Common.{◌≡◌, ◌≢◌, ℕ, ◌+◌, ◌<◌, ◌≤◌, Bool, true, false, List, [], ◌∷◌, length, map, Option, Some, None, refl, arith}
+use Rattle.std.proofs.lemmas.Bool.Decides.{nat_tests}
+use Rattle.std.specs.Prelude.{◌&&◌, nat_le, not, if◌then◌else◌, AllPairs, IsSome}
 use Rattle.std.specs.Option.{is_some}
 use Rattle.std.specs.List.{AllByRecursion}
 use Rattle.std.proofs.lemmas.List.{length-map}
@@ -16,18 +17,24 @@ use Rattle.td_acts.specs.declared.rows.Change.{Change}
 use Rattle.td_acts.specs.declared.rows.Change.TheVariants as change
 use Rattle.td_acts.specs.declared.said.Answer.{Answer}
 use Rattle.td_acts.specs.declared.said.Refusal.{Refusal}
-use Rattle.td_acts.specs.declared.said.Refusal.TheVariants.{ClockBack, SerialsSpent, NoMovement, WrongState}
+use Rattle.td_acts.specs.declared.said.Refusal.TheVariants.{ClockBack, SerialsSpent, NoMovement, NoGuarantee, WrongState}
+use Rattle.td_acts.specs.declared.said.Said.{Said}
 use Rattle.td_acts.specs.declared.said.Said.TheVariants.{Answered, Refused}
+use Rattle.td_movement.specs.declared.moves.Move.{Move}
+use Rattle.td_movement.specs.Moves.{state_after}
 use Rattle.td_acts.specs.declared.rows.NewStatus.{NewStatus}
 use Rattle.td_movement.specs.declared.state.State.{State}
 use Rattle.td_movement.specs.Status.{IsStatus}
-use Rattle.td_acts.specs.Account.{Account, ReferencesDiffer, guarantee_by_grn, movement_by_lrn, movement_by_mrn}
-use Rattle.td_acts.specs.Changes.{with_status, moved}
+use Rattle.td_acts.specs.Account.{Account, ReferencesDiffer, coded, uncoded, guarantee_by_grn, movement_by_lrn, movement_by_mrn}
+use Rattle.td_acts.specs.Changes.{with_status, with_terms, moved}
 use Rattle.td_acts.specs.Acceptance.{is_answer}
 use Rattle.td_acts.specs.Declaring.{first_refusal, line_refusal, guarantee_refusal, refusal_or}
 use Rattle.td_acts.specs.Lines.{line_of, IsLines, IsLineAmount}
-use Rattle.td_acts.specs.Table.{or_refuse, if_lrn_new, if_not_refused}
+use Rattle.td_acts.specs.Table.{or_refuse, refuse_if, is_back, if_lrn_new, if_not_refused, on_guarantee, on_movement, stands}
+use Rattle.td_guarantee.specs.Codes.{with_code, without_code}
 use Rattle.td_guarantee.proofs.Ascending.{one_ascends}
+use Rattle.td_guarantee.proofs.Coded.{all_with, all_without, ascending_with, ascending_without, length_with, length_without}
+use Rattle.td_acts.specs.Effects.{end_after}
 use Rattle.td_acts.specs.Sound.{IsHolderRow, AreCodes, IsGuaranteeRow, AreMovementLines, IsMovementRow, IsCovered}
 use Rattle.td_acts.proofs.Joined.{All-map, AllPairs-map, AllByRecursion-map}
 
@@ -59,8 +66,8 @@ pub record IsDeclared (country : List ℕ) (H : ℕ) (account : Account) (row : 
   pub fresh : movement_by_lrn m.lrn account.movements ≡ None
   pub accepted : m.state ≡ Accepted
 
--- the holder's row with a moment, and a movement of the holder's in a new state, in which it has the days and offices of that state, and
--- no more is in use than before on any guarantee that doesn't cover it
+-- the holder's row with a moment, and a movement of the holder's in a new state, in which it has the days and offices
+-- of that state, and every guarantee covers what is in use
 pub record IsMoved (account : Account) (row : HolderRow) (status : NewStatus) : Type 0 where
   pub old : HolderRow
   pub known : account.holder ≡ Some old
@@ -69,7 +76,20 @@ pub record IsMoved (account : Account) (row : HolderRow) (status : NewStatus) : 
   pub movement : Movement
   pub found : movement_by_mrn status.mrn account.movements ≡ Some movement
   pub keeps : IsStatus movement → IsStatus (with_status status movement)
-  pub cover : ReferencesDiffer account → AllByRecursion (IsCovered account.movements) account.guarantees → AllByRecursion (IsCovered (map (moved status) account.movements)) account.guarantees
+  pub cover : ReferencesDiffer account → AllPairs (λ l m. l.grn ≢ m.grn) movement.lines → AllByRecursion (IsCovered account.movements) account.guarantees → AllByRecursion (IsCovered (map (moved status) account.movements)) account.guarantees
+
+-- the holder's row with a moment, and a guarantee of the holder's of which something is said anew: it keeps its GRN and
+-- its rules, and covers what is in use on it
+pub record IsSaidOf (country : List ℕ) (H : ℕ) (account : Account) (row : HolderRow) (grn : List ℕ) (made : Guarantee → Guarantee) : Type 0 where
+  pub old : HolderRow
+  pub known : account.holder ≡ Some old
+  pub moment : IsMoment row.last_at
+  pub next : row ≡ record old { last_at = row.last_at }
+  pub guarantee : Guarantee
+  pub found : guarantee_by_grn grn account.guarantees ≡ Some guarantee
+  pub same : (g : Guarantee) → (made g).grn ≡ g.grn
+  pub keeps : (n : ℕ) → IsGuaranteeRow country H n guarantee → IsGuaranteeRow country H n (made guarantee)
+  pub cover : IsCovered account.movements guarantee → IsCovered account.movements (made guarantee)
 
 -- the rows of a change follow on H's account
 abbrev pub IsFor : List ℕ → ℕ → Account → Change → Type 0
@@ -78,6 +98,14 @@ IsFor country H account (change.Registered row) = IsRegistered H account.holder 
 IsFor country H account (change.Opened row g) = IsOpened country H account.holder row g
 IsFor country H account (change.Declared row m) = IsDeclared country H account row m
 IsFor country H account (change.Moved row status) = IsMoved account row status
+IsFor country H account (change.TermsSet row terms) = IsSaidOf country H account row terms.grn (with_terms terms)
+IsFor country H account (change.CodeAdded row grn code) = IsSaidOf country H account row grn (coded code)
+IsFor country H account (change.CodeRemoved row grn code) = IsSaidOf country H account row grn (uncoded code)
+
+-- true and true
+both : (b : Bool) → b && true ≡ true → b ≡ true
+both true is = refl
+both false is = cc
 
 -- a guarantee is opened where neither the clock nor the serials refuse it
 pub opened_facts : (back spent : Bool) (a : Answer) → is_answer (if back then Refused ClockBack else (if spent then Refused SerialsSpent else Answered a)) && true ≡ true → (back ≡ false) × (spent ≡ false)
@@ -85,18 +113,42 @@ opened_facts true spent a accepted = cc
 opened_facts false true a accepted = cc
 opened_facts false false a accepted = (refl, refl)
 
--- a movement moves where the clock doesn't refuse it, it is there, and its state has the move
-pub moved_facts : (back : Bool) (o : Option Movement) (next : Movement → Option State) (a : Movement → State → Answer)
-    → is_answer (if back then Refused ClockBack else or_refuse NoMovement o (λ m. or_refuse (WrongState m.state) (next m) (λ state. Answered (a m state)))) && true ≡ true
-    → (back ≡ false) × (m : Movement) × (o ≡ Some m) × (state : State) × (next m ≡ Some state)
-moved_facts true o next a accepted = cc
-moved_facts false None next a accepted = cc
-moved_facts false (Some m) next a accepted = by_state (next m) refl accepted
+-- a movement moves where the clock doesn't refuse it, it is there, its state has the move, and nothing else refuses it
+pub moved_facts : (unregistered : Refusal) (row : HolderRow) (t : ℕ) (o : Option Movement) (to : Move) (said_of : Movement → Said)
+    → is_answer (on_movement unregistered (Some row) t o to said_of) && true ≡ true
+    → (m : Movement) × (o ≡ Some m) × (state : State) × (state_after m.state to ≡ Some state) × (is_answer (said_of m) ≡ true)
+moved_facts unregistered row t o to said_of accepted = by_clock (is_back t row) o accepted
   where
-    by_state : (s : Option State) → next m ≡ s → is_answer (or_refuse (WrongState m.state) s (λ state. Answered (a m state))) && true ≡ true
-        → (false ≡ false) × (n : Movement) × (Some m ≡ Some n) × (state : State) × (next n ≡ Some state)
-    by_state None e accepted = cc
-    by_state (Some state) e accepted = (refl, m, refl, state, e)
+    by_state : (m : Movement) (s : Option State) → state_after m.state to ≡ s → is_answer (or_refuse (WrongState m.state) s (λ state. said_of m)) && true ≡ true
+        → (n : Movement) × (Some m ≡ Some n) × (state : State) × (state_after n.state to ≡ Some state) × (is_answer (said_of n) ≡ true)
+    by_state m None e accepted = cc
+    by_state m (Some state) e accepted = (m, refl, state, e, both (is_answer (said_of m)) accepted)
+
+    by_clock : (back : Bool) (o : Option Movement) → is_answer (if back then Refused ClockBack else or_refuse NoMovement o (λ m. or_refuse (WrongState m.state) (state_after m.state to) (λ state. said_of m))) && true ≡ true
+        → (m : Movement) × (o ≡ Some m) × (state : State) × (state_after m.state to ≡ Some state) × (is_answer (said_of m) ≡ true)
+    by_clock true o accepted = cc
+    by_clock false None accepted = cc
+    by_clock false (Some m) accepted = by_state m (state_after m.state to) refl accepted
+
+-- something is said of a guarantee where the clock doesn't refuse it, it is there, and nothing else refuses it
+pub named_facts : (unregistered : Refusal) (row : HolderRow) (t : ℕ) (o : Option Guarantee) (said_of : Guarantee → Said)
+    → is_answer (on_guarantee unregistered (Some row) t o said_of) && true ≡ true → (g : Guarantee) × (o ≡ Some g) × (is_answer (said_of g) ≡ true)
+named_facts unregistered row t o said_of accepted = by_clock (is_back t row) o accepted
+  where
+    by_clock : (back : Bool) (o : Option Guarantee) → is_answer (if back then Refused ClockBack else or_refuse NoGuarantee o said_of) && true ≡ true → (g : Guarantee) × (o ≡ Some g) × (is_answer (said_of g) ≡ true)
+    by_clock true o accepted = cc
+    by_clock false None accepted = cc
+    by_clock false (Some g) accepted = (g, refl, both (is_answer (said_of g)) accepted)
+
+-- what isn't refused
+pub passed : (why : Refusal) (test : Bool) (said : Said) → is_answer (refuse_if why test said) ≡ true → (test ≡ false) × (is_answer said ≡ true)
+passed why true said is = cc
+passed why false said is = (refl, is)
+
+-- lines that aren't refused
+pub lines_passed : (o : Option Refusal) (said : Said) → is_answer (if_not_refused o said) ≡ true → o ≡ None
+lines_passed None said is = refl
+lines_passed (Some why) said is = cc
 
 -- nothing is true and false
 never : (b : Bool) → b && false ≡ true → ⊥
@@ -147,3 +199,28 @@ day_is t moment = (omega (arith, moment.0, moment.1), omega (arith, moment.0, mo
 -- one code is a guarantee's codes
 pub one_code : (code : List ℕ) → IsAccessCode code → AreCodes (code ∷ [])
 one_code code form = record { some = omega arith; most = omega arith; form = λ k d within. let first : k ≡ 0 = omega (arith, within) in rw first form; order = one_ascends code }
+
+-- the end of a guarantee that is revoked at a moment is a day: moments end with 2099, and days a year later
+pub end_is : (t : ℕ) → IsMoment t → IsDay (end_after (day_of_moment t))
+end_is t moment = (omega (arith, moment.0, moment.1), omega (arith, moment.0, moment.1))
+
+-- a new code beside others that leave room for it
+pub codes_with : (code : List ℕ) (codes : List (List ℕ)) → stands code codes ≡ false → nat_le 20 (length codes) ≡ false → IsAccessCode code → AreCodes codes → AreCodes (with_code code codes)
+codes_with code codes new room form are = record {
+  some = omega (arith, length_with code codes new);
+  most = (let left : length codes < 20 = grind (arith, nat_tests, room) in omega (arith, length_with code codes new, left));
+  form = all_with IsAccessCode code codes are.form form;
+  order = ascending_with code codes are.order;
+}
+
+-- codes without one, where there were two at least
+pub codes_without : (code : List ℕ) (codes : List (List ℕ)) → nat_le (length codes) 1 ≡ false → AreCodes codes → AreCodes (without_code code codes)
+codes_without code codes more are =
+    let two : 2 ≤ length codes = grind (arith, nat_tests, more) in
+    let lengths = length_without code codes are.order two in
+    record {
+      some = lengths.0;
+      most = omega (arith, lengths.1, are.most);
+      form = all_without IsAccessCode code codes are.form;
+      order = ascending_without code codes are.order;
+    }

@@ -25,14 +25,14 @@ AllByRecursion-append P [] y all last = (last, tt)
 AllByRecursion-append P (x ∷ xs) y all last = (all.0, AllByRecursion-append P xs y all.1 last)
 
 -- a line on another guarantee takes up nothing
-cents_off : (grn : List ℕ) (l : Line) → l.grn ≢ grn → cents_on grn l ≡ 0
+pub cents_off : (grn : List ℕ) (l : Line) → l.grn ≢ grn → cents_on grn l ≡ 0
 cents_off grn l other = by_test (bytes_eq l.grn grn) refl
   where
     by_test : (b : Bool) → bytes_eq l.grn grn ≡ b → (if b then l.cents else 0) ≡ 0
     by_test true same = absurd (other ((bytes_eq-Decides l.grn grn).0 same))
     by_test false h = refl
 
-lines_off : (grn : List ℕ) (lines : List Line) → AllByRecursion (λ l. l.grn ≢ grn) lines → lines_on grn lines ≡ 0
+pub lines_off : (grn : List ℕ) (lines : List Line) → AllByRecursion (λ l. l.grn ≢ grn) lines → lines_on grn lines ≡ 0
 lines_off grn [] others = refl
 lines_off grn (l ∷ lines) others = sum_by-cons (cents_on grn) l lines ∙ omega (arith, cents_off grn l others.0, lines_off grn lines others.1)
 

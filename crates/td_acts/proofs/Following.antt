@@ -1,6 +1,6 @@
 -- Rows that follow on a holder's rows: the account with them, and the rules that they keep.
 use Rattle.std.proofs.Common.{◌≡◌, ◌≢◌, ℕ, zero, suc, ◌+◌, ◌<◌, Bool, true, false, List, [], ◌∷◌, ◌++◌, length, map, Option, Some, None, refl, sym, ◌∙◌, ap, subst, arith, get_or}
-use Rattle.std.specs.Prelude.{IfSome, IsSome, unwrap_or, if◌then◌else◌}
+use Rattle.std.specs.Prelude.{AllPairs, IfSome, IsSome, unwrap_or, if◌then◌else◌}
 use Rattle.std.specs.List.{AllByRecursion}
 use Rattle.std.specs.Str.{bytes_eq}
 use Rattle.std.proofs.lemmas.List.{length-append, length-map}
@@ -14,16 +14,18 @@ use Rattle.td_guarantee.specs.declared.guarantee.Guarantee.{Guarantee}
 use Rattle.td_movement.specs.declared.movement.Movement.{Movement}
 use Rattle.td_acts.specs.declared.rows.Change.{Change}
 use Rattle.td_acts.specs.declared.rows.Change.TheVariants as change
-use Rattle.td_acts.specs.Account.{HolderRows, account_with, guarantee_by_grn, movement_by_lrn, movement_by_mrn}
+use Rattle.td_acts.specs.Account.{HolderRows, account_with, at_grn, coded, uncoded, guarantee_by_grn, movement_by_lrn, movement_by_mrn}
 use Rattle.td_acts.specs.declared.rows.NewStatus.{NewStatus}
 use Rattle.td_movement.specs.Status.{IsStatus}
-use Rattle.td_acts.specs.Changes.{account_after, row_in, rows_after, rows_or_new, with_status, moved}
+use Rattle.td_acts.specs.Changes.{account_after, row_in, rows_after, rows_or_new, with_status, with_terms, moved}
 use Rattle.td_acts.proofs.Differing.{differ_with}
+use Rattle.td_acts.proofs.ByKey.{only_found, number_found}
+use Rattle.td_acts.proofs.SaidAnew.{found_anew, each_anew, numbered_anew}
 use Rattle.td_acts.proofs.Steps.{rows_moved, lrn_moved}
 use Rattle.td_acts.specs.Sound.{IsGuaranteeRow, AreMovementLines, IsMovementRow, IsCovered, AreHolderRows}
 use Rattle.td_acts.specs.Deciding.{decision_on}
 use Rattle.td_acts.specs.Laws.{KeepsRowsSound}
-use Rattle.td_acts.proofs.Accepted.{IsFor}
+use Rattle.td_acts.proofs.Accepted.{IsFor, IsSaidOf}
 use Rattle.td_acts.proofs.AcceptedRows.{change_in_is_for, moment_is}
 use Rattle.td_acts.proofs.Cover.{AllByRecursion-append, unused_when_new, covered_with_accepted}
 use Rattle.td_acts.proofs.Joined.{AllPairs-append, AllPairs-map, AllNumbered-append, AllNumbered-weaker, AllByRecursion-weaker}
@@ -45,6 +47,9 @@ nothing_without_row (change.Registered row) none = cc
 nothing_without_row (change.Opened row g) none = cc
 nothing_without_row (change.Declared row m) none = cc
 nothing_without_row (change.Moved row status) none = cc
+nothing_without_row (change.TermsSet row terms) none = cc
+nothing_without_row (change.CodeAdded row grn code) none = cc
+nothing_without_row (change.CodeRemoved row grn code) none = cc
 
 -- this one, or another that is there still
 some_either : (b : Bool) (f : Guarantee) (o p : Option Guarantee) → (IsSome o → IsSome p) → IsSome (if◌then◌else◌ {A = Option Guarantee} b (Some f) o) → IsSome (if◌then◌else◌ {A = Option Guarantee} b (Some f) p)
@@ -56,17 +61,18 @@ found_still : (grn : List ℕ) (gs : List Guarantee) (g : Guarantee) → IsSome 
 found_still grn [] g some = cc
 found_still grn (f ∷ gs) g some = some_either (bytes_eq f.grn grn) f (guarantee_by_grn grn gs) (guarantee_by_grn grn (gs ++ g ∷ [])) (found_still grn gs g) some
 
-lines_still : (gs : List Guarantee) (g : Guarantee) (lines : List Line) → AreMovementLines gs lines → AreMovementLines (gs ++ g ∷ []) lines
-lines_still gs g lines are = record {
+-- lines are those of a movement still where the guarantees that were found are found
+lines_still : (gs hs : List Guarantee) → ((grn : List ℕ) → IsSome (guarantee_by_grn grn gs) → IsSome (guarantee_by_grn grn hs)) → (lines : List Line) → AreMovementLines gs lines → AreMovementLines hs lines
+lines_still gs hs still lines are = record {
   some = are.some;
   most = are.most;
   amounts = are.amounts;
   distinct = are.distinct;
-  own = AllByRecursion-weaker (λ l. IsSome (guarantee_by_grn l.grn gs)) (λ l. IsSome (guarantee_by_grn l.grn (gs ++ g ∷ []))) (λ l. found_still l.grn gs g) lines are.own;
+  own = AllByRecursion-weaker (λ l. IsSome (guarantee_by_grn l.grn gs)) (λ l. IsSome (guarantee_by_grn l.grn hs)) (λ l. still l.grn) lines are.own;
 }
 
-movement_still : (country : List ℕ) (H : ℕ) (gs : List Guarantee) (g : Guarantee) (n : ℕ) (m : Movement) → IsMovementRow country H gs n m → IsMovementRow country H (gs ++ g ∷ []) n m
-movement_still country H gs g n m is = record { mrn = is.mrn; lrn = is.lrn; departure = is.departure; destination = is.destination; accepted = is.accepted; status = is.status; lines = lines_still gs g m.lines is.lines }
+movement_still : (country : List ℕ) (H : ℕ) (gs hs : List Guarantee) → ((grn : List ℕ) → IsSome (guarantee_by_grn grn gs) → IsSome (guarantee_by_grn grn hs)) → (n : ℕ) (m : Movement) → IsMovementRow country H gs n m → IsMovementRow country H hs n m
+movement_still country H gs hs still n m is = record { mrn = is.mrn; lrn = is.lrn; departure = is.departure; destination = is.destination; accepted = is.accepted; status = is.status; lines = lines_still gs hs still m.lines is.lines }
 
 -- where nothing is found, it isn't the first, and not later
 not_first : (b : Bool) (m : Movement) (o : Option Movement) → if◌then◌else◌ {A = Option Movement} b (Some m) o ≡ None → (b ≡ false) × (o ≡ None)
@@ -90,7 +96,7 @@ sound_opened country h g t form moment left is sound = record {
   guarantees = AllNumbered-append (IsGuaranteeRow country h.row.holder) 0 h.guarantees g sound.guarantees (subst (λ n. IsGuaranteeRow country h.row.holder n g) (omega (arith, sound.grn_count)) is);
   grn_count = simp length-append (omega (arith, sound.grn_count));
   grn_most = omega (arith, left);
-  movements = AllNumbered-weaker (IsMovementRow country h.row.holder h.guarantees) (IsMovementRow country h.row.holder (h.guarantees ++ g ∷ [])) (λ n m. movement_still country h.row.holder h.guarantees g n m) 0 h.movements sound.movements;
+  movements = AllNumbered-weaker (IsMovementRow country h.row.holder h.guarantees) (IsMovementRow country h.row.holder (h.guarantees ++ g ∷ [])) (movement_still country h.row.holder h.guarantees (h.guarantees ++ g ∷ []) (λ grn. found_still grn h.guarantees g)) 0 h.movements sound.movements;
   mrn_count = sound.mrn_count;
   mrn_most = sound.mrn_most;
   lrns = sound.lrns;
@@ -129,9 +135,42 @@ sound_moved country h status found t form moment is keeps cover sound = record {
   cover = cover;
 }
 
+-- and so with a guarantee of theirs of which something is said anew
+sound_said : (country : List ℕ) (h : HolderRows) (grn : List ℕ) (made : Guarantee → Guarantee) (found : Guarantee) (t : ℕ) → IsCountry country → IsMoment t → guarantee_by_grn grn h.guarantees ≡ Some found → ((g : Guarantee) → (made g).grn ≡ g.grn)
+    → ((n : ℕ) → IsGuaranteeRow country h.row.holder n found → IsGuaranteeRow country h.row.holder n (made found)) → (IsCovered h.movements found → IsCovered h.movements (made found)) → AreHolderRows country h
+    → AreHolderRows country (record { row = record h.row { last_at = t }; guarantees = map (at_grn grn made) h.guarantees; movements = h.movements })
+sound_said country h grn made found t form moment is same keeps cover sound =
+    let one = only_found (λ (g : Guarantee). g.grn) grn h.guarantees found (differ_with country (Some h) form sound).grns is in
+    record {
+      row = record { number = sound.row.number; eori = sound.row.eori; last_at = moment };
+      guarantees = numbered_anew grn made same (IsGuaranteeRow country h.row.holder) found keeps 0 h.guarantees one sound.guarantees;
+      grn_count = simp length-map sound.grn_count;
+      grn_most = sound.grn_most;
+      movements = AllNumbered-weaker (IsMovementRow country h.row.holder h.guarantees) (IsMovementRow country h.row.holder (map (at_grn grn made) h.guarantees))
+          (movement_still country h.row.holder h.guarantees (map (at_grn grn made) h.guarantees) (λ x. found_anew grn made same x h.guarantees)) 0 h.movements sound.movements;
+      mrn_count = sound.mrn_count;
+      mrn_most = sound.mrn_most;
+      lrns = sound.lrns;
+      cover = each_anew grn made same (IsCovered h.movements) found cover h.guarantees one sound.cover;
+    }
+
+-- the lines of a movement that is found are on guarantees that differ
+distinct_lines : (country : List ℕ) (h : HolderRows) (mrn : List ℕ) (found : Movement) → movement_by_mrn mrn h.movements ≡ Some found → AreHolderRows country h → AllPairs (λ (l m : Line). l.grn ≢ m.grn) found.lines
+distinct_lines country h mrn found is sound = (number_found (λ (m : Movement). m.mrn) (IsMovementRow country h.row.holder h.guarantees) 0 mrn h.movements found sound.movements is).1.lines.distinct
+
 -- the row that was there
 the_row : (r : HolderRow) (old : HolderRow) → Some r ≡ Some old → old ≡ r
 the_row r old e = cc
+
+-- the rules where something is said of a guarantee anew
+sound_said_of : (country : List ℕ) (H : ℕ) (h : HolderRows) (r : HolderRow) (grn : List ℕ) (made : Guarantee → Guarantee) → IsCountry country → h.row.holder ≡ H → IsSaidOf country H (account_with country (Some h)) r grn made → AreHolderRows country h
+    → AreHolderRows country (record { row = r; guarantees = map (at_grn grn made) h.guarantees; movements = h.movements })
+sound_said_of country H h r grn made form number is sound =
+    let same : is.old ≡ h.row = the_row h.row is.old is.known in
+    let next : r ≡ record h.row { last_at = r.last_at } = subst (λ (o : HolderRow). r ≡ record o { last_at = r.last_at }) same is.next in
+    let keeps = subst (λ H. (n : ℕ) → IsGuaranteeRow country H n is.guarantee → IsGuaranteeRow country H n (made is.guarantee)) (sym number) is.keeps in
+    subst (λ (x : HolderRow). AreHolderRows country (record { row = x; guarantees = map (at_grn grn made) h.guarantees; movements = h.movements })) (sym next)
+    (sound_said country h grn made is.guarantee r.last_at form is.moment is.found is.same keeps is.cover sound)
 
 -- a holder's rows keep their rules after a change that follows on them
 sound_after : (country : List ℕ) (H : ℕ) (o : Option HolderRows) (c : Change) (row : HolderRow) → IsCountry country → row_in c ≡ Some row → IsFor country H (account_with country o) c → IfSome o (λ h. h.row.holder ≡ H) → IfSome o (AreHolderRows country)
@@ -168,7 +207,13 @@ sound_after country H (Some h) (change.Moved r status) row form has is number so
     let same : is.old ≡ h.row = the_row h.row is.old is.known in
     let next : r ≡ record h.row { last_at = r.last_at } = subst (λ (o : HolderRow). r ≡ record o { last_at = r.last_at }) same is.next in
     subst (λ (x : HolderRow). AreHolderRows country (record { row = x; guarantees = h.guarantees; movements = map (moved status) h.movements })) (sym next)
-    (sound_moved country h status is.movement r.last_at form is.moment is.found is.keeps (is.cover (differ_with country (Some h) form sound) sound.cover) sound)
+    (sound_moved country h status is.movement r.last_at form is.moment is.found is.keeps (is.cover (differ_with country (Some h) form sound) (distinct_lines country h status.mrn is.movement is.found sound) sound.cover) sound)
+sound_after country H None (change.TermsSet r terms) row form has is number sound = let some = is.known in cc
+sound_after country H (Some h) (change.TermsSet r terms) row form has is number sound = sound_said_of country H h r terms.grn (with_terms terms) form number is sound
+sound_after country H None (change.CodeAdded r grn code) row form has is number sound = let some = is.known in cc
+sound_after country H (Some h) (change.CodeAdded r grn code) row form has is number sound = sound_said_of country H h r grn (coded code) form number is sound
+sound_after country H None (change.CodeRemoved r grn code) row form has is number sound = let some = is.known in cc
+sound_after country H (Some h) (change.CodeRemoved r grn code) row form has is number sound = sound_said_of country H h r grn (uncoded code) form number is sound
 
 -- the number of a row that is there
 number_of : (H : ℕ) (country : List ℕ) (o : Option HolderRows) (old : HolderRow) → IfSome o (λ h. h.row.holder ≡ H) → (account_with country o).holder ≡ Some old → old.holder ≡ H
@@ -186,6 +231,15 @@ number_after country H o (change.Declared r m) row has is number =
     let same : r ≡ row = cc in
     subst (λ (r : HolderRow). r.holder ≡ H) same (ap (λ (r : HolderRow). r.holder) is.next ∙ number_of H country o is.old number is.known)
 number_after country H o (change.Moved r status) row has is number =
+    let same : r ≡ row = cc in
+    subst (λ (r : HolderRow). r.holder ≡ H) same (ap (λ (r : HolderRow). r.holder) is.next ∙ number_of H country o is.old number is.known)
+number_after country H o (change.TermsSet r terms) row has is number =
+    let same : r ≡ row = cc in
+    subst (λ (r : HolderRow). r.holder ≡ H) same (ap (λ (r : HolderRow). r.holder) is.next ∙ number_of H country o is.old number is.known)
+number_after country H o (change.CodeAdded r grn code) row has is number =
+    let same : r ≡ row = cc in
+    subst (λ (r : HolderRow). r.holder ≡ H) same (ap (λ (r : HolderRow). r.holder) is.next ∙ number_of H country o is.old number is.known)
+number_after country H o (change.CodeRemoved r grn code) row has is number =
     let same : r ≡ row = cc in
     subst (λ (r : HolderRow). r.holder ≡ H) same (ap (λ (r : HolderRow). r.holder) is.next ∙ number_of H country o is.old number is.known)
 

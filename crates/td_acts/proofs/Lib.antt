@@ -1,10 +1,15 @@
 pub mod Joined
+pub mod Told
 pub mod Earlier
 pub mod Lodging
 pub mod Machines
 pub mod Cover
 pub mod Accepted
+pub mod ByKey
 pub mod Steps
+pub mod SaidAnew
+pub mod Covering
+pub mod EachMove
 pub mod EachCommand
 pub mod Growing
 pub mod Written

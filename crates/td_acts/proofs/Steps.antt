@@ -1,24 +1,20 @@
 -- A movement that moves, among a holder's movements: what is in use before and after, and the rules that stay.
-use Rattle.std.proofs.Common.{◌≡◌, ◌≢◌, ℕ, zero, suc, ◌+◌, ◌<◌, Bool, true, false, List, [], ◌∷◌, length, map, get_or, Option, Some, refl, sym, ◌∙◌, ap, ap₂, subst, arith}
+use Rattle.std.proofs.Common.{◌≡◌, ◌≢◌, ℕ, zero, suc, ◌+◌, ◌<◌, ◌≤◌, Bool, true, false, List, [], ◌∷◌, length, map, get_or, Option, Some, refl, sym, ◌∙◌, ap, ap₂, subst, arith}
 use Rattle.std.specs.Prelude.{AllPairs, if◌then◌else◌}
 use Rattle.std.specs.List.{AllByRecursion}
 use Rattle.std.specs.Str.{bytes_eq}
 use Rattle.std.proofs.lemmas.List.Sums.{sum_by-cons}
 use Rattle.std.proofs.lemmas.Slice.Eq.{bytes_eq-Decides}
 use Rattle.td_movement.specs.declared.movement.Movement.{Movement}
-use Rattle.td_movement.specs.declared.moves.Move.TheVariants.{Cancel}
-use Rattle.td_movement.specs.declared.state.State.{State}
-use Rattle.td_movement.specs.declared.state.State.TheVariants.{Accepted, Cancelled, Released, Enquired, Arrived, Discrepant, Cleared, WrittenOff}
-use Rattle.td_movement.specs.Moves.{state_after}
 use Rattle.td_movement.specs.States.{is_counting}
-use Rattle.td_movement.specs.Status.{IsStatus, HasDaysOf}
+use Rattle.td_movement.specs.Status.{IsStatus}
 use Rattle.td_guarantee.specs.declared.guarantee.Guarantee.{Guarantee}
-use Rattle.td_guarantee.specs.Usage.{movement_on, used_on}
+use Rattle.td_guarantee.specs.Usage.{lines_on, movement_on, used_on}
 use Rattle.td_acts.specs.declared.rows.NewStatus.{NewStatus}
 use Rattle.td_acts.specs.Account.{movement_by_mrn}
 use Rattle.td_acts.specs.Changes.{with_status, moved}
-use Rattle.td_acts.specs.Deciding.{new_state}
 use Rattle.td_acts.specs.Sound.{AllNumbered, IsMovementRow, IsCovered}
+use Rattle.td_acts.proofs.ByKey.{behind_differ, first_differs, only_found}
 use Rattle.td_acts.proofs.Joined.{AllByRecursion-weaker}
 
 -- what is mapped to itself stays
@@ -30,12 +26,6 @@ map-id (x ∷ xs) = ap (λ l. x ∷ l) (map-id xs)
 abbrev pub MrnsDiffer : List Movement → Type 0
 MrnsDiffer ms = AllPairs (λ a b. a.mrn ≢ b.mrn) ms
 
-behind_differ : (m : Movement) (ms : List Movement) → MrnsDiffer (m ∷ ms) → MrnsDiffer ms
-behind_differ m ms differ = λ i j d less within. differ (suc i) (suc j) d (omega (arith, less)) (omega (arith, within))
-
-first_differs : (m : Movement) (ms : List Movement) → MrnsDiffer (m ∷ ms) → (k : ℕ) (d : Movement) → k < length ms → m.mrn ≢ (get_or ms k d).mrn
-first_differs m ms differ k d within = differ zero (suc k) d (omega arith) (omega (arith, within))
-
 -- where none has the MRN, none moves
 none_moves : (status : NewStatus) (ms : List Movement) → ((k : ℕ) (d : Movement) → k < length ms → status.mrn ≢ (get_or ms k d).mrn) → map (moved status) ms ≡ ms
 none_moves status [] others = refl
@@ -45,25 +35,11 @@ none_moves status (m ∷ ms) others = ap₂ (λ x l. x ∷ l) (by_test (bytes_eq
     by_test true same = absurd (others zero m (omega arith) (sym ((bytes_eq-Decides m.mrn status.mrn).0 same)))
     by_test false other = refl
 
--- each movement with the MRN is the one that is found
-pub only_found : (mrn : List ℕ) (ms : List Movement) (found : Movement) → MrnsDiffer ms → movement_by_mrn mrn ms ≡ Some found → AllByRecursion (λ m. m.mrn ≡ mrn → m ≡ found) ms
-only_found mrn [] found differ is = tt
-only_found mrn (m ∷ ms) found differ is = by_test (bytes_eq m.mrn mrn) refl is (only_found mrn ms found (behind_differ m ms differ))
-  where
-    behind : (ns : List Movement) → ((k : ℕ) (d : Movement) → k < length ns → m.mrn ≢ (get_or ns k d).mrn) → m.mrn ≡ mrn → AllByRecursion (λ n. n.mrn ≡ mrn → n ≡ found) ns
-    behind [] others same = tt
-    behind (n ∷ ns) others same = (λ e. absurd (others zero n (omega arith) (same ∙ sym e)), behind ns (λ k d within. others (suc k) d (omega (arith, within))) same)
-
-    by_test : (b : Bool) → bytes_eq m.mrn mrn ≡ b → if◌then◌else◌ {A = Option Movement} b (Some m) (movement_by_mrn mrn ms) ≡ Some found
-        → (movement_by_mrn mrn ms ≡ Some found → AllByRecursion (λ n. n.mrn ≡ mrn → n ≡ found) ms) → AllByRecursion (λ n. n.mrn ≡ mrn → n ≡ found) (m ∷ ms)
-    by_test true same is later = (λ e. cc, behind ms (first_differs m ms differ) ((bytes_eq-Decides m.mrn mrn).0 same))
-    by_test false other is later = ((λ e. let yes = (bytes_eq-Decides m.mrn mrn).1 e in cc), later is)
-
 -- What is in use changes by what the one movement has in use: the sum after its move, with what it had before, is the sum before with what it has then.
 pub used_moved : (grn : List ℕ) (status : NewStatus) (ms : List Movement) (found : Movement) → MrnsDiffer ms → movement_by_mrn status.mrn ms ≡ Some found
     → used_on grn (map (moved status) ms) + movement_on grn found ≡ used_on grn ms + movement_on grn (with_status status found)
 used_moved grn status [] found differ is = cc
-used_moved grn status (m ∷ ms) found differ is = by_test (bytes_eq m.mrn status.mrn) refl is (used_moved grn status ms found (behind_differ m ms differ))
+used_moved grn status (m ∷ ms) found differ is = by_test (bytes_eq m.mrn status.mrn) refl is (used_moved grn status ms found (behind_differ (λ (m : Movement). m.mrn) m ms differ))
   where
     by_test : (b : Bool) → bytes_eq m.mrn status.mrn ≡ b → if◌then◌else◌ {A = Option Movement} b (Some m) (movement_by_mrn status.mrn ms) ≡ Some found
         → (movement_by_mrn status.mrn ms ≡ Some found → used_on grn (map (moved status) ms) + movement_on grn found ≡ used_on grn ms + movement_on grn (with_status status found))
@@ -71,7 +47,7 @@ used_moved grn status (m ∷ ms) found differ is = by_test (bytes_eq m.mrn statu
     by_test true same is more =
         let one : m ≡ found = cc in
         let key : m.mrn ≡ status.mrn = (bytes_eq-Decides m.mrn status.mrn).0 same in
-        let rest : map (moved status) ms ≡ ms = none_moves status ms (λ k d within e. first_differs m ms differ k d within (key ∙ e)) in
+        let rest : map (moved status) ms ≡ ms = none_moves status ms (λ k d within e. first_differs (λ (m : Movement). m.mrn) m ms differ k d within (key ∙ e)) in
         let after = sum_by-cons (movement_on grn) (with_status status m) (map (moved status) ms) in
         let before = sum_by-cons (movement_on grn) m ms in
         let same_rest : used_on grn (map (moved status) ms) ≡ used_on grn ms = ap (used_on grn) rest in
@@ -83,41 +59,25 @@ used_moved grn status (m ∷ ms) found differ is = by_test (bytes_eq m.mrn statu
         let before = sum_by-cons (movement_on grn) m ms in
         omega (arith, after, before, later)
 
--- a movement that doesn't count has nothing in use
-uncounted : (grn : List ℕ) (m : Movement) → is_counting m.state ≡ false → movement_on grn m ≡ 0
-uncounted grn m off = rw off refl
+-- who moves has no more in use than before, unless it begins to count
+no_more : (grn : List ℕ) (m : Movement) (status : NewStatus) → (is_counting status.state ≡ true → is_counting m.state ≡ true) → movement_on grn (with_status status m) ≤ movement_on grn m
+no_more grn m status still = by_test (is_counting status.state) (is_counting m.state) still
+  where
+    by_test : (after before : Bool) → (after ≡ true → before ≡ true) → (if after then lines_on grn m.lines else 0) ≤ (if before then lines_on grn m.lines else 0)
+    by_test false before still = omega arith
+    by_test true true still = omega arith
+    by_test true false still = let no = still refl in cc
 
--- a move between states that don't count leaves every guarantee covered
-pub uncounted_moved : (status : NewStatus) (ms : List Movement) (found : Movement) → MrnsDiffer ms → movement_by_mrn status.mrn ms ≡ Some found
-    → is_counting found.state ≡ false → is_counting status.state ≡ false → (gs : List Guarantee) → AllByRecursion (IsCovered ms) gs → AllByRecursion (IsCovered (map (moved status) ms)) gs
-uncounted_moved status ms found differ is before after gs covered =
+-- a move of a movement that doesn't begin to count leaves every guarantee covered
+pub no_more_moved : (status : NewStatus) (ms : List Movement) (found : Movement) → MrnsDiffer ms → movement_by_mrn status.mrn ms ≡ Some found
+    → (is_counting status.state ≡ true → is_counting found.state ≡ true) → (gs : List Guarantee) → AllByRecursion (IsCovered ms) gs → AllByRecursion (IsCovered (map (moved status) ms)) gs
+no_more_moved status ms found differ is still gs covered =
     AllByRecursion-weaker (IsCovered ms) (IsCovered (map (moved status) ms))
     (λ g is_covered.
     let step = used_moved g.grn status ms found differ is in
-    let was = uncounted g.grn found before in
-    let now = uncounted g.grn (with_status status found) after in
-    omega (arith, step, was, now, is_covered))
+    let fewer = no_more g.grn found status still in
+    omega (arith, step, fewer, is_covered))
     gs covered
-
--- only an accepted declaration is cancelled
-pub cancelled_from : (state next : State) → state_after state Cancel ≡ Some next → state ≡ Accepted
-cancelled_from Accepted next is = refl
-cancelled_from Cancelled next is = cc
-cancelled_from Released next is = cc
-cancelled_from Enquired next is = cc
-cancelled_from Arrived next is = cc
-cancelled_from Discrepant next is = cc
-cancelled_from Cleared next is = cc
-cancelled_from WrittenOff next is = cc
-
--- and has no days and no office, before and after
-pub cancelled_status : (mrn : List ℕ) (m : Movement) → m.state ≡ Accepted → IsStatus m → IsStatus (with_status (new_state mrn Cancelled) m)
-cancelled_status mrn m before is = record {
-  days = subst (λ (s : State). HasDaysOf s m) before is.days;
-  limit = is.limit;
-  arrival = is.arrival;
-  actual = is.actual;
-}
 
 -- each row keeps its rule where it moves, and so all do
 pub numbered_moved : {R : Type 0} (P : ℕ → R → Type 0) (f : R → R) (n : ℕ) (rows : List R) → AllByRecursion (λ r. (k : ℕ) → P k r → P k (f r)) rows → AllNumbered P n rows → AllNumbered P n (map f rows)
@@ -141,7 +101,7 @@ pub rows_moved : (country : List ℕ) (H : ℕ) (gs : List Guarantee) (status : 
     → (IsStatus found → IsStatus (with_status status found)) → AllNumbered (IsMovementRow country H gs) 0 ms → AllNumbered (IsMovementRow country H gs) 0 (map (moved status) ms)
 rows_moved country H gs status ms found differ is keeps rows =
     numbered_moved (IsMovementRow country H gs) (moved status) 0 ms
-    (AllByRecursion-weaker (λ m. m.mrn ≡ status.mrn → m ≡ found) (λ m. (k : ℕ) → IsMovementRow country H gs k m → IsMovementRow country H gs k (moved status m)) (row_moved country H gs status found keeps) ms (only_found status.mrn ms found differ is))
+    (AllByRecursion-weaker (λ m. m.mrn ≡ status.mrn → m ≡ found) (λ m. (k : ℕ) → IsMovementRow country H gs k m → IsMovementRow country H gs k (moved status m)) (row_moved country H gs status found keeps) ms (only_found (λ (m : Movement). m.mrn) status.mrn ms found differ is))
     rows
 
 -- a movement keeps its LRN

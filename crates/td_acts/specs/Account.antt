@@ -1,9 +1,11 @@
 -- What a desk keeps of one holder: the model's only view of the records.
-use Rattle.std.specs.Prelude.{◌≡◌, ◌≢◌, ℕ, List, [], AllPairs, Option, None, IfSome, find}
+use Rattle.std.specs.Prelude.{◌≡◌, ◌≢◌, ℕ, List, [], AllPairs, Option, None, IfSome, find, if◌then◌else◌}
 use Rattle.std.specs.Option.{option_map, option_map_or}
 use Rattle.std.specs.Str.{bytes_eq}
 use Rattle.td_acts.specs.declared.rows.HolderRow.{HolderRow}
 use Rattle.td_guarantee.specs.declared.guarantee.Guarantee.{Guarantee}
+use Rattle.td_guarantee.specs.Codes.{with_code, without_code}
+use Rattle.td_guarantee.specs.Usage.{used_on}
 use Rattle.td_movement.specs.declared.movement.Movement.{Movement}
 
 -- the desk's country, the holder's row if the holder is registered, and the holder's guarantees and
@@ -46,6 +48,11 @@ pub record ReferencesDiffer (account : Account) : Type 0 where
 abbrev pub guarantee_by_grn : List ℕ → List Guarantee → Option Guarantee
 guarantee_by_grn grn guarantees = find (λ g. bytes_eq g.grn grn) guarantees
 
+-- the guarantee with exactly this GRN, and the amount in use on it
+abbrev pub entry_in : Account → List ℕ → Option (Guarantee × ℕ)
+entry_in account grn =
+    option_map (λ g. (g, used_on g.grn account.movements)) (guarantee_by_grn grn account.guarantees)
+
 -- the movement with exactly this MRN
 abbrev pub movement_by_mrn : List ℕ → List Movement → Option Movement
 movement_by_mrn mrn movements = find (λ m. bytes_eq m.mrn mrn) movements
@@ -53,3 +60,18 @@ movement_by_mrn mrn movements = find (λ m. bytes_eq m.mrn mrn) movements
 -- the movement with this LRN
 abbrev pub movement_by_lrn : List ℕ → List Movement → Option Movement
 movement_by_lrn lrn movements = find (λ m. bytes_eq m.lrn lrn) movements
+
+-- what is made of the guarantee with this GRN; any other stays as it is
+abbrev pub at_grn : List ℕ → (Guarantee → Guarantee) → Guarantee → Guarantee
+at_grn grn made g = if bytes_eq g.grn grn then made g else g
+
+-- what is made of the movement with this MRN; any other stays as it is
+abbrev pub at_mrn : List ℕ → (Movement → Movement) → Movement → Movement
+at_mrn mrn made m = if bytes_eq m.mrn mrn then made m else m
+
+-- a guarantee with one access code more, and with one less
+abbrev pub coded : List ℕ → Guarantee → Guarantee
+coded code g = record g { codes = with_code code g.codes }
+
+abbrev pub uncoded : List ℕ → Guarantee → Guarantee
+uncoded code g = record g { codes = without_code code g.codes }

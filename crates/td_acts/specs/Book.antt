@@ -38,9 +38,10 @@ abbrev pub serial_in : (Command → ℕ) → ℕ → List Act → ℕ
 serial_in uses n [] = n
 serial_in uses n (a ∷ acts) = serial_in uses (n + uses a.command) acts
 
--- The rows after all acts, where n serials are used before: each act says anew what it says of the rows before it, and what
--- it makes stands behind them.
-abbrev pub rows_in : {R : Type 0} → (ℕ → Command → R → R) → (ℕ → ℕ → Command → List R) → (Command → ℕ) → ℕ → List R → List Act → List R
+-- The rows after all acts, where n serials are used before: each act says anew what it says of the rows before it,
+-- and what it makes stands behind them.
+abbrev pub rows_in : {R : Type 0} → (ℕ → Command → R → R) → (ℕ → ℕ → Command → List R) → (Command → ℕ)
+    → ℕ → List R → List Act → List R
 rows_in said made uses n rows [] = rows
 rows_in said made uses n rows (a ∷ acts) =
     rows_in said made uses (n + uses a.command) (map (said a.at a.command) rows ++ made n a.at a.command) acts

@@ -1,14 +1,14 @@
 -- What a change of one holder's rows does to them: these shapes stand for all commands.
-use Rattle.std.specs.Prelude.{List, [], ◌∷◌, ◌++◌, map, Option, Some, None, Bool, true, false, unwrap_or, if◌then◌else◌}
+use Rattle.std.specs.Prelude.{List, [], ◌∷◌, ◌++◌, map, Option, Some, None, Bool, true, false, unwrap_or}
 use Rattle.std.specs.Option.{option_or}
-use Rattle.std.specs.Str.{bytes_eq}
 use Rattle.td_guarantee.specs.declared.guarantee.Guarantee.{Guarantee}
 use Rattle.td_movement.specs.declared.movement.Movement.{Movement}
 use Rattle.td_acts.specs.declared.rows.HolderRow.{HolderRow}
 use Rattle.td_acts.specs.declared.rows.NewStatus.{NewStatus}
 use Rattle.td_acts.specs.declared.rows.Change.{Change}
-use Rattle.td_acts.specs.declared.rows.Change.TheVariants.{Nothing, Registered, Opened, Declared, Moved}
-use Rattle.td_acts.specs.Account.{Account, HolderRows}
+use Rattle.td_acts.specs.declared.rows.Change.TheVariants.{Nothing, Registered, Opened, Declared, Moved, TermsSet, CodeAdded, CodeRemoved}
+use Rattle.td_acts.specs.declared.rows.NewTerms.{NewTerms}
+use Rattle.td_acts.specs.Account.{Account, HolderRows, at_grn, at_mrn, coded, uncoded}
 
 -- there is something to write
 abbrev pub is_change : Change → Bool
@@ -17,6 +17,9 @@ is_change (Registered row) = true
 is_change (Opened row guarantee) = true
 is_change (Declared row movement) = true
 is_change (Moved row status) = true
+is_change (TermsSet row terms) = true
+is_change (CodeAdded row grn code) = true
+is_change (CodeRemoved row grn code) = true
 
 -- the holder's row in a change
 abbrev pub row_in : Change → Option HolderRow
@@ -25,6 +28,24 @@ row_in (Registered row) = Some row
 row_in (Opened row guarantee) = Some row
 row_in (Declared row movement) = Some row
 row_in (Moved row status) = Some row
+row_in (TermsSet row terms) = Some row
+row_in (CodeAdded row grn code) = Some row
+row_in (CodeRemoved row grn code) = Some row
+
+-- the guarantee with new terms
+abbrev pub with_terms : NewTerms → Guarantee → Guarantee
+with_terms terms g = record g {
+  reference = unwrap_or terms.reference g.reference;
+  cover = unwrap_or terms.cover g.cover;
+  ends = option_or terms.ends g.ends;
+}
+
+-- what a change makes of a guarantee: terms and codes are said of the one that it names
+abbrev pub guarantee_after : Change → Guarantee → Guarantee
+guarantee_after (TermsSet row terms) = at_grn terms.grn (with_terms terms)
+guarantee_after (CodeAdded row grn code) = at_grn grn (coded code)
+guarantee_after (CodeRemoved row grn code) = at_grn grn (uncoded code)
+guarantee_after change = λ g. g
 
 -- the guarantees after a change: an opened one stands behind the others
 abbrev pub guarantees_after : Change → List Guarantee → List Guarantee
@@ -33,6 +54,9 @@ guarantees_after (Registered row) guarantees = guarantees
 guarantees_after (Opened row guarantee) guarantees = guarantees ++ guarantee ∷ []
 guarantees_after (Declared row movement) guarantees = guarantees
 guarantees_after (Moved row status) guarantees = guarantees
+guarantees_after (TermsSet row terms) guarantees = map (guarantee_after (TermsSet row terms)) guarantees
+guarantees_after (CodeAdded row grn code) guarantees = map (guarantee_after (CodeAdded row grn code)) guarantees
+guarantees_after (CodeRemoved row grn code) guarantees = map (guarantee_after (CodeRemoved row grn code)) guarantees
 
 -- the movement in a new state, with the days and the office that come with it
 abbrev pub with_status : NewStatus → Movement → Movement
@@ -45,7 +69,7 @@ with_status status m = record m {
 
 -- the movement in its new state, where it is the one that has moved
 abbrev pub moved : NewStatus → Movement → Movement
-moved status m = if bytes_eq m.mrn status.mrn then with_status status m else m
+moved status = at_mrn status.mrn (with_status status)
 
 -- the movements after a change: a declared one stands behind the others, and one that has moved in its place
 abbrev pub movements_after : Change → List Movement → List Movement
@@ -54,6 +78,9 @@ movements_after (Registered row) movements = movements
 movements_after (Opened row guarantee) movements = movements
 movements_after (Declared row movement) movements = movements ++ movement ∷ []
 movements_after (Moved row status) movements = map (moved status) movements
+movements_after (TermsSet row terms) movements = movements
+movements_after (CodeAdded row grn code) movements = movements
+movements_after (CodeRemoved row grn code) movements = movements
 
 -- a registered holder's rows after a change
 abbrev pub rows_after : Change → HolderRows → HolderRows

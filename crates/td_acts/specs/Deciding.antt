@@ -1,5 +1,5 @@
 -- How the code comes to the model's verdict: what was loaded for it, and what an accepted command changes.
-use Rattle.std.specs.Prelude.{◌≡◌, ℕ, ℤ, ◌+◌, List, map, find, Option, Some, None, if◌then◌else◌}
+use Rattle.std.specs.Prelude.{◌≡◌, ℕ, ℤ, ◌+◌, List, map, find, Option, Some, None, IfSome, if◌then◌else◌}
 use Rattle.std.specs.List.{AllByRecursion}
 use Rattle.std.specs.Option.{option_map}
 use Rattle.std.specs.Str.{bytes_eq}
@@ -9,18 +9,19 @@ use Rattle.td_base.specs.References.{grn_text, mrn_text}
 use Rattle.td_guarantee.specs.declared.guarantee.Guarantee.{Guarantee}
 use Rattle.td_guarantee.specs.Usage.{used_on}
 use Rattle.td_movement.specs.declared.state.State.{State}
-use Rattle.td_movement.specs.declared.state.State.TheVariants.{Cancelled}
+use Rattle.td_movement.specs.declared.state.State.TheVariants.{Cancelled, Released, Enquired, Arrived, WrittenOff}
 use Rattle.td_acts.specs.declared.rows.HolderRow.{HolderRow}
 use Rattle.td_acts.specs.declared.rows.NewStatus.{NewStatus}
+use Rattle.td_acts.specs.declared.rows.NewTerms.{NewTerms}
 use Rattle.td_acts.specs.declared.rows.Loaded.{Loaded}
 use Rattle.td_acts.specs.declared.rows.Change.{Change}
 use Rattle.td_acts.specs.declared.rows.Change.TheVariants as change
 use Rattle.td_acts.specs.declared.rows.Verdict.{Verdict}
 use Rattle.td_acts.specs.declared.command.Command.{Command}
-use Rattle.td_acts.specs.declared.command.Command.TheVariants.{Register, OpenGuarantee, Ie015, Ie014}
-use Rattle.td_acts.specs.Account.{Account, guarantee_by_grn, movement_by_mrn, movement_by_lrn}
-use Rattle.td_acts.specs.Commands.{Need, nothing, lodging, movement, guarantee, need_of}
-use Rattle.td_acts.specs.Effects.{year2_at}
+use Rattle.td_acts.specs.declared.command.Command.TheVariants.{Register, OpenGuarantee, Amend, Revoke, Ie015, Ie014, AddCode, RemoveCode, Ie029, Ie007, Ie018, Ie045, Ie140}
+use Rattle.td_acts.specs.Account.{Account, entry_in, guarantee_by_grn, movement_by_mrn, movement_by_lrn}
+use Rattle.td_acts.specs.Commands.{Need, nothing, lodging, movement, release, all_movements, guarantee, all_guarantees, need_of}
+use Rattle.td_acts.specs.Effects.{year2_at, end_after, judged}
 use Rattle.td_acts.specs.Lines.{line_of}
 use Rattle.td_acts.specs.NewRows.{new_holder_row, new_guarantee, new_movement}
 use Rattle.td_acts.specs.Table.{said, said_at}
@@ -39,9 +40,14 @@ IsLookedUp account (lodging lrn lines) loaded =
     ≡ guarantee_by_grn l.0.grn account.guarantees) lines
 IsLookedUp account (movement mrn) loaded =
     movement_by_mrn mrn loaded.movements.items ≡ movement_by_mrn mrn account.movements
-IsLookedUp account (guarantee grn) loaded =
-    entry_by_grn grn loaded.guarantees.items
-    ≡ option_map (λ g. (g, used_on g.grn account.movements)) (guarantee_by_grn grn account.guarantees)
+IsLookedUp account (release mrn) loaded =
+    (movement_by_mrn mrn loaded.movements.items ≡ movement_by_mrn mrn account.movements)
+    × IfSome (movement_by_mrn mrn account.movements) (λ m.
+    AllByRecursion (λ l. entry_by_grn l.grn loaded.guarantees.items ≡ entry_in account l.grn) m.lines)
+IsLookedUp account all_movements loaded = loaded.movements.items ≡ account.movements
+IsLookedUp account (guarantee grn) loaded = entry_by_grn grn loaded.guarantees.items ≡ entry_in account grn
+IsLookedUp account all_guarantees loaded =
+    loaded.guarantees.items ≡ map (λ g. (g, used_on g.grn account.movements)) account.guarantees
 
 -- what was loaded is what is needed of the account, and the holder's row
 pub record IsLoaded (account : Account) (need : Need) (loaded : Loaded) : Type 0 where
@@ -54,6 +60,14 @@ abbrev pub if_row : Option HolderRow → (HolderRow → Change) → Change
 if_row None rows_for = change.Nothing
 if_row (Some row) rows_for = rows_for row
 
+-- the holder's row with the moment of a change
+abbrev pub touched : HolderRow → ℕ → HolderRow
+touched row t = record row { last_at = t }
+
+-- nothing new of a guarantee's terms
+abbrev pub no_terms : List ℕ → NewTerms
+no_terms grn = record { grn = grn; reference = None; cover = None; ends = None }
+
 -- a state with which no day and no office come
 abbrev pub new_state : List ℕ → State → NewStatus
 new_state mrn state = record { mrn = mrn; state = state; limit = None; arrival = None; actual = None }
@@ -65,13 +79,34 @@ change_of account t (OpenGuarantee holder reference cover code) = if_row account
     let n = row.grn_count + 1 in
     change.Opened (record row { last_at = t; grn_count = n })
     (new_guarantee (grn_text (year2_at t) account.country holder n) reference cover code))
+change_of account t (Amend grn reference cover) = if_row account.holder (λ row.
+    change.TermsSet (touched row t)
+    (record (no_terms grn) { reference = Some reference; cover = Some cover }))
+change_of account t (Revoke grn) = if_row account.holder (λ row.
+    change.TermsSet (touched row t)
+    (record (no_terms grn) { ends = Some (end_after (day_of_moment t)) }))
 change_of account t (Ie015 holder lrn departure destination lines) = if_row account.holder (λ row.
     let n = row.mrn_count + 1 in
     change.Declared (record row { last_at = t; mrn_count = n })
     (new_movement (mrn_text (year2_at t) account.country holder n) lrn departure destination
     (day_of_moment t) (map line_of lines)))
 change_of account t (Ie014 holder mrn) = if_row account.holder (λ row.
-    change.Moved (record row { last_at = t }) (new_state mrn Cancelled))
+    change.Moved (touched row t) (new_state mrn Cancelled))
+change_of account t (AddCode holder grn code) = if_row account.holder (λ row.
+    change.CodeAdded (touched row t) grn code)
+change_of account t (RemoveCode holder grn code) = if_row account.holder (λ row.
+    change.CodeRemoved (touched row t) grn code)
+change_of account t (Ie029 mrn limit) = if_row account.holder (λ row.
+    change.Moved (touched row t) (record (new_state mrn Released) { limit = Some limit }))
+change_of account t (Ie007 mrn office) = if_row account.holder (λ row.
+    change.Moved (touched row t)
+    (record (new_state mrn Arrived) { arrival = Some (day_of_moment t); actual = Some office }))
+change_of account t (Ie018 mrn result) = if_row account.holder (λ row.
+    change.Moved (touched row t) (new_state mrn (judged result)))
+change_of account t (Ie045 mrn cause) = if_row account.holder (λ row.
+    change.Moved (touched row t) (new_state mrn WrittenOff))
+change_of account t (Ie140 mrn) = if_row account.holder (λ row.
+    change.Moved (touched row t) (new_state mrn Enquired))
 change_of account t command = change.Nothing
 
 -- that change where it is accepted, else nothing

@@ -1,13 +1,16 @@
 -- What each accepted command says in its owner's book.
-use Rattle.std.specs.Prelude.{ℕ, ◌+◌, ◌%◌, List, [], ◌∷◌, map, Option, Some, None, if◌then◌else◌}
-use Rattle.std.specs.Str.{bytes_eq}
+use Rattle.std.specs.Prelude.{ℕ, ◌+◌, ◌%◌, List, [], ◌∷◌, map, Option, Some, None}
 use Rattle.td_base.specs.Days.{day_of_moment, year_of}
 use Rattle.td_base.specs.References.{grn_text, mrn_text}
 use Rattle.td_guarantee.specs.declared.guarantee.Guarantee.{Guarantee}
 use Rattle.td_movement.specs.declared.movement.Movement.{Movement}
-use Rattle.td_movement.specs.declared.state.State.TheVariants.{Cancelled}
+use Rattle.td_movement.specs.declared.state.State.{State}
+use Rattle.td_movement.specs.declared.state.State.TheVariants.{Cancelled, Released, Enquired, Arrived, Discrepant, Cleared, WrittenOff}
+use Rattle.td_movement.specs.declared.state.Control.{Control}
+use Rattle.td_movement.specs.declared.state.Control.TheVariants.{A1, A2, B1}
 use Rattle.td_acts.specs.declared.command.Command.{Command}
-use Rattle.td_acts.specs.declared.command.Command.TheVariants.{Register, OpenGuarantee, Ie015, Ie014}
+use Rattle.td_acts.specs.declared.command.Command.TheVariants.{Register, OpenGuarantee, Amend, Revoke, Ie015, Ie014, AddCode, RemoveCode, Ie029, Ie007, Ie018, Ie045, Ie140}
+use Rattle.td_acts.specs.Account.{at_grn, at_mrn, coded, uncoded}
 use Rattle.td_acts.specs.Lines.{line_of}
 use Rattle.td_acts.specs.NewRows.{new_guarantee, new_movement}
 
@@ -43,15 +46,35 @@ declared_by country H n t (Ie015 holder lrn departure destination lines) =
     (map line_of lines) ∷ []
 declared_by country H n t command = []
 
--- the movement with this MRN as an act says that it is; any other as it was
-abbrev pub if_named : List ℕ → (Movement → Movement) → Movement → Movement
-if_named mrn said m = if bytes_eq m.mrn mrn then said m else m
+-- the state after a control with this result
+abbrev pub judged : Control → State
+judged A1 = Cleared
+judged A2 = Cleared
+judged B1 = Discrepant
 
 -- What a command says of the movement that it names: its state, and the days and the office that come with it.
 abbrev pub movement_said : ℕ → Command → Movement → Movement
-movement_said t (Ie014 holder mrn) = if_named mrn (λ m. record m { state = Cancelled })
+movement_said t (Ie014 holder mrn) = at_mrn mrn (λ m. record m { state = Cancelled })
+movement_said t (Ie029 mrn limit) = at_mrn mrn (λ m. record m { state = Released; limit = Some limit })
+movement_said t (Ie007 mrn office) =
+    at_mrn mrn (λ m. record m { state = Arrived; arrival = Some (day_of_moment t); actual = Some office })
+movement_said t (Ie018 mrn result) = at_mrn mrn (λ m. record m { state = judged result })
+movement_said t (Ie045 mrn cause) = at_mrn mrn (λ m. record m { state = WrittenOff })
+movement_said t (Ie140 mrn) = at_mrn mrn (λ m. record m { state = Enquired })
 movement_said t command = λ m. m
 
--- what a command says of the guarantee that it names
+-- the end of a guarantee that is revoked on a day: from the sixteenth day after on nothing is lodged or released on it
+abbrev pub end_after : ℕ → ℕ
+end_after day = day + 16
+
+-- a guarantee with another reference amount and cover
+abbrev pub amended : ℕ → ℕ → Guarantee → Guarantee
+amended reference cover g = record g { reference = reference; cover = cover }
+
+-- What a command says of the guarantee that it names: its terms, its end, or one of its codes.
 abbrev pub guarantee_said : ℕ → Command → Guarantee → Guarantee
+guarantee_said t (Amend grn reference cover) = at_grn grn (amended reference cover)
+guarantee_said t (Revoke grn) = at_grn grn (λ g. record g { ends = Some (end_after (day_of_moment t)) })
+guarantee_said t (AddCode holder grn code) = at_grn grn (coded code)
+guarantee_said t (RemoveCode holder grn code) = at_grn grn (uncoded code)
 guarantee_said t command = λ g. g

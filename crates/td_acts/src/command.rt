@@ -4,7 +4,10 @@ ghost use Rattle.td_acts.specs.Commands.{owner_of, IsProper};
 
 use crate::lines::Lines;
 use crate::needs::Needs;
-use td_base::{AccessCode, Country, Cover, Eori, Grn, HolderNo, Lrn, Mrn, OfficeNo, Reference};
+use td_base::{
+    AccessCode, Country, Cover, Day, Eori, Grn, HolderNo, Lrn, Mrn, OfficeNo, Reference,
+};
+use td_movement::{Control, Ground};
 
 /// What is asked of the desk.
 #[derive(Debug, Drop)]
@@ -21,6 +24,16 @@ pub enum Command {
         cover: Cover,
         code: AccessCode,
     },
+    /// An office amends a guarantee: its reference amount and its cover.
+    Amend {
+        grn: Grn,
+        reference: Reference,
+        cover: Cover,
+    },
+    /// An office revokes a guarantee: it ends on the sixteenth day after.
+    Revoke {
+        grn: Grn,
+    },
     /// A holder lodges a declaration (IE015) under the holder's own LRN.
     Ie015 {
         holder: HolderNo,
@@ -34,6 +47,42 @@ pub enum Command {
         holder: HolderNo,
         mrn: Mrn,
     },
+    /// A holder gives a guarantee one access code more.
+    AddCode {
+        holder: HolderNo,
+        grn: Grn,
+        code: AccessCode,
+    },
+    /// A holder takes an access code from a guarantee.
+    RemoveCode {
+        holder: HolderNo,
+        grn: Grn,
+        code: AccessCode,
+    },
+    /// The office of departure releases a movement for transit (IE029), with the day by which it has to arrive.
+    Ie029 {
+        mrn: Mrn,
+        limit: Day,
+    },
+    /// An office enters the arrival of a movement there (IE007).
+    Ie007 {
+        mrn: Mrn,
+        office: OfficeNo,
+    },
+    /// The office of destination tells the result of its control (IE018).
+    Ie018 {
+        mrn: Mrn,
+        result: Control,
+    },
+    /// The office of departure writes a movement off (IE045).
+    Ie045 {
+        mrn: Mrn,
+        ground: Ground,
+    },
+    /// The office of departure asks after a movement that has not arrived (IE140).
+    Ie140 {
+        mrn: Mrn,
+    },
     /// The holder's EORI, and how many guarantees and movements the holder has.
     SeeHolder {
         holder: HolderNo,
@@ -43,10 +92,18 @@ pub enum Command {
         holder: HolderNo,
         mrn: Mrn,
     },
+    /// All of the holder's movements.
+    SeeMovements {
+        holder: HolderNo,
+    },
     /// One of the holder's guarantees, by its GRN.
     SeeGuarantee {
         holder: HolderNo,
         grn: Grn,
+    },
+    /// All of the holder's guarantees.
+    SeeGuarantees {
+        holder: HolderNo,
     },
 }
 
@@ -99,9 +156,19 @@ impl Command {
             | Command::OpenGuarantee { holder, .. }
             | Command::Ie015 { holder, .. }
             | Command::Ie014 { holder, .. }
+            | Command::AddCode { holder, .. }
+            | Command::RemoveCode { holder, .. }
             | Command::SeeHolder { holder }
             | Command::SeeMovement { holder, .. }
-            | Command::SeeGuarantee { holder, .. } => Subject::Holder(*holder),
+            | Command::SeeMovements { holder }
+            | Command::SeeGuarantee { holder, .. }
+            | Command::SeeGuarantees { holder } => Subject::Holder(*holder),
+            Command::Amend { grn, .. } | Command::Revoke { grn } => Subject::Guarantee(*grn),
+            Command::Ie029 { mrn, .. }
+            | Command::Ie007 { mrn, .. }
+            | Command::Ie018 { mrn, .. }
+            | Command::Ie045 { mrn, .. }
+            | Command::Ie140 { mrn } => Subject::Movement(*mrn),
         }
     }
 
@@ -113,8 +180,20 @@ impl Command {
             Command::Register { .. } | Command::OpenGuarantee { .. } | Command::SeeHolder { .. } =>
                 Needs::Nothing,
             Command::Ie015 { lrn, lines, .. } => Needs::Lodging(*lrn, lines),
-            Command::Ie014 { mrn, .. } | Command::SeeMovement { mrn, .. } => Needs::Movement(*mrn),
-            Command::SeeGuarantee { grn, .. } => Needs::Guarantee(*grn),
+            Command::Ie029 { mrn, .. } => Needs::Release(*mrn),
+            Command::Ie014 { mrn, .. }
+            | Command::Ie007 { mrn, .. }
+            | Command::Ie018 { mrn, .. }
+            | Command::Ie045 { mrn, .. }
+            | Command::Ie140 { mrn }
+            | Command::SeeMovement { mrn, .. } => Needs::Movement(*mrn),
+            Command::Amend { grn, .. }
+            | Command::Revoke { grn }
+            | Command::AddCode { grn, .. }
+            | Command::RemoveCode { grn, .. }
+            | Command::SeeGuarantee { grn, .. } => Needs::Guarantee(*grn),
+            Command::SeeMovements { .. } => Needs::AllMovements,
+            Command::SeeGuarantees { .. } => Needs::AllGuarantees,
         }
     }
 }
@@ -154,7 +233,29 @@ pub fn known(command: &Command) -> bool
             let texts = !lrn.as_bytes().is_empty() && offices;
             holder.number() >= 1 && texts && !lines.as_slice().is_empty()
         }
-        Command::SeeHolder { holder } => holder.number() >= 1,
+        Command::Amend {
+            grn,
+            reference,
+            cover,
+        } => {
+            let amounts = reference.get().get() >= 1 && cover.get() <= 100;
+            grn.as_bytes().len() == 17 && amounts
+        }
+        Command::Revoke { grn } => grn.as_bytes().len() == 17,
+        Command::AddCode { holder, grn, code } | Command::RemoveCode { holder, grn, code } => {
+            let texts = grn.as_bytes().len() == 17 && code.as_bytes().len() == 4;
+            holder.number() >= 1 && texts
+        }
+        Command::Ie029 { mrn, limit } => mrn.as_bytes().len() == 18 && limit.number() >= 1,
+        Command::Ie007 { mrn, office } => {
+            mrn.as_bytes().len() == 18 && office.as_bytes().len() == 8
+        }
+        Command::Ie018 { mrn, .. } | Command::Ie045 { mrn, .. } | Command::Ie140 { mrn } => {
+            mrn.as_bytes().len() == 18
+        }
+        Command::SeeHolder { holder }
+        | Command::SeeMovements { holder }
+        | Command::SeeGuarantees { holder } => holder.number() >= 1,
         Command::Ie014 { holder, mrn } | Command::SeeMovement { holder, mrn } => {
             holder.number() >= 1 && mrn.as_bytes().len() == 18
         }

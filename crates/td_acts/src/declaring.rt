@@ -35,8 +35,8 @@ pub fn lodge(
     at: Moment,
     declaration: &Declaration<'_>,
 ) -> Result<Verdict, AllocError>
-    ensures { IfOk result (IsVerdictAt loaded.now at
-        (Command.Ie015 declaration.now.holder declaration.now.lrn declaration.now.departure declaration.now.destination declaration.now.lines.now)) }
+    ensures { let d = declaration.now in IfOk result (IsVerdictAt loaded.now at
+        (Command.Ie015 d.holder d.lrn d.departure d.destination d.lines.now)) }
 {
     let Some(row) = loaded.holder else {
         return Ok(Verdict::refused(Refusal::NoHolder));
@@ -94,7 +94,8 @@ fn repeat(known: &Movement, declaration: &Declaration<'_>, lines: &MovementLines
 fn accept(row: HolderRow, mrn: Mrn, declaration: &Declaration<'_>, lines: MovementLines) -> Verdict
     ensures said { result.said ≡ Said.Answered (Answer.Ie028 declaration.now.lrn mrn) }
     ensures change { let d = declaration.now in
-        result.change ≡ Change.Declared row (new_movement mrn d.lrn d.departure d.destination (day_of_moment row.last_at) lines) }
+        result.change ≡ Change.Declared row
+        (new_movement mrn d.lrn d.departure d.destination (day_of_moment row.last_at) lines) }
 {
     let movement = Movement {
         mrn,

@@ -8,12 +8,15 @@ mod declaring;
 mod finding;
 mod laws;
 mod lines;
+mod lists;
 mod moving;
 mod needs;
+mod releasing;
 mod rows;
 mod said;
 mod serials;
 pub mod table;
+mod terms;
 mod views;
 
 pub use command::{Command, Stamped, Subject, known, owner};
@@ -23,8 +26,9 @@ pub use laws::{
     writes_what_the_book_says,
 };
 pub use lines::Lines;
+pub use lists::{ListedGuarantees, ListedMovement, ListedMovements};
 pub use needs::Needs;
-pub use rows::{Change, HolderRow, Loaded, NewStatus, Verdict};
+pub use rows::{Change, HolderRow, Loaded, NewStatus, NewTerms, Verdict};
 pub use said::{Answer, Refusal, Said};
 
 #[cfg(test)]

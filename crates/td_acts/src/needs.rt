@@ -12,6 +12,12 @@ pub enum Needs<'a> {
     Lodging(Lrn, &'a Lines),
     /// The movement with an MRN.
     Movement(Mrn),
+    /// The movement with an MRN, the guarantees of its lines, and the amounts in use on them.
+    Release(Mrn),
+    /// All movements.
+    AllMovements,
     /// The guarantee with a GRN, and the amount in use on it.
     Guarantee(Grn),
+    /// All guarantees, and the amounts in use on them.
+    AllGuarantees,
 }

@@ -3,7 +3,7 @@ ghost use Rattle.std.specs.Prelude.{◌≡◌};
 
 use crate::said::{Answer, Refusal, Said};
 use std::alloc::Global;
-use td_base::{Cents, Country, Day, Eori, HolderNo, Moment, Mrn, OfficeNo};
+use td_base::{AccessCode, Cents, Country, Cover, Day, Eori, Grn, HolderNo, Moment, Mrn, OfficeNo};
 use td_guarantee::Guarantee;
 use td_movement::{Movement, State};
 
@@ -25,10 +25,11 @@ pub struct HolderRow {
 pub struct Loaded {
     pub country: Country,
     pub holder: Option<HolderRow>,
-    /// For a declaration the movement with its LRN, for a cancellation and a view the one with its MRN, if there is one.
+    /// For a declaration the movement with its LRN, for a move and a view the one with its MRN, if there is
+    /// one; for a view of all movements all.
     pub movements: Vec<Movement>,
-    /// Those guarantees that the command names, and the amounts in use on them, which a declaration doesn't
-    /// ask for.
+    /// Those guarantees that the command or the movement names, or all, and the amounts in use on them, which
+    /// a declaration doesn't ask for.
     pub guarantees: Vec<(Guarantee, Cents)>,
 }
 
@@ -67,6 +68,20 @@ pub struct NewStatus {
 impl NewStatus {
     ghost use Rattle.std.specs.Prelude.{◌≡◌};
     ghost use Rattle.td_acts.specs.Changes.{with_status};
+    ghost use Rattle.td_acts.specs.Deciding.{new_state};
+
+    /// A state with which no day and no office come.
+    pub fn of(mrn: Mrn, state: State) -> Self
+        ensures { result ≡ new_state mrn state }
+    {
+        NewStatus {
+            mrn,
+            state,
+            limit: None,
+            arrival: None,
+            actual: None,
+        }
+    }
 
     /// Puts it into a movement.
     pub fn put_in(&self, movement: &mut Movement)
@@ -76,6 +91,45 @@ impl NewStatus {
         movement.limit = self.limit.or(movement.limit);
         movement.arrival = self.arrival.or(movement.arrival);
         movement.actual = self.actual.or(movement.actual);
+    }
+}
+
+/// What is said anew of the terms of a guarantee. Those that aren't said stay as they are.
+#[derive(Clone, Copy, Debug, PartialEq, Eq)]
+pub struct NewTerms {
+    pub grn: Grn,
+    /// The reference amount, where it is amended.
+    pub reference: Option<Cents>,
+    /// The cover, where it is amended.
+    pub cover: Option<Cover>,
+    /// The day from which on nothing is lodged or released on it, where it is revoked.
+    pub ends: Option<Day>,
+}
+
+impl NewTerms {
+    ghost use Rattle.std.specs.Prelude.{◌≡◌};
+    ghost use Rattle.td_acts.specs.Changes.{with_terms};
+    ghost use Rattle.td_acts.specs.Deciding.{no_terms};
+
+    /// Nothing new of a guarantee.
+    pub fn of(grn: Grn) -> Self
+        ensures { result ≡ no_terms grn }
+    {
+        NewTerms {
+            grn,
+            reference: None,
+            cover: None,
+            ends: None,
+        }
+    }
+
+    /// Puts them into a guarantee.
+    pub fn put_in(&self, guarantee: &mut Guarantee)
+        ensures { guarantee.new ≡ with_terms self.now guarantee.old }
+    {
+        guarantee.reference = self.reference.unwrap_or(guarantee.reference);
+        guarantee.cover = self.cover.unwrap_or(guarantee.cover);
+        guarantee.ends = self.ends.or(guarantee.ends);
     }
 }
 
@@ -92,6 +146,12 @@ pub enum Change {
     Declared(HolderRow, Movement),
     /// The holder's row as it is now, and what is said of a movement that has moved.
     Moved(HolderRow, NewStatus),
+    /// The holder's row as it is now, and what is said of the terms of a guarantee.
+    TermsSet(HolderRow, NewTerms),
+    /// The holder's row as it is now, and a code that a guarantee gets.
+    CodeAdded(HolderRow, Grn, AccessCode),
+    /// The holder's row as it is now, and a code that a guarantee loses.
+    CodeRemoved(HolderRow, Grn, AccessCode),
 }
 
 impl Change {
@@ -106,7 +166,10 @@ impl Change {
             Change::Registered(row)
             | Change::Opened(row, _)
             | Change::Declared(row, _)
-            | Change::Moved(row, _) => Some(*row),
+            | Change::Moved(row, _)
+            | Change::TermsSet(row, _)
+            | Change::CodeAdded(row, _, _)
+            | Change::CodeRemoved(row, _, _) => Some(*row),
         }
     }
 }

@@ -1,7 +1,8 @@
 //! What the desk says to a command.
 ghost use Rattle.std.specs.Prelude.{◌≡◌};
 
-use td_base::{Cents, Eori, Grn, HolderNo, Lrn, Mrn};
+use crate::lists::{ListedGuarantees, ListedMovements};
+use td_base::{Cents, Day, Eori, Grn, HolderNo, Lrn, Mrn};
 use td_guarantee::Guarantee;
 use td_movement::{Movement, State};
 
@@ -20,6 +21,11 @@ pub enum Answer {
     Opened {
         grn: Grn,
     },
+    /// To a revocation: the day from which on nothing is lodged or released on the guarantee.
+    Revoked {
+        ends: Day,
+        grn: Grn,
+    },
     /// To a declaration: MRN allocated (IE028), for the declaration's LRN.
     Ie028 {
         lrn: Lrn,
@@ -29,10 +35,38 @@ pub enum Answer {
     Ie014 {
         mrn: Mrn,
     },
+    /// To a release for transit (IE029): the movement is released, and has to arrive by this day.
+    Ie029 {
+        limit: Day,
+        mrn: Mrn,
+    },
+    /// To an arrival: arrival advice (IE006). It is late after the limit.
+    Ie006 {
+        late: bool,
+        mrn: Mrn,
+    },
+    /// To the result of a control (IE018): the state of the movement then.
+    Ie018 {
+        mrn: Mrn,
+        state: State,
+    },
+    /// To a write-off (IE045): the movement is written off.
+    Ie045 {
+        mrn: Mrn,
+    },
+    /// To a request on a movement that has not arrived (IE140): it is asked after.
+    Ie140 {
+        mrn: Mrn,
+    },
     /// To a view of a movement: the movement as it is.
     Movement(Movement),
-    /// To a view of a guarantee: the guarantee as it is, and the amount in use on it.
+    /// To a view of all movements: each by its references and its state, by serial.
+    Movements(ListedMovements),
+    /// To a view of a guarantee, an amendment, and where a code is added or removed: the guarantee as it is
+    /// then, and the amount in use on it.
     Guarantee(Guarantee, Cents),
+    /// To a view of all guarantees: each as it is, and the amount in use on it, by serial.
+    Guarantees(ListedGuarantees),
 }
 
 /// Why a command is refused.
@@ -60,6 +94,24 @@ pub enum Refusal {
     SerialsSpent,
     /// The movement's state doesn't allow the move.
     WrongState { state: State },
+    /// A line is more than what is free on its guarantee.
+    OverReference { free: Cents, grn: Grn },
+    /// The new reference amount is less than the amount in use.
+    BelowUse { used: Cents },
+    /// The limit isn't from the day itself to the 365th day after.
+    LimitDate,
+    /// The seventh day after the limit has not come.
+    TooEarly,
+    /// The guarantee has this access code already.
+    CodeKnown,
+    /// The guarantee doesn't have this access code.
+    NoCode,
+    /// The guarantee has no other access code.
+    LastCode,
+    /// The guarantee has as many access codes as it may.
+    CodesFull,
+    /// The guarantee has an end already.
+    AlreadyEnded,
 }
 
 impl Refusal {
@@ -81,6 +133,15 @@ impl Refusal {
             Refusal::LrnUsed => "lrn-used",
             Refusal::SerialsSpent => "serials-spent",
             Refusal::WrongState { .. } => "wrong-state",
+            Refusal::OverReference { .. } => "over-reference",
+            Refusal::BelowUse { .. } => "below-use",
+            Refusal::LimitDate => "limit-date",
+            Refusal::TooEarly => "too-early",
+            Refusal::CodeKnown => "code-known",
+            Refusal::NoCode => "no-code",
+            Refusal::LastCode => "last-code",
+            Refusal::CodesFull => "codes-full",
+            Refusal::AlreadyEnded => "already-ended",
         }
     }
 }

@@ -4,11 +4,15 @@ ghost use Rattle.td_acts.specs.Deciding.{IsVerdict, IsVerdictAt};
 
 use crate::command::Command;
 use crate::declaring::{Declaration, lodge};
-use crate::moving::cancel;
+use crate::moving::{arrive, cancel, enquire, judge, write_off};
+use crate::releasing::release;
 use crate::rows::{Change, HolderRow, Loaded, Verdict};
 use crate::said::{Answer, Refusal, Said};
 use crate::serials::next_grn;
-use crate::views::{holder_answer, see_guarantee, see_holder, see_movement};
+use crate::terms::{add_code, amend, remove_code, revoke};
+use crate::views::{
+    holder_answer, see_guarantee, see_guarantees, see_holder, see_movement, see_movements,
+};
 use std::alloc::{AllocError, Global};
 use td_base::{AccessCode, Cover, Eori, HolderNo, Moment, Reference};
 use td_guarantee::{Codes, Guarantee};
@@ -46,6 +50,12 @@ fn verdict_at(
             cover,
             code,
         } => open(alloc, loaded, at, *holder, *reference, *cover, *code),
+        Command::Amend {
+            grn,
+            reference,
+            cover,
+        } => amend(alloc, loaded, at, grn, *reference, *cover),
+        Command::Revoke { grn } => Ok(revoke(loaded, at, grn)),
         Command::Ie015 {
             holder,
             lrn,
@@ -63,9 +73,25 @@ fn verdict_at(
             lodge(alloc, loaded, at, &declaration)
         }
         Command::Ie014 { holder, mrn } => Ok(cancel(loaded, at, *holder, mrn)),
+        Command::AddCode { holder, grn, code } => {
+            add_code(alloc, loaded, at, *holder, grn, *code)
+        }
+        Command::RemoveCode { holder, grn, code } => {
+            remove_code(alloc, loaded, at, *holder, grn, *code)
+        }
+        Command::Ie029 { mrn, limit } => Ok(release(loaded, at, mrn, *limit)),
+        Command::Ie007 { mrn, office } => Ok(arrive(loaded, at, mrn, *office)),
+        Command::Ie018 {
+            mrn,
+            result: control,
+        } => Ok(judge(loaded, at, mrn, *control)),
+        Command::Ie045 { mrn, ground } => Ok(write_off(loaded, at, mrn, *ground)),
+        Command::Ie140 { mrn } => Ok(enquire(loaded, at, mrn)),
         Command::SeeHolder { holder } => Ok(see_holder(loaded, *holder)),
         Command::SeeMovement { holder, mrn } => see_movement(alloc, loaded, *holder, mrn),
+        Command::SeeMovements { holder } => see_movements(alloc, loaded, *holder),
         Command::SeeGuarantee { holder, grn } => see_guarantee(alloc, loaded, *holder, grn),
+        Command::SeeGuarantees { holder } => see_guarantees(alloc, loaded, *holder),
     }
 }
 

@@ -1,4 +1,7 @@
 //! The public calls, with ample memory: what is said to each command, and whether something is written.
+mod moves;
+mod terms;
+
 use crate::table::verdict;
 use crate::*;
 use std::alloc::{AllocError, Global};
@@ -113,15 +116,39 @@ fn words(alloc: Global, said: &Said) -> Result<String, AllocError> {
                 movements,
             },
         ) => format!(in alloc; "holder {holder} {eori} {guarantees} {movements}"),
-        Said::Answered(Answer::Opened { grn }) => format!(in alloc; "opened {grn}"),
-        Said::Answered(Answer::Ie028 { lrn, mrn }) => format!(in alloc; "IE028 {lrn} {mrn}"),
-        Said::Answered(Answer::Ie014 { mrn }) => format!(in alloc; "IE014 {mrn}"),
         Said::Answered(Answer::Movement(movement)) => {
             format!(in alloc; "movement {}", movement.mrn)
         }
-        Said::Answered(Answer::Guarantee(guarantee, used)) => {
-            format!(in alloc; "guarantee {} {used}", guarantee.grn)
+        Said::Answered(Answer::Movements(list)) => {
+            format!(in alloc; "{} movements", list.as_slice().len())
         }
+        Said::Answered(Answer::Guarantee(guarantee, used)) => {
+            let codes = guarantee.codes.len();
+            format!(in alloc;
+                "guarantee {} {} {codes} {used}",
+                guarantee.grn, guarantee.reference
+            )
+        }
+        Said::Answered(Answer::Guarantees(list)) => {
+            format!(in alloc; "{} guarantees", list.as_slice().len())
+        }
+        Said::Answered(message) => words_of(alloc, message),
+    }
+}
+
+/// A message about a movement or a guarantee, in words.
+fn words_of(alloc: Global, message: &Answer) -> Result<String, AllocError> {
+    match message {
+        Answer::Opened { grn } => format!(in alloc; "opened {grn}"),
+        Answer::Revoked { ends, grn } => format!(in alloc; "revoked {ends} {grn}"),
+        Answer::Ie028 { lrn, mrn } => format!(in alloc; "IE028 {lrn} {mrn}"),
+        Answer::Ie014 { mrn } => format!(in alloc; "IE014 {mrn}"),
+        Answer::Ie029 { limit, mrn } => format!(in alloc; "IE029 {limit} {mrn}"),
+        Answer::Ie006 { late, mrn } => format!(in alloc; "IE006 {late} {mrn}"),
+        Answer::Ie018 { mrn, state } => format!(in alloc; "IE018 {mrn} {}", state.name()),
+        Answer::Ie045 { mrn } => format!(in alloc; "IE045 {mrn}"),
+        Answer::Ie140 { mrn } => format!(in alloc; "IE140 {mrn}"),
+        _ => String::from_str(alloc, "no message"),
     }
 }
 
@@ -237,8 +264,18 @@ fn views_are_decided(rt: HostRuntime) -> Result<(), Fail> {
     assert!(rt; is_shown(rt.alloc(), seen, "holder 000001 CH1234567 1 1")?);
     let seen = Command::SeeMovement { holder, mrn };
     assert!(rt; is_shown(rt.alloc(), seen, "movement 25CH00000100000013")?);
+    let seen = Command::SeeMovements { holder };
+    assert!(rt; is_shown(rt.alloc(), seen, "1 movements")?);
     let seen = Command::SeeGuarantee { holder, grn };
-    assert!(rt; is_shown(rt.alloc(), seen, "guarantee 25CH0000010000014 5000.00")?);
+    assert!(rt;
+        is_shown(
+            rt.alloc(),
+            seen,
+            "guarantee 25CH0000010000014 10000.00 1 5000.00"
+        )?
+    );
+    let seen = Command::SeeGuarantees { holder };
+    assert!(rt; is_shown(rt.alloc(), seen, "1 guarantees")?);
     Ok(())
 }
 

@@ -1,2 +1,3 @@
 mod PlainText
 mod PlainObjects
+mod PlainAnswers

@@ -1,4 +1,4 @@
--- The texts of the objects that show movements and guarantees: nothing in them is escaped.
+-- The texts of the objects that show movements and guarantees, one and many: nothing in them is escaped.
 use Rattle.std.proofs.Common.{◌≡◌, ℕ, ◌/◌, List, ◌++◌, take, drop, All, Option, None, Some, IfSome, arith, refl, sym, inr}
 use Rattle.std.proofs.lemmas.List.{take-append-drop}
 use Rattle.std.proofs.lemmas.List.Elements.{All-append, All-same, All-weaker}
@@ -7,6 +7,7 @@ use Rattle.std.specs.Prelude.{codes, decimal}
 use Rattle.serde_json.specs.Data.{Data, number, unsigned, string, object, member, no_members}
 use Rattle.serde_json.specs.Written.{compact_text}
 use Rattle.serde_json.proofs.OnLiterals.{serde_json_on_literals}
+use Rattle.json_text.specs.Shown.{array_of}
 use Rattle.json_text.specs.Unescaped.{in_quotes}
 use Rattle.json_text.proofs.Arrays.{written_array}
 use Rattle.json_text.proofs.Texts.{written_class, written_text}
@@ -15,13 +16,15 @@ use Rattle.td_base.specs.Days.{day_text, year_of, month_of, day_of}
 use Rattle.td_base.specs.Digits.{fixed_decimal}
 use Rattle.td_base.specs.Letters.{IsMark}
 use Rattle.td_base.specs.References.{IsGrn, IsMrn}
+use Rattle.td_acts.specs.declared.lists.ListedMovement.{ListedMovement}
 use Rattle.td_guarantee.specs.declared.guarantee.Guarantee.{Guarantee}
 use Rattle.td_movement.specs.States.{state_name}
 use Rattle.td_movement.specs.declared.line.Line.{Line}
 use Rattle.td_movement.specs.declared.movement.Movement.{Movement}
 use Rattle.td_movement.specs.declared.state.State.{State}
 use Rattle.td_movement.specs.declared.state.State.TheVariants.{Accepted, Cancelled, Released, Enquired, Arrived, Discrepant, Cleared, WrittenOff}
-use Rattle.td_answers.specs.Objects.{text_data, day_data, line_data, lines_data, codes_data, movement_data, guarantee_data, text_body, day_body, line_body, movement_body, guarantee_body}
+use Rattle.td_answers.specs.Objects.{text_data, day_data, line_data, lines_data, codes_data, movement_data, guarantee_data, listed_movement_data, listed_guarantee_data, movements_data, guarantees_data}
+use Rattle.td_answers.specs.Objects.{text_body, day_body, line_body, movement_body, guarantee_body, listed_movement_body, listed_guarantee_body, movements_body, guarantees_body, IsMovementTold, IsGuaranteeTold}
 use Rattle.td_answers.proofs.PlainText.{digit_unescaped, mark_unescaped, written_lrn, written_reference}
 
 -- ---- texts
@@ -113,3 +116,39 @@ pub guarantee_told : (g : Guarantee) (used : ℕ) → IsGrn g.grn → All IsAcce
 guarantee_told g used grn codes =
     guarantee_object (codes_data g.codes) (day_data g.ends) (string g.grn) _ _ _ _ _ _ _ _
     (written_array string in_quotes IsAccessCode written_code g.codes codes) (written_day_if g.ends) (written_reference 17 g.grn (omega arith) grn)
+
+-- ---- lists
+
+-- an object of two texts and a state
+listed_object : (l m s : Data) (tl tm ts : List ℕ) → compact_text l ≡ tl → compact_text m ≡ tm → compact_text s ≡ ts
+    → compact_text (object (member (codes "lrn") l (member (codes "mrn") m (member (codes "state") s no_members))))
+    ≡ codes "{\"lrn\":" ++ (tl ++ (codes ",\"mrn\":" ++ (tm ++ (codes ",\"state\":" ++ (ts ++ codes "}")))))
+unfolding serde_json_on_literals
+listed_object l m s tl tm ts same_l same_m same_s = rw (same_l, same_m, same_s) refl
+
+-- a movement in a list
+pub listed_movement_told : (m : ListedMovement) → IsLrn m.lrn → IsMrn m.mrn → IsMovementTold m
+listed_movement_told m lrn mrn =
+    listed_object (string m.lrn) (string m.mrn) (string (state_name m.state)) _ _ _
+    (written_lrn m.lrn lrn) (written_reference 18 m.mrn (omega arith) mrn) (written_state m.state)
+
+-- objects of a list
+movements_object : (l : Data) (tl : List ℕ) → compact_text l ≡ tl
+    → compact_text (object (member (codes "movements") l no_members)) ≡ codes "{\"movements\":" ++ (tl ++ codes "}")
+unfolding serde_json_on_literals
+movements_object l tl same = rw same refl
+
+guarantees_object : (l : Data) (tl : List ℕ) → compact_text l ≡ tl
+    → compact_text (object (member (codes "guarantees") l no_members)) ≡ codes "{\"guarantees\":" ++ (tl ++ codes "}")
+unfolding serde_json_on_literals
+guarantees_object l tl same = rw same refl
+
+-- movements in a list
+pub movements_told : (listed : List ListedMovement) → All IsMovementTold listed → compact_text (movements_data listed) ≡ movements_body listed
+movements_told listed all =
+    movements_object (array_of listed_movement_data listed) _ (written_array listed_movement_data listed_movement_body IsMovementTold (λ m told. told) listed all)
+
+-- guarantees in a list
+pub guarantees_told : (listed : List (Guarantee × ℕ)) → All IsGuaranteeTold listed → compact_text (guarantees_data listed) ≡ guarantees_body listed
+guarantees_told listed all =
+    guarantees_object (array_of listed_guarantee_data listed) _ (written_array listed_guarantee_data listed_guarantee_body IsGuaranteeTold (λ g told. told) listed all)

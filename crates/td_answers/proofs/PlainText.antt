@@ -1,23 +1,18 @@
--- Texts that JSON writes as they are, and the bodies of answers that are made of them.
-use Rattle.std.proofs.Common.{◌≡◌, ℕ, ◌+◌, ◌-◌, ◌/◌, ◌%◌, ◌≤◌, List, ◌++◌, length, take, drop, true, refl, sym, ◌∙◌, arith, inl, inr, append_assoc}
+-- Texts that JSON writes as they are.
+use Rattle.std.proofs.Common.{◌≡◌, ℕ, ◌+◌, ◌-◌, ◌/◌, ◌%◌, ◌≤◌, List, length, take, drop, true, refl, sym, arith, inl, inr}
 use Rattle.std.proofs.lemmas.List.{take-append-drop}
 use Rattle.std.proofs.lemmas.List.Elements.{All-append, All-same, All-weaker}
 use Rattle.std.specs.Char.{IsAsciiDigit, IsAsciiUppercase}
-use Rattle.std.specs.Prelude.{codes, decimal}
-use Rattle.serde_json.specs.Data.{Data, number, unsigned, string, object, member, no_members}
+use Rattle.serde_json.specs.Data.{string}
 use Rattle.serde_json.specs.Written.{compact_text}
-use Rattle.serde_json.proofs.OnLiterals.{serde_json_on_literals}
 use Rattle.json_text.specs.Unescaped.{in_quotes, is_unescaped}
 use Rattle.json_text.proofs.Texts.{between, beyond, written_class, written_text}
 use Rattle.td_base.specs.Codes.{IsLrn, IsLrnCharacter}
 use Rattle.td_base.specs.Eori.{IsEori}
 use Rattle.td_base.specs.Holder.{holder_text}
 use Rattle.td_base.specs.Letters.{IsMark}
-use Rattle.td_base.specs.References.{front_of, IsGrn, IsMrn, IsReferenceText}
+use Rattle.td_base.specs.References.{front_of, IsReferenceText}
 use Rattle.td_base.proofs.Checked.{front_marks}
-use Rattle.td_acts.specs.declared.said.Answer.TheVariants.{Holder, Opened, Ie028, Ie014}
-use Rattle.td_acts.specs.declared.said.Said.TheVariants.{Answered}
-use Rattle.td_answers.specs.Answers.{said_body, answer_body}
 
 -- ---- characters
 
@@ -63,49 +58,3 @@ written_reference places text some h =
 -- so is an LRN
 pub written_lrn : (text : List ℕ) → IsLrn text → compact_text (string text) ≡ in_quotes text
 written_lrn text h = written_class IsLrnCharacter lrn_unescaped text h.characters
-
--- ---- answers
-
--- an object of a text, a number, a text and a number
-holder_object : (e h : Data) (te th : List ℕ) (g m : ℕ) → compact_text e ≡ te → compact_text h ≡ th
-    → compact_text (object (member (codes "eori") e (member (codes "guarantees") (number (unsigned g)) (member (codes "holder") h (member (codes "movements") (number (unsigned m)) no_members)))))
-    ≡ codes "{\"eori\":" ++ (te ++ (codes ",\"guarantees\":" ++ (decimal g ++ (codes ",\"holder\":" ++ (th ++ (codes ",\"movements\":" ++ (decimal m ++ codes "}")))))))
-unfolding serde_json_on_literals
-holder_object e h te th g m same_e same_h = rw (same_e, same_h) refl
-
--- what is told of a holder
-pub holder_told : (holder : ℕ) (eori : List ℕ) (guarantees movements : ℕ) → IsEori eori → said_body (Answered (Holder holder eori guarantees movements)) ≡ answer_body (Holder holder eori guarantees movements)
-holder_told holder eori guarantees movements h =
-    holder_object (string eori) (string (holder_text holder)) _ _ guarantees movements (written_eori eori h) (written_holder holder) ∙ simp append_assoc
-
--- an object of a text
-opened_object : (g : Data) (tg : List ℕ) → compact_text g ≡ tg → compact_text (object (member (codes "grn") g no_members)) ≡ codes "{\"grn\":" ++ (tg ++ codes "}")
-unfolding serde_json_on_literals
-opened_object g tg same = rw same refl
-
--- what is told of an opening
-pub opening_told : (grn : List ℕ) → IsGrn grn → said_body (Answered (Opened grn)) ≡ answer_body (Opened grn)
-opening_told grn h = opened_object (string grn) _ (written_reference 17 grn (omega arith) h) ∙ simp append_assoc
-
--- an object of a text, the message's name and a text
-ie028_object : (l m : Data) (tl tm : List ℕ) → compact_text l ≡ tl → compact_text m ≡ tm
-    → compact_text (object (member (codes "lrn") l (member (codes "message") (string (codes "IE028")) (member (codes "mrn") m no_members))))
-    ≡ codes "{\"lrn\":" ++ (tl ++ (codes ",\"message\":\"IE028\",\"mrn\":" ++ (tm ++ codes "}")))
-unfolding serde_json_on_literals
-ie028_object l m tl tm same_l same_m = rw (same_l, same_m) refl
-
--- what is told of a declaration
-pub declaration_told : (lrn mrn : List ℕ) → IsLrn lrn → IsMrn mrn → said_body (Answered (Ie028 lrn mrn)) ≡ answer_body (Ie028 lrn mrn)
-declaration_told lrn mrn hl hm =
-    ie028_object (string lrn) (string mrn) _ _ (written_lrn lrn hl) (written_reference 18 mrn (omega arith) hm) ∙ simp append_assoc
-
--- an object of the message's name, a text and the state
-cancelled_object : (m : Data) (tm : List ℕ) → compact_text m ≡ tm
-    → compact_text (object (member (codes "message") (string (codes "IE014")) (member (codes "mrn") m (member (codes "state") (string (codes "cancelled")) no_members))))
-    ≡ codes "{\"message\":\"IE014\",\"mrn\":" ++ (tm ++ codes ",\"state\":\"cancelled\"}")
-unfolding serde_json_on_literals
-cancelled_object m tm same = rw same refl
-
--- what is told of a cancellation
-pub cancellation_told : (mrn : List ℕ) → IsMrn mrn → said_body (Answered (Ie014 mrn)) ≡ answer_body (Ie014 mrn)
-cancellation_told mrn h = cancelled_object (string mrn) _ (written_reference 18 mrn (omega arith) h) ∙ simp append_assoc

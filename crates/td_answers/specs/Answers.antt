@@ -1,19 +1,19 @@
--- The JSON of what the desk says, and the status of it. Keys stand in ascending order of bytes, and texts have no space between the parts.
+-- The JSON of what the desk says, and the status of it; those of refusals stand in Refusals.antt.
+-- Keys stand in ascending order of bytes, and texts have no space between the parts.
 use Rattle.std.specs.Prelude.{ℕ, Bool, true, List, ◌++◌, codes, decimal, None}
-use Rattle.serde_json.specs.Data.{Data, number, unsigned, string, object, member, no_members}
+use Rattle.serde_json.specs.Data.{Data, boolean, number, unsigned, string, object, member, no_members}
 use Rattle.serde_json.specs.Written.{compact_text}
+use Rattle.td_base.specs.Days.{day_text}
 use Rattle.td_base.specs.Holder.{holder_text}
 use Rattle.td_movement.specs.States.{state_name}
-use Rattle.td_movement.specs.declared.state.State.TheVariants.{Cancelled}
-use Rattle.td_acts.specs.Names.{refusal_name}
+use Rattle.td_movement.specs.declared.state.State.TheVariants.{Cancelled, Released, Enquired, WrittenOff}
 use Rattle.td_acts.specs.declared.said.Answer.{Answer}
-use Rattle.td_acts.specs.declared.said.Answer.TheVariants.{Holder, Opened, Ie028, Ie014, Movement, Guarantee}
-use Rattle.td_acts.specs.declared.said.Refusal.{Refusal}
-use Rattle.td_acts.specs.declared.said.Refusal.TheVariants.{ClockRange, NoHolder, HolderKnown, ClockBack, NoMovement, NoGuarantee, BadCode, GuaranteeEnded, LrnUsed, SerialsSpent, WrongState}
+use Rattle.td_acts.specs.declared.said.Answer.TheVariants.{Holder, Opened, Revoked, Ie028, Ie014, Ie029, Ie006, Ie018, Ie045, Ie140, Movement, Movements, Guarantee, Guarantees}
 use Rattle.td_acts.specs.declared.said.Said.{Said}
 use Rattle.td_acts.specs.declared.said.Said.TheVariants.{Answered, Refused}
 use Rattle.td_routes.specs.Faults.{fault_allow, fault_name, field_name, reason_text}
-use Rattle.td_answers.specs.Objects.{guarantee_body, guarantee_data, movement_body, movement_data}
+use Rattle.td_answers.specs.Objects.{guarantee_body, guarantee_data, guarantees_body, guarantees_data, movement_body, movement_data, movements_body, movements_data, truth_body}
+use Rattle.td_answers.specs.Refusals.{error_data, refusal_data, refusal_status}
 use Rattle.td_wire.specs.ReplyText.{reply_text}
 use Rattle.td_base.specs.declared.references.RefFault.TheVariants.{Length, Form, CheckDigit}
 use Rattle.td_routes.specs.declared.fault.Field.TheVariants as field
@@ -32,6 +32,10 @@ holder_data eori guarantees holder movements =
 abbrev pub opened_data : List ℕ → Data
 opened_data grn = object (member (codes "grn") (string grn) no_members)
 
+-- the end of a guarantee that was revoked
+abbrev pub revoked_data : List ℕ → List ℕ → Data
+revoked_data ends grn = object (member (codes "ends") (string ends) (member (codes "grn") (string grn) no_members))
+
 -- the message that allocates a declaration its MRN (IE028)
 abbrev pub ie028_data : List ℕ → List ℕ → Data
 ie028_data lrn mrn =
@@ -46,18 +50,37 @@ state_data message mrn state =
     (member (codes "mrn") (string mrn)
     (member (codes "state") (string state) no_members)))
 
+-- a release (IE029), and the day by which the movement has to arrive
+abbrev pub release_data : List ℕ → List ℕ → Data
+release_data limit mrn =
+    object (member (codes "limit") (string limit)
+    (member (codes "message") (string (codes "IE029"))
+    (member (codes "mrn") (string mrn)
+    (member (codes "state") (string (state_name Released)) no_members))))
+
+-- arrival advice (IE006), and whether the arrival is late
+abbrev pub advice_data : Bool → List ℕ → Data
+advice_data late mrn =
+    object (member (codes "late") (boolean late)
+    (member (codes "message") (string (codes "IE006"))
+    (member (codes "mrn") (string mrn) no_members)))
+
 -- an answer
 abbrev pub answer_data : Answer → Data
 answer_data (Holder holder eori guarantees movements) = holder_data eori guarantees (holder_text holder) movements
 answer_data (Opened grn) = opened_data grn
+answer_data (Revoked ends grn) = revoked_data (day_text ends) grn
 answer_data (Ie028 lrn mrn) = ie028_data lrn mrn
 answer_data (Ie014 mrn) = state_data (codes "IE014") mrn (state_name Cancelled)
+answer_data (Ie029 limit mrn) = release_data (day_text limit) mrn
+answer_data (Ie006 late mrn) = advice_data late mrn
+answer_data (Ie018 mrn state) = state_data (codes "IE018") mrn (state_name state)
+answer_data (Ie045 mrn) = state_data (codes "IE045") mrn (state_name WrittenOff)
+answer_data (Ie140 mrn) = state_data (codes "IE140") mrn (state_name Enquired)
 answer_data (Movement m) = movement_data m
+answer_data (Movements listed) = movements_data listed
 answer_data (Guarantee g used) = guarantee_data g used
-
--- an error, told by its name alone
-abbrev pub error_data : List ℕ → Data
-error_data name = object (member (codes "error") (string name) no_members)
+answer_data (Guarantees listed) = guarantees_data listed
 
 -- an error and the field that it is about
 abbrev pub field_data : List ℕ → List ℕ → Data
@@ -66,15 +89,6 @@ field_data name field = object (member (codes "error") (string name) (member (co
 -- an error and the reason for it
 abbrev pub reason_data : List ℕ → List ℕ → Data
 reason_data name reason = object (member (codes "error") (string name) (member (codes "reason") (string reason) no_members))
-
--- an error and the state that it is about
-abbrev pub wrong_state_data : List ℕ → List ℕ → Data
-wrong_state_data name state = object (member (codes "error") (string name) (member (codes "state") (string state) no_members))
-
--- a refusal
-abbrev pub refusal_data : Refusal → Data
-refusal_data (WrongState state) = wrong_state_data (refusal_name (WrongState state)) (state_name state)
-refusal_data refusal = error_data (refusal_name refusal)
 
 -- what is said
 abbrev pub said_data : Said → Data
@@ -105,24 +119,23 @@ answer_body (Holder holder eori guarantees movements) =
     codes "{\"eori\":\"" ++ (eori ++ (codes "\",\"guarantees\":" ++ (decimal guarantees
     ++ (codes ",\"holder\":\"" ++ (holder_text holder ++ (codes "\",\"movements\":" ++ (decimal movements ++ codes "}")))))))
 answer_body (Opened grn) = codes "{\"grn\":\"" ++ (grn ++ codes "\"}")
+answer_body (Revoked ends grn) =
+    codes "{\"ends\":\"" ++ (day_text ends ++ (codes "\",\"grn\":\"" ++ (grn ++ codes "\"}")))
 answer_body (Ie028 lrn mrn) = codes "{\"lrn\":\"" ++ (lrn ++ (codes "\",\"message\":\"IE028\",\"mrn\":\"" ++ (mrn ++ codes "\"}")))
 answer_body (Ie014 mrn) = codes "{\"message\":\"IE014\",\"mrn\":\"" ++ (mrn ++ codes "\",\"state\":\"cancelled\"}")
+answer_body (Ie029 limit mrn) =
+    codes "{\"limit\":\"" ++ (day_text limit
+    ++ (codes "\",\"message\":\"IE029\",\"mrn\":\"" ++ (mrn ++ codes "\",\"state\":\"released\"}")))
+answer_body (Ie006 late mrn) =
+    codes "{\"late\":" ++ (truth_body late ++ (codes ",\"message\":\"IE006\",\"mrn\":\"" ++ (mrn ++ codes "\"}")))
+answer_body (Ie018 mrn state) =
+    codes "{\"message\":\"IE018\",\"mrn\":\"" ++ (mrn ++ (codes "\",\"state\":\"" ++ (state_name state ++ codes "\"}")))
+answer_body (Ie045 mrn) = codes "{\"message\":\"IE045\",\"mrn\":\"" ++ (mrn ++ codes "\",\"state\":\"written-off\"}")
+answer_body (Ie140 mrn) = codes "{\"message\":\"IE140\",\"mrn\":\"" ++ (mrn ++ codes "\",\"state\":\"enquired\"}")
 answer_body (Movement m) = movement_body m
+answer_body (Movements listed) = movements_body listed
 answer_body (Guarantee g used) = guarantee_body g used
-
--- the bytes of a refusal's body
-abbrev pub refusal_body : Refusal → List ℕ
-refusal_body ClockRange = codes "{\"error\":\"clock-range\"}"
-refusal_body NoHolder = codes "{\"error\":\"no-holder\"}"
-refusal_body HolderKnown = codes "{\"error\":\"holder-known\"}"
-refusal_body ClockBack = codes "{\"error\":\"clock-back\"}"
-refusal_body NoMovement = codes "{\"error\":\"no-movement\"}"
-refusal_body NoGuarantee = codes "{\"error\":\"no-guarantee\"}"
-refusal_body BadCode = codes "{\"error\":\"bad-code\"}"
-refusal_body GuaranteeEnded = codes "{\"error\":\"guarantee-ended\"}"
-refusal_body LrnUsed = codes "{\"error\":\"lrn-used\"}"
-refusal_body SerialsSpent = codes "{\"error\":\"serials-spent\"}"
-refusal_body (WrongState state) = codes "{\"error\":\"wrong-state\",\"state\":\"" ++ (state_name state ++ codes "\"}")
+answer_body (Guarantees listed) = guarantees_body listed
 
 -- the bytes of the body that tells why a request can't be read
 abbrev pub fault_text : WebFault → List ℕ
@@ -144,22 +157,13 @@ fault_text (BadField field.Lrn) = codes "{\"error\":\"bad-field\",\"field\":\"lr
 fault_text (BadField field.Departure) = codes "{\"error\":\"bad-field\",\"field\":\"departure\"}"
 fault_text (BadField field.Destination) = codes "{\"error\":\"bad-field\",\"field\":\"destination\"}"
 fault_text (BadField field.Lines) = codes "{\"error\":\"bad-field\",\"field\":\"lines\"}"
+fault_text (BadField field.Limit) = codes "{\"error\":\"bad-field\",\"field\":\"limit\"}"
+fault_text (BadField field.Office) = codes "{\"error\":\"bad-field\",\"field\":\"office\"}"
+fault_text (BadField field.Result) = codes "{\"error\":\"bad-field\",\"field\":\"result\"}"
+fault_text (BadField field.Ground) = codes "{\"error\":\"bad-field\",\"field\":\"ground\"}"
 fault_text NoMemory = codes "{\"error\":\"no-memory\"}"
 
 -- the statuses of replies (RFC 9110, section 15)
-abbrev pub refusal_status : Refusal → ℕ
-refusal_status ClockRange = 503
-refusal_status NoHolder = 404
-refusal_status HolderKnown = 409
-refusal_status ClockBack = 409
-refusal_status NoMovement = 404
-refusal_status NoGuarantee = 404
-refusal_status BadCode = 403
-refusal_status GuaranteeEnded = 409
-refusal_status LrnUsed = 409
-refusal_status SerialsSpent = 409
-refusal_status (WrongState state) = 409
-
 abbrev pub said_status : Said → ℕ
 said_status (Answered answer) = 200
 said_status (Refused refusal) = refusal_status refusal

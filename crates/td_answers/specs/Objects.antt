@@ -1,10 +1,13 @@
--- The JSON objects that show a movement and a guarantee, and their texts. Keys stand in ascending order of bytes.
-use Rattle.std.specs.Prelude.{ℕ, ◌-◌, List, ◌++◌, map, codes, decimal, Option, None, Some}
+-- The JSON objects that show movements and guarantees, one and many, and their texts.
+-- Keys stand in ascending order of bytes.
+use Rattle.std.specs.Prelude.{◌≡◌, ℕ, ◌-◌, Bool, true, false, List, ◌++◌, map, codes, decimal, Option, None, Some}
 use Rattle.json_text.specs.Shown.{array_of, or_null}
 use Rattle.json_text.specs.Unescaped.{in_brackets, in_quotes}
 use Rattle.serde_json.specs.Data.{Data, number, unsigned, string, object, member, no_members}
+use Rattle.serde_json.specs.Written.{compact_text}
 use Rattle.td_base.specs.Days.{day_text}
 use Rattle.td_base.specs.Money.{share_of}
+use Rattle.td_acts.specs.declared.lists.ListedMovement.{ListedMovement}
 use Rattle.td_guarantee.specs.declared.guarantee.Guarantee.{Guarantee}
 use Rattle.td_movement.specs.States.{state_name}
 use Rattle.td_movement.specs.declared.line.Line.{Line}
@@ -62,7 +65,31 @@ guarantee_data g used =
     (member (codes "reference") (number (unsigned g.reference))
     (member (codes "used") (number (unsigned used)) no_members))))))))
 
+-- a movement in a list: its references, and its state
+abbrev pub listed_movement_data : ListedMovement → Data
+listed_movement_data m =
+    object (member (codes "lrn") (string m.lrn)
+    (member (codes "mrn") (string m.mrn)
+    (member (codes "state") (string (state_name m.state)) no_members)))
+
+-- movements in a list, in their order
+abbrev pub movements_data : List ListedMovement → Data
+movements_data listed = object (member (codes "movements") (array_of listed_movement_data listed) no_members)
+
+-- a guarantee in a list, as it is shown alone, and the amount in use on it
+abbrev pub listed_guarantee_data : Guarantee × ℕ → Data
+listed_guarantee_data listed = guarantee_data listed.0 listed.1
+
+-- guarantees in a list, in their order
+abbrev pub guarantees_data : List (Guarantee × ℕ) → Data
+guarantees_data listed = object (member (codes "guarantees") (array_of listed_guarantee_data listed) no_members)
+
 -- ---- their texts, in which nothing is escaped
+
+-- whether it is so
+abbrev pub truth_body : Bool → List ℕ
+truth_body true = codes "true"
+truth_body false = codes "false"
 
 -- a text that there may be
 abbrev pub text_body : Option (List ℕ) → List ℕ
@@ -103,3 +130,30 @@ guarantee_body g used =
     ++ (codes ",\"guaranteed\":" ++ (decimal (share_of g.reference g.cover)
     ++ (codes ",\"reference\":" ++ (decimal g.reference
     ++ (codes ",\"used\":" ++ (decimal used ++ codes "}")))))))))))))))
+
+-- a movement in a list
+abbrev pub listed_movement_body : ListedMovement → List ℕ
+listed_movement_body m =
+    codes "{\"lrn\":" ++ (in_quotes m.lrn
+    ++ (codes ",\"mrn\":" ++ (in_quotes m.mrn
+    ++ (codes ",\"state\":" ++ (in_quotes (state_name m.state) ++ codes "}")))))
+
+-- nothing in it is escaped
+abbrev pub IsMovementTold : ListedMovement → Type 0
+IsMovementTold m = compact_text (listed_movement_data m) ≡ listed_movement_body m
+
+-- movements in a list
+abbrev pub movements_body : List ListedMovement → List ℕ
+movements_body listed = codes "{\"movements\":" ++ (in_brackets (map listed_movement_body listed) ++ codes "}")
+
+-- a guarantee in a list
+abbrev pub listed_guarantee_body : Guarantee × ℕ → List ℕ
+listed_guarantee_body listed = guarantee_body listed.0 listed.1
+
+-- nothing in it is escaped
+abbrev pub IsGuaranteeTold : Guarantee × ℕ → Type 0
+IsGuaranteeTold listed = compact_text (listed_guarantee_data listed) ≡ listed_guarantee_body listed
+
+-- guarantees in a list
+abbrev pub guarantees_body : List (Guarantee × ℕ) → List ℕ
+guarantees_body listed = codes "{\"guarantees\":" ++ (in_brackets (map listed_guarantee_body listed) ++ codes "}")

@@ -1,19 +1,29 @@
 //! What the desk says, as JSON.
 #![tactic(auto, unfolding(serde_json::proofs::OnLiterals::serde_json_on_literals))]
 
-ghost use Rattle.std.specs.Prelude.{◌≡◌, IfOk, string_bytes};
+ghost use Rattle.std.specs.Fmt.{WritesOnOk};
+ghost use Rattle.std.specs.Prelude.{◌≡◌, IfOk, IsTrue, string_bytes};
+ghost use Rattle.std.specs.List.{list_all};
 ghost use Rattle.serde_json.specs.Written.{compact_text};
-ghost use Rattle.td_acts.specs.declared.said.Said.TheVariants.{Answered, Refused};
-ghost use Rattle.td_answers.specs.Answers.{answer_body, answer_data, fault_body, fault_data, fault_reply, fault_status, fault_text, refusal_body, refusal_data, refusal_status, said_body, said_data, said_reply, said_status, stops_after};
+ghost use Rattle.json_text.specs.Unescaped.{is_unescaped};
+ghost use Rattle.td_base.specs.Days.{day_text};
+ghost use Rattle.td_base.specs.Holder.{holder_text};
+ghost use Rattle.td_movement.specs.States.{state_name};
+ghost use Rattle.td_acts.specs.declared.said.Said.TheVariants.{Answered};
+ghost use Rattle.td_answers.specs.Answers.{answer_body, answer_data, fault_body, fault_data, fault_reply, fault_status, fault_text, holder_data, release_data, said_body, said_data, said_reply, said_status, state_data, stops_after};
 ghost use Rattle.td_routes.specs.declared.fault.WebFault.TheVariants.{NoMemory};
 ghost use Rattle.td_wire.specs.ReplyText.{no_memory_reply};
 
 use crate::json::{Json, ToJson};
-use crate::objects::{guarantee_is_told_in, movement_is_told_in, write_guarantee};
+use crate::lists::{guarantees_are_told_in, movements_are_told_in};
+use crate::objects::{guarantee_is_told_in, is_grn, is_mrn, movement_is_told_in, write_guarantee};
+use crate::refusals::refusal_status_of;
 use http::StatusCode;
 use std::alloc::{AllocError, Global};
 use std::fmt;
-use td_acts::{Answer, Refusal, Said};
+use td_acts::{Answer, Said};
+use td_base::{Day, Eori, HolderNo, Mrn};
+use td_movement::State;
 use td_routes::{WebFault, reason_name};
 use td_wire::json_reply;
 
@@ -27,44 +37,87 @@ impl ToJson for Answer {
                 eori,
                 guarantees,
                 movements,
-            } => write!(
-                f,
-                r#"{{"eori":{},"guarantees":{guarantees},"holder":{},"movements":{movements}}}"#,
-                Json(eori),
-                Json(holder)
-            ),
+            } => write_holder(f, *holder, eori, *guarantees, *movements),
             Answer::Opened { grn } => write!(f, r#"{{"grn":{}}}"#, Json(grn)),
+            Answer::Revoked { ends, grn } => write!(
+                f,
+                r#"{{"ends":{},"grn":{}}}"#,
+                Json(ends),
+                Json(grn)
+            ),
             Answer::Ie028 { lrn, mrn } => write!(
                 f,
                 r#"{{"lrn":{},"message":"IE028","mrn":{}}}"#,
                 Json(lrn),
                 Json(mrn)
             ),
-            Answer::Ie014 { mrn } => write!(
+            Answer::Ie014 { mrn } => write_state(f, "IE014", mrn, State::Cancelled),
+            Answer::Ie029 { limit, mrn } => write_release(f, *limit, mrn),
+            Answer::Ie006 { late, mrn } => write!(
                 f,
-                r#"{{"message":"IE014","mrn":{},"state":"cancelled"}}"#,
+                r#"{{"late":{},"message":"IE006","mrn":{}}}"#,
+                Json(late),
                 Json(mrn)
             ),
+            Answer::Ie018 { mrn, state } => write_state(f, "IE018", mrn, *state),
+            Answer::Ie045 { mrn } => write_state(f, "IE045", mrn, State::WrittenOff),
+            Answer::Ie140 { mrn } => write_state(f, "IE140", mrn, State::Enquired),
             Answer::Movement(movement) => movement.write_json(f),
+            Answer::Movements(movements) => movements.write_json(f),
             Answer::Guarantee(guarantee, used) => write_guarantee(f, guarantee, *used),
+            Answer::Guarantees(guarantees) => guarantees.write_json(f),
         }
     }
 }
 
-impl ToJson for Refusal {
-    ghost shown = { refusal_data };
+// Writes what is told of a holder.
+fn write_holder<W: fmt::Write>(
+    f: &mut fmt::Formatter<W>,
+    holder: HolderNo,
+    eori: &Eori,
+    guarantees: u32,
+    movements: u32,
+) -> fmt::Result
+    ensures { WritesOnOk W.write_str_gives f.old result
+        (compact_text (holder_data eori.now guarantees (holder_text holder) movements)) f.new }
+{
+    write!(
+        f,
+        r#"{{"eori":{},"guarantees":{guarantees},"holder":{},"movements":{movements}}}"#,
+        Json(eori),
+        Json(&holder)
+    )
+}
 
-    fn write_json<W: fmt::Write>(&self, f: &mut fmt::Formatter<W>) -> fmt::Result {
-        match self {
-            Refusal::WrongState { state } => write!(
-                f,
-                r#"{{"error":"{}","state":{}}}"#,
-                self.name(),
-                Json(state)
-            ),
-            _ => write!(f, r#"{{"error":"{}"}}"#, self.name()),
-        }
-    }
+// Writes a release, and the day by which the movement has to arrive.
+fn write_release<W: fmt::Write>(f: &mut fmt::Formatter<W>, limit: Day, mrn: &Mrn) -> fmt::Result
+    ensures { WritesOnOk W.write_str_gives f.old result (compact_text (release_data (day_text limit) mrn.now)) f.new }
+{
+    write!(
+        f,
+        r#"{{"limit":{},"message":"IE029","mrn":{},"state":"released"}}"#,
+        Json(&limit),
+        Json(mrn)
+    )
+}
+
+// Writes a message of that name about a movement, and the state in which the movement is then.
+fn write_state<W: fmt::Write>(
+    f: &mut fmt::Formatter<W>,
+    message: &str,
+    mrn: &Mrn,
+    state: State,
+) -> fmt::Result
+    requires { IsTrue (list_all is_unescaped message.now) }
+    ensures { WritesOnOk W.write_str_gives f.old result
+        (compact_text (state_data message.now mrn.now (state_name state))) f.new }
+{
+    write!(
+        f,
+        r#"{{"message":"{message}","mrn":{},"state":{}}}"#,
+        Json(mrn),
+        Json(&state)
+    )
 }
 
 impl ToJson for Said {
@@ -121,24 +174,6 @@ fn status_of(said: &Said) -> StatusCode
     }
 }
 
-fn refusal_status_of(refusal: &Refusal) -> StatusCode
-    ensures { result ≡ refusal_status refusal.now }
-{
-    match refusal {
-        Refusal::ClockRange => StatusCode::SERVICE_UNAVAILABLE,
-        Refusal::NoHolder => StatusCode::NOT_FOUND,
-        Refusal::HolderKnown => StatusCode::CONFLICT,
-        Refusal::ClockBack => StatusCode::CONFLICT,
-        Refusal::NoMovement => StatusCode::NOT_FOUND,
-        Refusal::NoGuarantee => StatusCode::NOT_FOUND,
-        Refusal::BadCode => StatusCode::FORBIDDEN,
-        Refusal::GuaranteeEnded => StatusCode::CONFLICT,
-        Refusal::LrnUsed => StatusCode::CONFLICT,
-        Refusal::SerialsSpent => StatusCode::CONFLICT,
-        Refusal::WrongState { .. } => StatusCode::CONFLICT,
-    }
-}
-
 fn fault_status_of(fault: &WebFault) -> StatusCode
     ensures { result ≡ fault_status fault.now }
 {
@@ -155,6 +190,7 @@ fn fault_status_of(fault: &WebFault) -> StatusCode
 }
 
 /// The whole reply to a command on which the desk says that. `close` tells that the stream stops after it.
+/// `AllocError`: want of memory for the reply.
 pub fn reply_bytes(alloc: Global, said: &Said, close: bool) -> Result<Vec<u8>, AllocError>
     ensures { IfOk result (λ v. v.items ≡ said_reply said.now close) }
 {
@@ -172,8 +208,8 @@ fn stops_after(fault: &WebFault, close: bool) -> bool
     }
 }
 
-/// The whole reply to a request that can't be read. `close` tells that the stream stops after it; where memory is missing it always does,
-/// and the reply is the fixed one.
+/// The whole reply to a request that can't be read. `close` tells that the stream stops after it; where memory is
+/// missing it always does, and the reply is the fixed one. `AllocError`: want of memory for the reply.
 pub fn fault_bytes(alloc: Global, fault: &WebFault, close: bool) -> Result<Vec<u8>, AllocError>
     ensures told { IfOk result (λ v. v.items ≡ fault_reply fault.now close) }
     ensures no_memory { fault.now ≡ NoMemory → IfOk result (λ v. v.items ≡ no_memory_reply) }
@@ -182,11 +218,6 @@ pub fn fault_bytes(alloc: Global, fault: &WebFault, close: bool) -> Result<Vec<u
     let close = stops_after(fault, close);
     json_reply(alloc, fault_status_of(fault), fault.allow(), close, &body)
 }
-
-/// The body of a refusal is these very bytes.
-pub fn refusal_is_told_in(refusal: Refusal)
-    ensures { said_body (Refused refusal) ≡ refusal_body refusal }
-{}
 
 /// The body that tells why a request can't be read is these very bytes.
 pub fn fault_is_told_in(fault: WebFault)
@@ -201,17 +232,21 @@ pub fn answer_is_told_in(answer: &Answer)
         Answer::Holder { eori, .. } => {
             let _eori = eori.as_bytes();
         }
-        Answer::Opened { grn } => {
-            let _grn = grn.as_bytes();
-        }
+        Answer::Opened { grn } => is_grn(grn),
+        Answer::Revoked { grn, .. } => is_grn(grn),
         Answer::Ie028 { lrn, mrn } => {
             let _lrn = lrn.as_bytes();
-            let _mrn = mrn.as_bytes();
+            is_mrn(mrn);
         }
-        Answer::Ie014 { mrn } => {
-            let _mrn = mrn.as_bytes();
-        }
+        Answer::Ie014 { mrn } => is_mrn(mrn),
+        Answer::Ie029 { mrn, .. } => is_mrn(mrn),
+        Answer::Ie006 { mrn, .. } => is_mrn(mrn),
+        Answer::Ie018 { mrn, .. } => is_mrn(mrn),
+        Answer::Ie045 { mrn } => is_mrn(mrn),
+        Answer::Ie140 { mrn } => is_mrn(mrn),
         Answer::Movement(movement) => movement_is_told_in(movement),
+        Answer::Movements(movements) => movements_are_told_in(movements.as_slice()),
         Answer::Guarantee(guarantee, used) => guarantee_is_told_in(guarantee, *used),
+        Answer::Guarantees(guarantees) => guarantees_are_told_in(guarantees.as_slice()),
     }
 }

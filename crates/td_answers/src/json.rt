@@ -1,7 +1,7 @@
 //! JSON, written straight into a text.
 ghost use Rattle.std.specs.Fmt.{WritesOnOk};
 ghost use Rattle.std.specs.Prelude.{Some};
-ghost use Rattle.serde_json.specs.Data.{Data, number, string, unsigned};
+ghost use Rattle.serde_json.specs.Data.{Data, boolean, number, string, unsigned};
 ghost use Rattle.serde_json.specs.Written.{compact_text};
 ghost use Rattle.json_text.specs.Shown.{array_of, or_null};
 ghost use Rattle.td_base.specs.Days.{day_text};
@@ -56,6 +56,14 @@ impl<T: ToJson> ToJson for &[T] {
             write!(f, ",{}", Json(value))?;
         }
         f.write_str("]")
+    }
+}
+
+impl ToJson for bool {
+    ghost shown = { boolean };
+
+    fn write_json<W: fmt::Write>(&self, f: &mut fmt::Formatter<W>) -> fmt::Result {
+        f.write_str(if *self { "true" } else { "false" })
     }
 }
 

@@ -3,11 +3,12 @@
 
 mod answers;
 mod json;
+mod lists;
 mod objects;
+mod refusals;
 
-pub use answers::{
-    answer_is_told_in, fault_bytes, fault_is_told_in, refusal_is_told_in, reply_bytes,
-};
+pub use answers::{answer_is_told_in, fault_bytes, fault_is_told_in, reply_bytes};
+pub use refusals::refusal_is_told_in;
 
 #[cfg(test)]
 mod tests;

@@ -5,12 +5,12 @@ ghost use Rattle.std.specs.Fmt.{WritesOnOk};
 ghost use Rattle.std.specs.Prelude.{◌≡◌, All, IfSome};
 ghost use Rattle.serde_json.specs.Written.{compact_text};
 ghost use Rattle.td_base.specs.Codes.{IsAccessCode, IsOfficeNo};
-ghost use Rattle.td_base.specs.References.{IsGrn};
+ghost use Rattle.td_base.specs.References.{IsGrn, IsMrn};
 ghost use Rattle.td_answers.specs.Objects.{codes_data, free_on, guarantee_body, guarantee_data, line_data, lines_data, movement_body, movement_data};
 
 use crate::json::{Json, ToJson};
 use std::fmt;
-use td_base::{AccessCode, Cents, OfficeNo};
+use td_base::{AccessCode, Cents, Grn, Mrn, OfficeNo};
 use td_guarantee::{Codes, Guarantee, guaranteed};
 use td_movement::{Line, Movement, MovementLines};
 
@@ -117,6 +117,20 @@ pub(crate) fn guarantee_is_told_in(guarantee: &Guarantee, used: Cents)
 {
     are_access_codes(guarantee.codes.as_slice());
     let _grn = guarantee.grn.as_bytes();
+}
+
+/// A GRN has the form of one.
+pub(crate) fn is_grn(grn: &Grn)
+    ensures { IsGrn grn.now }
+{
+    let _grn = grn.as_bytes();
+}
+
+/// An MRN has the form of one.
+pub(crate) fn is_mrn(mrn: &Mrn)
+    ensures { IsMrn mrn.now }
+{
+    let _mrn = mrn.as_bytes();
 }
 
 // The office, where there is one, has the form of an office's number.

@@ -1,4 +1,7 @@
 //! Replies, byte for byte, with ample memory.
+mod lists;
+mod messages;
+mod refusals;
 mod replies;
 mod views;
 
@@ -7,6 +10,8 @@ use std::alloc::Global;
 use std::process::Abort;
 use std::test::Fail;
 use td_acts::Said;
+use td_base::{AccessCode, Cents, Cover, Day, Grn};
+use td_guarantee::{Codes, Guarantee};
 use td_routes::WebFault;
 
 // This is the whole reply to what is said. `close` tells that the stream stops after it.
@@ -26,4 +31,25 @@ fn turns_away(rt: &impl Abort, alloc: Global, fault: WebFault, reply: &str) -> R
     let told = fault_bytes(alloc, &fault, false)?;
     assert!(rt; told.as_slice() == reply.as_bytes());
     Ok(())
+}
+
+// A guarantee of that reference amount and cover under one code, which ends on the day of that text, if it is one.
+fn guarantee(
+    alloc: Global,
+    grn: &[u8],
+    reference: u64,
+    cover: u64,
+    ends: &[u8],
+) -> Option<Guarantee> {
+    let grn = Grn::read(grn).ok()?;
+    let reference = Cents::new(reference)?;
+    let cover = Cover::new(cover)?;
+    let code = AccessCode::read(b"AB12")?;
+    Some(Guarantee {
+        grn,
+        reference,
+        cover,
+        ends: Day::read(ends),
+        codes: Codes::one(alloc, code).ok()?,
+    })
 }

@@ -1,11 +1,15 @@
 //! The program's jobs, over readers and writers in memory. Expected bytes are those of the desk's formats, written out.
+mod acts;
 mod cancellations;
+mod codes;
 mod declarations;
 mod devices;
 mod exchanges;
 mod first_requests;
 mod heads;
 mod laws;
+mod lists;
+mod lives;
 mod machine_clock;
 mod many_declarations;
 mod many_holders;
@@ -14,8 +18,12 @@ mod moments;
 mod nine_lines;
 mod openings;
 mod privacy;
+mod releases;
 mod repeats;
+mod states;
+mod strangers;
 mod streams;
+mod terms;
 mod texts;
 mod views;
 mod waiting_clients;

@@ -5,6 +5,7 @@ mod Found
 mod Loading
 mod Kept
 mod Mapping
+mod BySerial
 mod Storing
 pub mod Carrying
 pub mod Weighed

@@ -1,4 +1,4 @@
--- The guarantees that lines name, taken out of all: each is found there as among all.
+-- What a verdict needs, taken out of a holder's rows: it is found there as among all.
 use Rattle.std.proofs.Common.{◌≡◌, ℕ, Bool, true, false, List, [], ◌∷◌, ◌++◌, Option, Some, None, refl, sym, ◌∙◌, ap, subst}
 use Rattle.std.specs.Prelude.{map, option_map, filter_map, option_to_list, IfSome, IsSome, if◌then◌else◌}
 use Rattle.std.specs.List.{AllByRecursion, cons_option}
@@ -6,14 +6,15 @@ use Rattle.std.specs.Str.{bytes_eq}
 use Rattle.std.proofs.lemmas.List.Elements.{filter_map-append}
 use Rattle.std.proofs.lemmas.Slice.Eq.{bytes_eq-Decides}
 use Rattle.td_movement.specs.declared.line.Line.{Line}
+use Rattle.td_movement.specs.declared.movement.Movement.{Movement}
 use Rattle.td_guarantee.specs.declared.guarantee.Guarantee.{Guarantee}
 use Rattle.td_acts.specs.declared.rows.Loaded.{Loaded}
 use Rattle.td_guarantee.specs.Usage.{used_on}
 use Rattle.td_acts.specs.Account.{Account, guarantee_by_grn, movement_by_mrn, movement_by_lrn}
 use Rattle.td_acts.specs.Deciding.{IsLookedUp, entry_by_grn}
-use Rattle.td_acts.specs.Commands.{lodging, movement, guarantee}
+use Rattle.td_acts.specs.Commands.{lodging, movement, release, guarantee}
 use Rattle.td_acts.proofs.Lodging.{named_entry}
-use Rattle.td_desk.proofs.Found.{found_has, found_alone}
+use Rattle.td_desk.proofs.Found.{with_key, found_has, found_alone}
 use Rattle.td_acts.proofs.Joined.{AllByRecursion-weaker}
 
 -- one thing that is found, or not
@@ -26,60 +27,64 @@ pub one_more : {X Y : Type 0} (seek : X → Option Y) (xs : List X) (x : X) (o :
 one_more seek xs x o found new sought is added =
     added ∙ ap (λ l. l ++ option_to_list o) is ∙ ap (λ l. filter_map seek xs ++ l) (sym (more_found seek x o sought)) ∙ sym (filter_map-append seek xs (x ∷ []))
 
--- what is found is found in more
-some_in_more : (grn : List ℕ) (o : Option Guarantee) (gs : List Guarantee) → IsSome (guarantee_by_grn grn gs) → IsSome (guarantee_by_grn grn (cons_option o gs))
-some_in_more grn None gs some = some
-some_in_more grn (Some g) gs some = by_test (bytes_eq g.grn grn)
-  where
-    by_test : (b : Bool) → IsSome (if◌then◌else◌ {A = Option Guarantee} b (Some g) (guarantee_by_grn grn gs))
-    by_test true = refl
-    by_test false = some
+-- Things that are sought by names, one for each of a list: each is found among those that were found as it is found among all.
+module _ {E L : Type 0} (key : E → List ℕ) (seek : List ℕ → Option E) (has : (k : List ℕ) → IfSome (seek k) (λ e. key e ≡ k)) (name : L → List ℕ) where
+  -- those that are found
+  abbrev found_of : List L → List E
+  found_of ls = filter_map (λ l. seek (name l)) ls
 
--- a guarantee is found in front under its own GRN
-some_in_front : (grn : List ℕ) (o : Option Guarantee) (gs : List Guarantee) → IfSome o (λ g. g.grn ≡ grn) → IsSome o → IsSome (guarantee_by_grn grn (cons_option o gs))
-some_in_front grn None gs has some = cc
-some_in_front grn (Some g) gs has some = rw ((bytes_eq-Decides g.grn grn).1 has) refl
+  -- what is found is found in more
+  some_in_more : (k : List ℕ) (o : Option E) (es : List E) → IsSome (with_key key k es) → IsSome (with_key key k (cons_option o es))
+  some_in_more k None es some = some
+  some_in_more k (Some e) es some = by_test (bytes_eq (key e) k)
+    where
+      by_test : (b : Bool) → IsSome (if◌then◌else◌ {A = Option E} b (Some e) (with_key key k es))
+      by_test true = refl
+      by_test false = some
 
--- two look-ups agree where what the one finds is what the other finds, and the one finds something where the other does
-agree : (o a : Option Guarantee) → IfSome o (λ g. a ≡ Some g) → (IsSome a → IsSome o) → o ≡ a
-agree None None is some = refl
-agree None (Some g) is some = let no = some refl in cc
-agree (Some g) a is some = sym is
+  -- a thing is found in front under its own name
+  some_in_front : (k : List ℕ) (o : Option E) (es : List E) → IfSome o (λ e. key e ≡ k) → IsSome o → IsSome (with_key key k (cons_option o es))
+  some_in_front k None es named some = cc
+  some_in_front k (Some e) es named some = rw ((bytes_eq-Decides (key e) k).1 named) refl
 
-module _ (all : List Guarantee) where
-  -- the guarantee of a line
-  abbrev pub look : Line × List ℕ → Option Guarantee
-  look l = guarantee_by_grn l.0.grn all
-
-  -- the guarantees of lines
-  abbrev pub taken : List (Line × List ℕ) → List Guarantee
-  taken lines = filter_map look lines
+  -- two look-ups agree where what the one finds is what the other finds, and the one finds something where the other does
+  agree : (o a : Option E) → IfSome o (λ e. a ≡ Some e) → (IsSome a → IsSome o) → o ≡ a
+  agree None None is some = refl
+  agree None (Some e) is some = let no = some refl in cc
+  agree (Some e) a is some = sym is
 
   -- what is found among them is what is found among all
-  found_is : (lines : List (Line × List ℕ)) (grn : List ℕ) → IfSome (guarantee_by_grn grn (taken lines)) (λ g. guarantee_by_grn grn all ≡ Some g)
-  found_is [] grn = tt
-  found_is (l ∷ lines) grn = by_first (look l) refl (found_has (λ g. g.grn) l.0.grn all) (found_is lines grn)
+  found_is : (ls : List L) (k : List ℕ) → IfSome (with_key key k (found_of ls)) (λ e. seek k ≡ Some e)
+  found_is [] k = tt
+  found_is (l ∷ ls) k = by_first (seek (name l)) refl (has (name l)) (found_is ls k)
     where
-      by_first : (o : Option Guarantee) → look l ≡ o → IfSome (look l) (λ g. g.grn ≡ l.0.grn) → IfSome (guarantee_by_grn grn (taken lines)) (λ g. guarantee_by_grn grn all ≡ Some g) → IfSome (guarantee_by_grn grn (cons_option o (taken lines))) (λ g. guarantee_by_grn grn all ≡ Some g)
-      by_first None none has later = later
-      by_first (Some g) some has later = by_test (bytes_eq g.grn grn) refl (subst (λ (o : Option Guarantee). IfSome o (λ x. x.grn ≡ l.0.grn)) some has) some later
+      by_first : (o : Option E) → seek (name l) ≡ o → IfSome (seek (name l)) (λ e. key e ≡ name l) → IfSome (with_key key k (found_of ls)) (λ e. seek k ≡ Some e) → IfSome (with_key key k (cons_option o (found_of ls))) (λ e. seek k ≡ Some e)
+      by_first None none named later = later
+      by_first (Some e) some named later = by_test (bytes_eq (key e) k) refl (subst (λ (o : Option E). IfSome o (λ x. key x ≡ name l)) some named) some later
         where
-          by_test : (b : Bool) → bytes_eq g.grn grn ≡ b → g.grn ≡ l.0.grn → look l ≡ Some g → IfSome (guarantee_by_grn grn (taken lines)) (λ x. guarantee_by_grn grn all ≡ Some x) → IfSome (if◌then◌else◌ {A = Option Guarantee} b (Some g) (guarantee_by_grn grn (taken lines))) (λ x. guarantee_by_grn grn all ≡ Some x)
-          by_test true same own some later = ap (λ x. guarantee_by_grn x all) (sym ((bytes_eq-Decides g.grn grn).0 same) ∙ own) ∙ some
+          by_test : (b : Bool) → bytes_eq (key e) k ≡ b → key e ≡ name l → seek (name l) ≡ Some e → IfSome (with_key key k (found_of ls)) (λ x. seek k ≡ Some x) → IfSome (if◌then◌else◌ {A = Option E} b (Some e) (with_key key k (found_of ls))) (λ x. seek k ≡ Some x)
+          by_test true same own some later = ap seek (sym ((bytes_eq-Decides (key e) k).0 same) ∙ own) ∙ some
           by_test false other own some later = later
 
-  -- and each line's guarantee is there, if it is among all
-  each_there : (lines : List (Line × List ℕ)) → AllByRecursion (λ l. IsSome (look l) → IsSome (guarantee_by_grn l.0.grn (taken lines))) lines
+  -- and each is there, if it is among all
+  each_there : (ls : List L) → AllByRecursion (λ l. IsSome (seek (name l)) → IsSome (with_key key (name l) (found_of ls))) ls
   each_there [] = tt
-  each_there (l ∷ lines) = (
-    λ some. some_in_front l.0.grn (look l) (taken lines) (found_has (λ g. g.grn) l.0.grn all) some,
-    AllByRecursion-weaker (λ m. IsSome (look m) → IsSome (guarantee_by_grn m.0.grn (taken lines))) (λ m. IsSome (look m) → IsSome (guarantee_by_grn m.0.grn (cons_option (look l) (taken lines)))) (λ m there some. some_in_more m.0.grn (look l) (taken lines) (there some)) lines (each_there lines),
+  each_there (l ∷ ls) = (
+    λ some. some_in_front (name l) (seek (name l)) (found_of ls) (has (name l)) some,
+    AllByRecursion-weaker (λ m. IsSome (seek (name m)) → IsSome (with_key key (name m) (found_of ls))) (λ m. IsSome (seek (name m)) → IsSome (with_key key (name m) (cons_option (seek (name l)) (found_of ls)))) (λ m there some. some_in_more (name m) (seek (name l)) (found_of ls) (there some)) ls (each_there ls),
   )
 
-  -- each line's guarantee is found among those of the lines as among all
-  pub each_found : (lines : List (Line × List ℕ)) → AllByRecursion (λ l. guarantee_by_grn l.0.grn (taken lines) ≡ guarantee_by_grn l.0.grn all) lines
-  each_found lines =
-      AllByRecursion-weaker (λ l. IsSome (look l) → IsSome (guarantee_by_grn l.0.grn (taken lines))) (λ l. guarantee_by_grn l.0.grn (taken lines) ≡ guarantee_by_grn l.0.grn all) (λ l there. agree (guarantee_by_grn l.0.grn (taken lines)) (guarantee_by_grn l.0.grn all) (found_is lines l.0.grn) there) lines (each_there lines)
+  -- each is found among them as among all
+  pub each_found : (ls : List L) → AllByRecursion (λ l. with_key key (name l) (found_of ls) ≡ seek (name l)) ls
+  each_found ls =
+      AllByRecursion-weaker (λ l. IsSome (seek (name l)) → IsSome (with_key key (name l) (found_of ls))) (λ l. with_key key (name l) (found_of ls) ≡ seek (name l)) (λ l there. agree (with_key key (name l) (found_of ls)) (seek (name l)) (found_is ls (name l)) there) ls (each_there ls)
+
+-- the guarantee of a line, and those of lines
+abbrev pub look : List Guarantee → Line × List ℕ → Option Guarantee
+look all l = guarantee_by_grn l.0.grn all
+
+abbrev pub taken : List Guarantee → List (Line × List ℕ) → List Guarantee
+taken all lines = filter_map (look all) lines
 
 -- the guarantee and the amount in use on it, if it is found
 abbrev pub entry_of : Account → List ℕ → Option (Guarantee × ℕ)
@@ -101,7 +106,7 @@ pub lodging_looked_up : (account : Account) (loaded : Loaded) (lrn : List ℕ) (
     → IsLookedUp account (lodging lrn lines) loaded
 lodging_looked_up account loaded lrn lines movements guarantees = (
   ap (movement_by_lrn lrn) movements ∙ found_alone (λ m. m.lrn) lrn (movement_by_lrn lrn account.movements) (found_has (λ m. m.lrn) lrn account.movements),
-  entries_found account.guarantees loaded.guarantees.items lines (subst (λ (gs : List Guarantee). AllByRecursion (λ l. guarantee_by_grn l.0.grn gs ≡ guarantee_by_grn l.0.grn account.guarantees) lines) (sym guarantees) (each_found account.guarantees lines)),
+  entries_found account.guarantees loaded.guarantees.items lines (subst (λ (gs : List Guarantee). AllByRecursion (λ l. guarantee_by_grn l.0.grn gs ≡ guarantee_by_grn l.0.grn account.guarantees) lines) (sym guarantees) (each_found (λ (g : Guarantee). g.grn) (λ k. guarantee_by_grn k account.guarantees) (λ k. found_has (λ g. g.grn) k account.guarantees) (λ (l : Line × List ℕ). l.0.grn) lines)),
 )
 
 -- a movement is looked up by its MRN
@@ -113,3 +118,14 @@ movement_looked_up account loaded mrn movements =
 pub guarantee_looked_up : (account : Account) (loaded : Loaded) (grn : List ℕ) → loaded.guarantees.items ≡ option_to_list (entry_of account grn) → IsLookedUp account (guarantee grn) loaded
 guarantee_looked_up account loaded grn guarantees =
     ap (entry_by_grn grn) guarantees ∙ found_alone (λ (e : Guarantee × ℕ). e.0.grn) grn (entry_of account grn) (entry_has account grn (guarantee_by_grn grn account.guarantees) (found_has (λ g. g.grn) grn account.guarantees))
+
+-- a movement by its MRN, and its lines' guarantees with the amounts in use on them
+pub release_looked_up : (account : Account) (loaded : Loaded) (mrn : List ℕ) → loaded.movements.items ≡ option_to_list (movement_by_mrn mrn account.movements)
+    → IfSome (movement_by_mrn mrn account.movements) (λ m. loaded.guarantees.items ≡ filter_map (λ l. entry_of account l.grn) m.lines) → IsLookedUp account (release mrn) loaded
+release_looked_up account loaded mrn movements guarantees = (movement_looked_up account loaded mrn movements, each_entry (movement_by_mrn mrn account.movements) guarantees)
+  where
+    each_entry : (o : Option Movement) → IfSome o (λ m. loaded.guarantees.items ≡ filter_map (λ l. entry_of account l.grn) m.lines) → IfSome o (λ m. AllByRecursion (λ l. entry_by_grn l.grn loaded.guarantees.items ≡ entry_of account l.grn) m.lines)
+    each_entry None none = tt
+    each_entry (Some m) is =
+        subst (λ (es : List (Guarantee × ℕ)). AllByRecursion (λ l. entry_by_grn l.grn es ≡ entry_of account l.grn) m.lines) (sym is)
+        (each_found (λ (e : Guarantee × ℕ). e.0.grn) (entry_of account) (λ k. entry_has account k (guarantee_by_grn k account.guarantees) (found_has (λ g. g.grn) k account.guarantees)) (λ (l : Line). l.grn) m.lines)

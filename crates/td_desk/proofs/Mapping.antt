@@ -1,8 +1,10 @@
 -- A list of which the front is mapped already, and one element more.
 use Rattle.std.proofs.Common.{◌≡◌, ℕ, zero, suc, ◌<◌, ◌≤◌, true, false, List, [], ◌∷◌, ◌++◌, length, map, take, drop, get_or, set, refl, ◌∙◌, ap, arith}
 use Rattle.std.specs.Str.{bytes_eq}
+use Rattle.td_guarantee.specs.declared.guarantee.Guarantee.{Guarantee}
 use Rattle.td_movement.specs.declared.movement.Movement.{Movement}
 use Rattle.td_acts.specs.declared.rows.NewStatus.{NewStatus}
+use Rattle.td_acts.specs.Account.{at_grn}
 use Rattle.td_acts.specs.Changes.{with_status, moved}
 use Rattle.td_acts.proofs.Steps.{lrn_moved}
 
@@ -47,3 +49,10 @@ moved_is status m same = rw same refl
 
 pub moved_not : (status : NewStatus) (m : Movement) → bytes_eq m.mrn status.mrn ≡ false → moved status m ≡ m
 moved_not status m other = rw other refl
+
+-- the guarantee that is named, and any other
+pub named_is : (grn : List ℕ) (made : Guarantee → Guarantee) (g : Guarantee) → bytes_eq g.grn grn ≡ true → at_grn grn made g ≡ made g
+named_is grn made g same = rw same refl
+
+pub named_not : (grn : List ℕ) (made : Guarantee → Guarantee) (g : Guarantee) → bytes_eq g.grn grn ≡ false → at_grn grn made g ≡ g
+named_not grn made g other = rw other refl

@@ -2,11 +2,14 @@
 //! commands.
 #![tactic(auto)]
 
+mod changes;
 mod decision;
 mod desk;
 mod fault;
 mod file;
 mod laws;
+mod lookups;
+mod movement_rows;
 mod plain;
 mod running;
 mod store;

@@ -72,16 +72,17 @@ impl Store for PlainDesk {
 
     fn write(&mut self, alloc: Global, change: Change) -> Result<(), Fault> {
         if let Some(row) = change.row() {
-            write_rows(alloc, &mut self.holders, row, change)?;
+            write_rows(alloc, self.country, &mut self.holders, row, change)?;
         }
         Ok(())
     }
 }
 
-// Writes the rows of a change, in which this is the holder's row, into the holder's file, or into a new one
-// in its place.
+// Writes the rows of a change, in which this is the holder's row, into the holder's file, or into a new one in
+// its place, at a desk of that country.
 fn write_rows(
     alloc: Global,
+    country: Country,
     files: &mut Vec<HolderFile>,
     row: HolderRow,
     change: Change,
@@ -96,10 +97,10 @@ fn write_rows(
 {
     let at = rows_below(files, row.holder.number());
     if at < files.len() && files[at].holder() == row.holder {
-        return files[at].write(change);
+        return files[at].write(alloc, change);
     }
-    let mut file = HolderFile::new(alloc, row);
-    file.write(change)?;
+    let mut file = HolderFile::new(alloc, country, row);
+    file.write(alloc, change)?;
     files.insert(at, file)?;
     Ok(())
 }

@@ -1,5 +1,6 @@
 //! A desk over a store that may fail and shut, and runs at both desks.
 mod lodging;
+mod rows;
 mod store;
 
 use crate::{Desk, Outcome, PlainDesk, run};
@@ -8,7 +9,8 @@ use std::process::Abort;
 use std::test::Fail;
 use store::{FaultyStore, run_stored};
 use td_acts::{Answer, Command, Said, Stamped};
-use td_base::{Country, Eori, HolderNo};
+use td_base::{Country, Eori, HolderNo, Mrn};
+use td_movement::State;
 
 const AT: i64 = 1_740_819_600;
 
@@ -50,20 +52,36 @@ fn answer_words(alloc: Global, answer: &Answer) -> Result<String, AllocError> {
             movements,
         } => format!(in alloc; "holder {holder} {eori} {guarantees} {movements}"),
         Answer::Opened { grn } => format!(in alloc; "opened {grn}"),
+        Answer::Revoked { ends, grn } => format!(in alloc; "revoked {grn} {ends}"),
         Answer::Ie028 { lrn, mrn } => format!(in alloc; "IE028 {lrn} {mrn}"),
         Answer::Ie014 { mrn } => format!(in alloc; "IE014 {mrn}"),
+        Answer::Ie029 { limit, mrn } => format!(in alloc; "IE029 {mrn} {limit}"),
+        Answer::Ie006 { late, mrn } => format!(in alloc; "IE006 {mrn} {late}"),
+        Answer::Ie018 { mrn, state } => moved_words(alloc, "IE018", mrn, *state),
+        Answer::Ie045 { mrn } => format!(in alloc; "IE045 {mrn}"),
+        Answer::Ie140 { mrn } => format!(in alloc; "IE140 {mrn}"),
         Answer::Movement(movement) => {
-            let mrn = movement.mrn;
             let lrn = movement.lrn;
-            let state = movement.state.name();
-            format!(in alloc; "movement {mrn} {lrn} {state}")
+            let words = moved_words(alloc, "movement", &movement.mrn, movement.state)?;
+            format!(in alloc; "{words} {lrn}")
         }
+        Answer::Movements(list) => counted(alloc, list.as_slice().len(), "movements"),
         Answer::Guarantee(guarantee, used) => {
             let grn = guarantee.grn;
             let reference = guarantee.reference;
             format!(in alloc; "guarantee {grn} {reference} {used}")
         }
+        Answer::Guarantees(list) => counted(alloc, list.as_slice().len(), "guarantees"),
     }
+}
+
+fn moved_words(alloc: Global, what: &str, mrn: &Mrn, state: State) -> Result<String, AllocError> {
+    let state = state.name();
+    format!(in alloc; "{what} {mrn} {state}")
+}
+
+fn counted(alloc: Global, count: usize, of: &str) -> Result<String, AllocError> {
+    format!(in alloc; "{count} {of}")
 }
 
 /// Each outcome is what is wanted, in words.

@@ -1,5 +1,5 @@
 //! The access codes of a guarantee.
-ghost use Rattle.std.specs.Prelude.{◌≡◌, ◌∷◌, [], IfOk};
+ghost use Rattle.std.specs.Prelude.{◌≡◌, ◌∷◌, [], length, IfOk, OnOk, OnErr};
 ghost use Rattle.std.specs.List.{list_any};
 ghost use Rattle.std.specs.Str.{bytes_eq};
 
@@ -25,7 +25,7 @@ impl Model for Codes {
 }
 
 impl Codes {
-    ghost use Rattle.td_guarantee.specs.Codes.{AreAscending};
+    ghost use Rattle.td_guarantee.specs.Codes.{AreAscending, with_code, without_code};
 
     /// One code alone. `AllocError`: want of memory.
     pub fn one(alloc: Global, code: AccessCode) -> Result<Self, AllocError>
@@ -40,6 +40,32 @@ impl Codes {
         ensures { result ≡ list_any (λ c. bytes_eq c code.now) self.now }
     {
         self.items.contains(code)
+    }
+
+    /// How many they are.
+    pub fn len(&self) -> usize
+        ensures { result ≡ length self.now }
+    {
+        self.items.len()
+    }
+
+    /// Puts a code in its place; one that is there already stays, once. `AllocError`: want of memory, and they are as
+    /// they were.
+    pub fn add(&mut self, code: AccessCode) -> Result<(), AllocError>
+        ensures ok { OnOk result (self.new ≡ with_code code self.old) }
+        ensures err { OnErr result (self.new ≡ self.old) }
+    {
+        if let Err(at) = self.items.binary_search(&code) {
+            self.items.insert(at, code)?;
+        }
+        Ok(())
+    }
+
+    /// Takes a code out, if it is there.
+    pub fn remove(&mut self, code: &AccessCode)
+        ensures { self.new ≡ without_code code.now self.old }
+    {
+        self.items.retain(|known| known != code);
     }
 
     /// The codes, in order.

@@ -146,3 +146,57 @@ fn guarantees_are_copied_with_their_codes(rt: HostRuntime) -> Result<(), Fail> {
     assert_eq!(rt; movement.lines.as_slice().len(), 2);
     Ok(())
 }
+
+// The codes BBBB, DDDD and FFFF.
+fn three_codes(alloc: Global) -> Result<Codes, Fail> {
+    let mut codes = Codes::one(alloc, AccessCode::read(b"DDDD").ok_or("a code")?)?;
+    codes.add(AccessCode::read(b"FFFF").ok_or("a code")?)?;
+    codes.add(AccessCode::read(b"BBBB").ok_or("a code")?)?;
+    Ok(codes)
+}
+
+// They are just these, in this order.
+fn are(codes: &Codes, texts: &[&[u8]]) -> bool {
+    let mut pairs = codes.as_slice().iter().zip(texts);
+    codes.len() == texts.len() && pairs.all(|(code, text)| code.as_bytes() == *text)
+}
+
+#[test]
+fn codes_are_put_in_their_places(rt: HostRuntime) -> Result<(), Fail> {
+    let alloc = rt.alloc();
+    let rows: [(&[u8], &[&[u8]]); 7] = [
+        (b"AAAA", &[b"AAAA", b"BBBB", b"DDDD", b"FFFF"]),
+        (b"BBBB", &[b"BBBB", b"DDDD", b"FFFF"]),
+        (b"CCCC", &[b"BBBB", b"CCCC", b"DDDD", b"FFFF"]),
+        (b"DDDD", &[b"BBBB", b"DDDD", b"FFFF"]),
+        (b"EEEE", &[b"BBBB", b"DDDD", b"EEEE", b"FFFF"]),
+        (b"FFFF", &[b"BBBB", b"DDDD", b"FFFF"]),
+        (b"GGGG", &[b"BBBB", b"DDDD", b"FFFF", b"GGGG"]),
+    ];
+    for (code, want) in rows {
+        let mut codes = three_codes(alloc)?;
+        codes.add(AccessCode::read(code).ok_or("a code")?)?;
+        assert!(rt; are(&codes, want));
+    }
+    Ok(())
+}
+
+#[test]
+fn codes_are_taken_out_alone(rt: HostRuntime) -> Result<(), Fail> {
+    let alloc = rt.alloc();
+    let rows: [(&[u8], &[&[u8]]); 5] = [
+        (b"AAAA", &[b"BBBB", b"DDDD", b"FFFF"]),
+        (b"BBBB", &[b"DDDD", b"FFFF"]),
+        (b"CCCC", &[b"BBBB", b"DDDD", b"FFFF"]),
+        (b"DDDD", &[b"BBBB", b"FFFF"]),
+        (b"FFFF", &[b"BBBB", b"DDDD"]),
+    ];
+    for (code, want) in rows {
+        let mut codes = three_codes(alloc)?;
+        let code = AccessCode::read(code).ok_or("a code")?;
+        codes.remove(&code);
+        codes.remove(&code);
+        assert!(rt; are(&codes, want));
+    }
+    Ok(())
+}

@@ -1,4 +1,5 @@
 mod PartFacts
 mod RouteFacts
 mod BodyFacts
+mod NameFacts
 mod LineFacts

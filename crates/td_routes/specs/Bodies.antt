@@ -7,18 +7,19 @@ use Rattle.serde_json.specs.Find.{as_object}
 use Rattle.td_acts.specs.declared.command.Command.{Command}
 use Rattle.td_acts.specs.declared.command.Command.TheVariants as command
 use Rattle.td_base.specs.Codes.{code_read, lrn_read, office_read}
+use Rattle.td_base.specs.Days.{day_read}
 use Rattle.td_base.specs.Eori.{eori_read}
 use Rattle.td_base.specs.Money.{cover_of, reference_of}
-use Rattle.td_routes.specs.BodyFields.{text_at, number_at}
+use Rattle.td_routes.specs.BodyFields.{text_at, number_at, control_read, ground_read}
 use Rattle.td_routes.specs.BodyLines.{lines_at}
 use Rattle.td_routes.specs.Faults.{field_name, ◌>>=◌}
 use Rattle.td_routes.specs.Routes.{route_of, path_of}
 use Rattle.td_routes.specs.declared.fault.Field.{Field}
-use Rattle.td_routes.specs.declared.fault.Field.TheVariants.{Eori, Reference, Cover, Code, Lrn, Departure, Destination, Lines}
+use Rattle.td_routes.specs.declared.fault.Field.TheVariants as field
 use Rattle.td_routes.specs.declared.fault.WebFault.{WebFault}
 use Rattle.td_routes.specs.declared.fault.WebFault.TheVariants.{BadBody, BadField, NoRoute}
 use Rattle.td_routes.specs.declared.table.Route.{Route}
-use Rattle.td_routes.specs.declared.table.Route.TheVariants.{Register, OpenGuarantee, Ie015, Ie014, SeeHolder, SeeMovement, SeeGuarantee}
+use Rattle.td_routes.specs.declared.table.Route.TheVariants as route
 
 -- the data, where it is an object
 abbrev pub object_in : Data → Result Data WebFault
@@ -29,43 +30,90 @@ abbrev pub object_of : List ℕ → Result Data WebFault
 object_of body = if is_utf8 body then ok_or (read body) BadBody >>= object_in else Err BadBody
 
 -- the field that a text is, or a fault that names it: a field that is missing is ill-formed
-abbrev pub text_field : Field → (List ℕ → Option (List ℕ)) → Data → Result (List ℕ) WebFault
-text_field field read body = ok_or (option_and_then read (text_at (field_name field) body)) (BadField field)
+abbrev pub text_field : {T : Type 0} → Field → (List ℕ → Option T) → Data → Result T WebFault
+text_field name read body = ok_or (option_and_then read (text_at (field_name name) body)) (BadField name)
 
 -- the field that a number is, likewise
 abbrev pub number_field : Field → (ℕ → Option ℕ) → Data → Result ℕ WebFault
-number_field field read body = ok_or (option_and_then read (number_at (field_name field) body)) (BadField field)
+number_field name read body = ok_or (option_and_then read (number_at (field_name name) body)) (BadField name)
 
 -- the registration of a holder that a body asks for
 abbrev pub registration_of : ℕ → Data → Result Command WebFault
-registration_of holder body = text_field Eori eori_read body >>= λ eori. Ok (command.Register holder eori)
+registration_of holder body = text_field field.Eori eori_read body >>= λ eori. Ok (command.Register holder eori)
+
+-- the terms of a guarantee: its reference amount and its cover
+abbrev pub terms_of : Data → Result (ℕ × ℕ) WebFault
+terms_of body =
+    number_field field.Reference reference_of body >>= λ reference.
+    number_field field.Cover cover_of body >>= λ cover.
+    Ok (reference, cover)
 
 -- the opening of a guarantee
 abbrev pub opening_of : ℕ → Data → Result Command WebFault
 opening_of holder body =
-    number_field Reference reference_of body >>= λ reference.
-    number_field Cover cover_of body >>= λ cover.
-    text_field Code code_read body >>= λ code.
-    Ok (command.OpenGuarantee holder reference cover code)
+    terms_of body >>= λ terms.
+    text_field field.Code code_read body >>= λ code.
+    Ok (command.OpenGuarantee holder terms.0 terms.1 code)
+
+-- the amendment of a guarantee
+abbrev pub amendment_of : List ℕ → Data → Result Command WebFault
+amendment_of grn body = terms_of body >>= λ terms. Ok (command.Amend grn terms.0 terms.1)
 
 -- the declaration
 abbrev pub declaration_of : ℕ → Data → Result Command WebFault
 declaration_of holder body =
-    text_field Lrn lrn_read body >>= λ lrn.
-    text_field Departure office_read body >>= λ departure.
-    text_field Destination office_read body >>= λ destination.
-    ok_or (lines_at (field_name Lines) body) (BadField Lines) >>= λ lines.
+    text_field field.Lrn lrn_read body >>= λ lrn.
+    text_field field.Departure office_read body >>= λ departure.
+    text_field field.Destination office_read body >>= λ destination.
+    ok_or (lines_at (field_name field.Lines) body) (BadField field.Lines) >>= λ lines.
     Ok (command.Ie015 holder lrn departure destination lines)
+
+-- the access code that a guarantee gets more
+abbrev pub addition_of : ℕ → List ℕ → Data → Result Command WebFault
+addition_of holder grn body =
+    text_field field.Code code_read body >>= λ code. Ok (command.AddCode holder grn code)
+
+-- the access code that is taken from it
+abbrev pub removal_of : ℕ → List ℕ → Data → Result Command WebFault
+removal_of holder grn body =
+    text_field field.Code code_read body >>= λ code. Ok (command.RemoveCode holder grn code)
+
+-- the release of a movement
+abbrev pub release_of : List ℕ → Data → Result Command WebFault
+release_of mrn body = text_field field.Limit day_read body >>= λ limit. Ok (command.Ie029 mrn limit)
+
+-- its arrival
+abbrev pub arrival_of : List ℕ → Data → Result Command WebFault
+arrival_of mrn body = text_field field.Office office_read body >>= λ office. Ok (command.Ie007 mrn office)
+
+-- the result of its control
+abbrev pub control_of : List ℕ → Data → Result Command WebFault
+control_of mrn body = text_field field.Result control_read body >>= λ result. Ok (command.Ie018 mrn result)
+
+-- its write-off
+abbrev pub write_off_of : List ℕ → Data → Result Command WebFault
+write_off_of mrn body = text_field field.Ground ground_read body >>= λ cause. Ok (command.Ie045 mrn cause)
 
 -- the command of a route and a body: one without fields doesn't look at the body
 abbrev pub command_at : List ℕ → Route → Result Command WebFault
-command_at body (Register holder) = object_of body >>= registration_of holder
-command_at body (OpenGuarantee holder) = object_of body >>= opening_of holder
-command_at body (Ie015 holder) = object_of body >>= declaration_of holder
-command_at body (Ie014 holder mrn) = Ok (command.Ie014 holder mrn)
-command_at body (SeeHolder holder) = Ok (command.SeeHolder holder)
-command_at body (SeeMovement holder mrn) = Ok (command.SeeMovement holder mrn)
-command_at body (SeeGuarantee holder grn) = Ok (command.SeeGuarantee holder grn)
+command_at body (route.Register holder) = object_of body >>= registration_of holder
+command_at body (route.OpenGuarantee holder) = object_of body >>= opening_of holder
+command_at body (route.Amend grn) = object_of body >>= amendment_of grn
+command_at body (route.Revoke grn) = Ok (command.Revoke grn)
+command_at body (route.Ie015 holder) = object_of body >>= declaration_of holder
+command_at body (route.Ie014 holder mrn) = Ok (command.Ie014 holder mrn)
+command_at body (route.AddCode holder grn) = object_of body >>= addition_of holder grn
+command_at body (route.RemoveCode holder grn) = object_of body >>= removal_of holder grn
+command_at body (route.Ie029 mrn) = object_of body >>= release_of mrn
+command_at body (route.Ie007 mrn) = object_of body >>= arrival_of mrn
+command_at body (route.Ie018 mrn) = object_of body >>= control_of mrn
+command_at body (route.Ie045 mrn) = object_of body >>= write_off_of mrn
+command_at body (route.Ie140 mrn) = Ok (command.Ie140 mrn)
+command_at body (route.SeeHolder holder) = Ok (command.SeeHolder holder)
+command_at body (route.SeeMovement holder mrn) = Ok (command.SeeMovement holder mrn)
+command_at body (route.SeeMovements holder) = Ok (command.SeeMovements holder)
+command_at body (route.SeeGuarantee holder grn) = Ok (command.SeeGuarantee holder grn)
+command_at body (route.SeeGuarantees holder) = Ok (command.SeeGuarantees holder)
 
 -- the command of a request, or the first fault: a target that isn't text has no route
 abbrev pub command_of : List ℕ → List ℕ → List ℕ → Result Command WebFault

@@ -6,7 +6,7 @@ use Rattle.td_routes.specs.declared.fault.Allowed.{Allowed}
 use Rattle.td_routes.specs.declared.table.Verb.{Verb}
 use Rattle.td_routes.specs.declared.table.Verb.TheVariants.{Get, Post, Put}
 use Rattle.td_routes.specs.declared.fault.Field.{Field}
-use Rattle.td_routes.specs.declared.fault.Field.TheVariants.{Eori, Reference, Cover, Code, Lrn, Departure, Destination, Lines}
+use Rattle.td_routes.specs.declared.fault.Field.TheVariants as field
 use Rattle.td_routes.specs.declared.fault.WebFault.{WebFault}
 use Rattle.td_routes.specs.declared.fault.WebFault.TheVariants.{NoRoute, NoMethod, BadHolder, BadMrn, BadGrn, BadBody, BadField, NoMemory}
 
@@ -33,14 +33,18 @@ allowed_text allowed =
 
 -- a field's key in the body
 abbrev pub field_name : Field → List ℕ
-field_name Eori = codes "eori"
-field_name Reference = codes "reference"
-field_name Cover = codes "cover"
-field_name Code = codes "code"
-field_name Lrn = codes "lrn"
-field_name Departure = codes "departure"
-field_name Destination = codes "destination"
-field_name Lines = codes "lines"
+field_name field.Eori = codes "eori"
+field_name field.Reference = codes "reference"
+field_name field.Cover = codes "cover"
+field_name field.Code = codes "code"
+field_name field.Limit = codes "limit"
+field_name field.Office = codes "office"
+field_name field.Result = codes "result"
+field_name field.Ground = codes "ground"
+field_name field.Lrn = codes "lrn"
+field_name field.Departure = codes "departure"
+field_name field.Destination = codes "destination"
+field_name field.Lines = codes "lines"
 
 -- what the reply calls the reason for which a text isn't a reference
 abbrev pub reason_text : RefFault → List ℕ

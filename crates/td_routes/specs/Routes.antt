@@ -13,7 +13,7 @@ use Rattle.td_routes.specs.declared.fault.WebFault.TheVariants.{NoRoute, NoMetho
 use Rattle.td_routes.specs.declared.table.Endpoint.{Endpoint}
 use Rattle.td_routes.specs.declared.table.Endpoint.TheVariants as endpoint
 use Rattle.td_routes.specs.declared.table.Route.{Route}
-use Rattle.td_routes.specs.declared.table.Route.TheVariants.{Register, OpenGuarantee, Ie015, Ie014, SeeHolder, SeeMovement, SeeGuarantee}
+use Rattle.td_routes.specs.declared.table.Route.TheVariants as route
 use Rattle.td_routes.specs.declared.table.Row.{Row}
 use Rattle.td_routes.specs.declared.table.Verb.{Verb}
 use Rattle.td_routes.specs.declared.table.Verb.TheVariants.{Get, Post, Put}
@@ -36,8 +36,19 @@ abbrev pub table : List TableRow
 table =
     row_of Put (codes "/office/holders/{h}") endpoint.Register
     ∷ row_of Post (codes "/office/holders/{h}/guarantees") endpoint.OpenGuarantee
+    ∷ row_of Post (codes "/office/guarantees/{g}/amend") endpoint.Amend
+    ∷ row_of Post (codes "/office/guarantees/{g}/revoke") endpoint.Revoke
+    ∷ row_of Post (codes "/office/movements/{m}/ie029") endpoint.Ie029
+    ∷ row_of Post (codes "/office/movements/{m}/ie007") endpoint.Ie007
+    ∷ row_of Post (codes "/office/movements/{m}/ie018") endpoint.Ie018
+    ∷ row_of Post (codes "/office/movements/{m}/ie045") endpoint.Ie045
+    ∷ row_of Post (codes "/office/movements/{m}/ie140") endpoint.Ie140
     ∷ row_of Get (codes "/holders/{h}") endpoint.SeeHolder
+    ∷ row_of Get (codes "/holders/{h}/guarantees") endpoint.SeeGuarantees
     ∷ row_of Get (codes "/holders/{h}/guarantees/{g}") endpoint.SeeGuarantee
+    ∷ row_of Post (codes "/holders/{h}/guarantees/{g}/codes/add") endpoint.AddCode
+    ∷ row_of Post (codes "/holders/{h}/guarantees/{g}/codes/remove") endpoint.RemoveCode
+    ∷ row_of Get (codes "/holders/{h}/movements") endpoint.SeeMovements
     ∷ row_of Post (codes "/holders/{h}/movements") endpoint.Ie015
     ∷ row_of Get (codes "/holders/{h}/movements/{m}") endpoint.SeeMovement
     ∷ row_of Post (codes "/holders/{h}/movements/{m}/ie014") endpoint.Ie014
@@ -83,6 +94,12 @@ grn_part part = if is_grn part then Ok part else Err (BadGrn (first_fault 17 par
 abbrev pub holder_in : List (List ℕ) → Result ℕ WebFault
 holder_in parts = holder_part (part_at 0 parts)
 
+abbrev pub grn_in : List (List ℕ) → Result (List ℕ) WebFault
+grn_in parts = grn_part (part_at 0 parts)
+
+abbrev pub mrn_in : List (List ℕ) → Result (List ℕ) WebFault
+mrn_in parts = mrn_part (part_at 0 parts)
+
 abbrev pub holder_and_grn : List (List ℕ) → Result (ℕ × List ℕ) WebFault
 holder_and_grn parts =
     holder_part (part_at 0 parts) >>= λ holder.
@@ -97,13 +114,24 @@ holder_and_mrn parts =
 
 -- the route of a row and the parts of its path
 abbrev pub route_with : List (List ℕ) → Endpoint → Result Route WebFault
-route_with parts endpoint.Register = holder_in parts >>= λ holder. Ok (Register holder)
-route_with parts endpoint.OpenGuarantee = holder_in parts >>= λ holder. Ok (OpenGuarantee holder)
-route_with parts endpoint.SeeHolder = holder_in parts >>= λ holder. Ok (SeeHolder holder)
-route_with parts endpoint.SeeGuarantee = holder_and_grn parts >>= λ named. Ok (SeeGuarantee named.0 named.1)
-route_with parts endpoint.Ie015 = holder_in parts >>= λ holder. Ok (Ie015 holder)
-route_with parts endpoint.SeeMovement = holder_and_mrn parts >>= λ named. Ok (SeeMovement named.0 named.1)
-route_with parts endpoint.Ie014 = holder_and_mrn parts >>= λ named. Ok (Ie014 named.0 named.1)
+route_with parts endpoint.Register = holder_in parts >>= λ holder. Ok (route.Register holder)
+route_with parts endpoint.OpenGuarantee = holder_in parts >>= λ holder. Ok (route.OpenGuarantee holder)
+route_with parts endpoint.Amend = grn_in parts >>= λ grn. Ok (route.Amend grn)
+route_with parts endpoint.Revoke = grn_in parts >>= λ grn. Ok (route.Revoke grn)
+route_with parts endpoint.Ie015 = holder_in parts >>= λ holder. Ok (route.Ie015 holder)
+route_with parts endpoint.Ie014 = holder_and_mrn parts >>= λ named. Ok (route.Ie014 named.0 named.1)
+route_with parts endpoint.AddCode = holder_and_grn parts >>= λ named. Ok (route.AddCode named.0 named.1)
+route_with parts endpoint.RemoveCode = holder_and_grn parts >>= λ named. Ok (route.RemoveCode named.0 named.1)
+route_with parts endpoint.Ie029 = mrn_in parts >>= λ mrn. Ok (route.Ie029 mrn)
+route_with parts endpoint.Ie007 = mrn_in parts >>= λ mrn. Ok (route.Ie007 mrn)
+route_with parts endpoint.Ie018 = mrn_in parts >>= λ mrn. Ok (route.Ie018 mrn)
+route_with parts endpoint.Ie045 = mrn_in parts >>= λ mrn. Ok (route.Ie045 mrn)
+route_with parts endpoint.Ie140 = mrn_in parts >>= λ mrn. Ok (route.Ie140 mrn)
+route_with parts endpoint.SeeHolder = holder_in parts >>= λ holder. Ok (route.SeeHolder holder)
+route_with parts endpoint.SeeMovement = holder_and_mrn parts >>= λ named. Ok (route.SeeMovement named.0 named.1)
+route_with parts endpoint.SeeMovements = holder_in parts >>= λ holder. Ok (route.SeeMovements holder)
+route_with parts endpoint.SeeGuarantee = holder_and_grn parts >>= λ named. Ok (route.SeeGuarantee named.0 named.1)
+route_with parts endpoint.SeeGuarantees = holder_in parts >>= λ holder. Ok (route.SeeGuarantees holder)
 
 -- the route of a method and a path among rows: the path's pattern, its row with the method, and the parts
 abbrev pub route_in : List TableRow → List ℕ → List ℕ → Result Route WebFault

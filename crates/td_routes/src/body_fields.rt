@@ -2,15 +2,17 @@
 ghost use Rattle.std.specs.Prelude.{◌≡◌, option_and_then, option_map};
 ghost use Rattle.serde_json.specs.View.{items_view, view};
 ghost use Rattle.td_base.specs.Codes.{code_read, lrn_read, office_read};
+ghost use Rattle.td_base.specs.Days.{day_read};
 ghost use Rattle.td_base.specs.Eori.{eori_read};
 ghost use Rattle.td_base.specs.Money.{cover_of, reference_of};
-ghost use Rattle.td_routes.specs.BodyFields.{array_at, number_at, text_at};
+ghost use Rattle.td_routes.specs.BodyFields.{array_at, control_read, ground_read, number_at, text_at};
 ghost use Rattle.td_routes.specs.Faults.{field_name};
 ghost use Rattle.td_routes.specs.declared.fault.Field.TheVariants as field;
 
 use crate::fault::Field;
 use serde_json::Value;
-use td_base::{AccessCode, Cover, Eori, Lrn, OfficeNo, Reference};
+use td_base::{AccessCode, Cover, Day, Eori, Lrn, OfficeNo, Reference};
+use td_movement::{Control, Ground};
 
 // The text of a key.
 pub(crate) fn text_in<'v>(object: &'v Value, key: &str) -> Option<&'v str>
@@ -59,6 +61,27 @@ pub(crate) fn code_in(object: &Value) -> Option<AccessCode>
 {
     let text = text_in(object, Field::Code.name())?;
     AccessCode::read(text.as_bytes())
+}
+
+pub(crate) fn limit_in(body: &Value) -> Option<Day>
+    ensures { result ≡ option_and_then day_read (text_at (field_name field.Limit) (view body.now)) }
+{
+    let text = text_in(body, Field::Limit.name())?;
+    Day::read(text.as_bytes())
+}
+
+pub(crate) fn result_in(body: &Value) -> Option<Control>
+    ensures { result ≡ option_and_then control_read (text_at (field_name field.Result) (view body.now)) }
+{
+    let text = text_in(body, Field::Result.name())?;
+    Control::read(text.as_bytes())
+}
+
+pub(crate) fn ground_in(body: &Value) -> Option<Ground>
+    ensures { result ≡ option_and_then ground_read (text_at (field_name field.Ground) (view body.now)) }
+{
+    let text = text_in(body, Field::Ground.name())?;
+    Ground::read(text.as_bytes())
 }
 
 pub(crate) fn lrn_in(body: &Value) -> Option<Lrn>

@@ -3,7 +3,7 @@ ghost use Rattle.std.specs.Prelude.{◌≡◌, IsSome, IfErr, IfOk, MatchResult,
 ghost use Rattle.std.specs.Option.{ForSome};
 ghost use Rattle.std.specs.Str.{IsUtf8};
 ghost use Rattle.td_routes.specs.Faults.{OrNoMemory};
-ghost use Rattle.td_routes.specs.Routes.{table, row_shown, pattern_in, row_with, methods_with, holder_part, mrn_part, grn_part, part_at, holder_in, holder_and_grn, holder_and_mrn, route_with, route_in, route_of, methods_of};
+ghost use Rattle.td_routes.specs.Routes.{table, row_shown, pattern_in, row_with, methods_with, holder_part, mrn_part, grn_part, part_at, holder_in, grn_in, mrn_in, holder_and_grn, holder_and_mrn, route_with, route_in, route_of, methods_of};
 ghost use Rattle.td_routes.specs.declared.fault.WebFault.TheVariants.{NoMemory};
 
 use crate::fault::{Allowed, WebFault};
@@ -48,6 +48,20 @@ fn holder_in(parts: &Parts<'_, '_>) -> Result<HolderNo, WebFault>
     read_holder(part_at(parts, 0))
 }
 
+// A path that names a guarantee alone.
+fn grn_in(parts: &Parts<'_, '_>) -> Result<Grn, WebFault>
+    ensures { result ≡ grn_in parts.now }
+{
+    read_grn(part_at(parts, 0))
+}
+
+// A path that names a movement alone.
+fn mrn_in(parts: &Parts<'_, '_>) -> Result<Mrn, WebFault>
+    ensures { result ≡ mrn_in parts.now }
+{
+    read_mrn(part_at(parts, 0))
+}
+
 // A path that names a holder and a guarantee.
 fn holder_and_grn(parts: &Parts<'_, '_>) -> Result<(HolderNo, Grn), WebFault>
     ensures { result ≡ holder_and_grn parts.now }
@@ -66,38 +80,36 @@ fn holder_and_mrn(parts: &Parts<'_, '_>) -> Result<(HolderNo, Mrn), WebFault>
     Ok((holder, mrn))
 }
 
+// The route that the parts name, once they are read.
+macro_rules! named {
+    ($read:expr, $route:ident { $($part:ident),+ }) => {{
+        let ($($part),+) = $read?;
+        Ok(Route::$route { $($part),+ })
+    }};
+}
+
 fn read_parts(endpoint: Endpoint, parts: &Parts<'_, '_>) -> Result<Route, WebFault>
     ensures { result ≡ route_with parts.now endpoint }
 {
     match endpoint {
-        Endpoint::Register => {
-            let holder = holder_in(parts)?;
-            Ok(Route::Register { holder })
-        }
-        Endpoint::OpenGuarantee => {
-            let holder = holder_in(parts)?;
-            Ok(Route::OpenGuarantee { holder })
-        }
-        Endpoint::SeeHolder => {
-            let holder = holder_in(parts)?;
-            Ok(Route::SeeHolder { holder })
-        }
-        Endpoint::SeeGuarantee => {
-            let (holder, grn) = holder_and_grn(parts)?;
-            Ok(Route::SeeGuarantee { holder, grn })
-        }
-        Endpoint::Ie015 => {
-            let holder = holder_in(parts)?;
-            Ok(Route::Ie015 { holder })
-        }
-        Endpoint::SeeMovement => {
-            let (holder, mrn) = holder_and_mrn(parts)?;
-            Ok(Route::SeeMovement { holder, mrn })
-        }
-        Endpoint::Ie014 => {
-            let (holder, mrn) = holder_and_mrn(parts)?;
-            Ok(Route::Ie014 { holder, mrn })
-        }
+        Endpoint::Register => named!(holder_in(parts), Register { holder }),
+        Endpoint::OpenGuarantee => named!(holder_in(parts), OpenGuarantee { holder }),
+        Endpoint::Amend => named!(grn_in(parts), Amend { grn }),
+        Endpoint::Revoke => named!(grn_in(parts), Revoke { grn }),
+        Endpoint::Ie015 => named!(holder_in(parts), Ie015 { holder }),
+        Endpoint::Ie014 => named!(holder_and_mrn(parts), Ie014 { holder, mrn }),
+        Endpoint::AddCode => named!(holder_and_grn(parts), AddCode { holder, grn }),
+        Endpoint::RemoveCode => named!(holder_and_grn(parts), RemoveCode { holder, grn }),
+        Endpoint::Ie029 => named!(mrn_in(parts), Ie029 { mrn }),
+        Endpoint::Ie007 => named!(mrn_in(parts), Ie007 { mrn }),
+        Endpoint::Ie018 => named!(mrn_in(parts), Ie018 { mrn }),
+        Endpoint::Ie045 => named!(mrn_in(parts), Ie045 { mrn }),
+        Endpoint::Ie140 => named!(mrn_in(parts), Ie140 { mrn }),
+        Endpoint::SeeHolder => named!(holder_in(parts), SeeHolder { holder }),
+        Endpoint::SeeMovement => named!(holder_and_mrn(parts), SeeMovement { holder, mrn }),
+        Endpoint::SeeMovements => named!(holder_in(parts), SeeMovements { holder }),
+        Endpoint::SeeGuarantee => named!(holder_and_grn(parts), SeeGuarantee { holder, grn }),
+        Endpoint::SeeGuarantees => named!(holder_in(parts), SeeGuarantees { holder }),
     }
 }
 

@@ -30,11 +30,22 @@ impl Verb {
 pub(crate) enum Endpoint {
     Register,
     OpenGuarantee,
-    SeeHolder,
-    SeeGuarantee,
+    Amend,
+    Revoke,
     Ie015,
-    SeeMovement,
     Ie014,
+    AddCode,
+    RemoveCode,
+    Ie029,
+    Ie007,
+    Ie018,
+    Ie045,
+    Ie140,
+    SeeHolder,
+    SeeMovement,
+    SeeMovements,
+    SeeGuarantee,
+    SeeGuarantees,
 }
 
 /// A row of the table: a method, the pattern of its paths, and what they ask for.
@@ -57,11 +68,22 @@ macro_rules! row {
 }
 
 /// The rows, in the table's order.
-pub(crate) static ROWS: [Row; 7] = [
+pub(crate) static ROWS: [Row; 18] = [
     row!(Put, "/office/holders/{h}", Register),
     row!(Post, "/office/holders/{h}/guarantees", OpenGuarantee),
+    row!(Post, "/office/guarantees/{g}/amend", Amend),
+    row!(Post, "/office/guarantees/{g}/revoke", Revoke),
+    row!(Post, "/office/movements/{m}/ie029", Ie029),
+    row!(Post, "/office/movements/{m}/ie007", Ie007),
+    row!(Post, "/office/movements/{m}/ie018", Ie018),
+    row!(Post, "/office/movements/{m}/ie045", Ie045),
+    row!(Post, "/office/movements/{m}/ie140", Ie140),
     row!(Get, "/holders/{h}", SeeHolder),
+    row!(Get, "/holders/{h}/guarantees", SeeGuarantees),
     row!(Get, "/holders/{h}/guarantees/{g}", SeeGuarantee),
+    row!(Post, "/holders/{h}/guarantees/{g}/codes/add", AddCode),
+    row!(Post, "/holders/{h}/guarantees/{g}/codes/remove", RemoveCode),
+    row!(Get, "/holders/{h}/movements", SeeMovements),
     row!(Post, "/holders/{h}/movements", Ie015),
     row!(Get, "/holders/{h}/movements/{m}", SeeMovement),
     row!(Post, "/holders/{h}/movements/{m}/ie014", Ie014),
@@ -82,14 +104,36 @@ pub enum Route {
     Register { holder: HolderNo },
     /// `POST /office/holders/H/guarantees`
     OpenGuarantee { holder: HolderNo },
+    /// `POST /office/guarantees/G/amend`
+    Amend { grn: Grn },
+    /// `POST /office/guarantees/G/revoke`
+    Revoke { grn: Grn },
     /// `POST /holders/H/movements`
     Ie015 { holder: HolderNo },
+    /// `POST /holders/H/movements/M/ie014`
+    Ie014 { holder: HolderNo, mrn: Mrn },
+    /// `POST /holders/H/guarantees/G/codes/add`
+    AddCode { holder: HolderNo, grn: Grn },
+    /// `POST /holders/H/guarantees/G/codes/remove`
+    RemoveCode { holder: HolderNo, grn: Grn },
+    /// `POST /office/movements/M/ie029`
+    Ie029 { mrn: Mrn },
+    /// `POST /office/movements/M/ie007`
+    Ie007 { mrn: Mrn },
+    /// `POST /office/movements/M/ie018`
+    Ie018 { mrn: Mrn },
+    /// `POST /office/movements/M/ie045`
+    Ie045 { mrn: Mrn },
+    /// `POST /office/movements/M/ie140`
+    Ie140 { mrn: Mrn },
     /// `GET /holders/H`
     SeeHolder { holder: HolderNo },
     /// `GET /holders/H/movements/M`
     SeeMovement { holder: HolderNo, mrn: Mrn },
-    /// `POST /holders/H/movements/M/ie014`
-    Ie014 { holder: HolderNo, mrn: Mrn },
+    /// `GET /holders/H/movements`
+    SeeMovements { holder: HolderNo },
     /// `GET /holders/H/guarantees/G`
     SeeGuarantee { holder: HolderNo, grn: Grn },
+    /// `GET /holders/H/guarantees`
+    SeeGuarantees { holder: HolderNo },
 }

@@ -1,63 +1,9 @@
 //! Replies, byte for byte.
 use crate::tests::{says, turns_away};
 use std::test::Fail;
-use td_acts::{Answer, Refusal, Said};
+use td_acts::{Answer, Said};
 use td_base::{Eori, Grn, HolderNo, Lrn, Mrn, RefFault};
 use td_routes::{Allowed, Field, WebFault};
-
-/// Refusals, whether the stream closes after them, and their replies.
-const REFUSED: [(Refusal, bool, &str); 10] = [
-    (
-        Refusal::ClockRange,
-        false,
-        "HTTP/1.1 503 Service Unavailable\r\nContent-Type: application/json\r\nContent-Length: 23\r\n\r\n{\"error\":\"clock-range\"}",
-    ),
-    (
-        Refusal::NoHolder,
-        false,
-        "HTTP/1.1 404 Not Found\r\nContent-Type: application/json\r\nContent-Length: 21\r\n\r\n{\"error\":\"no-holder\"}",
-    ),
-    (
-        Refusal::HolderKnown,
-        true,
-        "HTTP/1.1 409 Conflict\r\nContent-Type: application/json\r\nContent-Length: 24\r\nConnection: close\r\n\r\n{\"error\":\"holder-known\"}",
-    ),
-    (
-        Refusal::ClockBack,
-        false,
-        "HTTP/1.1 409 Conflict\r\nContent-Type: application/json\r\nContent-Length: 22\r\n\r\n{\"error\":\"clock-back\"}",
-    ),
-    (
-        Refusal::NoMovement,
-        false,
-        "HTTP/1.1 404 Not Found\r\nContent-Type: application/json\r\nContent-Length: 23\r\n\r\n{\"error\":\"no-movement\"}",
-    ),
-    (
-        Refusal::NoGuarantee,
-        false,
-        "HTTP/1.1 404 Not Found\r\nContent-Type: application/json\r\nContent-Length: 24\r\n\r\n{\"error\":\"no-guarantee\"}",
-    ),
-    (
-        Refusal::BadCode,
-        false,
-        "HTTP/1.1 403 Forbidden\r\nContent-Type: application/json\r\nContent-Length: 20\r\n\r\n{\"error\":\"bad-code\"}",
-    ),
-    (
-        Refusal::GuaranteeEnded,
-        false,
-        "HTTP/1.1 409 Conflict\r\nContent-Type: application/json\r\nContent-Length: 27\r\n\r\n{\"error\":\"guarantee-ended\"}",
-    ),
-    (
-        Refusal::LrnUsed,
-        false,
-        "HTTP/1.1 409 Conflict\r\nContent-Type: application/json\r\nContent-Length: 20\r\n\r\n{\"error\":\"lrn-used\"}",
-    ),
-    (
-        Refusal::SerialsSpent,
-        false,
-        "HTTP/1.1 409 Conflict\r\nContent-Type: application/json\r\nContent-Length: 25\r\n\r\n{\"error\":\"serials-spent\"}",
-    ),
-];
 
 /// Faults of a path's reference, and their replies.
 const NO_REFERENCE: [(WebFault, &str); 6] = [
@@ -171,14 +117,6 @@ fn a_declaration_is_answered(rt: HostRuntime) -> Result<(), Fail> {
     let mrn = Mrn::read(b"25CH00000100000013")?;
     let answer = Answer::Ie028 { lrn, mrn };
     says(&rt, rt.alloc(), Said::Answered(answer), false, IE028)
-}
-
-#[test]
-fn writes_refusals(rt: HostRuntime) -> Result<(), Fail> {
-    for (why, close, reply) in REFUSED {
-        says(&rt, rt.alloc(), Said::Refused(why), close, reply)?;
-    }
-    Ok(())
 }
 
 #[test]

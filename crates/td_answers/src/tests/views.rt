@@ -1,10 +1,9 @@
 //! What views of movements and guarantees show, byte for byte.
-use crate::tests::says;
+use crate::tests::{guarantee, says};
 use std::alloc::Global;
 use std::test::Fail;
 use td_acts::{Answer, Said};
-use td_base::{AccessCode, Cents, Cover, Day, Grn, Lrn, Mrn, OfficeNo};
-use td_guarantee::{Codes, Guarantee};
+use td_base::{Cents, Day, Grn, Lrn, Mrn, OfficeNo};
 use td_movement::{Line, Movement, MovementLines, State};
 
 const FIRST: &[u8] = b"25CH0000010000014";
@@ -64,18 +63,8 @@ fn lodged(alloc: Global, lrn: &[u8], lines: &[Line]) -> Option<Movement> {
 // What is told of a guarantee of that reference amount and cover, which ends on the day of that text, if it is one, and
 // of so many cents in use on it.
 fn standing(alloc: Global, reference: u64, cover: u64, ends: &[u8], used: u64) -> Option<Said> {
-    let grn = Grn::read(FIRST).ok()?;
-    let reference = Cents::new(reference)?;
-    let cover = Cover::new(cover)?;
-    let code = AccessCode::read(b"AB12")?;
+    let guarantee = guarantee(alloc, FIRST, reference, cover, ends)?;
     let used = Cents::new(used)?;
-    let guarantee = Guarantee {
-        grn,
-        reference,
-        cover,
-        ends: Day::read(ends),
-        codes: Codes::one(alloc, code).ok()?,
-    };
     Some(Said::Answered(Answer::Guarantee(guarantee, used)))
 }
 

@@ -9,7 +9,7 @@ use td_desk::PlainDesk;
 use td_http::{Service, StreamEnd, serve_stream};
 
 // A target's HEAD, and the reply.
-const HEADS: [(&[u8], &[u8]); 5] = [
+const HEADS: [(&[u8], &[u8]); 6] = [
     (
         b"HEAD /holders/000002 HTTP/1.1\r\n\r\n",
         b"HTTP/1.1 405 Method Not Allowed\r\nAllow: GET\r\nConnection: close\r\n\r\n",
@@ -20,6 +20,10 @@ const HEADS: [(&[u8], &[u8]); 5] = [
     ),
     (
         b"HEAD /holders/000002/movements?first HTTP/1.1\r\n\r\n",
+        b"HTTP/1.1 405 Method Not Allowed\r\nAllow: GET, POST\r\nConnection: close\r\n\r\n",
+    ),
+    (
+        b"HEAD /office/movements/x/ie029 HTTP/1.1\r\n\r\n",
         b"HTTP/1.1 405 Method Not Allowed\r\nAllow: POST\r\nConnection: close\r\n\r\n",
     ),
     (

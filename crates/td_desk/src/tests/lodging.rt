@@ -127,8 +127,8 @@ const LODGED: [&str; 13] = [
 
 /// What is said to each view.
 const VIEWED: [&str; 10] = [
-    "movement 25CH00000100000013 A1 accepted",
-    "movement 25CH00000100000021 A2 accepted",
+    "movement 25CH00000100000013 accepted A1",
+    "movement 25CH00000100000021 accepted A2",
     "no-movement",
     "no-movement",
     "no-movement",

@@ -110,9 +110,41 @@ fn words_of(alloc: Global, command: &Command) -> Result<String, AllocError> {
         Command::Ie014 { holder, mrn } => format!(in alloc; "cancel {holder} movement {mrn}"),
         Command::SeeHolder { holder } => format!(in alloc; "see {holder}"),
         Command::SeeMovement { holder, mrn } => format!(in alloc; "see {holder} movement {mrn}"),
+        Command::SeeMovements { holder } => format!(in alloc; "see {holder} movements"),
         Command::SeeGuarantee { holder, grn } => {
             format!(in alloc; "see {holder} guarantee {grn}")
         }
+        Command::SeeGuarantees { holder } => format!(in alloc; "see {holder} guarantees"),
+        _ => act_words(alloc, command),
+    }
+}
+
+/// An act on a guarantee or a movement, or a change of codes, in words: its fields in order.
+fn act_words(alloc: Global, command: &Command) -> Result<String, AllocError> {
+    match command {
+        Command::Amend {
+            grn,
+            reference,
+            cover,
+        } => {
+            let cents = reference.get();
+            let percent = cover.get();
+            format!(in alloc; "amend {grn} {cents} {percent}")
+        }
+        Command::Revoke { grn } => format!(in alloc; "revoke {grn}"),
+        Command::AddCode { holder, grn, code } => format!(in alloc; "add {holder} {grn} {code}"),
+        Command::RemoveCode { holder, grn, code } => {
+            format!(in alloc; "remove {holder} {grn} {code}")
+        }
+        Command::Ie029 { mrn, limit } => format!(in alloc; "release {mrn} {limit}"),
+        Command::Ie007 { mrn, office } => format!(in alloc; "arrive {mrn} {office}"),
+        Command::Ie018 {
+            mrn,
+            result: control,
+        } => format!(in alloc; "control {mrn} {}", control.name()),
+        Command::Ie045 { mrn, ground } => format!(in alloc; "write off {mrn} {}", ground.name()),
+        Command::Ie140 { mrn } => format!(in alloc; "enquire {mrn}"),
+        _ => String::from_str(alloc, "no act"),
     }
 }
 

@@ -9,7 +9,19 @@ use td_base::{Grn, HolderNo, Mrn};
 use td_routes::{Routes, read_command_by};
 
 /// Requests that are read, and their commands.
-const READ: [(&str, &str, &str, &str); 10] = [
+const READ: [(&str, &str, &str, &str); 12] = [
+    (
+        "GET",
+        "/holders/000001/movements",
+        "{\"lrn\":\"A1\"}",
+        "see 000001 movements",
+    ),
+    (
+        "GET",
+        "/holders/999999/guarantees?of=000001",
+        "",
+        "see 999999 guarantees",
+    ),
     (
         "PUT",
         "/office/holders/000001",
@@ -130,7 +142,7 @@ fn finds_routes(rt: HostRuntime) -> Result<(), Fail> {
 }
 
 /// Requests for a path that there is not.
-const NO_ROUTE: [(&str, &str, &str); 27] = [
+const NO_ROUTE: [(&str, &str, &str); 32] = [
     ("GET", "/holders/000001/", ""),
     ("GET", "/holders/", ""),
     ("GET", "/holders", ""),
@@ -152,7 +164,6 @@ const NO_ROUTE: [(&str, &str, &str); 27] = [
     ("GET", "/holders/000001/movements//25CH00000100000013", ""),
     ("GET", "/holders//movements/25CH00000100000013", ""),
     ("GET", "/holders/000001/Movements/25CH00000100000013", ""),
-    ("GET", "/holders/000001/guarantees", ""),
     ("GET", "/holders/000001/guarantees/", ""),
     ("GET", "/holders/000001/guarantees/25CH0000010000014/", ""),
     ("GET", "/holders//guarantees/25CH0000010000014", ""),
@@ -162,6 +173,16 @@ const NO_ROUTE: [(&str, &str, &str); 27] = [
         "/office/holders/000001/guarantees/25CH0000010000014",
         "",
     ),
+    (
+        "POST",
+        "/holders/000001/guarantees/25CH0000010000014/codes",
+        "{}",
+    ),
+    ("POST", "/office/guarantees//revoke", ""),
+    ("POST", "/office/guarantees/25CH0000010000014/Revoke", ""),
+    ("POST", "/office/movements/25CH00000100000013/ie015", "{}"),
+    ("POST", "/office/movements/25CH00000100000013", "{}"),
+    ("POST", "/office/movements//ie140", ""),
 ];
 
 /// Requests by another method where only GET is allowed.
@@ -184,12 +205,22 @@ const ONLY_POST: [(&str, &str, &str); 5] = [
     ("GET", "/office/holders/000001/guarantees", ""),
     ("PUT", "/office/holders/zzz/guarantees", "[]"),
     ("post", "/office/holders/000001/guarantees", ""),
-    ("GET", "/holders/000001/movements", ""),
+    ("GET", "/office/movements/zzz/ie029", ""),
+    (
+        "PUT",
+        "/holders/zzz/guarantees/25CH0000010000014/codes/add",
+        "",
+    ),
+];
+
+/// Requests by another method where GET and POST are allowed.
+const GET_AND_POST: [(&str, &str, &str); 2] = [
+    ("PUT", "/holders/000001/movements", "{}"),
     ("DELETE", "/holders/zzz/movements", ""),
 ];
 
 /// Requests whose path has no holder's number in its place.
-const NO_HOLDER_NUMBER: [(&str, &str, &str); 13] = [
+const NO_HOLDER_NUMBER: [(&str, &str, &str); 14] = [
     ("POST", "/office/holders/000000/guarantees", "[]"),
     ("POST", "/holders/1/movements", "[]"),
     ("GET", "/holders/000000", ""),
@@ -202,6 +233,7 @@ const NO_HOLDER_NUMBER: [(&str, &str, &str); 13] = [
     ("GET", "/holders/000000/movements/25CH00000100000013", ""),
     ("GET", "/holders/zzz/guarantees/x", ""),
     ("GET", "/holders/1/guarantees/25CH0000010000014", ""),
+    ("POST", "/holders/zzz/guarantees/x/codes/add", ""),
     ("PUT", "/office/holders/zzz", "not JSON"),
 ];
 
@@ -317,6 +349,15 @@ fn tells_unknown_paths(rt: HostRuntime) -> Result<(), Fail> {
     all_told(&rt, &NO_ROUTE, WebFault::NoRoute)
 }
 
+// GET and POST.
+fn get_and_post() -> Allowed {
+    Allowed {
+        get: true,
+        post: true,
+        put: false,
+    }
+}
+
 // This method alone.
 fn only(method: &str) -> Allowed {
     Allowed {
@@ -333,7 +374,9 @@ fn tells_the_allowed_method(rt: HostRuntime) -> Result<(), Fail> {
     let allow = only("PUT");
     all_told(&rt, &ONLY_PUT, WebFault::NoMethod { allow })?;
     let allow = only("POST");
-    all_told(&rt, &ONLY_POST, WebFault::NoMethod { allow })
+    all_told(&rt, &ONLY_POST, WebFault::NoMethod { allow })?;
+    let allow = get_and_post();
+    all_told(&rt, &GET_AND_POST, WebFault::NoMethod { allow })
 }
 
 #[test]

@@ -1,0 +1,31 @@
+use Rattle.std.proofs.Common.{refl, ◌∙◌, ap}
+use Rattle.td_movement.specs.declared.movement.Movement.{Movement}
+use Rattle.td_movement.specs.declared.moves.Move.TheVariants.{Arrive}
+use Rattle.td_acts.specs.declared.command.Command.TheVariants.{Ie007}
+use Rattle.td_acts.specs.declared.said.Answer.TheVariants as answer
+use Rattle.td_acts.specs.declared.said.Refusal.TheVariants.{NoMovement}
+use Rattle.td_acts.specs.declared.said.Said.TheVariants.{Answered}
+use Rattle.td_acts.specs.Account.{movement_by_mrn}
+use Rattle.td_acts.specs.Deciding.{new_state}
+use Rattle.td_base.specs.Days.{day_of_moment}
+use Rattle.td_movement.specs.declared.state.State.TheVariants.{Arrived}
+use Rattle.td_acts.specs.Table.{is_late}
+use Rattle.std.specs.Prelude.{Some}
+use Rattle.td_acts.proofs.EachMove.{arrived_from}
+use Rattle.td_acts.proofs.Told.{told_moved}
+use Rattle.td_acts.proofs.moving.arrive.Goals as goal
+
+pub returns-in-Ok : goal.returns-in-Ok
+returns-in-Ok c = λ account loaded.
+    let a = c.args in
+    let moving = c.in-Ok.moving in
+    let m = moving.movement.now in
+    let day = day_of_moment a.at in
+    let state = (arrived_from m.state moving.state c.in-Ok.ensures.state).0 in
+    told_moved account a.loaded.now.holder (movement_by_mrn a.mrn.now a.loaded.now.movements.items) a.at (Ie007 a.mrn.now a.office) NoMovement a.mrn.now Arrive
+    (λ (m : Movement). Answered (answer.Ie006 (is_late m.limit day) m.mrn)) moving.row m (answer.Ie006 (is_late m.limit day) m.mrn)
+    (record (new_state a.mrn.now Arrived) { arrival = Some day; actual = Some a.office }) c.verdict.result
+    loaded.holder loaded.things c.in-Ok.ensures.row (c.in-Ok.ensures.said _) refl
+    (c.verdict.ensures.said ∙ ap (λ b. Answered (answer.Ie006 b m.mrn)) (c.is_late.ensures ∙ ap (is_late m.limit) c.of_moment-day.ensures))
+    (c.verdict.ensures.change ∙ rw (c.of.ensures, c.of_moment-day.ensures, state) refl)
+    refl refl refl refl

@@ -1,0 +1,27 @@
+use Rattle.std.proofs.Common.{refl, ◌∙◌, ap}
+use Rattle.td_movement.specs.declared.movement.Movement.{Movement}
+use Rattle.td_movement.specs.declared.moves.Move.TheVariants.{Cancel}
+use Rattle.td_acts.specs.declared.command.Command.TheVariants.{Ie014}
+use Rattle.td_acts.specs.declared.rows.Change.TheVariants.{Moved}
+use Rattle.td_acts.specs.declared.said.Answer.TheVariants as answer
+use Rattle.td_acts.specs.declared.said.Refusal.TheVariants.{NoHolder}
+use Rattle.td_acts.specs.declared.said.Said.TheVariants.{Answered}
+use Rattle.td_acts.specs.Account.{movement_by_mrn}
+use Rattle.td_acts.specs.Deciding.{new_state, touched}
+use Rattle.td_movement.specs.declared.state.State.TheVariants.{Cancelled}
+use Rattle.td_acts.proofs.EachMove.{cancelled_from}
+use Rattle.td_acts.proofs.Told.{told_moved}
+use Rattle.td_acts.proofs.moving.cancel.Goals as goal
+
+pub returns-in-Ok : goal.returns-in-Ok
+returns-in-Ok c = λ account loaded.
+    let a = c.args in
+    let moving = c.in-Ok.moving in
+    let m = moving.movement.now in
+    let state = (cancelled_from m.state moving.state c.in-Ok.ensures.state).0 in
+    told_moved account a.loaded.now.holder (movement_by_mrn a.mrn.now a.loaded.now.movements.items) a.at (Ie014 a.holder a.mrn.now) NoHolder a.mrn.now Cancel
+    (λ (m : Movement). Answered (answer.Ie014 m.mrn)) moving.row m (answer.Ie014 m.mrn) (new_state a.mrn.now Cancelled) c.verdict.result
+    loaded.holder loaded.things c.in-Ok.ensures.row (c.in-Ok.ensures.said _) refl
+    c.verdict.ensures.said
+    (c.verdict.ensures.change ∙ ap (λ s. Moved (touched moving.row a.at) s) (c.of.ensures ∙ ap (new_state a.mrn.now) state))
+    refl refl refl refl

@@ -1,0 +1,33 @@
+use Rattle.std.proofs.Common.{refl, sym, ◌∙◌, ap}
+use Rattle.td_movement.specs.declared.movement.Movement.{Movement}
+use Rattle.td_movement.specs.declared.moves.Move.TheVariants.{Enquire}
+use Rattle.td_acts.specs.declared.command.Command.TheVariants.{Ie140}
+use Rattle.td_acts.specs.declared.rows.Change.TheVariants.{Moved}
+use Rattle.td_acts.specs.declared.said.Answer.TheVariants as answer
+use Rattle.td_acts.specs.declared.said.Refusal.TheVariants.{NoMovement, TooEarly}
+use Rattle.td_acts.specs.declared.said.Said.TheVariants.{Answered}
+use Rattle.td_acts.specs.Account.{movement_by_mrn}
+use Rattle.td_acts.specs.Deciding.{new_state, touched}
+use Rattle.td_base.specs.Days.{day_of_moment}
+use Rattle.td_movement.specs.declared.state.State.TheVariants.{Enquired}
+use Rattle.td_acts.specs.Table.{may_be_asked_after, refuse_if}
+use Rattle.std.specs.Prelude.{not}
+use Rattle.td_acts.proofs.EachMove.{enquired_from}
+use Rattle.td_acts.proofs.Told.{told_moved}
+use Rattle.td_acts.proofs.moving.enquire.Goals as goal
+
+pub returns-else-not-may_be_asked_after : goal.returns-else-not-may_be_asked_after
+returns-else-not-may_be_asked_after c = λ account loaded.
+    let a = c.args in
+    let moving = c.in-Ok.moving in
+    let m = moving.movement.now in
+    let day = day_of_moment a.at in
+    let state = (enquired_from m.state moving.state c.in-Ok.ensures.state).0 in
+    told_moved account a.loaded.now.holder (movement_by_mrn a.mrn.now a.loaded.now.movements.items) a.at (Ie140 a.mrn.now) NoMovement a.mrn.now Enquire
+    (λ (m : Movement). refuse_if TooEarly (not (may_be_asked_after m.limit day)) (Answered (answer.Ie140 m.mrn))) moving.row m (answer.Ie140 m.mrn)
+    (new_state a.mrn.now Enquired) c.verdict.result
+    loaded.holder loaded.things c.in-Ok.ensures.row (c.in-Ok.ensures.said _)
+    (ap (λ b. refuse_if TooEarly b (Answered (answer.Ie140 m.mrn))) (ap not (sym (c.may_be_asked_after.ensures ∙ ap (may_be_asked_after m.limit) c.of_moment.ensures) ∙ c.if-not-may_be_asked_after.false)))
+    c.verdict.ensures.said
+    (c.verdict.ensures.change ∙ ap (λ s. Moved (touched moving.row a.at) s) (c.of.ensures ∙ ap (new_state a.mrn.now) state))
+    refl refl refl refl

@@ -1,0 +1,197 @@
+//! Every move of a movement in each of its states.
+use super::acts::{
+    ADVISED_A1, ADVISED_A1_LATE, ARRIVE_A1, CANCEL_A1, CANCELLED_A1, CLEAR_A1,
+    CLEAR_A1_AS_CONSIDERED, CLEARED_A1, DISCREPANT_A1, ENQUIRE_A1, ENQUIRED_A1, FIND_A1_DISCREPANT,
+    G1_FREE, G1_HALF, RELEASE_A1, RELEASED_A1, SEE_G1, WRITE_OFF_A1, WRITE_OFF_A1_BY_PROOF,
+    WRITTEN_OFF_A1, WRONG_ACCEPTED, WRONG_ARRIVED, WRONG_CANCELLED, WRONG_CLEARED,
+    WRONG_DISCREPANT, WRONG_ENQUIRED, WRONG_RELEASED, WRONG_WRITTEN_OFF,
+};
+use super::exchanges::{A1, A1_LODGED, ExchangeAt, OPEN, OPENED, assert_replies_at};
+use super::first_requests::{REGISTER, SHOWN};
+use std::test::Fail;
+
+const AT: i64 = 1_740_819_600;
+
+/// 2025-03-15T00:00:00Z, from which on a movement may be asked after whose limit was 2025-03-08.
+const ENQUIRY: i64 = 1_741_996_800;
+
+// Moves that are refused change nothing; then come moves that are allowed.
+const ACCEPTED: &[ExchangeAt] = &[
+    (AT, REGISTER, SHOWN),
+    (AT, OPEN, OPENED),
+    (AT, A1, A1_LODGED),
+    (AT, ARRIVE_A1, WRONG_ACCEPTED),
+    (AT, CLEAR_A1, WRONG_ACCEPTED),
+    (AT, CLEAR_A1_AS_CONSIDERED, WRONG_ACCEPTED),
+    (AT, FIND_A1_DISCREPANT, WRONG_ACCEPTED),
+    (AT, WRITE_OFF_A1, WRONG_ACCEPTED),
+    (AT, WRITE_OFF_A1_BY_PROOF, WRONG_ACCEPTED),
+    (AT, ENQUIRE_A1, WRONG_ACCEPTED),
+    (AT, SEE_G1, G1_FREE),
+    (AT, RELEASE_A1, RELEASED_A1),
+];
+
+#[test]
+fn an_accepted_movement_is_released_or_cancelled_alone(rt: HostRuntime) -> Result<(), Fail> {
+    assert_replies_at(&rt, ACCEPTED)
+}
+
+const CANCELLED: &[ExchangeAt] = &[
+    (AT, REGISTER, SHOWN),
+    (AT, OPEN, OPENED),
+    (AT, A1, A1_LODGED),
+    (AT, CANCEL_A1, CANCELLED_A1),
+    (ENQUIRY, CANCEL_A1, WRONG_CANCELLED),
+    (ENQUIRY, RELEASE_A1, WRONG_CANCELLED),
+    (ENQUIRY, ARRIVE_A1, WRONG_CANCELLED),
+    (ENQUIRY, CLEAR_A1, WRONG_CANCELLED),
+    (ENQUIRY, CLEAR_A1_AS_CONSIDERED, WRONG_CANCELLED),
+    (ENQUIRY, FIND_A1_DISCREPANT, WRONG_CANCELLED),
+    (ENQUIRY, WRITE_OFF_A1, WRONG_CANCELLED),
+    (ENQUIRY, WRITE_OFF_A1_BY_PROOF, WRONG_CANCELLED),
+    (ENQUIRY, ENQUIRE_A1, WRONG_CANCELLED),
+    (ENQUIRY, SEE_G1, G1_FREE),
+];
+
+#[test]
+fn a_cancelled_movement_has_no_further_move(rt: HostRuntime) -> Result<(), Fail> {
+    assert_replies_at(&rt, CANCELLED)
+}
+
+const RELEASED: &[ExchangeAt] = &[
+    (AT, REGISTER, SHOWN),
+    (AT, OPEN, OPENED),
+    (AT, A1, A1_LODGED),
+    (AT, RELEASE_A1, RELEASED_A1),
+    (ENQUIRY, CANCEL_A1, WRONG_RELEASED),
+    (ENQUIRY, RELEASE_A1, WRONG_RELEASED),
+    (ENQUIRY, CLEAR_A1, WRONG_RELEASED),
+    (ENQUIRY, CLEAR_A1_AS_CONSIDERED, WRONG_RELEASED),
+    (ENQUIRY, FIND_A1_DISCREPANT, WRONG_RELEASED),
+    (ENQUIRY, WRITE_OFF_A1, WRONG_RELEASED),
+    (ENQUIRY, WRITE_OFF_A1_BY_PROOF, WRONG_RELEASED),
+    (ENQUIRY, SEE_G1, G1_HALF),
+    (ENQUIRY, ARRIVE_A1, ADVISED_A1_LATE),
+];
+
+#[test]
+fn a_released_movement_arrives_or_is_asked_after_alone(rt: HostRuntime) -> Result<(), Fail> {
+    assert_replies_at(&rt, RELEASED)
+}
+
+const ENQUIRED: &[ExchangeAt] = &[
+    (AT, REGISTER, SHOWN),
+    (AT, OPEN, OPENED),
+    (AT, A1, A1_LODGED),
+    (AT, RELEASE_A1, RELEASED_A1),
+    (ENQUIRY, ENQUIRE_A1, ENQUIRED_A1),
+    (ENQUIRY, CANCEL_A1, WRONG_ENQUIRED),
+    (ENQUIRY, RELEASE_A1, WRONG_ENQUIRED),
+    (ENQUIRY, CLEAR_A1, WRONG_ENQUIRED),
+    (ENQUIRY, CLEAR_A1_AS_CONSIDERED, WRONG_ENQUIRED),
+    (ENQUIRY, FIND_A1_DISCREPANT, WRONG_ENQUIRED),
+    (ENQUIRY, WRITE_OFF_A1, WRONG_ENQUIRED),
+    (ENQUIRY, ENQUIRE_A1, WRONG_ENQUIRED),
+    (ENQUIRY, SEE_G1, G1_HALF),
+    (ENQUIRY, ARRIVE_A1, ADVISED_A1_LATE),
+];
+
+#[test]
+fn an_enquired_movement_arrives_or_is_written_off_by_proof_alone(
+    rt: HostRuntime,
+) -> Result<(), Fail> {
+    assert_replies_at(&rt, ENQUIRED)
+}
+
+const ARRIVED: &[ExchangeAt] = &[
+    (AT, REGISTER, SHOWN),
+    (AT, OPEN, OPENED),
+    (AT, A1, A1_LODGED),
+    (AT, RELEASE_A1, RELEASED_A1),
+    (AT, ARRIVE_A1, ADVISED_A1),
+    (ENQUIRY, CANCEL_A1, WRONG_ARRIVED),
+    (ENQUIRY, RELEASE_A1, WRONG_ARRIVED),
+    (ENQUIRY, ARRIVE_A1, WRONG_ARRIVED),
+    (ENQUIRY, WRITE_OFF_A1, WRONG_ARRIVED),
+    (ENQUIRY, WRITE_OFF_A1_BY_PROOF, WRONG_ARRIVED),
+    (ENQUIRY, ENQUIRE_A1, WRONG_ARRIVED),
+    (ENQUIRY, SEE_G1, G1_HALF),
+    (ENQUIRY, CLEAR_A1_AS_CONSIDERED, CLEARED_A1),
+];
+
+#[test]
+fn an_arrived_movement_is_controlled_alone(rt: HostRuntime) -> Result<(), Fail> {
+    assert_replies_at(&rt, ARRIVED)
+}
+
+const DISCREPANT: &[ExchangeAt] = &[
+    (AT, REGISTER, SHOWN),
+    (AT, OPEN, OPENED),
+    (AT, A1, A1_LODGED),
+    (AT, RELEASE_A1, RELEASED_A1),
+    (AT, ARRIVE_A1, ADVISED_A1),
+    (AT, FIND_A1_DISCREPANT, DISCREPANT_A1),
+    (ENQUIRY, CANCEL_A1, WRONG_DISCREPANT),
+    (ENQUIRY, RELEASE_A1, WRONG_DISCREPANT),
+    (ENQUIRY, ARRIVE_A1, WRONG_DISCREPANT),
+    (ENQUIRY, WRITE_OFF_A1, WRONG_DISCREPANT),
+    (ENQUIRY, WRITE_OFF_A1_BY_PROOF, WRONG_DISCREPANT),
+    (ENQUIRY, ENQUIRE_A1, WRONG_DISCREPANT),
+    (ENQUIRY, SEE_G1, G1_HALF),
+    (ENQUIRY, FIND_A1_DISCREPANT, DISCREPANT_A1),
+    (ENQUIRY, CLEAR_A1_AS_CONSIDERED, CLEARED_A1),
+];
+
+#[test]
+fn a_discrepant_movement_is_controlled_again_alone(rt: HostRuntime) -> Result<(), Fail> {
+    assert_replies_at(&rt, DISCREPANT)
+}
+
+const CLEARED: &[ExchangeAt] = &[
+    (AT, REGISTER, SHOWN),
+    (AT, OPEN, OPENED),
+    (AT, A1, A1_LODGED),
+    (AT, RELEASE_A1, RELEASED_A1),
+    (AT, ARRIVE_A1, ADVISED_A1),
+    (AT, CLEAR_A1, CLEARED_A1),
+    (ENQUIRY, CANCEL_A1, WRONG_CLEARED),
+    (ENQUIRY, RELEASE_A1, WRONG_CLEARED),
+    (ENQUIRY, ARRIVE_A1, WRONG_CLEARED),
+    (ENQUIRY, CLEAR_A1, WRONG_CLEARED),
+    (ENQUIRY, CLEAR_A1_AS_CONSIDERED, WRONG_CLEARED),
+    (ENQUIRY, FIND_A1_DISCREPANT, WRONG_CLEARED),
+    (ENQUIRY, WRITE_OFF_A1_BY_PROOF, WRONG_CLEARED),
+    (ENQUIRY, ENQUIRE_A1, WRONG_CLEARED),
+    (ENQUIRY, SEE_G1, G1_HALF),
+    (ENQUIRY, WRITE_OFF_A1, WRITTEN_OFF_A1),
+];
+
+#[test]
+fn a_cleared_movement_is_written_off_by_results_alone(rt: HostRuntime) -> Result<(), Fail> {
+    assert_replies_at(&rt, CLEARED)
+}
+
+const WRITTEN_OFF: &[ExchangeAt] = &[
+    (AT, REGISTER, SHOWN),
+    (AT, OPEN, OPENED),
+    (AT, A1, A1_LODGED),
+    (AT, RELEASE_A1, RELEASED_A1),
+    (AT, ARRIVE_A1, ADVISED_A1),
+    (AT, CLEAR_A1, CLEARED_A1),
+    (AT, WRITE_OFF_A1, WRITTEN_OFF_A1),
+    (ENQUIRY, CANCEL_A1, WRONG_WRITTEN_OFF),
+    (ENQUIRY, RELEASE_A1, WRONG_WRITTEN_OFF),
+    (ENQUIRY, ARRIVE_A1, WRONG_WRITTEN_OFF),
+    (ENQUIRY, CLEAR_A1, WRONG_WRITTEN_OFF),
+    (ENQUIRY, CLEAR_A1_AS_CONSIDERED, WRONG_WRITTEN_OFF),
+    (ENQUIRY, FIND_A1_DISCREPANT, WRONG_WRITTEN_OFF),
+    (ENQUIRY, WRITE_OFF_A1, WRONG_WRITTEN_OFF),
+    (ENQUIRY, WRITE_OFF_A1_BY_PROOF, WRONG_WRITTEN_OFF),
+    (ENQUIRY, ENQUIRE_A1, WRONG_WRITTEN_OFF),
+    (ENQUIRY, SEE_G1, G1_FREE),
+];
+
+#[test]
+fn a_written_off_movement_has_no_further_move(rt: HostRuntime) -> Result<(), Fail> {
+    assert_replies_at(&rt, WRITTEN_OFF)
+}
