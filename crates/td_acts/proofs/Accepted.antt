@@ -15,11 +15,11 @@ use Rattle.td_guarantee.specs.declared.guarantee.Guarantee.{Guarantee}
 use Rattle.td_movement.specs.declared.movement.Movement.{Movement}
 use Rattle.td_acts.specs.declared.rows.Change.{Change}
 use Rattle.td_acts.specs.declared.rows.Change.TheVariants as change
-use Rattle.td_acts.specs.declared.said.Answer.{Answer}
-use Rattle.td_acts.specs.declared.said.Refusal.{Refusal}
-use Rattle.td_acts.specs.declared.said.Refusal.TheVariants.{ClockBack, SerialsSpent, NoMovement, NoGuarantee, WrongState}
-use Rattle.td_acts.specs.declared.said.Said.{Said}
-use Rattle.td_acts.specs.declared.said.Said.TheVariants.{Answered, Refused}
+use Rattle.td_commands.specs.declared.said.Answer.{Answer}
+use Rattle.td_commands.specs.declared.said.Refusal.{Refusal}
+use Rattle.td_commands.specs.declared.said.Refusal.TheVariants.{ClockBack, SerialsSpent, NoMovement, NoGuarantee, WrongState}
+use Rattle.td_commands.specs.declared.said.Said.{Said}
+use Rattle.td_commands.specs.declared.said.Said.TheVariants.{Answered, Refused}
 use Rattle.td_movement.specs.declared.moves.Move.{Move}
 use Rattle.td_movement.specs.Moves.{state_after}
 use Rattle.td_acts.specs.declared.rows.NewStatus.{NewStatus}
@@ -29,7 +29,7 @@ use Rattle.td_acts.specs.Account.{Account, ReferencesDiffer, coded, uncoded, gua
 use Rattle.td_acts.specs.Changes.{with_status, with_terms, moved}
 use Rattle.td_acts.specs.Acceptance.{is_answer}
 use Rattle.td_acts.specs.Declaring.{first_refusal, line_refusal, guarantee_refusal, refusal_or}
-use Rattle.td_acts.specs.Lines.{line_of, IsLines, IsLineAmount}
+use Rattle.td_commands.specs.Lines.{line_of, IsLines, IsLineAmount}
 use Rattle.td_acts.specs.Table.{or_refuse, refuse_if, is_back, if_lrn_new, if_not_refused, on_guarantee, on_movement, stands}
 use Rattle.td_guarantee.specs.Codes.{with_code, without_code}
 use Rattle.td_guarantee.proofs.Ascending.{one_ascends}

@@ -7,10 +7,10 @@ use Rattle.td_guarantee.specs.declared.guarantee.Guarantee.{Guarantee}
 use Rattle.td_movement.specs.declared.movement.Movement.{Movement}
 use Rattle.td_acts.specs.declared.rows.HolderRow.{HolderRow}
 use Rattle.td_acts.specs.declared.rows.Change.TheVariants as change
-use Rattle.td_acts.specs.declared.command.Command.{Command}
+use Rattle.td_commands.specs.declared.command.Command.{Command}
 use Rattle.td_acts.specs.Account.{Account, empty_account}
 use Rattle.td_acts.specs.Acceptance.{is_accepted_at}
-use Rattle.td_acts.specs.Commands.{owner_of, IsProper}
+use Rattle.td_commands.specs.Commands.{owner_of, IsProper}
 use Rattle.td_acts.specs.Deciding.{change_at, change_in}
 use Rattle.td_acts.specs.Deciding.{change_of}
 use Rattle.td_acts.proofs.Accepted.{IsFor}

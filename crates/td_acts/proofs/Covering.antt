@@ -11,8 +11,8 @@ use Rattle.td_movement.specs.States.{is_counting}
 use Rattle.td_guarantee.specs.Terms.{has_ended, is_within}
 use Rattle.td_guarantee.specs.Usage.{cents_on, lines_on, used_on}
 use Rattle.td_acts.specs.declared.rows.NewStatus.{NewStatus}
-use Rattle.td_acts.specs.declared.said.Refusal.{Refusal}
-use Rattle.td_acts.specs.declared.said.Refusal.TheVariants.{GuaranteeEnded, OverReference}
+use Rattle.td_commands.specs.declared.said.Refusal.{Refusal}
+use Rattle.td_commands.specs.declared.said.Refusal.TheVariants.{GuaranteeEnded, OverReference}
 use Rattle.td_acts.specs.Account.{Account, ReferencesDiffer, entry_in, guarantee_by_grn, movement_by_mrn}
 use Rattle.td_acts.specs.Changes.{moved}
 use Rattle.td_acts.specs.Sound.{IsCovered}

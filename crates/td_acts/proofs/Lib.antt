@@ -1,6 +1,5 @@
 pub mod Joined
 pub mod Told
-pub mod Earlier
 pub mod Lodging
 pub mod Machines
 pub mod Cover

@@ -13,15 +13,15 @@ use Rattle.td_movement.specs.declared.movement.Movement.{Movement}
 use Rattle.td_movement.specs.declared.state.State.TheVariants.{Accepted}
 use Rattle.td_acts.specs.declared.rows.Change.TheVariants as change
 use Rattle.td_acts.specs.declared.rows.Verdict.{Verdict}
-use Rattle.td_acts.specs.declared.command.Command.TheVariants.{Ie015}
-use Rattle.td_acts.specs.declared.said.Answer.TheVariants as answer
-use Rattle.td_acts.specs.declared.said.Refusal.{Refusal}
-use Rattle.td_acts.specs.declared.said.Said.TheVariants.{Answered, Refused}
+use Rattle.td_commands.specs.declared.command.Command.TheVariants.{Ie015}
+use Rattle.td_commands.specs.declared.said.Answer.TheVariants as answer
+use Rattle.td_commands.specs.declared.said.Refusal.{Refusal}
+use Rattle.td_commands.specs.declared.said.Said.TheVariants.{Answered, Refused}
 use Rattle.td_acts.specs.Account.{guarantee_by_grn, movement_by_lrn}
 use Rattle.td_acts.specs.Effects.{year2_at}
 use Rattle.td_acts.specs.Declaring.{first_refusal, guarantee_refusal, refusal_or}
 use Rattle.td_acts.specs.Deciding.{decision_at, entry_by_grn}
-use Rattle.td_acts.specs.Lines.{line_of}
+use Rattle.td_commands.specs.Lines.{line_of}
 use Rattle.td_acts.specs.Serials.{next_serial}
 
 -- a guarantee is found as its entry is

@@ -1,6 +1,6 @@
 -- What one more command does to a machine's list and its book.
 use Rattle.std.proofs.Common.{◌≡◌, ℕ, List, [], ◌∷◌, ◌++◌, refl, ap}
-use Rattle.td_acts.specs.declared.command.Stamped.{Stamped}
+use Rattle.td_commands.specs.declared.command.Stamped.{Stamped}
 use Rattle.td_acts.specs.Book.{Book}
 use Rattle.td_acts.specs.Machine.{verdict, book_after, machine_says, machine_book}
 

@@ -1,11 +1,11 @@
 -- What is said decides what is changed.
 use Rattle.std.proofs.Common.{◌≡◌, ℕ, Bool, true, false, List, Option, Some, None, refl, sym, ◌∙◌, ap, ap₂}
 use Rattle.std.specs.Prelude.{◌&&◌, not, if◌then◌else◌, option_map}
-use Rattle.td_acts.specs.declared.command.Command.{Command}
-use Rattle.td_acts.specs.declared.said.Answer.{Answer}
-use Rattle.td_acts.specs.declared.said.Refusal.{Refusal}
-use Rattle.td_acts.specs.declared.said.Said.{Said}
-use Rattle.td_acts.specs.declared.said.Said.TheVariants.{Answered, Refused}
+use Rattle.td_commands.specs.declared.command.Command.{Command}
+use Rattle.td_commands.specs.declared.said.Answer.{Answer}
+use Rattle.td_commands.specs.declared.said.Refusal.{Refusal}
+use Rattle.td_commands.specs.declared.said.Said.{Said}
+use Rattle.td_commands.specs.declared.said.Said.TheVariants.{Answered, Refused}
 use Rattle.td_acts.specs.declared.rows.Change.{Change}
 use Rattle.td_acts.specs.declared.rows.Change.TheVariants.{Nothing, Moved}
 use Rattle.td_acts.specs.declared.rows.Verdict.{Verdict}
@@ -16,7 +16,7 @@ use Rattle.td_movement.specs.declared.moves.Move.{Move}
 use Rattle.td_guarantee.specs.declared.guarantee.Guarantee.{Guarantee}
 use Rattle.td_guarantee.specs.Usage.{used_on}
 use Rattle.td_acts.specs.Account.{Account, entry_in, guarantee_by_grn, movement_by_mrn}
-use Rattle.td_acts.specs.Commands.{is_changing}
+use Rattle.td_commands.specs.Commands.{is_changing}
 use Rattle.td_acts.specs.Acceptance.{is_answer, has_known_lrn}
 use Rattle.td_acts.specs.Deciding.{change_of, decision_at, if_row, touched}
 use Rattle.td_acts.specs.Table.{said_at, on_guarantee, on_movement}

@@ -2,12 +2,12 @@
 use Rattle.std.specs.Prelude.{ℕ, ℤ, Option, Some, None, Bool, true, false, ◌&&◌, not}
 use Rattle.std.specs.Option.{is_some}
 use Rattle.td_base.specs.Moment.{moment_of}
-use Rattle.td_acts.specs.declared.command.Command.{Command}
-use Rattle.td_acts.specs.declared.command.Command.TheVariants.{Ie015}
-use Rattle.td_acts.specs.declared.said.Said.{Said}
-use Rattle.td_acts.specs.declared.said.Said.TheVariants.{Answered, Refused}
+use Rattle.td_commands.specs.declared.command.Command.{Command}
+use Rattle.td_commands.specs.declared.command.Command.TheVariants.{Ie015}
+use Rattle.td_commands.specs.declared.said.Said.{Said}
+use Rattle.td_commands.specs.declared.said.Said.TheVariants.{Answered, Refused}
 use Rattle.td_acts.specs.Account.{Account, movement_by_lrn}
-use Rattle.td_acts.specs.Commands.{is_changing}
+use Rattle.td_commands.specs.Commands.{is_changing}
 use Rattle.td_acts.specs.Table.{said_at}
 
 abbrev pub is_answer : Said → Bool

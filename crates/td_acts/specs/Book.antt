@@ -6,7 +6,7 @@ use Rattle.std.specs.Option.{option_map, option_map_or, option_or}
 use Rattle.td_acts.specs.declared.rows.HolderRow.{HolderRow}
 use Rattle.td_guarantee.specs.declared.guarantee.Guarantee.{Guarantee}
 use Rattle.td_movement.specs.declared.movement.Movement.{Movement}
-use Rattle.td_acts.specs.declared.command.Command.{Command}
+use Rattle.td_commands.specs.declared.command.Command.{Command}
 use Rattle.td_acts.specs.Account.{Account}
 use Rattle.td_acts.specs.Effects.{eori_given, openings, declarations, opened_by, declared_by, guarantee_said, movement_said}
 

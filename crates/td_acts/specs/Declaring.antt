@@ -6,8 +6,8 @@ use Rattle.std.specs.Cmp.Lexicographic.{pointwise}
 use Rattle.td_movement.specs.declared.line.Line.{Line}
 use Rattle.td_guarantee.specs.declared.guarantee.Guarantee.{Guarantee}
 use Rattle.td_movement.specs.declared.movement.Movement.{Movement}
-use Rattle.td_acts.specs.declared.said.Refusal.{Refusal}
-use Rattle.td_acts.specs.declared.said.Refusal.TheVariants.{NoGuarantee, BadCode, GuaranteeEnded}
+use Rattle.td_commands.specs.declared.said.Refusal.{Refusal}
+use Rattle.td_commands.specs.declared.said.Refusal.TheVariants.{NoGuarantee, BadCode, GuaranteeEnded}
 use Rattle.td_guarantee.specs.Terms.{has_ended}
 use Rattle.td_acts.specs.Account.{guarantee_by_grn}
 

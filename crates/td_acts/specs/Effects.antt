@@ -8,10 +8,10 @@ use Rattle.td_movement.specs.declared.state.State.{State}
 use Rattle.td_movement.specs.declared.state.State.TheVariants.{Cancelled, Released, Enquired, Arrived, Discrepant, Cleared, WrittenOff}
 use Rattle.td_movement.specs.declared.state.Control.{Control}
 use Rattle.td_movement.specs.declared.state.Control.TheVariants.{A1, A2, B1}
-use Rattle.td_acts.specs.declared.command.Command.{Command}
-use Rattle.td_acts.specs.declared.command.Command.TheVariants.{Register, OpenGuarantee, Amend, Revoke, Ie015, Ie014, AddCode, RemoveCode, Ie029, Ie007, Ie018, Ie045, Ie140}
+use Rattle.td_commands.specs.declared.command.Command.{Command}
+use Rattle.td_commands.specs.declared.command.Command.TheVariants.{Register, OpenGuarantee, Amend, Revoke, Ie015, Ie014, AddCode, RemoveCode, Ie029, Ie007, Ie018, Ie045, Ie140}
 use Rattle.td_acts.specs.Account.{at_grn, at_mrn, coded, uncoded}
-use Rattle.td_acts.specs.Lines.{line_of}
+use Rattle.td_commands.specs.Lines.{line_of}
 use Rattle.td_acts.specs.NewRows.{new_guarantee, new_movement}
 
 -- the EORI under which the command registers the holder

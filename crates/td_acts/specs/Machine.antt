@@ -2,11 +2,11 @@
 -- book so far. Nothing of any other holder takes part.
 use Rattle.std.specs.Prelude.{◌≡◌, ℕ, ℤ, true, List, [], ◌∷◌, ◌++◌, Option, Some, None, if◌then◌else◌}
 use Rattle.td_base.specs.Moment.{moment_of}
-use Rattle.td_acts.specs.declared.command.Command.{Command}
-use Rattle.td_acts.specs.declared.command.Stamped.{Stamped}
-use Rattle.td_acts.specs.declared.said.Said.{Said}
+use Rattle.td_commands.specs.declared.command.Command.{Command}
+use Rattle.td_commands.specs.declared.command.Stamped.{Stamped}
+use Rattle.td_commands.specs.declared.said.Said.{Said}
 use Rattle.td_acts.specs.Book.{Act, Book, account_of, fresh_book}
-use Rattle.td_acts.specs.Commands.{owner_of}
+use Rattle.td_commands.specs.Commands.{owner_of}
 use Rattle.td_acts.specs.Table.{said}
 use Rattle.td_acts.specs.Acceptance.{is_accepted_at}
 

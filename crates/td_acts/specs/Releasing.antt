@@ -3,8 +3,8 @@ use Rattle.std.specs.Prelude.{ℕ, ◌+◌, ◌-◌, nat_le, Bool, ◌&&◌, if�
 use Rattle.td_movement.specs.declared.line.Line.{Line}
 use Rattle.td_guarantee.specs.declared.guarantee.Guarantee.{Guarantee}
 use Rattle.td_guarantee.specs.Terms.{has_ended, is_within}
-use Rattle.td_acts.specs.declared.said.Refusal.{Refusal}
-use Rattle.td_acts.specs.declared.said.Refusal.TheVariants.{NoGuarantee, GuaranteeEnded, OverReference}
+use Rattle.td_commands.specs.declared.said.Refusal.{Refusal}
+use Rattle.td_commands.specs.declared.said.Refusal.TheVariants.{NoGuarantee, GuaranteeEnded, OverReference}
 use Rattle.td_acts.specs.Declaring.{refusal_or}
 
 -- the limit is from the day itself to the 365th day after

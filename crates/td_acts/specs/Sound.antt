@@ -16,7 +16,7 @@ use Rattle.td_acts.specs.declared.rows.HolderRow.{HolderRow}
 use Rattle.td_guarantee.specs.declared.guarantee.Guarantee.{Guarantee}
 use Rattle.td_movement.specs.declared.movement.Movement.{Movement}
 use Rattle.td_acts.specs.Account.{HolderRows, guarantee_by_grn}
-use Rattle.td_acts.specs.Lines.{IsLineAmount}
+use Rattle.td_commands.specs.Lines.{IsLineAmount}
 
 -- the columns of a holder's row are in their ranges
 pub record IsHolderRow (row : HolderRow) : Type 0 where

@@ -19,17 +19,17 @@ use Rattle.td_movement.specs.declared.state.Control.{Control}
 use Rattle.td_movement.specs.declared.state.Ground.{Ground}
 use Rattle.td_movement.specs.Times.{enquiry_is_open}
 use Rattle.td_guarantee.specs.declared.guarantee.Guarantee.{Guarantee}
-use Rattle.td_acts.specs.declared.command.Command.{Command}
-use Rattle.td_acts.specs.declared.command.Command.TheVariants.{Register, OpenGuarantee, Amend, Revoke, Ie015, Ie014, AddCode, RemoveCode, Ie029, Ie007, Ie018, Ie045, Ie140, SeeHolder, SeeMovement, SeeMovements, SeeGuarantee, SeeGuarantees}
-use Rattle.td_acts.specs.declared.said.Answer.TheVariants as answer
-use Rattle.td_acts.specs.declared.said.Refusal.{Refusal}
-use Rattle.td_acts.specs.declared.said.Refusal.TheVariants.{ClockRange, NoHolder, HolderKnown, ClockBack, NoMovement, NoGuarantee, LrnUsed, SerialsSpent, WrongState, BelowUse, LimitDate, TooEarly, CodeKnown, NoCode, LastCode, CodesFull, AlreadyEnded}
-use Rattle.td_acts.specs.declared.said.Said.{Said}
-use Rattle.td_acts.specs.declared.said.Said.TheVariants.{Answered, Refused}
+use Rattle.td_commands.specs.declared.command.Command.{Command}
+use Rattle.td_commands.specs.declared.command.Command.TheVariants.{Register, OpenGuarantee, Amend, Revoke, Ie015, Ie014, AddCode, RemoveCode, Ie029, Ie007, Ie018, Ie045, Ie140, SeeHolder, SeeMovement, SeeMovements, SeeGuarantee, SeeGuarantees}
+use Rattle.td_commands.specs.declared.said.Answer.TheVariants as answer
+use Rattle.td_commands.specs.declared.said.Refusal.{Refusal}
+use Rattle.td_commands.specs.declared.said.Refusal.TheVariants.{ClockRange, NoHolder, HolderKnown, ClockBack, NoMovement, NoGuarantee, LrnUsed, SerialsSpent, WrongState, BelowUse, LimitDate, TooEarly, CodeKnown, NoCode, LastCode, CodesFull, AlreadyEnded}
+use Rattle.td_commands.specs.declared.said.Said.{Said}
+use Rattle.td_commands.specs.declared.said.Said.TheVariants.{Answered, Refused}
 use Rattle.td_acts.specs.Account.{Account, coded, uncoded, entry_in, guarantee_by_grn, movement_by_mrn, movement_by_lrn}
-use Rattle.td_acts.specs.declared.lists.ListedMovement.{ListedMovement}
+use Rattle.td_commands.specs.declared.lists.ListedMovement.{ListedMovement}
 use Rattle.td_acts.specs.Effects.{year2_at, amended, end_after, judged}
-use Rattle.td_acts.specs.Lines.{line_of}
+use Rattle.td_commands.specs.Lines.{line_of}
 use Rattle.td_acts.specs.Declaring.{has_contents, first_refusal}
 use Rattle.td_acts.specs.Releasing.{is_limit, first_uncovered}
 

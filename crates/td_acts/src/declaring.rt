@@ -7,14 +7,12 @@ ghost use Rattle.td_acts.specs.Table.{if_lrn_new};
 ghost use Rattle.td_acts.specs.Declaring.{has_contents, guarantee_refusal, first_refusal};
 ghost use Rattle.td_acts.specs.Deciding.{IsVerdictAt};
 
-use crate::command::Command;
 use crate::finding::{find_entry, find_movement_by_lrn};
-use crate::lines::Lines;
 use crate::rows::{Change, HolderRow, Loaded, Verdict};
-use crate::said::{Answer, Refusal, Said};
 use crate::serials::next_mrn;
 use std::alloc::{AllocError, Global};
 use td_base::{AccessCode, Cents, Day, HolderNo, Lrn, Moment, Mrn, OfficeNo};
+use td_commands::{Answer, Command, Lines, Refusal, Said};
 use td_guarantee::{Guarantee, ended};
 use td_movement::{Line, Movement, MovementLines, State};
 

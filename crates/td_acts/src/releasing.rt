@@ -3,12 +3,11 @@ ghost use Rattle.std.specs.Prelude.{◌≡◌, ◌-◌};
 ghost use Rattle.td_acts.specs.Deciding.{IsVerdictAt, entry_by_grn};
 ghost use Rattle.td_acts.specs.Releasing.{cover_refusal, first_uncovered, is_limit};
 
-use crate::command::Command;
 use crate::finding::find_entry;
 use crate::moving::find_moving;
 use crate::rows::{Loaded, NewStatus, Verdict};
-use crate::said::{Answer, Refusal};
 use td_base::{Cents, Day, Moment, Mrn};
+use td_commands::{Answer, Command, Refusal};
 use td_guarantee::{Guarantee, ended, fits};
 use td_movement::{Line, Move};
 

@@ -1,9 +1,9 @@
 //! The rows of one holder, and the rows that a verdict writes.
 ghost use Rattle.std.specs.Prelude.{◌≡◌};
 
-use crate::said::{Answer, Refusal, Said};
 use std::alloc::Global;
 use td_base::{AccessCode, Cents, Country, Cover, Day, Eori, Grn, HolderNo, Moment, Mrn, OfficeNo};
+use td_commands::{Answer, Refusal, Said};
 use td_guarantee::Guarantee;
 use td_movement::{Movement, State};
 
@@ -35,7 +35,7 @@ pub struct Loaded {
 
 impl Loaded {
     ghost use Rattle.td_acts.specs.Account.{empty_account};
-    ghost use Rattle.td_acts.specs.Commands.{Need};
+    ghost use Rattle.td_commands.specs.Commands.{Need};
     ghost use Rattle.td_acts.specs.Deciding.{IsLoaded};
 
     /// What is loaded of a number that isn't registered, and for a command that nobody owns.

@@ -2,12 +2,10 @@
 ghost use Rattle.std.specs.Prelude.{◌≡◌, ℕ, IfOk};
 ghost use Rattle.td_acts.specs.Deciding.{IsVerdict, IsVerdictAt};
 
-use crate::command::Command;
 use crate::declaring::{Declaration, lodge};
 use crate::moving::{arrive, cancel, enquire, judge, write_off};
 use crate::releasing::release;
 use crate::rows::{Change, HolderRow, Loaded, Verdict};
-use crate::said::{Answer, Refusal, Said};
 use crate::serials::next_grn;
 use crate::terms::{add_code, amend, remove_code, revoke};
 use crate::views::{
@@ -15,6 +13,7 @@ use crate::views::{
 };
 use std::alloc::{AllocError, Global};
 use td_base::{AccessCode, Cover, Eori, HolderNo, Moment, Reference};
+use td_commands::{Answer, Command, Refusal, Said};
 use td_guarantee::{Codes, Guarantee};
 
 /// The verdict on a command at a number of seconds since 1970, over what was loaded of its owner's rows.

@@ -1,19 +1,18 @@
 //! What changes the terms and the access codes of a guarantee.
 ghost use Rattle.std.specs.Prelude.{◌≡◌, Some, option_map, IfOk, MatchResult};
 ghost use Rattle.td_guarantee.specs.declared.guarantee.Guarantee.{Guarantee};
-ghost use Rattle.td_acts.specs.declared.said.Said.{Said};
-ghost use Rattle.td_acts.specs.declared.said.Said.TheVariants.{Refused};
+ghost use Rattle.td_commands.specs.declared.said.Said.{Said};
+ghost use Rattle.td_commands.specs.declared.said.Said.TheVariants.{Refused};
 ghost use Rattle.td_acts.specs.Deciding.{IsVerdictAt, entry_by_grn, touched};
 ghost use Rattle.td_acts.specs.Effects.{end_after};
 ghost use Rattle.td_acts.specs.Table.{on_guarantee};
 ghost use Rattle.td_base.specs.Days.{day_of_moment};
 
-use crate::command::Command;
 use crate::finding::find_entry;
 use crate::rows::{Change, HolderRow, Loaded, NewTerms, Verdict};
-use crate::said::{Answer, Refusal, Said};
 use std::alloc::{AllocError, Global};
 use td_base::{AccessCode, Cents, Cover, Day, Grn, HolderNo, Moment, Reference};
+use td_commands::{Answer, Command, Refusal, Said};
 use td_guarantee::Guarantee;
 
 /// The most access codes of a guarantee.

@@ -280,22 +280,6 @@ fn views_are_decided(rt: HostRuntime) -> Result<(), Fail> {
 }
 
 #[test]
-fn commands_have_owners(rt: HostRuntime) -> Result<(), Fail> {
-    let country = Country::read(b"CH").ok_or("a country")?;
-    let command = declaration(rt.alloc())?;
-    assert!(rt; owner(country, &command) == HolderNo::new(1) && known(&command));
-    let movement = Subject::Movement(Mrn::read(A1)?);
-    assert!(rt; movement.owner(country) == HolderNo::new(1));
-    let guarantee = Subject::Guarantee(Grn::read(G1)?);
-    assert!(rt;
-        guarantee
-            .owner(Country::read(b"DE").ok_or("a country")?)
-            .is_none()
-    );
-    Ok(())
-}
-
-#[test]
 fn laws_hold() {
     writes_what_is_accepted();
     writes_what_the_book_says();
@@ -320,14 +304,5 @@ fn is_movement_found(alloc: Global) -> Result<bool, Fail> {
 fn rows_are_found(rt: HostRuntime) -> Result<(), Fail> {
     assert!(rt; is_guarantee_found(rt.alloc())?);
     assert!(rt; is_movement_found(rt.alloc())?);
-    Ok(())
-}
-
-#[test]
-fn lines_are_taken(rt: HostRuntime) -> Result<(), Fail> {
-    assert!(rt; Lines::new(Vec::new(rt.alloc())).is_none());
-    let lines = lines(rt.alloc())?;
-    assert!(rt; lines.as_slice().len() == 1);
-    assert!(rt; lines.without_codes(rt.alloc())?.as_slice().len() == 1);
     Ok(())
 }

@@ -3,13 +3,13 @@ ghost use Rattle.std.specs.Prelude.{◌≡◌, ℕ, IfOk, map};
 ghost use Rattle.td_acts.specs.Deciding.{IsVerdictAt};
 ghost use Rattle.td_acts.specs.Table.{listed};
 
-use crate::command::Command;
 use crate::finding::{find_entry, find_movement_by_mrn};
-use crate::lists::{ListedGuarantees, ListedMovement, ListedMovements};
 use crate::rows::{Change, HolderRow, Loaded, Verdict};
-use crate::said::{Answer, Refusal, Said};
 use std::alloc::{AllocError, Global};
 use td_base::{Cents, Grn, HolderNo, Mrn};
+use td_commands::{
+    Answer, Command, ListedGuarantees, ListedMovement, ListedMovements, Refusal, Said,
+};
 use td_guarantee::Guarantee;
 use td_movement::Movement;
 

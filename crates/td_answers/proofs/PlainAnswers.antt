@@ -15,9 +15,9 @@ use Rattle.td_base.specs.References.{IsGrn, IsMrn}
 use Rattle.td_movement.specs.States.{state_name}
 use Rattle.td_movement.specs.declared.state.State.{State}
 use Rattle.td_movement.specs.declared.state.State.TheVariants.{Cancelled, Enquired, WrittenOff}
-use Rattle.td_acts.specs.declared.said.Answer.TheVariants.{Holder, Opened, Revoked, Ie028, Ie014, Ie029, Ie006, Ie018, Ie045, Ie140}
-use Rattle.td_acts.specs.declared.said.Refusal.TheVariants.{OverReference}
-use Rattle.td_acts.specs.declared.said.Said.TheVariants.{Answered, Refused}
+use Rattle.td_commands.specs.declared.said.Answer.TheVariants.{Holder, Opened, Revoked, Ie028, Ie014, Ie029, Ie006, Ie018, Ie045, Ie140}
+use Rattle.td_commands.specs.declared.said.Refusal.TheVariants.{OverReference}
+use Rattle.td_commands.specs.declared.said.Said.TheVariants.{Answered, Refused}
 use Rattle.td_answers.specs.Answers.{answer_body, said_body, state_data}
 use Rattle.td_answers.specs.Objects.{truth_body}
 use Rattle.td_answers.specs.Refusals.{refusal_body}

@@ -16,7 +16,7 @@ use Rattle.td_base.specs.Days.{day_text, year_of, month_of, day_of}
 use Rattle.td_base.specs.Digits.{fixed_decimal}
 use Rattle.td_base.specs.Letters.{IsMark}
 use Rattle.td_base.specs.References.{IsGrn, IsMrn}
-use Rattle.td_acts.specs.declared.lists.ListedMovement.{ListedMovement}
+use Rattle.td_commands.specs.declared.lists.ListedMovement.{ListedMovement}
 use Rattle.td_guarantee.specs.declared.guarantee.Guarantee.{Guarantee}
 use Rattle.td_movement.specs.States.{state_name}
 use Rattle.td_movement.specs.declared.line.Line.{Line}

@@ -7,18 +7,18 @@ use Rattle.td_base.specs.Days.{day_text}
 use Rattle.td_base.specs.Holder.{holder_text}
 use Rattle.td_movement.specs.States.{state_name}
 use Rattle.td_movement.specs.declared.state.State.TheVariants.{Cancelled, Released, Enquired, WrittenOff}
-use Rattle.td_acts.specs.declared.said.Answer.{Answer}
-use Rattle.td_acts.specs.declared.said.Answer.TheVariants.{Holder, Opened, Revoked, Ie028, Ie014, Ie029, Ie006, Ie018, Ie045, Ie140, Movement, Movements, Guarantee, Guarantees}
-use Rattle.td_acts.specs.declared.said.Said.{Said}
-use Rattle.td_acts.specs.declared.said.Said.TheVariants.{Answered, Refused}
-use Rattle.td_routes.specs.Faults.{fault_allow, fault_name, field_name, reason_text}
+use Rattle.td_commands.specs.declared.said.Answer.{Answer}
+use Rattle.td_commands.specs.declared.said.Answer.TheVariants.{Holder, Opened, Revoked, Ie028, Ie014, Ie029, Ie006, Ie018, Ie045, Ie140, Movement, Movements, Guarantee, Guarantees}
+use Rattle.td_commands.specs.declared.said.Said.{Said}
+use Rattle.td_commands.specs.declared.said.Said.TheVariants.{Answered, Refused}
+use Rattle.td_fields.specs.Faults.{fault_allow, fault_name, field_name, reason_text}
 use Rattle.td_answers.specs.Objects.{guarantee_body, guarantee_data, guarantees_body, guarantees_data, movement_body, movement_data, movements_body, movements_data, truth_body}
 use Rattle.td_answers.specs.Refusals.{error_data, refusal_data, refusal_status}
 use Rattle.td_wire.specs.ReplyText.{reply_text}
 use Rattle.td_base.specs.declared.references.RefFault.TheVariants.{Length, Form, CheckDigit}
-use Rattle.td_routes.specs.declared.fault.Field.TheVariants as field
-use Rattle.td_routes.specs.declared.fault.WebFault.{WebFault}
-use Rattle.td_routes.specs.declared.fault.WebFault.TheVariants.{NoRoute, NoMethod, BadHolder, BadMrn, BadGrn, BadBody, BadField, NoMemory}
+use Rattle.td_fields.specs.declared.fault.Field.TheVariants as field
+use Rattle.td_fields.specs.declared.fault.WebFault.{WebFault}
+use Rattle.td_fields.specs.declared.fault.WebFault.TheVariants.{NoRoute, NoMethod, BadHolder, BadMrn, BadGrn, BadBody, BadField, NoMemory}
 
 -- what is told of a holder
 abbrev pub holder_data : List ℕ → ℕ → List ℕ → ℕ → Data

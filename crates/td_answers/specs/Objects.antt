@@ -7,7 +7,7 @@ use Rattle.serde_json.specs.Data.{Data, number, unsigned, string, object, member
 use Rattle.serde_json.specs.Written.{compact_text}
 use Rattle.td_base.specs.Days.{day_text}
 use Rattle.td_base.specs.Money.{share_of}
-use Rattle.td_acts.specs.declared.lists.ListedMovement.{ListedMovement}
+use Rattle.td_commands.specs.declared.lists.ListedMovement.{ListedMovement}
 use Rattle.td_guarantee.specs.declared.guarantee.Guarantee.{Guarantee}
 use Rattle.td_movement.specs.States.{state_name}
 use Rattle.td_movement.specs.declared.line.Line.{Line}

@@ -8,8 +8,8 @@ ghost use Rattle.td_answers.specs.Objects.{IsGuaranteeTold, IsMovementTold, guar
 use crate::json::{Json, ToJson};
 use crate::objects::{guarantee_is_told_in, is_mrn, write_guarantee};
 use std::fmt;
-use td_acts::{ListedGuarantees, ListedMovement, ListedMovements};
 use td_base::Cents;
+use td_commands::{ListedGuarantees, ListedMovement, ListedMovements};
 use td_guarantee::Guarantee;
 
 impl ToJson for ListedMovement {

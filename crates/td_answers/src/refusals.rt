@@ -2,7 +2,7 @@
 #![tactic(auto, unfolding(serde_json::proofs::OnLiterals::serde_json_on_literals))]
 
 ghost use Rattle.std.specs.Prelude.{◌≡◌};
-ghost use Rattle.td_acts.specs.declared.said.Said.TheVariants.{Refused};
+ghost use Rattle.td_commands.specs.declared.said.Said.TheVariants.{Refused};
 ghost use Rattle.td_answers.specs.Answers.{said_body};
 ghost use Rattle.td_answers.specs.Refusals.{refusal_body, refusal_data, refusal_status};
 
@@ -10,7 +10,7 @@ use crate::json::{Json, ToJson};
 use crate::objects::is_grn;
 use http::StatusCode;
 use std::fmt;
-use td_acts::Refusal;
+use td_commands::Refusal;
 
 impl ToJson for Refusal {
     ghost shown = { refusal_data };

@@ -9,10 +9,10 @@ use crate::{answer_is_told_in, fault_bytes, fault_is_told_in, refusal_is_told_in
 use std::alloc::Global;
 use std::process::Abort;
 use std::test::Fail;
-use td_acts::Said;
 use td_base::{AccessCode, Cents, Cover, Day, Grn};
+use td_commands::Said;
+use td_fields::WebFault;
 use td_guarantee::{Codes, Guarantee};
-use td_routes::WebFault;
 
 // This is the whole reply to what is said. `close` tells that the stream stops after it.
 fn says(rt: &impl Abort, alloc: Global, said: Said, close: bool, reply: &str) -> Result<(), Fail> {

@@ -3,7 +3,6 @@ mod Readers
 mod Filled
 mod Sums
 mod Ascii
-mod Amounts
 mod ReferenceParts
 mod Owners
 pub mod Checked

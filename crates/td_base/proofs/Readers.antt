@@ -12,7 +12,6 @@ use Rattle.td_base.specs.Codes.{IsAccessCode, IsOfficeNo, IsLrn, IsLrnCharacter,
 use Rattle.td_base.specs.Country.{IsCountry, is_country}
 use Rattle.td_base.specs.Eori.{IsEori, is_eori}
 use Rattle.td_base.specs.Holder.{IsHolderNumber, IsHolderText, is_holder_number, is_holder_text, holder_read}
-use Rattle.td_base.specs.Money.{IsCentsText, IsWhole, is_cents_text, is_whole, cents_read, cents_value, point_of}
 use Rattle.td_base.specs.References.{front_of, country_of, identifier_of, HasForm, HasCheckDigit, IsReferenceText, IsFirstFault, has_form, has_check_digit, is_reference_text, first_fault, reference_read}
 use Rattle.td_base.specs.declared.references.RefFault.{RefFault}
 use Rattle.td_base.specs.declared.references.RefFault.TheVariants.{Length, Form, CheckDigit}
@@ -68,22 +67,6 @@ holder_text_decided text =
     (λ h. ((h.size, h.digits), h.positive))
     (Decides-and _ _ (Decides-and _ _ (Decides-eqb (length text) 6) (digits_decided text)) (le_decided 1 (digits_value text)))
 
-pub whole_decided : (text : List ℕ) → Decides (is_whole text) (IsWhole text)
-whole_decided text =
-    Decides-like (is_whole text)
-    (λ h. record { size = h.0.0; digits = h.0.1; shortest = h.1 })
-    (λ h. ((h.size, h.digits), h.shortest))
-    (Decides-and _ _ (Decides-and _ _ (le_decided 1 (length text)) (digits_decided text))
-    (implies_decided _ _ (some_decided (slice_get text 0) 48) (Decides-eqb (length text) 1)))
-
-pub cents_text_decided : (text : List ℕ) → Decides (is_cents_text text) (IsCentsText text)
-cents_text_decided text =
-    Decides-like (is_cents_text text)
-    (λ h. record { whole = h.0.0.0; point = h.0.0.1; fraction = h.0.1; range = h.1 })
-    (λ h. (((h.whole, h.point), h.fraction), h.range))
-    (Decides-and _ _ (Decides-and _ _ (Decides-and _ _ (whole_decided (take (point_of text) text)) (some_decided (slice_get text (point_of text)) 46))
-    (digits_decided (drop (point_of text + 1) text))) (le_decided (cents_value text) (10 ^ 15)))
-
 pub form_decided : (text : List ℕ) → Decides (has_form text) (HasForm text)
 form_decided text =
     Decides-like (has_form text)
@@ -118,7 +101,3 @@ reference_read_is places text (Err e) h first =
 -- what a text is read as, where it is a holder's number or isn't
 pub holder_read_is : (text : List ℕ) (r : Option ℕ) → SomeIff r (IsHolderText text) (digits_value text) → r ≡ holder_read text
 holder_read_is text r h = some_where (is_holder_text text) r (digits_value text) (holder_text_decided text) h
-
--- or an amount's text
-pub cents_read_is : (text : List ℕ) (r : Option ℕ) → SomeIff r (IsCentsText text) (cents_value text) → r ≡ cents_read text
-cents_read_is text r h = some_where (is_cents_text text) r (cents_value text) (cents_text_decided text) h

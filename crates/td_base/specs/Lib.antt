@@ -7,7 +7,7 @@ pub mod Kept
 pub mod Codes
 pub use Rattle.td_time.specs.Moment
 pub use Rattle.ascii_text.specs.Digits
-pub mod Money
+pub use Rattle.td_money.specs.Money
 pub use Rattle.td_time.specs.Days
 pub mod References
 pub use Rattle.counted_io.specs.Counted

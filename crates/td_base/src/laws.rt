@@ -5,7 +5,7 @@ ghost use Rattle.td_base.specs.Country.{IsCountry};
 ghost use Rattle.std.specs.Prelude.{◌≡◌};
 ghost use Rattle.td_time.specs.Days.{IsDayText, day_text, number_in};
 ghost use Rattle.td_base.specs.Holder.{IsHolderText, holder_text};
-ghost use Rattle.td_base.specs.Money.{IsCentsText, cents_text, cents_value};
+ghost use Rattle.td_money.specs.Money.{IsCentsText, cents_text, cents_value};
 ghost use Rattle.td_base.specs.Eori.{IsEori};
 ghost use Rattle.td_base.specs.References.{IsGrn, IsMrn};
 

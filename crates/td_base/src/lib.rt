@@ -1,5 +1,5 @@
-//! The vocabulary of the desk: holders, references and check digits, money and codes. It hands on
-//! the days and moments, and the readers and writers that are counted.
+//! The vocabulary of the desk: holders, references and check digits, and codes. It hands on money, the
+//! days and moments, and the readers and writers that are counted.
 #![tactic(auto)]
 
 mod access_code;
@@ -10,7 +10,6 @@ mod grn;
 mod holder;
 mod laws;
 mod lrn;
-mod money;
 mod mrn;
 mod office;
 mod references;
@@ -26,8 +25,8 @@ pub use grn::{Grn, made_grn_reads_back};
 pub use holder::{HolderNo, holder_reads_back};
 pub use laws::{read_texts_are_printed, texts_read_back};
 pub use lrn::Lrn;
-pub use money::{Cents, Cover, Reference, cents_read_back};
 pub use mrn::{Mrn, made_mrn_reads_back};
 pub use office::OfficeNo;
 pub use references::{RefFault, made_references_differ};
+pub use td_money::{Cents, Cover, Reference, cents_read_back};
 pub use td_time::{ClockRange, Day, Moment, day_reads_back, days_begin_and_end};

@@ -4,11 +4,11 @@ use Rattle.td_base.specs.Moment.{moment_of}
 use Rattle.td_acts.specs.declared.rows.HolderRow.{HolderRow}
 use Rattle.td_acts.specs.declared.rows.Change.{Change}
 use Rattle.td_acts.specs.declared.rows.Change.TheVariants as change
-use Rattle.td_acts.specs.declared.command.Stamped.{Stamped}
+use Rattle.td_commands.specs.declared.command.Stamped.{Stamped}
 use Rattle.td_acts.specs.Account.{Account, HolderRows, account_with, ReferencesDiffer}
 use Rattle.td_acts.specs.Book.{account_of}
 use Rattle.td_acts.specs.Changes.{account_after, row_in, rows_after, rows_or_new}
-use Rattle.td_acts.specs.Commands.{owner_of, IsProper}
+use Rattle.td_commands.specs.Commands.{owner_of, IsProper}
 use Rattle.td_acts.specs.Deciding.{decision_on}
 use Rattle.td_acts.specs.Laws.{FollowsOn}
 use Rattle.td_acts.specs.Machine.{book_after}

@@ -12,7 +12,7 @@ use Rattle.td_acts.specs.declared.rows.Loaded.{Loaded}
 use Rattle.td_guarantee.specs.Usage.{used_on}
 use Rattle.td_acts.specs.Account.{Account, guarantee_by_grn, movement_by_mrn, movement_by_lrn}
 use Rattle.td_acts.specs.Deciding.{IsLookedUp, entry_by_grn}
-use Rattle.td_acts.specs.Commands.{lodging, movement, release, guarantee}
+use Rattle.td_commands.specs.Commands.{lodging, movement, release, guarantee}
 use Rattle.td_acts.proofs.Lodging.{named_entry}
 use Rattle.td_desk.proofs.Found.{with_key, found_has, found_alone}
 use Rattle.td_acts.proofs.Joined.{AllByRecursion-weaker}

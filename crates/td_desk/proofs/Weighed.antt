@@ -2,11 +2,11 @@
 use Rattle.std.proofs.Common.{◌≡◌, ℤ, sym, ◌∙◌, ap, subst}
 use Rattle.td_acts.specs.declared.rows.Loaded.{Loaded}
 use Rattle.td_acts.specs.declared.rows.Verdict.{Verdict}
-use Rattle.td_acts.specs.declared.command.Command.{Command}
+use Rattle.td_commands.specs.declared.command.Command.{Command}
 use Rattle.td_acts.specs.Account.{Account}
 use Rattle.td_acts.specs.Changes.{is_change}
 use Rattle.td_acts.specs.Deciding.{IsLoaded, IsVerdict, decision_on}
-use Rattle.td_acts.specs.Commands.{need_of}
+use Rattle.td_commands.specs.Commands.{need_of}
 use Rattle.td_acts.proofs.Written.{written_is_accepted}
 use Rattle.td_desk.specs.Content.{Content}
 use Rattle.td_desk.specs.Weighing.{owner_account, kept_of, IsWeighed}

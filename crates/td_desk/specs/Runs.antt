@@ -1,11 +1,11 @@
 -- A run of commands, as each holder sees it.
 use Rattle.std.specs.Prelude.{◌≡◌, ◌⊎◌, ℕ, ◌==◌, Bool, true, false, List, [], ◌∷◌, Option, Some, None, length, map, filter, zip, if◌then◌else◌}
 use Rattle.std.specs.List.{AllZip}
-use Rattle.td_acts.specs.declared.command.Stamped.{Stamped}
-use Rattle.td_acts.specs.declared.said.Said.{Said}
+use Rattle.td_commands.specs.declared.command.Stamped.{Stamped}
+use Rattle.td_commands.specs.declared.said.Said.{Said}
 use Rattle.td_acts.specs.Account.{empty_account}
 use Rattle.td_acts.specs.Book.{Book, account_of}
-use Rattle.td_acts.specs.Commands.{owner_of}
+use Rattle.td_commands.specs.Commands.{owner_of}
 use Rattle.td_acts.specs.Table.{said}
 use Rattle.td_acts.specs.Machine.{machine_says, machine_book, IsGrown}
 use Rattle.td_desk.specs.declared.fault.Fault.{Fault}

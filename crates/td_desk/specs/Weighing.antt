@@ -1,11 +1,11 @@
 -- What a desk decides on a command, and what a decision that is carried does to the content.
 use Rattle.std.specs.Prelude.{◌≡◌, ◌≢◌, ℕ, ℤ, Option, Some, None}
-use Rattle.td_acts.specs.declared.command.Command.{Command}
-use Rattle.td_acts.specs.declared.command.Stamped.{Stamped}
+use Rattle.td_commands.specs.declared.command.Command.{Command}
+use Rattle.td_commands.specs.declared.command.Stamped.{Stamped}
 use Rattle.td_acts.specs.declared.rows.Verdict.{Verdict}
 use Rattle.td_acts.specs.Account.{Account, empty_account}
 use Rattle.td_acts.specs.Book.{account_of}
-use Rattle.td_acts.specs.Commands.{owner_of, IsProper}
+use Rattle.td_commands.specs.Commands.{owner_of, IsProper}
 use Rattle.td_acts.specs.Table.{said}
 use Rattle.td_acts.specs.Acceptance.{is_accepted}
 use Rattle.td_acts.specs.Machine.{book_after}

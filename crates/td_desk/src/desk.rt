@@ -3,8 +3,8 @@ ghost use Rattle.std.specs.Prelude.{◌≡◌, ◌≢◌, ℤ, Option, IfOk, OnO
 ghost use Rattle.std.specs.Result.{result_err};
 ghost use Rattle.td_desk.specs.declared.fault.Fault.{Fault};
 ghost use Rattle.td_acts.specs.declared.rows.Change.TheVariants as change;
-ghost use Rattle.td_acts.specs.declared.command.Stamped.{Stamped};
-ghost use Rattle.td_acts.specs.Commands.{IsProper};
+ghost use Rattle.td_commands.specs.declared.command.Stamped.{Stamped};
+ghost use Rattle.td_commands.specs.Commands.{IsProper};
 ghost use Rattle.td_desk.specs.Content.{Content};
 ghost use Rattle.td_desk.specs.Sound.{IsSound};
 ghost use Rattle.td_desk.specs.Weighing.{IsWeighed, IsDecision, Carries};

@@ -4,7 +4,7 @@ ghost use Rattle.std.specs.List.{AllByRecursion};
 ghost use Rattle.td_acts.specs.Account.{account_with};
 ghost use Rattle.td_acts.specs.Changes.{rows_after};
 ghost use Rattle.td_acts.specs.Deciding.{IsLoaded};
-ghost use Rattle.td_acts.specs.Commands.{need_said};
+ghost use Rattle.td_commands.specs.Commands.{need_said};
 ghost use Rattle.td_acts.specs.Sound.{IsCovered};
 
 use crate::changes::{copies_with_code, put_terms, take_code};

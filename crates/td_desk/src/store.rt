@@ -3,7 +3,7 @@ ghost use Rattle.std.specs.Prelude.{◌≡◌, ◌⊎◌, ℕ, Option, Some, Non
 ghost use Rattle.std.specs.Result.{result_err};
 ghost use Rattle.td_desk.specs.declared.fault.Fault.{Fault};
 ghost use Rattle.td_acts.specs.Deciding.{IsLoaded};
-ghost use Rattle.td_acts.specs.Commands.{need_said};
+ghost use Rattle.td_commands.specs.Commands.{need_said};
 ghost use Rattle.td_desk.specs.Content.{Content, content_after};
 ghost use Rattle.td_desk.specs.Sound.{IsSound};
 ghost use Rattle.td_desk.specs.Weighing.{kept_for};

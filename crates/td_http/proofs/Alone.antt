@@ -1,11 +1,11 @@
 -- What one handled request tells each holder.
 use Rattle.std.proofs.Common.{◌≡◌, ℕ, ℤ, Bool, true, false, List, [], ◌∷◌, Result, Ok, Err, refl, ◌∙◌, ap, subst}
 use Rattle.std.specs.Prelude.{if◌then◌else◌}
-use Rattle.td_acts.specs.declared.command.Command.{Command}
-use Rattle.td_acts.specs.declared.command.Stamped.{Stamped}
-use Rattle.td_acts.specs.declared.said.Said.{Said}
+use Rattle.td_commands.specs.declared.command.Command.{Command}
+use Rattle.td_commands.specs.declared.command.Stamped.{Stamped}
+use Rattle.td_commands.specs.declared.said.Said.{Said}
 use Rattle.td_acts.specs.Book.{Book, account_of}
-use Rattle.td_acts.specs.Commands.{owner_of}
+use Rattle.td_commands.specs.Commands.{owner_of}
 use Rattle.td_acts.specs.Machine.{verdict, machine_book, machine_says, IsGrown}
 use Rattle.td_desk.specs.declared.running.Outcome.{Outcome}
 use Rattle.td_desk.specs.declared.running.Outcome.TheVariants as outcome
@@ -13,7 +13,7 @@ use Rattle.td_desk.specs.Content.{Content}
 use Rattle.td_desk.specs.Sound.{IsSound}
 use Rattle.td_desk.specs.Runs.{IsRun, IsStep, IsTied, is_holder, heard}
 use Rattle.td_desk.proofs.Turns.{run_more}
-use Rattle.td_routes.specs.declared.fault.WebFault.{WebFault}
+use Rattle.td_fields.specs.declared.fault.WebFault.{WebFault}
 use Rattle.td_wire.specs.declared.reply.Reply.{Reply}
 use Rattle.td_wire.specs.Request.{Asked}
 use Rattle.td_wire.specs.ReplyText.{bytes_of, is_made}

@@ -1,15 +1,15 @@
 -- What a request does, by how it was read.
 use Rattle.std.proofs.Common.{◌≡◌, ℤ, Bool, Result, Ok, Err, refl, sym, ◌∙◌, ap, subst, inl, inr}
 use Rattle.std.proofs.lemmas.Bool.{false≢true}
-use Rattle.td_acts.specs.declared.command.Command.{Command}
+use Rattle.td_commands.specs.declared.command.Command.{Command}
 use Rattle.td_desk.specs.declared.fault.Fault.TheVariants as fault
 use Rattle.td_desk.specs.declared.running.Outcome.TheVariants as outcome
 use Rattle.td_desk.specs.Content.{Content}
-use Rattle.td_routes.specs.declared.fault.WebFault.{WebFault}
-use Rattle.td_routes.specs.declared.fault.WebFault.TheVariants as why
+use Rattle.td_fields.specs.declared.fault.WebFault.{WebFault}
+use Rattle.td_fields.specs.declared.fault.WebFault.TheVariants as why
 use Rattle.td_wire.specs.declared.reply.Reply.{Reply}
 use Rattle.td_wire.specs.declared.reply.Reply.TheVariants.{NoMemory, Store}
-use Rattle.td_routes.specs.Faults.{OrNoMemory}
+use Rattle.td_fields.specs.Faults.{OrNoMemory}
 use Rattle.td_wire.specs.ReplyText.{is_made}
 use Rattle.td_http.specs.Serving.{IsFaultReply, HandledAs}
 

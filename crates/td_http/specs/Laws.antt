@@ -1,14 +1,14 @@
 -- What two streams, or two requests, tell one holder.
 use Rattle.std.specs.Prelude.{◌≡◌, ℕ, ℤ, ◌+◌, Bool, List, [], ◌∷◌, ◌++◌, map, Option, None, Some, Result, Ok, Err, if◌then◌else◌}
-use Rattle.td_acts.specs.declared.command.Command.{Command}
+use Rattle.td_commands.specs.declared.command.Command.{Command}
 use Rattle.td_acts.specs.Book.{Book}
-use Rattle.td_acts.specs.Commands.{owner_of}
+use Rattle.td_commands.specs.Commands.{owner_of}
 use Rattle.td_desk.specs.declared.fault.Fault.{Fault}
 use Rattle.td_desk.specs.declared.fault.Fault.TheVariants as fault
 use Rattle.td_desk.specs.Content.{Content}
 use Rattle.td_desk.specs.Sound.{IsSound}
 use Rattle.td_desk.specs.Runs.{IsTied, is_holder}
-use Rattle.td_routes.specs.declared.fault.WebFault.{WebFault}
+use Rattle.td_fields.specs.declared.fault.WebFault.{WebFault}
 use Rattle.td_wire.specs.declared.reply.Reply.{Reply}
 use Rattle.td_wire.specs.declared.reply.Reply.TheVariants.{Made, NoMemory, Store}
 use Rattle.td_wire.specs.declared.stream.StreamEnd.{StreamEnd}

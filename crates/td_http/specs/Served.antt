@@ -7,7 +7,7 @@ use Rattle.td_desk.specs.Runs.{IsTied}
 use Rattle.td_wire.specs.declared.reply.Reply.{Reply}
 use Rattle.td_wire.specs.declared.reply.Reply.TheVariants.{NoMemory}
 use Rattle.td_http.specs.declared.service.Service.{Service}
-use Rattle.td_routes.specs.Faults.{allowed_text}
+use Rattle.td_fields.specs.Faults.{allowed_text}
 use Rattle.td_wire.specs.Request.{Asked}
 use Rattle.td_wire.specs.ReplyText.{head_text, bytes_of, is_made}
 use Rattle.td_routes.specs.Routes.{methods_of, path_of}

@@ -1,13 +1,13 @@
 -- What the desk's service does with a request, and what a stream of requests tells each holder.
 use Rattle.std.specs.Prelude.{◌≡◌, ℕ, ℤ, ◌+◌, ◌⊎◌, Bool, true, false, if◌then◌else◌, List, [], ◌∷◌, ◌++◌, map, None, Option, Result, Ok, Err}
-use Rattle.td_acts.specs.declared.command.Command.{Command}
-use Rattle.td_acts.specs.declared.command.Stamped.{Stamped}
+use Rattle.td_commands.specs.declared.command.Command.{Command}
+use Rattle.td_commands.specs.declared.command.Stamped.{Stamped}
 use Rattle.td_acts.specs.Account.{empty_account}
 use Rattle.td_acts.specs.Book.{Book}
-use Rattle.td_acts.specs.Commands.{owner_of}
+use Rattle.td_commands.specs.Commands.{owner_of}
 use Rattle.td_acts.specs.Machine.{verdict, book_after, machine_book}
 use Rattle.td_acts.specs.Table.{said}
-use Rattle.td_acts.specs.declared.said.Said.{Said}
+use Rattle.td_commands.specs.declared.said.Said.{Said}
 use Rattle.td_desk.specs.declared.fault.Fault.{Fault}
 use Rattle.td_desk.specs.declared.fault.Fault.TheVariants as fault
 use Rattle.td_desk.specs.declared.running.Outcome.{Outcome}
@@ -15,7 +15,7 @@ use Rattle.td_desk.specs.declared.running.Outcome.TheVariants as outcome
 use Rattle.td_desk.specs.Content.{Content}
 use Rattle.td_desk.specs.Sound.{IsSound}
 use Rattle.td_desk.specs.Runs.{IsOutcomeOf, IsStep, IsTied, is_holder}
-use Rattle.td_routes.specs.declared.fault.WebFault.{WebFault}
+use Rattle.td_fields.specs.declared.fault.WebFault.{WebFault}
 use Rattle.td_wire.specs.declared.reply.Reply.{Reply}
 use Rattle.td_wire.specs.declared.reply.Reply.TheVariants.{Made, NoMemory, Store}
 use Rattle.td_wire.specs.Request.{Asked}

@@ -1,8 +1,8 @@
 //! Laws of what a holder is told over HTTP, as contracts of functions that do nothing.
 ghost use Rattle.std.specs.Prelude.{◌≡◌, ℕ, ℤ, List, Ok, Some};
-ghost use Rattle.td_acts.specs.declared.command.Command.{Command};
+ghost use Rattle.td_commands.specs.declared.command.Command.{Command};
 ghost use Rattle.td_acts.specs.Book.{Book};
-ghost use Rattle.td_acts.specs.Commands.{owner_of};
+ghost use Rattle.td_commands.specs.Commands.{owner_of};
 ghost use Rattle.td_wire.specs.declared.reply.Reply.{Reply};
 ghost use Rattle.td_wire.specs.declared.stream.StreamEnd.{StreamEnd};
 ghost use Rattle.td_wire.specs.Request.{Asked};

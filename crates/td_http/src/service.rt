@@ -1,9 +1,9 @@
 //! The desk as a service: a request is read, weighed, its reply is built, and only then it is carried.
 ghost use Rattle.std.specs.Prelude.{◌≡◌, ◌≢◌, ◌⊎◌, None, Bool, true, MatchResult, option_map};
-ghost use Rattle.td_routes.specs.Faults.{allowed_text};
+ghost use Rattle.td_fields.specs.Faults.{allowed_text};
 ghost use Rattle.td_wire.specs.ReplyText.{head_text, is_made, bytes_of};
-ghost use Rattle.td_acts.specs.declared.command.Stamped.{Stamped};
-ghost use Rattle.td_acts.specs.declared.said.Said.{Said};
+ghost use Rattle.td_commands.specs.declared.command.Stamped.{Stamped};
+ghost use Rattle.td_commands.specs.declared.said.Said.{Said};
 ghost use Rattle.td_desk.specs.declared.fault.Fault.TheVariants as fault;
 ghost use Rattle.td_desk.specs.declared.running.Outcome.TheVariants as outcome;
 ghost use Rattle.td_desk.specs.Runs.{IsOutcomeOf, IsStep};

@@ -1,12 +1,11 @@
 -- What a body is, by what `serde_json` reads of it.
 use Rattle.std.proofs.Common.{◌≡◌, ℕ, List, Option, Some, None, Err, Bool, true, false, refl}
 use Rattle.std.proofs.lemmas.Str.{IsUtf8-from_is_utf8, is_utf8-from_IsUtf8}
-use Rattle.std.specs.Prelude.{option_and_then}
 use Rattle.std.specs.Str.{IsUtf8, is_utf8}
 use Rattle.serde_json.specs.Data.{Data}
 use Rattle.serde_json.specs.Read.{read}
 use Rattle.td_routes.specs.Bodies.{object_in, object_of}
-use Rattle.td_routes.specs.declared.fault.WebFault.TheVariants.{BadBody}
+use Rattle.td_fields.specs.declared.fault.WebFault.TheVariants.{BadBody}
 
 -- a text that is read is the object in what is read
 pub object_read : (body : List ℕ) (d : Data) → IsUtf8 body → read body ≡ Some d → object_of body ≡ object_in d
@@ -19,7 +18,3 @@ object_unread body none = by (is_utf8 body) refl
     by : (v : Bool) → is_utf8 body ≡ v → object_of body ≡ Err BadBody
     by true e = rw (e, none (IsUtf8-from_is_utf8 body e)) refl
     by false e = rw e refl
-
--- what is read of a member that is there
-pub read_of : {A B : Type 0} (read : A → Option B) (member : Option A) (value : A) (r : Option B) → Some value ≡ member → r ≡ read value → r ≡ option_and_then read member
-read_of read member value r there same = rw (← there) same

@@ -1,5 +1,3 @@
 mod PartFacts
 mod RouteFacts
 mod BodyFacts
-mod NameFacts
-mod LineFacts

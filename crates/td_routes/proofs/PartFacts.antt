@@ -3,7 +3,7 @@ use Rattle.std.proofs.Common.{◌≡◌, ℕ, List, Result, Ok, Err, Bool, true,
 use Rattle.std.specs.Prelude.{IsErrAnd, MatchResult}
 use Rattle.td_base.specs.References.{is_reference_text, first_fault, reference_read}
 use Rattle.td_base.specs.declared.references.RefFault.{RefFault}
-use Rattle.td_routes.specs.declared.fault.WebFault.{WebFault}
+use Rattle.td_fields.specs.declared.fault.WebFault.{WebFault}
 
 -- the reference that a part is, or the fault that is made of the first
 abbrev pub part_read : ℕ → (RefFault → WebFault) → List ℕ → Result (List ℕ) WebFault

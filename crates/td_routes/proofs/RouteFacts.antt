@@ -2,9 +2,9 @@
 use Rattle.std.proofs.Common.{◌≡◌, ℕ, List, map, Bool, true, false, Option, None, Some, option_map, Result, Err, [], ◌∷◌, cond, find, refl, sym, ap, ◌∙◌}
 use Rattle.std.proofs.lemmas.Str.{is_utf8-from_IsUtf8, IsUtf8-from_is_utf8}
 use Rattle.std.specs.Str.{IsUtf8, is_utf8}
-use Rattle.td_routes.specs.declared.fault.Allowed.{Allowed}
-use Rattle.td_routes.specs.declared.fault.WebFault.{WebFault}
-use Rattle.td_routes.specs.declared.fault.WebFault.TheVariants.{NoRoute}
+use Rattle.td_fields.specs.declared.fault.Allowed.{Allowed}
+use Rattle.td_fields.specs.declared.fault.WebFault.{WebFault}
+use Rattle.td_fields.specs.declared.fault.WebFault.TheVariants.{NoRoute}
 use Rattle.td_routes.specs.declared.table.Route.{Route}
 use Rattle.td_routes.specs.declared.table.Row.{Row}
 use Rattle.path_table.specs.Segments.{fits}

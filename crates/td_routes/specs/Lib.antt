@@ -1,5 +1,2 @@
-pub mod Faults
 pub mod Routes
-pub mod BodyFields
-pub mod BodyLines
 pub mod Bodies

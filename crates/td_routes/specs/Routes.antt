@@ -4,12 +4,12 @@ use Rattle.std.specs.List.{before_first, slice_get}
 use Rattle.std.specs.Prelude.{◌==◌}
 use Rattle.std.specs.Str.{is_utf8}
 use Rattle.path_table.specs.Segments.{fits, parts_of}
-use Rattle.td_routes.specs.Faults.{verb_text, ◌>>=◌}
+use Rattle.td_fields.specs.Faults.{◌>>=◌}
 use Rattle.td_base.specs.Holder.{holder_read}
 use Rattle.td_base.specs.References.{is_mrn, is_grn, first_fault}
-use Rattle.td_routes.specs.declared.fault.Allowed.{Allowed}
-use Rattle.td_routes.specs.declared.fault.WebFault.{WebFault}
-use Rattle.td_routes.specs.declared.fault.WebFault.TheVariants.{NoRoute, NoMethod, BadHolder, BadMrn, BadGrn}
+use Rattle.td_fields.specs.declared.fault.Allowed.{Allowed}
+use Rattle.td_fields.specs.declared.fault.WebFault.{WebFault}
+use Rattle.td_fields.specs.declared.fault.WebFault.TheVariants.{NoRoute, NoMethod, BadHolder, BadMrn, BadGrn}
 use Rattle.td_routes.specs.declared.table.Endpoint.{Endpoint}
 use Rattle.td_routes.specs.declared.table.Endpoint.TheVariants as endpoint
 use Rattle.td_routes.specs.declared.table.Route.{Route}
@@ -17,6 +17,12 @@ use Rattle.td_routes.specs.declared.table.Route.TheVariants as route
 use Rattle.td_routes.specs.declared.table.Row.{Row}
 use Rattle.td_routes.specs.declared.table.Verb.{Verb}
 use Rattle.td_routes.specs.declared.table.Verb.TheVariants.{Get, Post, Put}
+
+-- the name of a method
+abbrev pub verb_text : Verb → List ℕ
+verb_text Get = codes "GET"
+verb_text Post = codes "POST"
+verb_text Put = codes "PUT"
 
 -- a row: a method, a pattern of paths, and what they ask for
 pub record TableRow : Type 0 where

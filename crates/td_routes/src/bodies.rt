@@ -3,23 +3,22 @@ ghost use Rattle.std.specs.Prelude.{◌≡◌, ◌⊎◌, MatchResult, Ok, Err, 
 ghost use Rattle.serde_json.specs.View.{view};
 ghost use Rattle.td_base.specs.Codes.{code_read, office_read};
 ghost use Rattle.td_routes.specs.Bodies.{command_at, command_of, object_of, terms_of, text_field};
-ghost use Rattle.td_routes.specs.Faults.{OrNoMemory};
+ghost use Rattle.td_fields.specs.Faults.{OrNoMemory};
 ghost use Rattle.td_routes.specs.Routes.{before_query, path_of};
-ghost use Rattle.td_routes.specs.declared.fault.Field.TheVariants as field;
-ghost use Rattle.td_routes.specs.declared.fault.WebFault.TheVariants.{NoMemory};
+ghost use Rattle.td_fields.specs.declared.fault.Field.TheVariants as field;
+ghost use Rattle.td_fields.specs.declared.fault.WebFault.TheVariants.{NoMemory};
 ghost use Rattle.td_routes.specs.declared.table.Route.TheVariants as route;
 
-use crate::body_fields::{
-    code_in, cover_in, eori_in, ground_in, limit_in, lrn_in, office_in, reference_in, result_in,
-};
-use crate::body_lines::lines_in;
-use crate::fault::{Field, WebFault};
 use crate::routes::Routes;
 use crate::table::Route;
 use serde_json::Value;
 use std::alloc::Global;
-use td_acts::Command;
 use td_base::{AccessCode, Cover, Grn, HolderNo, Mrn, OfficeNo, Reference};
+use td_commands::Command;
+use td_fields::{
+    Field, WebFault, code_in, cover_in, eori_in, ground_in, limit_in, lines_in, lrn_in, office_in,
+    reference_in, result_in,
+};
 use td_wire::Request;
 
 /// The command of a request, or the first fault, in the order of `WebFault`. Want of memory may take the place of either.

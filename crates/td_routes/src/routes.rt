@@ -2,16 +2,16 @@
 ghost use Rattle.std.specs.Prelude.{◌≡◌, IsSome, IfErr, IfOk, MatchResult, Ok, OnOk, None, map, option_map};
 ghost use Rattle.std.specs.Option.{ForSome};
 ghost use Rattle.std.specs.Str.{IsUtf8};
-ghost use Rattle.td_routes.specs.Faults.{OrNoMemory};
+ghost use Rattle.td_fields.specs.Faults.{OrNoMemory};
 ghost use Rattle.td_routes.specs.Routes.{table, row_shown, pattern_in, row_with, methods_with, holder_part, mrn_part, grn_part, part_at, holder_in, grn_in, mrn_in, holder_and_grn, holder_and_mrn, route_with, route_in, route_of, methods_of};
-ghost use Rattle.td_routes.specs.declared.fault.WebFault.TheVariants.{NoMemory};
+ghost use Rattle.td_fields.specs.declared.fault.WebFault.TheVariants.{NoMemory};
 
-use crate::fault::{Allowed, WebFault};
 use crate::table::{Endpoint, ROWS, Route, Row, Verb};
 use http::Method;
 use path_table::{Parts, PathTable};
 use std::alloc::Global;
 use td_base::{Grn, HolderNo, Mrn};
+use td_fields::{Allowed, WebFault};
 
 fn read_holder(part: &[u8]) -> Result<HolderNo, WebFault>
     ensures { result ≡ holder_part part.now }

@@ -1,6 +1,6 @@
 //! The table of routes: methods, patterns of paths, and what they ask for.
 ghost use Rattle.std.specs.Prelude.{◌≡◌};
-ghost use Rattle.td_routes.specs.Faults.{verb_text};
+ghost use Rattle.td_routes.specs.Routes.{verb_text};
 
 use td_base::{Grn, HolderNo, Mrn};
 

@@ -2,8 +2,8 @@
 use crate::tests::{guarantee, says};
 use std::alloc::Global;
 use std::test::Fail;
-use td_acts::{Answer, ListedGuarantees, ListedMovement, ListedMovements, Said};
 use td_base::{Cents, Lrn, Mrn};
+use td_commands::{Answer, ListedGuarantees, ListedMovement, ListedMovements, Said};
 use td_guarantee::Guarantee;
 use td_movement::State;
 

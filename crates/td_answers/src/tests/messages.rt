@@ -1,8 +1,8 @@
 //! Answers to what offices and holders do, byte for byte.
 use crate::tests::says;
 use std::test::Fail;
-use td_acts::{Answer, Said};
 use td_base::{Day, Grn, Mrn};
+use td_commands::{Answer, Said};
 use td_movement::State;
 
 const MRN: &[u8] = b"25CH00000100000013";

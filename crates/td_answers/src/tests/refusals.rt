@@ -1,8 +1,8 @@
 //! Refusals, byte for byte.
 use crate::tests::says;
 use std::test::Fail;
-use td_acts::{Refusal, Said};
 use td_base::{Cents, Grn};
+use td_commands::{Refusal, Said};
 use td_movement::State;
 
 /// Refusals, whether the stream closes after them, and their replies.

@@ -1,9 +1,9 @@
 //! Replies, byte for byte.
 use crate::tests::{says, turns_away};
 use std::test::Fail;
-use td_acts::{Answer, Said};
 use td_base::{Eori, Grn, HolderNo, Lrn, Mrn, RefFault};
-use td_routes::{Allowed, Field, WebFault};
+use td_commands::{Answer, Said};
+use td_fields::{Allowed, Field, WebFault};
 
 /// Faults of a path's reference, and their replies.
 const NO_REFERENCE: [(WebFault, &str); 6] = [

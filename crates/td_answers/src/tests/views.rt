@@ -2,8 +2,8 @@
 use crate::tests::{guarantee, says};
 use std::alloc::Global;
 use std::test::Fail;
-use td_acts::{Answer, Said};
 use td_base::{Cents, Day, Grn, Lrn, Mrn, OfficeNo};
+use td_commands::{Answer, Said};
 use td_movement::{Line, Movement, MovementLines, State};
 
 const FIRST: &[u8] = b"25CH0000010000014";

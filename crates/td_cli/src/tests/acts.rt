@@ -76,6 +76,9 @@ pub const G1_WHOLE: &[u8] =
 pub const SECOND_OPENED: &[u8] =
     b"HTTP/1.1 200 OK\r\nContent-Type: application/json\r\nContent-Length: 27\r\n\r\n{\"grn\":\"25CH0000010000023\"}";
 
+pub const THIRD_OPENED: &[u8] =
+    b"HTTP/1.1 200 OK\r\nContent-Type: application/json\r\nContent-Length: 27\r\n\r\n{\"grn\":\"25CH0000010000032\"}";
+
 /// Refusals.
 pub const NO_MOVEMENT: &[u8] =
     b"HTTP/1.1 404 Not Found\r\nContent-Type: application/json\r\nContent-Length: 23\r\n\r\n{\"error\":\"no-movement\"}";

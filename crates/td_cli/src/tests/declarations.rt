@@ -1,5 +1,6 @@
 //! Declarations lodged (IE015), and the MRN allocated to each (IE028).
 use super::WORDS;
+use super::acts::SECOND_OPENED;
 use super::exchanges::{
     A1, A1_LODGED, A2, A2_LODGED, Exchange, NO_GUARANTEE, NO_HOLDER, OPEN, OPENED, OTHER_A1,
     OTHER_A1_LODGED, OTHER_OPEN, OTHER_OPENED, OTHER_REGISTER, OTHER_SEE, OTHER_SHOWN,
@@ -86,9 +87,6 @@ const GOOD_THEN_CODE: &[u8] =
 
 const BOTH_GOOD: &[u8] =
     b"POST /holders/000001/movements HTTP/1.1\r\nContent-Length: 184\r\n\r\n{\"lrn\":\"B1\",\"departure\":\"CH001251\",\"destination\":\"DE005600\",\"lines\":[{\"grn\":\"25CH0000010000014\",\"code\":\"AB12\",\"cents\":500000},{\"grn\":\"25CH0000010000023\",\"code\":\"AB12\",\"cents\":500000}]}";
-
-const SECOND_OPENED: &[u8] =
-    b"HTTP/1.1 200 OK\r\nContent-Type: application/json\r\nContent-Length: 27\r\n\r\n{\"grn\":\"25CH0000010000023\"}";
 
 const B1_LODGED: &[u8] =
     b"HTTP/1.1 200 OK\r\nContent-Type: application/json\r\nContent-Length: 57\r\n\r\n{\"lrn\":\"B1\",\"message\":\"IE028\",\"mrn\":\"25CH00000100000013\"}";

@@ -1,5 +1,6 @@
 //! Guarantees opened, and their references.
 
+use super::acts::{SECOND_OPENED, THIRD_OPENED};
 use super::exchanges::{
     A1, A1_LODGED, Exchange, NO_HOLDER, OPEN, OPENED, OTHER_OPEN, OTHER_OPENED, OTHER_REGISTER,
     OTHER_SEE, OTHER_SHOWN, assert_replies,
@@ -7,12 +8,6 @@ use super::exchanges::{
 use super::first_requests::{REGISTER, SEE, SHOWN};
 use super::{WORDS, words_at};
 use std::test::Fail;
-
-const SECOND_OPENED: &[u8] =
-    b"HTTP/1.1 200 OK\r\nContent-Type: application/json\r\nContent-Length: 27\r\n\r\n{\"grn\":\"25CH0000010000023\"}";
-
-const THIRD_OPENED: &[u8] =
-    b"HTTP/1.1 200 OK\r\nContent-Type: application/json\r\nContent-Length: 27\r\n\r\n{\"grn\":\"25CH0000010000032\"}";
 
 const SHOWN_WITH_THREE: &[u8] =
     b"HTTP/1.1 200 OK\r\nContent-Type: application/json\r\nContent-Length: 67\r\n\r\n{\"eori\":\"CH1234567\",\"guarantees\":3,\"holder\":\"000001\",\"movements\":0}";

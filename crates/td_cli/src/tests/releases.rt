@@ -2,7 +2,7 @@
 use super::WORDS;
 use super::acts::{
     G1_FREE, G1_HALF, G1_WHOLE, LIMIT_DATE, NO_MOVEMENT, RELEASE_A1, RELEASE_A2, RELEASED_A1,
-    RELEASED_A2, SECOND_OPENED, SEE_G1, WRONG_RELEASED,
+    RELEASED_A2, SECOND_OPENED, SEE_G1, THIRD_OPENED, WRONG_RELEASED,
 };
 use super::exchanges::{A1, A1_LODGED, A2, A2_LODGED, Exchange, OPEN, OPENED, assert_replies};
 use super::first_requests::{REGISTER, SHOWN};
@@ -80,6 +80,63 @@ const TWO_LINES: &[Exchange] = &[
 #[test]
 fn all_lines_are_released_or_none(rt: HostRuntime) -> Result<(), Fail> {
     assert_replies(&rt, &WORDS, TWO_LINES)
+}
+
+/// Opens a guarantee with a reference amount of 7 cents, the third of holder 000001.
+const OPEN_OF_SEVEN: &[u8] =
+    b"POST /office/holders/000001/guarantees HTTP/1.1\r\nContent-Length: 40\r\n\r\n{\"reference\":7,\"cover\":50,\"code\":\"AB12\"}";
+
+/// Declarations with lines on all three. The first leaves a cent on each but the last.
+const A1_ON_THREE: &[u8] =
+    b"POST /holders/000001/movements HTTP/1.1\r\nContent-Length: 232\r\n\r\n{\"lrn\":\"A1\",\"departure\":\"CH001251\",\"destination\":\"DE005600\",\"lines\":[{\"grn\":\"25CH0000010000014\",\"code\":\"AB12\",\"cents\":999999},{\"grn\":\"25CH0000010000023\",\"code\":\"AB12\",\"cents\":99},{\"grn\":\"25CH0000010000032\",\"code\":\"AB12\",\"cents\":7}]}";
+
+const A2_ON_THREE: &[u8] =
+    b"POST /holders/000001/movements HTTP/1.1\r\nContent-Length: 226\r\n\r\n{\"lrn\":\"A2\",\"departure\":\"CH001251\",\"destination\":\"DE005600\",\"lines\":[{\"grn\":\"25CH0000010000014\",\"code\":\"AB12\",\"cents\":1},{\"grn\":\"25CH0000010000023\",\"code\":\"AB12\",\"cents\":1},{\"grn\":\"25CH0000010000032\",\"code\":\"AB12\",\"cents\":1}]}";
+
+const NOTHING_LEFT_ON_THE_THIRD: &[u8] =
+    b"HTTP/1.1 409 Conflict\r\nContent-Type: application/json\r\nContent-Length: 61\r\n\r\n{\"error\":\"over-reference\",\"free\":0,\"grn\":\"25CH0000010000032\"}";
+
+const A3_ON_TWO: &[u8] =
+    b"POST /holders/000001/movements HTTP/1.1\r\nContent-Length: 174\r\n\r\n{\"lrn\":\"A3\",\"departure\":\"CH001251\",\"destination\":\"DE005600\",\"lines\":[{\"grn\":\"25CH0000010000014\",\"code\":\"AB12\",\"cents\":1},{\"grn\":\"25CH0000010000023\",\"code\":\"AB12\",\"cents\":1}]}";
+
+const G1_BUT_A_CENT: &[u8] =
+    b"HTTP/1.1 200 OK\r\nContent-Type: application/json\r\nContent-Length: 130\r\n\r\n{\"codes\":[\"AB12\"],\"cover\":50,\"ends\":null,\"free\":1,\"grn\":\"25CH0000010000014\",\"guaranteed\":500000,\"reference\":1000000,\"used\":999999}";
+
+const G2_BUT_A_CENT: &[u8] =
+    b"HTTP/1.1 200 OK\r\nContent-Type: application/json\r\nContent-Length: 118\r\n\r\n{\"codes\":[\"AB12\"],\"cover\":50,\"ends\":null,\"free\":1,\"grn\":\"25CH0000010000023\",\"guaranteed\":50,\"reference\":100,\"used\":99}";
+
+const SEE_G3: &[u8] = b"GET /holders/000001/guarantees/25CH0000010000032 HTTP/1.1\r\n\r\n";
+
+const G3_FULL: &[u8] =
+    b"HTTP/1.1 200 OK\r\nContent-Type: application/json\r\nContent-Length: 114\r\n\r\n{\"codes\":[\"AB12\"],\"cover\":50,\"ends\":null,\"free\":0,\"grn\":\"25CH0000010000032\",\"guaranteed\":4,\"reference\":7,\"used\":7}";
+
+const RELEASED_A3: &[u8] =
+    b"HTTP/1.1 200 OK\r\nContent-Type: application/json\r\nContent-Length: 86\r\n\r\n{\"limit\":\"2025-03-08\",\"message\":\"IE029\",\"mrn\":\"25CH00000100000030\",\"state\":\"released\"}";
+
+// Three lines, each up to the reference amount itself, and then one cent above the last: the lines before it are as they
+// were.
+const THREE_LINES: &[Exchange] = &[
+    (REGISTER, SHOWN),
+    (OPEN, OPENED),
+    (OPEN_SMALL, SECOND_OPENED),
+    (OPEN_OF_SEVEN, THIRD_OPENED),
+    (A1_ON_THREE, A1_LODGED),
+    (A2_ON_THREE, A2_LODGED),
+    (A3_ON_TWO, A3_LODGED),
+    (RELEASE_A1, RELEASED_A1),
+    (SEE_G3, G3_FULL),
+    (RELEASE_A2, NOTHING_LEFT_ON_THE_THIRD),
+    (SEE_G1, G1_BUT_A_CENT),
+    (SEE_G2, G2_BUT_A_CENT),
+    (RELEASE_A3, RELEASED_A3),
+    (SEE_G1, G1_WHOLE),
+    (SEE_G2, G2_USED_BY_A2),
+    (SEE_G3, G3_FULL),
+];
+
+#[test]
+fn three_lines_are_released_up_to_equality(rt: HostRuntime) -> Result<(), Fail> {
+    assert_replies(&rt, &WORDS, THREE_LINES)
 }
 
 /// Releases with other limits: the day before the release, the day itself, and the 365th and 366th day after.

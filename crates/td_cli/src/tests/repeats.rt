@@ -1,5 +1,6 @@
 //! A declaration lodged again under its LRN.
 use super::WORDS;
+use super::acts::SECOND_OPENED;
 use super::exchanges::{
     A1, A1_LODGED, A2, A2_LODGED, Exchange, OPEN, OPENED, SHOWN_LODGED, assert_replies,
 };
@@ -54,9 +55,6 @@ const REPEATS: &[Exchange] = &[
 fn a_repeat_is_told_the_same(rt: HostRuntime) -> Result<(), Fail> {
     assert_replies(&rt, &WORDS, REPEATS)
 }
-
-const SECOND_OPENED: &[u8] =
-    b"HTTP/1.1 200 OK\r\nContent-Type: application/json\r\nContent-Length: 27\r\n\r\n{\"grn\":\"25CH0000010000023\"}";
 
 const TWO_LINES: &[u8] =
     b"POST /holders/000001/movements HTTP/1.1\r\nContent-Length: 179\r\n\r\n{\"lrn\":\"B1\",\"departure\":\"CH001251\",\"destination\":\"DE005600\",\"lines\":[{\"grn\":\"25CH0000010000014\",\"code\":\"AB12\",\"cents\":500000},{\"grn\":\"25CH0000010000023\",\"code\":\"AB12\",\"cents\":1}]}";

@@ -1,10 +1,10 @@
 use Rattle.std.proofs.Common.{refl, ◌∙◌, ap}
 use Rattle.td_movement.specs.declared.movement.Movement.{Movement}
 use Rattle.td_movement.specs.declared.moves.Move.TheVariants.{Arrive}
-use Rattle.td_acts.specs.declared.command.Command.TheVariants.{Ie007}
-use Rattle.td_acts.specs.declared.said.Answer.TheVariants as answer
-use Rattle.td_acts.specs.declared.said.Refusal.TheVariants.{NoMovement}
-use Rattle.td_acts.specs.declared.said.Said.TheVariants.{Answered}
+use Rattle.td_commands.specs.declared.command.Command.TheVariants.{Ie007}
+use Rattle.td_commands.specs.declared.said.Answer.TheVariants as answer
+use Rattle.td_commands.specs.declared.said.Refusal.TheVariants.{NoMovement}
+use Rattle.td_commands.specs.declared.said.Said.TheVariants.{Answered}
 use Rattle.td_acts.specs.Account.{movement_by_mrn}
 use Rattle.td_acts.specs.Deciding.{new_state}
 use Rattle.td_base.specs.Days.{day_of_moment}

@@ -1,11 +1,11 @@
 use Rattle.std.proofs.Common.{refl, sym, ◌∙◌, ap}
 use Rattle.td_movement.specs.declared.movement.Movement.{Movement}
 use Rattle.td_movement.specs.declared.moves.Move.TheVariants.{Enquire}
-use Rattle.td_acts.specs.declared.command.Command.TheVariants.{Ie140}
+use Rattle.td_commands.specs.declared.command.Command.TheVariants.{Ie140}
 use Rattle.td_acts.specs.declared.rows.Change.TheVariants.{Moved}
-use Rattle.td_acts.specs.declared.said.Answer.TheVariants as answer
-use Rattle.td_acts.specs.declared.said.Refusal.TheVariants.{NoMovement, TooEarly}
-use Rattle.td_acts.specs.declared.said.Said.TheVariants.{Answered}
+use Rattle.td_commands.specs.declared.said.Answer.TheVariants as answer
+use Rattle.td_commands.specs.declared.said.Refusal.TheVariants.{NoMovement, TooEarly}
+use Rattle.td_commands.specs.declared.said.Said.TheVariants.{Answered}
 use Rattle.td_acts.specs.Account.{movement_by_mrn}
 use Rattle.td_acts.specs.Deciding.{new_state, touched}
 use Rattle.td_base.specs.Days.{day_of_moment}

@@ -1,11 +1,11 @@
 use Rattle.std.proofs.Common.{refl, ◌∙◌, ap}
 use Rattle.td_movement.specs.declared.movement.Movement.{Movement}
 use Rattle.td_movement.specs.declared.moves.Move.TheVariants.{Judge}
-use Rattle.td_acts.specs.declared.command.Command.TheVariants.{Ie018}
+use Rattle.td_commands.specs.declared.command.Command.TheVariants.{Ie018}
 use Rattle.td_acts.specs.declared.rows.Change.TheVariants.{Moved}
-use Rattle.td_acts.specs.declared.said.Answer.TheVariants as answer
-use Rattle.td_acts.specs.declared.said.Refusal.TheVariants.{NoMovement}
-use Rattle.td_acts.specs.declared.said.Said.TheVariants.{Answered}
+use Rattle.td_commands.specs.declared.said.Answer.TheVariants as answer
+use Rattle.td_commands.specs.declared.said.Refusal.TheVariants.{NoMovement}
+use Rattle.td_commands.specs.declared.said.Said.TheVariants.{Answered}
 use Rattle.td_acts.specs.Account.{movement_by_mrn}
 use Rattle.td_acts.specs.Deciding.{new_state, touched}
 use Rattle.td_acts.specs.Effects.{judged}

@@ -4,10 +4,10 @@ use Rattle.td_base.specs.Days.{day_of_moment}
 use Rattle.td_movement.specs.declared.movement.Movement.{Movement}
 use Rattle.td_movement.specs.declared.moves.Move.TheVariants.{Release}
 use Rattle.td_movement.specs.declared.state.State.TheVariants.{Released}
-use Rattle.td_acts.specs.declared.command.Command.TheVariants.{Ie029}
-use Rattle.td_acts.specs.declared.said.Answer.TheVariants as answer
-use Rattle.td_acts.specs.declared.said.Refusal.TheVariants.{NoMovement, LimitDate}
-use Rattle.td_acts.specs.declared.said.Said.TheVariants.{Answered}
+use Rattle.td_commands.specs.declared.command.Command.TheVariants.{Ie029}
+use Rattle.td_commands.specs.declared.said.Answer.TheVariants as answer
+use Rattle.td_commands.specs.declared.said.Refusal.TheVariants.{NoMovement, LimitDate}
+use Rattle.td_commands.specs.declared.said.Said.TheVariants.{Answered}
 use Rattle.td_acts.specs.Account.{movement_by_mrn, entry_in}
 use Rattle.td_acts.specs.Deciding.{new_state}
 use Rattle.td_acts.specs.Releasing.{is_limit, first_uncovered}
@@ -16,7 +16,7 @@ use Rattle.std.specs.List.{AllByRecursion}
 use Rattle.std.specs.Prelude.{IfSome}
 use Rattle.td_acts.specs.Account.{Account}
 use Rattle.td_acts.specs.Deciding.{entry_by_grn}
-use Rattle.td_acts.specs.declared.said.Said.{Said}
+use Rattle.td_commands.specs.declared.said.Said.{Said}
 use Rattle.std.proofs.Common.{ℕ, subst}
 use Rattle.td_acts.proofs.Covering.{same_uncovered}
 use Rattle.td_acts.proofs.EachMove.{released_from}

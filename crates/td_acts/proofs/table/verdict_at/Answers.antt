@@ -1,8 +1,8 @@
 use Rattle.std.proofs.Common.{ℕ, subst, sym}
 use Rattle.std.proofs.lemmas.Result.{IfOk-weaker}
 use Rattle.std.specs.Prelude.{IfOk}
-use Rattle.td_acts.specs.declared.command.Command.{Command}
-use Rattle.td_acts.specs.declared.command.Command.TheVariants.{SeeMovement, SeeMovements, SeeGuarantee, SeeGuarantees}
+use Rattle.td_commands.specs.declared.command.Command.{Command}
+use Rattle.td_commands.specs.declared.command.Command.TheVariants.{SeeMovement, SeeMovements, SeeGuarantee, SeeGuarantees}
 use Rattle.td_acts.specs.Deciding.{IsVerdictAt}
 use Rattle.td_acts.proofs.table.verdict_at.Goals as goal
 

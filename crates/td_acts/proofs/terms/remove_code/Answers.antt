@@ -3,12 +3,12 @@ use Rattle.std.specs.Prelude.{option_map, not, nat_le}
 use Rattle.std.proofs.lemmas.Bool.Decides.{nat_tests}
 use Rattle.td_guarantee.specs.declared.guarantee.Guarantee.{Guarantee}
 use Rattle.td_guarantee.specs.Usage.{used_on}
-use Rattle.td_acts.specs.declared.command.Command.TheVariants.{RemoveCode}
+use Rattle.td_commands.specs.declared.command.Command.TheVariants.{RemoveCode}
 use Rattle.td_acts.specs.declared.rows.Change.TheVariants.{CodeRemoved}
-use Rattle.td_acts.specs.declared.said.Answer.TheVariants as answer
-use Rattle.td_acts.specs.declared.said.Refusal.TheVariants.{NoHolder, NoCode, LastCode}
-use Rattle.td_acts.specs.declared.said.Said.{Said}
-use Rattle.td_acts.specs.declared.said.Said.TheVariants.{Answered}
+use Rattle.td_commands.specs.declared.said.Answer.TheVariants as answer
+use Rattle.td_commands.specs.declared.said.Refusal.TheVariants.{NoHolder, NoCode, LastCode}
+use Rattle.td_commands.specs.declared.said.Said.{Said}
+use Rattle.td_commands.specs.declared.said.Said.TheVariants.{Answered}
 use Rattle.td_acts.specs.Account.{Account, uncoded}
 use Rattle.td_acts.specs.Deciding.{entry_by_grn}
 use Rattle.td_acts.specs.Table.{refuse_if, stands}

@@ -2,12 +2,12 @@ use Rattle.std.proofs.Common.{ℕ, Some, refl, sym, ◌∙◌, ap}
 use Rattle.std.specs.Prelude.{option_map, is_some}
 use Rattle.td_base.specs.Days.{day_of_moment}
 use Rattle.td_guarantee.specs.declared.guarantee.Guarantee.{Guarantee}
-use Rattle.td_acts.specs.declared.command.Command.TheVariants.{Revoke}
+use Rattle.td_commands.specs.declared.command.Command.TheVariants.{Revoke}
 use Rattle.td_acts.specs.declared.rows.Change.TheVariants.{TermsSet}
-use Rattle.td_acts.specs.declared.said.Answer.TheVariants as answer
-use Rattle.td_acts.specs.declared.said.Refusal.TheVariants.{NoGuarantee, AlreadyEnded}
-use Rattle.td_acts.specs.declared.said.Said.{Said}
-use Rattle.td_acts.specs.declared.said.Said.TheVariants.{Answered}
+use Rattle.td_commands.specs.declared.said.Answer.TheVariants as answer
+use Rattle.td_commands.specs.declared.said.Refusal.TheVariants.{NoGuarantee, AlreadyEnded}
+use Rattle.td_commands.specs.declared.said.Said.{Said}
+use Rattle.td_commands.specs.declared.said.Said.TheVariants.{Answered}
 use Rattle.td_acts.specs.Deciding.{entry_by_grn, no_terms}
 use Rattle.td_acts.specs.Effects.{end_after}
 use Rattle.td_acts.specs.Table.{refuse_if}

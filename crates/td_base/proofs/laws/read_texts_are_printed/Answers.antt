@@ -1,5 +1,6 @@
 use Rattle.td_time.proofs.DayAgain.{day_again}
-use Rattle.td_base.proofs.Printed.{holder_again, cents_again}
+use Rattle.td_money.proofs.Printed.{cents_again}
+use Rattle.td_base.proofs.Printed.{holder_again}
 use Rattle.td_base.proofs.laws.read_texts_are_printed.Goals as goal
 
 pub returns-clause-holder : goal.returns-clause-holder

@@ -1,4 +1,4 @@
-use Rattle.td_routes.specs.declared.fault.WebFault.TheVariants.{BadGrn}
+use Rattle.td_fields.specs.declared.fault.WebFault.TheVariants.{BadGrn}
 use Rattle.td_routes.proofs.PartFacts.{part_read_is}
 use Rattle.td_routes.proofs.routes.read_grn.Goals as goal
 

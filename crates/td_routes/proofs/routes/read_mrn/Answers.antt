@@ -1,4 +1,4 @@
-use Rattle.td_routes.specs.declared.fault.WebFault.TheVariants.{BadMrn}
+use Rattle.td_fields.specs.declared.fault.WebFault.TheVariants.{BadMrn}
 use Rattle.td_routes.proofs.PartFacts.{part_read_is}
 use Rattle.td_routes.proofs.routes.read_mrn.Goals as goal
 

@@ -5,10 +5,10 @@ use Rattle.td_movement.specs.declared.movement.Movement.{Movement}
 use Rattle.td_guarantee.specs.declared.guarantee.Guarantee.{Guarantee}
 use Rattle.td_guarantee.specs.Usage.{used_on}
 use Rattle.td_acts.specs.Account.{account_with, guarantee_by_grn, movement_by_mrn, movement_by_lrn}
-use Rattle.td_acts.specs.declared.needs.Needs.{Needs}
+use Rattle.td_commands.specs.declared.needs.Needs.{Needs}
 use Rattle.td_acts.specs.declared.rows.Loaded.{Loaded}
 use Rattle.td_acts.specs.Deciding.{IsLookedUp}
-use Rattle.td_acts.specs.Commands.{need_said}
+use Rattle.td_commands.specs.Commands.{need_said}
 use Rattle.td_acts.specs.Sound.{IsCovered}
 use Rattle.td_desk.proofs.Loading.{taken, lodging_looked_up, movement_looked_up, release_looked_up, guarantee_looked_up}
 use Rattle.td_desk.proofs.file.HolderFile.load.Goals as goal

@@ -1,0 +1,3 @@
+mod NameFacts
+mod LineFacts
+mod MemberFacts

@@ -1,0 +1,3 @@
+mod Readers
+mod Amounts
+pub mod Printed

@@ -1,0 +1,8 @@
+//! Amounts of money, reference amounts and covers of guarantees.
+#![tactic(auto)]
+
+mod money;
+#[cfg(test)]
+mod tests;
+
+pub use money::{Cents, Cover, Reference, cents_read_back};

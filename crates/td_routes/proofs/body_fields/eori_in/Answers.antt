@@ -1,6 +1,0 @@
-use Rattle.td_base.specs.Eori.{eori_read}
-use Rattle.td_routes.proofs.BodyFacts.{read_of}
-use Rattle.td_routes.proofs.body_fields.eori_in.Goals as goal
-
-pub returns : goal.returns
-returns c = read_of eori_read _ _ _ (rw c.name.ensures at c.in_ok-text.ensures) (rw c.as_bytes.ensures.value at c.read.ensures.value)
