@@ -8,11 +8,11 @@ use td_base::{AccessCode, Cents, Cover, Day, Eori, Grn, HolderNo, Lrn, Moment, M
 use td_guarantee::{Codes, Guarantee};
 use td_movement::{Line, Movement, MovementLines, State};
 
-const FIRST: &[u8] = b"25CH0000010000014";
+pub const FIRST: &[u8] = b"25CH0000010000014";
 
 const SECOND: &[u8] = b"25CH0000010000023";
 
-const MRNS: [&[u8]; 2] = [b"25CH00000100000013", b"25CH00000100000021"];
+pub const MRNS: [&[u8]; 2] = [b"25CH00000100000013", b"25CH00000100000021"];
 
 fn row() -> Result<HolderRow, Fail> {
     Ok(HolderRow {
@@ -56,7 +56,7 @@ fn movement(alloc: Global, mrn: &[u8], lrn: &[u8]) -> Result<Movement, Fail> {
 }
 
 // A desk of holder 000001 with two guarantees and two movements.
-fn desk(alloc: Global) -> Result<PlainDesk, Fail> {
+pub fn desk(alloc: Global) -> Result<PlainDesk, Fail> {
     let mut desk = PlainDesk::new(alloc, country().ok_or("a country")?)?;
     desk.write(alloc, Change::Registered(row()?))?;
     for grn in [FIRST, SECOND] {
@@ -69,7 +69,7 @@ fn desk(alloc: Global) -> Result<PlainDesk, Fail> {
     Ok(desk)
 }
 
-fn holder() -> Result<HolderNo, Fail> {
+pub fn holder() -> Result<HolderNo, Fail> {
     Ok(HolderNo::new(1).ok_or("a holder")?)
 }
 
@@ -101,7 +101,7 @@ fn shown(alloc: Global, desk: &mut PlainDesk, grn: &[u8]) -> Result<String, Fail
 }
 
 // The desk puts a movement into a state.
-fn put(alloc: Global, desk: &mut PlainDesk, mrn: &[u8], state: State) -> Result<(), Fail> {
+pub fn put(alloc: Global, desk: &mut PlainDesk, mrn: &[u8], state: State) -> Result<(), Fail> {
     let status = NewStatus {
         mrn: Mrn::read(mrn)?,
         state,
