@@ -6,7 +6,8 @@ use Rattle.counted_io.specs.declared.counted.Counted.{Counted}
 use Rattle.counted_io.specs.Counted.{calls_of, has_failed, known_bytes, one_more}
 
 -- one read, which gave this piece, and failed or not
-pub record IsRead {R : Type 0} (remaining : R → Option (List ℕ)) (failed : Bool) (old : Counted R) (piece : List ℕ) (new : Counted R) : Type 0 where
+pub record IsRead {R : Type 0} (remaining : R → Option (List ℕ)) (failed : Bool) (old : Counted R)
+    (piece : List ℕ) (new : Counted R) : Type 0 where
   pub consumed : Consumes (known_bytes remaining old) (known_bytes remaining new) piece
   pub called : calls_of new ≡ one_more (calls_of old)
   pub how : has_failed new ≡ failed
@@ -20,7 +21,8 @@ abbrev pub Brought : {R : Type 0} → (R → Option (List ℕ)) → Counted R �
 Brought remaining old pieces new = FoldsTo (Brings remaining) old pieces new
 
 -- one write, which took this piece, and failed (or took nothing of what it was given) or not
-pub record IsWrite {W : Type 0} (contents : W → Option (List ℕ)) (failed : Bool) (old : Counted W) (piece : List ℕ) (new : Counted W) : Type 0 where
+pub record IsWrite {W : Type 0} (contents : W → Option (List ℕ)) (failed : Bool) (old : Counted W)
+    (piece : List ℕ) (new : Counted W) : Type 0 where
   pub appended : Appends (known_bytes contents old) (known_bytes contents new) piece
   pub called : calls_of new ≡ one_more (calls_of old)
   pub how : has_failed new ≡ failed
@@ -34,9 +36,11 @@ abbrev pub EndsWriting : {W : Type 0} → (W → Option (List ℕ)) → Counted 
 EndsWriting contents mid new true = new ≡ mid
 EndsWriting contents mid new false = IsWrite contents true mid [] new
 
--- The text was written piece by piece: each write took at least one byte of it and did not fail. Where it isn't the whole
--- that was to be written, one more write failed or took nothing, and none came after that one.
-pub record Wrote {W : Type 0} (contents : W → Option (List ℕ)) (old new : Counted W) (text : List ℕ) (whole : Bool) : Type 0 where
+-- The text was written piece by piece: each write took at least one byte of it and did not fail. Where it
+-- isn't the whole that was to be written, one more write failed or took nothing, and none came after that
+-- one.
+pub record Wrote {W : Type 0} (contents : W → Option (List ℕ)) (old new : Counted W) (text : List ℕ)
+    (whole : Bool) : Type 0 where
   pub pieces : List (List ℕ)
   pub mid : Counted W
   pub took : FoldsTo (TakesSome contents) old pieces mid

@@ -6,7 +6,8 @@ use Rattle.counted_io.specs.Chains.{Wrote}
 use Rattle.counted_io.specs.Counted.{calls_of, has_failed, known_bytes, HasMade}
 
 -- only the first n bytes of the message were taken, since the last write, one of these, failed or took nothing
-pub record IsCutShort {W : Type 0} (contents : W → Option (List ℕ)) (old new : Counted W) (message : List ℕ) : Type 0 where
+pub record IsCutShort {W : Type 0} (contents : W → Option (List ℕ)) (old new : Counted W)
+    (message : List ℕ) : Type 0 where
   pub taken : ℕ
   pub short : taken < length message
   pub appended : Appends (known_bytes contents old) (known_bytes contents new) (take taken message)

@@ -60,7 +60,8 @@ impl<R: Read> Read for Counted<R> {
 
     fn read(&mut self, buf: &mut [u8]) -> io::Result<usize>
         ensures bound { ReadsAtMost result buf.new }
-        ensures bytes { ReadConsumes (known_bytes R.remaining self.old) (known_bytes R.remaining self.new) result buf.new }
+        ensures bytes { ReadConsumes (known_bytes R.remaining self.old)
+            (known_bytes R.remaining self.new) result buf.new }
         ensures calls { calls_of self.new ≡ one_more (calls_of self.old) }
         ensures failed { IsTrue (has_failed self.new) ↔ IsErr result }
     {
@@ -78,7 +79,8 @@ impl<W: Write> Write for Counted<W> {
 
     fn write(&mut self, buf: &[u8]) -> io::Result<usize>
         ensures bound { WritesAtMost result buf.now }
-        ensures bytes { WriteAppends (known_bytes W.contents self.old) (known_bytes W.contents self.new) result buf.now }
+        ensures bytes { WriteAppends (known_bytes W.contents self.old)
+            (known_bytes W.contents self.new) result buf.now }
         ensures calls { calls_of self.new ≡ one_more (calls_of self.old) }
         ensures failed { IsTrue (has_failed self.new) ↔ (IsErr result ⊎ ((result ≡ Ok 0) × (0 < length buf.now))) }
     {

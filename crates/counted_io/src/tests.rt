@@ -1,5 +1,5 @@
-//! A counted reader or writer hands each call on, and answers what the inner one answered. No contract can say this of any
-//! inner one: what a reader has left doesn't tell how often it was asked.
+//! A counted reader or writer hands each call on, and answers what the inner one answered. No contract can
+//! say this of any inner one: what a reader has left doesn't tell how often it was asked.
 ghost use Rattle.std.specs.Prelude.{◌≤◌, IfOk};
 
 use crate::Counted;

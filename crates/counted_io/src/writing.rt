@@ -11,7 +11,8 @@ use std::io::Write;
 /// Writes the bytes, and answers whether all of them were taken. Otherwise a write failed or took nothing,
 /// and those before it were taken.
 pub fn write_whole<W: Write>(writer: &mut Counted<W>, bytes: &[u8]) -> bool
-    ensures whole { result ≡ true → Appends (known_bytes W.contents writer.old) (known_bytes W.contents writer.new) bytes.now }
+    ensures whole { result ≡ true
+        → Appends (known_bytes W.contents writer.old) (known_bytes W.contents writer.new) bytes.now }
     ensures cut { result ≡ false → IsCutShort W.contents writer.old writer.new bytes.now }
     ensures writes { MadeWrites writer.old writer.new result }
     ensures written { (n : ℕ) × (n ≤ length bytes.now)

@@ -44,8 +44,8 @@ fn is_earlier<R: Row>(rows: &[R], pattern: &str) -> bool
     rows.iter().any(|row| row.pattern() == pattern)
 }
 
-// The router of these rows: each pattern once, with the place of its first row. Where the patterns are plain and no path
-// fits two, it only fails for want of memory.
+// The router of these rows: each pattern once, with the place of its first row. Where the patterns are plain
+// and no path fits two, it only fails for want of memory.
 fn router_of<R: Row>(alloc: Global, rows: &[R]) -> Result<Router<usize>, InsertError>
     ensures { IfOk result (λ router. router ≡ router_for R.pattern rows.now) }
 {
@@ -60,9 +60,9 @@ fn router_of<R: Row>(alloc: Global, rows: &[R]) -> Result<Router<usize>, InsertE
 }
 
 impl<'t, R: Row> PathTable<'t, R> {
-    /// A table of these rows. Their patterns are plain (at most 1,000 bytes, and each segment of ASCII characters other
-    /// than `*`, `{` and `}`, or a name of such characters in braces), and no path fits two different ones.
-    /// `AllocError`: want of memory.
+    /// A table of these rows. Their patterns are plain (at most 1,000 bytes, and each segment of ASCII
+    /// characters other than `*`, `{` and `}`, or a name of such characters in braces), and no path fits two
+    /// different ones. `AllocError`: want of memory.
     pub fn new(alloc: Global, rows: &'t [R]) -> Result<PathTable<'t, R>, AllocError>
         requires { IsTrue (is_sound (map R.pattern rows.now)) }
         ensures { IfOk result (λ table. table.rows.now ≡ rows.now) }

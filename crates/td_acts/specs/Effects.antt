@@ -63,7 +63,8 @@ movement_said t (Ie045 mrn cause) = at_mrn mrn (λ m. record m { state = Written
 movement_said t (Ie140 mrn) = at_mrn mrn (λ m. record m { state = Enquired })
 movement_said t command = λ m. m
 
--- the end of a guarantee that is revoked on a day: from the sixteenth day after on nothing is lodged or released on it
+-- the end of a guarantee that is revoked on a day: from the sixteenth day after on nothing is lodged or
+-- released on it
 abbrev pub end_after : ℕ → ℕ
 end_after day = day + 16
 

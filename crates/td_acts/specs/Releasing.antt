@@ -11,8 +11,8 @@ use Rattle.td_acts.specs.Declaring.{refusal_or}
 abbrev pub is_limit : ℕ → ℕ → Bool
 is_limit day limit = nat_le day limit && nat_le limit (day + 365)
 
--- The first of a line's tests that refuses its release: the guarantee's end, and what is free on it beside the amount
--- in use. Nothing is released on a guarantee that isn't there.
+-- The first of a line's tests that refuses its release: the guarantee's end, and what is free on it beside
+-- the amount in use. Nothing is released on a guarantee that isn't there.
 abbrev pub cover_refusal : ℕ → ℕ → Option (Guarantee × ℕ) → Option Refusal
 cover_refusal day cents None = Some NoGuarantee
 cover_refusal day cents (Some e) =
@@ -20,8 +20,8 @@ cover_refusal day cents (Some e) =
     else (if is_within e.0.reference e.1 cents then None
     else Some (OverReference (e.0.reference - e.1) e.0.grn))
 
--- the refusal of the first line that is refused, where the guarantees and the amounts in use on them are these: each
--- line is tested against what is in use before the release
+-- the refusal of the first line that is refused, where the guarantees and the amounts in use on them are
+-- these: each line is tested against what is in use before the release
 abbrev pub first_uncovered : ℕ → (List ℕ → Option (Guarantee × ℕ)) → List Line → Option Refusal
 first_uncovered day entry [] = None
 first_uncovered day entry (l ∷ lines) =

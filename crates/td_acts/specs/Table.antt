@@ -62,8 +62,8 @@ abbrev pub if_not_refused : Option Refusal → Said → Said
 if_not_refused None said = said
 if_not_refused (Some refusal) said = Refused refusal
 
--- A command on a guarantee of the owner's, if that one is found: refused for this where the owner isn't registered,
--- then by the clock, and where the guarantee isn't there.
+-- A command on a guarantee of the owner's, if that one is found: refused for this where the owner isn't
+-- registered, then by the clock, and where the guarantee isn't there.
 abbrev pub on_guarantee : Refusal → Option HolderRow → ℕ → Option Guarantee → (Guarantee → Said) → Said
 on_guarantee unregistered holder t found said_of =
     or_refuse unregistered holder (λ row.

@@ -21,7 +21,8 @@ const MAX_CODES: usize = 20;
 /// How many days after its revocation a guarantee ends.
 const DAYS_TO_END: u32 = 16;
 
-/// A guarantee that a command names, the amount in use on it, and the row of its holder at the moment of the command.
+/// A guarantee that a command names, the amount in use on it, and the row of its holder at the moment of the
+/// command.
 #[derive(Clone, Copy)]
 struct Named<'a> {
     row: HolderRow,

@@ -228,7 +228,8 @@ fn declarations_are_decided(rt: HostRuntime) -> Result<(), Fail> {
     Ok(())
 }
 
-/// Whether this is said to a request to cancel the movement, and something is written exactly where `writes` says so.
+/// Whether this is said to a request to cancel the movement, and something is written exactly where `writes`
+/// says so.
 fn is_cancelled(alloc: Global, loaded: &Loaded, want: &str, writes: bool) -> Result<bool, Fail> {
     let command = Command::Ie014 {
         holder: HolderNo::new(1).ok_or("a holder")?,

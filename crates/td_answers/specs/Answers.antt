@@ -88,7 +88,8 @@ field_data name field = object (member (codes "error") (string name) (member (co
 
 -- an error and the reason for it
 abbrev pub reason_data : List ℕ → List ℕ → Data
-reason_data name reason = object (member (codes "error") (string name) (member (codes "reason") (string reason) no_members))
+reason_data name reason =
+    object (member (codes "error") (string name) (member (codes "reason") (string reason) no_members))
 
 -- what is said
 abbrev pub said_data : Said → Data
@@ -117,11 +118,13 @@ fault_body fault = compact_text (fault_data fault)
 abbrev pub answer_body : Answer → List ℕ
 answer_body (Holder holder eori guarantees movements) =
     codes "{\"eori\":\"" ++ (eori ++ (codes "\",\"guarantees\":" ++ (decimal guarantees
-    ++ (codes ",\"holder\":\"" ++ (holder_text holder ++ (codes "\",\"movements\":" ++ (decimal movements ++ codes "}")))))))
+    ++ (codes ",\"holder\":\""
+    ++ (holder_text holder ++ (codes "\",\"movements\":" ++ (decimal movements ++ codes "}")))))))
 answer_body (Opened grn) = codes "{\"grn\":\"" ++ (grn ++ codes "\"}")
 answer_body (Revoked ends grn) =
     codes "{\"ends\":\"" ++ (day_text ends ++ (codes "\",\"grn\":\"" ++ (grn ++ codes "\"}")))
-answer_body (Ie028 lrn mrn) = codes "{\"lrn\":\"" ++ (lrn ++ (codes "\",\"message\":\"IE028\",\"mrn\":\"" ++ (mrn ++ codes "\"}")))
+answer_body (Ie028 lrn mrn) =
+    codes "{\"lrn\":\"" ++ (lrn ++ (codes "\",\"message\":\"IE028\",\"mrn\":\"" ++ (mrn ++ codes "\"}")))
 answer_body (Ie014 mrn) = codes "{\"message\":\"IE014\",\"mrn\":\"" ++ (mrn ++ codes "\",\"state\":\"cancelled\"}")
 answer_body (Ie029 limit mrn) =
     codes "{\"limit\":\"" ++ (day_text limit
@@ -194,4 +197,5 @@ unfoldable pub said_reply : Said → Bool → List ℕ
 said_reply said close = reply_text (said_status said) None close (said_body said)
 
 unfoldable pub fault_reply : WebFault → Bool → List ℕ
-fault_reply fault close = reply_text (fault_status fault) (fault_allow fault) (stops_after fault close) (fault_body fault)
+fault_reply fault close =
+    reply_text (fault_status fault) (fault_allow fault) (stops_after fault close) (fault_body fault)

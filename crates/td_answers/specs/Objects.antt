@@ -29,7 +29,9 @@ day_data = or_null (λ day. string (day_text day))
 
 -- a line of a movement
 abbrev pub line_data : Line → Data
-line_data line = object (member (codes "cents") (number (unsigned line.cents)) (member (codes "grn") (string line.grn) no_members))
+line_data line =
+    object (member (codes "cents") (number (unsigned line.cents))
+    (member (codes "grn") (string line.grn) no_members))
 
 -- lines, in their order
 abbrev pub lines_data : List Line → Data

@@ -6,7 +6,8 @@ use Rattle.ascii_text.specs.Letters.{IsMark}
 -- since a multiple of 11 would add nothing to a sum modulo 11.
 abbrev pub letter_values : List ℕ
 letter_values =
-    10 ∷ 12 ∷ 13 ∷ 14 ∷ 15 ∷ 16 ∷ 17 ∷ 18 ∷ 19 ∷ 20 ∷ 21 ∷ 23 ∷ 24 ∷ 25 ∷ 26 ∷ 27 ∷ 28 ∷ 29 ∷ 30 ∷ 31 ∷ 32 ∷ 34 ∷ 35 ∷ 36 ∷ 37 ∷ 38 ∷ []
+    10 ∷ 12 ∷ 13 ∷ 14 ∷ 15 ∷ 16 ∷ 17 ∷ 18 ∷ 19 ∷ 20 ∷ 21 ∷ 23 ∷ 24 ∷ 25 ∷ 26 ∷ 27 ∷ 28 ∷ 29 ∷ 30 ∷ 31 ∷ 32 ∷ 34
+    ∷ 35 ∷ 36 ∷ 37 ∷ 38 ∷ []
 
 -- the value of a character: a digit's own, or its letter's
 abbrev pub value_of : ℕ → ℕ

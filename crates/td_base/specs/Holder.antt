@@ -34,4 +34,6 @@ holder_read text = if is_holder_text text then Some (digits_value text) else Non
 
 -- the number in six digits
 abbrev pub holder_text : ℕ → List ℕ
-holder_text n = (48 + n / 100000 % 10) ∷ (48 + n / 10000 % 10) ∷ (48 + n / 1000 % 10) ∷ (48 + n / 100 % 10) ∷ (48 + n / 10 % 10) ∷ (48 + n % 10) ∷ []
+holder_text n =
+    (48 + n / 100000 % 10) ∷ (48 + n / 10000 % 10) ∷ (48 + n / 1000 % 10) ∷ (48 + n / 100 % 10)
+    ∷ (48 + n / 10 % 10) ∷ (48 + n % 10) ∷ []

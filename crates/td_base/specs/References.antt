@@ -153,6 +153,7 @@ IsMrnSerial serial = (1 ≤ serial) × (serial ≤ 9999999)
 abbrev pub TellsApart : (ℕ → List ℕ → ℕ → ℕ → List ℕ) → (ℕ → Type 0) → Type 0
 TellsApart made IsSerial =
     (year year' : ℕ) (country country' : List ℕ) (holder holder' serial serial' : ℕ)
-    → IsCountry country → IsCountry country' → IsHolderNumber holder → IsHolderNumber holder' → IsSerial serial → IsSerial serial'
+    → IsCountry country → IsCountry country' → IsHolderNumber holder → IsHolderNumber holder' → IsSerial serial
+    → IsSerial serial'
     → made year country holder serial ≡ made year' country' holder' serial'
     → (holder ≡ holder') × (serial ≡ serial')

@@ -26,7 +26,8 @@ impl Model for Eori {
 
     ghost inverse = { λ l. record { bytes = l ++ replicate (17 - length l) 0; len = length l } };
 
-    ghost inverse_ok = { λ a h. kept_back IsEori 17 (λ bytes len. record { bytes = bytes; len = len }) a.bytes a.len h };
+    ghost inverse_ok = { λ a h.
+        kept_back IsEori 17 (λ bytes len. record { bytes = bytes; len = len }) a.bytes a.len h };
 }
 
 impl Eori {

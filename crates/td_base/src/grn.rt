@@ -12,8 +12,8 @@ use std::marker::Model;
 /// The greatest serial of a holder's guarantees: it has six digits in the reference.
 const MAX_SERIAL: u32 = 999_999;
 
-/// A guarantee reference number (GRN) of NCTS: two digits of a year, two capital letters of a country, 12 digits or
-/// capital letters and a check digit. Contracts see it as its text.
+/// A guarantee reference number (GRN) of NCTS: two digits of a year, two capital letters of a country, 12
+/// digits or capital letters and a check digit. Contracts see it as its text.
 #[derive(Clone, Copy, Debug, PartialEq, Eq, PartialOrd, Ord)]
 pub struct Grn {
     bytes: [u8; 17],
@@ -44,8 +44,8 @@ impl Grn {
         Ok(Grn { bytes })
     }
 
-    /// The GRN of that serial of a holder's guarantees, in the two digits of a year: the holder in six digits, then
-    /// the serial in six. `None` for a year above 99, and for a serial outside 1 to 999999.
+    /// The GRN of that serial of a holder's guarantees, in the two digits of a year: the holder in six
+    /// digits, then the serial in six. `None` for a year above 99, and for a serial outside 1 to 999999.
     pub fn make(year2: u8, country: Country, holder: HolderNo, serial: u32) -> Option<Self>
         ensures { SomeIff result ((year2 ≤ 99) × IsGrnSerial serial) (grn_text year2 country holder serial) }
     {

@@ -10,9 +10,10 @@ use Rattle.td_cli.specs.Statuses.{status_of_end, message_of_end, IsTold, IsAnswe
 use Rattle.td_cli.specs.Words.{AsksFor}
 use Rattle.td_wire.specs.declared.stream.StreamEnd.{StreamEnd}
 
--- The words ask for a job, which was done at that country and moment, and its end has its status and its message; or they
--- ask for none: then nothing was read, and they were answered.
-abbrev pub IsPerformed : {R W E : Type 0} → (R → Option (List ℕ)) → (W → Option (List ℕ)) → (E → Option (List ℕ)) → List (List ℕ)
+-- The words ask for a job, which was done at that country and moment, and its end has its status and its
+-- message; or they ask for none: then nothing was read, and they were answered.
+abbrev pub IsPerformed : {R W E : Type 0} → (R → Option (List ℕ)) → (W → Option (List ℕ))
+    → (E → Option (List ℕ)) → List (List ℕ)
     → Counted R → Counted R → Counted W → Counted W → Counted E → Counted E → ℕ → Type 0
 IsPerformed remaining contents said words reader reader_left writer writer_left errors errors_left status =
     ((country : List ℕ) × (at : Option ℤ) × (end : Option StreamEnd) × AsksFor words country at

@@ -12,10 +12,11 @@ use Rattle.td_http.specs.Served.{desk_of, IsHandledBy, IsHeadHandledBy}
 use Rattle.td_http.specs.Serving.{IsServed}
 use Rattle.td_wire.specs.Stream.{Serves}
 
--- A stream of requests was served at a desk that began empty, in this country: the bytes consumed are whole requests and a rest, what was
--- written is the replies to them and what parts with the rest, and each holder's requests had the replies of that holder's own machine,
--- from an empty book.
-pub record IsPiped {R W C : Type 0} (remaining : R → Option (List ℕ)) (contents : W → Option (List ℕ)) (ticks : C → ℤ → C → Type 0) (country : List ℕ)
+-- A stream of requests was served at a desk that began empty, in this country: the bytes consumed are whole
+-- requests and a rest, what was written is the replies to them and what parts with the rest, and each
+-- holder's requests had the replies of that holder's own machine, from an empty book.
+pub record IsPiped {R W C : Type 0} (remaining : R → Option (List ℕ)) (contents : W → Option (List ℕ))
+    (ticks : C → ℤ → C → Type 0) (country : List ℕ)
     (reader reader_left : Counted R) (writer writer_left : Counted W) (clock : C) (end : StreamEnd) : Type 0 where
   pub opened : Service PlainDesk
   pub left : Service PlainDesk
@@ -24,17 +25,20 @@ pub record IsPiped {R W C : Type 0} (remaining : R → Option (List ℕ)) (conte
   pub served : Serves remaining contents ticks (IsHandledBy rows_in (λ d. Unit {0}) (λ d. Unit {0}) ⊥) IsHeadHandledBy
       (record { reader = reader; writer = writer; clock = clock; handler = opened })
       (record { reader = reader_left; writer = writer_left; clock = clock_left; handler = left }) end
-  pub private : IsServed country (λ H. fresh_book (empty_account country)) 0 served.run.exchanges (rows_in (desk_of left))
+  pub private : IsServed country (λ H. fresh_book (empty_account country)) 0 served.run.exchanges
+      (rows_in (desk_of left))
 
--- What a job leaves whose stream ended so: a stream that was served, or, where there was no memory for the desk, both sides as they were.
+-- What a job leaves whose stream ended so: a stream that was served, or, where there was no memory for the
+-- desk, both sides as they were.
 abbrev pub PipesAs : {R W C : Type 0} → (R → Option (List ℕ)) → (W → Option (List ℕ)) → (C → ℤ → C → Type 0) → List ℕ
     → Counted R → Counted R → Counted W → Counted W → C → Option StreamEnd → Type 0
 PipesAs remaining contents ticks country reader reader_left writer writer_left clock (Some end) =
     IsPiped remaining contents ticks country reader reader_left writer writer_left clock end
-PipesAs remaining contents ticks country reader reader_left writer writer_left clock None = (reader_left ≡ reader) × (writer_left ≡ writer)
+PipesAs remaining contents ticks country reader reader_left writer writer_left clock None =
+    (reader_left ≡ reader) × (writer_left ≡ writer)
 
--- The moments of a job's requests: the one of the job, or, where it has none, any that the machine's clock shows. What the clock itself
--- is in between is left out.
+-- The moments of a job's requests: the one of the job, or, where it has none, any that the machine's clock
+-- shows. What the clock itself is in between is left out.
 abbrev pub IsMoment : Option ℤ → Unit {0} → ℤ → Unit {0} → Type 0
 IsMoment (Some at) old now new = now ≡ at
 IsMoment None old now new = Unit {0}

@@ -9,8 +9,8 @@ use Rattle.td_cli.specs.declared.words.NoJob.TheVariants.{Help, Wrong, NoMemory}
 use Rattle.td_wire.specs.declared.stream.StreamEnd.{StreamEnd}
 use Rattle.td_wire.specs.declared.stream.StreamEnd.TheVariants.{Closed, Asked, Served, Refused, Cut, ReadsSpent, ReadFault, WriteFault, Failed}
 
--- 0 where the stream ended at the end of the input, by a request to close, or after its last request, and 1 where it ended
--- otherwise, or where there was no memory for the desk
+-- 0 where the stream ended at the end of the input, by a request to close, or after its last request, and 1
+-- where it ended otherwise, or where there was no memory for the desk
 abbrev pub status_of_end : Option StreamEnd → ℕ
 status_of_end (Some Closed) = 0
 status_of_end (Some Asked) = 0
@@ -38,13 +38,18 @@ message_of_end None = codes "transit-desk: no-memory\n"
 
 -- the text was written, or as much of it as the writer took
 abbrev pub IsTold : {W : Type 0} → (W → Option (List ℕ)) → Counted W → Counted W → List ℕ → Type 0
-IsTold contents old new text = Appends (known_bytes contents old) (known_bytes contents new) text ⊎ IsCutShort contents old new text
+IsTold contents old new text =
+    Appends (known_bytes contents old) (known_bytes contents new) text ⊎ IsCutShort contents old new text
 
--- Words that ask for no job: help that was asked for goes to the first writer, and what is wrong is told to the second.
-abbrev pub IsAnswered : {W E : Type 0} → (W → Option (List ℕ)) → (E → Option (List ℕ)) → Counted W → Counted W → Counted E → Counted E → NoJob → ℕ → Type 0
+-- Words that ask for no job: help that was asked for goes to the first writer, and what is wrong is told to
+-- the second.
+abbrev pub IsAnswered : {W E : Type 0} → (W → Option (List ℕ)) → (E → Option (List ℕ)) → Counted W → Counted W
+    → Counted E → Counted E → NoJob → ℕ → Type 0
 IsAnswered contents said out out_left errors errors_left (Help text) status =
-    ((status ≡ 0) × Appends (known_bytes contents out) (known_bytes contents out_left) (string_bytes text) × (errors_left ≡ errors))
-    ⊎ ((status ≡ 1) × IsCutShort contents out out_left (string_bytes text) × IsTold said errors errors_left (codes "transit-desk: write\n"))
+    ((status ≡ 0) × Appends (known_bytes contents out) (known_bytes contents out_left) (string_bytes text)
+    × (errors_left ≡ errors))
+    ⊎ ((status ≡ 1) × IsCutShort contents out out_left (string_bytes text)
+    × IsTold said errors errors_left (codes "transit-desk: write\n"))
 IsAnswered contents said out out_left errors errors_left (Wrong text) status =
     (status ≡ 2) × (out_left ≡ out) × IsTold said errors errors_left (string_bytes text)
 IsAnswered contents said out out_left errors errors_left NoMemory status =

@@ -20,8 +20,9 @@ const FAULT: u8 = 1;
 /// The status of wrong words.
 const WRONG_WORDS: u8 = 2;
 
-/// Does what the words ask for, and gives the program's status. The first word is the program's name; replies go to `out`, and the
-/// text of wrong words, or one message for a fault, to `errors`. A text that can't be written is dropped. The input is read by a job alone.
+/// Does what the words ask for, and gives the program's status. The first word is the program's name; replies
+/// go to `out`, and the text of wrong words, or one message for a fault, to `errors`. A text that can't be
+/// written is dropped. The input is read by a job alone.
 pub fn perform<R: Read, W: Write, E: Write>(
     rt: &(impl AllocGlobal + std::rt::Clock),
     words: &[String],
@@ -41,8 +42,8 @@ pub fn perform<R: Read, W: Write, E: Write>(
     }
 }
 
-// Does a job of this country, at this moment or by the machine's clock, and answers how its stream ended. `None`: there was no memory
-// for the desk.
+// Does a job of this country, at this moment or by the machine's clock, and answers how its stream ended.
+// `None`: there was no memory for the desk.
 fn do_job<R: Read, W: Write>(
     rt: &(impl AllocGlobal + std::rt::Clock),
     country: Country,
@@ -78,8 +79,8 @@ fn tell<W: Write, E: Write>(no_job: &NoJob, out: &mut Counted<W>, errors: &mut C
     }
 }
 
-/// The status where the words themselves couldn't be read: there was no memory for them, or they aren't text. The kind of the error
-/// says which.
+/// The status where the words themselves couldn't be read: there was no memory for them, or they aren't text.
+/// The kind of the error says which.
 pub(crate) fn unread_words<E: Write>(error: &io::Error, errors: &mut Counted<E>) -> u8
     ensures { IsUnread E.contents error.now errors.old errors.new result }
 {
@@ -102,7 +103,8 @@ fn fault<E: Write>(errors: &mut Counted<E>, message: &str) -> u8
     FAULT
 }
 
-// Serves one stream of requests on a new desk in memory, which is gone after it. `None`: there was no memory for the desk.
+// Serves one stream of requests on a new desk in memory, which is gone after it. `None`: there was no memory
+// for the desk.
 fn pipe<R: Read, W: Write, C: Clock + Drop>(
     alloc: Global,
     country: Country,

@@ -1,5 +1,5 @@
-//! The desk's program over any reader and writers: the jobs that the words of the command line ask for. The program itself only hands
-//! the machine's own in.
+//! The desk's program over any reader and writers: the jobs that the words of the command line ask for. The
+//! program itself only hands the machine's own in.
 #![tactic(auto)]
 
 mod clock;

@@ -8,13 +8,14 @@ use std::io::{Read, Write};
 use std::{env, io};
 use td_base::Counted;
 
-/// The words of the command line, the program's name first. An error: there was no memory for them, or they aren't UTF-8 text.
+/// The words of the command line, the program's name first. An error: there was no memory for them, or they
+/// aren't UTF-8 text.
 pub fn words_of(rt: &(impl AllocGlobal + Env)) -> io::Result<Vec<String>> {
     Ok(env::args(rt)?.collect(rt.alloc())?)
 }
 
-/// The program on words that were read, or not: does what they ask for as `perform` does, or says why they couldn't be read, and gives
-/// the status. Replies go to `out`, and what is wrong to `errors`.
+/// The program on words that were read, or not: does what they ask for as `perform` does, or says why they
+/// couldn't be read, and gives the status. Replies go to `out`, and what is wrong to `errors`.
 pub fn run_program<R: Read, W: Write, E: Write>(
     rt: &(impl AllocGlobal + std::rt::Clock),
     words: io::Result<Vec<String>>,
@@ -25,7 +26,8 @@ pub fn run_program<R: Read, W: Write, E: Write>(
     ensures { MatchResult words
         (λ words. IsPerformed R.remaining W.contents E.contents (map string_bytes words.items)
         input.old input.new out.old out.new errors.old errors.new result)
-        (λ error. (input.new ≡ input.old) × (out.new ≡ out.old) × IsUnread E.contents error errors.old errors.new result) }
+        (λ error. (input.new ≡ input.old) × (out.new ≡ out.old)
+        × IsUnread E.contents error errors.old errors.new result) }
 {
     match words {
         Ok(words) => perform(rt, &words, input, out, errors),

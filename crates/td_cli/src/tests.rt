@@ -1,4 +1,5 @@
-//! The program's jobs, over readers and writers in memory. Expected bytes are those of the desk's formats, written out.
+//! The program's jobs, over readers and writers in memory. Expected bytes are those of the desk's formats,
+//! written out.
 mod acts;
 mod cancellations;
 mod codes;

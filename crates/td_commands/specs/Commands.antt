@@ -1,5 +1,5 @@
--- Commands: whose they are, what their parts keep to, and what the verdict on them needs of their owners' accounts,
--- beside the holder's own row.
+-- Commands: whose they are, what their parts keep to, and what the verdict on them needs of their owners'
+-- accounts, beside the holder's own row.
 use Rattle.std.specs.Prelude.{ℕ, List, Option, Some, Bool, true, false}
 use Rattle.td_base.specs.Holder.{IsHolderNumber}
 use Rattle.td_base.specs.Eori.{IsEori}

@@ -20,7 +20,8 @@ line_in value =
 -- the lines that the elements of an array say, in order, where each says one
 abbrev pub lines_in : Items → Option (List (Line × List ℕ))
 lines_in no_items = Some []
-lines_in (item value values) = option_and_then (λ line. option_map (λ lines. line ∷ lines) (lines_in values)) (line_in value)
+lines_in (item value values) =
+    option_and_then (λ line. option_map (λ lines. line ∷ lines) (lines_in values)) (line_in value)
 
 -- the lines of a key
 abbrev pub lines_at : List ℕ → Data → Option (List (Line × List ℕ))

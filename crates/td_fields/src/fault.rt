@@ -60,7 +60,8 @@ impl Allowed {
     ghost use Rattle.std.specs.Prelude.{◌≡◌};
     ghost use Rattle.td_fields.specs.Faults.{allowed_text};
 
-    /// The methods as the field `Allow` lists them (RFC 9110, section 10.2.1): in alphabetical order, joined by `, `.
+    /// The methods as the field `Allow` lists them (RFC 9110, section 10.2.1): in alphabetical order, joined
+    /// by `, `.
     pub fn text(self) -> &'static str
         ensures { result.now ≡ allowed_text self }
     {

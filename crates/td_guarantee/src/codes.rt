@@ -49,8 +49,8 @@ impl Codes {
         self.items.len()
     }
 
-    /// Puts a code in its place; one that is there already stays, once. `AllocError`: want of memory, and they are as
-    /// they were.
+    /// Puts a code in its place; one that is there already stays, once. `AllocError`: want of memory, and
+    /// they are as they were.
     pub fn add(&mut self, code: AccessCode) -> Result<(), AllocError>
         ensures ok { OnOk result (self.new ≡ with_code code self.old) }
         ensures err { OnErr result (self.new ≡ self.old) }

@@ -5,8 +5,9 @@ ghost use Rattle.td_guarantee.specs.Terms.{has_ended, is_within};
 
 use td_base::{Cents, Cover, Day};
 
-/// Whether an amount fits beside what is in use: their sum is at most the reference amount. The share of it that is
-/// guaranteed takes no part (Common Transit Convention, Appendix I: use is monitored against the reference amount).
+/// Whether an amount fits beside what is in use: their sum is at most the reference amount. The share of it
+/// that is guaranteed takes no part (Common Transit Convention, Appendix I: use is monitored against the
+/// reference amount).
 pub fn fits(reference: Cents, used: Cents, cents: Cents) -> bool
     ensures { result ≡ is_within reference used cents }
 {

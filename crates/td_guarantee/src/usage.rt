@@ -6,8 +6,8 @@ ghost use Rattle.td_guarantee.specs.Usage.{lines_on, used_on};
 use td_base::{Cents, Grn};
 use td_movement::{Line, Movement, counts};
 
-/// The amount in use on a guarantee: the sum of the amounts of all lines on it of those of these movements that count, from
-/// their release to their write-off, added up afresh. `None` above 10^15 cents.
+/// The amount in use on a guarantee: the sum of the amounts of all lines on it of those of these movements
+/// that count, from their release to their write-off, added up afresh. `None` above 10^15 cents.
 pub fn in_use(movements: &[Movement], grn: &Grn) -> Option<Cents>
     ensures { SomeIff result (IsCents (used_on grn.now movements.now)) (used_on grn.now movements.now) }
 {

@@ -19,27 +19,38 @@ abbrev pub desk_of : {D : Type 0} → Service D → D
 desk_of s = s.desk
 
 -- what a request does to a service of a desk
-abbrev pub IsHandledBy : {D : Type 0} → (D → Content) → (D → Type 0) → (D → Type 0) → Type 0 → Service D → ℤ → Asked → Reply → Service D → Type 0
+abbrev pub IsHandledBy : {D : Type 0} → (D → Content) → (D → Type 0) → (D → Type 0) → Type 0 → Service D → ℤ
+    → Asked → Reply → Service D → Type 0
 IsHandledBy = IsHandled desk_of
 
 -- the reply to a HEAD request: a head alone, with the methods of the target's path where the desk has it
 abbrev pub IsHeadReply : List ℕ → Reply → Type 0
-IsHeadReply target reply = (reply ≡ NoMemory) ⊎ ((is_made reply ≡ true) × (bytes_of reply ≡ head_text (option_map allowed_text (option_and_then methods_of (path_of target)))))
+IsHeadReply target reply =
+    (reply ≡ NoMemory) ⊎ ((is_made reply ≡ true)
+    × (bytes_of reply ≡ head_text (option_map allowed_text (option_and_then methods_of (path_of target)))))
 
 -- a HEAD request leaves the desk as it is
-pub record IsHeadHandledBy {D : Type 0} (old : Service D) (target : List ℕ) (reply : Reply) (new : Service D) : Type 0 where
+pub record IsHeadHandledBy {D : Type 0} (old : Service D) (target : List ℕ) (reply : Reply)
+    (new : Service D) : Type 0 where
   pub stays : desk_of new ≡ desk_of old
   pub told : IsHeadReply target reply
 
--- Where the desk is clean in the end: to each holder at once, the bytes of the replies to the holder's requests are those of the holder's own
--- machine, from any books to which the desk's content was tied. Where a fault shut the desk on the way, c is the content up to that.
-abbrev pub IsPrivate : {D : Type 0} → (D → Content) → (D → Type 0) → (D → Type 0) → Service D → Service D → List Exchange → Type 0
+-- Where the desk is clean in the end: to each holder at once, the bytes of the replies to the holder's
+-- requests are those of the holder's own machine, from any books to which the desk's content was tied. Where
+-- a fault shut the desk on the way, c is the content up to that.
+abbrev pub IsPrivate : {D : Type 0} → (D → Content) → (D → Type 0) → (D → Type 0) → Service D → Service D
+    → List Exchange → Type 0
 IsPrivate content is_clean is_live old new exchanges =
-    is_clean (desk_of new) → is_live (desk_of old) → IsSound (content (desk_of old)) → (books : ℕ → Book) → IsTied (content (desk_of old)) books
-    → (c : Content) × IsServed (content (desk_of old)).country books 0 exchanges c × (is_live (desk_of new) → content (desk_of new) ≡ c)
+    is_clean (desk_of new) → is_live (desk_of old) → IsSound (content (desk_of old)) → (books : ℕ → Book)
+    → IsTied (content (desk_of old)) books
+    → (c : Content) × IsServed (content (desk_of old)).country books 0 exchanges c
+    × (is_live (desk_of new) → content (desk_of new) ≡ c)
 
 -- The same of one request alone, from books to the books after it.
-abbrev pub IsPrivateAlone : {D : Type 0} → (D → Content) → (D → Type 0) → (D → Type 0) → Service D → ℤ → Asked → Reply → Service D → Type 0
+abbrev pub IsPrivateAlone : {D : Type 0} → (D → Content) → (D → Type 0) → (D → Type 0) → Service D → ℤ → Asked
+    → Reply → Service D → Type 0
 IsPrivateAlone content is_clean is_live old at asked reply new =
-    is_clean (desk_of new) → is_live (desk_of old) → IsSound (content (desk_of old)) → (books : ℕ → Book) → IsTied (content (desk_of old)) books
-    → (c : Content) × IsServedAlone (content (desk_of old)).country books at asked reply c × (is_live (desk_of new) → content (desk_of new) ≡ c)
+    is_clean (desk_of new) → is_live (desk_of old) → IsSound (content (desk_of old)) → (books : ℕ → Book)
+    → IsTied (content (desk_of old)) books
+    → (c : Content) × IsServedAlone (content (desk_of old)).country books at asked reply c
+    × (is_live (desk_of new) → content (desk_of new) ≡ c)

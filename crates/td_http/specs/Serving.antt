@@ -38,35 +38,44 @@ IsReplyTo (outcome.Failed fault.Store) close reply = reply ≡ Store
 abbrev pub IsFaultReply : WebFault → Bool → Reply → Type 0
 IsFaultReply why close reply = (reply ≡ NoMemory) ⊎ ((is_made reply ≡ true) × (bytes_of reply ≡ fault_reply why close))
 
--- What a request does to a desk. A command is one step of the desk, and the reply tells how it ended; a request that can't be read changes
--- nothing, and its reply depends on the request alone.
+-- What a request does to a desk. A command is one step of the desk, and the reply tells how it ended; a
+-- request that can't be read changes nothing, and its reply depends on the request alone.
 abbrev pub HandledAs : Type 0 → Type 0 → Content → ℤ → Result Command WebFault → Bool → Reply → Content → Type 0
-HandledAs was_live is_live old at (Ok command) close reply new = (o : Outcome) × IsStep was_live is_live old (record { at = at; command = command }) o new × IsReplyTo o close reply
+HandledAs was_live is_live old at (Ok command) close reply new =
+    (o : Outcome) × IsStep was_live is_live old (record { at = at; command = command }) o new
+    × IsReplyTo o close reply
 HandledAs was_live is_live old at (Err why) close reply new = (is_live → new ≡ old) × IsFaultReply why close reply
 
--- The same at a service whose desk has this content, is clean and live so, and may have a store. What can't be read is told from the request
--- alone: the desk is the very same after it.
-pub record IsHandled {S D : Type 0} (desk : S → D) (content : D → Content) (is_clean is_live : D → Type 0) (has_store : Type 0) (old : S) (at : ℤ) (asked : Asked) (reply : Reply) (new : S) : Type 0 where
+-- The same at a service whose desk has this content, is clean and live so, and may have a store. What can't
+-- be read is told from the request alone: the desk is the very same after it.
+pub record IsHandled {S D : Type 0} (desk : S → D) (content : D → Content) (is_clean is_live : D → Type 0)
+    (has_store : Type 0) (old : S) (at : ℤ) (asked : Asked) (reply : Reply) (new : S) : Type 0 where
   pub clean : is_clean (desk new) → is_clean (desk old)
   pub live : is_clean (desk new) → is_live (desk new) → is_live (desk old)
-  pub handled : is_clean (desk new) → HandledAs (is_live (desk old)) (is_live (desk new)) (content (desk old)) at (command_in asked) asked.close reply (content (desk new))
+  pub handled : is_clean (desk new)
+      → HandledAs (is_live (desk old)) (is_live (desk new)) (content (desk old)) at
+      (command_in asked) asked.close reply (content (desk new))
   pub unasked : (why : WebFault) → command_in asked ≡ Err why → desk new ≡ desk old
   pub store : reply ≡ Store → has_store
 
--- a demand: the command that a holder's request asks, its moment, and whether the reply tells that the stream stops
+-- a demand: the command that a holder's request asks, its moment, and whether the reply tells that the stream
+-- stops
 abbrev pub Demand : Type 0
 Demand = Stamped × Bool
 
--- H's requests among the exchanges that come after so many: those that can be read and whose reply isn't a fixed one of a fault
+-- H's requests among the exchanges that come after so many: those that can be read and whose reply isn't a
+-- fixed one of a fault
 abbrev pub heard_by : List ℕ → ℕ → Result Command WebFault → ℤ → Bool → Bool → List Demand
-heard_by country H (Ok command) at close true = if is_holder H (owner_of country command) then (record { at = at; command = command }, close) ∷ [] else []
+heard_by country H (Ok command) at close true =
+    if is_holder H (owner_of country command) then (record { at = at; command = command }, close) ∷ [] else []
 heard_by country H (Ok command) at close false = []
 heard_by country H (Err why) at close made = []
 
 abbrev pub heard_in : List ℕ → ℕ → ℕ → List Exchange → List Demand
 heard_in country H before [] = []
 heard_in country H before (e ∷ es) =
-    heard_by country H (command_in (question before e.wire)) e.at (question before e.wire).close (is_made e.reply) ++ heard_in country H (before + 1) es
+    heard_by country H (command_in (question before e.wire)) e.at (question before e.wire).close
+    (is_made e.reply) ++ heard_in country H (before + 1) es
 
 -- the bytes of the replies to them
 abbrev pub told_by : List ℕ → ℕ → Result Command WebFault → List ℕ → Bool → List (List ℕ)
@@ -77,7 +86,8 @@ told_by country H (Err why) bytes made = []
 abbrev pub told_in : List ℕ → ℕ → ℕ → List Exchange → List (List ℕ)
 told_in country H before [] = []
 told_in country H before (e ∷ es) =
-    told_by country H (command_in (question before e.wire)) (bytes_of e.reply) (is_made e.reply) ++ told_in country H (before + 1) es
+    told_by country H (command_in (question before e.wire)) (bytes_of e.reply) (is_made e.reply)
+    ++ told_in country H (before + 1) es
 
 -- the commands of requests
 abbrev pub commands_of : List Demand → List Stamped
@@ -86,20 +96,24 @@ commands_of list = map (λ r. r.0) list
 -- the replies of H's own machine to a list of H's requests
 abbrev pub machine_replies : ℕ → Book → List Demand → List (List ℕ)
 machine_replies H book [] = []
-machine_replies H book (r ∷ list) = said_reply (verdict H book r.0.at r.0.command) r.1 ∷ machine_replies H (book_after H book r.0) list
+machine_replies H book (r ∷ list) =
+    said_reply (verdict H book r.0.at r.0.command) r.1 ∷ machine_replies H (book_after H book r.0) list
 
 -- the reply to each request that can't be read is that of its fault
 abbrev pub FaultsAreTold : ℕ → List Exchange → Type 0
 FaultsAreTold before [] = Unit {0}
-FaultsAreTold before (e ∷ es) = ((why : WebFault) → command_in (question before e.wire) ≡ Err why → IsFaultReply why (question before e.wire).close e.reply) × FaultsAreTold (before + 1) es
+FaultsAreTold before (e ∷ es) =
+    ((why : WebFault) → command_in (question before e.wire) ≡ Err why
+    → IsFaultReply why (question before e.wire).close e.reply) × FaultsAreTold (before + 1) es
 
 -- the fixed reply to each fault
 abbrev pub fixed_reply : Fault → Reply
 fixed_reply fault.NoMemory = NoMemory
 fixed_reply fault.Store = Store
 
--- How a reply came about by the two calls that are made of a desk, where called says how a call ended: bytes where neither failed; the fixed
--- reply of the fault that the last one ended by; and that of missing memory also where the bytes found none, at a desk that didn't fail.
+-- How a reply came about by the two calls that are made of a desk, where called says how a call ended: bytes
+-- where neither failed; the fixed reply of the fault that the last one ended by; and that of missing memory
+-- also where the bytes found none, at a desk that didn't fail.
 abbrev pub IsCausedBy : {S : Type 0} → (S → Option Fault → S → Type 0) → S → Reply → S → Type 0
 IsCausedBy called old (Made bytes) new = (words : Said) × IsOutcomeOf called old (outcome.Said words) new
 IsCausedBy called old NoMemory new = IsOutcomeOf called old (outcome.Failed fault.NoMemory) new ⊎ called old None new
@@ -109,12 +123,15 @@ IsCausedBy called old Store new = IsOutcomeOf called old (outcome.Failed fault.S
 abbrev pub NobodysAreTold : List ℕ → ℕ → List Exchange → Type 0
 NobodysAreTold country before [] = Unit {0}
 NobodysAreTold country before (e ∷ es) =
-    ((command : Command) → command_in (question before e.wire) ≡ Ok command → owner_of country command ≡ None → is_made e.reply ≡ true
-    → bytes_of e.reply ≡ said_reply (said (empty_account country) e.at command) (question before e.wire).close) × NobodysAreTold country (before + 1) es
+    ((command : Command) → command_in (question before e.wire) ≡ Ok command → owner_of country command ≡ None
+    → is_made e.reply ≡ true
+    → bytes_of e.reply ≡ said_reply (said (empty_account country) e.at command) (question before e.wire).close)
+    × NobodysAreTold country (before + 1) es
 
--- To each holder at once, the bytes of the replies to the holder's requests are those of the holder's own machine; in the end the content is
--- sound, and tied to the books that the machines end with.
-pub record IsServed (country : List ℕ) (books : ℕ → Book) (before : ℕ) (es : List Exchange) (new : Content) : Type 0 where
+-- To each holder at once, the bytes of the replies to the holder's requests are those of the holder's own
+-- machine; in the end the content is sound, and tied to the books that the machines end with.
+pub record IsServed (country : List ℕ) (books : ℕ → Book) (before : ℕ) (es : List Exchange)
+    (new : Content) : Type 0 where
   pub answers : (H : ℕ) → told_in country H before es ≡ machine_replies H (books H) (heard_in country H before es)
   pub faults : FaultsAreTold before es
   pub nobodys : NobodysAreTold country before es
@@ -122,9 +139,15 @@ pub record IsServed (country : List ℕ) (books : ℕ → Book) (before : ℕ) (
   pub sound : IsSound new
   pub tied : IsTied new (λ H. machine_book H (books H) (commands_of (heard_in country H before es)))
 
--- The same of one request alone. It is nobody's where it can't be read or its reply is a fixed one: then each book stays.
-pub record IsServedAlone (country : List ℕ) (books : ℕ → Book) (at : ℤ) (asked : Asked) (reply : Reply) (new : Content) : Type 0 where
-  pub answers : (H : ℕ) → told_by country H (command_in asked) (bytes_of reply) (is_made reply) ≡ machine_replies H (books H) (heard_by country H (command_in asked) at asked.close (is_made reply))
+-- The same of one request alone. It is nobody's where it can't be read or its reply is a fixed one: then each
+-- book stays.
+pub record IsServedAlone (country : List ℕ) (books : ℕ → Book) (at : ℤ) (asked : Asked) (reply : Reply)
+    (new : Content) : Type 0 where
+  pub answers : (H : ℕ)
+      → told_by country H (command_in asked) (bytes_of reply) (is_made reply) ≡ machine_replies H (books H)
+      (heard_by country H (command_in asked) at asked.close (is_made reply))
   pub country_stays : new.country ≡ country
   pub sound : IsSound new
-  pub tied : IsTied new (λ H. machine_book H (books H) (commands_of (heard_by country H (command_in asked) at asked.close (is_made reply))))
+  pub tied : IsTied new (λ H.
+      machine_book H (books H)
+      (commands_of (heard_by country H (command_in asked) at asked.close (is_made reply))))

@@ -26,12 +26,13 @@ impl<D: Desk + Drop> Handler for Service<D> {
     }
 }
 
-/// Serves a stream of HTTP/1.1 requests at a desk: the replies are written in order, each request is handled at the moment that the
-/// clock then shows, and a fault is told by a fixed reply whose request changed nothing.
+/// Serves a stream of HTTP/1.1 requests at a desk: the replies are written in order, each request is handled
+/// at the moment that the clock then shows, and a fault is told by a fixed reply whose request changed
+/// nothing.
 ///
-/// `served`: the bytes consumed are whole requests and a rest, what is written is the replies to them and what parts with the rest, and each
-/// way to end says its cause. `private`: to each holder at once, the bytes of the replies to the holder's requests are those of the
-/// holder's own machine over these requests alone.
+/// `served`: the bytes consumed are whole requests and a rest, what is written is the replies to them and
+/// what parts with the rest, and each way to end says its cause. `private`: to each holder at once, the bytes
+/// of the replies to the holder's requests are those of the holder's own machine over these requests alone.
 pub fn serve_stream<R: Read, W: Write, C: Clock, D: Desk + Drop>(
     alloc: Global,
     reader: &mut Counted<R>,
@@ -39,7 +40,8 @@ pub fn serve_stream<R: Read, W: Write, C: Clock, D: Desk + Drop>(
     clock: &mut C,
     service: &mut Service<D>,
 ) -> StreamEnd
-    ensures { (served : Serves R.remaining W.contents C.ticks (IsHandledBy D.content D.is_clean D.is_live D.has_store) IsHeadHandledBy
+    ensures { (served : Serves R.remaining W.contents C.ticks
+        (IsHandledBy D.content D.is_clean D.is_live D.has_store) IsHeadHandledBy
         (record { reader = reader.old; writer = writer.old; clock = clock.old; handler = service.old })
         (record { reader = reader.new; writer = writer.new; clock = clock.new; handler = service.new }) result)
         × IsPrivate D.content D.is_clean D.is_live service.old service.new served.run.exchanges }

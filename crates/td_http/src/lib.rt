@@ -1,4 +1,5 @@
-//! A desk that serves streams of HTTP/1.1 requests. The calls on requests and replies are those of the crates below.
+//! A desk that serves streams of HTTP/1.1 requests. The calls on requests and replies are those of the crates
+//! below.
 #![tactic(auto)]
 
 mod desk_stream;

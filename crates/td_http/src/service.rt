@@ -25,7 +25,8 @@ pub struct Service<D: Desk + Drop> {
     routes: Routes,
 }
 
-// Weighs a command, builds the bytes of the reply, and carries the decision, in this order: what could not be told isn't done.
+// Weighs a command, builds the bytes of the reply, and carries the decision, in this order: what could not be
+// told isn't done.
 fn weigh_and_carry<D: Desk>(
     alloc: Global,
     desk: &mut D,
@@ -36,8 +37,11 @@ fn weigh_and_carry<D: Desk>(
     ensures clean { D.is_clean desk.new → D.is_clean desk.old }
     ensures live { D.is_clean desk.new → D.is_live desk.new → D.is_live desk.old }
     ensures answered { D.is_clean desk.new → MatchResult result
-        (λ bytes. (words : Said) × (bytes.items ≡ said_reply words close) × IsStep (D.is_live desk.old) (D.is_live desk.new) (D.content desk.old) (record { at = at; command = command.now }) (outcome.Said words) (D.content desk.new))
-        (λ why. IsStep (D.is_live desk.old) (D.is_live desk.new) (D.content desk.old) (record { at = at; command = command.now }) (outcome.Failed why) (D.content desk.new)) }
+        (λ bytes. (words : Said) × (bytes.items ≡ said_reply words close)
+        × IsStep (D.is_live desk.old) (D.is_live desk.new) (D.content desk.old)
+        (record { at = at; command = command.now }) (outcome.Said words) (D.content desk.new))
+        (λ why. IsStep (D.is_live desk.old) (D.is_live desk.new) (D.content desk.old)
+        (record { at = at; command = command.now }) (outcome.Failed why) (D.content desk.new)) }
     ensures store { result ≡ Err fault.Store → D.has_store }
     // a failure is the desk's own, or of missing memory for the bytes at a desk that didn't fail
     ensures calls { MatchResult result
@@ -73,7 +77,9 @@ fn reply_to_fault(fault: Fault) -> Reply
 fn reply_to<D: Desk>(alloc: Global, desk: &mut D, at: i64, command: &Command, close: bool) -> Reply
     ensures clean { D.is_clean desk.new → D.is_clean desk.old }
     ensures live { D.is_clean desk.new → D.is_live desk.new → D.is_live desk.old }
-    ensures handled { D.is_clean desk.new → HandledAs (D.is_live desk.old) (D.is_live desk.new) (D.content desk.old) at (Ok command.now) close result (D.content desk.new) }
+    ensures handled { D.is_clean desk.new
+        → HandledAs (D.is_live desk.old) (D.is_live desk.new) (D.content desk.old) at (Ok command.now) close result
+        (D.content desk.new) }
     ensures store { result ≡ Reply.Store → D.has_store }
     ensures calls { IsCausedBy D.called desk.old result desk.new }
 {
@@ -117,12 +123,14 @@ impl<D: Desk + Drop> Service<D> {
         self.desk
     }
 
-    /// The reply to a request that comes at that number of seconds since 1970. A fixed reply is of a fault: the request changed nothing.
-    /// A request that can't be read doesn't ask the desk.
+    /// The reply to a request that comes at that number of seconds since 1970. A fixed reply is of a fault:
+    /// the request changed nothing. A request that can't be read doesn't ask the desk.
     pub fn handle(&mut self, alloc: Global, at: i64, request: &Request) -> Reply
-        ensures handled { IsHandledBy D.content D.is_clean D.is_live D.has_store self.old at (asked request.now) result self.new }
+        ensures handled { IsHandledBy D.content D.is_clean D.is_live D.has_store self.old at
+            (asked request.now) result self.new }
         // A fixed reply is the fault that the desk answered, or missing memory at a desk that didn't fail.
-        ensures calls { (desk_of self.new ≡ desk_of self.old) × (result ≢ Reply.Store) ⊎ IsCausedBy D.called (desk_of self.old) result (desk_of self.new) }
+        ensures calls { (desk_of self.new ≡ desk_of self.old) × (result ≢ Reply.Store)
+            ⊎ IsCausedBy D.called (desk_of self.old) result (desk_of self.new) }
         ensures alone { IsPrivateAlone D.content D.is_clean D.is_live self.old at (asked request.now) result self.new }
     {
         match read_command_by(alloc, &mut self.routes, request) {
@@ -131,7 +139,8 @@ impl<D: Desk + Drop> Service<D> {
         }
     }
 
-    /// The reply to a HEAD request for a target: a head alone, which tells the methods of the path where the desk has it. The desk stays as it is.
+    /// The reply to a HEAD request for a target: a head alone, which tells the methods of the path where the
+    /// desk has it. The desk stays as it is.
     pub fn head(&mut self, alloc: Global, target: &[u8]) -> Reply
         ensures { IsHeadHandledBy self.old target.now result self.new }
     {
@@ -147,7 +156,8 @@ impl<D: Desk + Drop> Service<D> {
 
 // A head that tells methods.
 fn reply_to_head(alloc: Global, methods: Option<Allowed>) -> Reply
-    ensures { (result ≡ Reply.NoMemory) ⊎ ((is_made result ≡ true) × (bytes_of result ≡ head_text (option_map allowed_text methods))) }
+    ensures { (result ≡ Reply.NoMemory)
+        ⊎ ((is_made result ≡ true) × (bytes_of result ≡ head_text (option_map allowed_text methods))) }
 {
     let allow = match methods {
         Some(methods) => Some(methods.text()),

@@ -107,7 +107,8 @@ pub fn cents_read_back(amount: Cents)
     let _cents = amount.cents;
 }
 
-/// The reference amount of a guarantee (Common Transit Convention, Appendix I) in cents, 1 to 10^15. Contracts see it as that number.
+/// The reference amount of a guarantee (Common Transit Convention, Appendix I) in cents, 1 to 10^15.
+/// Contracts see it as that number.
 #[derive(Clone, Copy, Debug, PartialEq, Eq, PartialOrd, Ord)]
 pub struct Reference {
     cents: u64,

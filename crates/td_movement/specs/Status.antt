@@ -19,7 +19,8 @@ IsUnreleased m = (m.limit ≡ None) × IsUnderWay m
 abbrev pub HasArrived : Movement → Type 0
 HasArrived m = IsSome m.limit × IsSome m.arrival × IsSome m.actual
 
--- The limit comes with the release, the day and office of arrival with the arrival. What is written off was released, and has arrived or was asked after.
+-- The limit comes with the release, the day and office of arrival with the arrival. What is written off was
+-- released, and has arrived or was asked after.
 abbrev pub HasDaysOf : State → Movement → Type 0
 HasDaysOf Accepted m = IsUnreleased m
 HasDaysOf Cancelled m = IsUnreleased m

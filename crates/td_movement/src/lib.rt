@@ -1,4 +1,5 @@
-//! Transit movements: what is kept of them, their states, the moves from state to state, and the days by which something is due.
+//! Transit movements: what is kept of them, their states, the moves from state to state, and the days by
+//! which something is due.
 #![tactic(auto)]
 
 mod line;

@@ -27,8 +27,8 @@ pub enum Overdue {
     Control(Day),
 }
 
-/// What a movement is overdue for on the day of a report, if anything: a released or enquired one for arrival after its
-/// limit, an arrived one for control after the sixth day from its arrival.
+/// What a movement is overdue for on the day of a report, if anything: a released or enquired one for arrival
+/// after its limit, an arrived one for control after the sixth day from its arrival.
 pub fn is_overdue(
     state: State,
     limit: Option<Day>,

@@ -146,7 +146,8 @@ route_in rows method path =
     ok_or (row_with rows pattern method) (NoMethod (methods_with rows pattern)) >>= λ row.
     route_with (parts_of pattern path) row.endpoint
 
--- the route of a method and a path, or the first of the faults `NoRoute`, `NoMethod`, and those of the path's parts
+-- the route of a method and a path, or the first of the faults `NoRoute`, `NoMethod`, and those of the path's
+-- parts
 abbrev pub route_of : List ℕ → List ℕ → Result Route WebFault
 route_of method path = if is_utf8 path then route_in table method path else Err NoRoute
 

@@ -21,9 +21,9 @@ use td_fields::{
 };
 use td_wire::Request;
 
-/// The command of a request, or the first fault, in the order of `WebFault`. Want of memory may take the place of either.
-/// A command without fields doesn't look at the body; of one with fields, unknown keys of the body are ignored, and where
-/// it has a key twice, the last stands.
+/// The command of a request, or the first fault, in the order of `WebFault`. Want of memory may take the
+/// place of either. A command without fields doesn't look at the body; of one with fields, unknown keys of
+/// the body are ignored, and where it has a key twice, the last stands.
 pub fn read_command(alloc: Global, request: &Request) -> Result<Command, WebFault>
     ensures { OrNoMemory result
         (command_of request.now.method request.now.target.items request.now.body.items) }
@@ -88,7 +88,8 @@ fn before_query(target: &[u8]) -> &[u8]
     }
 }
 
-/// The path of a target: what stands before its first `?`. A target that isn't text (UTF-8) has none, wherever it isn't.
+/// The path of a target: what stands before its first `?`. A target that isn't text (UTF-8) has none,
+/// wherever it isn't.
 pub fn path(target: &[u8]) -> Option<&[u8]>
     ensures { option_map (λ path. path.now) result ≡ path_of target.now }
 {

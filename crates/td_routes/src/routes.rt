@@ -227,10 +227,11 @@ impl Routes {
     }
 }
 
-/// The route of a method and a path, which is a target up to its first `?`. The first fault is told: `NoRoute` where the
-/// desk has no such path, `NoMethod` where the path has other methods, and then, part by part from left to right,
-/// `BadHolder` where the part that names the holder isn't a holder number, `BadMrn` or `BadGrn` where the one that names a movement or a
-/// guarantee isn't its reference. `NoMemory` may take the place of any answer.
+/// The route of a method and a path, which is a target up to its first `?`. The first fault is told:
+/// `NoRoute` where the desk has no such path, `NoMethod` where the path has other methods, and then, part by
+/// part from left to right, `BadHolder` where the part that names the holder isn't a holder number, `BadMrn`
+/// or `BadGrn` where the one that names a movement or a guarantee isn't its reference. `NoMemory` may take
+/// the place of any answer.
 pub fn route(alloc: Global, method: &Method, path: &[u8]) -> Result<Route, WebFault>
     ensures { OrNoMemory result (route_of method.now path.now) }
 {

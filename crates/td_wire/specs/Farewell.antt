@@ -11,19 +11,23 @@ use Rattle.td_wire.specs.declared.stream.StreamEnd.TheVariants.{Closed, Refused,
 use Rattle.td_wire.specs.ReplyText.{framing_reply, no_memory_reply, bytes_of, is_made}
 
 -- the message was written and the stream ended so, or it was cut short
-abbrev pub SendsLast : {W : Type 0} → (W → Option (List ℕ)) → Counted W → Counted W → List ℕ → StreamEnd → StreamEnd → Type 0
+abbrev pub SendsLast : {W : Type 0} → (W → Option (List ℕ)) → Counted W → Counted W → List ℕ → StreamEnd
+    → StreamEnd → Type 0
 SendsLast contents old new message good end =
     ((end ≡ good) × Wrote contents old new message true)
     ⊎ ((end ≡ WriteFault) × IsCutShort contents old new message × MadeWrites old new false)
 
 -- what each stop of the reading leads to
-abbrev pub Farewell : {W H : Type 0} → (W → Option (List ℕ)) → (H → List ℕ → Reply → H → Type 0) → Counted W → Counted W → H → H → Stop → StreamEnd → Type 0
+abbrev pub Farewell : {W H : Type 0} → (W → Option (List ℕ)) → (H → List ℕ → Reply → H → Type 0) → Counted W
+    → Counted W → H → H → Stop → StreamEnd → Type 0
 Farewell contents heads old new before after stop.Closed end = (end ≡ Closed) × (new ≡ old) × (after ≡ before)
 Farewell contents heads old new before after stop.Cut end = (end ≡ Cut) × (new ≡ old) × (after ≡ before)
 Farewell contents heads old new before after stop.ReadsSpent end = (end ≡ ReadsSpent) × (new ≡ old) × (after ≡ before)
 Farewell contents heads old new before after stop.ReadFault end = (end ≡ ReadFault) × (new ≡ old) × (after ≡ before)
-Farewell contents heads old new before after stop.NoMemory end = SendsLast contents old new no_memory_reply Failed end × (after ≡ before)
-Farewell contents heads old new before after (stop.Refused e) end = SendsLast contents old new (framing_reply e) Refused end × (after ≡ before)
+Farewell contents heads old new before after stop.NoMemory end =
+    SendsLast contents old new no_memory_reply Failed end × (after ≡ before)
+Farewell contents heads old new before after (stop.Refused e) end =
+    SendsLast contents old new (framing_reply e) Refused end × (after ≡ before)
 Farewell contents heads old new before after (stop.Head target) end =
     (reply : Reply) × heads before target.items reply after
     × SendsLast contents old new (bytes_of reply) (if is_made reply then Refused else Failed) end

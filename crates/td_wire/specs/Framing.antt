@@ -24,7 +24,8 @@ is_numeral text = nat_lt 0 (length text) && list_all is_ascii_digit text
 -- the length that a lone value says
 unfoldable pub length_in : List ℕ → Result ℕ FramingError
 length_in text =
-    if is_numeral text then (if nat_le (digits_value 10 text) 65536 then Ok (digits_value 10 text) else Err BodyTooLarge)
+    if is_numeral text then
+    (if nat_le (digits_value 10 text) 65536 then Ok (digits_value 10 text) else Err BodyTooLarge)
     else Err BadLength
 
 -- what the values of Content-Length say
@@ -40,7 +41,8 @@ length_by (coding ∷ codings) lengths = Err TransferEncoding
 
 -- the length of the body, or why the request is refused
 abbrev pub body_length : List (List ℕ × List ℕ) → Result ℕ FramingError
-body_length fields = length_by (values_of (codes "transfer-encoding") fields) (values_of (codes "content-length") fields)
+body_length fields =
+    length_by (values_of (codes "transfer-encoding") fields) (values_of (codes "content-length") fields)
 
 -- the member is `close`, in letters of either case and with spaces and tabs around it
 abbrev pub is_close : List ℕ → Bool

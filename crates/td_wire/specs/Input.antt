@@ -19,11 +19,13 @@ room_of input = vec_capacity input.buffer
 -- what a piece says of the read: it brought bytes; it found the end of the input; it failed
 abbrev pub Gives : {R : Type 0} → (R → Option (List ℕ)) → Counted R → List ℕ → Counted R → Piece → Type 0
 Gives remaining old given new Bytes = Brings remaining old given new
-Gives remaining old given new End = (given ≡ []) × IsRead remaining false old [] new × IsAtEnd (known_bytes remaining new)
+Gives remaining old given new End =
+    (given ≡ []) × IsRead remaining false old [] new × IsAtEnd (known_bytes remaining new)
 Gives remaining old given new Fault = (given ≡ []) × IsRead remaining true old [] new
 
 -- one read gave some bytes, which follow those before
-pub record Fills {R : Type 0} (remaining : R → Option (List ℕ)) (old new : Counted R) (before after : List ℕ) (piece : Piece) : Type 0 where
+pub record Fills {R : Type 0} (remaining : R → Option (List ℕ)) (old new : Counted R) (before after : List ℕ)
+    (piece : Piece) : Type 0 where
   pub given : List ℕ
   pub consumed : Consumes (known_bytes remaining old) (known_bytes remaining new) given
   pub appended : after ≡ before ++ given

@@ -21,7 +21,7 @@ StandsIn bytes unfinished = IsOpen bytes
 StandsIn bytes (refused e) = IsRefusedFor e bytes
 StandsIn bytes (head_for target) = IsHeadRequest target bytes
 
--- The parser leaves it open whether a head goes on or is refused: it has more than 64 fields already, or it ends inside
--- a target, whose test for UTF-8 waits for its end.
+-- The parser leaves it open whether a head goes on or is refused: it has more than 64 fields already, or it
+-- ends inside a target, whose test for UTF-8 waits for its end.
 abbrev pub IsUnsettled : List ℕ → Type 0
 IsUnsettled bytes = RequestExceeds 64 (take 8192 bytes) ⊎ EndsInTarget (take 8192 bytes)

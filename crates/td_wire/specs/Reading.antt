@@ -11,7 +11,8 @@ use Rattle.td_wire.specs.declared.reading.Stop.{Stop}
 use Rattle.td_wire.specs.declared.reading.Stop.TheVariants.{Closed, Cut, ReadsSpent, ReadFault, NoMemory, Refused, Head}
 use Rattle.td_wire.specs.Wire.{Wire, IsWire, IsRequestOn, wire_bytes, IsOpen, IsRefusedFor, IsHeadRequest, BeginsServed}
 
--- How reads came to an end: each of them brought bytes; or the last one found the end of the input; or the last one failed.
+-- How reads came to an end: each of them brought bytes; or the last one found the end of the input; or the
+-- last one failed.
 pub data Finish : Type 0 where
   brought : Finish
   ended : Finish
@@ -23,9 +24,10 @@ LastRead remaining mid new brought = new ≡ mid
 LastRead remaining mid new ended = IsRead remaining false mid [] new × IsAtEnd (known_bytes remaining new)
 LastRead remaining mid new failed = IsRead remaining true mid [] new
 
--- Reads one after another: each brought at least one byte and did not fail, but the last one where they finished otherwise,
--- and none came after that one.
-pub record Reads {R : Type 0} (remaining : R → Option (List ℕ)) (old new : Counted R) (pieces : List (List ℕ)) (finish : Finish) : Type 0 where
+-- Reads one after another: each brought at least one byte and did not fail, but the last one where they
+-- finished otherwise, and none came after that one.
+pub record Reads {R : Type 0} (remaining : R → Option (List ℕ)) (old new : Counted R) (pieces : List (List ℕ))
+    (finish : Finish) : Type 0 where
   pub mid : Counted R
   pub brought : Brought remaining old pieces mid
   pub last : LastRead remaining mid new finish
@@ -36,12 +38,16 @@ count_of pieces brought = length pieces
 count_of pieces ended = length pieces + 1
 count_of pieces failed = length pieces + 1
 
--- The last read that brought bytes was needed: without what it brought, there was no whole request yet behind what stood there.
+-- The last read that brought bytes was needed: without what it brought, there was no whole request yet behind
+-- what stood there.
 abbrev pub IsNeeded : List ℕ → List (List ℕ) → Type 0
-IsNeeded stood pieces = (pieces ≡ []) ⊎ ((before : List (List ℕ)) × (last : List ℕ) × (pieces ≡ before ++ last ∷ []) × IsOpen (stood ++ concat before))
+IsNeeded stood pieces =
+    (pieces ≡ []) ⊎ ((before : List (List ℕ)) × (last : List ℕ) × (pieces ≡ before ++ last ∷ [])
+    × IsOpen (stood ++ concat before))
 
 -- reads gave these bytes, and left fewer reads to be made by as many as were made
-pub record HasRead {R : Type 0} (remaining : R → Option (List ℕ)) (old new : Counted R) (given : List ℕ) (before after : ℕ) (finish : Finish) : Type 0 where
+pub record HasRead {R : Type 0} (remaining : R → Option (List ℕ)) (old new : Counted R) (given : List ℕ)
+    (before after : ℕ) (finish : Finish) : Type 0 where
   pub consumed : Consumes (known_bytes remaining old) (known_bytes remaining new) given
   pub spent : after ≤ before
   pub counted : HasMade (before - after) (calls_of old) (calls_of new)
@@ -51,7 +57,8 @@ pub record HasRead {R : Type 0} (remaining : R → Option (List ℕ)) (old new :
   pub count : before - after ≡ count_of pieces finish
 
 -- so it was, behind what stood there, and the last read that brought bytes was needed
-pub record ReadsOn {R : Type 0} (remaining : R → Option (List ℕ)) (old new : Counted R) (stood given : List ℕ) (before after : ℕ) (finish : Finish) : Type 0 where
+pub record ReadsOn {R : Type 0} (remaining : R → Option (List ℕ)) (old new : Counted R) (stood given : List ℕ)
+    (before after : ℕ) (finish : Finish) : Type 0 where
   pub read : HasRead remaining old new given before after finish
   pub needed : IsNeeded stood read.pieces
 
@@ -75,14 +82,16 @@ abbrev pub finish_by : {X : Type 0} → Result X Stop → Finish
 finish_by (Ok x) = brought
 finish_by (Err stop) = finish_of stop
 
--- Why no request was taken, where rest is what is left of the stream, the reads left fell, and the buffer had this room at
--- first. Memory is missing for the buffer before the first read of a stream, or for a request that is served.
+-- Why no request was taken, where rest is what is left of the stream, the reads left fell, and the buffer had
+-- this room at first. Memory is missing for the buffer before the first read of a stream, or for a request
+-- that is served.
 abbrev pub StopsAs : {R : Type 0} → (R → Option (List ℕ)) → Counted R → ℕ → ℕ → ℕ → List ℕ → Stop → Type 0
 StopsAs remaining new before after room rest Closed = (rest ≡ []) × HasEnded remaining new before after
 StopsAs remaining new before after room rest Cut = (0 < length rest) × IsOpen rest × HasEnded remaining new before after
 StopsAs remaining new before after room rest ReadsSpent = IsOpen rest × (after ≡ 0)
 StopsAs remaining new before after room rest ReadFault = IsOpen rest × (has_failed new ≡ true) × (after < before)
-StopsAs remaining new before after room rest NoMemory = ((rest ≡ []) × (after ≡ before) × (room < MOST)) ⊎ BeginsServed rest
+StopsAs remaining new before after room rest NoMemory =
+    ((rest ≡ []) × (after ≡ before) × (room < MOST)) ⊎ BeginsServed rest
 StopsAs remaining new before after room rest (Refused e) = IsRefusedFor e rest
 StopsAs remaining new before after room rest (Head target) = IsHeadRequest target.items rest
 

@@ -25,7 +25,9 @@ reply_text status allow close body =
 
 -- the reply to a HEAD request: no method but those of `allow` is served, and the stream stops
 abbrev pub head_text : Option (List ℕ) → List ℕ
-head_text allow = codes "HTTP/1.1 " ++ (status_text 405 ++ (codes "\r\n" ++ (allow_line allow ++ (close_line true ++ codes "\r\n"))))
+head_text allow =
+    codes "HTTP/1.1 " ++ (status_text 405
+    ++ (codes "\r\n" ++ (allow_line allow ++ (close_line true ++ codes "\r\n"))))
 
 -- the body that names an error
 abbrev pub error_text : List ℕ → List ℕ

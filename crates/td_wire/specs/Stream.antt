@@ -24,7 +24,12 @@ pub record Exchange : Type 0 where
 -- what the handler is asked by a request that comes after so many: at the thousandth, to close
 abbrev pub question : ℕ → Wire → request.Asked
 question before w =
-    record { method = w.head.method; target = w.head.target; body = w.body; close = asks_close w.head || (before + 1 == 1000) }
+    record {
+      method = w.head.method;
+      target = w.head.target;
+      body = w.body;
+      close = asks_close w.head || (before + 1 == 1000);
+    }
 
 -- One tick of the clock and one reply of the handler for each request, in order. Each leads from the clock and the
 -- handler that the one before left.
@@ -75,9 +80,9 @@ pub record Sides (R W C H : Type 0) : Type 0 where
   pub clock : C
   pub handler : H
 
--- What happened: the bytes that were consumed, the requests that were answered, the bytes left of those consumed, the
--- handler after the replies, what was written after them, all that was written, the number of reads, and what each of
--- those that brought bytes brought.
+-- What happened: the bytes that were consumed, the requests that were answered, the bytes left of those
+-- consumed, the handler after the replies, what was written after them, all that was written, the number of
+-- reads, and what each of those that brought bytes brought.
 pub record Run (H : Type 0) : Type 0 where
   pub given : List ℕ
   pub exchanges : List Exchange
@@ -95,12 +100,13 @@ pub record HasNotReadOn (pieces : List (List ℕ)) (rest : List ℕ) : Type 0 wh
   pub are : pieces ≡ before ++ last ∷ []
   pub over : length rest < length last
 
--- The last read that brought bytes was needed: a part of these belongs to a request that was answered, or what was left
--- over before it was no whole request yet.
+-- The last read that brought bytes was needed: a part of these belongs to a request that was answered, or
+-- what was left over before it was no whole request yet.
 abbrev pub IsCalledFor : List (List ℕ) → List ℕ → Type 0
 IsCalledFor pieces rest =
     (pieces ≡ []) ⊎ (HasNotReadOn pieces rest
-    ⊎ ((before : List (List ℕ)) × (last : List ℕ) × (front : List ℕ) × (pieces ≡ before ++ last ∷ []) × (rest ≡ front ++ last) × IsOpen front))
+    ⊎ ((before : List (List ℕ)) × (last : List ℕ) × (front : List ℕ) × (pieces ≡ before ++ last ∷ [])
+    × (rest ≡ front ++ last) × IsOpen front))
 
 -- how the reads of a stream finish where it ends so
 abbrev pub finish_at : StreamEnd → Finish
@@ -208,24 +214,28 @@ pub record CutAtParting {H : Type 0} (run : Run H) : Type 0 where
   pub breaks : BreaksOff (replies_of run.exchanges) (parting_bytes run.parting) run.written
 
 -- what each way to end says
-abbrev pub EndsAs : {R W C H : Type 0} → (R → Option (List ℕ)) → Sides R W C H → Sides R W C H → Run H → StreamEnd → Type 0
+abbrev pub EndsAs : {R W C H : Type 0} → (R → Option (List ℕ)) → Sides R W C H → Sides R W C H → Run H
+    → StreamEnd → Type 0
 EndsAs remaining old new run Closed = MetEnd (known_bytes remaining new.reader) run × (run.rest ≡ [])
 EndsAs remaining old new run Cut = MetEnd (known_bytes remaining new.reader) run × LeftOpen run × (0 < length run.rest)
 EndsAs remaining old new run ReadsSpent = LeftOpen run × (run.reads ≡ 100000)
 EndsAs remaining old new run ReadFault = LeftOpen run × (has_failed new.reader ≡ true) × (0 < run.reads)
 EndsAs remaining old new run Asked = AskedAtReply run
-EndsAs remaining old new run Served = All GoesOn run.exchanges × (length run.exchanges ≡ 1000) × (run.parting ≡ silence) × HasNotReadOn run.pieces run.rest
+EndsAs remaining old new run Served =
+    All GoesOn run.exchanges × (length run.exchanges ≡ 1000) × (run.parting ≡ silence)
+    × HasNotReadOn run.pieces run.rest
 EndsAs remaining old new run Refused = WentOn run.exchanges × Refuses run.parting
 EndsAs remaining old new run Failed = FailedAtReply run ⊎ (WentOn run.exchanges × Fails run.parting)
 EndsAs remaining old new run WriteFault =
     (has_failed new.writer ≡ true) × MadeWrites old.writer new.writer false × (CutAtReply run ⊎ CutAtParting run)
 
--- The stream was served: the bytes consumed are whole requests and a rest, each request had one tick of the clock and
--- one reply of the handler, and the replies were written in order and nothing else but what parts with the rest. Each read
--- brought bytes that were needed, but for the last one where the stream ended by it; each write took bytes, but for the last
--- one where the stream ended by that.
+-- The stream was served: the bytes consumed are whole requests and a rest, each request had one tick of the
+-- clock and one reply of the handler, and the replies were written in order and nothing else but what parts
+-- with the rest. Each read brought bytes that were needed, but for the last one where the stream ended by it;
+-- each write took bytes, but for the last one where the stream ended by that.
 pub record Serves {R W C H : Type 0} (remaining : R → Option (List ℕ)) (contents : W → Option (List ℕ))
-    (ticks : C → ℤ → C → Type 0) (handles : H → ℤ → request.Asked → Reply → H → Type 0) (heads : H → List ℕ → Reply → H → Type 0)
+    (ticks : C → ℤ → C → Type 0) (handles : H → ℤ → request.Asked → Reply → H → Type 0)
+    (heads : H → List ℕ → Reply → H → Type 0)
     (old new : Sides R W C H) (end : StreamEnd) : Type 0 where
   pub run : Run H
   pub consumed : Consumes (known_bytes remaining old.reader) (known_bytes remaining new.reader) run.given

@@ -60,8 +60,8 @@ pub record HasHead (bytes : List ℕ) (h : RequestHead) (rest : List ℕ) : Type
   pub good : IsGoodHead h
   pub bytes_are : bytes ≡ print_request h ++ rest
 
--- A prefix of at most 8,192 bytes is refused: no bytes can follow that make a head of it, or its fields are too many.
--- Either way no good head can come of it.
+-- A prefix of at most 8,192 bytes is refused: no bytes can follow that make a head of it, or its fields are
+-- too many. Either way no good head can come of it.
 pub record IsBadHead (bytes : List ℕ) : Type 0 where
   pub front : List ℕ
   pub more : List ℕ

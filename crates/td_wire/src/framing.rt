@@ -155,7 +155,8 @@ fn has_close(value: &[u8]) -> bool
     value.split(|byte| *byte == b',').any(is_close)
 }
 
-/// Whether a head asks that the stream stop after the reply: it is of HTTP/1.0, or a `Connection` field says `close`.
+/// Whether a head asks that the stream stop after the reply: it is of HTTP/1.0, or a `Connection` field says
+/// `close`.
 pub fn asks_close(buf: &[u8], headers: &[HeaderSpan], minor: u8) -> bool
     requires within { All (IsHeaderWithin (length buf.now)) headers.now }
     ensures { result ≡ closes minor (map (header_bytes buf.now) headers.now) }

@@ -70,8 +70,8 @@ impl Input {
         self.start += len;
     }
 
-    /// Moves them to the front, and makes the buffer's whole room. It takes memory, and may fail, only where the buffer
-    /// has not had it yet.
+    /// Moves them to the front, and makes the buffer's whole room. It takes memory, and may fail, only where
+    /// the buffer has not had it yet.
     fn make_room(&mut self) -> Result<(), AllocError>
         ensures bytes { unread self.new ≡ unread self.old }
         ensures front { self.new.start ≡ 0 }
@@ -87,8 +87,8 @@ impl Input {
         self.buffer.reserve(MOST - left)
     }
 
-    /// Reads one piece behind them. It fails, and reads nothing, where memory for the buffer is missing; never while it
-    /// has bytes that weren't taken, so none is lost.
+    /// Reads one piece behind them. It fails, and reads nothing, where memory for the buffer is missing;
+    /// never while it has bytes that weren't taken, so none is lost.
     pub fn fill<R: Read>(&mut self, reader: &mut Counted<R>) -> Result<Piece, AllocError>
         requires { length (unread self.old) < 8192 + 65536 }
         ensures kept { OnErr result ((reader.new ≡ reader.old) × (unread self.new ≡ unread self.old)) }

@@ -1,4 +1,5 @@
-//! HTTP/1.1 on the wire: requests read from bytes, replies written as bytes, and streams of them. Nothing here knows a desk.
+//! HTTP/1.1 on the wire: requests read from bytes, replies written as bytes, and streams of them. Nothing
+//! here knows a desk.
 #![tactic(auto)]
 
 mod clock;

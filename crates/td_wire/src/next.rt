@@ -40,7 +40,8 @@ fn copy_request(
     close: bool,
 ) -> Result<Request, AllocError>
     requires token { IsToken method.now }
-    ensures { IfOk result (λ r. asked r ≡ record { method = method.now; target = target.now; body = body.now; close = close }) }
+    ensures { IfOk result (λ r.
+        asked r ≡ record { method = method.now; target = target.now; body = body.now; close = close }) }
 {
     let method = match Method::from_bytes(alloc, method) {
         Ok(method) => method,
@@ -57,8 +58,8 @@ fn copy_request(
     })
 }
 
-/// What stands at the front of the bytes, of which a head takes at most 8,192. It fails where memory is missing for the
-/// parts of a request that is served; a refusal takes none.
+/// What stands at the front of the bytes, of which a head takes at most 8,192. It fails where memory is
+/// missing for the parts of a request that is served; a refusal takes none.
 pub fn next_request(alloc: Global, buf: &[u8]) -> Result<Next, AllocError>
     ensures next { IfOk result (IsNext buf.now) }
     ensures memory { OnErr result (BeginsServed buf.now) }

@@ -116,7 +116,8 @@ impl fmt::Display for CloseLine {
     }
 }
 
-/// A reply with a JSON body. `allow` has the methods that a 405 tells, as `GET, PUT`; `close` says that the stream stops.
+/// A reply with a JSON body. `allow` has the methods that a 405 tells, as `GET, PUT`; `close` says that the
+/// stream stops.
 pub fn json_reply(
     alloc: Global,
     status: StatusCode,
@@ -137,7 +138,8 @@ pub fn json_reply(
     Ok(text.into_bytes())
 }
 
-/// The reply to a HEAD request: 405 with neither a length nor a body. `allow` has the methods of its path, if that is known.
+/// The reply to a HEAD request: 405 with neither a length nor a body. `allow` has the methods of its path, if
+/// that is known.
 pub fn head_reply(alloc: Global, allow: Option<&str>) -> Result<Vec<u8>, AllocError>
     ensures { IfOk result (λ v. v.items ≡ head_text (option_copied allow.entry)) }
 {

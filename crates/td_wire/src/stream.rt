@@ -42,8 +42,8 @@ pub enum StreamEnd {
     Failed,
 }
 
-/// What answers requests. Each implementation says by `handles` and `handles_head` which replies it may give, and what
-/// becomes of it.
+/// What answers requests. Each implementation says by `handles` and `handles_head` which replies it may give,
+/// and what becomes of it.
 pub trait Handler {
     ghost use Rattle.std.specs.Prelude.{ℕ, ℤ, List};
     ghost use Rattle.td_wire.specs.Request.{Asked};
@@ -121,9 +121,9 @@ fn end_stream<W: Write, H: Handler>(
     }
 }
 
-/// Answers the requests of a stream, one after another, each at the moment that the clock gives once it came whole,
-/// until the stream ends. At most 1,000 requests are answered, the thousandth as one that asks to close, and at most
-/// 100,000 reads are made. Requests and replies are HTTP/1.1.
+/// Answers the requests of a stream, one after another, each at the moment that the clock gives once it came
+/// whole, until the stream ends. At most 1,000 requests are answered, the thousandth as one that asks to
+/// close, and at most 100,000 reads are made. Requests and replies are HTTP/1.1.
 pub fn serve_requests<R: Read, W: Write, C: Clock, H: Handler>(
     alloc: Global,
     reader: &mut Counted<R>,

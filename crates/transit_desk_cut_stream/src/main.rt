@@ -1,5 +1,5 @@
-//! The desk's program once more: a merge gate runs a program on one input, and this one runs it on a stream that is cut. The request that
-//! came whole has its reply, and the status is 1.
+//! The desk's program once more: a merge gate runs a program on one input, and this one runs it on a stream
+//! that is cut. The request that came whole has its reply, and the status is 1.
 #![tactic(auto)]
 
 use std::process::ExitCode;

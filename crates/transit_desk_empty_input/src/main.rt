@@ -1,5 +1,5 @@
-//! The desk's program once more: a merge gate runs a program on one input, and this one runs it on an empty one. Nothing is written, and
-//! the status is 0.
+//! The desk's program once more: a merge gate runs a program on one input, and this one runs it on an empty
+//! one. Nothing is written, and the status is 0.
 #![tactic(auto)]
 
 use std::process::ExitCode;

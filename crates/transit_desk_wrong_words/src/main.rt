@@ -1,5 +1,5 @@
-//! The desk's program once more: a merge gate runs a program on one input, and this one runs it with wrong words. Status 2; the input stays
-//! unread, and nothing goes to standard output.
+//! The desk's program once more: a merge gate runs a program on one input, and this one runs it with wrong
+//! words. Status 2; the input stays unread, and nothing goes to standard output.
 #![tactic(auto)]
 
 use std::process::ExitCode;
