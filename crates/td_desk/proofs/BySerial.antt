@@ -1,9 +1,11 @@
 -- Movements that stand at the places of their MRNs' serials.
-use Rattle.std.proofs.Common.{◌≡◌, ◌≢◌, ℕ, zero, suc, ◌+◌, ◌<◌, Bool, true, false, List, [], ◌∷◌, ◌++◌, length, map, take, get_or, set, Some, refl, sym, ◌∙◌, ap, subst, arith}
+use Rattle.std.proofs.Common.{◌≡◌, ◌≢◌, ℕ, zero, suc, ◌+◌, ◌<◌, Bool, true, false, List, [], ◌∷◌, ◌++◌, length, map, take, get_or, set, Some, None, refl, sym, ◌∙◌, ap, subst, arith}
 use Rattle.std.specs.Prelude.{All, if◌then◌else◌}
 use Rattle.std.specs.Str.{bytes_eq}
 use Rattle.std.proofs.Math.Seq.{take-length}
-use Rattle.std.proofs.lemmas.List.{length-append, length-map, map-append}
+use Rattle.std.proofs.lemmas.List.{length-append, length-map, take-append-le}
+use Rattle.std.specs.BTreeMap.{BTreeMap, get}
+use Rattle.std.specs.Option.{option_or}
 use Rattle.std.proofs.lemmas.Slice.Eq.{bytes_eq-Decides}
 use Rattle.td_base.specs.References.{serial_of}
 use Rattle.td_movement.specs.declared.movement.Movement.{Movement}
@@ -12,9 +14,8 @@ use Rattle.td_acts.specs.Account.{movement_by_mrn}
 use Rattle.td_acts.specs.Changes.{with_status, moved}
 use Rattle.td_acts.specs.Sound.{AllNumbered}
 use Rattle.td_acts.proofs.Joined.{AllNumbered-append}
-use Rattle.td_desk.specs.Places.{HaveSerials, IsOnlyPlace, AreIndexed}
-use Rattle.td_desk.proofs.Mapping.{lrns_moved}
-use Rattle.td_desk.proofs.PlaceOfLrn.{told_apart}
+use Rattle.td_desk.specs.Places.{HaveSerials, IsOnlyPlace, AreIndexed, lrn_cmp, place_by_lrn}
+use Rattle.td_desk.proofs.PlaceOfLrn.{told_apart, place_moved, place_in_more}
 
 -- the movement of serial k, where n stand before
 abbrev HasSerial : List ℕ → ℕ → Movement → Type 0
@@ -94,21 +95,38 @@ serials_moved country status n (suc p) [] all = tt
 serials_moved country status n (suc p) (m ∷ ms) all = (ap (serial_of country) (mrn_moved status m) ∙ all.0, serials_moved country status (n + 1) p ms all.1)
 
 -- movements that move are indexed as before
-pub indexed_moved : (country : List ℕ) (status : NewStatus) (ms : List Movement) (lrns : List (List ℕ)) (placed : ℕ) → AreIndexed country ms lrns placed → AreIndexed country (map (moved status) ms) lrns placed
-indexed_moved country status ms lrns placed is = record {
-  same = is.same ∙ sym (lrns_moved status ms);
+pub indexed_moved : (country : List ℕ) (status : NewStatus) (ms : List Movement) (places : BTreeMap (List ℕ) ℕ) (placed : ℕ) → AreIndexed country ms places placed → AreIndexed country (map (moved status) ms) places placed
+indexed_moved country status ms places placed is = record {
+  lrns = λ lrn. is.lrns lrn ∙ sym (place_moved status lrn ms);
   within = simp length-map is.within;
   serials = serials_moved country status 0 placed ms is.serials;
 }
 
+-- the places where an LRN without one got this place
+abbrev pub HasPlaceFor : List ℕ → BTreeMap (List ℕ) ℕ → BTreeMap (List ℕ) ℕ → ℕ → Type 0
+HasPlaceFor lrn old new at = (k : List ℕ) → get lrn_cmp new k ≡ option_or (get lrn_cmp old k) (if bytes_eq lrn k then Some at else None)
+
+-- with one more behind them, each LRN has its place
+lrns_more : (ms : List Movement) (m : Movement) (old new : BTreeMap (List ℕ) ℕ) → ((lrn : List ℕ) → get lrn_cmp old lrn ≡ place_by_lrn lrn ms) → HasPlaceFor m.lrn old new (length ms)
+    → (lrn : List ℕ) → get lrn_cmp new lrn ≡ place_by_lrn lrn (ms ++ m ∷ [])
+lrns_more ms m old new are more lrn = more lrn ∙ ap (λ o. option_or o (if bytes_eq m.lrn lrn then Some (length ms) else None)) (are lrn) ∙ sym (place_in_more lrn ms m)
+
+-- with one more behind them, as many stand in their places
+pub indexed_more : (country : List ℕ) (ms : List Movement) (m : Movement) (old new : BTreeMap (List ℕ) ℕ) (placed : ℕ) → AreIndexed country ms old placed → HasPlaceFor m.lrn old new (length ms) → AreIndexed country (ms ++ m ∷ []) new placed
+indexed_more country ms m old new placed is more = record {
+  lrns = lrns_more ms m old new is.lrns more;
+  within = omega (arith, is.within, length-append ms (m ∷ []));
+  serials = subst (λ (l : List Movement). HaveSerials country l) (sym (take-append-le placed ms (m ∷ []) is.within)) is.serials;
+}
+
 -- with one more of the next serial behind them, all stand in their places
-pub indexed_next : (country : List ℕ) (ms : List Movement) (m : Movement) (lrns : List (List ℕ)) (placed : ℕ) → AreIndexed country ms lrns placed → placed ≡ length ms → serial_of country m.mrn ≡ Some (length ms + 1)
-    → AreIndexed country (ms ++ m ∷ []) (lrns ++ m.lrn ∷ []) (length ms + 1)
-indexed_next country ms m lrns placed is all next =
+pub indexed_next : (country : List ℕ) (ms : List Movement) (m : Movement) (old new : BTreeMap (List ℕ) ℕ) (placed : ℕ) → AreIndexed country ms old placed → HasPlaceFor m.lrn old new (length ms) → placed ≡ length ms
+    → serial_of country m.mrn ≡ Some (length ms + 1) → AreIndexed country (ms ++ m ∷ []) new (length ms + 1)
+indexed_next country ms m old new placed is more all next =
     let whole : take (length ms + 1) (ms ++ m ∷ []) ≡ ms ++ m ∷ [] = ap (λ n. take n (ms ++ m ∷ [])) (sym (length-append ms (m ∷ []))) ∙ take-length (ms ++ m ∷ []) in
     let before : HaveSerials country ms = subst (λ (l : List Movement). HaveSerials country l) (ap (λ n. take n ms) all ∙ take-length ms) is.serials in
     record {
-      same = ap (λ l. l ++ m.lrn ∷ []) is.same ∙ sym (map-append (λ (m : Movement). m.lrn) ms (m ∷ []));
+      lrns = lrns_more ms m old new is.lrns more;
       within = omega (arith, length-append ms (m ∷ []));
       serials = subst (λ (l : List Movement). HaveSerials country l) (sym whole) (AllNumbered-append (HasSerial country) 0 ms m before (next ∙ ap (λ n. Some n) (omega arith)));
     }

@@ -16,4 +16,4 @@ invariant_of-self c =
     let is : new ≡ map (moved status) old = c.put_by_serial.ensures ∙ ap (map (moved status)) c.deref_mut.ensures.value in
     let long : length new ≡ c.self.inside.items.len = ap length c.put_by_serial.ensures ∙ length-map c.deref_mut.result.now (moved status) ∙ c.deref_mut.ensures.len in
     let whole : take c.self.inside.items.len (new ++ drop (length new) old) ≡ new = ap (λ n. take n (new ++ drop (length new) old)) (sym long) ∙ take_front new (drop (length new) old) in
-    subst (λ (ms : List Movement). AreIndexed c.self.inside.country ms c.self.inside.lrns.items c.self.inside.placed) (sym (whole ∙ is)) (indexed_moved c.self.inside.country status old c.self.inside.lrns.items c.self.inside.placed c.self.invariant)
+    subst (λ (ms : List Movement). AreIndexed c.self.inside.country ms c.self.inside.places c.self.inside.placed) (sym (whole ∙ is)) (indexed_moved c.self.inside.country status old c.self.inside.places c.self.inside.placed c.self.invariant)
