@@ -7,11 +7,6 @@ use Rattle.td_acts.specs.declared.rows.NewStatus.{NewStatus}
 use Rattle.td_acts.specs.Account.{at_grn}
 use Rattle.td_acts.specs.Changes.{with_status, moved}
 
--- the front of two lists
-pub take_front : {X : Type 0} (xs ys : List X) → take (length xs) (xs ++ ys) ≡ xs
-take_front [] ys = refl
-take_front (x ∷ xs) ys = ap (λ l. x ∷ l) (take_front xs ys)
-
 module _ {X : Type 0} (f : X → X) where
   -- the first i of them are mapped
   abbrev pub mapped_to : ℕ → List X → List X

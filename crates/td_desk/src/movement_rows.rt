@@ -8,6 +8,7 @@ ghost use Rattle.td_acts.specs.Changes.{moved};
 ghost use Rattle.td_desk.specs.Places.{HaveSerials, IsOnlyPlace, lrn_cmp};
 
 use crate::changes::put_status;
+use crate::serials::{is_next, place_of};
 use std::alloc::{AllocError, Global};
 use std::collections::BTreeMap;
 use std::marker::Model;
@@ -112,23 +113,13 @@ fn put_place(places: &mut BTreeMap<Lrn, usize>, lrn: Lrn, at: usize) -> Result<(
     Ok(())
 }
 
-// Whether a serial is the one that comes after so many.
-fn is_next(serial: Option<u32>, count: usize) -> bool
-    ensures { IsTrue result ↔ (serial ≡ Some (count + 1)) }
-{
-    match serial {
-        Some(serial) => serial > 0 && serial as usize - 1 == count,
-        None => false,
-    }
-}
-
 // The place of an MRN among movements that stand at the places of their MRNs' serials.
 fn find_by_serial(movements: &[Movement], country: Country, mrn: &Mrn) -> Option<usize>
-    requires { HaveSerials country movements.now }
-    ensures some { IfSome result (IsOnlyPlace mrn.now movements.now) }
+    requires { HaveSerials (λ m. m.mrn) country movements.now }
+    ensures some { IfSome result (IsOnlyPlace (λ m. m.mrn) mrn.now movements.now) }
     ensures none { result ≡ None → All (λ m. m.mrn ≢ mrn.now) movements.now }
 {
-    let at = (mrn.serial(country)? as usize).checked_sub(1)?;
+    let at = place_of(mrn.serial(country))?;
     let movement = movements.get(at)?;
     if movement.mrn == *mrn {
         return Some(at);
@@ -140,7 +131,7 @@ fn find_by_serial(movements: &[Movement], country: Country, mrn: &Mrn) -> Option
 // serials.
 fn put_by_serial(movements: &mut [Movement], placed: usize, country: Country, status: &NewStatus)
     requires within { placed ≤ length movements.old }
-    requires serials { HaveSerials country (take placed movements.old) }
+    requires serials { HaveSerials (λ m. m.mrn) country (take placed movements.old) }
     ensures { movements.new ≡ map (moved status.now) movements.old }
 {
     let (ordered, others) = movements.split_at_mut(placed);

@@ -4,7 +4,7 @@ use Rattle.std.proofs.lemmas.List.{length-append}
 use Rattle.td_base.specs.References.{serial_of}
 use Rattle.td_movement.specs.declared.movement.Movement.{Movement}
 use Rattle.td_desk.specs.Places.{AreIndexed}
-use Rattle.td_desk.proofs.BySerial.{HasPlaceFor, indexed_more, indexed_next}
+use Rattle.td_desk.proofs.Indexed.{HasPlaceFor, indexed_more, indexed_next}
 use Rattle.td_desk.proofs.movement_rows.MovementRows.push.Goals as goal
 use Rattle.td_desk.proofs.movement_rows.MovementRows.push.Goals.{then-self-count, else-self-count}
 
