@@ -17,8 +17,8 @@ use td_guarantee::Guarantee;
 pub(crate) struct GuaranteeRows {
     country: Country,
     items: Vec<Guarantee>,
-    // So many guarantees, from the first on, stand at the places of their GRNs' serials. In sound rows all do,
-    // and none is looked at but the one that is named.
+    // So many guarantees, from the first on, stand at the places of their GRNs' serials. In sound rows all
+    // do, and none is looked at but the one that is named.
     placed: usize,
 }
 
@@ -120,8 +120,8 @@ fn find_by_serial(guarantees: &[Guarantee], country: Country, grn: &Grn) -> Opti
     None
 }
 
-// Puts new terms into the guarantee that they name, where so many guarantees stand at the places of their GRNs'
-// serials.
+// Puts new terms into the guarantee that they name, where so many guarantees stand at the places of their
+// GRNs' serials.
 fn put_terms_by_serial(
     guarantees: &mut [Guarantee],
     placed: usize,
@@ -156,7 +156,8 @@ fn add_code_by_serial(
     Ok(())
 }
 
-// Takes a code from the guarantee with a GRN, where so many guarantees stand at the places of their GRNs' serials.
+// Takes a code from the guarantee with a GRN, where so many guarantees stand at the places of their GRNs'
+// serials.
 fn take_code_by_serial(
     guarantees: &mut [Guarantee],
     placed: usize,

@@ -127,8 +127,8 @@ fn find_by_serial(movements: &[Movement], country: Country, mrn: &Mrn) -> Option
     None
 }
 
-// Puts the movement that has moved into its new state, where so many movements stand at the places of their MRNs'
-// serials.
+// Puts the movement that has moved into its new state, where so many movements stand at the places of their
+// MRNs' serials.
 fn put_by_serial(movements: &mut [Movement], placed: usize, country: Country, status: &NewStatus)
     requires within { placed ≤ length movements.old }
     requires serials { HaveSerials (λ m. m.mrn) country (take placed movements.old) }

@@ -163,7 +163,8 @@ fn assert_lodged(
     assert_lodged_in_turn(rt, &mut service, holders, each)
 }
 
-// In the end each of 100 holders has as many movements as declarations: 10 where the environment says no other number.
+// In the end each of 100 holders has as many movements as declarations: 10 where the environment says no
+// other number.
 #[test]
 fn holders_lodge_in_turn(rt: HostRuntime) -> Result<(), Fail> {
     let each = number_or(&rt, "DECLARATIONS_EACH", 10)?;

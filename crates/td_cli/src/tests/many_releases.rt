@@ -1,4 +1,5 @@
-//! Many releases and arrivals at one desk: a few as a test, and so many as the environment says where their time is measured.
+//! Many releases and arrivals at one desk: a few as a test, and so many as the environment says where their time
+//! is measured.
 use super::assert_text;
 use super::exchanges::{served, service_of_ch};
 use super::many_declarations::{Holder, holders_of, number_or};
