@@ -14,6 +14,7 @@ mod lives;
 mod machine_clock;
 mod many_declarations;
 mod many_holders;
+mod many_releases;
 mod memory;
 mod moments;
 mod nine_lines;

@@ -6,6 +6,7 @@ mod Loading
 mod Kept
 mod Mapping
 mod BySerial
+mod Indexed
 mod Storing
 pub mod Carrying
 pub mod Weighed

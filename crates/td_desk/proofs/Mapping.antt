@@ -1,17 +1,11 @@
 -- A list of which the front is mapped already, and one element more.
-use Rattle.std.proofs.Common.{◌≡◌, ℕ, zero, suc, ◌<◌, ◌≤◌, true, false, List, [], ◌∷◌, ◌++◌, length, map, take, drop, get_or, set, refl, ◌∙◌, ap, arith}
+use Rattle.std.proofs.Common.{◌≡◌, ℕ, zero, suc, ◌<◌, ◌≤◌, true, false, List, [], ◌∷◌, ◌++◌, length, map, take, drop, get_or, set, refl, ap, arith}
 use Rattle.std.specs.Str.{bytes_eq}
 use Rattle.td_guarantee.specs.declared.guarantee.Guarantee.{Guarantee}
 use Rattle.td_movement.specs.declared.movement.Movement.{Movement}
 use Rattle.td_acts.specs.declared.rows.NewStatus.{NewStatus}
 use Rattle.td_acts.specs.Account.{at_grn}
 use Rattle.td_acts.specs.Changes.{with_status, moved}
-use Rattle.td_acts.proofs.Steps.{lrn_moved}
-
--- the front of two lists
-pub take_front : {X : Type 0} (xs ys : List X) → take (length xs) (xs ++ ys) ≡ xs
-take_front [] ys = refl
-take_front (x ∷ xs) ys = ap (λ l. x ∷ l) (take_front xs ys)
 
 module _ {X : Type 0} (f : X → X) where
   -- the first i of them are mapped
@@ -37,11 +31,6 @@ module _ {X : Type 0} (f : X → X) where
   all_mapped [] (suc i) within = refl
   all_mapped (x ∷ xs) zero within = absurd (omega (arith, within))
   all_mapped (x ∷ xs) (suc i) within = ap (λ l. f x ∷ l) (all_mapped xs i (omega (arith, within)))
-
--- movements keep their LRNs
-pub lrns_moved : (status : NewStatus) (ms : List Movement) → map (λ m. m.lrn) (map (moved status) ms) ≡ map (λ m. m.lrn) ms
-lrns_moved status [] = refl
-lrns_moved status (m ∷ ms) = ap (λ l. l ∷ map (λ m. m.lrn) (map (moved status) ms)) (lrn_moved status m) ∙ ap (λ l. m.lrn ∷ l) (lrns_moved status ms)
 
 -- the one that has moved, and any other
 pub moved_is : (status : NewStatus) (m : Movement) → bytes_eq m.mrn status.mrn ≡ true → moved status m ≡ with_status status m

@@ -7,7 +7,7 @@ ghost use Rattle.td_acts.specs.Deciding.{IsLoaded};
 ghost use Rattle.td_commands.specs.Commands.{need_said};
 ghost use Rattle.td_acts.specs.Sound.{IsCovered};
 
-use crate::changes::{copies_with_code, put_terms, take_code};
+use crate::guarantee_rows::GuaranteeRows;
 use crate::lookups::{
     all_entries, copies_of, copy_of_found, entries_by_grn, guarantees_of, release_of,
 };
@@ -17,13 +17,12 @@ use std::alloc::{AllocError, Global};
 use std::marker::Model;
 use td_acts::{Change, HolderRow, Loaded, Needs};
 use td_base::{Country, HolderNo};
-use td_guarantee::Guarantee;
 
 /// A registered holder's row, and the holder's own guarantees and movements by serial.
 #[derive(Drop)]
 pub(crate) struct HolderFile {
     row: HolderRow,
-    guarantees: Vec<Guarantee>,
+    guarantees: GuaranteeRows,
     movements: MovementRows,
 }
 
@@ -32,7 +31,7 @@ impl Model for HolderFile {
 
     ghost Value = { HolderRows };
 
-    ghost view = { λ f. record { row = f.row; guarantees = f.guarantees.items; movements = f.movements } };
+    ghost view = { λ f. record { row = f.row; guarantees = f.guarantees; movements = f.movements } };
 }
 
 impl Keyed for HolderFile {
@@ -52,7 +51,7 @@ impl HolderFile {
     {
         HolderFile {
             row,
-            guarantees: Vec::new(alloc),
+            guarantees: GuaranteeRows::new(alloc, country),
             movements: MovementRows::new(alloc, country),
         }
     }
@@ -85,15 +84,15 @@ impl HolderFile {
                 self.row = row;
             }
             Change::TermsSet(row, terms) => {
-                put_terms(&mut self.guarantees, &terms);
+                self.guarantees.put_terms(&terms);
                 self.row = row;
             }
             Change::CodeAdded(row, grn, code) => {
-                self.guarantees = copies_with_code(alloc, &self.guarantees, &grn, code)?;
+                self.guarantees.add_code(alloc, &grn, code)?;
                 self.row = row;
             }
             Change::CodeRemoved(row, grn, code) => {
-                take_code(&mut self.guarantees, &grn, &code);
+                self.guarantees.take_code(&grn, &code);
                 self.row = row;
             }
         }
@@ -127,7 +126,10 @@ impl HolderFile {
                 Vec::new(alloc),
                 entries_by_grn(alloc, &self.guarantees, rows, grn)?,
             ),
-            Needs::AllGuarantees => (Vec::new(alloc), all_entries(alloc, &self.guarantees, rows)?),
+            Needs::AllGuarantees => (
+                Vec::new(alloc),
+                all_entries(alloc, self.guarantees.as_slice(), rows)?,
+            ),
         };
         Ok(Loaded {
             country,

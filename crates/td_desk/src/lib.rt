@@ -7,11 +7,13 @@ mod decision;
 mod desk;
 mod fault;
 mod file;
+mod guarantee_rows;
 mod laws;
 mod lookups;
 mod movement_rows;
 mod plain;
 mod running;
+mod serials;
 mod store;
 #[cfg(test)]
 mod tests;

@@ -5,9 +5,10 @@ ghost use Rattle.td_guarantee.specs.Usage.{used_on};
 ghost use Rattle.td_acts.specs.Account.{guarantee_by_grn, movement_by_mrn};
 ghost use Rattle.td_acts.specs.Sound.{IsCovered};
 
+use crate::guarantee_rows::GuaranteeRows;
 use crate::movement_rows::MovementRows;
 use std::alloc::{AllocError, Global};
-use td_acts::{Lines, find_guarantee};
+use td_acts::Lines;
 use td_base::{Cents, Grn, Mrn};
 use td_guarantee::{Guarantee, in_use};
 use td_movement::{Line, Movement};
@@ -30,7 +31,7 @@ pub(crate) fn copy_of_found(
 /// `AllocError`: want of memory.
 pub(crate) fn guarantees_of(
     alloc: Global,
-    guarantees: &[Guarantee],
+    guarantees: &GuaranteeRows,
     lines: &Lines,
 ) -> Result<Vec<(Guarantee, Cents)>, AllocError>
     ensures { IfOk result (λ found. map (λ e. e.0) found.items
@@ -39,7 +40,7 @@ pub(crate) fn guarantees_of(
     let unasked = Cents::new(0).unwrap();
     let mut found = Vec::new(alloc);
     for (line, _) in lines.as_slice() {
-        if let Some(guarantee) = find_guarantee(guarantees, &line.grn) {
+        if let Some(guarantee) = guarantees.find_by_grn(&line.grn) {
             found.push((guarantee.copy(alloc)?, unasked))?;
         }
     }
@@ -49,7 +50,7 @@ pub(crate) fn guarantees_of(
 /// The guarantee with a GRN, if there is one, and the amount in use on it. `AllocError`: want of memory.
 pub(crate) fn entries_by_grn(
     alloc: Global,
-    guarantees: &[Guarantee],
+    guarantees: &GuaranteeRows,
     movements: &[Movement],
     grn: &Grn,
 ) -> Result<Vec<(Guarantee, Cents)>, AllocError>
@@ -59,7 +60,7 @@ pub(crate) fn entries_by_grn(
         (guarantee_by_grn grn.now guarantees.now))) }
 {
     let mut found = Vec::new(alloc);
-    if let Some(guarantee) = find_guarantee(guarantees, grn) {
+    if let Some(guarantee) = guarantees.find_by_grn(grn) {
         let used = used_of(movements, guarantee);
         found.push((guarantee.copy(alloc)?, used))?;
     }
@@ -70,7 +71,7 @@ pub(crate) fn entries_by_grn(
 /// the amounts in use on them. `AllocError`: want of memory.
 pub(crate) fn release_of(
     alloc: Global,
-    guarantees: &[Guarantee],
+    guarantees: &GuaranteeRows,
     movements: &MovementRows,
     mrn: &Mrn,
 ) -> Result<(Vec<Movement>, Vec<(Guarantee, Cents)>), AllocError>
@@ -94,7 +95,7 @@ pub(crate) fn release_of(
 // The guarantees that lines name, as far as they are there, and the amounts in use on them.
 fn entries_of(
     alloc: Global,
-    guarantees: &[Guarantee],
+    guarantees: &GuaranteeRows,
     movements: &[Movement],
     lines: &[Line],
 ) -> Result<Vec<(Guarantee, Cents)>, AllocError>
@@ -105,7 +106,7 @@ fn entries_of(
 {
     let mut found = Vec::new(alloc);
     for line in lines {
-        if let Some(guarantee) = find_guarantee(guarantees, &line.grn) {
+        if let Some(guarantee) = guarantees.find_by_grn(&line.grn) {
             let amount = used_of(movements, guarantee);
             found.push((guarantee.copy(alloc)?, amount))?;
         }

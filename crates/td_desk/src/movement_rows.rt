@@ -1,11 +1,16 @@
 //! A holder's movements in memory, and where they are found by their references.
-ghost use Rattle.std.specs.Prelude.{◌≡◌, ◌≢◌, ◌≤◌, ◌+◌, ◌∷◌, ◌++◌, ◌↔◌, [], Some, None, length, take, map, option_map, All, IsTrue, IfSome, OnOk, OnErr};
+ghost use Rattle.std.specs.Prelude.{◌≡◌, ◌≢◌, ◌≤◌, ◌+◌, ◌∷◌, ◌++◌, ◌↔◌, [], Some, None, length, take, map, option_map, All, IsTrue, IfSome, OnOk, OnErr, List, ℕ, if◌then◌else◌};
+ghost use Rattle.std.specs.BTreeMap.{get};
+ghost use Rattle.std.specs.Option.{option_or};
+ghost use Rattle.std.specs.Str.{bytes_eq};
 ghost use Rattle.td_acts.specs.Account.{movement_by_lrn, movement_by_mrn};
 ghost use Rattle.td_acts.specs.Changes.{moved};
-ghost use Rattle.td_desk.specs.Places.{HaveSerials, IsFirstPlace, IsOnlyPlace};
+ghost use Rattle.td_desk.specs.Places.{HaveSerials, IsOnlyPlace, lrn_cmp};
 
 use crate::changes::put_status;
+use crate::serials::{is_next, place_of};
 use std::alloc::{AllocError, Global};
+use std::collections::BTreeMap;
 use std::marker::Model;
 use td_acts::{NewStatus, find_movement_by_mrn};
 use td_base::{Country, Lrn, Mrn};
@@ -16,9 +21,8 @@ use td_movement::Movement;
 pub(crate) struct MovementRows {
     country: Country,
     items: Vec<Movement>,
-    // The movements' LRNs side by side: a declaration's is looked for here, in far less memory than the
-    // movements take.
-    lrns: Vec<Lrn>,
+    // The place of the first movement with each LRN, so that a declaration's is found without a walk.
+    places: BTreeMap<Lrn, usize>,
     // So many movements, from the first on, stand at the places of their MRNs' serials. In sound rows all do,
     // and none is looked at but the one that is named.
     placed: usize,
@@ -33,7 +37,7 @@ impl Model for MovementRows {
 
     ghost view = { λ r. r.items.items };
 
-    ghost invariant = { λ r. AreIndexed r.country r.items.items r.lrns.items r.placed };
+    ghost invariant = { λ r. AreIndexed r.country r.items.items r.places r.placed };
 }
 
 impl MovementRows {
@@ -44,7 +48,7 @@ impl MovementRows {
         MovementRows {
             country,
             items: Vec::new(alloc),
-            lrns: Vec::new(alloc),
+            places: BTreeMap::new(alloc),
             placed: 0,
         }
     }
@@ -61,12 +65,11 @@ impl MovementRows {
         ensures ok { OnOk result (self.new ≡ self.old ++ movement ∷ []) }
         ensures err { OnErr result (self.new ≡ self.old) }
     {
-        let lrn = movement.lrn;
         let count = self.items.len();
         let in_place = self.placed == count && is_next(movement.mrn.serial(self.country), count);
-        self.lrns.reserve(1)?;
-        self.items.push(movement)?;
-        self.lrns.push_reserved(lrn);
+        self.items.reserve(1)?;
+        put_place(&mut self.places, movement.lrn, count)?;
+        self.items.push_reserved(movement);
         if in_place {
             self.placed = self.items.len();
         }
@@ -77,7 +80,7 @@ impl MovementRows {
     pub fn find_by_lrn(&self, lrn: &Lrn) -> Option<&Movement>
         ensures { option_map (λ m. m.now) result ≡ movement_by_lrn lrn.now self.now }
     {
-        let at = find_place(&self.lrns, lrn)?;
+        let at = *self.places.get(lrn)?;
         Some(&self.items[at])
     }
 
@@ -100,36 +103,23 @@ impl MovementRows {
     }
 }
 
-// Whether a serial is the one that comes after so many.
-fn is_next(serial: Option<u32>, count: usize) -> bool
-    ensures { IsTrue result ↔ (serial ≡ Some (count + 1)) }
+// Puts a place for an LRN, if it has none yet. `AllocError`: want of memory, and the places are as they were.
+fn put_place(places: &mut BTreeMap<Lrn, usize>, lrn: Lrn, at: usize) -> Result<(), AllocError>
+    ensures ok { OnOk result ((k : List ℕ) → get lrn_cmp places.new k
+        ≡ option_or (get lrn_cmp places.old k) (if bytes_eq lrn k then Some at else None)) }
+    ensures err { OnErr result ((k : List ℕ) → get lrn_cmp places.new k ≡ get lrn_cmp places.old k) }
 {
-    match serial {
-        Some(serial) => serial > 0 && serial as usize - 1 == count,
-        None => false,
-    }
-}
-
-// The first place of an LRN among others.
-fn find_place(lrns: &[Lrn], lrn: &Lrn) -> Option<usize>
-    ensures first { IfSome result (IsFirstPlace lrn.now lrns.now) }
-    ensures none { result ≡ None → All (λ l. l ≢ lrn.now) lrns.now }
-{
-    for (at, known) in lrns.iter().enumerate() {
-        if known == lrn {
-            return Some(at);
-        }
-    }
-    None
+    places.entry(lrn)?.or_insert(at);
+    Ok(())
 }
 
 // The place of an MRN among movements that stand at the places of their MRNs' serials.
 fn find_by_serial(movements: &[Movement], country: Country, mrn: &Mrn) -> Option<usize>
-    requires { HaveSerials country movements.now }
-    ensures some { IfSome result (IsOnlyPlace mrn.now movements.now) }
+    requires { HaveSerials (λ m. m.mrn) country movements.now }
+    ensures some { IfSome result (IsOnlyPlace (λ m. m.mrn) mrn.now movements.now) }
     ensures none { result ≡ None → All (λ m. m.mrn ≢ mrn.now) movements.now }
 {
-    let at = (mrn.serial(country)? as usize).checked_sub(1)?;
+    let at = place_of(mrn.serial(country))?;
     let movement = movements.get(at)?;
     if movement.mrn == *mrn {
         return Some(at);
@@ -137,11 +127,11 @@ fn find_by_serial(movements: &[Movement], country: Country, mrn: &Mrn) -> Option
     None
 }
 
-// Puts the movement that has moved into its new state, where so many movements stand at the places of their MRNs'
-// serials.
+// Puts the movement that has moved into its new state, where so many movements stand at the places of their
+// MRNs' serials.
 fn put_by_serial(movements: &mut [Movement], placed: usize, country: Country, status: &NewStatus)
     requires within { placed ≤ length movements.old }
-    requires serials { HaveSerials country (take placed movements.old) }
+    requires serials { HaveSerials (λ m. m.mrn) country (take placed movements.old) }
     ensures { movements.new ≡ map (moved status.now) movements.old }
 {
     let (ordered, others) = movements.split_at_mut(placed);

@@ -14,9 +14,9 @@ use td_http::Service;
 
 /// A holder's number and the holder's first guarantee.
 #[derive(Drop)]
-struct Holder {
-    number: String,
-    grn: String,
+pub struct Holder {
+    pub number: String,
+    pub grn: String,
 }
 
 fn written(alloc: Global, number: HolderNo, grn: Grn) -> Result<Holder, AllocError> {
@@ -32,21 +32,21 @@ fn holder_of(alloc: Global, country: Country, number: u32) -> Result<Holder, Fai
     Ok(written(alloc, number, grn)?)
 }
 
-// 100 holders at a desk of CH.
-fn holders_of(alloc: Global) -> Result<Vec<Holder>, Fail> {
+/// The first so many holders at a desk of CH.
+pub fn holders_of(alloc: Global, count: u32) -> Result<Vec<Holder>, Fail> {
     let country = Country::read(b"CH").ok_or("country")?;
     let mut holders = Vec::new(alloc);
-    for number in 1..=100 {
+    for number in 1..=count {
         holders.push(holder_of(alloc, country, number)?)?;
     }
     Ok(holders)
 }
 
-// How many declarations each holder lodges: DECLARATIONS_EACH of the environment, and 10 where it isn't there.
-fn declarations_each(rt: &HostRuntime) -> Result<u32, Fail> {
-    match env::var(rt, "DECLARATIONS_EACH") {
+/// A number of the environment, and this one where it isn't there.
+pub fn number_or(rt: &HostRuntime, name: &str, otherwise: u32) -> Result<u32, Fail> {
+    match env::var(rt, name) {
         Ok(text) => Ok(text.parse::<u32>()?),
-        Err(VarError::NotPresent) => Ok(10),
+        Err(VarError::NotPresent) => Ok(otherwise),
         Err(error) => Err(error.into()),
     }
 }
@@ -163,10 +163,11 @@ fn assert_lodged(
     assert_lodged_in_turn(rt, &mut service, holders, each)
 }
 
-// In the end each has as many movements as declarations.
+// In the end each of 100 holders has as many movements as declarations: 10 where the environment says no
+// other number.
 #[test]
 fn holders_lodge_in_turn(rt: HostRuntime) -> Result<(), Fail> {
-    let each = declarations_each(&rt)?;
-    let holders = holders_of(rt.alloc())?;
+    let each = number_or(&rt, "DECLARATIONS_EACH", 10)?;
+    let holders = holders_of(rt.alloc(), 100)?;
     assert_lodged(&rt, &holders, each)
 }

@@ -48,6 +48,13 @@ pub fn open(alloc: Global, holder: &str) -> Result<String, AllocError> {
     request(alloc, "POST", &target, body)
 }
 
+/// Opens a guarantee with the greatest reference amount, cover 50 and the code AB12.
+pub fn open_greatest(alloc: Global, holder: &str) -> Result<String, AllocError> {
+    let target = format!(in alloc; "/office/holders/{holder}/guarantees")?;
+    let body = "{\"reference\":1000000000000000,\"cover\":50,\"code\":\"AB12\"}";
+    request(alloc, "POST", &target, body)
+}
+
 fn declaration(alloc: Global, lrn: &str, grn: &str) -> Result<String, AllocError> {
     format!(in alloc;
         "{{\"lrn\":\"{lrn}\",\"departure\":\"CH001251\",\"destination\":\"DE005600\",\"lines\":[{{\"grn\":\"{grn}\",\"code\":\"AB12\",\"cents\":500000}}]}}"
@@ -58,6 +65,18 @@ fn declaration(alloc: Global, lrn: &str, grn: &str) -> Result<String, AllocError
 pub fn lodge(alloc: Global, holder: &str, lrn: &str, grn: &str) -> Result<String, AllocError> {
     let target = format!(in alloc; "/holders/{holder}/movements")?;
     request(alloc, "POST", &target, &declaration(alloc, lrn, grn)?)
+}
+
+/// Releases a movement for transit, with 2025-03-08 as its limit.
+pub fn release(alloc: Global, mrn: &str) -> Result<String, AllocError> {
+    let target = format!(in alloc; "/office/movements/{mrn}/ie029")?;
+    request(alloc, "POST", &target, "{\"limit\":\"2025-03-08\"}")
+}
+
+/// A movement arrives at its office of destination.
+pub fn arrive(alloc: Global, mrn: &str) -> Result<String, AllocError> {
+    let target = format!(in alloc; "/office/movements/{mrn}/ie007")?;
+    request(alloc, "POST", &target, "{\"office\":\"DE005600\"}")
 }
 
 /// Asks to see a holder.
@@ -87,6 +106,20 @@ pub fn opened(alloc: Global, grn: &str) -> Result<String, AllocError> {
 /// A declaration was accepted.
 pub fn lodged(alloc: Global, lrn: &str, mrn: &str) -> Result<String, AllocError> {
     let body = format!(in alloc; "{{\"lrn\":\"{lrn}\",\"message\":\"IE028\",\"mrn\":\"{mrn}\"}}")?;
+    answer(alloc, &body)
+}
+
+/// A movement was released, with 2025-03-08 as its limit.
+pub fn released(alloc: Global, mrn: &str) -> Result<String, AllocError> {
+    let body = format!(in alloc;
+        "{{\"limit\":\"2025-03-08\",\"message\":\"IE029\",\"mrn\":\"{mrn}\",\"state\":\"released\"}}"
+    )?;
+    answer(alloc, &body)
+}
+
+/// A movement arrived in time.
+pub fn advised(alloc: Global, mrn: &str) -> Result<String, AllocError> {
+    let body = format!(in alloc; "{{\"late\":false,\"message\":\"IE006\",\"mrn\":\"{mrn}\"}}")?;
     answer(alloc, &body)
 }
 

@@ -24,15 +24,15 @@ loop-line-preserved c = λ covered.
     let within : n < length items = c.loop-line-test.true in
     let more : take (n + 1) items ≡ take n items ++ line ∷ [] = take_more items n line within ∙ ap (λ s. take n items ++ s ∷ []) (sym c.line-item.is) in
     let before = c.loop-line.found.items in
-    let after = c.match-find_guarantee.found.items in
-    subst (λ l. after ≡ filter_map seek l) (sym more) (elim c.match-find_guarantee.branch [
+    let after = c.match-find_by_grn.found.items in
+    subst (λ l. after ≡ filter_map seek l) (sym more) (elim c.match-find_by_grn.branch [
       | in-Some+in_ok-copy+in_ok-push w ↦
           let g = w.in-Some.guarantee.now in
-          let found : guarantee_by_grn line.grn guarantees ≡ Some g = sym c.find_guarantee.ensures ∙ ap (option_map (λ found. found.now)) w.in-Some.is in
+          let found : guarantee_by_grn line.grn guarantees ≡ Some g = sym c.find_by_grn.ensures ∙ ap (option_map (λ found. found.now)) w.in-Some.is in
           let keeps : IsCovered movements g = subst (λ (o : Option Guarantee). IfSome o (IsCovered movements)) found (found_keeps (λ g. g.grn) (IsCovered movements) line.grn guarantees covered) in
           one_more seek (take n items) line (Some (entry g)) before after (ap (option_map entry) found) (c.loop-line.invariant covered)
           (ap (λ v. v.items) w.found-is ∙ w.in_ok-push.ensures.items ∙ ap₂ (λ copy used. before ++ (copy, used) ∷ []) w.in_ok-copy.ensures (w.used_of-amount.ensures keeps))
       | in_default w ↦
-          one_more seek (take n items) line None before after (ap (option_map entry) (sym c.find_guarantee.ensures ∙ ap (option_map (λ found. found.now)) w.in_default.is)) (c.loop-line.invariant covered)
+          one_more seek (take n items) line None before after (ap (option_map entry) (sym c.find_by_grn.ensures ∙ ap (option_map (λ found. found.now)) w.in_default.is)) (c.loop-line.invariant covered)
           (ap (λ v. v.items) w.found-is ∙ sym (append-nil before))
     ])

@@ -17,13 +17,13 @@ loop-line-preserved c =
     let at : line ≡ get_or items n line = subst (λ (l : List (Line × List ℕ)). line ≡ get_or l n line) c.as_slice-line-items.ensures.value c.loop-line-item.is in
     let more : take (n + 1) items ≡ take n items ++ line ∷ [] = take_more items n line within ∙ ap (λ s. take n items ++ s ∷ []) (sym at) in
     let before = map (λ e. e.0) c.loop-line.found.items in
-    subst (λ l. map (λ e. e.0) c.match-find_guarantee.found.items ≡ filter_map seek l) (sym more) (elim c.match-find_guarantee.branch [
+    subst (λ l. map (λ e. e.0) c.match-find_by_grn.found.items ≡ filter_map seek l) (sym more) (elim c.match-find_by_grn.branch [
       | in-Some+in_ok-copy+in_ok-push w ↦
-          one_more seek (take n items) line (Some w.in-Some.guarantee.now) before (map (λ e. e.0) c.match-find_guarantee.found.items)
-          (sym c.find_guarantee.ensures ∙ ap (option_map (λ found. found.now)) w.in-Some.is) c.loop-line.invariant
+          one_more seek (take n items) line (Some w.in-Some.guarantee.now) before (map (λ e. e.0) c.match-find_by_grn.found.items)
+          (sym c.find_by_grn.ensures ∙ ap (option_map (λ found. found.now)) w.in-Some.is) c.loop-line.invariant
           (ap (λ v. map (λ e. e.0) v.items) w.found-is ∙ ap (map (λ e. e.0)) w.in_ok-push.ensures.items ∙ map-append (λ e. e.0) c.loop-line.found.items _ ∙ ap (λ g. before ++ g ∷ []) w.in_ok-copy.ensures)
       | in_default w ↦
-          one_more seek (take n items) line None before (map (λ e. e.0) c.match-find_guarantee.found.items)
-          (sym c.find_guarantee.ensures ∙ ap (option_map (λ found. found.now)) w.in_default.is) c.loop-line.invariant
+          one_more seek (take n items) line None before (map (λ e. e.0) c.match-find_by_grn.found.items)
+          (sym c.find_by_grn.ensures ∙ ap (option_map (λ found. found.now)) w.in_default.is) c.loop-line.invariant
           (ap (λ v. map (λ e. e.0) v.items) w.found-is ∙ sym (append-nil before))
     ])

@@ -32,34 +32,34 @@ returns c = λ covered.
         | in-Lodging+in_ok-copy_of_found-in-Lodging+in_ok-guarantees_of-in-Lodging w ↦
             needed _ w.in-Lodging.is (lodging_looked_up account loaded _ _
             (ap (λ p. p.0.items) w.movements-is ∙ w.in_ok-copy_of_found-in-Lodging.ensures ∙ ap option_to_list (w.find_by_lrn.ensures ∙ ap (λ h. movement_by_lrn w.in-Lodging.lrn h.movements) c.self.view_is))
-            (ap (λ p. map (λ e. e.0) p.1.items) w.movements-is ∙ w.in_ok-guarantees_of-in-Lodging.ensures ∙ ap (λ gs. taken gs w.in-Lodging.lines.now) (w.deref.ensures.value ∙ ap (λ h. h.guarantees) c.self.view_is)))
+            (ap (λ p. map (λ e. e.0) p.1.items) w.movements-is ∙ w.in_ok-guarantees_of-in-Lodging.ensures ∙ ap (λ gs. taken gs w.in-Lodging.lines.now) (ap (λ h. h.guarantees) c.self.view_is)))
         | in-Movement+in_ok-copy_of_found-in-Movement w ↦
             needed _ w.in-Movement.is (movement_looked_up account loaded _
             (ap (λ p. p.0.items) w.movements-is ∙ w.in_ok-copy_of_found-in-Movement.ensures ∙ ap option_to_list (w.find_by_mrn.ensures ∙ ap (λ h. movement_by_mrn w.in-Movement.mrn h.movements) c.self.view_is)))
         | in-Release+in_ok-release_of-in-Release w ↦
-            let guarantees = w.deref-in-Release.ensures.value ∙ ap (λ h. h.guarantees) c.self.view_is in
+            let guarantees = ap (λ h. h.guarantees) c.self.view_is in
             let movements = ap (λ h. h.movements) c.self.view_is in
             let ms = c.self.inside.movements in
             let mrn = w.in-Release.mrn in
             let entries : List Guarantee → List Movement → Movement → List (Guarantee × ℕ) = λ gs ms m. filter_map (λ l. option_map (λ g. (g, used_on g.grn ms)) (guarantee_by_grn l.grn gs)) m.lines in
-            let here = lent w.deref-in-Release.result.now ms guarantees movements in
+            let here = lent c.self.inside.guarantees ms guarantees movements in
             let looked = subst (λ (gs : List Guarantee). IfSome (movement_by_mrn mrn ms) (λ m. c.match-needs.movements.1.items ≡ entries gs ms m)) guarantees
-            (subst (λ (p : Vec Movement Global × Vec (Guarantee × ℕ) Global). IfSome (movement_by_mrn mrn ms) (λ m. p.1.items ≡ entries w.deref-in-Release.result.now ms m)) (sym w.movements-is) (w.in_ok-release_of-in-Release.ensures.entries here)) in
+            (subst (λ (p : Vec Movement Global × Vec (Guarantee × ℕ) Global). IfSome (movement_by_mrn mrn ms) (λ m. p.1.items ≡ entries c.self.inside.guarantees ms m)) (sym w.movements-is) (w.in_ok-release_of-in-Release.ensures.entries here)) in
             needed _ w.in-Release.is (release_looked_up account loaded mrn
             (ap (λ p. p.0.items) w.movements-is ∙ w.in_ok-release_of-in-Release.ensures.movement ∙ ap (λ ms. option_to_list (movement_by_mrn mrn ms)) movements)
             (subst (λ (ms : List Movement). IfSome (movement_by_mrn mrn ms) (λ m. c.match-needs.movements.1.items ≡ entries account.guarantees ms m)) movements looked))
         | in-AllMovements+in_ok-copies_of-in-AllMovements w ↦
             needed _ w.in-AllMovements.is (ap (λ p. p.0.items) w.movements-is ∙ w.in_ok-copies_of-in-AllMovements.ensures ∙ rows)
         | in-Guarantee+in_ok-entries_by_grn-in-Guarantee w ↦
-            let guarantees = w.deref-in-Guarantee.ensures.value ∙ ap (λ h. h.guarantees) c.self.view_is in
+            let guarantees = ap (λ h. h.guarantees) c.self.view_is in
             let found : List Guarantee → List Movement → List (Guarantee × ℕ) = λ gs ms. option_to_list (option_map (λ g. (g, used_on g.grn ms)) (guarantee_by_grn w.in-Guarantee.grn gs)) in
-            let here = lent w.deref-in-Guarantee.result.now c.as_slice-rows.result.now guarantees rows in
+            let here = lent c.self.inside.guarantees c.as_slice-rows.result.now guarantees rows in
             needed _ w.in-Guarantee.is (guarantee_looked_up account loaded _
             (ap (λ p. p.1.items) w.movements-is ∙ w.in_ok-entries_by_grn-in-Guarantee.ensures here ∙ ap₂ found guarantees rows))
         | in-AllGuarantees+in_ok-all_entries-in-AllGuarantees w ↦
-            let guarantees = w.deref-in-AllGuarantees.ensures.value ∙ ap (λ h. h.guarantees) c.self.view_is in
+            let guarantees = w.as_slice.ensures ∙ ap (λ h. h.guarantees) c.self.view_is in
             let entries : List Guarantee → List Movement → List (Guarantee × ℕ) = λ gs ms. map (λ g. (g, used_on g.grn ms)) gs in
-            let here = lent w.deref-in-AllGuarantees.result.now c.as_slice-rows.result.now guarantees rows in
+            let here = lent w.as_slice.result.now c.as_slice-rows.result.now guarantees rows in
             needed _ w.in-AllGuarantees.is (ap (λ p. p.1.items) w.movements-is ∙ w.in_ok-all_entries-in-AllGuarantees.ensures here ∙ ap₂ entries guarantees rows)
       ];
     }

@@ -4,7 +4,7 @@ use Rattle.std.proofs.lemmas.List.{length-append}
 use Rattle.td_base.specs.References.{serial_of}
 use Rattle.td_movement.specs.declared.movement.Movement.{Movement}
 use Rattle.td_desk.specs.Places.{AreIndexed}
-use Rattle.td_desk.proofs.BySerial.{indexed_next}
+use Rattle.td_desk.proofs.Indexed.{HasPlaceFor, indexed_more, indexed_next}
 use Rattle.td_desk.proofs.movement_rows.MovementRows.push.Goals as goal
 use Rattle.td_desk.proofs.movement_rows.MovementRows.push.Goals.{then-self-count, else-self-count}
 
@@ -19,9 +19,9 @@ invariant_of-self-then-in_place c =
     let ms = c.self.inside.items.items in
     let m = c.args.movement in
     let count = length ms in
+    let long : c.len-count.result ≡ count = c.len-count.ensures ∙ c.self.inside.items.ok.0 in
     let facts : IsNext country count c.self.inside.placed m.mrn = elim c.if-self-count.branch [
       | then-self-count w ↦
-          let long : c.len-count.result ≡ count = c.len-count.ensures ∙ c.self.inside.items.ok.0 in
           let next = w.is_next-in_place.ensures.0 (sym w.in_place-is ∙ c.if-in_place.true) in
           (w.if-self-count.true ∙ long, sym w.serial.ensures ∙ next ∙ ap (λ n. Some (n + 1)) long)
       | else-self-count w ↦
@@ -29,10 +29,21 @@ invariant_of-self-then-in_place c =
           let same = sym w.in_place-is ∙ c.if-in_place.true in
           absurd (grind (arith, nat_tests, other, same))
     ] in
-    let is = indexed_next country ms m c.self.inside.lrns.items c.self.inside.placed c.self.invariant facts.0 facts.1 in
-    let items = c.in_ok-push.ensures.items in
-    let lrns = c.push_reserved.ensures.items ∙ ap (λ l. l ++ m.lrn ∷ []) c.in_ok-reserve.ensures.items in
-    let long : c.len-self-inside.result ≡ count + 1 = c.len-self-inside.ensures ∙ c.push.new.self.ok.0 ∙ ap length items ∙ length-append ms (m ∷ []) in
-    subst (λ n. AreIndexed country c.push.new.self.items c.push_reserved.new.self.items n) (sym long)
-    (subst (λ (l : List (List ℕ)). AreIndexed country c.push.new.self.items l (count + 1)) (sym lrns)
-    (subst (λ (l : List Movement). AreIndexed country l (c.self.inside.lrns.items ++ m.lrn ∷ []) (count + 1)) (sym items) is))
+    let more = subst (HasPlaceFor m.lrn c.self.inside.places c.put_place.new.places) long c.in_ok-put_place.ensures.ok in
+    let is = indexed_next country ms m c.self.inside.places c.put_place.new.places c.self.inside.placed c.self.invariant more facts.0 facts.1 in
+    let items : c.push_reserved.new.self.items ≡ ms ++ m ∷ [] = c.push_reserved.ensures.items ∙ ap (λ l. l ++ m ∷ []) c.in_ok-reserve.ensures.items in
+    let behind : c.len-self-inside.result ≡ count + 1 = c.len-self-inside.ensures ∙ c.push_reserved.new.self.ok.0 ∙ ap length items ∙ length-append ms (m ∷ []) in
+    subst (λ n. AreIndexed country c.push_reserved.new.self.items c.put_place.new.places n) (sym behind)
+    (subst (λ (l : List Movement). AreIndexed country l c.put_place.new.places (count + 1)) (sym items) is)
+
+-- as many as before stand in their places
+pub invariant_of-self-else-in_place : goal.invariant_of-self-else-in_place
+invariant_of-self-else-in_place c =
+    let country = c.self.inside.country in
+    let ms = c.self.inside.items.items in
+    let m = c.args.movement in
+    let long : c.len-count.result ≡ length ms = c.len-count.ensures ∙ c.self.inside.items.ok.0 in
+    let more = subst (HasPlaceFor m.lrn c.self.inside.places c.put_place.new.places) long c.in_ok-put_place.ensures.ok in
+    let items : c.push_reserved.new.self.items ≡ ms ++ m ∷ [] = c.push_reserved.ensures.items ∙ ap (λ l. l ++ m ∷ []) c.in_ok-reserve.ensures.items in
+    subst (λ (l : List Movement). AreIndexed country l c.put_place.new.places c.self.inside.placed) (sym items)
+    (indexed_more country ms m c.self.inside.places c.put_place.new.places c.self.inside.placed c.self.invariant more)
