@@ -1,0 +1,2 @@
+mod Visits
+mod Private
