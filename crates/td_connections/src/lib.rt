@@ -2,5 +2,7 @@
 #![tactic(auto)]
 
 mod connections;
+mod sockets;
 
 pub use connections::{Connections, serve_connections};
+pub use sockets::serve_on;
