@@ -13,7 +13,8 @@ abbrev pub between : {L C H : Type 0} → L → C → H → Between L C H
 between source clock handler = record { source = source; clock = clock; handler = handler }
 
 -- an error that is handed on
-pub answer_is : (answer : Result Unit Error) (why : Error) → IsErrAnd answer (λ told. told ≡ why) → answer ≡ Err why
+pub answer_is : (answer : Result Unit Error) (why : Error) → IsErrAnd answer (λ told. told ≡ why)
+    → answer ≡ Err why
 answer_is (Ok done) why told = absurd told
 answer_is (Err other) why told = ap Err told
 
@@ -38,6 +39,7 @@ serving_more remaining contents gives takes ticks handles heads old now new coun
     let counted = before.counted in
     record {
       visits = before.visits ++ visit ∷ [];
-      visited = FoldsTo-push (IsVisit remaining contents gives takes ticks handles heads) old before.visits now visit new before.visited is;
+      visited = FoldsTo-push (IsVisit remaining contents gives takes ticks handles heads)
+          old before.visits now visit new before.visited is;
       counted = length-append before.visits (visit ∷ []) ∙ ap (λ (n : ℕ). n + 1) counted;
     }

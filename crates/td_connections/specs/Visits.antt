@@ -1,10 +1,9 @@
 -- Connections that are served one after another.
-use Rattle.std.specs.Prelude.{◌≡◌, ℕ, ◌<◌, ℤ, List, length, Option, Result, MatchResult}
+use Rattle.std.specs.Prelude.{◌≡◌, ℕ, ◌<◌, ℤ, false, List, length, Option, Result, MatchResult}
 use Rattle.std.specs.List.{FoldsTo}
 use Rattle.std.specs.declared.io.Error.{Error}
 use Rattle.counted_io.specs.declared.counted.Counted.{Counted}
 use Rattle.counted_io.specs.Counted.{calls_of, has_failed, inner_of}
-use Rattle.std.specs.Prelude.{false}
 use Rattle.td_wire.specs.declared.reply.Reply.{Reply}
 use Rattle.td_wire.specs.declared.stream.StreamEnd.{StreamEnd}
 use Rattle.td_wire.specs.Request.{Asked}
@@ -26,10 +25,11 @@ pub record Between (L C H : Type 0) : Type 0 where
   pub clock : C
   pub handler : H
 
--- One connection was served: the source gave its two sides, which nobody had used; one stream was served on them, by
--- the clock and the handler that the connection before had left, whatever its end; and the source took back the
--- sides as the stream left them.
-pub record IsVisit {R W C H L : Type 0} (remaining : R → Option (List ℕ)) (contents : W → Option (List ℕ))
+-- One connection was served. The source gave its two sides, on which no call had been made; one stream was
+-- served on them, from the clock and the handler that the connection before had left, whatever its end; and
+-- the source took back the sides as the stream left them.
+pub record IsVisit {R W C H L : Type 0}
+    (remaining : R → Option (List ℕ)) (contents : W → Option (List ℕ))
     (gives takes : L → R → W → L → Type 0) (ticks : C → ℤ → C → Type 0)
     (handles : H → ℤ → Asked → Reply → H → Type 0) (heads : H → List ℕ → Reply → H → Type 0)
     (old : Between L C H) (visit : Visit R W) (new : Between L C H) : Type 0 where
@@ -39,7 +39,12 @@ pub record IsVisit {R W C H L : Type 0} (remaining : R → Option (List ℕ)) (c
   pub unwritten : (calls_of visit.writer ≡ 0) × (has_failed visit.writer ≡ false)
   pub served : Serves remaining contents ticks handles heads
       (record { reader = visit.reader; writer = visit.writer; clock = old.clock; handler = old.handler })
-      (record { reader = visit.reader_left; writer = visit.writer_left; clock = new.clock; handler = new.handler })
+      (record {
+        reader = visit.reader_left;
+        writer = visit.writer_left;
+        clock = new.clock;
+        handler = new.handler;
+      })
       visit.end
   pub exchanges : visit.exchanges ≡ served.run.exchanges
   pub went : takes busy (inner_of visit.reader_left) (inner_of visit.writer_left) new.source
@@ -59,14 +64,16 @@ pub record IsRefused {C H L : Type 0} (refuses : L → Error → L → Type 0)
   pub clock : new.clock ≡ old.clock
   pub handler : new.handler ≡ old.handler
 
--- So many connections were asked for. Where the answer is Ok, all of them were served and nothing else was done; where
--- it is an error, fewer were, and then the source had no further one, for just that reason.
-pub record ServesConnections {R W C H L : Type 0} (remaining : R → Option (List ℕ)) (contents : W → Option (List ℕ))
+-- So many connections were asked for. Where the answer is Ok all of them were served, and nothing else was
+-- done; where it is an error fewer were, and then the source had no further one, for just that reason.
+pub record ServesConnections {R W C H L : Type 0}
+    (remaining : R → Option (List ℕ)) (contents : W → Option (List ℕ))
     (gives takes : L → R → W → L → Type 0) (refuses : L → Error → L → Type 0) (ticks : C → ℤ → C → Type 0)
     (handles : H → ℤ → Asked → Reply → H → Type 0) (heads : H → List ℕ → Reply → H → Type 0)
     (old new : Between L C H) (count : ℕ) (answer : Result Unit Error) : Type 0 where
   pub visits : List (Visit R W)
   pub last : Between L C H
   pub visited : Visited remaining contents gives takes ticks handles heads old visits last
-  pub ended : MatchResult answer (λ _. (length visits ≡ count) × (new ≡ last))
+  pub ended : MatchResult answer
+      (λ _. (length visits ≡ count) × (new ≡ last))
       (λ why. (length visits < count) × IsRefused refuses last why new)

@@ -41,13 +41,13 @@ pub trait Connections {
         ensures { takes self.old reader writer self.new };
 }
 
-/// Serves that many connections, one after another, at one service of a desk. The stream of each is served from what
-/// the one before left, and its end, whatever it is, ends that connection alone. An `Err`: the source had no further
-/// connection, and this is its reason; those before it were served.
+/// Serves that many connections, one after another, at one service of a desk. The stream of each is served
+/// from what the one before left, and its end, whatever it is, ends that connection alone. An `Err`: the
+/// source had no further connection, and this is its reason; those before it were served.
 ///
-/// `served`: each connection is one stream at the desk that the earlier ones left, in order. `private`: to each holder
-/// at once, the bytes of the replies over all connections are those of the holder's own machine on the holder's
-/// requests in the order of the connections.
+/// `served`: each connection is one stream at the desk that the earlier ones left, in order. `private`: to
+/// each holder at once, the bytes of the replies over all connections are those of the holder's own machine
+/// on the holder's requests in the order of the connections.
 pub fn serve_connections<L: Connections, C: Clock, D: Desk + Drop>(
     alloc: Global,
     connections: &mut L,
@@ -55,8 +55,8 @@ pub fn serve_connections<L: Connections, C: Clock, D: Desk + Drop>(
     clock: &mut C,
     service: &mut Service<D>,
 ) -> io::Result<()>
-    ensures { (served : ServesConnections L.Reader.remaining L.Writer.contents L.gives L.takes L.refuses C.ticks
-        (IsHandledBy D.content D.is_clean D.is_live D.has_store) IsHeadHandledBy
+    ensures { (served : ServesConnections L.Reader.remaining L.Writer.contents L.gives L.takes L.refuses
+        C.ticks (IsHandledBy D.content D.is_clean D.is_live D.has_store) IsHeadHandledBy
         (record { source = connections.old; clock = clock.old; handler = service.old })
         (record { source = connections.new; clock = clock.new; handler = service.new }) count result)
         × IsPrivateOver D.content D.is_clean D.is_live service.old service.new

@@ -42,8 +42,8 @@ impl Connections for Incoming<'_> {
         Ok((reader, writer))
     }
 
-    // A socket that is dropped with bytes unread resets its peer, which then loses replies that it hasn't read yet. So
-    // the peer is told that nothing more comes, and what it still sends is read and dropped.
+    // A socket that is dropped with bytes unread resets its peer, which may lose replies that it hasn't read
+    // yet. So the peer is told that nothing more comes, and what it still sends is read and dropped.
     fn close(&mut self, mut reader: TcpStream, writer: TcpStream) {
         let wait = Duration::from_millis(LAST_WAIT);
         if writer.shutdown(Shutdown::Write).is_err()
@@ -61,10 +61,11 @@ impl Connections for Incoming<'_> {
     }
 }
 
-/// Serves that many connections that come to the listening socket, one after another, at one service of a desk, as
-/// `serve_connections` does. After its stream each connection is told that nothing more comes, and what its peer still
-/// sends is read, up to 128 reads of at most half a second each: a peer that wrote more than was read gets all its
-/// replies. An `Err`: the socket had no further connection, or no memory or descriptor for it; those before it were served.
+/// Serves that many connections that come to the listening socket, one after another, at one service of a
+/// desk, as `serve_connections` does. After its stream each peer is told that nothing more comes, and what it
+/// still sends is read, by up to 128 reads of at most half a second each, so that a peer that wrote more than
+/// was asked of it is not reset. An `Err`: the socket gave no further connection, or none that can be read
+/// and written; those before it were served.
 pub fn serve_on<C: Clock, D: Desk + Drop>(
     alloc: Global,
     listener: &TcpListener,
@@ -72,7 +73,8 @@ pub fn serve_on<C: Clock, D: Desk + Drop>(
     clock: &mut C,
     service: &mut Service<D>,
 ) -> io::Result<()>
-    ensures { (served : ServesSockets C.ticks (IsHandledBy D.content D.is_clean D.is_live D.has_store) IsHeadHandledBy
+    ensures { (served : ServesSockets C.ticks
+        (IsHandledBy D.content D.is_clean D.is_live D.has_store) IsHeadHandledBy
         clock.old service.old clock.new service.new connections result)
         × IsPrivateOver D.content D.is_clean D.is_live service.old service.new
         (map (λ visit. visit.exchanges) served.visits) }

@@ -1,4 +1,5 @@
-//! Connections in memory, and over sockets of this machine. Expected bytes are those of the desk's formats, written out.
+//! Connections in memory, and over sockets of this machine. Expected bytes are those of the desk's formats,
+//! written out.
 mod memory;
 mod sockets;
 

@@ -8,15 +8,18 @@ use Rattle.td_connections.proofs.sockets.serve_on.Goals as goal
 pub returns : goal.returns
 returns g c =
     let desk = g.D.Desk in
-    let served = c.serve_connections.ensures.0 in
-    let new = between c.serve_connections.new.connections c.serve_connections.new.clock c.serve_connections.new.service in (
+    let call = c.serve_connections in
+    let served = call.ensures.0 in
+    let old = between _ c.args.clock.now c.args.service.now in
+    let new = between call.new.connections call.new.clock call.new.service in (
       record {
         visits = served.visits;
         last = beside served.last.clock served.last.handler;
-        visited = visited_anyhow (λ _. None) (λ _. None) (λ _ _ _ _. Unit {0}) (λ _ _ _ _. Unit {0}) (λ _ _ _. Unit {0}) g.C.Clock.ticks
-            (IsHandledBy desk.content desk.is_clean desk.is_live desk.has_store) IsHeadHandledBy served.visits (between _ c.args.clock.now c.args.service.now) served.last served.visited;
-        ended = ended_anyhow (λ _. None) (λ _. None) (λ _ _ _ _. Unit {0}) (λ _ _ _ _. Unit {0}) (λ _ _ _. Unit {0}) g.C.Clock.ticks
-            (IsHandledBy desk.content desk.is_clean desk.is_live desk.has_store) IsHeadHandledBy served.visits served.last new c.args.connections c.serve_connections.result served.ended;
+        visited = visited_anyhow (λ _. None) (λ _. None) (λ _ _ _ _. Unit {0}) (λ _ _ _ _. Unit {0})
+            g.C.Clock.ticks (IsHandledBy desk.content desk.is_clean desk.is_live desk.has_store) IsHeadHandledBy
+            served.visits old served.last served.visited;
+        ended = ended_anyhow (λ _ _ _. Unit {0}) served.visits served.last new c.args.connections call.result
+            served.ended;
       },
-      c.serve_connections.ensures.1,
+      call.ensures.1,
     )
