@@ -64,6 +64,16 @@ pub record IsRefused {C H L : Type 0} (refuses : L → Error → L → Type 0)
   pub clock : new.clock ≡ old.clock
   pub handler : new.handler ≡ old.handler
 
+-- the next connection was served; or, where the answer is an error, the source had none
+abbrev pub ServesNext : {R W C H L : Type 0} → (R → Option (List ℕ)) → (W → Option (List ℕ))
+    → (L → R → W → L → Type 0) → (L → R → W → L → Type 0) → (L → Error → L → Type 0) → (C → ℤ → C → Type 0)
+    → (H → ℤ → Asked → Reply → H → Type 0) → (H → List ℕ → Reply → H → Type 0)
+    → Between L C H → Between L C H → Result Unit Error → Type 0
+ServesNext {R = R} {W = W} remaining contents gives takes refuses ticks handles heads old new answer =
+    MatchResult answer
+    (λ _. (visit : Visit R W) × IsVisit remaining contents gives takes ticks handles heads old visit new)
+    (λ why. IsRefused refuses old why new)
+
 -- So many connections were asked for. Where the answer is Ok all of them were served, and nothing else was
 -- done; where it is an error fewer were, and then the source had no further one, for just that reason.
 pub record ServesConnections {R W C H L : Type 0}

@@ -1,6 +1,6 @@
 //! Connections served one after another.
 ghost use Rattle.std.specs.Prelude.{map};
-ghost use Rattle.td_connections.specs.Visits.{ServesConnections};
+ghost use Rattle.td_connections.specs.Visits.{ServesConnections, ServesNext};
 ghost use Rattle.td_connections.specs.Private.{IsPrivateOver};
 ghost use Rattle.td_http.specs.Served.{IsHandledBy, IsHeadHandledBy};
 
@@ -41,6 +41,26 @@ pub trait Connections {
         ensures { takes self.old reader writer self.new };
 }
 
+// Serves the next connection. An `Err`: the source had none, and why.
+fn serve_next<L: Connections, C: Clock, D: Desk + Drop>(
+    alloc: Global,
+    connections: &mut L,
+    clock: &mut C,
+    service: &mut Service<D>,
+) -> io::Result<()>
+    ensures { ServesNext L.Reader.remaining L.Writer.contents L.gives L.takes L.refuses
+        C.ticks (IsHandledBy D.content D.is_clean D.is_live D.has_store) IsHeadHandledBy
+        (record { source = connections.old; clock = clock.old; handler = service.old })
+        (record { source = connections.new; clock = clock.new; handler = service.new }) result }
+{
+    let (reader, writer) = connections.accept()?;
+    let mut reader = Counted::new(reader);
+    let mut writer = Counted::new(writer);
+    let _end = serve_stream(alloc, &mut reader, &mut writer, clock, service);
+    connections.close(reader.into_inner(), writer.into_inner());
+    Ok(())
+}
+
 /// Serves that many connections, one after another, at one service of a desk. The stream of each is served
 /// from what the one before left, and its end, whatever it is, ends that connection alone. An `Err`: the
 /// source had no further connection, and this is its reason; those before it were served.
@@ -63,11 +83,7 @@ pub fn serve_connections<L: Connections, C: Clock, D: Desk + Drop>(
         (map (λ visit. visit.exchanges) served.visits) }
 {
     for _ in 0..count {
-        let (reader, writer) = connections.accept()?;
-        let mut reader = Counted::new(reader);
-        let mut writer = Counted::new(writer);
-        let _end = serve_stream(alloc, &mut reader, &mut writer, clock, service);
-        connections.close(reader.into_inner(), writer.into_inner());
+        serve_next(alloc, connections, clock, service)?;
     }
     Ok(())
 }
