@@ -1,5 +1,5 @@
 mod Handling
-mod Served
-mod Streamed
+pub mod Served
+pub mod Streamed
 mod Alone
 pub mod Alike

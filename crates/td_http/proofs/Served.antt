@@ -26,7 +26,7 @@ use Rattle.td_answers.specs.Answers.{said_reply}
 use Rattle.td_http.specs.Serving.{command_in, IsReplyTo, IsFaultReply, HandledAs, IsHandled, heard_by, heard_in, told_by, told_in, commands_of, machine_replies, IsServed}
 
 -- a machine goes on where it stopped
-machine_book-++ : (H : ℕ) (book : Book) (xs ys : List Stamped) → machine_book H book (xs ++ ys) ≡ machine_book H (machine_book H book xs) ys
+pub machine_book-++ : (H : ℕ) (book : Book) (xs ys : List Stamped) → machine_book H book (xs ++ ys) ≡ machine_book H (machine_book H book xs) ys
 machine_book-++ H book [] ys = refl
 machine_book-++ H book (x ∷ xs) ys = machine_book-++ H (book_after H book x) xs ys
 
@@ -167,7 +167,7 @@ module _ (country : List ℕ) (books : ℕ → Book) (before : ℕ) (e : Exchang
       (after.0, served_same country books before e es after.0 (λ H. rw is refl) (λ H. rw is refl) (λ other bad. subst (λ (f : WebFault). IsFaultReply f (question before e.wire).close e.reply) (same_fault why other (command_in (question before e.wire)) is bad) handled.1) (λ command read none made. absurd (not_both command why (command_in (question before e.wire)) is read)) after.1, after.2)
 
 -- a chain that ends clean was clean all along
-chain_clean : {C S D : Type 0} (ticks : C → ℤ → C → Type 0) (desk : S → D) (content : D → Content) (is_clean is_live : D → Type 0) (has_store : Type 0) (es : List Exchange) (before : ℕ) (old new : C × S)
+pub chain_clean : {C S D : Type 0} (ticks : C → ℤ → C → Type 0) (desk : S → D) (content : D → Content) (is_clean is_live : D → Type 0) (has_store : Type 0) (es : List Exchange) (before : ℕ) (old new : C × S)
     → Chain ticks (IsHandled desk content is_clean is_live has_store) before old es new → is_clean (desk new.1) → is_clean (desk old.1)
 chain_clean {C} {S} ticks desk content is_clean is_live has_store [] before old new chain clean = subst (λ (x : C × S). is_clean (desk x.1)) chain clean
 chain_clean ticks desk content is_clean is_live has_store (e ∷ es) before old new chain clean =

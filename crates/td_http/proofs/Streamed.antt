@@ -1,10 +1,14 @@
 -- What a stream at a desk tells each holder.
 use Rattle.std.proofs.Common.{◌≡◌, ℕ, ℤ, List, ◌∙◌, ap, subst, refl}
+use Rattle.td_acts.specs.Book.{Book}
 use Rattle.td_desk.specs.Content.{Content}
+use Rattle.td_desk.specs.Sound.{IsSound}
+use Rattle.td_desk.specs.Runs.{IsTied}
 use Rattle.td_http.specs.declared.service.Service.{Service}
 use Rattle.td_http.specs.Served.{desk_of, IsHandledBy, IsHeadHandledBy, IsPrivate}
 use Rattle.td_wire.specs.Stream.{Exchange, Chain, Parting, silence, refusal, to_head, no_memory, IsParting}
-use Rattle.td_http.proofs.Served.{chain_served}
+use Rattle.td_http.specs.Serving.{IsServed}
+use Rattle.td_http.proofs.Served.{chain_clean, chain_served}
 
 -- what parts with the rest leaves the desk as it is
 parting_stays : {D : Type 0} (old new : Service D) (rest : List ℕ) (parting : Parting) → IsParting IsHeadHandledBy old new rest parting → desk_of new ≡ desk_of old
@@ -14,12 +18,26 @@ parting_stays old new rest (to_head target reply) is = is.0.stays
 parting_stays old new rest no_memory is = ap desk_of is.0
 
 -- a stream's chain of requests, and what parted with the rest
-pub stream_private : {C D : Type 0} (ticks : C → ℤ → C → Type 0) (content : D → Content) (is_clean is_live : D → Type 0) (has_store : Type 0)
+module _ {C D : Type 0} (ticks : C → ℤ → C → Type 0) (content : D → Content) (is_clean is_live : D → Type 0) (has_store : Type 0)
     (old_clock new_clock : C) (old mid new : Service D) (es : List Exchange) (rest : List ℕ) (parting : Parting)
-    → Chain ticks (IsHandledBy content is_clean is_live has_store) 0 (old_clock, old) es (new_clock, mid) → IsParting IsHeadHandledBy mid new rest parting
-    → IsPrivate content is_clean is_live old new es
-stream_private ticks content is_clean is_live has_store old_clock new_clock old mid new es rest parting chain parted = λ clean live sound books tied.
-    let stays = parting_stays mid new rest parting parted in
-    let served = chain_served ticks desk_of content is_clean is_live has_store (content (desk_of old)).country es 0 books (old_clock, old) (new_clock, mid) (content (desk_of old))
-    chain (subst is_clean stays clean) refl sound tied (λ _. refl) in
-    (served.0, served.1, λ live_new. ap content stays ∙ served.2 (subst is_live stays live_new))
+    (chain : Chain ticks (IsHandledBy content is_clean is_live has_store) 0 (old_clock, old) es (new_clock, mid)) (parted : IsParting IsHeadHandledBy mid new rest parting) where
+  stays : desk_of new ≡ desk_of mid
+  stays = parting_stays mid new rest parting parted
+
+  -- a stream that ends clean was clean from the beginning
+  pub stream_clean : is_clean (desk_of new) → is_clean (desk_of old)
+  stream_clean clean = chain_clean ticks desk_of content is_clean is_live has_store es 0 (old_clock, old) (new_clock, mid) chain (subst is_clean stays clean)
+
+  -- The stream from any rows that are tied to books. Before it a fault may have shut the desk: then rows is the content up to that.
+  pub stream_served : is_clean (desk_of new) → (country : List ℕ) (books : ℕ → Book) (rows : Content) → rows.country ≡ country → IsSound rows → IsTied rows books
+      → (is_live (desk_of old) → content (desk_of old) ≡ rows)
+      → (c : Content) × IsServed country books 0 es c × (is_live (desk_of new) → content (desk_of new) ≡ c)
+  stream_served clean country books rows same_country sound tied same =
+      let served = chain_served ticks desk_of content is_clean is_live has_store country es 0 books (old_clock, old) (new_clock, mid) rows
+      chain (subst is_clean stays clean) same_country sound tied same in
+      (served.0, served.1, λ live_new. ap content stays ∙ served.2 (subst is_live stays live_new))
+
+  -- the stream from the content of the desk
+  pub stream_private : IsPrivate content is_clean is_live old new es
+  stream_private = λ clean live sound books tied.
+      stream_served clean (content (desk_of old)).country books (content (desk_of old)) refl sound tied (λ _. refl)

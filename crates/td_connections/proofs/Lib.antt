@@ -1,0 +1,3 @@
+mod Visits
+mod Private
+mod Anyhow

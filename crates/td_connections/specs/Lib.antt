@@ -1,0 +1,3 @@
+pub mod Visits
+pub mod Private
+pub mod Sockets

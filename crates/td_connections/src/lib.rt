@@ -1,0 +1,11 @@
+//! Connections that are served one after another at one desk, and a listening socket as where they come from.
+#![tactic(auto)]
+
+mod connections;
+mod sockets;
+
+pub use connections::{Connections, serve_connections};
+pub use sockets::serve_on;
+
+#[cfg(test)]
+mod tests;
