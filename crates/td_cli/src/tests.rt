@@ -20,6 +20,7 @@ mod openings;
 mod privacy;
 mod releases;
 mod repeats;
+mod serving;
 mod states;
 mod strangers;
 mod streams;
@@ -32,6 +33,7 @@ mod wrong_words;
 use crate::jobs::perform;
 use std::alloc::{AllocError, Global};
 use std::io::Read;
+use std::net::{Net, TcpListener, TcpStream};
 use std::process::Abort;
 use std::rt::Clock;
 use std::test::Fail;
@@ -74,7 +76,7 @@ fn words_of(alloc: Global, words: &[&str]) -> Result<Vec<String>, AllocError> {
 
 /// Does the job of the words over any reader.
 fn perform_over<R: Read>(
-    rt: &(impl AllocGlobal + Clock),
+    rt: &(impl AllocGlobal + Clock + Net<Listener = TcpListener, Stream = TcpStream>),
     words: &[&str],
     reader: R,
 ) -> Result<Done, Fail>
@@ -124,7 +126,7 @@ fn assert_due(rt: &impl Abort, done: &Done, due: Due<'_>) -> Result<(), Fail> {
 
 /// The job of the words over the reader leaves what is due.
 fn assert_job<R: Read>(
-    rt: &(impl AllocGlobal + Clock + Abort),
+    rt: &(impl AllocGlobal + Clock + Net<Listener = TcpListener, Stream = TcpStream> + Abort),
     words: &[&str],
     reader: R,
     due: Due<'_>,

@@ -23,8 +23,7 @@ module _ {R W C H L : Type 0} (remaining : R → Option (List ℕ)) (contents : 
   pub visited_anyhow : (visits : List (Visit R W)) (old new : Between L C H) → Known old visits new → Unknown (without_source old) visits (without_source new)
   visited_anyhow [] old new visited = ap without_source visited
   visited_anyhow (visit ∷ visits) old new visited =
-      let is = visited.1 in
-      (
+      let is = visited.1 in (
         without_source visited.0,
         record { busy = tt; came = tt; unread = is.unread; unwritten = is.unwritten; served = is.served; exchanges = is.exchanges; went = tt },
         visited_anyhow visits visited.0 new visited.2,

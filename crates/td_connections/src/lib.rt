@@ -6,3 +6,6 @@ mod sockets;
 
 pub use connections::{Connections, serve_connections};
 pub use sockets::serve_on;
+
+#[cfg(test)]
+mod tests;

@@ -46,7 +46,9 @@ impl Connections for Incoming<'_> {
     // the peer is told that nothing more comes, and what it still sends is read and dropped.
     fn close(&mut self, mut reader: TcpStream, writer: TcpStream) {
         let wait = Duration::from_millis(LAST_WAIT);
-        if writer.shutdown(Shutdown::Write).is_err() || reader.set_read_timeout(Some(wait)).is_err() {
+        if writer.shutdown(Shutdown::Write).is_err()
+            || reader.set_read_timeout(Some(wait)).is_err()
+        {
             return;
         }
         let mut dropped = [0; 8192];

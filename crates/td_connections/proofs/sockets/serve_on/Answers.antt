@@ -9,8 +9,7 @@ pub returns : goal.returns
 returns g c =
     let desk = g.D.Desk in
     let served = c.serve_connections.ensures.0 in
-    let new = between c.serve_connections.new.connections c.serve_connections.new.clock c.serve_connections.new.service in
-    (
+    let new = between c.serve_connections.new.connections c.serve_connections.new.clock c.serve_connections.new.service in (
       record {
         visits = served.visits;
         last = beside served.last.clock served.last.handler;
