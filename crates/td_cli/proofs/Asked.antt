@@ -1,10 +1,13 @@
 -- What clap met in the words.
-use Rattle.std.proofs.Common.{◌≡◌, List, codes, true, Option, None, Some, Result, Ok, Err, IfOk, option_map, ◌∙◌, sym, ap, refl}
+use Rattle.std.proofs.Common.{◌≡◌, ℤ, pos, ◌≤◌, List, codes, true, Option, None, Some, Result, Ok, Err, IfOk, option_map, ◌∙◌, sym, ap, refl}
 use Rattle.clap.proofs.WalkLemmas.{first_value-rows}
-use Rattle.clap.specs.Words.{Row, Text, is_simple, subcommand_of, subcommand_name_of, subcommand_rows_of, first_value, found_of, rows_of}
+use Rattle.clap.specs.Words.{Row, Text, first_of, is_simple, subcommand_of, subcommand_name_of, subcommand_rows_of, first_value, found_of, rows_of}
 use Rattle.clap.specs.declared.ArgMatches.{ArgMatches}
 use Rattle.td_cli.specs.declared.words.Job.{Job}
-use Rattle.td_cli.specs.Words.{program_app, moment_in, AsksFor}
+use Rattle.td_cli.specs.declared.words.Listening.{Listening}
+use Rattle.td_cli.specs.declared.words.Task.{Task}
+use Rattle.td_cli.specs.declared.words.Task.TheVariants.{Serve}
+use Rattle.td_cli.specs.Words.{program_app, number_in, AsksFor, IsTask}
 
 pub is_simple_program : is_simple program_app ≡ true
 is_simple_program = refl
@@ -22,15 +25,28 @@ pub met_as : (m : ArgMatches) (name : Text) (rows : List Row) → Some name ≡ 
     → subcommand_rows_of m ≡ Some (name, rows)
 met_as m name rows named met = pair_of _ _ name rows named met
 
+-- the number that an option's value writes, by what was met and by its rows
+number_of : (m : ArgMatches) (name : Text) (n : Option ℤ) → number_in (first_value (found_of m) name) ≡ n → number_in (first_of name (rows_of (found_of m))) ≡ n
+number_of m name n is = ap number_in (sym (first_value-rows (found_of m) name)) ∙ is
+
+-- a serving whose numbers are those of its options
+pub is_serving : (m : ArgMatches) (l : Listening) → (number_in (first_value (found_of m) (codes "port")) ≡ Some (pos l.port))
+    × (number_in (first_value (found_of m) (codes "connections")) ≡ Some (pos l.connections)) × (1 ≤ l.port) × (1 ≤ l.connections) × (l.connections ≤ 1000000)
+    → IsTask (Serve l) (codes "serve") (rows_of (found_of m))
+is_serving m l h = (refl, number_of m (codes "port") _ h.0, number_of m (codes "connections") _ h.1, h.2, h.3, h.4)
+
 -- a job that has the values of the options is the one that the words ask for
-pub asks_if : {E : Type 0} (r : Result Job E) (words : List Text) (m : ArgMatches) → subcommand_of program_app words ≡ Some (codes "pipe", rows_of (found_of m))
+pub asks_if : {E : Type 0} (r : Result Job E) (words : List Text) (m : ArgMatches) (task : Task) (name : Text)
+    → subcommand_of program_app words ≡ Some (name, rows_of (found_of m)) → IsTask task name (rows_of (found_of m)) → IfOk r (λ job. job.task ≡ task)
     → IfOk r (λ job. first_value (found_of m) (codes "country") ≡ Some job.country)
-    → IfOk r (λ job. moment_in (first_value (found_of m) (codes "at")) ≡ job.at) → IfOk r (λ job. AsksFor words job.country job.at)
-asks_if (Ok job) words m named country at =
+    → IfOk r (λ job. number_in (first_value (found_of m) (codes "at")) ≡ job.at) → IfOk r (λ job. AsksFor words job.task job.country job.at)
+asks_if (Ok job) words m task name named is same country at =
     record {
+      name = name;
       rows = rows_of (found_of m);
       named = named;
+      task_is = rw same is;
       country_is = sym (first_value-rows (found_of m) (codes "country")) ∙ country;
-      at_is = ap moment_in (sym (first_value-rows (found_of m) (codes "at"))) ∙ at;
+      at_is = number_of m (codes "at") _ at;
     }
-asks_if (Err e) words m named country at = tt
+asks_if (Err e) words m task name named is same country at = tt

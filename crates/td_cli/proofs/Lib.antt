@@ -1,3 +1,5 @@
 mod Asked
 mod Moments
 mod Pipes
+mod Connected
+mod ServingMoments

@@ -1,5 +1,5 @@
 -- What is said of a stream at a clock, said of the moments that the clock shows.
-use Rattle.std.proofs.Common.{◌≡◌, ℕ, ◌+◌, ℤ, List, [], ◌∷◌, Option, None, Some, ◌∙◌, refl, ap}
+use Rattle.std.proofs.Common.{◌≡◌, ℕ, ◌+◌, ℤ, List, [], ◌∷◌, Option, None, Some, ◌∙◌, refl, ap, sym, subst}
 use Rattle.counted_io.specs.declared.counted.Counted.{Counted}
 use Rattle.td_cli.specs.declared.clock.FixedClock.{FixedClock}
 use Rattle.td_cli.specs.Piped.{IsMoment, IsPiped, PipesAs}
@@ -15,7 +15,7 @@ pub record Shows {C : Type 0} (ticks : C → ℤ → C → Type 0) (moments : Un
   pub first : keeps clock
   pub each : (old : C) (at : ℤ) (new : C) → keeps old → ticks old at new → moments tt at tt × keeps new
 
-chain_by : {C H : Type 0} (ticks : C → ℤ → C → Type 0) (moments : Unit {0} → ℤ → Unit {0} → Type 0) (handles : H → ℤ → request.Asked → Reply → H → Type 0)
+pub chain_by : {C H : Type 0} (ticks : C → ℤ → C → Type 0) (moments : Unit {0} → ℤ → Unit {0} → Type 0) (handles : H → ℤ → request.Asked → Reply → H → Type 0)
     (keeps : C → Type 0) → ((old : C) (at : ℤ) (new : C) → keeps old → ticks old at new → moments tt at tt × keeps new)
     → (before : ℕ) (old new : C × H) (es : List Exchange) → keeps old.0 → Chain ticks handles before old es new
     → Chain moments handles before (tt, old.1) es (tt, new.1)
@@ -24,8 +24,17 @@ chain_by ticks moments handles keeps each before old new (e ∷ es) kept chain =
     let tick = each old.0 e.at chain.0 kept chain.2 in
     (tt, chain.1, tick.0, chain.3, chain_by ticks moments handles keeps each (before + 1) (chain.0, chain.1) new es tick.1 chain.4)
 
+-- what the clock keeps, it keeps to the end
+pub chain_keeps : {C H : Type 0} (ticks : C → ℤ → C → Type 0) (moments : Unit {0} → ℤ → Unit {0} → Type 0) (handles : H → ℤ → request.Asked → Reply → H → Type 0)
+    (keeps : C → Type 0) → ((old : C) (at : ℤ) (new : C) → keeps old → ticks old at new → moments tt at tt × keeps new)
+    → (before : ℕ) (old new : C × H) (es : List Exchange) → keeps old.0 → Chain ticks handles before old es new → keeps new.0
+chain_keeps ticks moments handles keeps each before old new [] kept chain = subst keeps (sym (ap (λ p. p.0) chain)) kept
+chain_keeps ticks moments handles keeps each before old new (e ∷ es) kept chain =
+    let tick = each old.0 e.at chain.0 kept chain.2 in
+    chain_keeps ticks moments handles keeps each (before + 1) (chain.0, chain.1) new es tick.1 chain.4
+
 -- no way to end speaks of the clock
-ends_by : {R W C H : Type 0} (remaining : R → Option (List ℕ)) (reader reader_left : Counted R) (writer writer_left : Counted W) (clock clock_left : C)
+pub ends_by : {R W C H : Type 0} (remaining : R → Option (List ℕ)) (reader reader_left : Counted R) (writer writer_left : Counted W) (clock clock_left : C)
     (handler handler_left : H) (run : Run H) (end : StreamEnd)
     → EndsAs {W = W} {C = C} remaining (record { reader = reader; writer = writer; clock = clock; handler = handler })
     (record { reader = reader_left; writer = writer_left; clock = clock_left; handler = handler_left }) run end
@@ -41,7 +50,7 @@ ends_by remaining reader reader_left writer writer_left clock clock_left handler
 ends_by remaining reader reader_left writer writer_left clock clock_left handler handler_left run Failed is = is
 ends_by remaining reader reader_left writer writer_left clock clock_left handler handler_left run WriteFault is = is
 
-serves_by : {R W C H : Type 0} (remaining : R → Option (List ℕ)) (contents : W → Option (List ℕ)) (ticks : C → ℤ → C → Type 0)
+unfoldable pub serves_by : {R W C H : Type 0} (remaining : R → Option (List ℕ)) (contents : W → Option (List ℕ)) (ticks : C → ℤ → C → Type 0)
     (moments : Unit {0} → ℤ → Unit {0} → Type 0) (handles : H → ℤ → request.Asked → Reply → H → Type 0) (heads : H → List ℕ → Reply → H → Type 0)
     (reader reader_left : Counted R) (writer writer_left : Counted W) (clock clock_left : C) (handler handler_left : H) → Shows ticks moments clock → (end : StreamEnd)
     → Serves remaining contents ticks handles heads (record { reader = reader; writer = writer; clock = clock; handler = handler })

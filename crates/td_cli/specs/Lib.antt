@@ -1,4 +1,5 @@
 pub mod Statuses
 pub mod Piped
+pub mod Listening
 pub mod Words
 pub mod Performed

@@ -4,6 +4,8 @@ use Rattle.std.specs.Io.KnownBytes.{Appends}
 use Rattle.counted_io.specs.declared.counted.Counted.{Counted}
 use Rattle.counted_io.specs.Counted.{known_bytes}
 use Rattle.counted_io.specs.Writing.{IsCutShort}
+use Rattle.td_cli.specs.declared.serving.ServingEnd.{ServingEnd}
+use Rattle.td_cli.specs.declared.serving.ServingEnd.TheVariants as serving
 use Rattle.td_cli.specs.declared.words.NoJob.{NoJob}
 use Rattle.td_cli.specs.declared.words.NoJob.TheVariants.{Help, Wrong, NoMemory}
 use Rattle.td_wire.specs.declared.stream.StreamEnd.{StreamEnd}
@@ -35,6 +37,20 @@ message_of_end (Some ReadFault) = codes "transit-desk: stream read-fault\n"
 message_of_end (Some WriteFault) = codes "transit-desk: stream write-fault\n"
 message_of_end (Some Failed) = codes "transit-desk: stream failed\n"
 message_of_end None = codes "transit-desk: no-memory\n"
+
+-- 0 where all connections were served and that was printed, and 1 where a fault ended the serving
+abbrev pub status_of_serving : ServingEnd → ℕ
+status_of_serving serving.Done = 0
+status_of_serving serving.NoMemory = 1
+status_of_serving serving.Socket = 1
+status_of_serving serving.Write = 1
+
+-- the message on standard error, one line, and none where the status is 0
+abbrev pub message_of_serving : ServingEnd → List ℕ
+message_of_serving serving.Done = []
+message_of_serving serving.NoMemory = codes "transit-desk: no-memory\n"
+message_of_serving serving.Socket = codes "transit-desk: socket\n"
+message_of_serving serving.Write = codes "transit-desk: write\n"
 
 -- the text was written, or as much of it as the writer took
 abbrev pub IsTold : {W : Type 0} → (W → Option (List ℕ)) → Counted W → Counted W → List ℕ → Type 0

@@ -1,35 +1,60 @@
 -- What the words of the command line ask for.
-use Rattle.std.specs.Prelude.{◌≡◌, ℕ, ℤ, List, codes, true, Option, None, Some}
+use Rattle.std.specs.Prelude.{◌≡◌, ℕ, ◌≤◌, ℤ, pos, List, codes, true, Option, None, Some}
 use Rattle.std.specs.Str.Parse.{signed_digits_value}
 use Rattle.clap.specs.Words.{App, Row, Rule, Text, first_of, new_app, new_rule, subcommand_of, with_rule, with_subcommand}
 use Rattle.clap.specs.declared.builder.ArgAction.TheVariants.{Set}
+use Rattle.td_cli.specs.declared.words.Task.{Task}
+use Rattle.td_cli.specs.declared.words.Task.TheVariants.{Serve, Pipe}
 
 -- an option that takes one value
 abbrev pub option_rule : Text → Rule
 option_rule name = record (new_rule name) { long = Some name; action = Some Set; value_names = 1 }
 
--- the job `pipe`, and the program
+-- the options that every job has: the country of the office, and perhaps the moment of all requests
+abbrev pub with_office : App → App
+with_office app =
+    with_rule (with_rule app (record (option_rule (codes "country")) { required = true })) (option_rule (codes "at"))
+
+-- the jobs `serve` and `pipe`, and the program
+abbrev pub serve_app : App
+serve_app =
+    with_rule
+    (with_rule (with_office (new_app (codes "serve"))) (record (option_rule (codes "port")) { required = true }))
+    (record (option_rule (codes "connections")) { required = true })
+
 abbrev pub pipe_app : App
-pipe_app =
-    with_rule (with_rule (new_app (codes "pipe")) (record (option_rule (codes "country")) { required = true }))
-    (option_rule (codes "at"))
+pipe_app = with_office (new_app (codes "pipe"))
 
 abbrev pub program_app : App
 program_app =
     with_subcommand
+    (with_subcommand
     (record (new_app (codes "transit-desk")) {
       top = record (new_app (codes "transit-desk")).top { subcommand_required = true };
-    }) pipe_app.top
+    }) serve_app.top)
+    pipe_app.top
 
--- the moment that the value of --at writes, and none where there is no such option
-abbrev pub moment_in : Option Text → Option ℤ
-moment_in None = None
-moment_in (Some text) = Some (signed_digits_value 10 text)
+-- the number that the value of an option writes, and none where there is no such option
+abbrev pub number_in : Option Text → Option ℤ
+number_in None = None
+number_in (Some text) = Some (signed_digits_value 10 text)
 
--- The words name the job `pipe`, and its options this country and this moment, as clap's own definitions read
--- words by a command; the first word is the program's name.
-pub record AsksFor (words : List Text) (country : List ℕ) (at : Option ℤ) : Type 0 where
+-- The job of this name, with the values of its own options: a port from 1 on and as many connections as there
+-- may be.
+abbrev pub IsTask : Task → Text → List Row → Type 0
+IsTask Pipe name rows = name ≡ codes "pipe"
+IsTask (Serve listening) name rows =
+    (name ≡ codes "serve")
+    × (number_in (first_of (codes "port") rows) ≡ Some (pos listening.port))
+    × (number_in (first_of (codes "connections") rows) ≡ Some (pos listening.connections))
+    × (1 ≤ listening.port) × (1 ≤ listening.connections) × (listening.connections ≤ 1000000)
+
+-- The words name the job, and its options this country and this moment, as clap's own definitions read words by a
+-- command; the first word is the program's name.
+pub record AsksFor (words : List Text) (task : Task) (country : List ℕ) (at : Option ℤ) : Type 0 where
+  pub name : Text
   pub rows : List Row
-  pub named : subcommand_of program_app words ≡ Some (codes "pipe", rows)
+  pub named : subcommand_of program_app words ≡ Some (name, rows)
+  pub task_is : IsTask task name rows
   pub country_is : first_of (codes "country") rows ≡ Some country
-  pub at_is : moment_in (first_of (codes "at") rows) ≡ at
+  pub at_is : number_in (first_of (codes "at") rows) ≡ at

@@ -2,13 +2,15 @@
 ghost use Rattle.std.specs.Prelude.{◌≡◌, map, string_bytes};
 ghost use Rattle.td_cli.specs.Performed.{IsPerformed, IsUnread};
 ghost use Rattle.td_cli.specs.Piped.{PipesAs, IsDone};
-ghost use Rattle.td_cli.specs.Statuses.{status_of_end, message_of_end, IsTold, IsAnswered};
+ghost use Rattle.td_cli.specs.Statuses.{message_of_end, message_of_serving, status_of_end, status_of_serving, IsTold, IsAnswered};
 
 use crate::clock::{FixedClock, MachineClock};
-use crate::words::{NoJob, read_words};
+use crate::serving::{ServingEnd, serve};
+use crate::words::{NoJob, Task, read_words};
 use std::alloc::Global;
 use std::io;
 use std::io::{ErrorKind, Read, Write};
+use std::net::{Net, TcpListener, TcpStream};
 use td_base::{Counted, Country, write_whole};
 use td_desk::PlainDesk;
 use td_http::{Clock, Service, StreamEnd, serve_stream};
@@ -24,7 +26,7 @@ const WRONG_WORDS: u8 = 2;
 /// go to `out`, and the text of wrong words, or one message for a fault, to `errors`. A text that can't be
 /// written is dropped. The input is read by a job alone.
 pub fn perform<R: Read, W: Write, E: Write>(
-    rt: &(impl AllocGlobal + std::rt::Clock),
+    rt: &(impl AllocGlobal + std::rt::Clock + Net<Listener = TcpListener, Stream = TcpStream>),
     words: &[String],
     input: &mut Counted<R>,
     out: &mut Counted<W>,
@@ -34,17 +36,23 @@ pub fn perform<R: Read, W: Write, E: Write>(
         input.old input.new out.old out.new errors.old errors.new result }
 {
     match read_words(rt.alloc(), words) {
-        Ok(job) => {
-            let end = do_job(rt, job.country, job.at, input, out);
-            status_of(end, errors)
-        }
+        Ok(job) => match job.task {
+            Task::Serve(listening) => {
+                let end = serve(rt, job.country, job.at, listening, out);
+                status_of_serving(end, errors)
+            }
+            Task::Pipe => {
+                let end = pipe_at(rt, job.country, job.at, input, out);
+                status_of(end, errors)
+            }
+        },
         Err(no_job) => tell(&no_job, out, errors),
     }
 }
 
-// Does a job of this country, at this moment or by the machine's clock, and answers how its stream ended.
-// `None`: there was no memory for the desk.
-fn do_job<R: Read, W: Write>(
+// Serves one stream of requests of this country, at this moment or by the machine's clock, and answers how it
+// ended. `None`: there was no memory for the desk.
+fn pipe_at<R: Read, W: Write>(
     rt: &(impl AllocGlobal + std::rt::Clock),
     country: Country,
     at: Option<i64>,
@@ -145,5 +153,18 @@ fn status_of_stream<E: Write>(end: StreamEnd, errors: &mut Counted<E>) -> u8
         StreamEnd::ReadFault => fault(errors, "transit-desk: stream read-fault\n"),
         StreamEnd::WriteFault => fault(errors, "transit-desk: stream write-fault\n"),
         StreamEnd::Failed => fault(errors, "transit-desk: stream failed\n"),
+    }
+}
+
+// The status where a serving ended so; a fault is said.
+fn status_of_serving<E: Write>(end: ServingEnd, errors: &mut Counted<E>) -> u8
+    ensures status { result ≡ status_of_serving end }
+    ensures message { IsTold E.contents errors.old errors.new (message_of_serving end) }
+{
+    match end {
+        ServingEnd::Done => DONE,
+        ServingEnd::NoMemory => fault(errors, "transit-desk: no-memory\n"),
+        ServingEnd::Socket => fault(errors, "transit-desk: socket\n"),
+        ServingEnd::Write => fault(errors, "transit-desk: write\n"),
     }
 }

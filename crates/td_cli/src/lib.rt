@@ -6,6 +6,7 @@ mod clock;
 mod jobs;
 mod laws;
 mod program;
+mod serving;
 #[cfg(test)]
 mod tests;
 mod words;

@@ -5,6 +5,7 @@ ghost use Rattle.td_cli.specs.Performed.{IsPerformed, IsUnread};
 use crate::jobs::{perform, unread_words};
 use std::env::Env;
 use std::io::{Read, Write};
+use std::net::{Net, TcpListener, TcpStream};
 use std::{env, io};
 use td_base::Counted;
 
@@ -17,7 +18,7 @@ pub fn words_of(rt: &(impl AllocGlobal + Env)) -> io::Result<Vec<String>> {
 /// The program on words that were read, or not: does what they ask for as `perform` does, or says why they
 /// couldn't be read, and gives the status. Replies go to `out`, and what is wrong to `errors`.
 pub fn run_program<R: Read, W: Write, E: Write>(
-    rt: &(impl AllocGlobal + std::rt::Clock),
+    rt: &(impl AllocGlobal + std::rt::Clock + Net<Listener = TcpListener, Stream = TcpStream>),
     words: io::Result<Vec<String>>,
     input: &mut Counted<R>,
     out: &mut Counted<W>,

@@ -22,6 +22,7 @@ mod openings;
 mod privacy;
 mod releases;
 mod repeats;
+mod serving;
 mod states;
 mod strangers;
 mod streams;
@@ -34,6 +35,7 @@ mod wrong_words;
 use crate::jobs::perform;
 use std::alloc::{AllocError, Global};
 use std::io::Read;
+use std::net::{Net, TcpListener, TcpStream};
 use std::process::Abort;
 use std::rt::Clock;
 use std::test::Fail;
@@ -76,7 +78,7 @@ fn words_of(alloc: Global, words: &[&str]) -> Result<Vec<String>, AllocError> {
 
 /// Does the job of the words over any reader.
 fn perform_over<R: Read>(
-    rt: &(impl AllocGlobal + Clock),
+    rt: &(impl AllocGlobal + Clock + Net<Listener = TcpListener, Stream = TcpStream>),
     words: &[&str],
     reader: R,
 ) -> Result<Done, Fail>
@@ -126,7 +128,7 @@ fn assert_due(rt: &impl Abort, done: &Done, due: Due<'_>) -> Result<(), Fail> {
 
 /// The job of the words over the reader leaves what is due.
 fn assert_job<R: Read>(
-    rt: &(impl AllocGlobal + Clock + Abort),
+    rt: &(impl AllocGlobal + Clock + Net<Listener = TcpListener, Stream = TcpStream> + Abort),
     words: &[&str],
     reader: R,
     due: Due<'_>,

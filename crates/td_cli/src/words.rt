@@ -1,18 +1,37 @@
 //! The command line: which job its words ask for.
-ghost use Rattle.std.specs.Prelude.{◌≡◌, codes, false, map, string_bytes, IfOk, IfSome, Some};
+ghost use Rattle.std.specs.Prelude.{◌≡◌, ◌≤◌, codes, false, map, pos, string_bytes, IfOk, IfSome, Some};
 ghost use Rattle.std.specs.Str.Parse.{signed_digits_value};
-ghost use Rattle.clap.specs.Words.{app_of, first_value, found_of, rule_of};
+ghost use Rattle.clap.specs.Words.{app_of, first_value, found_of, new_app, rule_of};
 ghost use Rattle.clap.specs.declared.Command.TheViews.{out-Command};
-ghost use Rattle.td_cli.specs.Words.{option_rule, pipe_app, program_app, moment_in, AsksFor};
+ghost use Rattle.td_cli.specs.Words.{AsksFor, number_in, option_rule, pipe_app, program_app, serve_app, with_office};
 
 use clap::error::ErrorKind;
 use clap::{Arg, ArgAction, ArgMatches, Command};
 use std::alloc::{AllocError, Global};
 use td_base::Country;
 
-/// What the words ask for: one stream of requests, from standard input to standard output.
+/// Where a desk is served: at a port of this machine, for so many connections, one after another.
+#[derive(Clone, Copy, Debug, PartialEq, Eq)]
+pub(crate) struct Listening {
+    /// From 1 on.
+    pub port: u16,
+    /// From 1 to 1,000,000.
+    pub connections: u32,
+}
+
+/// What is done with a desk.
+#[derive(Clone, Copy, Debug, PartialEq, Eq)]
+pub(crate) enum Task {
+    /// Connections are served.
+    Serve(Listening),
+    /// One stream of requests is served, from standard input to standard output.
+    Pipe,
+}
+
+/// What the words ask for.
 #[derive(Clone, Copy, Debug, PartialEq, Eq)]
 pub(crate) struct Job {
+    pub task: Task,
     pub country: Country,
     /// The moment of all requests, in seconds since 1970; with none, the machine's clock is asked for each.
     pub at: Option<i64>,
@@ -38,6 +57,26 @@ const COUNTRY: &str = "country";
 
 const AT: &str = "at";
 
+const PORT: &str = "port";
+
+const CONNECTIONS: &str = "connections";
+
+const SERVE: &str = "serve";
+
+const PIPE: &str = "pipe";
+
+/// How the jobs are asked for.
+const SERVE_USAGE: &str =
+    "transit-desk serve --country <CC> --port <N> --connections <K> [--at <SECONDS>]";
+
+const PIPE_USAGE: &str = "transit-desk pipe --country <CC> [--at <SECONDS>]";
+
+/// The greatest port.
+const MAX_PORT: u32 = 65_535;
+
+/// The most connections that are served.
+const MAX_CONNECTIONS: u32 = 1_000_000;
+
 fn option<'a>(alloc: Global, name: &'a str, value: &'a str, help: &'a str) -> Arg<'a>
     ensures rule { rule_of result ≡ option_rule name.entry.now }
     ensures local { result.global ≡ false }
@@ -49,11 +88,12 @@ fn option<'a>(alloc: Global, name: &'a str, value: &'a str, help: &'a str) -> Ar
         .action(ArgAction::Set)
 }
 
-fn pipe_command<'a>(alloc: Global) -> Result<Command<'a>, AllocError>
-    ensures { IfOk result (λ c. (app_of c ≡ pipe_app) × ((out-Command c).has_globals ≡ false)) }
+// A job of that name, with the options that every job has.
+fn job_command<'a>(alloc: Global, name: &'a str, about: &'a str) -> Result<Command<'a>, AllocError>
+    ensures { IfOk result (λ c. (app_of c ≡ with_office (new_app name.now)) × ((out-Command c).has_globals ≡ false)) }
 {
-    Command::new(alloc, "pipe")
-        .about("Serves one stream of HTTP requests, from standard input to standard output")
+    Command::new(alloc, name)
+        .about(about)
         .arg(option(
             alloc,
             COUNTRY,
@@ -69,6 +109,40 @@ fn pipe_command<'a>(alloc: Global) -> Result<Command<'a>, AllocError>
         ))
 }
 
+fn serve_command<'a>(alloc: Global) -> Result<Command<'a>, AllocError>
+    ensures { IfOk result (λ c. (app_of c ≡ serve_app) × ((out-Command c).has_globals ≡ false)) }
+{
+    job_command(
+        alloc,
+        SERVE,
+        "Serves connections to a port of this machine, one after another",
+    )?
+    .arg(option(
+        alloc,
+        PORT,
+        "N",
+        "The port of 127.0.0.1 that is listened on, from 1 to 65535",
+    )
+    .required(true))?
+    .arg(option(
+        alloc,
+        CONNECTIONS,
+        "K",
+        "How many connections are served, from 1 to 1000000",
+    )
+    .required(true))
+}
+
+fn pipe_command<'a>(alloc: Global) -> Result<Command<'a>, AllocError>
+    ensures { IfOk result (λ c. (app_of c ≡ pipe_app) × ((out-Command c).has_globals ≡ false)) }
+{
+    job_command(
+        alloc,
+        PIPE,
+        "Serves one stream of HTTP requests, from standard input to standard output",
+    )
+}
+
 fn program<'a>(alloc: Global) -> Result<Command<'a>, AllocError>
     ensures { IfOk result (λ c. app_of c ≡ program_app) }
 {
@@ -76,16 +150,22 @@ fn program<'a>(alloc: Global) -> Result<Command<'a>, AllocError>
         .bin_name("transit-desk")?
         .about("The desk of a transit office")
         .subcommand_required(true)
+        .subcommand(serve_command(alloc)?)?
         .subcommand(pipe_command(alloc)?)
 }
 
 /// The job that the words ask for; the first of them is the program's name.
 pub(crate) fn read_words(alloc: Global, words: &[String]) -> Result<Job, NoJob>
-    ensures { IfOk result (λ job. AsksFor (map string_bytes words.now) job.country job.at) }
+    ensures { IfOk result (λ job. AsksFor (map string_bytes words.now) job.task job.country job.at) }
 {
     match program(alloc)?.try_get_matches_from(words) {
         Ok(matches) => match matches.subcommand() {
-            Some(("pipe", matches)) => pipe_job(alloc, matches),
+            Some(("serve", matches)) => job_of(
+                alloc,
+                Task::Serve(listening_in(alloc, matches)?),
+                matches,
+            ),
+            Some(("pipe", matches)) => job_of(alloc, Task::Pipe, matches),
             _ => Err(NoJob::NoMemory),
         },
         Err(error) => Err(no_job(alloc, &error)?),
@@ -104,17 +184,65 @@ fn no_job(alloc: Global, error: &clap::Error) -> Result<NoJob, AllocError> {
     })
 }
 
-fn pipe_job(alloc: Global, matches: &ArgMatches<'_>) -> Result<Job, NoJob>
+// The job that is this task, with the options that every job has.
+fn job_of(alloc: Global, task: Task, matches: &ArgMatches<'_>) -> Result<Job, NoJob>
+    ensures task { IfOk result (λ job. job.task ≡ task) }
     ensures country { IfOk result (λ job. first_value (found_of matches.now) (codes "country") ≡ Some job.country) }
-    ensures at { IfOk result (λ job. moment_in (first_value (found_of matches.now) (codes "at")) ≡ job.at) }
+    ensures at { IfOk result (λ job. number_in (first_value (found_of matches.now) (codes "at")) ≡ job.at) }
 {
+    let usage = match task {
+        Task::Serve(_) => SERVE_USAGE,
+        Task::Pipe => PIPE_USAGE,
+    };
     Ok(Job {
-        country: country_in(alloc, matches)?,
-        at: seconds_in(alloc, matches)?,
+        task,
+        country: country_in(alloc, matches, usage)?,
+        at: seconds_in(alloc, matches, usage)?,
     })
 }
 
-fn country_in(alloc: Global, matches: &ArgMatches<'_>) -> Result<Country, NoJob>
+// Where the desk is to be served.
+fn listening_in(alloc: Global, matches: &ArgMatches<'_>) -> Result<Listening, NoJob>
+    ensures { IfOk result (λ l.
+        (number_in (first_value (found_of matches.now) (codes "port")) ≡ Some (pos l.port))
+        × (number_in (first_value (found_of matches.now) (codes "connections")) ≡ Some (pos l.connections))
+        × (1 ≤ l.port) × (1 ≤ l.connections) × (l.connections ≤ 1000000)) }
+{
+    let port = number_in(alloc, matches, PORT, "--port <N>", MAX_PORT)?;
+    let connections = number_in(
+        alloc,
+        matches,
+        CONNECTIONS,
+        "--connections <K>",
+        MAX_CONNECTIONS,
+    )?;
+    Ok(Listening {
+        port: port as u16,
+        connections,
+    })
+}
+
+// The number from 1 on, and up to the greatest, that an option of that name has for its value.
+fn number_in(
+    alloc: Global,
+    matches: &ArgMatches<'_>,
+    name: &str,
+    option: &str,
+    greatest: u32,
+) -> Result<u32, NoJob>
+    ensures { IfOk result (λ n. (number_in (first_value (found_of matches.now) name.now) ≡ Some (pos n))
+        × (1 ≤ n) × (n ≤ greatest)) }
+{
+    let Some(text) = matches.get_str(name) else {
+        return Err(NoJob::NoMemory);
+    };
+    match decimal(text).and_then(|n| u32::try_from(n).ok()) {
+        Some(n) if n >= 1 && n <= greatest => Ok(n),
+        _ => Err(NoJob::Wrong(wrong_number(alloc, text, option, greatest)?)),
+    }
+}
+
+fn country_in(alloc: Global, matches: &ArgMatches<'_>, usage: &str) -> Result<Country, NoJob>
     ensures { IfOk result (λ country. first_value (found_of matches.now) (codes "country") ≡ Some country) }
 {
     let text = matches.get_str(COUNTRY).unwrap_or("");
@@ -125,12 +253,13 @@ fn country_in(alloc: Global, matches: &ArgMatches<'_>) -> Result<Country, NoJob>
             text,
             "--country <CC>",
             "two capital letters",
+            usage,
         )?)),
     }
 }
 
-fn seconds_in(alloc: Global, matches: &ArgMatches<'_>) -> Result<Option<i64>, NoJob>
-    ensures { IfOk result (λ at. moment_in (first_value (found_of matches.now) (codes "at")) ≡ at) }
+fn seconds_in(alloc: Global, matches: &ArgMatches<'_>, usage: &str) -> Result<Option<i64>, NoJob>
+    ensures { IfOk result (λ at. number_in (first_value (found_of matches.now) (codes "at")) ≡ at) }
 {
     let Some(text) = matches.get_str(AT) else {
         return Ok(None);
@@ -142,6 +271,7 @@ fn seconds_in(alloc: Global, matches: &ArgMatches<'_>) -> Result<Option<i64>, No
             text,
             "--at <SECONDS>",
             "a whole number of seconds from 0 to 9223372036854775807",
+            usage,
         )?)),
     }
 }
@@ -157,13 +287,25 @@ fn decimal(text: &str) -> Option<i64>
     }
 }
 
+// What is told of a number that is none from 1 to the greatest.
+fn wrong_number(
+    alloc: Global,
+    value: &str,
+    option: &str,
+    greatest: u32,
+) -> Result<String, AllocError> {
+    let wanted = format!(in alloc; "a whole number from 1 to {greatest}")?;
+    wrong_value(alloc, value, option, &wanted, SERVE_USAGE)
+}
+
 fn wrong_value(
     alloc: Global,
     value: &str,
     option: &str,
     wanted: &str,
+    usage: &str,
 ) -> Result<String, AllocError> {
     format!(in alloc;
-        "error: invalid value '{value}' for '{option}': it must be {wanted}\n\nUsage: transit-desk pipe --country <CC> [--at <SECONDS>]\n"
+        "error: invalid value '{value}' for '{option}': it must be {wanted}\n\nUsage: {usage}\n"
     )
 }

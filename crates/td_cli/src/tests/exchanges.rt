@@ -2,6 +2,7 @@
 use super::devices::Moments;
 use super::{Done, assert_ended, assert_text, perform_over};
 use std::alloc::{AllocError, Global};
+use std::net::{Net, TcpListener, TcpStream};
 use std::process::Abort;
 use std::rt::Clock;
 use std::test::Fail;
@@ -111,7 +112,7 @@ fn requests_of(alloc: Global, exchanges: &[Exchange]) -> Result<Vec<u8>, AllocEr
 
 // What the program with these words leaves on a stream of these requests.
 fn done_on(
-    rt: &(impl AllocGlobal + Clock),
+    rt: &(impl AllocGlobal + Clock + Net<Listener = TcpListener, Stream = TcpStream>),
     words: &[&str],
     exchanges: &[Exchange],
 ) -> Result<Done, Fail> {
@@ -121,7 +122,7 @@ fn done_on(
 
 /// The program with these words has each reply to these requests on one stream, and nothing else, and is done.
 pub fn assert_replies(
-    rt: &(impl AllocGlobal + Clock + Abort),
+    rt: &(impl AllocGlobal + Clock + Net<Listener = TcpListener, Stream = TcpStream> + Abort),
     words: &[&str],
     exchanges: &[Exchange],
 ) -> Result<(), Fail> {

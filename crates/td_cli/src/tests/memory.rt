@@ -6,13 +6,17 @@ use crate::program::run_program;
 use std::alloc::{AllocError, Global};
 use std::io;
 use std::io::ErrorKind;
+use std::net::{Net, TcpListener, TcpStream};
 use std::process::Abort;
 use std::rt::Clock;
 use std::test::Fail;
 use td_base::Counted;
 
 // What the program leaves where its words couldn't be read for this cause.
-fn done_unread(rt: &(impl AllocGlobal + Clock), kind: ErrorKind) -> Done {
+fn done_unread(
+    rt: &(impl AllocGlobal + Clock + Net<Listener = TcpListener, Stream = TcpStream>),
+    kind: ErrorKind,
+) -> Done {
     let mut input = Counted::new(REGISTER);
     let mut out = Counted::new(Vec::new(rt.alloc()));
     let mut errors = Counted::new(Vec::new(rt.alloc()));
@@ -49,7 +53,7 @@ fn unread_words_are_told(rt: HostRuntime) -> Result<(), Fail> {
 
 // The writers have their room before the program is called.
 fn done_with_room(
-    rt: &(impl AllocGlobal + Clock),
+    rt: &(impl AllocGlobal + Clock + Net<Listener = TcpListener, Stream = TcpStream>),
     words: &[String],
     room: (Vec<u8>, Vec<u8>),
 ) -> Done {

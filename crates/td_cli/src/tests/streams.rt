@@ -6,6 +6,7 @@ use super::{Done, Due, WORDS, assert_due, assert_job, words_of};
 use crate::clock::FixedClock;
 use crate::jobs::perform;
 use std::alloc::{AllocError, Global};
+use std::net::{Net, TcpListener, TcpStream};
 use std::process::Abort;
 use std::rt::Clock;
 use std::test::Fail;
@@ -239,7 +240,10 @@ const LAST_REQUESTS: [Row; 7] = [
     },
 ];
 
-fn assert_framed(rt: &(impl AllocGlobal + Clock + Abort), row: &Row) -> Result<(), Fail> {
+fn assert_framed(
+    rt: &(impl AllocGlobal + Clock + Net<Listener = TcpListener, Stream = TcpStream> + Abort),
+    row: &Row,
+) -> Result<(), Fail> {
     let input = many(rt.alloc(), row.front, row.unit, row.times, row.back)?;
     let due = Due {
         status: u8::from(!row.message.is_empty()),
@@ -249,7 +253,10 @@ fn assert_framed(rt: &(impl AllocGlobal + Clock + Abort), row: &Row) -> Result<(
     assert_job(rt, &WORDS, input.as_slice(), due)
 }
 
-fn assert_each_framed(rt: &(impl AllocGlobal + Clock + Abort), rows: &[Row]) -> Result<(), Fail> {
+fn assert_each_framed(
+    rt: &(impl AllocGlobal + Clock + Net<Listener = TcpListener, Stream = TcpStream> + Abort),
+    rows: &[Row],
+) -> Result<(), Fail> {
     for row in rows {
         assert_framed(rt, row)?;
     }
@@ -283,7 +290,7 @@ const READS_SPENT: &[u8] = b"transit-desk: stream reads-spent\n";
 
 // These bytes, again and again, have these replies.
 fn assert_reads_spent(
-    rt: &(impl AllocGlobal + Clock + Abort),
+    rt: &(impl AllocGlobal + Clock + Net<Listener = TcpListener, Stream = TcpStream> + Abort),
     bytes: &[u8],
     replies: &[u8],
 ) -> Result<(), Fail> {
@@ -307,7 +314,7 @@ fn reads_are_spent(rt: HostRuntime) -> Result<(), Fail> {
 
 // What is left where the replies go to this writer.
 fn done_narrow(
-    rt: &(impl AllocGlobal + Clock),
+    rt: &(impl AllocGlobal + Clock + Net<Listener = TcpListener, Stream = TcpStream>),
     words: &[String],
     input: &[u8],
     writer: Narrow,
@@ -327,7 +334,7 @@ const WRITE_FAULT: &[u8] = b"transit-desk: stream write-fault\n";
 
 // A writer that fails or takes nothing after these replies.
 fn assert_narrow(
-    rt: &(impl AllocGlobal + Clock + Abort),
+    rt: &(impl AllocGlobal + Clock + Net<Listener = TcpListener, Stream = TcpStream> + Abort),
     words: &[String],
     input: &[u8],
     replies: &[u8],
@@ -348,7 +355,7 @@ fn assert_narrow(
 }
 
 fn assert_narrow_at_each_byte(
-    rt: &(impl AllocGlobal + Clock + Abort),
+    rt: &(impl AllocGlobal + Clock + Net<Listener = TcpListener, Stream = TcpStream> + Abort),
     words: &[String],
     input: &[u8],
     replies: &[u8],
@@ -361,7 +368,7 @@ fn assert_narrow_at_each_byte(
 }
 
 fn assert_narrow_writers(
-    rt: &(impl AllocGlobal + Clock + Abort),
+    rt: &(impl AllocGlobal + Clock + Net<Listener = TcpListener, Stream = TcpStream> + Abort),
     words: &[String],
 ) -> Result<(), Fail> {
     let input = many(rt.alloc(), b"", SEE, 2, b"")?;

@@ -6,6 +6,7 @@ use std::alloc::{AllocError, Global};
 use std::cell::Cell;
 use std::io;
 use std::io::{Read, Write};
+use std::net::{Net, TcpListener, TcpStream};
 use std::rt::Clock;
 use std::test::Fail;
 use td_base::Counted;
@@ -80,7 +81,11 @@ fn replies_to(alloc: Global, turns: &[Turn]) -> Result<Vec<u8>, AllocError> {
 }
 
 // What the program leaves for a client with these turns.
-fn done_for(rt: &(impl AllocGlobal + Clock), words: &[String], turns: &[Turn]) -> Done {
+fn done_for(
+    rt: &(impl AllocGlobal + Clock + Net<Listener = TcpListener, Stream = TcpStream>),
+    words: &[String],
+    turns: &[Turn],
+) -> Done {
     let waited_for = Cell::new(0);
     let mut input = Counted::new(Asking {
         left: turns,

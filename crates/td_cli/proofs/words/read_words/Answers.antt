@@ -1,8 +1,23 @@
-use Rattle.std.proofs.Common.{◌≡◌, ◌∙◌, ap, sym, codes, Some, map, string_bytes, List}
+use Rattle.std.proofs.Common.{◌≡◌, ◌∙◌, ap, sym, refl, codes, Some, map, string_bytes, List}
 use Rattle.clap.specs.Words.{Text, is_simple, subcommand_of, rows_of, found_of}
-use Rattle.td_cli.proofs.Asked.{asks_if, is_simple_program, met_as}
+use Rattle.td_cli.proofs.Asked.{asks_if, is_serving, is_simple_program, met_as}
 use Rattle.td_cli.specs.Words.{program_app}
+use Rattle.td_cli.specs.declared.words.Task.TheVariants.{Pipe, Serve}
 use Rattle.td_cli.proofs.words.read_words.Goals as goal
+
+pub returns-in-Some-serve-default : goal.returns-in-Some-serve-default
+returns-in-Some-serve-default c =
+    let matches = c.in-Some-serve-default.matches.now in
+    let is = c.in_ok-program.ensures in
+    let words : List Text = map string_bytes c.args.words.now in
+    let met = (c.in-Ok.ensures.matches (ap is_simple is ∙ is_simple_program)).1 in
+    let named = met_as c.in-Ok.matches _ _ c.in-Some-serve-default.ensures.name c.in-Some-serve-default.ensures.rows in
+    let asked : subcommand_of program_app words ≡ Some (codes "serve", rows_of (found_of matches)) =
+    rw c.in-Some-serve-default.is-serve at (ap (λ a. subcommand_of a words) (sym is) ∙ sym met ∙ named) in
+    let listening = c.in_ok-listening_in-in-Some-serve-default.field-0 in
+    asks_if c.job_of.result words matches (Serve listening) (codes "serve") asked
+    (is_serving matches listening c.in_ok-listening_in-in-Some-serve-default.ensures)
+    c.job_of.ensures.task c.job_of.ensures.country c.job_of.ensures.at
 
 pub returns-in-Some-pipe-default : goal.returns-in-Some-pipe-default
 returns-in-Some-pipe-default c =
@@ -13,4 +28,5 @@ returns-in-Some-pipe-default c =
     let named = met_as c.in-Ok.matches _ _ c.in-Some-pipe-default.ensures.name c.in-Some-pipe-default.ensures.rows in
     let asked : subcommand_of program_app words ≡ Some (codes "pipe", rows_of (found_of matches)) =
     rw c.in-Some-pipe-default.is-pipe at (ap (λ a. subcommand_of a words) (sym is) ∙ sym met ∙ named) in
-    asks_if c.pipe_job.result words matches asked c.pipe_job.ensures.country c.pipe_job.ensures.at
+    let told = c.job_of-in-Some-pipe-default.ensures in
+    asks_if c.job_of-in-Some-pipe-default.result words matches Pipe (codes "pipe") asked refl told.task told.country told.at

@@ -1,7 +1,7 @@
 use Rattle.std.proofs.Common.{rules, SFits, w64}
 use Rattle.std.proofs.lemmas.Int.{to_z-of_z}
 use Rattle.td_cli.proofs.Moments.{pipes_by, stands, shows_any}
-use Rattle.td_cli.proofs.jobs.do_job.Goals as goal
+use Rattle.td_cli.proofs.jobs.pipe_at.Goals as goal
 
 pub returns-in-Some : goal.returns-in-Some
 returns-in-Some g c =

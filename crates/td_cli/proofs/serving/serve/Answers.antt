@@ -1,0 +1,14 @@
+use Rattle.std.proofs.Common.{rules, SFits, w64}
+use Rattle.std.proofs.lemmas.Int.{to_z-of_z}
+use Rattle.td_cli.proofs.Moments.{stands, shows_any}
+use Rattle.td_cli.proofs.ServingMoments.{serving_by}
+use Rattle.td_cli.proofs.serving.serve.Goals as goal
+
+pub returns-in-Some : goal.returns-in-Some
+returns-in-Some g c =
+    let fits : SFits w64 c.in-Some.at = search rules in
+    rw c.in-Some.is (serving_by _ _ _ _ _ _ _ _ _ (stands c.in-Some.at) _ (rw (to_z-of_z w64 _ fits) at c.serve_by.ensures))
+
+pub returns-in-None : goal.returns-in-None
+returns-in-None g c =
+    rw c.in-None.is (serving_by _ _ _ _ _ _ _ _ _ (shows_any _) _ c.serve_by-in-None.ensures)
