@@ -162,21 +162,6 @@ fn find_methods(table: &PathTable<'_, Row>, path: &str) -> Option<Allowed>
     Some(methods_with(table.rows, found.row.path))
 }
 
-// The table of the desk's paths: the one at hand, or a new one.
-fn desk_table(
-    alloc: Global,
-    at_hand: Option<PathTable<'static, Row>>,
-) -> Result<PathTable<'static, Row>, WebFault>
-    requires { ForSome at_hand (λ t. map row_shown t.rows.now ≡ table) }
-    ensures ok { IfOk result (λ t. map row_shown t.rows.now ≡ table) }
-    ensures err { IfErr result (λ e. (e ≡ NoMemory) × (at_hand.entry ≡ None)) }
-{
-    match at_hand {
-        Some(table) => Ok(table),
-        None => Ok(PathTable::new(alloc, &ROWS)?),
-    }
-}
-
 /// The desk's paths, looked up by one router for all requests. It is made at the first of them.
 #[derive(Drop)]
 pub struct Routes {
@@ -190,6 +175,45 @@ impl Routes {
         Routes { router: None }
     }
 
+    // Makes the router where it isn't there yet.
+    fn make_router(&mut self, alloc: Global) -> Result<(), WebFault>
+        ensures err { IfErr result (λ e. (e ≡ NoMemory) × (self.old.router ≡ None)) }
+        ensures kept { IsSome self.old.router → IsSome self.new.router }
+        ensures made { OnOk result (IsSome self.new.router) }
+    {
+        if self.router.is_none() {
+            self.router = Some(PathTable::new(alloc, &ROWS)?);
+        }
+        Ok(())
+    }
+
+    // The router, which was made.
+    fn router(&self) -> &PathTable<'static, Row>
+        requires { IsSome self.now.router }
+        ensures { map row_shown result.now.rows.now ≡ table }
+    {
+        match &self.router {
+            Some(router) => router,
+            None => unreachable!(),
+        }
+    }
+
+    // The route of a method and a path that is text.
+    pub(crate) fn route_of_text(
+        &mut self,
+        alloc: Global,
+        method: &Method,
+        path: &str,
+    ) -> Result<Route, WebFault>
+        ensures route { OrNoMemory result (route_of method.now path.now) }
+        ensures ready { IsSome self.old.router → result ≡ route_of method.now path.now }
+        ensures kept { IsSome self.old.router → IsSome self.new.router }
+        ensures made { OnOk result (IsSome self.new.router) }
+    {
+        self.make_router(alloc)?;
+        find(self.router(), method, path)
+    }
+
     /// The route of a request, as `route` tells it. Where the router found no memory it is made at a later call.
     pub fn route(&mut self, alloc: Global, method: &Method, path: &[u8]) -> Result<Route, WebFault>
         ensures route { OrNoMemory result (route_of method.now path.now) }
@@ -201,14 +225,9 @@ impl Routes {
         let Ok(path) = str::from_utf8(path) else {
             return Err(WebFault::NoRoute);
         };
-        let table = desk_table(alloc, self.router.take())?;
-        let route = find(&table, method, path);
-        self.router = Some(table);
-        route
+        self.route_of_text(alloc, method, path)
     }
-}
 
-impl Routes {
     /// The methods of a path: `None` where the desk has no such path. Want of memory is `NoMemory`.
     pub fn methods(&mut self, alloc: Global, path: &[u8]) -> Result<Option<Allowed>, WebFault>
         ensures methods { MatchResult result (λ methods. methods ≡ methods_of path.now) (λ e. e ≡ NoMemory) }
@@ -220,10 +239,8 @@ impl Routes {
         let Ok(path) = str::from_utf8(path) else {
             return Ok(None);
         };
-        let table = desk_table(alloc, self.router.take())?;
-        let methods = find_methods(&table, path);
-        self.router = Some(table);
-        Ok(methods)
+        self.make_router(alloc)?;
+        Ok(find_methods(self.router(), path))
     }
 }
 
