@@ -44,4 +44,19 @@ impl<'t, 'p> Parts<'t, 'p> {
         let (_, part) = self.params.iter().nth(place)?;
         Some(part)
     }
+
+    /// The first two parts, read in one walk along the path: `None` for each that the pattern has no name for.
+    pub fn first_two(&self) -> (Option<&'p str>, Option<&'p str>)
+        ensures first { option_map (λ part. part.now) result.0 ≡ slice_get self.now 0 }
+        ensures second { option_map (λ part. part.now) result.1 ≡ slice_get self.now 1 }
+    {
+        let mut params = self.params.iter();
+        let Some((_, first)) = params.next() else {
+            return (None, None);
+        };
+        match params.next() {
+            Some((_, second)) => (Some(first), Some(second)),
+            None => (Some(first), None),
+        }
+    }
 }

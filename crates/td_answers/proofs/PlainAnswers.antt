@@ -90,7 +90,7 @@ written_message message m s plain =
     state_object (string message) m s _ _ _ (written_text message plain) refl refl ∙ simp append_assoc
 
 -- the texts of such an object
-state_texts : (message mrn : List ℕ) (state : State) → list_all is_unescaped message ≡ true → IsMrn mrn
+pub state_texts : (message mrn : List ℕ) (state : State) → list_all is_unescaped message ≡ true → IsMrn mrn
     → compact_text (state_data message mrn (state_name state))
     ≡ codes "{\"message\":\"" ++ (message ++ (codes "\",\"mrn\":\"" ++ (mrn ++ (codes "\",\"state\":\"" ++ (state_name state ++ codes "\"}")))))
 state_texts message mrn state plain h =

@@ -1,5 +1,5 @@
 -- The texts of the objects that show movements and guarantees, one and many: nothing in them is escaped.
-use Rattle.std.proofs.Common.{◌≡◌, ℕ, ◌/◌, List, ◌++◌, take, drop, All, Option, None, Some, IfSome, arith, refl, sym, inr}
+use Rattle.std.proofs.Common.{append_assoc, ◌≡◌, ℕ, ◌/◌, List, ◌++◌, take, drop, All, Option, None, Some, IfSome, arith, refl, sym, ◌∙◌, inr}
 use Rattle.std.proofs.lemmas.List.{take-append-drop}
 use Rattle.std.proofs.lemmas.List.Elements.{All-append, All-same, All-weaker}
 use Rattle.std.specs.Char.{IsAsciiUppercase}
@@ -23,7 +23,8 @@ use Rattle.td_movement.specs.declared.line.Line.{Line}
 use Rattle.td_movement.specs.declared.movement.Movement.{Movement}
 use Rattle.td_movement.specs.declared.state.State.{State}
 use Rattle.td_movement.specs.declared.state.State.TheVariants.{Accepted, Cancelled, Released, Enquired, Arrived, Discrepant, Cleared, WrittenOff}
-use Rattle.td_answers.specs.Objects.{text_data, day_data, line_data, lines_data, codes_data, movement_data, guarantee_data, listed_movement_data, listed_guarantee_data, movements_data, guarantees_data}
+use Rattle.td_base.specs.Money.{share_of}
+use Rattle.td_answers.specs.Objects.{free_on, text_data, day_data, line_data, lines_data, codes_data, movement_data, guarantee_data, listed_movement_data, listed_guarantee_data, movements_data, guarantees_data}
 use Rattle.td_answers.specs.Objects.{text_body, day_body, line_body, movement_body, guarantee_body, listed_movement_body, listed_guarantee_body, movements_body, guarantees_body, IsMovementTold, IsGuaranteeTold}
 use Rattle.td_answers.proofs.PlainText.{digit_unescaped, mark_unescaped, written_lrn, written_reference}
 
@@ -79,7 +80,7 @@ unfolding serde_json_on_literals
 line_object g tg n same = rw same refl
 
 -- a line
-written_line : (line : Line) → IsGrn line.grn → compact_text (line_data line) ≡ line_body line
+pub written_line : (line : Line) → IsGrn line.grn → compact_text (line_data line) ≡ line_body line
 written_line line h = line_object (string line.grn) _ line.cents (written_reference 17 line.grn (omega arith) h)
 
 -- an object of the parts of a movement
@@ -152,3 +153,36 @@ movements_told listed all =
 pub guarantees_told : (listed : List (Guarantee × ℕ)) → All IsGuaranteeTold listed → compact_text (guarantees_data listed) ≡ guarantees_body listed
 guarantees_told listed all =
     guarantees_object (array_of listed_guarantee_data listed) _ (written_array listed_guarantee_data listed_guarantee_body IsGuaranteeTold (λ g told. told) listed all)
+
+-- the same text, with the quotes beside what they stand at
+pub listed_movement_joined : (m : ListedMovement) → codes "{\"lrn\":\"" ++ (m.lrn ++ (codes "\",\"mrn\":\"" ++ (m.mrn ++ (codes "\",\"state\":\"" ++ (state_name m.state ++ codes "\"}"))))) ≡ listed_movement_body m
+listed_movement_joined m = simp append_assoc refl
+
+-- the text of a line so
+pub line_joined : (line : Line) → codes "{\"cents\":" ++ (decimal line.cents ++ (codes ",\"grn\":\"" ++ (line.grn ++ codes "\"}"))) ≡ line_body line
+line_joined line = simp append_assoc refl
+
+-- the text of a movement so
+pub movement_joined : (m : Movement) → IsMrn m.mrn → IsLrn m.lrn → IsOfficeNo m.departure → IsOfficeNo m.destination
+    → codes "{\"accepted\":\"" ++ (day_text m.accepted ++ (codes "\",\"actual\":" ++ (compact_text (text_data m.actual) ++ (codes ",\"arrival\":" ++ (compact_text (day_data m.arrival)
+    ++ (codes ",\"departure\":\"" ++ (m.departure ++ (codes "\",\"destination\":\"" ++ (m.destination
+    ++ (codes "\",\"limit\":" ++ (compact_text (day_data m.limit) ++ (codes ",\"lines\":" ++ (compact_text (lines_data m.lines)
+    ++ (codes ",\"lrn\":\"" ++ (m.lrn ++ (codes "\",\"mrn\":\"" ++ (m.mrn ++ (codes "\",\"state\":\"" ++ (state_name m.state ++ codes "\"}")))))))))))))))))))
+    ≡ compact_text (movement_data m)
+movement_joined m mrn lrn departure destination =
+    let told =
+    movement_object (string (day_text m.accepted)) (text_data m.actual) (day_data m.arrival) (string m.departure) (string m.destination) (day_data m.limit) (lines_data m.lines) (string m.lrn) (string m.mrn) (string (state_name m.state)) _ _ _ _ _ _ _ _ _ _
+    (written_day m.accepted) refl refl (written_office m.departure departure) (written_office m.destination destination) refl refl (written_lrn m.lrn lrn) (written_reference 18 m.mrn (omega arith) mrn) (written_state m.state) in
+    sym (told ∙ simp append_assoc refl)
+
+-- the text of a guarantee so
+pub guarantee_joined : (g : Guarantee) (used : ℕ) → IsGrn g.grn
+    → codes "{\"codes\":" ++ (compact_text (codes_data g.codes) ++ (codes ",\"cover\":" ++ (decimal g.cover ++ (codes ",\"ends\":" ++ (compact_text (day_data g.ends)
+    ++ (codes ",\"free\":" ++ (decimal (free_on g used) ++ (codes ",\"grn\":\"" ++ (g.grn
+    ++ (codes "\",\"guaranteed\":" ++ (decimal (share_of g.reference g.cover) ++ (codes ",\"reference\":" ++ (decimal g.reference ++ (codes ",\"used\":" ++ (decimal used ++ codes "}")))))))))))))))
+    ≡ compact_text (guarantee_data g used)
+guarantee_joined g used grn =
+    let told =
+    guarantee_object (codes_data g.codes) (day_data g.ends) (string g.grn) _ _ _ _ _ _ _ _
+    refl refl (written_reference 17 g.grn (omega arith) grn) in
+    sym (told ∙ simp append_assoc refl)

@@ -81,11 +81,11 @@ fn write_holder<W: fmt::Write>(
     ensures { WritesOnOk W.write_str_gives f.old result
         (compact_text (holder_data eori.now guarantees (holder_text holder) movements)) f.new }
 {
+    // nothing in these texts is escaped, so each stands between its quotes as it is
+    let _form = eori.as_bytes();
     write!(
         f,
-        r#"{{"eori":{},"guarantees":{guarantees},"holder":{},"movements":{movements}}}"#,
-        Json(eori),
-        Json(&holder)
+        r#"{{"eori":"{eori}","guarantees":{guarantees},"holder":"{holder}","movements":{movements}}}"#
     )
 }
 
@@ -93,11 +93,10 @@ fn write_holder<W: fmt::Write>(
 fn write_release<W: fmt::Write>(f: &mut fmt::Formatter<W>, limit: Day, mrn: &Mrn) -> fmt::Result
     ensures { WritesOnOk W.write_str_gives f.old result (compact_text (release_data (day_text limit) mrn.now)) f.new }
 {
+    let _form = mrn.as_bytes();
     write!(
         f,
-        r#"{{"limit":{},"message":"IE029","mrn":{},"state":"released"}}"#,
-        Json(&limit),
-        Json(mrn)
+        r#"{{"limit":"{limit}","message":"IE029","mrn":"{mrn}","state":"released"}}"#
     )
 }
 
@@ -112,11 +111,11 @@ fn write_state<W: fmt::Write>(
     ensures { WritesOnOk W.write_str_gives f.old result
         (compact_text (state_data message.now mrn.now (state_name state))) f.new }
 {
+    let _form = mrn.as_bytes();
     write!(
         f,
-        r#"{{"message":"{message}","mrn":{},"state":{}}}"#,
-        Json(mrn),
-        Json(&state)
+        r#"{{"message":"{message}","mrn":"{mrn}","state":"{}"}}"#,
+        state.name()
     )
 }
 

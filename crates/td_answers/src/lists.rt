@@ -16,12 +16,15 @@ impl ToJson for ListedMovement {
     ghost shown = { listed_movement_data };
 
     fn write_json<W: fmt::Write>(&self, f: &mut fmt::Formatter<W>) -> fmt::Result {
+        // nothing in these texts is escaped, so each stands between its quotes as it is
+        let _lrn = self.lrn.as_bytes();
+        let _mrn = self.mrn.as_bytes();
         write!(
             f,
-            r#"{{"lrn":{},"mrn":{},"state":{}}}"#,
-            Json(&self.lrn),
-            Json(&self.mrn),
-            Json(&self.state)
+            r#"{{"lrn":"{}","mrn":"{}","state":"{}"}}"#,
+            self.lrn,
+            self.mrn,
+            self.state.name()
         )
     }
 }

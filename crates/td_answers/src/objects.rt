@@ -18,11 +18,12 @@ impl ToJson for Line {
     ghost shown = { line_data };
 
     fn write_json<W: fmt::Write>(&self, f: &mut fmt::Formatter<W>) -> fmt::Result {
+        let _form = self.grn.as_bytes();
         write!(
             f,
-            r#"{{"cents":{},"grn":{}}}"#,
-            Json(&self.cents),
-            Json(&self.grn)
+            r#"{{"cents":{},"grn":"{}"}}"#,
+            self.cents.get(),
+            self.grn
         )
     }
 }
@@ -47,21 +48,26 @@ impl ToJson for Movement {
     ghost shown = { movement_data };
 
     fn write_json<W: fmt::Write>(&self, f: &mut fmt::Formatter<W>) -> fmt::Result {
+        // nothing in these texts is escaped, so each stands between its quotes as it is
+        let _departure = self.departure.as_bytes();
+        let _destination = self.destination.as_bytes();
+        let _lrn = self.lrn.as_bytes();
+        let _mrn = self.mrn.as_bytes();
         write!(
             f,
-            r#"{{"accepted":{},"actual":{},"arrival":{},"departure":{},"destination":{},{}"#,
-            Json(&self.accepted),
+            r#"{{"accepted":"{}","actual":{},"arrival":{},"departure":"{}","destination":"{}",{}"#,
+            self.accepted,
             Json(&self.actual),
             Json(&self.arrival),
-            Json(&self.departure),
-            Json(&self.destination),
+            self.departure,
+            self.destination,
             format_args!(
-                r#""limit":{},"lines":{},"lrn":{},"mrn":{},"state":{}}}"#,
+                r#""limit":{},"lines":{},"lrn":"{}","mrn":"{}","state":"{}"}}"#,
                 Json(&self.limit),
                 Json(&self.lines),
-                Json(&self.lrn),
-                Json(&self.mrn),
-                Json(&self.state)
+                self.lrn,
+                self.mrn,
+                self.state.name()
             )
         )
     }
@@ -75,19 +81,20 @@ pub(crate) fn write_guarantee<W: fmt::Write>(
 ) -> fmt::Result
     ensures { WritesOnOk W.write_str_gives f.old result (compact_text (guarantee_data guarantee.now used)) f.new }
 {
+    let _form = guarantee.grn.as_bytes();
     write!(
         f,
-        r#"{{"codes":{},"cover":{},"ends":{},"free":{},"grn":{},{}"#,
+        r#"{{"codes":{},"cover":{},"ends":{},"free":{},"grn":"{}",{}"#,
         Json(&guarantee.codes),
-        Json(&guarantee.cover),
+        guarantee.cover.get(),
         Json(&guarantee.ends),
         free_on(guarantee, used),
-        Json(&guarantee.grn),
+        guarantee.grn,
         format_args!(
             r#""guaranteed":{},"reference":{},"used":{}}}"#,
-            Json(&guaranteed(guarantee.reference, guarantee.cover)),
-            Json(&guarantee.reference),
-            Json(&used)
+            guaranteed(guarantee.reference, guarantee.cover).get(),
+            guarantee.reference.get(),
+            used.get()
         )
     )
 }

@@ -67,8 +67,8 @@ pub(crate) fn entries_by_grn(
     Ok(found)
 }
 
-/// The movement with an MRN, if there is one, and the guarantees that its lines name, as far as they are there, with
-/// the amounts in use on them. `AllocError`: want of memory.
+/// The movement with an MRN, if there is one, and the guarantees that its lines name, as far as they are
+/// there, with the amounts in use on them. `AllocError`: want of memory.
 pub(crate) fn release_of(
     alloc: Global,
     guarantees: &GuaranteeRows,

@@ -83,7 +83,8 @@ impl<S: Store> Desk for S {
 
     // The store's call ended so; or it ended well, and the verdict on what it loaded found no memory; or
     // the store was left alone.
-    ghost called = { λ old why new. S.asked old why new ⊎ ((S.asked old None new × (why ≡ Some fault.NoMemory)) ⊎ ((new ≡ old) × (why ≡ None))) };
+    ghost called = { λ old why new. S.asked old why new
+        ⊎ ((S.asked old None new × (why ≡ Some fault.NoMemory)) ⊎ ((new ≡ old) × (why ≡ None))) };
 
     fn country(&self) -> Country {
         self.office()

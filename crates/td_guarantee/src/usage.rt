@@ -1,5 +1,5 @@
 //! The amount in use on a guarantee.
-ghost use Rattle.std.specs.Prelude.{◌≡◌, SomeIff};
+ghost use Rattle.std.specs.Prelude.{◌≡◌, ◌+◌, SomeIff};
 ghost use Rattle.td_base.specs.Money.{IsCents};
 ghost use Rattle.td_guarantee.specs.Usage.{lines_on, used_on};
 
@@ -14,21 +14,21 @@ pub fn in_use(movements: &[Movement], grn: &Grn) -> Option<Cents>
     let mut used = Cents::new(0)?;
     for movement in movements {
         if counts(movement.state) {
-            used = used.plus(in_lines(movement.lines.as_slice(), grn)?)?;
+            used = with_lines(used, movement.lines.as_slice(), grn)?;
         }
     }
     Some(used)
 }
 
-// What lines take up on a guarantee. `None` above 10^15 cents.
-fn in_lines(lines: &[Line], grn: &Grn) -> Option<Cents>
-    ensures { SomeIff result (IsCents (lines_on grn.now lines.now)) (lines_on grn.now lines.now) }
+// An amount and what lines take up on a guarantee. `None` above 10^15 cents.
+fn with_lines(used: Cents, lines: &[Line], grn: &Grn) -> Option<Cents>
+    ensures { SomeIff result (IsCents (used + lines_on grn.now lines.now)) (used + lines_on grn.now lines.now) }
 {
-    let mut taken = Cents::new(0)?;
+    let mut sum = used;
     for line in lines {
         if line.grn == *grn {
-            taken = taken.plus(line.cents)?;
+            sum = sum.plus(line.cents)?;
         }
     }
-    Some(taken)
+    Some(sum)
 }

@@ -1,5 +1,5 @@
 -- What a body is, by what `serde_json` reads of it.
-use Rattle.std.proofs.Common.{◌≡◌, ℕ, List, Option, Some, None, Err, Bool, true, false, refl}
+use Rattle.std.proofs.Common.{◌≡◌, ℕ, List, Some, None, Err, Bool, true, false, refl}
 use Rattle.std.proofs.lemmas.Str.{IsUtf8-from_is_utf8, is_utf8-from_IsUtf8}
 use Rattle.std.specs.Str.{IsUtf8, is_utf8}
 use Rattle.serde_json.specs.Data.{Data}

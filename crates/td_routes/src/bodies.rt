@@ -1,10 +1,10 @@
 //! The command of a request.
-ghost use Rattle.std.specs.Prelude.{◌≡◌, ◌⊎◌, MatchResult, Ok, Err, option_map, position, ◌==◌};
+ghost use Rattle.std.specs.Prelude.{◌≡◌, ◌⊎◌, MatchResult, Ok, Err, option_map};
 ghost use Rattle.serde_json.specs.View.{view};
 ghost use Rattle.td_base.specs.Codes.{code_read, office_read};
 ghost use Rattle.td_routes.specs.Bodies.{command_at, command_of, object_of, terms_of, text_field};
 ghost use Rattle.td_fields.specs.Faults.{OrNoMemory};
-ghost use Rattle.td_routes.specs.Routes.{before_query, path_of};
+ghost use Rattle.td_routes.specs.Routes.{path_of};
 ghost use Rattle.td_fields.specs.declared.fault.Field.TheVariants as field;
 ghost use Rattle.td_fields.specs.declared.fault.WebFault.TheVariants.{NoMemory};
 ghost use Rattle.td_routes.specs.declared.table.Route.TheVariants as route;
@@ -40,8 +40,8 @@ pub fn read_command_by(
     ensures { OrNoMemory result
         (command_of request.now.method request.now.target.items request.now.body.items) }
 {
-    let path = path(&request.target).ok_or(WebFault::NoRoute)?;
-    let route = routes.route(alloc, &request.method, path)?;
+    let path = path_text(&request.target).ok_or(WebFault::NoRoute)?;
+    let route = routes.route_of_text(alloc, &request.method, path)?;
     read_body(alloc, route, &request.body)
 }
 
@@ -71,20 +71,16 @@ fn read_body(alloc: Global, route: Route, body: &[u8]) -> Result<Command, WebFau
     }
 }
 
-// The place of the first `?`.
-fn query_at(target: &[u8]) -> Option<usize>
-    ensures { result ≡ position (λ c. c == 63) target.now }
+// The path of a target that is text (UTF-8), and of that alone.
+fn path_text(target: &[u8]) -> Option<&str>
+    ensures { option_map (λ path. path.now) result ≡ path_of target.now }
 {
-    target.iter().position(|c| *c == b'?')
-}
-
-// What stands before the first `?` of a target.
-fn before_query(target: &[u8]) -> &[u8]
-    ensures { result.now ≡ before_query target.now }
-{
-    match query_at(target) {
-        Some(end) => &target[..end],
-        None => target,
+    let Ok(text) = str::from_utf8(target) else {
+        return None;
+    };
+    match text.split_once('?') {
+        Some((path, _)) => Some(path),
+        None => Some(text),
     }
 }
 
@@ -93,10 +89,8 @@ fn before_query(target: &[u8]) -> &[u8]
 pub fn path(target: &[u8]) -> Option<&[u8]>
     ensures { option_map (λ path. path.now) result ≡ path_of target.now }
 {
-    match str::from_utf8(target) {
-        Ok(_) => Some(before_query(target)),
-        Err(_) => None,
-    }
+    let path = path_text(target)?;
+    Some(path.as_bytes())
 }
 
 // The object that a body is.

@@ -1,5 +1,5 @@
 //! The route of a request, by the desk's paths.
-ghost use Rattle.std.specs.Prelude.{◌≡◌, IsSome, IfErr, IfOk, MatchResult, Ok, OnOk, None, map, option_map};
+ghost use Rattle.std.specs.Prelude.{◌≡◌, [], Some, find, bytes_eq, unwrap_or, IsSome, IfErr, IfOk, MatchResult, Ok, OnOk, None, map, option_map};
 ghost use Rattle.std.specs.Option.{ForSome};
 ghost use Rattle.std.specs.Str.{IsUtf8};
 ghost use Rattle.td_fields.specs.Faults.{OrNoMemory};
@@ -35,10 +35,7 @@ fn read_grn(part: &[u8]) -> Result<Grn, WebFault>
 fn part_at<'p>(parts: &Parts<'_, 'p>, place: usize) -> &'p [u8]
     ensures { result.now ≡ part_at place parts.now }
 {
-    match parts.get(place) {
-        Some(part) => part.as_bytes(),
-        None => &[],
-    }
+    bytes_of(parts.get(place))
 }
 
 // A path that names a holder.
@@ -62,12 +59,23 @@ fn mrn_in(parts: &Parts<'_, '_>) -> Result<Mrn, WebFault>
     read_mrn(part_at(parts, 0))
 }
 
+// The bytes of a part: none where the path has no such part.
+fn bytes_of(part: Option<&str>) -> &[u8]
+    ensures { result.now ≡ unwrap_or (option_map (λ part. part.now) part.entry) [] }
+{
+    match part {
+        Some(part) => part.as_bytes(),
+        None => &[],
+    }
+}
+
 // A path that names a holder and a guarantee.
 fn holder_and_grn(parts: &Parts<'_, '_>) -> Result<(HolderNo, Grn), WebFault>
     ensures { result ≡ holder_and_grn parts.now }
 {
-    let holder = read_holder(part_at(parts, 0))?;
-    let grn = read_grn(part_at(parts, 1))?;
+    let (holder, grn) = parts.first_two();
+    let holder = read_holder(bytes_of(holder))?;
+    let grn = read_grn(bytes_of(grn))?;
     Ok((holder, grn))
 }
 
@@ -75,8 +83,9 @@ fn holder_and_grn(parts: &Parts<'_, '_>) -> Result<(HolderNo, Grn), WebFault>
 fn holder_and_mrn(parts: &Parts<'_, '_>) -> Result<(HolderNo, Mrn), WebFault>
     ensures { result ≡ holder_and_mrn parts.now }
 {
-    let holder = read_holder(part_at(parts, 0))?;
-    let mrn = read_mrn(part_at(parts, 1))?;
+    let (holder, mrn) = parts.first_two();
+    let holder = read_holder(bytes_of(holder))?;
+    let mrn = read_mrn(bytes_of(mrn))?;
     Ok((holder, mrn))
 }
 
@@ -126,6 +135,19 @@ fn row_with<'t>(rows: &'t [Row], pattern: &str, method: &str) -> Option<&'t Row>
     None
 }
 
+// The row with this method and the pattern of a row, before which no row has this pattern: mostly that row itself.
+fn row_beside<'t>(rows: &'t [Row], first: &'t Row, method: &str) -> Option<&'t Row>
+    requires { find (λ row. bytes_eq row.path.now first.now.path.now) rows.now ≡ Some first.now }
+    ensures { option_map (λ row. row_shown row.now) result
+        ≡ row_with (map row_shown rows.now) first.now.path.now method.now }
+{
+    if first.method.name() == method {
+        Some(first)
+    } else {
+        row_with(rows, first.path, method)
+    }
+}
+
 // The methods of the rows with this pattern.
 fn methods_with(rows: &[Row], pattern: &str) -> Allowed
     ensures { result ≡ methods_with (map row_shown rows.now) pattern.now }
@@ -145,7 +167,7 @@ fn find(table: &PathTable<'_, Row>, method: &Method, path: &str) -> Result<Route
         return Err(WebFault::NoRoute);
     };
     let pattern = found.row.path;
-    match row_with(table.rows, pattern, method.as_str()) {
+    match row_beside(table.rows, found.row, method.as_str()) {
         Some(row) => read_parts(row.endpoint, &found.parts),
         None => Err(WebFault::NoMethod {
             allow: methods_with(table.rows, pattern),
@@ -162,21 +184,6 @@ fn find_methods(table: &PathTable<'_, Row>, path: &str) -> Option<Allowed>
     Some(methods_with(table.rows, found.row.path))
 }
 
-// The table of the desk's paths: the one at hand, or a new one.
-fn desk_table(
-    alloc: Global,
-    at_hand: Option<PathTable<'static, Row>>,
-) -> Result<PathTable<'static, Row>, WebFault>
-    requires { ForSome at_hand (λ t. map row_shown t.rows.now ≡ table) }
-    ensures ok { IfOk result (λ t. map row_shown t.rows.now ≡ table) }
-    ensures err { IfErr result (λ e. (e ≡ NoMemory) × (at_hand.entry ≡ None)) }
-{
-    match at_hand {
-        Some(table) => Ok(table),
-        None => Ok(PathTable::new(alloc, &ROWS)?),
-    }
-}
-
 /// The desk's paths, looked up by one router for all requests. It is made at the first of them.
 #[derive(Drop)]
 pub struct Routes {
@@ -190,6 +197,45 @@ impl Routes {
         Routes { router: None }
     }
 
+    // Makes the router where it isn't there yet.
+    fn make_router(&mut self, alloc: Global) -> Result<(), WebFault>
+        ensures err { IfErr result (λ e. (e ≡ NoMemory) × (self.old.router ≡ None)) }
+        ensures kept { IsSome self.old.router → IsSome self.new.router }
+        ensures made { OnOk result (IsSome self.new.router) }
+    {
+        if self.router.is_none() {
+            self.router = Some(PathTable::new(alloc, &ROWS)?);
+        }
+        Ok(())
+    }
+
+    // The router, which was made.
+    fn router(&self) -> &PathTable<'static, Row>
+        requires { IsSome self.now.router }
+        ensures { map row_shown result.now.rows.now ≡ table }
+    {
+        match &self.router {
+            Some(router) => router,
+            None => unreachable!(),
+        }
+    }
+
+    // The route of a method and a path that is text.
+    pub(crate) fn route_of_text(
+        &mut self,
+        alloc: Global,
+        method: &Method,
+        path: &str,
+    ) -> Result<Route, WebFault>
+        ensures route { OrNoMemory result (route_of method.now path.now) }
+        ensures ready { IsSome self.old.router → result ≡ route_of method.now path.now }
+        ensures kept { IsSome self.old.router → IsSome self.new.router }
+        ensures made { OnOk result (IsSome self.new.router) }
+    {
+        self.make_router(alloc)?;
+        find(self.router(), method, path)
+    }
+
     /// The route of a request, as `route` tells it. Where the router found no memory it is made at a later call.
     pub fn route(&mut self, alloc: Global, method: &Method, path: &[u8]) -> Result<Route, WebFault>
         ensures route { OrNoMemory result (route_of method.now path.now) }
@@ -201,14 +247,9 @@ impl Routes {
         let Ok(path) = str::from_utf8(path) else {
             return Err(WebFault::NoRoute);
         };
-        let table = desk_table(alloc, self.router.take())?;
-        let route = find(&table, method, path);
-        self.router = Some(table);
-        route
+        self.route_of_text(alloc, method, path)
     }
-}
 
-impl Routes {
     /// The methods of a path: `None` where the desk has no such path. Want of memory is `NoMemory`.
     pub fn methods(&mut self, alloc: Global, path: &[u8]) -> Result<Option<Allowed>, WebFault>
         ensures methods { MatchResult result (λ methods. methods ≡ methods_of path.now) (λ e. e ≡ NoMemory) }
@@ -220,10 +261,8 @@ impl Routes {
         let Ok(path) = str::from_utf8(path) else {
             return Ok(None);
         };
-        let table = desk_table(alloc, self.router.take())?;
-        let methods = find_methods(&table, path);
-        self.router = Some(table);
-        Ok(methods)
+        self.make_router(alloc)?;
+        Ok(find_methods(self.router(), path))
     }
 }
 

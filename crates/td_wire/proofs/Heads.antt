@@ -30,7 +30,7 @@ count_fields buf headers count fields are fits =
 
 -- what the parser found is a good head
 pub good_head : (buf : List ℕ) (m : ℕ) (headers : List HeaderSpan) (r : RequestSpans) (h : RequestHead)
-    → IsRequestWithin (take m buf) headers r → IsRequestAt (take m buf) headers r h → length headers ≡ 64
+    → IsRequestWithin (take m buf) headers r → IsRequestAt (take m buf) headers r h → length headers ≤ 64
     → m ≤ 8192 → m ≤ length buf → HasHead buf h (drop r.len buf)
 good_head buf m headers r h within at room small fits =
     let count : length h.fields ≡ r.headers = count_fields (take m buf) headers r.headers h.fields at.fields within.section.count_fits in

@@ -16,6 +16,11 @@ abbrev pub close_line : Bool → List ℕ
 close_line false = []
 close_line true = codes "Connection: close\r\n"
 
+-- the first lines of a reply with a JSON body, up to the body's length
+abbrev pub json_head : ℕ → List ℕ
+json_head status =
+    codes "HTTP/1.1 " ++ (status_text status ++ codes "\r\nContent-Type: application/json\r\nContent-Length: ")
+
 -- a reply with a body
 abbrev pub reply_text : ℕ → Option (List ℕ) → Bool → List ℕ → List ℕ
 reply_text status allow close body =

@@ -82,7 +82,7 @@ impl Input {
         let start = self.start;
         let left = self.buffer.len() - start;
         self.start = 0;
-        self.buffer.rotate_left(start);
+        self.buffer.copy_within(start.., 0);
         self.buffer.truncate(left);
         self.buffer.reserve(MOST - left)
     }

@@ -1,7 +1,7 @@
 //! The bytes of replies.
 ghost use Rattle.std.specs.Prelude.{◌≡◌, IfOk, Some, string_bytes};
 ghost use Rattle.std.specs.Option.{option_copied};
-ghost use Rattle.td_wire.specs.ReplyText.{allow_line, close_line, reply_text, head_text, error_text, framing_reply, bytes_of, is_made};
+ghost use Rattle.td_wire.specs.ReplyText.{allow_line, close_line, reply_text, json_head, head_text, error_text, framing_reply, bytes_of, is_made};
 
 use crate::framing::FramingError;
 use http::StatusCode;
@@ -28,6 +28,9 @@ const BAD_LENGTH: &[u8] =
 
 const BODY_TOO_LARGE: &[u8] =
     b"HTTP/1.1 413 Payload Too Large\r\nContent-Type: application/json\r\nContent-Length: 26\r\nConnection: close\r\n\r\n{\"error\":\"body-too-large\"}";
+
+/// The first lines of a reply with a JSON body of the status 200.
+const OK_HEAD: &str = "HTTP/1.1 200 OK\r\nContent-Type: application/json\r\nContent-Length: ";
 
 /// What is written for a request.
 #[derive(Drop)]
@@ -116,6 +119,26 @@ impl fmt::Display for CloseLine {
     }
 }
 
+/// The first lines of a reply with a JSON body, up to the body's length.
+#[derive(Drop)]
+struct JsonHead(StatusCode);
+
+impl fmt::Display for JsonHead {
+    ghost output = { λ head. Some (json_head head.0) };
+
+    fn fmt<W: fmt::Write>(&self, f: &mut fmt::Formatter<W>) -> fmt::Result {
+        // most replies have this status, and nothing of theirs is put together anew
+        if self.0 == StatusCode::OK {
+            return f.write_str(OK_HEAD);
+        }
+        write!(
+            f,
+            "HTTP/1.1 {}\r\nContent-Type: application/json\r\nContent-Length: ",
+            self.0
+        )
+    }
+}
+
 /// A reply with a JSON body. `allow` has the methods that a 405 tells, as `GET, PUT`; `close` says that the
 /// stream stops.
 pub fn json_reply(
@@ -130,7 +153,8 @@ pub fn json_reply(
     let mut text = String::with_capacity(alloc, body.len().saturating_add(HEAD_CAPACITY))?;
     write!(
         text,
-        "HTTP/1.1 {status}\r\nContent-Type: application/json\r\nContent-Length: {}\r\n{}{}\r\n{body}",
+        "{}{}\r\n{}{}\r\n{body}",
+        JsonHead(status),
         body.len(),
         AllowLine(allow),
         CloseLine(close)

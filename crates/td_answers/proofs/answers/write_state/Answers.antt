@@ -1,7 +1,9 @@
-use Rattle.serde_json.specs.Data.{string}
-use Rattle.td_movement.specs.States.{state_name}
-use Rattle.td_answers.proofs.PlainAnswers.{written_message}
+use Rattle.std.proofs.Common.{sym}
+use Rattle.std.proofs.Output.{has_written_of_eq}
+use Rattle.td_answers.proofs.PlainAnswers.{state_texts}
 use Rattle.td_answers.proofs.answers.write_state.Goals as goal
 
 pub returns : goal.returns
-returns g c = rw (written_message c.args.message.now (string c.args.mrn.now) (string (state_name c.args.state)) c.requires) c.write.ensures.writes
+returns g c = λ plain ok.
+    let told = state_texts c.args.message.now c.args.mrn.now c.args.state c.requires c.as_bytes-form.ensures.form in
+    has_written_of_eq _ _ _ _ _ (rw (c.name.ensures) (sym told)) (c.write.ensures.writes plain ok)

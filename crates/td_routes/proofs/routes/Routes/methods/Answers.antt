@@ -14,9 +14,9 @@ returns-in_default-clause-made c = λ text. absurd (c.in_default.ensures.cases.0
 pub returns-clause-methods : goal.returns-clause-methods
 returns-clause-methods c =
     let text = c.in-Ok.ensures.cases in
-    methods_found _ _ _ _ text.0 text.1 c.in_ok-table.ensures.ok c.find_methods-methods.ensures
+    methods_found _ _ _ _ text.0 text.1 c.router.ensures c.find_methods.ensures
 
 pub returns-clause-ready : goal.returns-clause-ready
 returns-clause-ready c =
     let text = c.in-Ok.ensures.cases in
-    λ _. ap Ok (methods_found _ _ _ _ text.0 text.1 c.in_ok-table.ensures.ok c.find_methods-methods.ensures)
+    λ _. ap Ok (methods_found _ _ _ _ text.0 text.1 c.router.ensures c.find_methods.ensures)

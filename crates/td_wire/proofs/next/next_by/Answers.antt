@@ -1,29 +1,31 @@
-use Rattle.std.proofs.Common.{Result, Ok, inl, inr, refl, ◌≡◌, ℕ, ◌+◌, ◌-◌, length, drop, take, arith, rules, codes, sym, ◌∙◌, ap, Err}
+use Rattle.std.proofs.Common.{Result, Ok, inl, inr, refl, ◌≡◌, ℕ, ◌+◌, ◌-◌, length, drop, take, arith, rules, codes, sym, subst, ◌∙◌, ap, Err}
 use Rattle.std.specs.Prelude.{OnErr}
 use Rattle.std.proofs.lemmas.List.{take-append-drop, take_all, length-take-le}
+use Rattle.httparse.specs.Spans.{RequestExceeds, RequestOverflows}
 use Rattle.td_wire.specs.Framing.{body_length, closes}
 use Rattle.td_wire.specs.Wire.{fields_of}
 use Rattle.td_wire.proofs.Heads.{good_head, open_head, open_body, body_in, wire_len, wire_of}
 use Rattle.td_wire.proofs.Lengths.{length_limit, refused_body}
 use Rattle.td_wire.proofs.Refused.{refused_by}
-use Rattle.td_wire.proofs.next.next_request.Goals as goal
-use Rattle.td_wire.proofs.next.next_request.Goals.{then-window-lt-MAX_HEAD, else-window-lt-MAX_HEAD}
+use Rattle.td_wire.proofs.next.next_by.Goals as goal
+use Rattle.td_wire.proofs.next.next_by.Goals.{then-window-lt-MAX_HEAD, else-window-lt-MAX_HEAD}
 
 -- what holds anyway holds where an error is returned
 at_err : {T E : Type 0} {P : Type 0} (r : Result T E) → P → OnErr r P
 at_err (Ok x) p = tt
 at_err (Err e) p = p
 
-pub returns-in-Err-clause-next : goal.returns-in-Err-clause-next
-returns-in-Err-clause-next c =
+pub returns-in-Err-clause-none : goal.returns-in-Err-clause-none
+returns-in-Err-clause-none c = λ room _.
     let size : length (take c.min.result c.args.buf.now) ≡ c.min.result = length-take-le _ _ (omega arith) in
+    let front = take c.min.result c.args.buf.now in
     record {
-      front = take c.min.result c.args.buf.now;
+      front = front;
       more = drop c.min.result c.args.buf.now;
       bytes_are = sym (take-append-drop _ _);
       size = omega arith;
-      refused = refused_by _ _ c.in-Err.field-0 c.in-Err.ensures.invalid (λ h. c.in-Err.ensures.too_many (ap Err h));
-      never_good = c.in-Err.ensures.no_room;
+      refused = refused_by _ _ c.in-Err.field-0 c.in-Err.ensures.invalid (λ h. subst (λ (n : ℕ). RequestExceeds n front) room (c.in-Err.ensures.too_many (ap Err h)));
+      never_good = subst (λ (n : ℕ). RequestOverflows n front) room c.in-Err.ensures.no_room;
     }
 
 pub returns-in-Ok-Partial-clause-next : goal.returns-in-Ok-Partial-clause-next
@@ -64,7 +66,7 @@ returns-then-eq-clause-next c =
       c.in-Ok.len,
       has,
       sym found.1.method ∙ (sym c.of.ensures ∙ method),
-      sym (c.in_ok-from_slice.ensures.items ∙ (c.of-then-eq.ensures ∙ found.1.path)),
+      sym (c.in_ok-target.ensures.items ∙ (c.of-then-eq.ensures ∙ found.1.path)),
       sym (ap body_length found.1.fields) ∙ (sym c.read_body_length.ensures ∙ c.in-Ok.is),
     )
 
@@ -112,8 +114,8 @@ returns-clause-next c =
       len_is = wire_len c.args.buf.now c.in-Ok-Complete.head.len c.in-Ok.len found.0 found.1.len (omega arith);
     }
 
-pub returns-in_err-from_slice-clause-memory : goal.returns-in_err-from_slice-clause-memory
-returns-in_err-from_slice-clause-memory c =
+pub returns-in_err-target-clause-memory : goal.returns-in_err-target-clause-memory
+returns-in_err-target-clause-memory c =
     let found = rw c.in-Ok-Complete.field-0-is at c.in-Ok-Complete.ensures.complete in
     let within = rw c.in-Ok-Complete.field-0-is at c.in-Ok-Complete.ensures.within in
     let has = good_head c.args.buf.now c.min.result _ c.in-Ok-Complete.head found.0 within found.1 (search rules) (omega arith) (omega arith) in
