@@ -9,7 +9,7 @@ use Rattle.counted_io.specs.Counted.{known_bytes}
 use Rattle.td_acts.specs.Account.{empty_account}
 use Rattle.td_acts.specs.Book.{fresh_book}
 use Rattle.td_desk.specs.declared.plain.PlainDesk.{PlainDesk}
-use Rattle.td_desk.specs.Content.{Content, empty_content}
+use Rattle.td_desk.specs.Content.{Content}
 use Rattle.td_desk.specs.Plain.{rows_in}
 use Rattle.td_desk.specs.Runs.{IsTied}
 use Rattle.td_http.specs.declared.service.Service.{Service}

@@ -1,8 +1,4 @@
-use Rattle.std.proofs.Common.{◌∙◌, sym, subst, inl, inr}
-use Rattle.std.specs.Io.KnownBytes.{Appends}
-use Rattle.counted_io.specs.Counted.{known_bytes}
-use Rattle.counted_io.specs.Writing.{IsCutShort}
-use Rattle.td_cli.specs.Listening.{listening_line, served_line}
+use Rattle.std.proofs.Common.{◌∙◌, sym, inl, inr}
 use Rattle.td_cli.proofs.Connected.{has_served, served_some, served_all}
 use Rattle.td_cli.proofs.serving.serve_at.Goals as goal
 
