@@ -5,6 +5,7 @@ mod Heads
 mod Lengths
 mod Refused
 mod Readings
+mod Sending
 mod Serving
 mod Ends
 mod Farewells

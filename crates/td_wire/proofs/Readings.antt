@@ -13,7 +13,7 @@ use Rattle.counted_io.specs.Counted.{calls_of, known_bytes, HasMade, one_more}
 use Rattle.counted_io.proofs.Calls.{made_none, made_more, made_on}
 use Rattle.counted_io.proofs.Chaining.{FoldsTo-append}
 use Rattle.td_wire.specs.declared.reading.Stop.{Stop}
-use Rattle.td_wire.specs.declared.reading.Stop.TheVariants.{Closed, Cut, ReadsSpent, ReadFault, NoMemory, Refused, Head}
+use Rattle.td_wire.specs.declared.reading.Stop.TheVariants.{Closed, Cut, ReadsSpent, ReadFault, NoMemory, Refused, Head, WriteFault}
 use Rattle.td_wire.specs.Reading.{HasRead, ReadsOn, StopsAs, Finish, brought, ended, failed, LastRead, count_of, IsNeeded, KeepsRoom}
 use Rattle.td_wire.specs.Wire.{IsOpen}
 
@@ -190,6 +190,7 @@ StopsAs-earlier remaining new x y z a b rest NoMemory more room (inl h) =
 StopsAs-earlier remaining new x y z a b rest NoMemory more room (inr h) = inr h
 StopsAs-earlier remaining new x y z a b rest (Refused e) more room h = h
 StopsAs-earlier remaining new x y z a b rest (Head target) more room h = h
+StopsAs-earlier remaining new x y z a b rest WriteFault more room h = h
 
 -- a stop after two readings
 pub StopsAs-after : {R : Type 0} (remaining : R → Option (List ℕ)) (new : Counted R) (x y z a b : ℕ) (bytes mid given more : List ℕ) (stop : Stop)

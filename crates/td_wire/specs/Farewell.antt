@@ -31,3 +31,11 @@ Farewell contents heads old new before after (stop.Refused e) end =
 Farewell contents heads old new before after (stop.Head target) end =
     (reply : Reply) × heads before target.items reply after
     × SendsLast contents old new (bytes_of reply) (if is_made reply then Refused else Failed) end
+Farewell contents heads old new before after stop.WriteFault end = (end ≡ WriteFault) × (new ≡ old) × (after ≡ before)
+
+-- the same where replies wait, which go first
+abbrev pub SendsAndParts : {W H : Type 0} → (W → Option (List ℕ)) → (H → List ℕ → Reply → H → Type 0) → Counted W
+    → Counted W → List ℕ → H → H → Stop → StreamEnd → Type 0
+SendsAndParts {W} contents heads old new waits before after stop end =
+    ((mid : Counted W) × Wrote contents old mid waits true × Farewell contents heads mid new before after stop end)
+    ⊎ ((end ≡ WriteFault) × IsCutShort contents old new waits × (after ≡ before))

@@ -4,6 +4,7 @@ pub mod Wire
 pub mod ReplyText
 pub mod Input
 pub mod Reading
+pub mod Replies
 pub mod Farewell
 pub mod Stream
 pub mod OneReading

@@ -8,7 +8,7 @@ use Rattle.counted_io.specs.Chains.{IsRead, Brought}
 use Rattle.td_wire.specs.declared.input.TheConstants.{MOST}
 use Rattle.td_wire.specs.declared.request.Request.{Request}
 use Rattle.td_wire.specs.declared.reading.Stop.{Stop}
-use Rattle.td_wire.specs.declared.reading.Stop.TheVariants.{Closed, Cut, ReadsSpent, ReadFault, NoMemory, Refused, Head}
+use Rattle.td_wire.specs.declared.reading.Stop.TheVariants.{Closed, Cut, ReadsSpent, ReadFault, NoMemory, Refused, Head, WriteFault}
 use Rattle.td_wire.specs.Wire.{Wire, IsWire, IsRequestOn, wire_bytes, IsOpen, IsRefusedFor, IsHeadRequest, BeginsServed}
 
 -- How reads came to an end: each of them brought bytes; or the last one found the end of the input; or the
@@ -76,6 +76,7 @@ finish_of ReadFault = failed
 finish_of NoMemory = brought
 finish_of (Refused e) = brought
 finish_of (Head target) = brought
+finish_of WriteFault = brought
 
 -- and where it goes on
 abbrev pub finish_by : {X : Type 0} → Result X Stop → Finish
@@ -94,6 +95,7 @@ StopsAs remaining new before after room rest NoMemory =
     ((rest ≡ []) × (after ≡ before) × (room < MOST)) ⊎ BeginsServed rest
 StopsAs remaining new before after room rest (Refused e) = IsRefusedFor e rest
 StopsAs remaining new before after room rest (Head target) = IsHeadRequest target.items rest
+StopsAs remaining new before after room rest WriteFault = IsOpen rest
 
 -- a buffer that was read into has its whole room, and none is given back
 pub record KeepsRoom (old new : ℕ) (before after : ℕ) : Type 0 where

@@ -13,7 +13,7 @@ use Rattle.td_wire.specs.declared.stream.StreamEnd.TheVariants.{Closed, Asked, S
 use Rattle.td_wire.specs.Request as request
 use Rattle.td_wire.specs.ReplyText.{framing_reply, no_memory_reply, bytes_of, is_made}
 use Rattle.td_wire.specs.Reading.{Finish, brought, ended, failed, Reads, count_of}
-use Rattle.td_wire.specs.Wire.{Wire, Splits, asks_close, IsOpen, IsRefusedFor, IsHeadRequest, BeginsServed}
+use Rattle.td_wire.specs.Wire.{Wire, wire_bytes, Splits, asks_close, IsOpen, IsRefusedFor, IsHeadRequest, BeginsServed}
 
 -- a request on the wire, the moment at which it was handled, and the reply
 pub record Exchange : Type 0 where
@@ -200,13 +200,18 @@ pub record BreaksOff (before message written : List ℕ) : Type 0 where
   pub short : taken < length message
   pub is : written ≡ before ++ take taken message
 
--- the last reply wasn't written whole, and those before it were
+-- A reply wasn't written whole. Those before it were, and of those after it nothing was. Its request and those
+-- after it came by the last read: none was made once it had come whole, so that no reply waited for a read.
 pub record CutAtReply {H : Type 0} (run : Run H) : Type 0 where
+  pub before : List Exchange
+  pub first : Exchange
+  pub after : List Exchange
+  pub are : run.exchanges ≡ before ++ first ∷ after
+  pub breaks : BreaksOff (replies_of before) (bytes_of first.reply) run.written
+  pub left : HasNotReadOn run.pieces (flat_map wire_bytes (wires_of after) ++ run.rest)
   pub last : Exchange
   pub ended : EndedBy run.exchanges last
   pub silent : run.parting ≡ silence
-  pub breaks : BreaksOff (replies_of ended.before) (bytes_of last.reply) run.written
-  pub left : HasNotReadOn run.pieces run.rest
 
 -- what is written after the replies wasn't written whole, and the replies were
 pub record CutAtParting {H : Type 0} (run : Run H) : Type 0 where

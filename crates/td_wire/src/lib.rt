@@ -8,6 +8,7 @@ mod input;
 mod laws;
 mod next;
 mod reading;
+mod replies;
 mod reply;
 mod request;
 mod stream;

@@ -1,12 +1,14 @@
 //! Serving a stream of requests.
 ghost use Rattle.std.specs.Prelude.{◌||◌};
 ghost use Rattle.td_wire.specs.Request.{asked};
-ghost use Rattle.td_wire.specs.Farewell.{Farewell};
+ghost use Rattle.td_wire.specs.Farewell.{SendsLast, Farewell, SendsAndParts};
+ghost use Rattle.td_wire.specs.Replies.{waiting};
 ghost use Rattle.td_wire.specs.Stream.{Serves};
 
 use crate::clock::Clock;
 use crate::input::Input;
 use crate::reading::{Stop, read_request};
+use crate::replies::Replies;
 use crate::reply::Reply;
 use crate::request::Request;
 use counted_io::{Counted, write_whole};
@@ -80,8 +82,19 @@ fn reply_to<H: Handler>(
     handler.handle(alloc, at, &request)
 }
 
+/// Writes the replies that wait, and answers how the stream ended that ends so with them.
+fn last_sent<W: Write>(writer: &mut Counted<W>, replies: &mut Replies, end: StreamEnd) -> StreamEnd
+    ensures { SendsLast W.contents writer.old writer.new (waiting replies.old) end result }
+{
+    if replies.send(writer) {
+        end
+    } else {
+        StreamEnd::WriteFault
+    }
+}
+
 /// Writes what a stop of the reading asks for, and answers how the stream ended.
-fn end_stream<W: Write, H: Handler>(
+fn part_with<W: Write, H: Handler>(
     alloc: Global,
     writer: &mut Counted<W>,
     handler: &mut H,
@@ -94,6 +107,7 @@ fn end_stream<W: Write, H: Handler>(
         Stop::Cut => StreamEnd::Cut,
         Stop::ReadsSpent => StreamEnd::ReadsSpent,
         Stop::ReadFault => StreamEnd::ReadFault,
+        Stop::WriteFault => StreamEnd::WriteFault,
         Stop::NoMemory => {
             if write_whole(writer, Reply::NoMemory.as_bytes()) {
                 StreamEnd::Failed
@@ -121,9 +135,27 @@ fn end_stream<W: Write, H: Handler>(
     }
 }
 
+/// Writes the replies that wait and then what a stop of the reading asks for, and answers how the stream ended.
+fn end_stream<W: Write, H: Handler>(
+    alloc: Global,
+    writer: &mut Counted<W>,
+    handler: &mut H,
+    replies: &mut Replies,
+    stop: Stop,
+) -> StreamEnd
+    ensures { SendsAndParts W.contents H.handles_head writer.old writer.new (waiting replies.old) handler.old handler.new stop result }
+{
+    if replies.send(writer) {
+        part_with(alloc, writer, handler, stop)
+    } else {
+        StreamEnd::WriteFault
+    }
+}
+
 /// Answers the requests of a stream, one after another, each at the moment that the clock gives once it came
-/// whole, until the stream ends. At most 1,000 requests are answered, the thousandth as one that asks to
-/// close, and at most 100,000 reads are made. Requests and replies are HTTP/1.1.
+/// whole, until the stream ends. The replies to requests that came by one read are written together, before the
+/// next one. At most 1,000 requests are answered, the thousandth as one that asks to close, and at most 100,000
+/// reads are made. Requests and replies are HTTP/1.1.
 pub fn serve_requests<R: Read, W: Write, C: Clock, H: Handler>(
     alloc: Global,
     reader: &mut Counted<R>,
@@ -137,24 +169,32 @@ pub fn serve_requests<R: Read, W: Write, C: Clock, H: Handler>(
         result }
 {
     let mut input = Input::new(alloc);
+    let mut replies = Replies::new(alloc);
     let mut reads = MAX_READS;
     for served in 0..MAX_REQUESTS {
-        let request = match read_request(alloc, &mut input, reader, &mut reads) {
+        let request = match read_request(
+            alloc,
+            &mut input,
+            reader,
+            &mut reads,
+            writer,
+            &mut replies,
+        ) {
             Ok(request) => request,
-            Err(stop) => return end_stream(alloc, writer, handler, stop),
+            Err(stop) => return end_stream(alloc, writer, handler, &mut replies, stop),
         };
         let asks = request.close;
         let at = clock.seconds();
         let reply = reply_to(alloc, at, handler, request, served + 1 == MAX_REQUESTS);
-        if !write_whole(writer, reply.as_bytes()) {
+        if !replies.add(writer, reply.as_bytes()) {
             return StreamEnd::WriteFault;
         }
         if !reply.is_made() {
-            return StreamEnd::Failed;
+            return last_sent(writer, &mut replies, StreamEnd::Failed);
         }
         if asks {
-            return StreamEnd::Asked;
+            return last_sent(writer, &mut replies, StreamEnd::Asked);
         }
     }
-    StreamEnd::Served
+    last_sent(writer, &mut replies, StreamEnd::Served)
 }

@@ -51,8 +51,8 @@ impl Handler for Same {
 
 /// Gives one byte a read, and fails at the end.
 #[derive(Drop)]
-struct Drip<'a> {
-    left: &'a [u8],
+pub(super) struct Drip<'a> {
+    pub(super) left: &'a [u8],
 }
 
 impl Read for Drip<'_> {

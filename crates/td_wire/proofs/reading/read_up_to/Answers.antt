@@ -14,7 +14,7 @@ open_here g c =
     let below = c.loop-wanted-test.true in
     let len = c.len.ensures in
     let stands = ap length c.loop-wanted.invariant.2 in
-    c.requires.still c.loop-wanted.invariant.0 (omega arith)
+    c.requires.wanted.still c.loop-wanted.invariant.0 (omega arith)
 
 -- the room after a read
 room_here : (g : Over) (c : In-Ok g)

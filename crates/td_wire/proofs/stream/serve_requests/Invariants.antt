@@ -1,5 +1,6 @@
 use Rattle.td_wire.specs.Input.{unread, room_of}
-use Rattle.td_wire.proofs.Serving.{Serving, Words, sides}
+use Rattle.td_wire.specs.Replies.{waiting}
+use Rattle.td_wire.proofs.Serving.{Gathering, Words, sides}
 use Rattle.td_wire.proofs.stream.serve_requests.Given as goal
 use Rattle.td_wire.proofs.stream.serve_requests.Given.{Over}
 
@@ -15,5 +16,5 @@ words_of g = record {
 
 abbrev pub invariant-loop-served : goal.invariant-loop-served
 invariant-loop-served g l =
-    Serving (words_of g) (sides l.initial.reader l.initial.writer l.initial.clock l.initial.handler)
-    (sides l.reader l.writer l.clock l.handler) (unread l.input) (room_of l.input) l.reads l.served
+    Gathering (words_of g) (sides l.initial.reader l.initial.writer l.initial.clock l.initial.handler)
+    (sides l.reader l.writer l.clock l.handler) (unread l.input) (waiting l.replies) (room_of l.input) l.reads l.served
