@@ -1,4 +1,1 @@
 pub mod Segments
-pub mod Sound
-pub mod Routers
-pub mod Taken

@@ -5,6 +5,7 @@
 #![tactic(auto)]
 
 mod parts;
+mod segments;
 mod table;
 
 pub use parts::Parts;
