@@ -1,1 +1,3 @@
 pub mod Segments
+pub mod Sound
+pub mod Routers

@@ -1,5 +1,5 @@
 //! Paths, and the rows that they fit.
-use crate::{PathTable, Row};
+use crate::{PathTable, Row, rows_are_found_as_by_matchit};
 use std::process::Abort;
 use std::test::Fail;
 
@@ -81,5 +81,6 @@ fn compares_segments(rt: HostRuntime) -> Result<(), Fail> {
     for case in PATHS {
         finds(&rt, &table, case);
     }
+    rows_are_found_as_by_matchit();
     Ok(())
 }
