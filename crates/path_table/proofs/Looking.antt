@@ -13,11 +13,11 @@ use Rattle.matchit.specs.Route.{parse_route, Scan}
 use Rattle.matchit.specs.Router.{RouteOf, route_from}
 use Rattle.matchit.specs.Rows.{RowsOf, comes_before}
 use Rattle.matchit.specs.Seek.{first}
-use Rattle.path_table.specs.Routers.{with_read, router_behind, router_for}
+use Rattle.path_table.specs.Routers.{with_read, router_behind, router_for, IsBytes, IsFound, FindsRow}
 use Rattle.path_table.specs.Segments.{segments, is_some_text, is_named, segment_fits, fits, parts_of}
 use Rattle.path_table.specs.Sound.{is_plain_segment, is_plain, can_share, are_apart, is_sound}
 use Rattle.path_table.proofs.Tokens.{token_fits, is_strict, param_count, token_parts}
-use Rattle.path_table.proofs.Seeking.{AllRows, SomeRow, IsBytes, all_weaker, found_fits, fits_found}
+use Rattle.path_table.proofs.Seeking.{AllRows, SomeRow, all_weaker, found_fits, fits_found}
 use Rattle.path_table.proofs.Walking.{params_are}
 use Rattle.path_table.proofs.Patterns.{tokens, tokens_fit, tokens_take, tokens_strict, some_segment}
 use Rattle.path_table.proofs.Parsing.{IsRead, plain_read}
@@ -269,13 +269,6 @@ module _ {R : Type 0} (pattern_of : R → List ℕ) where
 
   -- ---- the look-up
 
-  -- what a route that was found says
-  pub record IsFound (rows : List R) (path : List ℕ) (r : RouteOf ℕ) : Type 0 where
-    pub row : R
-    pub at : slice_get rows r.value ≡ Some row
-    pub found : find (λ x. fits (pattern_of x) path) rows ≡ Some row
-    pub parts : map (λ n. n.1) (walk r.pattern r.text path r.names 0 0) ≡ parts_of (pattern_of row) path
-
   abbrev Matches : List R → RouteOf ℕ → List ℕ → Type 0
   Matches rows r path = IsEntry rows r.pattern r × (token_fits r.pattern path ≡ true)
 
@@ -289,7 +282,7 @@ module _ {R : Type 0} (pattern_of : R → List ℕ) where
           (rw h.tokens_are (tokens_strict (segments (pattern_of h.row)) here), λ path is. (subst (λ u. IsEntry rows u r) (sym h.pattern_is) h, rw h.pattern_is is))
 
   -- a route that was found is that of the row that the path fits
-  is_found_row : (rows : List R) (path : List ℕ) (r : RouteOf ℕ) → is_sound (map pattern_of rows) ≡ true → Matches rows r path → IsFound rows path r
+  is_found_row : (rows : List R) (path : List ℕ) (r : RouteOf ℕ) → is_sound (map pattern_of rows) ≡ true → Matches rows r path → IsFound pattern_of rows path r
   is_found_row rows path r sound h =
       let both = and_parts (list_all is_plain (map pattern_of rows)) _ sound in
       let row = h.0.row in
@@ -307,7 +300,7 @@ module _ {R : Type 0} (pattern_of : R → List ℕ) where
 
   -- `matchit` finds the row whose pattern the path fits, and finds none where there is none
   pub look_up : (rows : List R) (path : List ℕ) → is_sound (map pattern_of rows) ≡ true → IsBytes path
-      → MatchOption (first (router_for pattern_of rows) path) (find (λ x. fits (pattern_of x) path) rows ≡ None) (IsFound rows path)
+      → FindsRow pattern_of rows path
   look_up rows path sound bytes = by (first (router_for pattern_of rows) path) refl
     where
       plain : list_all is_plain (map pattern_of rows) ≡ true
@@ -324,20 +317,8 @@ module _ {R : Type 0} (pattern_of : R → List ℕ) where
           absurd (let never : false ≡ true = rw none at is in search rules)
       none_fits none false e = find_none (λ x. fits (pattern_of x) path) rows e
 
-      by : (o : Option (RouteOf ℕ)) → first (router_for pattern_of rows) path ≡ o → MatchOption o (find (λ x. fits (pattern_of x) path) rows ≡ None) (IsFound rows path)
+      by : (o : Option (RouteOf ℕ)) → first (router_for pattern_of rows) path ≡ o → MatchOption o (find (λ x. fits (pattern_of x) path) rows ≡ None) (IsFound pattern_of rows path)
       by None e = none_fits e (list_any (λ x. fits (pattern_of x) path) rows) refl
       by (Some r) e =
           is_found_row rows path r sound
           (found_fits (length path) r (router_for pattern_of rows) path (Matches rows) (omega arith) bytes (good_entries rows plain (router_for pattern_of rows) all) e)
-
-  pub row_found : (rows : List R) (router : RowsOf (RouteOf ℕ)) (path : List ℕ) (r : RouteOf ℕ) → router ≡ router_for pattern_of rows → is_sound (map pattern_of rows) ≡ true → IsBytes path
-      → first router path ≡ Some r → IsFound rows path r
-  row_found rows router path r is sound bytes found =
-      let P : RowsOf (RouteOf ℕ) → Type 0 = λ router. MatchOption (first router path) (find (λ x. fits (pattern_of x) path) rows ≡ None) (IsFound rows path) in
-      MatchOption-at_some _ _ r found (subst P (sym is) (look_up rows path sound bytes))
-
-  pub none_found : (rows : List R) (router : RowsOf (RouteOf ℕ)) (path : List ℕ) → router ≡ router_for pattern_of rows → is_sound (map pattern_of rows) ≡ true → IsBytes path
-      → first router path ≡ None → find (λ x. fits (pattern_of x) path) rows ≡ None
-  none_found rows router path is sound bytes none =
-      let P : RowsOf (RouteOf ℕ) → Type 0 = λ router. MatchOption (first router path) (find (λ x. fits (pattern_of x) path) rows ≡ None) (IsFound rows path) in
-      MatchOption-at_none _ _ none (subst P (sym is) (look_up rows path sound bytes))

@@ -9,6 +9,7 @@ use Rattle.std.specs.Prelude.{⊤, ◌&&◌, nat_lt, nat_eq, is_some as is_found
 use Rattle.std.specs.Cmp.Lexicographic.{pointwise}
 use Rattle.matchit.specs.Rows.{RowsOf, param_token, catch_all_token}
 use Rattle.matchit.specs.Seek.{slash, segment, has_slash, same_text, cuts, own, step, or_else, longest_from, with_suffix, param_step, seek}
+use Rattle.path_table.specs.Routers.{IsBytes}
 use Rattle.path_table.specs.Segments.{is_some_text}
 use Rattle.path_table.proofs.Tokens.{part, rest, begins, behind, token_fits, goes_on, is_strict, part-rest, has_slash-part, RestIs, at_end, at_slash, rest_is}
 
@@ -73,10 +74,6 @@ drop_more_one : (m b : ℕ) (path : List ℕ) → 1 ≤ m → drop (m - 1) path 
 drop_more_one m b path h =
     let same : suc (m - 1) ≡ m = omega arith in
     ap (λ n. drop n (b ∷ path)) same
-
--- a path of bytes
-abbrev pub IsBytes : List ℕ → Type 0
-IsBytes path = (i : ℕ) → get_or path i 0 < 256
 
 IsBytes-rest : (path : List ℕ) → IsBytes path → IsBytes (rest path)
 IsBytes-rest [] bytes = bytes

@@ -1,4 +1,3 @@
 pub mod Segments
 pub mod Sound
 pub mod Routers
-pub mod Taken

@@ -4,9 +4,12 @@
 //! name in braces: the text fits itself, and a name fits any segment that isn't empty.
 #![tactic(auto)]
 
+mod laws;
 mod parts;
+mod segments;
 mod table;
 
+pub use laws::rows_are_found_as_by_matchit;
 pub use parts::Parts;
 pub use table::{Found, PathTable, Row};
 

@@ -1,5 +1,5 @@
 //! Paths, and the rows that they fit.
-use crate::{PathTable, Row};
+use crate::{PathTable, Row, rows_are_found_as_by_matchit};
 use std::process::Abort;
 use std::test::Fail;
 
@@ -65,11 +65,11 @@ const PATHS: [(&str, u32, &str, &str); 17] = [
 // The path fits the row with this number, and has these parts.
 fn finds(rt: &impl Abort, table: &PathTable<'_, Numbered>, case: (&str, u32, &str, &str)) {
     let (path, number, first, second) = case;
-    match table.find(path) {
+    match table.find(path.as_bytes()) {
         Some(found) => {
             assert!(rt; found.row.number == number);
-            assert!(rt; found.parts.get(0).unwrap_or("") == first);
-            assert!(rt; found.parts.get(1).unwrap_or("") == second);
+            assert!(rt; found.parts.get(0).unwrap_or_default() == first.as_bytes());
+            assert!(rt; found.parts.get(1).unwrap_or_default() == second.as_bytes());
         }
         None => assert!(rt; number == 0),
     }
@@ -81,5 +81,6 @@ fn compares_segments(rt: HostRuntime) -> Result<(), Fail> {
     for case in PATHS {
         finds(&rt, &table, case);
     }
+    rows_are_found_as_by_matchit();
     Ok(())
 }

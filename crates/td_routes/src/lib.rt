@@ -2,10 +2,12 @@
 #![tactic(auto)]
 
 mod bodies;
+mod laws;
 mod routes;
 mod table;
 
 pub use bodies::{path, read_command, read_command_by};
+pub use laws::paths_are_found_as_by_matchit;
 pub use routes::{Routes, route};
 pub use table::Route;
 pub use td_fields::{Allowed, Field, WebFault, reason_name};
