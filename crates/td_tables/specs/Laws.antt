@@ -1,0 +1,20 @@
+-- The laws of the tables.
+use Rattle.std.specs.Prelude.{◌≡◌}
+use Rattle.td_acts.specs.declared.rows.Change.{Change}
+use Rattle.td_desk.specs.Content.{Content, content_after}
+use Rattle.td_desk.specs.Sound.{IsSound}
+use Rattle.td_tables.specs.Tables.{Tables, AreTablesOf}
+use Rattle.td_tables.specs.Gathering.{content_of}
+use Rattle.td_tables.specs.Changes.{tables_after, HaveSameRows, CanBeWritten}
+
+-- tables that have just the rows of sound content have that content
+abbrev pub ContentIsOfTables : Type 0
+ContentIsOfTables = (t : Tables) (c : Content) → IsSound c → AreTablesOf t c → content_of t ≡ c
+
+-- The statements of a change turn tables of a content into tables of the content after the change, and the new tables have
+-- that content.
+abbrev pub ChangesAreWritten : Type 0
+ChangesAreWritten =
+    (change : Change) (old new : Tables) (c : Content) → IsSound c → IsSound (content_after change c)
+    → CanBeWritten c change → AreTablesOf old c → HaveSameRows (tables_after change old) new
+    → AreTablesOf new (content_after change c) × (content_of new ≡ content_after change c)

@@ -1,0 +1,5 @@
+pub mod Tables
+pub mod Gathering
+pub mod Apart
+pub mod Changes
+pub mod Laws

@@ -1,0 +1,7 @@
+//! The six tables of a desk's file, what content they hold, and what the statements of each change do to them. It knows no
+//! SQL.
+#![tactic(auto)]
+
+mod laws;
+
+pub use laws::content_is_of_tables;
