@@ -6,3 +6,8 @@ pub mod Ranks
 pub mod Owned
 pub mod References
 pub mod Gathered
+pub mod WithCodes
+pub mod Following
+pub mod OwnRows
+pub mod Changing
+pub mod Decided

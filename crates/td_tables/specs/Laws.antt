@@ -1,8 +1,10 @@
 -- The laws of the tables.
 use Rattle.std.specs.Prelude.{◌≡◌}
 use Rattle.td_acts.specs.declared.rows.Change.{Change}
+use Rattle.td_acts.specs.declared.rows.Verdict.{Verdict}
 use Rattle.td_desk.specs.Content.{Content, content_after}
 use Rattle.td_desk.specs.Sound.{IsSound}
+use Rattle.td_desk.specs.Weighing.{IsDecision}
 use Rattle.td_tables.specs.Tables.{Tables, AreTablesOf}
 use Rattle.td_tables.specs.Gathering.{content_of}
 use Rattle.td_tables.specs.Changes.{tables_after, HaveSameRows, CanBeWritten}
@@ -18,3 +20,10 @@ ChangesAreWritten =
     (change : Change) (old new : Tables) (c : Content) → IsSound c → IsSound (content_after change c)
     → CanBeWritten c change → AreTablesOf old c → HaveSameRows (tables_after change old) new
     → AreTablesOf new (content_after change c) × (content_of new ≡ content_after change c)
+
+-- The same of what a desk decides on a command over that content: its statements write it.
+abbrev pub DecisionsAreWritten : Type 0
+DecisionsAreWritten =
+    (v : Verdict) (old new : Tables) (c : Content) → IsSound c → IsDecision c v → AreTablesOf old c
+    → HaveSameRows (tables_after v.change old) new
+    → AreTablesOf new (content_after v.change c) × (content_of new ≡ content_after v.change c)

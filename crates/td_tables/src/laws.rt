@@ -1,7 +1,17 @@
 //! Laws of the tables, as contracts of functions that do nothing.
-ghost use Rattle.td_tables.specs.Laws.{ContentIsOfTables};
+ghost use Rattle.td_tables.specs.Laws.{ChangesAreWritten, ContentIsOfTables, DecisionsAreWritten};
 
 /// Tables that have just the rows of sound content have that content.
 pub fn content_is_of_tables()
     ensures { ContentIsOfTables }
+{}
+
+/// The statements of a change turn tables of a content into tables of the content after the change.
+pub fn changes_are_written()
+    ensures { ChangesAreWritten }
+{}
+
+/// The statements of what a desk decides on a command write it.
+pub fn decisions_are_written()
+    ensures { DecisionsAreWritten }
 {}

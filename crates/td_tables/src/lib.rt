@@ -4,4 +4,4 @@
 
 mod laws;
 
-pub use laws::content_is_of_tables;
+pub use laws::{changes_are_written, content_is_of_tables, decisions_are_written};
