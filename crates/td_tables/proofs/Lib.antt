@@ -11,3 +11,9 @@ pub mod Following
 pub mod OwnRows
 pub mod Changing
 pub mod Decided
+pub mod Rebuilt
+pub mod Ruled
+pub mod Pairs
+pub mod RuledSound
+pub mod Keeping
+pub mod KeepingRules

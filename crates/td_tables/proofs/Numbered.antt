@@ -2,6 +2,7 @@
 use Rattle.std.proofs.Common.{◌≡◌, ℕ, suc, ◌+◌, List, [], ◌∷◌, ◌++◌, length, map, refl, ◌∙◌, ap, ap₂, arith}
 use Rattle.std.specs.List.{AllByRecursion}
 use Rattle.keyed_rows.specs.Rows.{Rises}
+use Rattle.td_tables.specs.Apart.{IsNumbered}
 use Rattle.td_tables.proofs.Orders.{rises_lower}
 use Rattle.td_acts.specs.Sound.{AllNumbered}
 use Rattle.td_tables.specs.Tables.{numbered}
@@ -46,6 +47,16 @@ module _ {X : Type 0} where
   pub length-numbered : (n : ℕ) (xs : List X) → length (numbered n xs) ≡ length xs
   length-numbered n [] = refl
   length-numbered n (x ∷ xs) = ap suc (length-numbered (n + 1) xs)
+
+-- what is made of numbered elements is numbered
+pub numbered_made : {X R : Type 0} (key : R → ℕ) (f : ℕ × X → R) → ((p : ℕ × X) → key (f p) ≡ p.0) → (n : ℕ) (xs : List X) → IsNumbered key n (map f (numbered n xs))
+numbered_made key f is n [] = tt
+numbered_made key f is n (x ∷ xs) = (is (n + 1, x), numbered_made key f is (n + 1) xs)
+
+-- what holds of each holds of it with its number
+pub all_with_numbers : {X : Type 0} (P : X → Type 0) (n : ℕ) (xs : List X) → AllByRecursion P xs → AllByRecursion (λ (p : ℕ × X). P p.1) (numbered n xs)
+all_with_numbers P n [] all = tt
+all_with_numbers P n (x ∷ xs) all = (all.0, all_with_numbers P (n + 1) xs all.1)
 
 -- where each element gives the same by two functions, so do all
 pub map_same : {X Y : Type 0} (f g : X → Y) (xs : List X) → AllByRecursion (λ x. f x ≡ g x) xs → map f xs ≡ map g xs

@@ -1,10 +1,13 @@
 -- Access codes as numbers: they rise as the codes do.
-use Rattle.std.proofs.Common.{◌≡◌, ℕ, ◌+◌, ◌<◌, ◌≤◌, Bool, true, false, cond, List, [], ◌∷◌, length, refl, arith, inl, inr}
+use Rattle.std.proofs.Common.{◌≡◌, ℕ, ◌+◌, ◌<◌, ◌≤◌, Bool, true, false, cond, List, [], ◌∷◌, length, filter, refl, sym, ◌∙◌, ap, arith, inl, inr}
 use Rattle.std.specs.Prelude.{◌==◌, nat_lt, All, ◌⊎◌}
 use Rattle.std.specs.List.{AllByRecursion}
+use Rattle.std.specs.Str.{bytes_eq}
 use Rattle.std.proofs.lemmas.Bool.Decides.{nat_tests}
-use Rattle.sqlite_trees.proofs.ListLemmas.{all_both}
+use Rattle.std.proofs.lemmas.Slice.Eq.{bytes_eq-Decides}
+use Rattle.sqlite_trees.proofs.ListLemmas.{all_weaker, all_both, all-filter, filter_same}
 use Rattle.keyed_rows.specs.Rows.{Rises}
+use Rattle.td_tables.specs.Apart.{IsApart, IsTextApart}
 use Rattle.td_tables.proofs.Orders.{rises_above}
 use Rattle.std.specs.Ordering.{nat_cmp, ordering_then}
 use Rattle.std.specs.declared.cmp.Ordering.{Ordering}
@@ -14,7 +17,13 @@ use Rattle.std.specs.List.Sorted.{IsStrictlySortedBy}
 use Rattle.ascii_text.specs.Letters.{IsMark}
 use Rattle.td_base.specs.Codes.{IsAccessCode}
 use Rattle.td_guarantee.specs.Codes.{AreAscending}
-use Rattle.td_tables.specs.Gathering.{text_rank}
+use Rattle.std.specs.Ordering.{is_eq, ordering_reverse}
+use Rattle.std.proofs.lemmas.Cmp.{nat_list_cmp_total}
+use Rattle.std.proofs.lemmas.Map.Text.{is_eq-slice_cmp}
+use Rattle.std.specs.Cmp.{both_ways}
+use Rattle.td_tables.specs.Tables.{Keyed}
+use Rattle.td_tables.specs.Gathering.{text_rank, code_rank, of_key}
+use Rattle.td_tables.proofs.Grouped.{of_key_has}
 
 abbrev cmp : List ℕ → List ℕ → Ordering
 cmp = slice_cmp nat_cmp
@@ -159,3 +168,30 @@ ranks_ascend low (code ∷ codes) form rise = (
   all_both IsAccessCode (λ c. text_rank code + 1 ≤ text_rank c) (λ c. cmp code c ≡ Less) (λ c is above. below_by_rank code c form.0 is (omega (arith, above))) codes form.1 (rises_above text_rank (text_rank code + 1) codes rise.1),
   ranks_ascend (text_rank code + 1) codes form.1 rise.1,
 )
+
+-- codes of one rank are one code
+pub one_rank : (s t : List ℕ) → IsAccessCode s → IsAccessCode t → text_rank s ≡ text_rank t → s ≡ t
+one_rank s t is_s is_t same = by_order (cmp s t) refl
+  where
+    by_order : (o : Ordering) → cmp s t ≡ o → s ≡ t
+    by_order Less is = absurd (let up = rank_below s t is_s is_t is in omega (arith, up, same))
+    by_order Equal is = (bytes_eq-Decides s t).0 (sym (is_eq-slice_cmp s t) ∙ ap is_eq is)
+    by_order Greater is =
+        let back : cmp t s ≡ Less = nat_list_cmp_total.antisymm t s ∙ ap ordering_reverse is in
+        absurd (let up = rank_below t s is_t is_s back in omega (arith, up, same))
+
+-- codes of which no two are one text have no rank twice
+pub ranks_apart : (rows : List (Keyed (List ℕ))) → AllByRecursion (λ (c : Keyed (List ℕ)). IsAccessCode c.row) rows → IsTextApart (λ (c : Keyed (List ℕ)). c.row) rows → IsApart code_rank rows
+ranks_apart rows form apart k = by_rows (of_key code_rank k rows) refl (of_key_has code_rank k rows) (all-filter (λ (c : Keyed (List ℕ)). IsAccessCode c.row) (λ r. code_rank r == k) rows form)
+  where
+    as_text : (x : Keyed (List ℕ)) → code_rank x ≡ k → IsAccessCode x.row → (r : Keyed (List ℕ)) → IsAccessCode r.row → (code_rank r == k) ≡ bytes_eq r.row x.row
+    as_text x has is r is_r = both_ways (code_rank r == k) (bytes_eq r.row x.row)
+        (λ same. (bytes_eq-Decides r.row x.row).1 (one_rank r.row x.row is_r is (let e : code_rank r ≡ k = grind (arith, nat_tests, same) in e ∙ sym has)))
+        (λ same. let e : code_rank r ≡ k = ap text_rank ((bytes_eq-Decides r.row x.row).0 same) ∙ has in grind (arith, nat_tests, e))
+
+    by_rows : (l : List (Keyed (List ℕ))) → of_key code_rank k rows ≡ l → AllByRecursion (λ r. code_rank r ≡ k) l → AllByRecursion (λ (c : Keyed (List ℕ)). IsAccessCode c.row) l → length (of_key code_rank k rows) ≤ 1
+    by_rows [] none has is = omega (arith, ap length none)
+    by_rows (x ∷ l) some has is =
+        let same : of_key code_rank k rows ≡ filter (λ r. bytes_eq r.row x.row) rows =
+        filter_same (λ r. code_rank r == k) (λ r. bytes_eq r.row x.row) rows (all_weaker (λ (c : Keyed (List ℕ)). IsAccessCode c.row) (λ r. (code_rank r == k) ≡ bytes_eq r.row x.row) (as_text x has.0 is.0) rows form) in
+        omega (arith, ap length same, apart x.row)

@@ -4,4 +4,6 @@
 
 mod laws;
 
-pub use laws::{changes_are_written, content_is_of_tables, decisions_are_written};
+pub use laws::{
+    changes_are_written, content_is_of_tables, decisions_are_written, rules_mean_sound_content,
+};
