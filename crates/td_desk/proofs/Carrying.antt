@@ -16,7 +16,8 @@ use Rattle.td_acts.specs.Sound.{AreHolderRows}
 use Rattle.td_acts.proofs.AcceptedRows.{nobody_writes}
 use Rattle.td_acts.proofs.Following.{follows_on, row_after, nothing_without_row}
 use Rattle.td_acts.proofs.Growing.{account_said_after}
-use Rattle.td_desk.specs.Content.{Content, account_in, rows_of, fresh, content_after, content_after_row, holder_key}
+use Rattle.td_holder_file.specs.Key.{holder_key}
+use Rattle.td_desk.specs.Content.{Content, account_in, rows_of, fresh, content_after, content_after_row}
 use Rattle.keyed_rows.specs.Rows.{put_row}
 use Rattle.td_desk.specs.Sound.{IsSound}
 use Rattle.td_desk.specs.Weighing.{account_for, owner_account, Carries}

@@ -2,7 +2,8 @@
 use Rattle.td_acts.specs.Account.{ReferencesDiffer}
 use Rattle.td_acts.specs.Sound.{AreHolderRows}
 use Rattle.td_acts.proofs.Differing.{differ_with}
-use Rattle.td_desk.specs.Content.{Content, account_in, rows_of, holder_key}
+use Rattle.td_holder_file.specs.Key.{holder_key}
+use Rattle.td_desk.specs.Content.{Content, account_in, rows_of}
 use Rattle.td_desk.specs.Sound.{IsSound}
 use Rattle.keyed_rows.proofs.Putting.{All-row_at}
 use Rattle.std.proofs.Common.{ℕ}

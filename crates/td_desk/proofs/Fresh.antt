@@ -6,7 +6,8 @@ use Rattle.td_acts.specs.Account.{HolderRows, account_with, IsAccountOf}
 use Rattle.td_acts.specs.Book.{account_of}
 use Rattle.td_commands.specs.Commands.{owner_of}
 use Rattle.td_acts.proofs.Growing.{account_fresh_book}
-use Rattle.td_desk.specs.Content.{Content, account_in, rows_of, fresh, holder_key}
+use Rattle.td_holder_file.specs.Key.{holder_key}
+use Rattle.td_desk.specs.Content.{Content, account_in, rows_of, fresh}
 use Rattle.td_desk.specs.Weighing.{account_for, owner_account, kept_for, kept_of}
 use Rattle.keyed_rows.proofs.Putting.{row_at_has}
 

@@ -7,14 +7,11 @@ use Rattle.td_acts.specs.Account.{Account, HolderRows, account_with}
 use Rattle.td_acts.specs.Book.{Book, fresh_book}
 use Rattle.td_acts.specs.Changes.{row_in, rows_after, rows_or_new}
 use Rattle.keyed_rows.specs.Rows.{row_at, put_row}
+use Rattle.td_holder_file.specs.Key.{holder_key}
 
 pub record Content : Type 0 where
   pub country : List ℕ
   pub holders : List HolderRows
-
--- the number under which a holder's rows stand
-abbrev pub holder_key : HolderRows → ℕ
-holder_key h = h.row.holder
 
 -- H's rows
 abbrev pub rows_of : ℕ → Content → Option HolderRows

@@ -3,7 +3,8 @@ use Rattle.std.specs.List.{AllByRecursion}
 use Rattle.td_base.specs.Country.{IsCountry}
 use Rattle.td_acts.specs.Sound.{AreHolderRows}
 use Rattle.keyed_rows.specs.Rows.{Rises}
-use Rattle.td_desk.specs.Content.{Content, holder_key}
+use Rattle.td_holder_file.specs.Key.{holder_key}
+use Rattle.td_desk.specs.Content.{Content}
 
 -- the rows keep their rules
 pub record IsSound (rows : Content) : Type 0 where

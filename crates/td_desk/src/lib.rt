@@ -2,18 +2,12 @@
 //! commands.
 #![tactic(auto)]
 
-mod changes;
 mod decision;
 mod desk;
 mod fault;
-mod file;
-mod guarantee_rows;
 mod laws;
-mod lookups;
-mod movement_rows;
 mod plain;
 mod running;
-mod serials;
 mod store;
 #[cfg(test)]
 mod tests;

@@ -1,7 +1,5 @@
 //! A desk over a store that may fail and shut, and runs at both desks.
-mod loads;
 mod lodging;
-mod rows;
 mod store;
 
 use crate::{Desk, Outcome, PlainDesk, run};

@@ -21,7 +21,8 @@ use Rattle.td_acts.specs.Account.{HolderRows, at_grn, coded, uncoded, guarantee_
 use Rattle.td_acts.specs.Changes.{with_terms, moved, row_in, rows_after, rows_or_new}
 use Rattle.td_acts.specs.Sound.{AreHolderRows, AllNumbered, IsGuaranteeRow}
 use Rattle.td_acts.specs.Table.{stands}
-use Rattle.td_desk.specs.Content.{Content, holder_key, rows_of, content_after, content_after_row}
+use Rattle.td_holder_file.specs.Key.{holder_key}
+use Rattle.td_desk.specs.Content.{Content, rows_of, content_after, content_after_row}
 use Rattle.td_desk.specs.Sound.{IsSound}
 use Rattle.td_tables.specs.Tables.{Keyed, Tables, AreTablesOf, numbered, guarantee_row, guarantee_no, code_row, code_rows, movement_row, line_rows, guarantees_in, codes_in, movements_in, lines_in}
 use Rattle.td_tables.specs.Gathering.{owner, holder_no, content_of}

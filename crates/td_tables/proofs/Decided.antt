@@ -22,7 +22,8 @@ use Rattle.td_acts.specs.Deciding.{change_of, change_in, decision_on}
 use Rattle.td_acts.specs.Table.{stands}
 use Rattle.td_acts.proofs.Accepted.{IsFor, named_facts, passed}
 use Rattle.td_acts.proofs.AcceptedRows.{change_in_is_for, moment_is, nobody_writes}
-use Rattle.td_desk.specs.Content.{Content, holder_key, rows_of, account_in, content_after}
+use Rattle.td_holder_file.specs.Key.{holder_key}
+use Rattle.td_desk.specs.Content.{Content, rows_of, account_in, content_after}
 use Rattle.td_desk.specs.Sound.{IsSound}
 use Rattle.td_desk.specs.Weighing.{account_for, owner_account, IsDecision}
 use Rattle.td_desk.proofs.Carrying.{carries}

@@ -7,7 +7,8 @@ use Rattle.std.proofs.lemmas.List.Sorted.{IsPermutation-sym, IsPermutation-map, 
 use Rattle.sqlite_trees.proofs.ListLemmas.{filter_as_flat_map, flat_map-one, IsPermutation-same, IsPermutation-filter}
 use Rattle.keyed_rows.specs.Rows.{row_at, Rises, put_row}
 use Rattle.td_acts.specs.Account.{HolderRows}
-use Rattle.td_desk.specs.Content.{Content, holder_key}
+use Rattle.td_holder_file.specs.Key.{holder_key}
+use Rattle.td_desk.specs.Content.{Content}
 use Rattle.td_tables.specs.Tables.{Tables, AreTablesOf}
 use Rattle.td_tables.specs.Changes.{HaveSameRows}
 use Rattle.td_tables.proofs.Edits.{put_in_table}

@@ -10,7 +10,8 @@ use Rattle.td_movement.specs.declared.line.Line.{Line}
 use Rattle.td_movement.specs.declared.movement.Movement.{Movement}
 use Rattle.td_acts.specs.Account.{HolderRows, guarantee_by_grn}
 use Rattle.td_acts.specs.Sound.{AreHolderRows, IsGuaranteeRow, IsMovementRow}
-use Rattle.td_desk.specs.Content.{Content, holder_key}
+use Rattle.td_holder_file.specs.Key.{holder_key}
+use Rattle.td_desk.specs.Content.{Content}
 use Rattle.td_desk.specs.Sound.{IsSound}
 use Rattle.td_tables.specs.Tables.{Keyed, Tables, AreTablesOf, numbered, guarantee_row, code_row, code_rows, movement_row, line_row, line_rows, guarantees_in, codes_in, movements_in, lines_in}
 use Rattle.td_tables.specs.Gathering.{in_order, of_key, owner, place, no_of, code_rank, holder_no, part, guarantees_by, codes_by, movements_by, lines_by, with_codes, with_lines, line_from, gathered, content_of}

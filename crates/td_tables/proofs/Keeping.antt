@@ -21,7 +21,8 @@ use Rattle.td_movement.specs.declared.movement.Movement.{Movement}
 use Rattle.td_acts.specs.declared.rows.HolderRow.{HolderRow}
 use Rattle.td_acts.specs.Account.{HolderRows}
 use Rattle.td_acts.specs.Sound.{AreHolderRows, IsGuaranteeRow}
-use Rattle.td_desk.specs.Content.{Content, holder_key}
+use Rattle.td_holder_file.specs.Key.{holder_key}
+use Rattle.td_desk.specs.Content.{Content}
 use Rattle.td_desk.specs.Sound.{IsSound}
 use Rattle.td_tables.specs.Tables.{Keyed, Tables, AreTablesOf, numbered, guarantee_row, code_row, code_rows, movement_row, line_rows, guarantees_in, codes_in, movements_in, lines_in}
 use Rattle.td_tables.specs.Gathering.{of_key, owner, place, no_of, holder_no, part}

@@ -6,7 +6,7 @@ use Rattle.keyed_rows.specs.Rows.{Rises}
 use Rattle.td_guarantee.specs.declared.guarantee.Guarantee.{Guarantee}
 use Rattle.td_movement.specs.declared.movement.Movement.{Movement}
 use Rattle.td_acts.specs.Account.{HolderRows}
-use Rattle.td_desk.specs.Content.{holder_key}
+use Rattle.td_holder_file.specs.Key.{holder_key}
 use Rattle.td_tables.specs.Tables.{numbered, guarantee_row, code_row, code_rows, movement_row, line_row, line_rows, guarantees_in, codes_in, movements_in, lines_in}
 use Rattle.td_acts.specs.Sound.{AreCodes}
 use Rattle.td_base.specs.Codes.{IsAccessCode}

@@ -27,7 +27,7 @@ use Rattle.td_acts.specs.declared.rows.HolderRow.{HolderRow}
 use Rattle.td_acts.specs.Account.{guarantee_by_grn}
 use Rattle.td_acts.specs.Sound.{AreCodes, AreMovementLines, IsGuaranteeRow, IsMovementRow, AreHolderRows}
 use Rattle.td_acts.proofs.Joined.{AllPairs-map}
-use Rattle.td_desk.specs.Content.{holder_key}
+use Rattle.td_holder_file.specs.Key.{holder_key}
 use Rattle.td_desk.specs.Sound.{IsSound}
 use Rattle.td_tables.specs.Tables.{Keyed, LineCells, Tables, guarantee_no}
 use Rattle.td_tables.specs.Gathering.{in_order, of_key, owner, place, no_of, code_rank, text_rank, holder_no, part, guarantees_by, codes_by, movements_by, lines_by, grn_by, with_codes, with_lines, line_from, gathered, content_of}

@@ -3,7 +3,7 @@ use Rattle.std.specs.Prelude.{option_map}
 use Rattle.td_acts.specs.Account.{Account, account_with}
 use Rattle.td_acts.specs.Deciding.{IsLoaded}
 use Rattle.td_commands.specs.Commands.{need_said}
-use Rattle.td_desk.specs.Content.{holder_key}
+use Rattle.td_holder_file.specs.Key.{holder_key}
 use Rattle.td_desk.specs.Plain.{rows_in}
 use Rattle.keyed_rows.specs.Rows.{row_at}
 use Rattle.td_desk.specs.Weighing.{kept_for}

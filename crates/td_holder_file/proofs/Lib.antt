@@ -1,0 +1,6 @@
+mod PlaceOfLrn
+mod Found
+mod Loading
+mod Mapping
+mod BySerial
+mod Indexed

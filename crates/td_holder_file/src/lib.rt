@@ -1,0 +1,13 @@
+//! The rows of one holder in memory: what a change does to them, and what is loaded of them.
+#![tactic(auto)]
+
+mod changes;
+mod file;
+mod guarantee_rows;
+mod lookups;
+mod movement_rows;
+mod serials;
+#[cfg(test)]
+mod tests;
+
+pub use file::HolderFile;
