@@ -1,0 +1,42 @@
+-- The laws of the tables.
+use Rattle.std.specs.Prelude.{◌≡◌, ◌↔◌}
+use Rattle.td_acts.specs.declared.rows.Change.{Change}
+use Rattle.td_acts.specs.declared.rows.Verdict.{Verdict}
+use Rattle.td_desk.specs.Content.{Content, content_after}
+use Rattle.td_desk.specs.Sound.{IsSound}
+use Rattle.td_desk.specs.Weighing.{IsDecision}
+use Rattle.td_tables.specs.Tables.{Tables, AreTablesOf}
+use Rattle.td_tables.specs.Gathering.{content_of}
+use Rattle.td_tables.specs.Changes.{tables_after, HaveSameRows, CanBeWritten}
+use Rattle.td_tables.specs.Rules.{KeepRules}
+
+-- tables that have just the rows of sound content have that content
+abbrev pub ContentIsOfTables : Type 0
+ContentIsOfTables = (t : Tables) (c : Content) → IsSound c → AreTablesOf t c → content_of t ≡ c
+
+-- The statements of a change turn tables of a content into tables of the content after the change, and the new tables have
+-- that content.
+abbrev pub ChangesAreWritten : Type 0
+ChangesAreWritten =
+    (change : Change) (old new : Tables) (c : Content) → IsSound c → IsSound (content_after change c)
+    → CanBeWritten c change → AreTablesOf old c → HaveSameRows (tables_after change old) new
+    → AreTablesOf new (content_after change c) × (content_of new ≡ content_after change c)
+
+-- The same of what a desk decides on a command over that content: its statements write it.
+abbrev pub DecisionsAreWritten : Type 0
+DecisionsAreWritten =
+    (v : Verdict) (old new : Tables) (c : Content) → IsSound c → IsDecision c v → AreTablesOf old c
+    → HaveSameRows (tables_after v.change old) new
+    → AreTablesOf new (content_after v.change c) × (content_of new ≡ content_after v.change c)
+
+-- tables that keep the rules are tables of the content that they hold
+abbrev pub RuledTablesAreOfContent : Type 0
+RuledTablesAreOfContent = (t : Tables) → KeepRules t → AreTablesOf t (content_of t)
+
+-- and this content is sound
+abbrev pub RuledContentIsSound : Type 0
+RuledContentIsSound = (t : Tables) → KeepRules t → IsSound (content_of t)
+
+-- tables keep the rules exactly where they are the tables of some sound content
+abbrev pub RulesMeanSoundContent : Type 0
+RulesMeanSoundContent = (t : Tables) → KeepRules t ↔ ((c : Content) × IsSound c × AreTablesOf t c)

@@ -1,0 +1,7 @@
+pub mod Tables
+pub mod Gathering
+pub mod Apart
+pub mod Changes
+pub mod Stored
+pub mod Rules
+pub mod Laws

@@ -1,0 +1,25 @@
+//! Laws of the tables, as contracts of functions that do nothing.
+ghost use Rattle.td_tables.specs.Laws.{ChangesAreWritten, ContentIsOfTables, DecisionsAreWritten, RuledContentIsSound, RuledTablesAreOfContent, RulesMeanSoundContent};
+
+/// Tables that have just the rows of sound content have that content.
+pub fn content_is_of_tables()
+    ensures { ContentIsOfTables }
+{}
+
+/// The statements of a change turn tables of a content into tables of the content after the change.
+pub fn changes_are_written()
+    ensures { ChangesAreWritten }
+{}
+
+/// The statements of what a desk decides on a command write it.
+pub fn decisions_are_written()
+    ensures { DecisionsAreWritten }
+{}
+
+/// Tables keep the rules exactly where they are the tables of some sound content; and then they are those of the content
+/// that they hold, which is sound.
+pub fn rules_mean_sound_content()
+    ensures of_content { RuledTablesAreOfContent }
+    ensures sound { RuledContentIsSound }
+    ensures exactly { RulesMeanSoundContent }
+{}
