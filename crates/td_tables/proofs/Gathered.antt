@@ -79,7 +79,7 @@ module _ (country : List ℕ) (t : Tables) (h : HolderRows) (form : IsCountry co
       codes_back n [] = refl
       codes_back n (c ∷ codes) = ap (λ l. c ∷ l) (codes_back n codes)
 
-  guarantees_back : map (with_codes t) (guarantees_by h.row.holder t) ≡ h.guarantees
+  pub guarantees_back : map (with_codes t) (guarantees_by h.row.holder t) ≡ h.guarantees
   guarantees_back =
       ap (map (with_codes t)) guarantees_are ∙ map-map (with_codes t) (guarantee_row h.row.holder) (numbered 0 h.guarantees)
       ∙ map_same (λ p. with_codes t (guarantee_row h.row.holder p)) element (numbered 0 h.guarantees) (all_weaker (λ (p : ℕ × Guarantee). codes_by h.row.holder p.0 t ≡ code_rows h.row.holder p) (λ p. with_codes t (guarantee_row h.row.holder p) ≡ element p) guarantee_back (numbered 0 h.guarantees) codes_are)
@@ -99,7 +99,7 @@ module _ (country : List ℕ) (t : Tables) (h : HolderRows) (form : IsCountry co
   movement_back : (p : ℕ × Movement) → lines_by h.row.holder p.0 t ≡ line_rows country h.row.holder p → IsMovementRow country h.row.holder h.guarantees p.0 p.1 → with_lines t (movement_row h.row.holder p) ≡ p.1
   movement_back p are is = ap (λ rows. record p.1 { lines = map (line_from t) rows }) are ∙ ap (λ ls. record p.1 { lines = ls }) (lines_back p.0 0 p.1.lines is.lines.own)
 
-  movements_back : map (with_lines t) (movements_by h.row.holder t) ≡ h.movements
+  pub movements_back : map (with_lines t) (movements_by h.row.holder t) ≡ h.movements
   movements_back =
       ap (map (with_lines t)) movements_are ∙ map-map (with_lines t) (movement_row h.row.holder) (numbered 0 h.movements)
       ∙ map_same (λ p. with_lines t (movement_row h.row.holder p)) element (numbered 0 h.movements)

@@ -38,7 +38,7 @@ use Rattle.td_tables.proofs.Pairs.{pairs_with, pairs_text_apart, text_apart_perm
 text_apart-map : {X Y : Type 0} (key : Y → List ℕ) (f : X → Y) (xs : List X) → IsTextApart (λ x. key (f x)) xs → IsTextApart key (map f xs)
 text_apart-map key f xs apart k = omega (arith, apart k, ap length (filter-map (λ y. bytes_eq (key y) k) f xs), length-map (filter (λ x. bytes_eq (key (f x)) k) xs) f)
 
-text_apart_from_map : {X Y : Type 0} (key : Y → List ℕ) (f : X → Y) (xs : List X) → IsTextApart key (map f xs) → IsTextApart (λ x. key (f x)) xs
+pub text_apart_from_map : {X Y : Type 0} (key : Y → List ℕ) (f : X → Y) (xs : List X) → IsTextApart key (map f xs) → IsTextApart (λ x. key (f x)) xs
 text_apart_from_map key f xs apart k = omega (arith, apart k, ap length (filter-map (λ y. bytes_eq (key y) k) f xs), length-map (filter (λ x. bytes_eq (key (f x)) k) xs) f)
 
 -- codes in ascending order are different texts
@@ -52,7 +52,7 @@ ascending_pairs (code ∷ codes) order =
 
 module _ (t : Tables) (c : Content) (sound : IsSound c) (are : AreTablesOf t c) where
   -- the part of a number of a table is what the content has of it there
-  part_of : {X : Type 0} (f : HolderRows → List (Keyed X)) → ((h : HolderRows) → AllByRecursion (λ x. owner x ≡ holder_key h) (f h)) → (rows : List (Keyed X)) → IsPermutation (flat_map f c.holders) rows
+  pub part_of : {X : Type 0} (f : HolderRows → List (Keyed X)) → ((h : HolderRows) → AllByRecursion (λ x. owner x ≡ holder_key h) (f h)) → (rows : List (Keyed X)) → IsPermutation (flat_map f c.holders) rows
       → (H : ℕ) → IsPermutation (option_map_or f (row_at holder_key H c.holders) []) (part H rows)
   part_of f owned rows same H = subst (λ l. IsPermutation l (part H rows)) (flat_of holder_key owner f owned H 0 c.holders sound.order) (IsPermutation-filter (λ r. owner r == H) (flat_map f c.holders) rows same)
 

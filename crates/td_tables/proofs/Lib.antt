@@ -17,3 +17,5 @@ pub mod Pairs
 pub mod RuledSound
 pub mod Keeping
 pub mod KeepingRules
+pub mod Looked
+pub mod Counting

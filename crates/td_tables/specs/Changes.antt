@@ -1,5 +1,5 @@
--- What the statements of each change do to the tables: one INSERT a new row, one UPDATE a row that changes, one DELETE a
--- row that goes.
+-- What the statements of each change do to the tables: one INSERT a new row, one UPDATE a row that changes, one
+-- DELETE a row that goes.
 use Rattle.std.specs.Prelude.{◌≡◌, ℕ, ◌==◌, Bool, false, ◌&&◌, not, if◌then◌else◌, List, ◌∷◌, ◌++◌, map, filter, Some, None, IsSome}
 use Rattle.std.specs.List.Sorted.{IsPermutation}
 use Rattle.std.specs.Str.{bytes_eq}
@@ -33,8 +33,8 @@ with_terms_of H terms r =
 abbrev pub is_code_of : ℕ → ℕ → List ℕ → Keyed (List ℕ) → Bool
 is_code_of H n code r = r.holder == H && (r.serial == n && bytes_eq r.row code)
 
--- The tables after the statements of a change. A new row stands under the count in the holder's row, a code under the
--- serial in the GRN.
+-- The tables after the statements of a change. A new row stands under the count in the holder's row, a code
+-- under the serial in the GRN.
 abbrev pub tables_after : Change → Tables → Tables
 tables_after Nothing t = t
 tables_after (Registered row) t = record t { holders = row ∷ t.holders }
@@ -80,8 +80,9 @@ pub record HasGuarantee (c : Content) (H : ℕ) (grn : List ℕ) (Holds : Guaran
   pub found : guarantee_by_grn grn (account_in H c).guarantees ≡ Some guarantee
   pub holds : Holds guarantee
 
--- What a change asks of the content so that its statements write it: a new holder's number is free, any other change is of
--- a registered holder, and a code is put to a guarantee of the holder's that hasn't got it, or taken from one.
+-- What a change asks of the content so that its statements write it: a new holder's number is free, any other
+-- change is of a registered holder, and a code is put to a guarantee of the holder's that hasn't got it, or
+-- taken from one.
 abbrev pub CanBeWritten : Content → Change → Type 0
 CanBeWritten c Nothing = Unit {0}
 CanBeWritten c (Registered row) = rows_of row.holder c ≡ None

@@ -44,8 +44,8 @@ code_rank r = text_rank r.row
 abbrev pub part : {R : Type 0} → ℕ → List (Keyed R) → List (Keyed R)
 part H rows = of_key owner H rows
 
--- a holder's guarantees and movements by serial, the codes of guarantee n in their order, and the lines of movement n
--- by number
+-- a holder's guarantees and movements by serial, the codes of guarantee n in their order, and the lines of
+-- movement n by number
 abbrev pub guarantees_by : ℕ → Tables → List (Keyed Guarantee)
 guarantees_by H t = in_order place (part H t.guarantees)
 

@@ -1,12 +1,16 @@
 -- The laws of the tables.
-use Rattle.std.specs.Prelude.{◌≡◌, ◌↔◌}
+use Rattle.std.specs.Prelude.{◌≡◌, ◌↔◌, ℕ, List, map}
+use Rattle.std.specs.List.Sorted.{IsPermutation}
+use Rattle.td_guarantee.specs.Usage.{used_on}
+use Rattle.td_movement.specs.declared.movement.Movement.{Movement}
 use Rattle.td_acts.specs.declared.rows.Change.{Change}
 use Rattle.td_acts.specs.declared.rows.Verdict.{Verdict}
-use Rattle.td_desk.specs.Content.{Content, content_after}
+use Rattle.td_desk.specs.Content.{Content, account_in, content_after}
 use Rattle.td_desk.specs.Sound.{IsSound}
 use Rattle.td_desk.specs.Weighing.{IsDecision}
-use Rattle.td_tables.specs.Tables.{Tables, AreTablesOf}
-use Rattle.td_tables.specs.Gathering.{content_of}
+use Rattle.td_tables.specs.Tables.{Keyed, Tables, AreTablesOf}
+use Rattle.td_tables.specs.Gathering.{content_of, with_lines}
+use Rattle.td_tables.specs.Looking.{account_by, AreFoundIn, counting_rows}
 use Rattle.td_tables.specs.Changes.{tables_after, HaveSameRows, CanBeWritten}
 use Rattle.td_tables.specs.Rules.{KeepRules}
 
@@ -14,8 +18,8 @@ use Rattle.td_tables.specs.Rules.{KeepRules}
 abbrev pub ContentIsOfTables : Type 0
 ContentIsOfTables = (t : Tables) (c : Content) → IsSound c → AreTablesOf t c → content_of t ≡ c
 
--- The statements of a change turn tables of a content into tables of the content after the change, and the new tables have
--- that content.
+-- The statements of a change turn tables of a content into tables of the content after the change, and the new
+-- tables have that content.
 abbrev pub ChangesAreWritten : Type 0
 ChangesAreWritten =
     (change : Change) (old new : Tables) (c : Content) → IsSound c → IsSound (content_after change c)
@@ -40,3 +44,20 @@ RuledContentIsSound = (t : Tables) → KeepRules t → IsSound (content_of t)
 -- tables keep the rules exactly where they are the tables of some sound content
 abbrev pub RulesMeanSoundContent : Type 0
 RulesMeanSoundContent = (t : Tables) → KeepRules t ↔ ((c : Content) × IsSound c × AreTablesOf t c)
+
+-- what tables of sound content have of a holder's number is what the content has of it
+abbrev pub AccountsAreInTables : Type 0
+AccountsAreInTables =
+    (t : Tables) (c : Content) → IsSound c → AreTablesOf t c → (H : ℕ) → account_in H c ≡ account_by H t
+
+-- and a guarantee or a movement is found by its reference as its row is in the table
+abbrev pub RowsAreFoundInTables : Type 0
+RowsAreFoundInTables =
+    (t : Tables) (c : Content) → IsSound c → AreTablesOf t c → (H : ℕ) → AreFoundIn t H (account_in H c)
+
+-- the amount in use on any guarantee of a holder is that of the movements that count alone, in any order
+abbrev pub CountingRowsAreUse : Type 0
+CountingRowsAreUse =
+    (t : Tables) (c : Content) → IsSound c → AreTablesOf t c → (H : ℕ) (rows : List (Keyed Movement))
+    → IsPermutation (counting_rows H t) rows
+    → (grn : List ℕ) → used_on grn (map (with_lines t) rows) ≡ used_on grn (account_in H c).movements

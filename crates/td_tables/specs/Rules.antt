@@ -1,5 +1,5 @@
--- The rules of sound tables, beside what the database itself keeps: S1 of the country, S2 to S6 and S8 each of one holder's
--- rows. S7 is of tables that keep the amounts in use, which these don't.
+-- The rules of sound tables, beside what the database itself keeps: S1 of the country, S2 to S6 and S8 each of
+-- one holder's rows. S7 is of tables that keep the amounts in use, which these don't.
 use Rattle.std.specs.Prelude.{◌≡◌, ℕ, ◌%◌, ◌≤◌, List, length, IfSome, IsSome}
 use Rattle.std.specs.List.{AllByRecursion}
 use Rattle.keyed_rows.specs.Rows.{row_at}
@@ -37,8 +37,8 @@ pub record IsGuaranteeInRange (country : List ℕ) (g : Keyed Guarantee) : Type 
   pub cover : IsCover g.row.cover
   pub ends : IfSome g.row.ends IsDay
 
--- S3: the serials of the holder's guarantees are 1 to the count in the holder's row, none left out, and six digits hold
--- them; their columns are in range
+-- S3: the serials of the holder's guarantees are 1 to the count in the holder's row, none left out, and six
+-- digits hold them; their columns are in range
 pub record HasGuarantees (t : Tables) (row : HolderRow) : Type 0 where
   pub serials : IsNumbered place 0 (guarantees_by row.holder t)
   pub count : row.grn_count ≡ length (guarantees_by row.holder t)
@@ -51,13 +51,14 @@ count_of_codes t g = length (of_key place g.serial (part g.holder t.codes))
 
 -- S4: each of the holder's codes names a guarantee and is well formed, and each guarantee has 1 to 20
 pub record HasCodes (t : Tables) (row : HolderRow) : Type 0 where
-  pub name : AllByRecursion (λ c. IsSome (row_at place (place c) (guarantees_by row.holder t))) (part row.holder t.codes)
+  pub name : AllByRecursion (λ c. IsSome (row_at place (place c) (guarantees_by row.holder t)))
+      (part row.holder t.codes)
   pub form : AllByRecursion (λ (c : Keyed (List ℕ)). IsAccessCode c.row) (part row.holder t.codes)
   pub some : AllByRecursion (λ g. 1 ≤ count_of_codes t g) (guarantees_by row.holder t)
   pub most : AllByRecursion (λ g. count_of_codes t g ≤ 20) (guarantees_by row.holder t)
 
--- the columns of a movement: the MRN that is made of the year of its acceptance, the desk's country, the holder and this
--- serial, the rest in range, and the days and offices of its state
+-- the columns of a movement: the MRN that is made of the year of its acceptance, the desk's country, the holder
+-- and this serial, the rest in range, and the days and offices of its state
 pub record IsMovementInRange (country : List ℕ) (m : Keyed Movement) : Type 0 where
   pub mrn : m.row.mrn ≡ mrn_text (year_of m.row.accepted % 100) country m.holder m.serial
   pub lrn : IsLrn m.row.lrn
@@ -66,8 +67,8 @@ pub record IsMovementInRange (country : List ℕ) (m : Keyed Movement) : Type 0 
   pub accepted : IsDay m.row.accepted
   pub status : IsStatus m.row
 
--- S5: the serials of the holder's movements are 1 to the count in the holder's row, none left out, and seven digits hold
--- them; their columns are in range
+-- S5: the serials of the holder's movements are 1 to the count in the holder's row, none left out, and seven
+-- digits hold them; their columns are in range
 pub record HasMovements (t : Tables) (row : HolderRow) : Type 0 where
   pub serials : IsNumbered place 0 (movements_by row.holder t)
   pub count : row.mrn_count ≡ length (movements_by row.holder t)
@@ -78,20 +79,22 @@ pub record HasMovements (t : Tables) (row : HolderRow) : Type 0 where
 abbrev pub named_by : Keyed LineCells → ℕ
 named_by l = l.row.guarantee
 
--- the lines of a movement: numbered from 1 to at most 9, each on a guarantee of the holder's, no two on one, with amounts in
--- range
+-- the lines of a movement: numbered from 1 to at most 9, each on a guarantee of the holder's, no two on one,
+-- with amounts in range
 pub record AreLinesInRange (t : Tables) (m : Keyed Movement) : Type 0 where
   pub numbers : IsNumbered no_of 0 (lines_by m.holder m.serial t)
   pub some : 1 ≤ length (lines_by m.holder m.serial t)
   pub most : length (lines_by m.holder m.serial t) ≤ 9
-  pub name : AllByRecursion (λ l. IsSome (row_at place (named_by l) (guarantees_by m.holder t))) (lines_by m.holder m.serial t)
+  pub name : AllByRecursion (λ l. IsSome (row_at place (named_by l) (guarantees_by m.holder t)))
+      (lines_by m.holder m.serial t)
   pub apart : IsApart named_by (lines_by m.holder m.serial t)
   pub amounts : AllByRecursion (λ (l : Keyed LineCells). IsLineAmount l.row.cents) (lines_by m.holder m.serial t)
 
 -- S6: the lines of each of the holder's movements are as that asks, and none is without a movement
 pub record HasLines (t : Tables) (row : HolderRow) : Type 0 where
   pub columns : AllByRecursion (AreLinesInRange t) (movements_by row.holder t)
-  pub belong : AllByRecursion (λ l. IsSome (row_at place (place l) (movements_by row.holder t))) (part row.holder t.lines)
+  pub belong : AllByRecursion (λ l. IsSome (row_at place (place l) (movements_by row.holder t)))
+      (part row.holder t.lines)
 
 -- S8: on each of the holder's guarantees the amount in use is at most the reference amount
 abbrev pub IsHolderCovered : Tables → HolderRow → Type 0

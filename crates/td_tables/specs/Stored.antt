@@ -14,9 +14,10 @@ use Rattle.td_tables.specs.Apart.{IsApart, IsTextApart}
 abbrev pub AreOfHolders : {X : Type 0} → List HolderRow → List (Keyed X) → Type 0
 AreOfHolders holders rows = AllByRecursion (λ r. IsSome (row_at holder_no (owner r) holders)) rows
 
--- The range of holders' numbers, which the table of holders checks. The keys: a holder's number, a holder's serials of
--- guarantees and of movements, a guarantee's codes, a holder's LRNs, the numbers of a movement's lines. The references: each
--- row is of a holder that is there. And a row of a guarantee is without codes, one of a movement without lines.
+-- The range of holders' numbers, which the table of holders checks. The keys: a holder's number, a holder's
+-- serials of guarantees and of movements, a guarantee's codes, a holder's LRNs, the numbers of a movement's
+-- lines. The references: each row is of a holder that is there. And a row of a guarantee is without codes, one
+-- of a movement without lines.
 pub record AreStored (t : Tables) : Type 0 where
   pub numbers : AllByRecursion (λ (r : HolderRow). IsHolderNumber r.holder) t.holders
   pub holders : IsApart holder_no t.holders

@@ -1,5 +1,5 @@
--- The six tables of a desk's file as lists of rows, in no order, and when they are the tables of a content. The content
--- says what stands in each table, so no row can stand there that the content doesn't show.
+-- The six tables of a desk's file as lists of rows, in no order, and when they are the tables of a content. The
+-- content says what stands in each table, so no row can stand there that the content doesn't show.
 use Rattle.std.specs.Prelude.{◌≡◌, ℕ, ◌+◌, List, [], ◌∷◌, map, unwrap_or}
 use Rattle.std.specs.List.{flat_map}
 use Rattle.std.specs.List.Sorted.{IsPermutation}
@@ -23,8 +23,8 @@ pub record LineCells : Type 0 where
   pub guarantee : ℕ
   pub cents : ℕ
 
--- The tables. A guarantee stands in its table without its codes, a movement without its lines; `meta` is the country in
--- its one row.
+-- The tables. A guarantee stands in its table without its codes, a movement without its lines; `meta` is the
+-- country in its one row.
 pub record Tables : Type 0 where
   pub country : List ℕ
   pub holders : List HolderRow

@@ -1,5 +1,5 @@
 //! Laws of the tables, as contracts of functions that do nothing.
-ghost use Rattle.td_tables.specs.Laws.{ChangesAreWritten, ContentIsOfTables, DecisionsAreWritten, RuledContentIsSound, RuledTablesAreOfContent, RulesMeanSoundContent};
+ghost use Rattle.td_tables.specs.Laws.{AccountsAreInTables, ChangesAreWritten, ContentIsOfTables, CountingRowsAreUse, DecisionsAreWritten, RowsAreFoundInTables, RuledContentIsSound, RuledTablesAreOfContent, RulesMeanSoundContent};
 
 /// Tables that have just the rows of sound content have that content.
 pub fn content_is_of_tables()
@@ -16,10 +16,18 @@ pub fn decisions_are_written()
     ensures { DecisionsAreWritten }
 {}
 
-/// Tables keep the rules exactly where they are the tables of some sound content; and then they are those of the content
-/// that they hold, which is sound.
+/// Tables keep the rules exactly where they are the tables of some sound content; and then they are those of
+/// the content that they hold, which is sound.
 pub fn rules_mean_sound_content()
     ensures of_content { RuledTablesAreOfContent }
     ensures sound { RuledContentIsSound }
     ensures exactly { RulesMeanSoundContent }
+{}
+
+/// What a desk keeps of a holder is looked up in tables of its content: all of it, a guarantee or a movement by
+/// its reference, and the amounts in use by the movements that count.
+pub fn accounts_are_in_tables()
+    ensures account { AccountsAreInTables }
+    ensures found { RowsAreFoundInTables }
+    ensures in_use { CountingRowsAreUse }
 {}

@@ -1,9 +1,10 @@
-//! The six tables of a desk's file, what content they hold, and what the statements of each change do to them. It knows no
-//! SQL.
+//! The six tables of a desk's file: what content they hold, what is looked up in them, what the statements of
+//! each change do to them, and which rules they keep. It knows no SQL.
 #![tactic(auto)]
 
 mod laws;
 
 pub use laws::{
-    changes_are_written, content_is_of_tables, decisions_are_written, rules_mean_sound_content,
+    accounts_are_in_tables, changes_are_written, content_is_of_tables, decisions_are_written,
+    rules_mean_sound_content,
 };

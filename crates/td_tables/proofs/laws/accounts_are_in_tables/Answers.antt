@@ -1,0 +1,12 @@
+use Rattle.td_tables.proofs.Looked.{account_is, are_found}
+use Rattle.td_tables.proofs.Counting.{counting_is_use}
+use Rattle.td_tables.proofs.laws.accounts_are_in_tables.Goals as goal
+
+pub returns-clause-account : goal.returns-clause-account
+returns-clause-account c = account_is
+
+pub returns-clause-found : goal.returns-clause-found
+returns-clause-found c = are_found
+
+pub returns-clause-in_use : goal.returns-clause-in_use
+returns-clause-in_use c = counting_is_use

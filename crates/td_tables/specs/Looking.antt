@@ -1,0 +1,44 @@
+-- What is looked up in the tables: all that they have of a holder's number, and single rows by their references.
+use Rattle.std.specs.Prelude.{◌≡◌, ℕ, ◌==◌, ◌&&◌, List, map, filter, find, Option}
+use Rattle.std.specs.Option.{option_map}
+use Rattle.std.specs.Str.{bytes_eq}
+use Rattle.keyed_rows.specs.Rows.{row_at}
+use Rattle.td_guarantee.specs.declared.guarantee.Guarantee.{Guarantee}
+use Rattle.td_movement.specs.declared.movement.Movement.{Movement}
+use Rattle.td_movement.specs.States.{is_counting}
+use Rattle.td_acts.specs.Account.{Account, guarantee_by_grn, movement_by_mrn, movement_by_lrn}
+use Rattle.td_tables.specs.Tables.{Keyed, Tables}
+use Rattle.td_tables.specs.Gathering.{holder_no, guarantees_by, movements_by, with_codes, with_lines}
+
+-- what the tables have of a holder's number: nothing where nobody is registered under it
+abbrev pub account_by : ℕ → Tables → Account
+account_by H t = record {
+  country = t.country;
+  holder = row_at holder_no H t.holders;
+  guarantees = map (with_codes t) (guarantees_by H t);
+  movements = map (with_lines t) (movements_by H t);
+}
+
+-- the row of the holder's guarantee with a GRN, of the holder's movement with an MRN, and of that with an LRN
+abbrev pub row_by_grn : ℕ → List ℕ → Tables → Option (Keyed Guarantee)
+row_by_grn H grn t = find (λ g. g.holder == H && bytes_eq g.row.grn grn) t.guarantees
+
+abbrev pub row_by_mrn : ℕ → List ℕ → Tables → Option (Keyed Movement)
+row_by_mrn H mrn t = find (λ m. m.holder == H && bytes_eq m.row.mrn mrn) t.movements
+
+abbrev pub row_by_lrn : ℕ → List ℕ → Tables → Option (Keyed Movement)
+row_by_lrn H lrn t = find (λ m. m.holder == H && bytes_eq m.row.lrn lrn) t.movements
+
+-- a holder's guarantees and movements are found by their references as in the tables, there with their codes
+-- and lines
+pub record AreFoundIn (t : Tables) (H : ℕ) (account : Account) : Type 0 where
+  pub grns : (grn : List ℕ) → guarantee_by_grn grn account.guarantees
+      ≡ option_map (with_codes t) (row_by_grn H grn t)
+  pub mrns : (mrn : List ℕ) → movement_by_mrn mrn account.movements
+      ≡ option_map (with_lines t) (row_by_mrn H mrn t)
+  pub lrns : (lrn : List ℕ) → movement_by_lrn lrn account.movements
+      ≡ option_map (with_lines t) (row_by_lrn H lrn t)
+
+-- the rows of the holder's movements that count
+abbrev pub counting_rows : ℕ → Tables → List (Keyed Movement)
+counting_rows H t = filter (λ m. m.holder == H && is_counting m.row.state) t.movements
