@@ -12,5 +12,5 @@ mod tests;
 mod words;
 
 pub use jobs::perform;
-pub use laws::agreeing_jobs_tell_the_same;
+pub use laws::{agreeing_jobs_tell_the_same, agreeing_servings_tell_the_same};
 pub use program::{run_program, words_of};

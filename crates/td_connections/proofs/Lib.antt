@@ -1,3 +1,4 @@
 mod Visits
 mod Private
 mod Anyhow
+pub mod Alike

@@ -1,3 +1,4 @@
 pub mod Visits
 pub mod Private
 pub mod Sockets
+pub mod Laws

@@ -1,6 +1,7 @@
 -- What two streams, or two requests, tell one holder.
 use Rattle.std.proofs.Common.{◌≡◌, ℕ, ℤ, ◌+◌, Bool, true, false, List, [], ◌∷◌, ◌++◌, map, Option, None, Some, Result, Ok, Err, refl, sym, ◌∙◌, ap, subst}
 use Rattle.std.proofs.lemmas.Bool.{eq-eqb}
+use Rattle.std.proofs.lemmas.List.{append_assoc, append-nil}
 use Rattle.std.specs.Prelude.{if◌then◌else◌}
 use Rattle.td_commands.specs.declared.command.Command.{Command}
 use Rattle.td_acts.specs.Book.{Book}
@@ -22,14 +23,14 @@ use Rattle.td_http.specs.Serving.{Demand, command_in, heard_by, heard_in, told_b
 use Rattle.td_http.specs.Laws.{asked_by, asked_in, replies_by, replies_in, fault_told, TellAlike, IsDeskOf, IsRequestAt}
 
 -- the requests that did not fail
-abbrev still : List Demand → List Bool → List Demand
+abbrev pub still : List Demand → List Bool → List Demand
 still [] made = []
 still (r ∷ rs) [] = []
 still (r ∷ rs) (true ∷ made) = r ∷ still rs made
 still (r ∷ rs) (false ∷ made) = still rs made
 
 -- the replies to all of them, of the faults and of what was told beside
-abbrev filled : List (Option Fault) → List (List ℕ) → List (List ℕ)
+abbrev pub filled : List (Option Fault) → List (List ℕ) → List (List ℕ)
 filled [] told = []
 filled (None ∷ faults) [] = []
 filled (None ∷ faults) (bytes ∷ told) = bytes ∷ filled faults told
@@ -70,12 +71,20 @@ still_by country H (Ok command) at close reply later heard replies same =
     rw (heard_split country H command at close (is_made reply)) (still_first (is_holder H (owner_of country command)) (record { at = at; command = command }, close) reply later heard replies same)
 still_by country H (Err why) at close reply later heard replies same = same
 
--- what did not fail of what was asked
-heard_are : (country : List ℕ) (H before : ℕ) (es : List Exchange) → heard_in country H before es ≡ still (asked_in country H before es) (map is_made (replies_in country H before es))
-heard_are country H before [] = refl
-heard_are country H before (e ∷ es) =
-    still_by country H (command_in (question before e.wire)) e.at (question before e.wire).close e.reply (asked_in country H (before + 1) es) (heard_in country H (before + 1) es) (replies_in country H (before + 1) es)
-    (heard_are country H (before + 1) es)
+-- what did not fail of what was asked, and then later
+pub heard_then : (country : List ℕ) (H before : ℕ) (es : List Exchange) (later heard : List Demand) (replies : List Reply) → heard ≡ still later (map is_made replies)
+    → heard_in country H before es ++ heard ≡ still (asked_in country H before es ++ later) (map is_made (replies_in country H before es ++ replies))
+heard_then country H before [] later heard replies same = same
+heard_then country H before (e ∷ es) later heard replies same =
+    let asked = command_in (question before e.wire) in
+    let close = (question before e.wire).close in
+    rw (
+      append_assoc (heard_by country H asked e.at close (is_made e.reply)) (heard_in country H (before + 1) es) heard,
+      append_assoc (asked_by country H asked e.at close) (asked_in country H (before + 1) es) later,
+      append_assoc (replies_by country H asked e.reply) (replies_in country H (before + 1) es) replies,
+    )
+    (still_by country H asked e.at close e.reply (asked_in country H (before + 1) es ++ later) (heard_in country H (before + 1) es ++ heard) (replies_in country H (before + 1) es ++ replies)
+    (heard_then country H (before + 1) es later heard replies same))
 
 filled_first : (b : Bool) (reply : Reply) (told : List (List ℕ)) (replies : List Reply) → map bytes_of replies ≡ filled (map fault_told replies) told
     → map bytes_of ((if b then reply ∷ [] else []) ++ replies) ≡ filled (map fault_told ((if b then reply ∷ [] else []) ++ replies)) ((if is_made reply then (if b then bytes_of reply ∷ [] else []) else []) ++ told)
@@ -98,30 +107,56 @@ filled_by country H (Ok command) reply told replies same =
     rw (told_split country H command (bytes_of reply) (is_made reply)) (filled_first (is_holder H (owner_of country command)) reply told replies same)
 filled_by country H (Err why) reply told replies same = same
 
--- the bytes of all replies
-bytes_are : (country : List ℕ) (H before : ℕ) (es : List Exchange)
-    → map bytes_of (replies_in country H before es) ≡ filled (map fault_told (replies_in country H before es)) (told_in country H before es)
-bytes_are country H before [] = refl
-bytes_are country H before (e ∷ es) =
-    filled_by country H (command_in (question before e.wire)) e.reply (told_in country H (before + 1) es) (replies_in country H (before + 1) es) (bytes_are country H (before + 1) es)
+-- the bytes of all replies, and then later
+pub bytes_then : (country : List ℕ) (H before : ℕ) (es : List Exchange) (told : List (List ℕ)) (replies : List Reply) → map bytes_of replies ≡ filled (map fault_told replies) told
+    → map bytes_of (replies_in country H before es ++ replies) ≡ filled (map fault_told (replies_in country H before es ++ replies)) (told_in country H before es ++ told)
+bytes_then country H before [] told replies same = same
+bytes_then country H before (e ∷ es) told replies same =
+    let asked = command_in (question before e.wire) in
+    rw (
+      append_assoc (told_by country H asked (bytes_of e.reply) (is_made e.reply)) (told_in country H (before + 1) es) told,
+      append_assoc (replies_by country H asked e.reply) (replies_in country H (before + 1) es) replies,
+    )
+    (filled_by country H asked e.reply (told_in country H (before + 1) es ++ told) (replies_in country H (before + 1) es ++ replies)
+    (bytes_then country H (before + 1) es told replies same))
+
+-- What a holder of this book was told, who asked so: where nothing failed, what the holder's machine says.
+pub record IsToldOf (H : ℕ) (book : Book) (asked heard : List Demand) (replies : List Reply) (told : List (List ℕ)) : Type 0 where
+  pub answers : told ≡ machine_replies H book heard
+  pub still_heard : heard ≡ still asked (map is_made replies)
+  pub all_bytes : map bytes_of replies ≡ filled (map fault_told replies) told
+
+-- a holder of one book, who was told twice
+module _ {H : ℕ} {book other_book : Book} {asked heard other_asked other_heard : List Demand} {replies other_replies : List Reply} {told other_told : List (List ℕ)}
+    (same : book ≡ other_book) (one : IsToldOf H book asked heard replies told) (other : IsToldOf H other_book other_asked other_heard other_replies other_told) where
+  pub told_as : heard ≡ other_heard → told ≡ other_told
+  told_as alike = one.answers ∙ (rw (same, alike) refl) ∙ sym other.answers
+
+  pub told_if : asked ≡ other_asked → map is_made replies ≡ map is_made other_replies → told ≡ other_told
+  told_if agree together = told_as (one.still_heard ∙ (rw (agree, together) refl) ∙ sym other.still_heard)
+
+  flags : map fault_told replies ≡ map fault_told other_replies → map is_made replies ≡ map is_made other_replies
+  flags alike = flags_are replies ∙ ap (map is_none) alike ∙ sym (flags_are other_replies)
+
+  pub replies_if : asked ≡ other_asked → map fault_told replies ≡ map fault_told other_replies → map bytes_of replies ≡ map bytes_of other_replies
+  replies_if agree alike = one.all_bytes ∙ (rw (alike, told_if agree (flags alike)) refl) ∙ sym other.all_bytes
+
+-- what was told by a list of exchanges
+told_of : (country : List ℕ) (H : ℕ) (books : ℕ → Book) (es : List Exchange) (new : Content) → IsServed country books 0 es new
+    → IsToldOf H (books H) (asked_in country H 0 es) (heard_in country H 0 es) (replies_in country H 0 es) (told_in country H 0 es)
+told_of country H books es new served = record {
+  answers = served.answers H;
+  still_heard = rw (append-nil (heard_in country H 0 es), append-nil (asked_in country H 0 es), append-nil (replies_in country H 0 es)) at (heard_then country H 0 es [] [] [] refl);
+  all_bytes = rw (append-nil (replies_in country H 0 es), append-nil (told_in country H 0 es)) at (bytes_then country H 0 es [] [] refl);
+}
 
 -- two lists of exchanges from books that are equal for H
 pub tell_alike : (country : List ℕ) (H : ℕ) (books others : ℕ → Book) (es fs : List Exchange) (new other_new : Content)
     → IsServed country books 0 es new → IsServed country others 0 fs other_new → books H ≡ others H → TellAlike country H es fs
-tell_alike country H books others es fs new other_new one other same = record {
-  replies = λ agree alike. bytes_are country H 0 es ∙ (rw (alike, told_if agree (flags alike)) refl) ∙ sym (bytes_are country H 0 fs);
-  told = told_if;
-  heard = told_as;
-}
-  where
-    told_as : heard_in country H 0 es ≡ heard_in country H 0 fs → told_in country H 0 es ≡ told_in country H 0 fs
-    told_as heard = one.answers H ∙ (rw (same, heard) refl) ∙ sym (other.answers H)
-
-    told_if : asked_in country H 0 es ≡ asked_in country H 0 fs → map is_made (replies_in country H 0 es) ≡ map is_made (replies_in country H 0 fs) → told_in country H 0 es ≡ told_in country H 0 fs
-    told_if agree together = told_as (heard_are country H 0 es ∙ (rw (agree, together) refl) ∙ sym (heard_are country H 0 fs))
-
-    flags : map fault_told (replies_in country H 0 es) ≡ map fault_told (replies_in country H 0 fs) → map is_made (replies_in country H 0 es) ≡ map is_made (replies_in country H 0 fs)
-    flags alike = flags_are (replies_in country H 0 es) ∙ ap (map is_none) alike ∙ sym (flags_are (replies_in country H 0 fs))
+tell_alike country H books others es fs new other_new one other same =
+    let first = told_of country H books es new one in
+    let second = told_of country H others fs other_new other in
+    record { replies = replies_if same first second; told = told_if same first second; heard = told_as same first second }
 
 -- what a stream at a desk of a country tells
 pub served_at : {D : Type 0} (content : D → Content) (is_clean is_live : D → Type 0) (country : List ℕ) (books : ℕ → Book) (old new : Service D) (es : List Exchange)

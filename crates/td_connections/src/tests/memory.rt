@@ -1,11 +1,12 @@
 //! Connections in memory.
 use super::{Connection, Still, THREE, assert_told, new_service};
-use crate::{Connections, serve_connections};
+use crate::{Connections, agreeing_connections_tell_the_same, serve_connections};
 use std::alloc::Global;
 use std::io;
 use std::io::ErrorKind;
 use std::process::Abort;
 use std::test::Fail;
+use td_desk::PlainDesk;
 
 /// Gives these connections and then fails, and keeps what was written to each.
 #[derive(Drop)]
@@ -81,4 +82,17 @@ fn a_failed_accept_is_told_after_the_connections_before_it(rt: HostRuntime) -> R
     let (answer, told) = serve_of_three(rt.alloc(), 5)?;
     assert!(rt; answer.is_err_and(|error| error.kind() == ErrorKind::ConnectionAborted));
     assert_served(&rt, &told, 3)
+}
+
+// There is nothing to run: the law holds at these types.
+#[test]
+fn the_law_holds_at_concrete_types() {
+    agreeing_connections_tell_the_same::<
+        Table<'_>,
+        Still,
+        PlainDesk,
+        Table<'_>,
+        Still,
+        PlainDesk,
+    >();
 }
