@@ -1,5 +1,6 @@
-//! The job `serve` where it comes to no connection: a port that is in use, and a first line that can't be written. (One
-//! process can't both wait in it and connect to it: what it does with connections is shown by td_connections' tests.)
+//! The job `serve` where it comes to no connection: a port that is in use, and a first line that can't be written, which
+//! shows that the port is listened on at 127.0.0.1 alone. (One process can't both wait in it and connect to it: what it
+//! does with connections is shown by td_connections' tests.)
 use super::devices::Narrow;
 use super::{Due, assert_job, assert_text, words_of};
 use crate::jobs::perform;
@@ -42,13 +43,13 @@ fn a_port_in_use_is_a_fault(rt: HostRuntime) -> Result<(), Fail> {
     assert_job(&rt, &serve_words(&port), b"".as_slice(), due)
 }
 
-/// A port of which nobody makes use: one that the machine chose and that is free again.
-fn free_port<N>(rt: &N) -> Result<String, Fail>
-where
-    N: AllocGlobal + Net<Listener = TcpListener, Stream = TcpStream>,
-{
+/// A listener at 127.0.0.2, at a port that the machine chose at 127.0.0.1 and that is free there again. A body that
+/// listens on all addresses of the machine finds the port in use.
+fn neighbour<N: Net<Listener = TcpListener, Stream = TcpStream>>(
+    rt: &N,
+) -> io::Result<TcpListener> {
     let port = listener(rt)?.local_addr()?.port();
-    Ok(format!(in rt.alloc(); "{port}")?)
+    TcpListener::bind(rt, SocketAddr::from((Ipv4Addr::new(127, 0, 0, 2), port)))
 }
 
 /// A writer that takes ten bytes, and then fails.
@@ -62,7 +63,8 @@ fn narrow(alloc: Global) -> Counted<Narrow> {
 
 #[test]
 fn a_first_line_that_cannot_be_written_is_a_fault(rt: HostRuntime) -> Result<(), Fail> {
-    let port = free_port(&rt)?;
+    let neighbour = neighbour(&rt)?;
+    let port = format!(in rt.alloc(); "{}", neighbour.local_addr()?.port())?;
     let words = words_of(rt.alloc(), &serve_words(&port))?;
     let mut input = Counted::new(b"".as_slice());
     let mut out = narrow(rt.alloc());
