@@ -37,7 +37,7 @@ fn read_lines(
 ) -> Result<Option<Vec<(Line, AccessCode)>>, AllocError>
     ensures { IfOk result (λ lines. option_map (λ v. v.items) lines ≡ lines_in (items_view objects.now)) }
 {
-    let mut lines = Vec::new(alloc);
+    let mut lines = Vec::with_capacity(alloc, objects.len())?;
     for object in objects {
         let Some(line) = line_in(object) else {
             return Ok(None);
