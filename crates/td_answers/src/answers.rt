@@ -153,7 +153,7 @@ impl ToJson for WebFault {
 }
 
 /// The bytes for which memory is taken at once for a body. A longer body takes more as it is written.
-const BODY_CAPACITY: usize = 512;
+const BODY_CAPACITY: usize = 1000;
 
 /// The body that tells it, as JSON.
 fn body_of<T: ToJson>(alloc: Global, said: &T) -> Result<String, AllocError>

@@ -4,3 +4,4 @@ mod Loading
 mod Mapping
 mod BySerial
 mod Indexed
+pub mod Amounts

@@ -7,11 +7,11 @@ ghost use Rattle.td_acts.specs.Deciding.{IsLoaded};
 ghost use Rattle.td_commands.specs.Commands.{need_said};
 ghost use Rattle.td_acts.specs.Sound.{IsCovered};
 
+use crate::counted_rows::CountedRows;
 use crate::guarantee_rows::GuaranteeRows;
 use crate::lookups::{
     all_entries, copies_of, copy_of_found, entries_by_grn, guarantees_of, release_of,
 };
-use crate::movement_rows::MovementRows;
 use keyed_rows::Keyed;
 use std::alloc::{AllocError, Global};
 use std::marker::Model;
@@ -23,7 +23,7 @@ use td_base::{Country, HolderNo};
 pub struct HolderFile {
     row: HolderRow,
     guarantees: GuaranteeRows,
-    movements: MovementRows,
+    movements: CountedRows,
 }
 
 impl Model for HolderFile {
@@ -52,7 +52,7 @@ impl HolderFile {
         HolderFile {
             row,
             guarantees: GuaranteeRows::new(alloc, country),
-            movements: MovementRows::new(alloc, country),
+            movements: CountedRows::new(alloc, country),
         }
     }
 
@@ -109,7 +109,6 @@ impl HolderFile {
         ensures { AllByRecursion (IsCovered self.now.movements) self.now.guarantees
             → IfOk result (IsLoaded (account_with country (Some self.now)) (need_said needs.now)) }
     {
-        let rows = self.movements.as_slice();
         let (movements, guarantees) = match needs {
             Needs::Nothing => (Vec::new(alloc), Vec::new(alloc)),
             Needs::Lodging(lrn, lines) => (
@@ -121,14 +120,17 @@ impl HolderFile {
                 Vec::new(alloc),
             ),
             Needs::Release(mrn) => release_of(alloc, &self.guarantees, &self.movements, mrn)?,
-            Needs::AllMovements => (copies_of(alloc, rows)?, Vec::new(alloc)),
+            Needs::AllMovements => (
+                copies_of(alloc, self.movements.as_slice())?,
+                Vec::new(alloc),
+            ),
             Needs::Guarantee(grn) => (
                 Vec::new(alloc),
-                entries_by_grn(alloc, &self.guarantees, rows, grn)?,
+                entries_by_grn(alloc, &self.guarantees, &self.movements, grn)?,
             ),
             Needs::AllGuarantees => (
                 Vec::new(alloc),
-                all_entries(alloc, self.guarantees.as_slice(), rows)?,
+                all_entries(alloc, self.guarantees.as_slice(), &self.movements)?,
             ),
         };
         Ok(Loaded {

@@ -2,8 +2,10 @@
 #![tactic(auto)]
 
 mod changes;
+mod counted_rows;
 mod file;
 mod guarantee_rows;
+mod known_amounts;
 mod lookups;
 mod movement_rows;
 mod serials;

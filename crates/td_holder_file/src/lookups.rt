@@ -5,12 +5,12 @@ ghost use Rattle.td_guarantee.specs.Usage.{used_on};
 ghost use Rattle.td_acts.specs.Account.{guarantee_by_grn, movement_by_mrn};
 ghost use Rattle.td_acts.specs.Sound.{IsCovered};
 
+use crate::counted_rows::CountedRows;
 use crate::guarantee_rows::GuaranteeRows;
-use crate::movement_rows::MovementRows;
 use std::alloc::{AllocError, Global};
 use td_acts::Lines;
 use td_base::{Cents, Grn, Mrn};
-use td_guarantee::{Guarantee, in_use};
+use td_guarantee::Guarantee;
 use td_movement::{Line, Movement};
 
 /// A copy of the movement that was found, if there is one. `AllocError`: want of memory.
@@ -20,10 +20,10 @@ pub(crate) fn copy_of_found(
 ) -> Result<Vec<Movement>, AllocError>
     ensures { IfOk result (λ copies. copies.items ≡ option_to_list (option_map (λ m. m.now) movement.entry)) }
 {
-    let mut copies = Vec::new(alloc);
-    if let Some(movement) = movement {
-        copies.push(movement.copy(alloc)?)?;
-    }
+    let Some(movement) = movement else {
+        return Ok(Vec::new(alloc));
+    };
+    let copies = vec![in alloc; movement.copy(alloc)?]?;
     Ok(copies)
 }
 
@@ -51,7 +51,7 @@ pub(crate) fn guarantees_of(
 pub(crate) fn entries_by_grn(
     alloc: Global,
     guarantees: &GuaranteeRows,
-    movements: &[Movement],
+    movements: &CountedRows,
     grn: &Grn,
 ) -> Result<Vec<(Guarantee, Cents)>, AllocError>
     ensures { AllByRecursion (IsCovered movements.now) guarantees.now
@@ -72,7 +72,7 @@ pub(crate) fn entries_by_grn(
 pub(crate) fn release_of(
     alloc: Global,
     guarantees: &GuaranteeRows,
-    movements: &MovementRows,
+    movements: &CountedRows,
     mrn: &Mrn,
 ) -> Result<(Vec<Movement>, Vec<(Guarantee, Cents)>), AllocError>
     ensures movement { IfOk result (λ found. found.0.items
@@ -85,8 +85,7 @@ pub(crate) fn release_of(
     let Some(movement) = movements.find_by_mrn(mrn) else {
         return Ok((Vec::new(alloc), Vec::new(alloc)));
     };
-    let rows = movements.as_slice();
-    let entries = entries_of(alloc, guarantees, rows, movement.lines.as_slice())?;
+    let entries = entries_of(alloc, guarantees, movements, movement.lines.as_slice())?;
     let mut found = Vec::new(alloc);
     found.push(movement.copy(alloc)?)?;
     Ok((found, entries))
@@ -96,7 +95,7 @@ pub(crate) fn release_of(
 fn entries_of(
     alloc: Global,
     guarantees: &GuaranteeRows,
-    movements: &[Movement],
+    movements: &CountedRows,
     lines: &[Line],
 ) -> Result<Vec<(Guarantee, Cents)>, AllocError>
     ensures { AllByRecursion (IsCovered movements.now) guarantees.now
@@ -129,7 +128,7 @@ pub(crate) fn copies_of(alloc: Global, movements: &[Movement]) -> Result<Vec<Mov
 pub(crate) fn all_entries(
     alloc: Global,
     guarantees: &[Guarantee],
-    movements: &[Movement],
+    movements: &CountedRows,
 ) -> Result<Vec<(Guarantee, Cents)>, AllocError>
     ensures { AllByRecursion (IsCovered movements.now) guarantees.now
         → IfOk result (λ entries. entries.items ≡ map (λ g. (g, used_on g.grn movements.now)) guarantees.now) }
@@ -142,8 +141,10 @@ pub(crate) fn all_entries(
 }
 
 // The amount in use on a guarantee that covers it.
-fn used_of(movements: &[Movement], guarantee: &Guarantee) -> Cents
+fn used_of(movements: &CountedRows, guarantee: &Guarantee) -> Cents
     ensures { IsCovered movements.now guarantee.now → result ≡ used_on guarantee.now.grn movements.now }
 {
-    in_use(movements, &guarantee.grn).unwrap_or(guarantee.reference)
+    movements
+        .in_use(&guarantee.grn)
+        .unwrap_or(guarantee.reference)
 }

@@ -95,6 +95,16 @@ impl MovementRows {
         }
     }
 
+    /// The place of the only movement with an MRN, where all stand at the places of their serials.
+    pub fn only_place_of(&self, mrn: &Mrn) -> Option<usize>
+        ensures { IfSome result (IsOnlyPlace (λ m. m.mrn) mrn.now self.now) }
+    {
+        if self.placed < self.items.len() {
+            return None;
+        }
+        find_by_serial(&self.items, self.country, mrn)
+    }
+
     /// Puts the movement that has moved into its new state.
     pub fn put_status(&mut self, status: &NewStatus)
         ensures { self.new ≡ map (moved status.now) self.old }

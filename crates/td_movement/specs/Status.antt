@@ -1,5 +1,5 @@
 -- The days and offices that a movement has in each state.
-use Rattle.std.specs.Prelude.{◌≡◌, Option, None, IfSome, IsSome}
+use Rattle.std.specs.Prelude.{◌≡◌, None, IfSome, IsSome}
 use Rattle.std.specs.Option.{is_some}
 use Rattle.td_base.specs.Codes.{IsOfficeNo}
 use Rattle.td_base.specs.Days.{IsDay}

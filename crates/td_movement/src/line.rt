@@ -15,16 +15,24 @@ pub struct Line {
 /// The lines that a movement was lodged with. Contracts see them as the list of them.
 #[derive(Debug, Drop)]
 pub struct MovementLines {
-    items: Vec<Line>,
+    items: Items,
+}
+
+// Most movements have one line, which takes no memory of its own.
+#[derive(Debug, Drop)]
+enum Items {
+    One([Line; 1]),
+    Many(Vec<Line>),
 }
 
 impl Model for MovementLines {
     ghost use Rattle.std.specs.Prelude.{List};
     ghost use Rattle.td_movement.specs.declared.line.Line.{Line};
+    ghost use Rattle.td_movement.specs.Lines.{lines_in};
 
     ghost Value = { List Line };
 
-    ghost view = { λ l. l.items.items };
+    ghost view = { λ l. lines_in l.items };
 }
 
 impl MovementLines {
@@ -32,6 +40,10 @@ impl MovementLines {
     pub fn new(items: Vec<Line>) -> Self
         ensures { result ≡ items.items }
     {
+        let items = match items.as_slice() {
+            [line] => Items::One([*line]),
+            _ => Items::Many(items),
+        };
         MovementLines { items }
     }
 
@@ -39,14 +51,20 @@ impl MovementLines {
     pub fn as_slice(&self) -> &[Line]
         ensures { result.now ≡ self.now }
     {
-        self.items.as_slice()
+        match &self.items {
+            Items::One(line) => line,
+            Items::Many(lines) => lines,
+        }
     }
 
     /// The same lines in other memory. `AllocError`: want of memory.
     pub fn copy(&self, alloc: Global) -> Result<Self, AllocError>
         ensures { IfOk result (λ lines. lines ≡ self.now) }
     {
-        let items = Vec::from_slice(alloc, &self.items)?;
+        let items = match &self.items {
+            Items::One(line) => Items::One([line[0]]),
+            Items::Many(lines) => Items::Many(Vec::from_slice(alloc, lines)?),
+        };
         Ok(MovementLines { items })
     }
 }

@@ -23,7 +23,7 @@ returns c = λ covered.
     λ n is looked. subst (λ (n : Needs). IsLookedUp account (need_said n) loaded) (sym is) looked in
     let lent : (gs : List Guarantee) (ms : List Movement) → gs ≡ c.args.self.now.guarantees → ms ≡ c.args.self.now.movements → AllByRecursion (IsCovered ms) gs =
     λ gs ms guarantees movements. subst (λ (ms : List Movement). AllByRecursion (IsCovered ms) gs) (sym movements) (subst (λ (gs : List Guarantee). AllByRecursion (IsCovered c.args.self.now.movements) gs) (sym guarantees) covered) in
-    let rows = c.as_slice-rows.ensures ∙ ap (λ h. h.movements) c.self.view_is in
+    let rows = ap (λ h. h.movements) c.self.view_is in
     record {
       country = refl;
       holder = ap (λ h. Some h.row) c.self.view_is;
@@ -49,17 +49,17 @@ returns c = λ covered.
             (ap (λ p. p.0.items) w.movements-is ∙ w.in_ok-release_of-in-Release.ensures.movement ∙ ap (λ ms. option_to_list (movement_by_mrn mrn ms)) movements)
             (subst (λ (ms : List Movement). IfSome (movement_by_mrn mrn ms) (λ m. c.match-needs.movements.1.items ≡ entries account.guarantees ms m)) movements looked))
         | in-AllMovements+in_ok-copies_of-in-AllMovements w ↦
-            needed _ w.in-AllMovements.is (ap (λ p. p.0.items) w.movements-is ∙ w.in_ok-copies_of-in-AllMovements.ensures ∙ rows)
+            needed _ w.in-AllMovements.is (ap (λ p. p.0.items) w.movements-is ∙ w.in_ok-copies_of-in-AllMovements.ensures ∙ w.as_slice.ensures ∙ rows)
         | in-Guarantee+in_ok-entries_by_grn-in-Guarantee w ↦
             let guarantees = ap (λ h. h.guarantees) c.self.view_is in
             let found : List Guarantee → List Movement → List (Guarantee × ℕ) = λ gs ms. option_to_list (option_map (λ g. (g, used_on g.grn ms)) (guarantee_by_grn w.in-Guarantee.grn gs)) in
-            let here = lent c.self.inside.guarantees c.as_slice-rows.result.now guarantees rows in
+            let here = lent c.self.inside.guarantees c.self.inside.movements guarantees rows in
             needed _ w.in-Guarantee.is (guarantee_looked_up account loaded _
             (ap (λ p. p.1.items) w.movements-is ∙ w.in_ok-entries_by_grn-in-Guarantee.ensures here ∙ ap₂ found guarantees rows))
         | in-AllGuarantees+in_ok-all_entries-in-AllGuarantees w ↦
-            let guarantees = w.as_slice.ensures ∙ ap (λ h. h.guarantees) c.self.view_is in
+            let guarantees = w.as_slice-in-AllGuarantees.ensures ∙ ap (λ h. h.guarantees) c.self.view_is in
             let entries : List Guarantee → List Movement → List (Guarantee × ℕ) = λ gs ms. map (λ g. (g, used_on g.grn ms)) gs in
-            let here = lent w.as_slice.result.now c.as_slice-rows.result.now guarantees rows in
+            let here = lent w.as_slice-in-AllGuarantees.result.now c.self.inside.movements guarantees rows in
             needed _ w.in-AllGuarantees.is (ap (λ p. p.1.items) w.movements-is ∙ w.in_ok-all_entries-in-AllGuarantees.ensures here ∙ ap₂ entries guarantees rows)
       ];
     }
