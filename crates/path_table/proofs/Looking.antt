@@ -322,3 +322,15 @@ module _ {R : Type 0} (pattern_of : R → List ℕ) where
       by (Some r) e =
           is_found_row rows path r sound
           (found_fits (length path) r (router_for pattern_of rows) path (Matches rows) (omega arith) bytes (good_entries rows plain (router_for pattern_of rows) all) e)
+
+  pub row_found : (rows : List R) (router : RowsOf (RouteOf ℕ)) (path : List ℕ) (r : RouteOf ℕ) → router ≡ router_for pattern_of rows → is_sound (map pattern_of rows) ≡ true → IsBytes path
+      → first router path ≡ Some r → IsFound pattern_of rows path r
+  row_found rows router path r is sound bytes found =
+      let P : RowsOf (RouteOf ℕ) → Type 0 = λ router. MatchOption (first router path) (find (λ x. fits (pattern_of x) path) rows ≡ None) (IsFound pattern_of rows path) in
+      MatchOption-at_some _ _ r found (subst P (sym is) (look_up rows path sound bytes))
+
+  pub none_found : (rows : List R) (router : RowsOf (RouteOf ℕ)) (path : List ℕ) → router ≡ router_for pattern_of rows → is_sound (map pattern_of rows) ≡ true → IsBytes path
+      → first router path ≡ None → find (λ x. fits (pattern_of x) path) rows ≡ None
+  none_found rows router path is sound bytes none =
+      let P : RowsOf (RouteOf ℕ) → Type 0 = λ router. MatchOption (first router path) (find (λ x. fits (pattern_of x) path) rows ≡ None) (IsFound pattern_of rows path) in
+      MatchOption-at_none _ _ none (subst P (sym is) (look_up rows path sound bytes))

@@ -1,3 +1,4 @@
 pub mod Segments
 pub mod Sound
 pub mod Routers
+pub mod Taken

@@ -1,5 +1,5 @@
 -- A path and a pattern of paths, compared segment by segment.
-use Rattle.std.specs.Prelude.{ℕ, Bool, true, false, ◌==◌, nat_le, List, [], ◌∷◌, length, map, filter, bytes_eq, if◌then◌else◌}
+use Rattle.std.specs.Prelude.{ℕ, Bool, true, false, ◌==◌, List, [], ◌∷◌, map, filter, bytes_eq, if◌then◌else◌}
 use Rattle.std.specs.Cmp.Lexicographic.{pointwise}
 use Rattle.std.specs.List.{slice_split, zip}
 
@@ -28,7 +28,3 @@ fits pattern path = pointwise segment_fits (segments pattern) (segments path)
 -- the parts of a path: its segments that a pattern names, from left to right
 abbrev pub parts_of : List ℕ → List ℕ → List (List ℕ)
 parts_of pattern path = map (λ p. p.1) (filter (λ p. is_named p.0) (zip (segments pattern) (segments path)))
-
--- a pattern of at most eight segments
-abbrev pub is_short : List ℕ → Bool
-is_short pattern = nat_le (length (segments pattern)) 8

@@ -6,7 +6,6 @@
 
 mod laws;
 mod parts;
-mod segments;
 mod table;
 
 pub use laws::rows_are_found_as_by_matchit;

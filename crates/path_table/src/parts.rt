@@ -1,46 +1,62 @@
 //! The parts of a path.
-ghost use Rattle.std.specs.Prelude.{◌≡◌, length, map, filter, option_map};
-ghost use Rattle.std.specs.List.{slice_get, zip};
-ghost use Rattle.path_table.specs.Segments.{is_named};
+ghost use Rattle.std.specs.Prelude.{◌≡◌, option_map};
+ghost use Rattle.std.specs.List.{slice_get};
 
-use crate::segments::{Segments, is_named};
-use arrayvec::ArrayVec;
+use matchit::Params;
 use std::marker::Model;
 
 /// The parts of a path that the names of a pattern stand for, from left to right.
 #[derive(Drop)]
-pub struct Parts<'p> {
-    segments: Segments<'p>,
+pub struct Parts<'t, 'p> {
+    params: Params<'t, 'p>,
 }
 
-impl<'p> Model for Parts<'p> {
-    ghost use Rattle.std.specs.Prelude.{ℕ, List, map};
+impl<'t, 'p> Model for Parts<'t, 'p> {
+    ghost use Rattle.std.specs.Prelude.{ℕ, List};
+    ghost use Rattle.std.specs.List.{AllByRecursion};
+    ghost use Rattle.std.specs.Str.{IsUtf8};
+    ghost use Rattle.path_table.specs.Taken.{taken_parts};
 
     ghost Value = { List (List ℕ) };
 
-    ghost view = { λ parts. map (λ s. s.now) parts.segments.items };
+    ghost view = { λ a. taken_parts a.params };
+
+    ghost invariant = { λ a. AllByRecursion IsUtf8 (taken_parts a.params) };
 }
 
-impl<'p> Parts<'p> {
-    /// The segments of a path at the places where a pattern of as many segments has names.
-    pub(crate) fn of(pattern: &[&[u8]], path: &Segments<'p>) -> Parts<'p>
-        requires { length pattern.now ≡ length path.now.items }
-        ensures { result ≡ map (λ p. p.1) (filter (λ p. is_named p.0)
-            (zip (map (λ s. s.now) pattern.now) (map (λ s. s.now) path.now.items))) }
+impl<'t, 'p> Parts<'t, 'p> {
+    ghost use Rattle.std.specs.List.{AllByRecursion};
+    ghost use Rattle.std.specs.Str.{IsUtf8};
+    ghost use Rattle.path_table.specs.Taken.{taken_parts};
+
+    // What the parameters of a match took.
+    pub(crate) fn of(params: Params<'t, 'p>) -> Parts<'t, 'p>
+        requires { AllByRecursion IsUtf8 (taken_parts params) }
+        ensures { result ≡ taken_parts params.entry }
     {
-        let mut segments = ArrayVec::new();
-        for (place, segment) in path.as_slice().iter().enumerate() {
-            if is_named(pattern[place]) {
-                segments.push(*segment);
-            }
-        }
-        Parts { segments }
+        Parts { params }
     }
 
     /// The part at this place from the left, counted from 0: `None` where the pattern has fewer names.
-    pub fn get(&self, place: usize) -> Option<&'p [u8]>
+    pub fn get(&self, place: usize) -> Option<&'p str>
         ensures { option_map (λ part. part.now) result ≡ slice_get self.now place }
     {
-        self.segments.as_slice().get(place).copied()
+        let (_, part) = self.params.iter().nth(place)?;
+        Some(part)
+    }
+
+    /// The first two parts, read in one walk along the path: `None` for each that the pattern has no name for.
+    pub fn first_two(&self) -> (Option<&'p str>, Option<&'p str>)
+        ensures first { option_map (λ part. part.now) result.0 ≡ slice_get self.now 0 }
+        ensures second { option_map (λ part. part.now) result.1 ≡ slice_get self.now 1 }
+    {
+        let mut params = self.params.iter();
+        let Some((_, first)) = params.next() else {
+            return (None, None);
+        };
+        match params.next() {
+            Some((_, second)) => (Some(first), Some(second)),
+            None => (Some(first), None),
+        }
     }
 }

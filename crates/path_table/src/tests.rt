@@ -65,11 +65,11 @@ const PATHS: [(&str, u32, &str, &str); 17] = [
 // The path fits the row with this number, and has these parts.
 fn finds(rt: &impl Abort, table: &PathTable<'_, Numbered>, case: (&str, u32, &str, &str)) {
     let (path, number, first, second) = case;
-    match table.find(path.as_bytes()) {
+    match table.find(path) {
         Some(found) => {
             assert!(rt; found.row.number == number);
-            assert!(rt; found.parts.get(0).unwrap_or_default() == first.as_bytes());
-            assert!(rt; found.parts.get(1).unwrap_or_default() == second.as_bytes());
+            assert!(rt; found.parts.get(0).unwrap_or("") == first);
+            assert!(rt; found.parts.get(1).unwrap_or("") == second);
         }
         None => assert!(rt; number == 0),
     }

@@ -5,13 +5,13 @@ ghost use Rattle.td_guarantee.specs.Usage.{used_on};
 ghost use Rattle.td_acts.specs.Account.{movement_by_lrn, movement_by_mrn};
 ghost use Rattle.td_acts.specs.Changes.{moved};
 
-use crate::known_amounts::{known_amount, make_lines_known, put_on, take_off};
 use crate::movement_rows::MovementRows;
 use std::alloc::{AllocError, Global};
 use std::marker::Model;
 use td_acts::NewStatus;
 use td_base::{Cents, Country, Grn, Lrn, Mrn};
 use td_guarantee::in_use;
+use td_known_amounts::{known_amount, make_lines_known, put_on, take_off};
 use td_movement::{Movement, counts};
 
 /// A holder's movements, by serial.
@@ -25,7 +25,7 @@ pub(crate) struct CountedRows {
 impl Model for CountedRows {
     ghost use Rattle.std.specs.Prelude.{List};
     ghost use Rattle.td_movement.specs.declared.movement.Movement.{Movement};
-    ghost use Rattle.td_holder_file.specs.Known.{AreInUse};
+    ghost use Rattle.td_known_amounts.specs.Known.{AreInUse};
 
     ghost Value = { List Movement };
 

@@ -5,7 +5,6 @@ mod changes;
 mod counted_rows;
 mod file;
 mod guarantee_rows;
-mod known_amounts;
 mod lookups;
 mod movement_rows;
 mod serials;

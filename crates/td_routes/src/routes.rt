@@ -32,48 +32,60 @@ fn read_grn(part: &[u8]) -> Result<Grn, WebFault>
 }
 
 // The part at a place, from the left: empty where there are fewer.
-fn part_at<'p>(parts: &Parts<'p>, place: usize) -> &'p [u8]
+fn part_at<'p>(parts: &Parts<'_, 'p>, place: usize) -> &'p [u8]
     ensures { result.now ≡ part_at place parts.now }
 {
-    parts.get(place).unwrap_or_default()
+    bytes_of(parts.get(place))
 }
 
 // A path that names a holder.
-fn holder_in(parts: &Parts<'_>) -> Result<HolderNo, WebFault>
+fn holder_in(parts: &Parts<'_, '_>) -> Result<HolderNo, WebFault>
     ensures { result ≡ holder_in parts.now }
 {
     read_holder(part_at(parts, 0))
 }
 
 // A path that names a guarantee alone.
-fn grn_in(parts: &Parts<'_>) -> Result<Grn, WebFault>
+fn grn_in(parts: &Parts<'_, '_>) -> Result<Grn, WebFault>
     ensures { result ≡ grn_in parts.now }
 {
     read_grn(part_at(parts, 0))
 }
 
 // A path that names a movement alone.
-fn mrn_in(parts: &Parts<'_>) -> Result<Mrn, WebFault>
+fn mrn_in(parts: &Parts<'_, '_>) -> Result<Mrn, WebFault>
     ensures { result ≡ mrn_in parts.now }
 {
     read_mrn(part_at(parts, 0))
 }
 
+// The bytes of a part: none where the path has no such part.
+fn bytes_of(part: Option<&str>) -> &[u8]
+    ensures { result.now ≡ unwrap_or (option_map (λ part. part.now) part.entry) [] }
+{
+    match part {
+        Some(part) => part.as_bytes(),
+        None => &[],
+    }
+}
+
 // A path that names a holder and a guarantee.
-fn holder_and_grn(parts: &Parts<'_>) -> Result<(HolderNo, Grn), WebFault>
+fn holder_and_grn(parts: &Parts<'_, '_>) -> Result<(HolderNo, Grn), WebFault>
     ensures { result ≡ holder_and_grn parts.now }
 {
-    let holder = read_holder(part_at(parts, 0))?;
-    let grn = read_grn(part_at(parts, 1))?;
+    let (holder, grn) = parts.first_two();
+    let holder = read_holder(bytes_of(holder))?;
+    let grn = read_grn(bytes_of(grn))?;
     Ok((holder, grn))
 }
 
 // A path that names a holder and a movement.
-fn holder_and_mrn(parts: &Parts<'_>) -> Result<(HolderNo, Mrn), WebFault>
+fn holder_and_mrn(parts: &Parts<'_, '_>) -> Result<(HolderNo, Mrn), WebFault>
     ensures { result ≡ holder_and_mrn parts.now }
 {
-    let holder = read_holder(part_at(parts, 0))?;
-    let mrn = read_mrn(part_at(parts, 1))?;
+    let (holder, mrn) = parts.first_two();
+    let holder = read_holder(bytes_of(holder))?;
+    let mrn = read_mrn(bytes_of(mrn))?;
     Ok((holder, mrn))
 }
 
@@ -85,7 +97,7 @@ macro_rules! named {
     }};
 }
 
-fn read_parts(endpoint: Endpoint, parts: &Parts<'_>) -> Result<Route, WebFault>
+fn read_parts(endpoint: Endpoint, parts: &Parts<'_, '_>) -> Result<Route, WebFault>
     ensures { result ≡ route_with parts.now endpoint }
 {
     match endpoint {
@@ -148,7 +160,7 @@ fn methods_with(rows: &[Row], pattern: &str) -> Allowed
 }
 
 // The route of a method and a path in a table.
-fn find(table: &PathTable<'_, Row>, method: &Method, path: &[u8]) -> Result<Route, WebFault>
+fn find(table: &PathTable<'_, Row>, method: &Method, path: &str) -> Result<Route, WebFault>
     ensures { result ≡ route_in (map row_shown table.now.rows.now) method.now path.now }
 {
     let Some(found) = table.find(path) else {
@@ -164,7 +176,7 @@ fn find(table: &PathTable<'_, Row>, method: &Method, path: &[u8]) -> Result<Rout
 }
 
 // The methods of a path in a table.
-fn find_methods(table: &PathTable<'_, Row>, path: &[u8]) -> Option<Allowed>
+fn find_methods(table: &PathTable<'_, Row>, path: &str) -> Option<Allowed>
     ensures { result ≡ option_map (methods_with (map row_shown table.now.rows.now))
         (pattern_in (map row_shown table.now.rows.now) path.now) }
 {
@@ -221,7 +233,7 @@ impl Routes {
         ensures made { OnOk result (IsSome self.new.router) }
     {
         self.make_router(alloc)?;
-        find(self.router(), method, path.as_bytes())
+        find(self.router(), method, path)
     }
 
     /// The route of a request, as `route` tells it. Where the router found no memory it is made at a later call.
@@ -250,7 +262,7 @@ impl Routes {
             return Ok(None);
         };
         self.make_router(alloc)?;
-        Ok(find_methods(self.router(), path.as_bytes()))
+        Ok(find_methods(self.router(), path))
     }
 }
 

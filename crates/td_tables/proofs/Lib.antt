@@ -19,3 +19,4 @@ pub mod Keeping
 pub mod KeepingRules
 pub mod Looked
 pub mod Counting
+pub mod Told

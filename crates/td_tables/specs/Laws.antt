@@ -10,7 +10,7 @@ use Rattle.td_desk.specs.Sound.{IsSound}
 use Rattle.td_desk.specs.Weighing.{IsDecision}
 use Rattle.td_tables.specs.Tables.{Keyed, Tables, AreTablesOf}
 use Rattle.td_tables.specs.Gathering.{content_of, with_lines}
-use Rattle.td_tables.specs.Looking.{account_by, AreFoundIn, counting_rows}
+use Rattle.td_tables.specs.Looking.{account_by, AreFoundIn, counting_rows, TellKeys, MayBeAskedByKey}
 use Rattle.td_tables.specs.Changes.{tables_after, HaveSameRows, CanBeWritten}
 use Rattle.td_tables.specs.Rules.{KeepRules}
 
@@ -61,3 +61,8 @@ CountingRowsAreUse =
     (t : Tables) (c : Content) → IsSound c → AreTablesOf t c → (H : ℕ) (rows : List (Keyed Movement))
     → IsPermutation (counting_rows H t) rows
     → (grn : List ℕ) → used_on grn (map (with_lines t) rows) ≡ used_on grn (account_in H c).movements
+
+-- in tables of sound content a row may be asked for by its key and its reference as by its reference alone
+abbrev pub ReferencesTellKeys : Type 0
+ReferencesTellKeys =
+    (t : Tables) (c : Content) → IsSound c → AreTablesOf t c → TellKeys t × MayBeAskedByKey t

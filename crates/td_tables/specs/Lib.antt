@@ -5,4 +5,5 @@ pub mod Looking
 pub mod Changes
 pub mod Stored
 pub mod Rules
+pub mod Worked
 pub mod Laws

@@ -1,13 +1,15 @@
 -- What is looked up in the tables: all that they have of a holder's number, and single rows by their references.
-use Rattle.std.specs.Prelude.{◌≡◌, ℕ, ◌==◌, ◌&&◌, List, map, filter, find, Option}
+use Rattle.std.specs.Prelude.{◌≡◌, ℕ, ◌==◌, ◌&&◌, List, map, filter, find, Option, Some, unwrap_or}
+use Rattle.std.specs.List.{AllByRecursion}
 use Rattle.std.specs.Option.{option_map}
 use Rattle.std.specs.Str.{bytes_eq}
 use Rattle.keyed_rows.specs.Rows.{row_at}
+use Rattle.td_base.specs.References.{owner_of, serial_of}
 use Rattle.td_guarantee.specs.declared.guarantee.Guarantee.{Guarantee}
 use Rattle.td_movement.specs.declared.movement.Movement.{Movement}
 use Rattle.td_movement.specs.States.{is_counting}
 use Rattle.td_acts.specs.Account.{Account, guarantee_by_grn, movement_by_mrn, movement_by_lrn}
-use Rattle.td_tables.specs.Tables.{Keyed, Tables}
+use Rattle.td_tables.specs.Tables.{Keyed, Tables, guarantee_no}
 use Rattle.td_tables.specs.Gathering.{holder_no, guarantees_by, movements_by, with_codes, with_lines}
 
 -- what the tables have of a holder's number: nothing where nobody is registered under it
@@ -42,3 +44,21 @@ pub record AreFoundIn (t : Tables) (H : ℕ) (account : Account) : Type 0 where
 -- the rows of the holder's movements that count
 abbrev pub counting_rows : ℕ → Tables → List (Keyed Movement)
 counting_rows H t = filter (λ m. m.holder == H && is_counting m.row.state) t.movements
+
+-- the serial in an MRN of a desk of that country
+abbrev pub movement_no : List ℕ → List ℕ → ℕ
+movement_no country mrn = unwrap_or (serial_of country mrn) 0
+
+-- a reference tells the key of the row that it stands in: its holder and its serial
+pub record TellKeys (t : Tables) : Type 0 where
+  pub grns : AllByRecursion (λ (g : Keyed Guarantee). (owner_of t.country g.row.grn ≡ Some g.holder)
+      × (serial_of t.country g.row.grn ≡ Some g.serial)) t.guarantees
+  pub mrns : AllByRecursion (λ (m : Keyed Movement). (owner_of t.country m.row.mrn ≡ Some m.holder)
+      × (serial_of t.country m.row.mrn ≡ Some m.serial)) t.movements
+
+-- so a row that is asked for by its reference may be asked for by its key and its reference
+pub record MayBeAskedByKey (t : Tables) : Type 0 where
+  pub grns : (grn : List ℕ) → AllByRecursion (λ (g : Keyed Guarantee).
+      bytes_eq g.row.grn grn ≡ (g.serial == guarantee_no t.country grn && bytes_eq g.row.grn grn)) t.guarantees
+  pub mrns : (mrn : List ℕ) → AllByRecursion (λ (m : Keyed Movement).
+      bytes_eq m.row.mrn mrn ≡ (m.serial == movement_no t.country mrn && bytes_eq m.row.mrn mrn)) t.movements

@@ -1,5 +1,5 @@
 //! Laws of the tables, as contracts of functions that do nothing.
-ghost use Rattle.td_tables.specs.Laws.{AccountsAreInTables, ChangesAreWritten, ContentIsOfTables, CountingRowsAreUse, DecisionsAreWritten, RowsAreFoundInTables, RuledContentIsSound, RuledTablesAreOfContent, RulesMeanSoundContent};
+ghost use Rattle.td_tables.specs.Laws.{AccountsAreInTables, ChangesAreWritten, ContentIsOfTables, CountingRowsAreUse, DecisionsAreWritten, ReferencesTellKeys, RowsAreFoundInTables, RuledContentIsSound, RuledTablesAreOfContent, RulesMeanSoundContent};
 
 /// Tables that have just the rows of sound content have that content.
 pub fn content_is_of_tables()
@@ -30,4 +30,9 @@ pub fn accounts_are_in_tables()
     ensures account { AccountsAreInTables }
     ensures found { RowsAreFoundInTables }
     ensures in_use { CountingRowsAreUse }
+{}
+
+/// The reference in a row tells the row's key, so that a row may be asked for by its key and its reference.
+pub fn references_tell_keys()
+    ensures { ReferencesTellKeys }
 {}

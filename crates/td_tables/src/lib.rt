@@ -3,8 +3,10 @@
 #![tactic(auto)]
 
 mod laws;
+#[cfg(test)]
+mod tests;
 
 pub use laws::{
     accounts_are_in_tables, changes_are_written, content_is_of_tables, decisions_are_written,
-    rules_mean_sound_content,
+    references_tell_keys, rules_mean_sound_content,
 };

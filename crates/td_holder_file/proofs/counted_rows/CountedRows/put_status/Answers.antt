@@ -1,7 +1,7 @@
 use Rattle.std.proofs.Common.{◌≡◌, ◌<◌, ◌+◌, ◌-◌, length, sym, ap, subst, arith}
 use Rattle.std.proofs.lemmas.List.{length-map}
 use Rattle.td_acts.specs.Changes.{moved}
-use Rattle.td_holder_file.specs.Known.{AreInUse}
+use Rattle.td_known_amounts.specs.Known.{AreInUse}
 use Rattle.td_holder_file.specs.Places.{IsOnlyPlace}
 use Rattle.td_holder_file.proofs.Amounts.{alone, known_kept, one_of}
 use Rattle.td_holder_file.proofs.counted_rows.CountedRows.put_status.Goals as goal

@@ -1,4 +1,4 @@
-use Rattle.std.proofs.Common.{Ok, ap, ◌∙◌}
+use Rattle.std.proofs.Common.{Ok, ap}
 use Rattle.td_routes.proofs.RouteFacts.{no_methods, methods_found}
 use Rattle.td_routes.proofs.routes.Routes.methods.Goals as goal
 
@@ -14,9 +14,9 @@ returns-in_default-clause-made c = λ text. absurd (c.in_default.ensures.cases.0
 pub returns-clause-methods : goal.returns-clause-methods
 returns-clause-methods c =
     let text = c.in-Ok.ensures.cases in
-    methods_found _ _ _ _ (c.as_bytes.ensures.value ∙ text.0) text.1 c.router.ensures c.find_methods.ensures
+    methods_found _ _ _ _ text.0 text.1 c.router.ensures c.find_methods.ensures
 
 pub returns-clause-ready : goal.returns-clause-ready
 returns-clause-ready c =
     let text = c.in-Ok.ensures.cases in
-    λ _. ap Ok (methods_found _ _ _ _ (c.as_bytes.ensures.value ∙ text.0) text.1 c.router.ensures c.find_methods.ensures)
+    λ _. ap Ok (methods_found _ _ _ _ text.0 text.1 c.router.ensures c.find_methods.ensures)
