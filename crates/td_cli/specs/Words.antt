@@ -15,7 +15,7 @@ abbrev pub with_office : App → App
 with_office app =
     with_rule (with_rule app (record (option_rule (codes "country")) { required = true })) (option_rule (codes "at"))
 
--- the jobs `serve` and `pipe`, and the program
+-- the jobs `serve` and `pipe`, and the program that has them
 abbrev pub serve_app : App
 serve_app =
     with_rule
@@ -25,14 +25,15 @@ serve_app =
 abbrev pub pipe_app : App
 pipe_app = with_office (new_app (codes "pipe"))
 
+-- the program, which has a version, before its jobs are added
+abbrev pub bare_app : App
+bare_app =
+    record (new_app (codes "transit-desk")) {
+      top = record (new_app (codes "transit-desk")).top { subcommand_required = true; has_version = true };
+    }
+
 abbrev pub program_app : App
-program_app =
-    with_subcommand
-    (with_subcommand
-    (record (new_app (codes "transit-desk")) {
-      top = record (new_app (codes "transit-desk")).top { subcommand_required = true };
-    }) serve_app.top)
-    pipe_app.top
+program_app = with_subcommand (with_subcommand bare_app serve_app.top) pipe_app.top
 
 -- the number that the value of an option writes, and none where there is no such option
 abbrev pub number_in : Option Text → Option ℤ

@@ -3,7 +3,7 @@ ghost use Rattle.std.specs.Prelude.{◌≡◌, ◌≤◌, codes, false, map, pos
 ghost use Rattle.std.specs.Str.Parse.{signed_digits_value};
 ghost use Rattle.clap.specs.Words.{app_of, first_value, found_of, new_app, rule_of};
 ghost use Rattle.clap.specs.declared.Command.TheViews.{out-Command};
-ghost use Rattle.td_cli.specs.Words.{AsksFor, number_in, option_rule, pipe_app, program_app, serve_app, with_office};
+ghost use Rattle.td_cli.specs.Words.{AsksFor, bare_app, number_in, option_rule, pipe_app, program_app, serve_app, with_office};
 
 use clap::error::ErrorKind;
 use clap::{Arg, ArgAction, ArgMatches, Command};
@@ -40,9 +40,9 @@ pub(crate) struct Job {
 /// Why the words ask for no job.
 #[derive(Debug, Drop)]
 pub(crate) enum NoJob {
-    /// They ask for help, which is this text.
+    /// They ask for help or for the version, which is this text.
     Help(String),
-    /// They are wrong words: this text says what was wrong, and how the program is used.
+    /// They are wrong words: this line says what was wrong.
     Wrong(String),
     NoMemory,
 }
@@ -65,11 +65,55 @@ const SERVE: &str = "serve";
 
 const PIPE: &str = "pipe";
 
-/// How the jobs are asked for.
+/// What `--version` tells.
+const VERSION: &str = "0.1";
+
+/// How the jobs are asked for, each alone and both.
 const SERVE_USAGE: &str =
     "transit-desk serve --country <CC> --port <N> --connections <K> [--at <SECONDS>]";
 
 const PIPE_USAGE: &str = "transit-desk pipe --country <CC> [--at <SECONDS>]";
+
+const USAGE: &str = "transit-desk serve --country <CC> --port <N> --connections <K> [--at <SECONDS>]
+       transit-desk pipe --country <CC> [--at <SECONDS>]";
+
+/// What help says behind the options.
+const NOTES: &str =
+    "The desk starts empty, and it is gone when the program ends. Its moments are from
+2000 to 2099: a request at any other is told clock-range.
+
+Examples:
+  transit-desk pipe --country CH --at 1740819600 < examples/first.http
+  transit-desk serve --country CH --port 8080 --connections 1000
+
+Status:
+  0  Done: the stream ended well, or all connections were served
+  1  A fault, which one line on standard error tells, as: transit-desk: stream cut
+  2  Wrong words: one line on standard error tells what was wrong";
+
+/// An option whose value is a number.
+#[derive(Clone, Copy)]
+struct NumberOption {
+    /// How the option is shown.
+    shown: &'static str,
+    /// What its value must be.
+    wanted: &'static str,
+}
+
+const AT_NUMBER: NumberOption = NumberOption {
+    shown: "--at <SECONDS>",
+    wanted: "a whole number of seconds from 0 to 9223372036854775807",
+};
+
+const PORT_NUMBER: NumberOption = NumberOption {
+    shown: "--port <N>",
+    wanted: "a whole number from 1 to 65535",
+};
+
+const CONNECTIONS_NUMBER: NumberOption = NumberOption {
+    shown: "--connections <K>",
+    wanted: "a whole number from 1 to 1000000",
+};
 
 /// The greatest port.
 const MAX_PORT: u32 = 65_535;
@@ -89,11 +133,18 @@ fn option<'a>(alloc: Global, name: &'a str, value: &'a str, help: &'a str) -> Ar
 }
 
 // A job of that name, with the options that every job has.
-fn job_command<'a>(alloc: Global, name: &'a str, about: &'a str) -> Result<Command<'a>, AllocError>
+fn job_command<'a>(
+    alloc: Global,
+    name: &'a str,
+    about: &'a str,
+    usage: &'a str,
+) -> Result<Command<'a>, AllocError>
     ensures { IfOk result (λ c. (app_of c ≡ with_office (new_app name.now)) × ((out-Command c).has_globals ≡ false)) }
 {
     Command::new(alloc, name)
         .about(about)
+        .override_usage(usage)
+        .after_help(NOTES)
         .arg(option(
             alloc,
             COUNTRY,
@@ -105,7 +156,7 @@ fn job_command<'a>(alloc: Global, name: &'a str, about: &'a str) -> Result<Comma
             alloc,
             AT,
             "SECONDS",
-            "The moment of all requests, in seconds since 1970; without it the clock is asked",
+            "The moment of all requests, in seconds since 1970; else the clock is asked",
         ))
 }
 
@@ -116,6 +167,7 @@ fn serve_command<'a>(alloc: Global) -> Result<Command<'a>, AllocError>
         alloc,
         SERVE,
         "Serves connections to a port of this machine, one after another",
+        SERVE_USAGE,
     )?
     .arg(option(
         alloc,
@@ -140,16 +192,29 @@ fn pipe_command<'a>(alloc: Global) -> Result<Command<'a>, AllocError>
         alloc,
         PIPE,
         "Serves one stream of HTTP requests, from standard input to standard output",
+        PIPE_USAGE,
+    )
+}
+
+// The program before its jobs are added.
+fn bare_program<'a>(alloc: Global) -> Result<Command<'a>, AllocError>
+    ensures { IfOk result (λ c. app_of c ≡ bare_app) }
+{
+    Ok(
+        Command::new(alloc, "transit-desk")
+            .bin_name("transit-desk")?
+            .about("The desk of a national transit office under the Common Transit Convention")
+            .override_usage(USAGE)
+            .after_help(NOTES)
+            .version(VERSION)
+            .subcommand_required(true),
     )
 }
 
 fn program<'a>(alloc: Global) -> Result<Command<'a>, AllocError>
     ensures { IfOk result (λ c. app_of c ≡ program_app) }
 {
-    Command::new(alloc, "transit-desk")
-        .bin_name("transit-desk")?
-        .about("The desk of a transit office")
-        .subcommand_required(true)
+    bare_program(alloc)?
         .subcommand(serve_command(alloc)?)?
         .subcommand(pipe_command(alloc)?)
 }
@@ -168,20 +233,76 @@ pub(crate) fn read_words(alloc: Global, words: &[String]) -> Result<Job, NoJob>
             Some(("pipe", matches)) => job_of(alloc, Task::Pipe, matches),
             _ => Err(NoJob::NoMemory),
         },
-        Err(error) => Err(no_job(alloc, &error)?),
+        Err(error) => Err(no_job(alloc, &error, words)?),
     }
 }
 
-fn no_job(alloc: Global, error: &clap::Error) -> Result<NoJob, AllocError> {
-    if let ErrorKind::OutOfMemory = error.kind() {
-        return Err(AllocError);
+// Why `clap` found no job in the words.
+fn no_job(alloc: Global, error: &clap::Error, words: &[String]) -> Result<NoJob, AllocError> {
+    match error.kind() {
+        ErrorKind::OutOfMemory => Err(AllocError),
+        ErrorKind::DisplayHelp | ErrorKind::DisplayVersion => Ok(NoJob::Help(error.to_string(
+            alloc,
+        )?)),
+        _ => Ok(NoJob::Wrong(what_was_wrong(alloc, error, words)?)),
     }
-    let text = error.to_string(alloc)?;
-    Ok(if error.use_stderr() {
-        NoJob::Wrong(text)
-    } else {
-        NoJob::Help(text)
-    })
+}
+
+// In one line. A negative number behind an option is a wrong value, which `clap` takes for an option of its own.
+fn what_was_wrong(
+    alloc: Global,
+    error: &clap::Error,
+    words: &[String],
+) -> Result<String, AllocError> {
+    match negative_number(words) {
+        Some((option, value)) => wrong_value(alloc, value, option.shown, option.wanted),
+        None => first_paragraph(alloc, &error.to_string(alloc)?),
+    }
+}
+
+// The first option that has a negative number behind it, and that number.
+fn negative_number(words: &[String]) -> Option<(NumberOption, &str)> {
+    for pair in words.windows(2) {
+        let value = pair[1].as_str();
+        if let (true, Some(option)) = (is_negative(value), number_option(&pair[0])) {
+            return Some((option, value));
+        }
+    }
+    None
+}
+
+fn number_option(word: &str) -> Option<NumberOption> {
+    match word {
+        "--at" => Some(AT_NUMBER),
+        "--port" => Some(PORT_NUMBER),
+        "--connections" => Some(CONNECTIONS_NUMBER),
+        _ => None,
+    }
+}
+
+// A minus sign and digits.
+fn is_negative(value: &str) -> bool {
+    match value.strip_prefix('-') {
+        Some(digits) => !digits.is_empty() && digits.bytes().all(|c| c.is_ascii_digit()),
+        None => false,
+    }
+}
+
+// A text up to its first empty line, as one line.
+fn first_paragraph(alloc: Global, text: &str) -> Result<String, AllocError> {
+    let mut line = String::new(alloc);
+    for part in text.lines() {
+        let part = part.trim();
+        if part.is_empty() {
+            break;
+        }
+        if !line.is_empty() {
+            line.push_str(" ")?;
+        }
+        line.push_str(part)?;
+    }
+    line.push_str("\n")?;
+    Ok(line)
 }
 
 // The job that is this task, with the options that every job has.
@@ -190,14 +311,10 @@ fn job_of(alloc: Global, task: Task, matches: &ArgMatches<'_>) -> Result<Job, No
     ensures country { IfOk result (λ job. first_value (found_of matches.now) (codes "country") ≡ Some job.country) }
     ensures at { IfOk result (λ job. number_in (first_value (found_of matches.now) (codes "at")) ≡ job.at) }
 {
-    let usage = match task {
-        Task::Serve(_) => SERVE_USAGE,
-        Task::Pipe => PIPE_USAGE,
-    };
     Ok(Job {
         task,
-        country: country_in(alloc, matches, usage)?,
-        at: seconds_in(alloc, matches, usage)?,
+        country: country_in(alloc, matches)?,
+        at: seconds_in(alloc, matches)?,
     })
 }
 
@@ -208,12 +325,12 @@ fn listening_in(alloc: Global, matches: &ArgMatches<'_>) -> Result<Listening, No
         × (number_in (first_value (found_of matches.now) (codes "connections")) ≡ Some (pos l.connections))
         × (1 ≤ l.port) × (1 ≤ l.connections) × (l.connections ≤ 1000000)) }
 {
-    let port = number_in(alloc, matches, PORT, "--port <N>", MAX_PORT)?;
+    let port = number_in(alloc, matches, PORT, PORT_NUMBER, MAX_PORT)?;
     let connections = number_in(
         alloc,
         matches,
         CONNECTIONS,
-        "--connections <K>",
+        CONNECTIONS_NUMBER,
         MAX_CONNECTIONS,
     )?;
     Ok(Listening {
@@ -227,7 +344,7 @@ fn number_in(
     alloc: Global,
     matches: &ArgMatches<'_>,
     name: &str,
-    option: &str,
+    option: NumberOption,
     greatest: u32,
 ) -> Result<u32, NoJob>
     ensures { IfOk result (λ n. (number_in (first_value (found_of matches.now) name.now) ≡ Some (pos n))
@@ -238,11 +355,11 @@ fn number_in(
     };
     match decimal(text).and_then(|n| u32::try_from(n).ok()) {
         Some(n) if n >= 1 && n <= greatest => Ok(n),
-        _ => Err(NoJob::Wrong(wrong_number(alloc, text, option, greatest)?)),
+        _ => Err(NoJob::Wrong(wrong_value(alloc, text, option.shown, option.wanted)?)),
     }
 }
 
-fn country_in(alloc: Global, matches: &ArgMatches<'_>, usage: &str) -> Result<Country, NoJob>
+fn country_in(alloc: Global, matches: &ArgMatches<'_>) -> Result<Country, NoJob>
     ensures { IfOk result (λ country. first_value (found_of matches.now) (codes "country") ≡ Some country) }
 {
     let text = matches.get_str(COUNTRY).unwrap_or("");
@@ -253,12 +370,11 @@ fn country_in(alloc: Global, matches: &ArgMatches<'_>, usage: &str) -> Result<Co
             text,
             "--country <CC>",
             "two capital letters",
-            usage,
         )?)),
     }
 }
 
-fn seconds_in(alloc: Global, matches: &ArgMatches<'_>, usage: &str) -> Result<Option<i64>, NoJob>
+fn seconds_in(alloc: Global, matches: &ArgMatches<'_>) -> Result<Option<i64>, NoJob>
     ensures { IfOk result (λ at. number_in (first_value (found_of matches.now) (codes "at")) ≡ at) }
 {
     let Some(text) = matches.get_str(AT) else {
@@ -266,13 +382,7 @@ fn seconds_in(alloc: Global, matches: &ArgMatches<'_>, usage: &str) -> Result<Op
     };
     match decimal(text) {
         Some(seconds) => Ok(Some(seconds)),
-        None => Err(NoJob::Wrong(wrong_value(
-            alloc,
-            text,
-            "--at <SECONDS>",
-            "a whole number of seconds from 0 to 9223372036854775807",
-            usage,
-        )?)),
+        None => Err(NoJob::Wrong(wrong_value(alloc, text, AT_NUMBER.shown, AT_NUMBER.wanted)?)),
     }
 }
 
@@ -287,25 +397,15 @@ fn decimal(text: &str) -> Option<i64>
     }
 }
 
-// What is told of a number that is none from 1 to the greatest.
-fn wrong_number(
-    alloc: Global,
-    value: &str,
-    option: &str,
-    greatest: u32,
-) -> Result<String, AllocError> {
-    let wanted = format!(in alloc; "a whole number from 1 to {greatest}")?;
-    wrong_value(alloc, value, option, &wanted, SERVE_USAGE)
-}
-
+// What is told of a value that an option doesn't take, in one line.
 fn wrong_value(
     alloc: Global,
     value: &str,
     option: &str,
     wanted: &str,
-    usage: &str,
 ) -> Result<String, AllocError> {
-    format!(in alloc;
-        "error: invalid value '{value}' for '{option}': it must be {wanted}\n\nUsage: {usage}\n"
-    )
+    let told = format!(in alloc;
+        "error: invalid value '{value}' for '{option}': it must be {wanted}"
+    )?;
+    first_paragraph(alloc, &told)
 }
