@@ -6,7 +6,8 @@ ghost use Rattle.td_acts.specs.Deciding.{IsLoaded};
 ghost use Rattle.td_commands.specs.Commands.{need_said};
 ghost use Rattle.td_desk.specs.Content.{Content, content_after};
 ghost use Rattle.td_desk.specs.Sound.{IsSound};
-ghost use Rattle.td_desk.specs.Weighing.{kept_for};
+ghost use Rattle.td_acts.specs.declared.rows.Verdict.{Verdict};
+ghost use Rattle.td_desk.specs.Weighing.{kept_for, IsDecision};
 
 use crate::decision::Decision;
 use crate::desk::Desk;
@@ -57,8 +58,11 @@ pub trait Store {
         ensures store { result ≡ Err Fault.Store → may_fail }
         ensures call { asked self.old (result_err result) self.new };
 
-    /// Writes a change of one holder's rows, all of it or, where it answers `Err`, nothing.
+    /// Writes a change of one holder's rows, which was decided on over the rows as they are, all of it or, where
+    /// it answers `Err`, nothing.
     fn write(&mut self, alloc: Global, change: Change) -> Result<(), Fault>
+        requires { is_kept self.old → is_open self.old → IsSound (rows self.old)
+            → (v : Verdict) × (v.change ≡ change) × IsDecision (rows self.old) v }
         ensures kept { is_kept self.new → is_kept self.old }
         ensures live { is_kept self.new → is_open self.new → is_open self.old }
         ensures shown { is_kept self.new → OnOk result (is_open self.old × is_open self.new) }
