@@ -17,7 +17,7 @@ use Rattle.td_tables.proofs.Keeping.{are_stored}
 use Rattle.td_tables.proofs.Looked.{account_is}
 
 -- sums of what is made of elements
-sum_by-map : {X Y : Type 0} (f : Y → ℕ) (g : X → Y) (xs : List X) → sum_by f (map g xs) ≡ sum_by (λ x. f (g x)) xs
+pub sum_by-map : {X Y : Type 0} (f : Y → ℕ) (g : X → Y) (xs : List X) → sum_by f (map g xs) ≡ sum_by (λ x. f (g x)) xs
 sum_by-map f g [] = refl
 sum_by-map f g (x ∷ xs) = sum_by-cons f (g x) (map g xs) ∙ ap (λ n. f (g x) + n) (sum_by-map f g xs) ∙ sym (sum_by-cons (λ x. f (g x)) x xs)
 
@@ -31,7 +31,7 @@ sum_by-filter {X} f p none (x ∷ xs) = by_test (p x) refl (sum_by-filter f p no
     by_test false is later = let zero : f x ≡ 0 = none x is in later ∙ omega (arith, zero)
 
 -- both tests at once
-filter_both : {X : Type 0} (p q : X → Bool) (xs : List X) → filter (λ x. q x && p x) xs ≡ filter p (filter q xs)
+pub filter_both : {X : Type 0} (p q : X → Bool) (xs : List X) → filter (λ x. q x && p x) xs ≡ filter p (filter q xs)
 filter_both p q [] = refl
 filter_both {X} p q (x ∷ xs) = by_tests (q x) (p x) refl (filter_both p q xs)
   where

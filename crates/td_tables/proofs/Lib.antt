@@ -19,4 +19,5 @@ pub mod Keeping
 pub mod KeepingRules
 pub mod Looked
 pub mod Counting
+pub mod Joining
 pub mod Told

@@ -1,5 +1,6 @@
 -- The laws of the tables.
-use Rattle.std.specs.Prelude.{◌≡◌, ◌↔◌, ℕ, List, map}
+use Rattle.std.specs.Prelude.{◌≡◌, ◌↔◌, ℕ, List, map, IsSome}
+use Rattle.std.specs.List.{sum_by}
 use Rattle.std.specs.List.Sorted.{IsPermutation}
 use Rattle.td_guarantee.specs.Usage.{used_on}
 use Rattle.td_movement.specs.declared.movement.Movement.{Movement}
@@ -8,9 +9,10 @@ use Rattle.td_acts.specs.declared.rows.Verdict.{Verdict}
 use Rattle.td_desk.specs.Content.{Content, account_in, content_after}
 use Rattle.td_desk.specs.Sound.{IsSound}
 use Rattle.td_desk.specs.Weighing.{IsDecision}
-use Rattle.td_tables.specs.Tables.{Keyed, Tables, AreTablesOf}
+use Rattle.td_acts.specs.Account.{guarantee_by_grn}
+use Rattle.td_tables.specs.Tables.{Keyed, LineCells, Tables, AreTablesOf, guarantee_no}
 use Rattle.td_tables.specs.Gathering.{content_of, with_lines}
-use Rattle.td_tables.specs.Looking.{account_by, AreFoundIn, counting_rows, TellKeys, MayBeAskedByKey}
+use Rattle.td_tables.specs.Looking.{account_by, AreFoundIn, counting_rows, lines_in_use, cents_of, TellKeys, MayBeAskedByKey}
 use Rattle.td_tables.specs.Changes.{tables_after, HaveSameRows, CanBeWritten}
 use Rattle.td_tables.specs.Rules.{KeepRules}
 
@@ -61,6 +63,15 @@ CountingRowsAreUse =
     (t : Tables) (c : Content) → IsSound c → AreTablesOf t c → (H : ℕ) (rows : List (Keyed Movement))
     → IsPermutation (counting_rows H t) rows
     → (grn : List ℕ) → used_on grn (map (with_lines t) rows) ≡ used_on grn (account_in H c).movements
+
+-- The amount in use on a guarantee of the holder's is what the lines on it add up to, of those movements that
+-- count: a line names the guarantee by its serial.
+abbrev pub LinesInUseAreUse : Type 0
+LinesInUseAreUse =
+    (t : Tables) (c : Content) → IsSound c → AreTablesOf t c → (H : ℕ) (grn : List ℕ)
+    → IsSome (guarantee_by_grn grn (account_in H c).guarantees) → (rows : List (Keyed LineCells))
+    → IsPermutation (lines_in_use H (guarantee_no t.country grn) t) rows
+    → sum_by cents_of rows ≡ used_on grn (account_in H c).movements
 
 -- in tables of sound content a row may be asked for by its key and its reference as by its reference alone
 abbrev pub ReferencesTellKeys : Type 0

@@ -1,6 +1,6 @@
 -- What is looked up in the tables: all that they have of a holder's number, and single rows by their references.
 use Rattle.std.specs.Prelude.{◌≡◌, ℕ, ◌==◌, ◌&&◌, List, map, filter, find, Option, Some, unwrap_or}
-use Rattle.std.specs.List.{AllByRecursion}
+use Rattle.std.specs.List.{AllByRecursion, flat_map}
 use Rattle.std.specs.Option.{option_map}
 use Rattle.std.specs.Str.{bytes_eq}
 use Rattle.keyed_rows.specs.Rows.{row_at}
@@ -9,7 +9,7 @@ use Rattle.td_guarantee.specs.declared.guarantee.Guarantee.{Guarantee}
 use Rattle.td_movement.specs.declared.movement.Movement.{Movement}
 use Rattle.td_movement.specs.States.{is_counting}
 use Rattle.td_acts.specs.Account.{Account, guarantee_by_grn, movement_by_mrn, movement_by_lrn}
-use Rattle.td_tables.specs.Tables.{Keyed, Tables, guarantee_no}
+use Rattle.td_tables.specs.Tables.{Keyed, LineCells, Tables, guarantee_no}
 use Rattle.td_tables.specs.Gathering.{holder_no, guarantees_by, movements_by, with_codes, with_lines}
 
 -- what the tables have of a holder's number: nothing where nobody is registered under it
@@ -44,6 +44,18 @@ pub record AreFoundIn (t : Tables) (H : ℕ) (account : Account) : Type 0 where
 -- the rows of the holder's movements that count
 abbrev pub counting_rows : ℕ → Tables → List (Keyed Movement)
 counting_rows H t = filter (λ m. m.holder == H && is_counting m.row.state) t.movements
+
+-- the lines by which a row of a movement stands on the holder's guarantee n
+abbrev pub lines_of_row : ℕ → Tables → Keyed Movement → List (Keyed LineCells)
+lines_of_row n t m = filter (λ l. l.holder == m.holder && (l.serial == m.serial && l.row.guarantee == n)) t.lines
+
+-- those of all movements of the holder that count, as a join of the two tables shows them
+abbrev pub lines_in_use : ℕ → ℕ → Tables → List (Keyed LineCells)
+lines_in_use H n t = flat_map (lines_of_row n t) (counting_rows H t)
+
+-- the amount of a line
+abbrev pub cents_of : Keyed LineCells → ℕ
+cents_of l = l.row.cents
 
 -- the serial in an MRN of a desk of that country
 abbrev pub movement_no : List ℕ → List ℕ → ℕ

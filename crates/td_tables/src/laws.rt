@@ -1,5 +1,5 @@
 //! Laws of the tables, as contracts of functions that do nothing.
-ghost use Rattle.td_tables.specs.Laws.{AccountsAreInTables, ChangesAreWritten, ContentIsOfTables, CountingRowsAreUse, DecisionsAreWritten, ReferencesTellKeys, RowsAreFoundInTables, RuledContentIsSound, RuledTablesAreOfContent, RulesMeanSoundContent};
+ghost use Rattle.td_tables.specs.Laws.{AccountsAreInTables, ChangesAreWritten, ContentIsOfTables, CountingRowsAreUse, DecisionsAreWritten, LinesInUseAreUse, ReferencesTellKeys, RowsAreFoundInTables, RuledContentIsSound, RuledTablesAreOfContent, RulesMeanSoundContent};
 
 /// Tables that have just the rows of sound content have that content.
 pub fn content_is_of_tables()
@@ -25,11 +25,12 @@ pub fn rules_mean_sound_content()
 {}
 
 /// What a desk keeps of a holder is looked up in tables of its content: all of it, a guarantee or a movement by
-/// its reference, and the amounts in use by the movements that count.
+/// its reference, and the amounts in use by the movements that count, or by their lines.
 pub fn accounts_are_in_tables()
     ensures account { AccountsAreInTables }
     ensures found { RowsAreFoundInTables }
     ensures in_use { CountingRowsAreUse }
+    ensures lines { LinesInUseAreUse }
 {}
 
 /// The reference in a row tells the row's key, so that a row may be asked for by its key and its reference.
