@@ -21,3 +21,4 @@ pub mod Looked
 pub mod Counting
 pub mod Joining
 pub mod Told
+pub mod Failing

@@ -1,5 +1,6 @@
 //! Laws of the tables, as contracts of functions that do nothing.
 ghost use Rattle.td_tables.specs.Laws.{AccountsAreInTables, ChangesAreWritten, ContentIsOfTables, CountingRowsAreUse, DecisionsAreWritten, LinesInUseAreUse, ReferencesTellKeys, RowsAreFoundInTables, RuledContentIsSound, RuledTablesAreOfContent, RulesMeanSoundContent};
+ghost use Rattle.td_tables.specs.Failing.{RulesAreKeptEach};
 
 /// Tables that have just the rows of sound content have that content.
 pub fn content_is_of_tables()
@@ -36,4 +37,9 @@ pub fn accounts_are_in_tables()
 /// The reference in a row tells the row's key, so that a row may be asked for by its key and its reference.
 pub fn references_tell_keys()
     ensures { ReferencesTellKeys }
+{}
+
+/// Tables of which the database keeps what it does keep the rules exactly where they keep each of them.
+pub fn rules_are_kept_each()
+    ensures { RulesAreKeptEach }
 {}

@@ -3,10 +3,12 @@
 #![tactic(auto)]
 
 mod laws;
+mod rule;
 #[cfg(test)]
 mod tests;
 
 pub use laws::{
     accounts_are_in_tables, changes_are_written, content_is_of_tables, decisions_are_written,
-    references_tell_keys, rules_mean_sound_content,
+    references_tell_keys, rules_are_kept_each, rules_mean_sound_content,
 };
+pub use rule::Rule;
