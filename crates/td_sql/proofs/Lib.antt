@@ -6,3 +6,4 @@ pub mod Effects
 mod Answering
 pub mod TypedRows
 pub mod Columns
+pub mod Joined

@@ -17,7 +17,7 @@ use Rattle.td_sql.specs.Meanings.{plain_query}
 use Rattle.td_sql.specs.Reading.{IsAnswerOf, row_order, shown_by}
 use Rattle.td_sql.specs.Writing.{passes}
 
-ones : {X Y : Type 0} (p : X → Bool) (f : X → Y) (xs : List X)
+pub ones : {X Y : Type 0} (p : X → Bool) (f : X → Y) (xs : List X)
     → flat_map (λ x. cond (p x) (f x ∷ []) []) xs ≡ map f (filter p xs)
 ones p f [] = refl
 ones p f (x ∷ xs) =
@@ -26,7 +26,7 @@ ones p f (x ∷ xs) =
     [ true ↦ ap (λ l. f x ∷ l) (ones p f xs) | false ↦ ones p f xs ]
 
 -- no tree is hidden
-overlaid : (db : Trees) (t : ℕ) → overlay db [] t ≡ db t
+pub overlaid : (db : Trees) (t : ℕ) → overlay db [] t ≡ db t
 overlaid db t =
     elim (nat_le (2 ^ 31) t) as (λ b. unwrap_or (if b then slice_get [] (t - 2 ^ 31) else None) (db t)
     ≡ db t) [ true ↦ refl | false ↦ refl ]

@@ -47,25 +47,26 @@ all_set P test set (r ∷ rows) each = (
 )
 
 module _ {R : Type 0} (ty : Typing R) (s : Schema) where
-  -- one typed row more
+  -- one typed row more, under the rowid that it got
+  pub inserted_typed_under : (source columns : Row) (x : R) (old new : Database) (h : IsInserted s ty.table source columns old new)
+      → ty.columns (Int h.id ∷ columns) ≡ ty.cells x → ty.from (ty.cells x) ≡ x → AreTyped ty old.trees → HasNow ty s (x ∷ rows_in ty old.trees) old new
+  inserted_typed_under source columns x old new h shows back typed =
+      let head : row_of ty (Int h.id ∷ columns) ≡ x = ap ty.from shows ∙ back in
+      let first : IsTypedRow ty (Int h.id ∷ columns) = shows ∙ sym (ap ty.cells head) in
+      record {
+        same = subst (λ y. IsPermutation (y ∷ rows_in ty old.trees) (rows_in ty new.trees)) head (IsPermutation-map (row_of ty) _ _ h.rows);
+        typed = record { ids = h.ids typed.ids; cells = all-permutation (IsTypedRow ty) _ _ h.rows (first, typed.cells) };
+        others = h.others;
+        schema = h.schema;
+      }
+
+  -- whatever rowid it gets
   pub inserted_typed : (source columns : Row) (x : R) (old new : Database)
       → ((id : ℤ) → ty.columns (Int id ∷ columns) ≡ ty.cells x) → ty.from (ty.cells x) ≡ x
       → IsInserted s ty.table source columns old new → AreTyped ty old.trees
       → HasNow ty s (x ∷ rows_in ty old.trees) old new
   inserted_typed source columns x old new shows back h typed =
-      let head : row_of ty (Int h.id ∷ columns) ≡ x = ap ty.from (shows h.id) ∙ back in
-      let first : IsTypedRow ty (Int h.id ∷ columns) = shows h.id ∙ sym (ap ty.cells head) in
-      record {
-        same = subst (λ y. IsPermutation (y ∷ rows_in ty old.trees) (rows_in ty new.trees)) head
-            (IsPermutation-map (row_of ty) _ _ h.rows);
-        typed = record {
-          ids = h.ids typed.ids;
-          cells =
-              all-permutation (IsTypedRow ty) _ _ h.rows (first, typed.cells);
-        };
-        others = h.others;
-        schema = h.schema;
-      }
+      inserted_typed_under source columns x old new h (shows h.id) back typed
 
   -- those that pass are set anew
   pub updated_typed : (test : Row → Bool) (columns : Row → Row) (p : R → Bool) (f : R → R) (old new : Database)
