@@ -1,38 +1,11 @@
 //! Holders as their rows have them, read from the columns that a statement shows.
 ghost use Rattle.std.specs.Prelude.{◌≡◌, IfSome, IfOk, map};
-ghost use Rattle.sqlite_value.specs.Order.{column};
-ghost use Rattle.td_sql.specs.Values.{number_in, text_in};
 ghost use Rattle.td_holders.specs.Cells.{holder_from};
 
 use sqlite::{Error, ErrorCode, Row};
 use std::alloc::Global;
 use td_acts::HolderRow;
-use td_base::{Eori, HolderNo, Moment};
-use td_sql::{number_at, text_at};
-
-fn holder_at(row: &Row, at: usize) -> Option<HolderNo>
-    ensures { IfSome result (λ holder. number_in (column row.now at) ≡ holder) }
-{
-    HolderNo::new(u32::try_from(number_at(row, at)?).ok()?)
-}
-
-fn eori_at(row: &Row, at: usize) -> Option<Eori>
-    ensures { IfSome result (λ eori. text_in (column row.now at) ≡ eori) }
-{
-    Eori::read(text_at(row, at)?)
-}
-
-fn moment_at(row: &Row, at: usize) -> Option<Moment>
-    ensures { IfSome result (λ moment. number_in (column row.now at) ≡ moment) }
-{
-    Moment::new(i64::try_from(number_at(row, at)?).ok()?).ok()
-}
-
-fn count_at(row: &Row, at: usize) -> Option<u32>
-    ensures { IfSome result (λ count. number_in (column row.now at) ≡ count) }
-{
-    u32::try_from(number_at(row, at)?).ok()
-}
+use td_columns::{eori_at, holder_at, moment_at, serial_at};
 
 // The holder in a row of five columns: `None` where a column can't be that of a holder.
 fn read_holder(row: &Row) -> Option<HolderRow>
@@ -42,8 +15,8 @@ fn read_holder(row: &Row) -> Option<HolderRow>
         holder: holder_at(row, 0)?,
         eori: eori_at(row, 1)?,
         last_at: moment_at(row, 2)?,
-        grn_count: count_at(row, 3)?,
-        mrn_count: count_at(row, 4)?,
+        grn_count: serial_at(row, 3)?,
+        mrn_count: serial_at(row, 4)?,
     })
 }
 
