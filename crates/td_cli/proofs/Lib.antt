@@ -1,4 +1,3 @@
-mod Asked
 mod Moments
 mod Pipes
 mod Connected

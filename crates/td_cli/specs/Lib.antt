@@ -1,5 +1,4 @@
 pub mod Statuses
 pub mod Piped
 pub mod Listening
-pub mod Words
 pub mod Performed

@@ -17,7 +17,7 @@ use Rattle.td_http.specs.Served.{desk_of, IsHandledBy, IsHeadHandledBy}
 use Rattle.td_connections.specs.Private.{IsServedOver}
 use Rattle.td_connections.specs.Sockets.{ServesSockets}
 use Rattle.td_cli.specs.Piped.{IsMoment}
-use Rattle.td_cli.specs.declared.words.Listening.{Listening}
+use Rattle.td_words.specs.declared.words.Listening.{Listening}
 use Rattle.td_cli.specs.declared.serving.PrintedLines.{PrintedLines}
 use Rattle.td_cli.specs.declared.serving.ServingEnd.{ServingEnd}
 use Rattle.td_cli.specs.declared.serving.ServingEnd.TheVariants.{Done, NoMemory, Socket, Write}

@@ -5,13 +5,13 @@ use Rattle.std.specs.declared.io.Error.{Error}
 use Rattle.std.specs.declared.io.ErrorKind.TheVariants.{OutOfMemory}
 use Rattle.counted_io.specs.declared.counted.Counted.{Counted}
 use Rattle.td_cli.specs.declared.serving.ServingEnd.{ServingEnd}
-use Rattle.td_cli.specs.declared.words.Listening.{Listening}
-use Rattle.td_cli.specs.declared.words.NoJob.{NoJob}
-use Rattle.td_cli.specs.declared.words.Task.TheVariants.{Pipe, Serve}
+use Rattle.td_words.specs.declared.words.Listening.{Listening}
+use Rattle.td_words.specs.declared.words.NoJob.{NoJob}
+use Rattle.td_words.specs.declared.words.Task.TheVariants.{Pipe, Serve}
 use Rattle.td_cli.specs.Piped.{IsDone}
 use Rattle.td_cli.specs.Listening.{IsServing}
 use Rattle.td_cli.specs.Statuses.{status_of_end, message_of_end, status_of_serving, message_of_serving, IsTold, IsAnswered}
-use Rattle.td_cli.specs.Words.{AsksFor}
+use Rattle.td_words.specs.Words.{AsksFor}
 use Rattle.td_wire.specs.declared.stream.StreamEnd.{StreamEnd}
 
 -- The words ask for a job, which was done at that country and moment, and its end has its status and its

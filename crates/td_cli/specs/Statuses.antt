@@ -6,8 +6,8 @@ use Rattle.counted_io.specs.Counted.{known_bytes}
 use Rattle.counted_io.specs.Writing.{IsCutShort}
 use Rattle.td_cli.specs.declared.serving.ServingEnd.{ServingEnd}
 use Rattle.td_cli.specs.declared.serving.ServingEnd.TheVariants as serving
-use Rattle.td_cli.specs.declared.words.NoJob.{NoJob}
-use Rattle.td_cli.specs.declared.words.NoJob.TheVariants.{Help, Wrong, NoMemory}
+use Rattle.td_words.specs.declared.words.NoJob.{NoJob}
+use Rattle.td_words.specs.declared.words.NoJob.TheVariants.{Help, Wrong, NoMemory}
 use Rattle.td_wire.specs.declared.stream.StreamEnd.{StreamEnd}
 use Rattle.td_wire.specs.declared.stream.StreamEnd.TheVariants.{Closed, Asked, Served, Refused, Cut, ReadsSpent, ReadFault, WriteFault, Failed}
 

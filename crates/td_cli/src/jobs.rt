@@ -6,7 +6,6 @@ ghost use Rattle.td_cli.specs.Statuses.{message_of_end, message_of_serving, stat
 
 use crate::clock::{FixedClock, MachineClock};
 use crate::serving::{ServingEnd, serve};
-use crate::words::{NoJob, Task, read_words};
 use std::alloc::Global;
 use std::io;
 use std::io::{ErrorKind, Read, Write};
@@ -14,6 +13,7 @@ use std::net::{Net, TcpListener, TcpStream};
 use td_base::{Counted, Country, write_whole};
 use td_desk::PlainDesk;
 use td_http::{Clock, Service, StreamEnd, serve_stream};
+use td_words::{NoJob, Task, read_words};
 
 /// The status of a job that is done.
 const DONE: u8 = 0;

@@ -9,7 +9,6 @@ mod program;
 mod serving;
 #[cfg(test)]
 mod tests;
-mod words;
 
 pub use jobs::perform;
 pub use laws::{agreeing_jobs_tell_the_same, agreeing_servings_tell_the_same};

@@ -3,7 +3,6 @@ ghost use Rattle.std.specs.Prelude.{◌≡◌, ℕ, List, MatchResult};
 ghost use Rattle.td_cli.specs.Listening.{AreLinesOf, IsNew, IsServing, ServesAs};
 
 use crate::clock::{FixedClock, MachineClock};
-use crate::words::Listening;
 use std::alloc::{AllocError, Global};
 use std::io::Write;
 use std::net::{Ipv4Addr, Net, SocketAddr, TcpListener, TcpStream};
@@ -11,6 +10,7 @@ use td_base::{Counted, Country, write_whole};
 use td_connections::serve_on;
 use td_desk::PlainDesk;
 use td_http::{Clock, Service};
+use td_words::Listening;
 
 /// How a serving ended.
 #[derive(Clone, Copy, Debug, PartialEq, Eq)]

@@ -1,6 +1,7 @@
 //! The program's jobs, over readers and writers in memory. Expected bytes are those of the desk's formats,
 //! written out.
 mod acts;
+mod answered_words;
 mod cancellations;
 mod codes;
 mod declarations;
@@ -30,7 +31,6 @@ mod terms;
 mod texts;
 mod views;
 mod waiting_clients;
-mod wrong_words;
 
 use crate::jobs::perform;
 use std::alloc::{AllocError, Global};

@@ -1,9 +1,9 @@
-//! The command line: which job its words ask for.
+//! The command line: which job its words ask for, and what is told where they ask for none.
 ghost use Rattle.std.specs.Prelude.{◌≡◌, ◌≤◌, codes, false, map, pos, string_bytes, IfOk, IfSome, Some};
 ghost use Rattle.std.specs.Str.Parse.{signed_digits_value};
 ghost use Rattle.clap.specs.Words.{app_of, first_value, found_of, new_app, rule_of};
 ghost use Rattle.clap.specs.declared.Command.TheViews.{out-Command};
-ghost use Rattle.td_cli.specs.Words.{AsksFor, bare_app, number_in, option_rule, pipe_app, program_app, serve_app, with_office};
+ghost use Rattle.td_words.specs.Words.{AsksFor, bare_app, number_in, option_rule, pipe_app, program_app, serve_app, with_office};
 
 use clap::error::ErrorKind;
 use clap::{Arg, ArgAction, ArgMatches, Command};
@@ -12,7 +12,7 @@ use td_base::Country;
 
 /// Where a desk is served: at a port of this machine, for so many connections, one after another.
 #[derive(Clone, Copy, Debug, PartialEq, Eq)]
-pub(crate) struct Listening {
+pub struct Listening {
     /// From 1 on.
     pub port: u16,
     /// From 1 to 1,000,000.
@@ -21,7 +21,7 @@ pub(crate) struct Listening {
 
 /// What is done with a desk.
 #[derive(Clone, Copy, Debug, PartialEq, Eq)]
-pub(crate) enum Task {
+pub enum Task {
     /// Connections are served.
     Serve(Listening),
     /// One stream of requests is served, from standard input to standard output.
@@ -30,8 +30,10 @@ pub(crate) enum Task {
 
 /// What the words ask for.
 #[derive(Clone, Copy, Debug, PartialEq, Eq)]
-pub(crate) struct Job {
+pub struct Job {
+    /// What is done with the desk.
     pub task: Task,
+    /// The country of the office.
     pub country: Country,
     /// The moment of all requests, in seconds since 1970; with none, the machine's clock is asked for each.
     pub at: Option<i64>,
@@ -39,11 +41,12 @@ pub(crate) struct Job {
 
 /// Why the words ask for no job.
 #[derive(Debug, Drop)]
-pub(crate) enum NoJob {
+pub enum NoJob {
     /// They ask for help or for the version, which is this text.
     Help(String),
     /// They are wrong words: this line says what was wrong.
     Wrong(String),
+    /// There was no memory to read them, or for what is told of them.
     NoMemory,
 }
 
@@ -219,8 +222,9 @@ fn program<'a>(alloc: Global) -> Result<Command<'a>, AllocError>
         .subcommand(pipe_command(alloc)?)
 }
 
-/// The job that the words ask for; the first of them is the program's name.
-pub(crate) fn read_words(alloc: Global, words: &[String]) -> Result<Job, NoJob>
+/// The job that the words ask for; the first of them is the program's name. An error is what is told instead:
+/// the text that they ask for by `--help` or `--version`, or one line on wrong words; or there was no memory.
+pub fn read_words(alloc: Global, words: &[String]) -> Result<Job, NoJob>
     ensures { IfOk result (λ job. AsksFor (map string_bytes words.now) job.task job.country job.at) }
 {
     match program(alloc)?.try_get_matches_from(words) {

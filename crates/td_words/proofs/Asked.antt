@@ -3,11 +3,11 @@ use Rattle.std.proofs.Common.{◌≡◌, ℤ, pos, ◌≤◌, List, codes, true,
 use Rattle.clap.proofs.WalkLemmas.{first_value-rows}
 use Rattle.clap.specs.Words.{Row, Text, first_of, is_simple, subcommand_of, subcommand_name_of, subcommand_rows_of, first_value, found_of, rows_of}
 use Rattle.clap.specs.declared.ArgMatches.{ArgMatches}
-use Rattle.td_cli.specs.declared.words.Job.{Job}
-use Rattle.td_cli.specs.declared.words.Listening.{Listening}
-use Rattle.td_cli.specs.declared.words.Task.{Task}
-use Rattle.td_cli.specs.declared.words.Task.TheVariants.{Serve}
-use Rattle.td_cli.specs.Words.{program_app, number_in, AsksFor, IsTask}
+use Rattle.td_words.specs.declared.words.Job.{Job}
+use Rattle.td_words.specs.declared.words.Listening.{Listening}
+use Rattle.td_words.specs.declared.words.Task.{Task}
+use Rattle.td_words.specs.declared.words.Task.TheVariants.{Serve}
+use Rattle.td_words.specs.Words.{program_app, number_in, AsksFor, IsTask}
 
 pub is_simple_program : is_simple program_app ≡ true
 is_simple_program = refl

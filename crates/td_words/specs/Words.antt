@@ -3,8 +3,8 @@ use Rattle.std.specs.Prelude.{◌≡◌, ℕ, ◌≤◌, ℤ, pos, List, codes, 
 use Rattle.std.specs.Str.Parse.{signed_digits_value}
 use Rattle.clap.specs.Words.{App, Row, Rule, Text, first_of, new_app, new_rule, subcommand_of, with_rule, with_subcommand}
 use Rattle.clap.specs.declared.builder.ArgAction.TheVariants.{Set}
-use Rattle.td_cli.specs.declared.words.Task.{Task}
-use Rattle.td_cli.specs.declared.words.Task.TheVariants.{Serve, Pipe}
+use Rattle.td_words.specs.declared.words.Task.{Task}
+use Rattle.td_words.specs.declared.words.Task.TheVariants.{Serve, Pipe}
 
 -- an option that takes one value
 abbrev pub option_rule : Text → Rule

@@ -1,9 +1,9 @@
 use Rattle.std.proofs.Common.{◌≡◌, ◌∙◌, ap, sym, refl, codes, Some, map, string_bytes, List}
 use Rattle.clap.specs.Words.{Text, is_simple, subcommand_of, rows_of, found_of}
-use Rattle.td_cli.proofs.Asked.{asks_if, is_serving, is_simple_program, met_as}
-use Rattle.td_cli.specs.Words.{program_app}
-use Rattle.td_cli.specs.declared.words.Task.TheVariants.{Pipe, Serve}
-use Rattle.td_cli.proofs.words.read_words.Goals as goal
+use Rattle.td_words.proofs.Asked.{asks_if, is_serving, is_simple_program, met_as}
+use Rattle.td_words.specs.Words.{program_app}
+use Rattle.td_words.specs.declared.words.Task.TheVariants.{Pipe, Serve}
+use Rattle.td_words.proofs.words.read_words.Goals as goal
 
 pub returns-in-Some-serve-default : goal.returns-in-Some-serve-default
 returns-in-Some-serve-default c =
