@@ -1,0 +1,192 @@
+-- What the statements on the table of movements did.
+use Rattle.std.proofs.Common.{Result, Ok, Err, Option, OnOk}
+use Rattle.std.specs.Prelude.{Vec, IfOk}
+use Rattle.std.specs.Option.{option_to_list}
+use Rattle.std.specs.declared.alloc.Global.{Global}
+use Rattle.sqlite.specs.declared.error.Error.{Error}
+use Rattle.sqlite.specs.Given.{IsPlain}
+use Rattle.sqlite.specs.Listing.{understood}
+use Rattle.td_movements.specs.Stored.{IsTheMovement}
+use Rattle.sqlite.specs.State.{State}
+use Rattle.td_movements.proofs.CellLemmas.{counting_names}
+use Rattle.sqlite_rules.specs.Cast.{cast_all}
+use Rattle.sqlite_sql.specs.Ops.{binary}
+use Rattle.sqlite_sql.specs.Term.{Term, eval_all}
+use Rattle.sqlite_sql.specs.declared.ops.BinaryOp.TheVariants.{Coalesce, Compare}
+use Rattle.sqlite_sql.specs.declared.ops.CompareOp.TheVariants.{Eq}
+use Rattle.sqlite_trees.specs.Tree.{rowid}
+use Rattle.sqlite_typed.proofs.TestLemmas.{at_or, last_term, then_term, truth_or}
+use Rattle.sqlite_value.specs.Order.{Row, column}
+use Rattle.sqlite_value.specs.declared.keys.Collation.TheVariants.{Binary}
+use Rattle.sqlite_value.specs.declared.keys.Key.{Key}
+use Rattle.sqlite_value.specs.declared.value.Value.TheVariants.{Text}
+use Rattle.std.proofs.Common.{Bool, IsPermutation, List, [], ap, false, map, refl, subst, sym, ℕ, ◌∙◌, ◌∷◌, ◌≡◌}
+use Rattle.std.specs.Prelude.{codes, filter, if◌then◌else◌, ◌==◌}
+use Rattle.std.specs.Str.{bytes_eq}
+use Rattle.td_acts.specs.declared.rows.NewStatus.{NewStatus}
+use Rattle.td_movement.specs.States.{state_name}
+use Rattle.td_movement.specs.declared.movement.Movement.{Movement}
+use Rattle.td_movements.proofs.CellLemmas.{back, bare, cells_stored}
+use Rattle.td_movements.proofs.Meanings.{all_columns, counting_tests, holder_tests, insert_means, key_tests, lrn_tests, new_row, set_columns, set_means}
+use Rattle.td_movements.specs.Cells.{movement_cells, movement_columns, movement_typing, movements_table}
+use Rattle.td_movements.specs.Stored.{AreMovements, LeavesAll, ShowsMovements, TurnsMovements, counts_for, has_lrn, has_mrn, is_of, status_values, with_new_status}
+use Rattle.td_movements.specs.declared.stored.StoredMovement.{StoredMovement}
+use Rattle.td_movements.specs.declared.texts.TheConstants.{INSERT, SET_STATUS}
+use Rattle.td_schema.specs.Tables.{desk_schema}
+use Rattle.td_sql.proofs.Columns.{given_or, number_is, text_is}
+use Rattle.td_sql.proofs.TypedRows.{inserted_typed, selected_typed, updated_typed}
+use Rattle.td_sql.specs.Meanings.{MeansSelect}
+use Rattle.td_sql.specs.Reading.{OnlyReads, Selects, row_order, shown_by}
+use Rattle.td_sql.specs.Typed.{IsTypedRow, row_of, rows_in}
+use Rattle.td_sql.specs.Values.{number_or_null, number_value, text_or_null}
+use Rattle.td_sql.specs.Writing.{Inserts, IsInserted, Updates, columns_set, passes}
+use Rattle.td_tables.specs.Tables.{Keyed}
+use Rattle.sqlite_rules.specs.Cast.{cast_all}
+use Rattle.sqlite_sql.specs.Ops.{binary}
+use Rattle.sqlite_sql.specs.Term.{Term, eval_all}
+use Rattle.sqlite_sql.specs.declared.ops.CompareOp.TheVariants.{Eq}
+use Rattle.sqlite_trees.specs.Tree.{rowid}
+use Rattle.sqlite_value.specs.Order.{Row, column}
+use Rattle.sqlite_value.specs.declared.keys.Collation.TheVariants.{Binary}
+use Rattle.sqlite_value.specs.declared.keys.Key.{Key}
+use Rattle.sqlite_value.specs.declared.value.Value.TheVariants.{Text}
+use Rattle.std.proofs.Common.{Bool, IsPermutation, List, [], ap, false, map, refl, sym, ℕ, ◌∙◌, ◌∷◌, ◌≡◌}
+use Rattle.std.specs.Prelude.{codes, filter, if◌then◌else◌, ◌==◌}
+use Rattle.std.specs.Str.{bytes_eq}
+use Rattle.td_acts.specs.declared.rows.NewStatus.{NewStatus}
+use Rattle.td_movement.specs.States.{state_name}
+use Rattle.td_movement.specs.declared.movement.Movement.{Movement}
+use Rattle.td_movements.specs.Cells.{movement_cells, movement_columns, movement_typing, movements_table}
+use Rattle.td_schema.specs.Tables.{desk_schema}
+use Rattle.td_sql.proofs.Columns.{given_or, number_is, text_is}
+use Rattle.td_sql.proofs.TypedRows.{inserted_typed, selected_typed, updated_typed}
+use Rattle.td_sql.specs.Meanings.{MeansSelect}
+use Rattle.td_sql.specs.Typed.{IsTypedRow, row_of, rows_in}
+use Rattle.td_sql.specs.Values.{number_or_null, number_value, text_or_null}
+use Rattle.td_sql.specs.Writing.{Inserts, IsInserted, Updates, columns_set, passes}
+use Rattle.td_tables.specs.Tables.{Keyed}
+use Rattle.td_movements.specs.declared.texts.TheConstants.{INSERT, SET_STATUS}
+use Rattle.td_movements.specs.declared.stored.StoredMovement.{StoredMovement}
+use Rattle.td_movements.proofs.Meanings.{new_row, set_columns, all_columns, key_tests, lrn_tests, holder_tests, counting_tests, insert_means, set_means}
+use Rattle.td_movements.proofs.CellLemmas.{bare, back, cells_stored}
+use Rattle.sqlite_sql.specs.declared.ops.BinaryOp.TheVariants.{Compare, Coalesce}
+use Rattle.sqlite_typed.proofs.TestLemmas.{then_value, then_term, last_term, at_or, truth_or}
+use Rattle.td_sql.specs.Reading.{Selects, OnlyReads, shown_by, row_order}
+
+pub inserted : (m : Keyed Movement) → bare m ≡ m → (values : Row) → values ≡ movement_cells m → (old new : State)
+    → Inserts INSERT.now values old new → TurnsMovements (λ rows. m ∷ rows) old new
+inserted m plain values is old new h has typed =
+    let did : Inserts INSERT.now (movement_cells m) old new = subst (λ v. Inserts INSERT.now v old new) is h in
+    let done = did desk_schema movements_table new_row has insert_means in
+    inserted_typed movement_typing desk_schema (eval_all new_row (movement_cells m ∷ []))
+    (movement_cells m) m old.now new.now (λ id. refl) (back m ∙ plain)
+    (subst (λ c. IsInserted desk_schema movements_table
+    (eval_all new_row (movement_cells m ∷ [])) c old.now new.now) (cells_stored m) done) typed
+
+module _ (r : Row) (is : IsTypedRow movement_typing r) where
+  abbrev m : Keyed Movement
+  m = row_of movement_typing r
+
+  holder_is : (H : ℕ) → truth_or false (binary (Compare Eq Binary) (column r 1) (number_value H)) ≡ (m.holder == H)
+  holder_is H = number_is (column r 1) m.holder H (ap (λ l. column l 0) is)
+
+  pub key_passes : (H n : ℕ) (mrn : List ℕ) (more : Row)
+      → passes (number_value H ∷ number_value n ∷ Text mrn ∷ more) key_tests r ≡ has_mrn H n mrn m
+  key_passes H n mrn more =
+      then_term (holder_is H)
+      (then_term (number_is (column r 2) m.serial n (ap (λ l. column l 1) is))
+      (last_term (text_is (column r 3) m.row.mrn mrn (ap (λ l. column l 2) is))))
+
+  pub lrn_passes : (H : ℕ) (lrn : List ℕ) → passes (number_value H ∷ Text lrn ∷ []) lrn_tests r ≡ has_lrn H lrn m
+  lrn_passes H lrn =
+      then_term (holder_is H) (last_term (text_is (column r 4) m.row.lrn lrn (ap (λ l. column l 3) is)))
+
+  pub holder_passes : (H : ℕ) → passes (number_value H ∷ []) holder_tests r ≡ is_of H m
+  holder_passes H = last_term (holder_is H)
+
+  state_is : (name : List ℕ)
+      → truth_or false (binary (Compare Eq Binary) (column r 8) (Text name))
+      ≡ bytes_eq (state_name m.row.state) name
+  state_is name = text_is (column r 8) (state_name m.row.state) name (ap (λ l. column l 7) is)
+
+  pub counting_passes : (H : ℕ) → passes (number_value H ∷ []) counting_tests r ≡ counts_for H m
+  counting_passes H = then_term (holder_is H) (last_term (
+      at_or false _ _ (at_or false _ _ (state_is (codes "released")) (state_is (codes "enquired")))
+      (at_or false _ _ (state_is (codes "arrived"))
+      (at_or false _ _ (state_is (codes "discrepant")) (state_is (codes "cleared"))))
+      ∙ counting_names m.row.state))
+
+  pub status_set : (H n : ℕ) (status : NewStatus)
+      → movement_columns (rowid r ∷ columns_set movements_table set_columns (status_values H n status) r)
+      ≡ movement_cells (with_new_status status m)
+  status_set H n status =
+      let row : eval_all set_columns (status_values H n status ∷ r ∷ [])
+      ≡ movement_cells (with_new_status status m) =
+      then_value (ap (λ l. column l 0) is)
+      (then_value (ap (λ l. column l 1) is)
+      (then_value (ap (λ l. column l 2) is) (then_value (ap (λ l. column l 3) is)
+      (then_value (ap (λ l. column l 4) is)
+      (then_value (ap (λ l. column l 5) is) (then_value (ap (λ l. column l 6) is) (then_value refl
+      (then_value (ap (λ l. binary Coalesce (number_or_null status.limit) (column l 8)) is
+      ∙ given_or number_value (λ x. refl) status.limit m.row.limit)
+      (then_value (ap (λ l. binary Coalesce (number_or_null status.arrival) (column l 9)) is
+      ∙ given_or number_value (λ x. refl) status.arrival m.row.arrival)
+      (then_value (ap (λ l. binary Coalesce (text_or_null status.actual) (column l 10)) is
+      ∙ given_or Text (λ x. refl) status.actual m.row.actual) refl)))))))))) in
+      ap (cast_all movements_table.columns) row ∙ cells_stored (with_new_status status m)
+
+pub status_turned : (H n : ℕ) (status : NewStatus) (values : Row) → values ≡ status_values H n status
+    → (old new : State) → Updates SET_STATUS.now values old new
+    → TurnsMovements (map (λ m. if has_mrn H n status.mrn m then with_new_status status m else m)) old new
+status_turned H n status values is old new h has typed =
+    let did : Updates SET_STATUS.now (status_values H n status) old new =
+    subst (λ v. Updates SET_STATUS.now v old new) is h in
+    let done = did desk_schema movements_table key_tests set_columns has set_means typed.ids in
+    updated_typed movement_typing desk_schema (passes (status_values H n status) key_tests)
+    (columns_set movements_table set_columns (status_values H n status)) (has_mrn H n status.mrn)
+    (with_new_status status) old.now new.now
+    (λ r row_is. key_passes r row_is H n status.mrn
+    (Text (state_name status.state) ∷ number_or_null status.limit ∷ number_or_null status.arrival
+    ∷ text_or_null status.actual ∷ [])) (λ r row_is. status_set r row_is H n status)
+    (λ r. back (with_new_status status (row_of movement_typing r))) done typed
+
+-- the movements that a statement showed are those that pass
+module _ (text : List ℕ) (values given : Row) (same : values ≡ given) (tests : List Term)
+    (order : List (Term × Key)) (p : Keyed Movement → Bool)
+    (means : MeansSelect desk_schema text 4 tests all_columns order) (passing : (r : Row)
+    → IsTypedRow movement_typing r → passes given tests r ≡ p (row_of movement_typing r)) where
+  pub those : (old : State) (found : List StoredMovement) → ShowsMovements text values old found
+      → AreMovements p old found
+  those old found h has typed =
+      let did : Selects text given old h.0 = subst (λ v. Selects text v old h.0) same h.1 in
+      let answer = did desk_schema 4 tests all_columns order has means in
+      subst (IsPermutation (filter p (rows_in movement_typing old.now.trees))) (sym h.2)
+      (selected_typed movement_typing desk_schema (passes given tests) (shown_by all_columns given) p
+      (row_order order given) old.now.trees h.0 passing (λ r. refl) answer typed)
+
+  pub those_found : (old : State) (r : Result (Vec StoredMovement Global) Error)
+      → IfOk r (λ found. ShowsMovements text values old found.items)
+      → IfOk r (λ found. AreMovements p old found.items)
+  those_found old (Ok found) h = those old found.items h
+  those_found old (Err e) h = h
+
+  pub one_found : (old : State) (r : Result (Option StoredMovement) Error) (found : List StoredMovement)
+      → IfOk r (λ one. option_to_list one ≡ found) → ShowsMovements text values old found
+      → IfOk r (IsTheMovement p old)
+  one_found old (Ok one) found is h = subst (AreMovements p old) (sym is) (those old found h)
+  one_found old (Err e) found is h = is
+
+-- and all stays as it was
+pub stays : (text : List ℕ) → IsPlain (understood desk_schema text) → (old new : State) → OnlyReads text old new
+    → LeavesAll old new
+stays text plain old new h has = h desk_schema has plain
+
+pub stays_ok : {T : Type 0} (text : List ℕ) → IsPlain (understood desk_schema text)
+    → (old new : State) (r : Result T Error)
+    → OnOk r (OnlyReads text old new) → OnOk r (LeavesAll old new)
+stays_ok text plain old new (Ok x) h = stays text plain old new h
+stays_ok text plain old new (Err e) h = h
+
+pub any_ok : {T E P : Type 0} (r : Result T E) → P → OnOk r P
+any_ok (Ok x) p = p
+any_ok (Err e) p = tt

@@ -1,0 +1,159 @@
+//! What is looked up in the table of movements. It changes nothing. `DatabaseCorrupt`: a row is no movement's, or there are
+//! several where there can be one; `OutOfMemory`: want of memory; any other error is the database's own.
+ghost use Rattle.std.specs.Prelude.{◌≡◌, [], ◌∷◌, IsTrue, IfOk, OnOk};
+ghost use Rattle.sqlite.specs.Held.{state};
+ghost use Rattle.sqlite.specs.State.{HasCleanDisk, KeepsCommit, Survives};
+ghost use Rattle.sqlite.specs.Values.{bound};
+ghost use Rattle.sqlite_value.specs.declared.value.Value.TheVariants.{Text};
+ghost use Rattle.td_sql.specs.Values.{number_value};
+ghost use Rattle.std.specs.Option.{option_to_list};
+ghost use Rattle.td_sql.specs.Reading.{OnlyReads};
+ghost use Rattle.td_movements.specs.Stored.{AreMovements, IsTheMovement, LeavesAll, ShowsMovements, has_lrn, has_mrn, is_of, counts_for};
+
+use crate::stored::{StoredMovement, read_movements};
+use crate::texts::{BY_LRN, BY_MRN, COUNTING, OF_HOLDER};
+use sqlite::{Error, ErrorCode, Transaction};
+use sqlite_trees::store::Alter;
+use sqlite_value::value::ValueRef;
+use std::alloc::Global;
+use td_base::{HolderNo, Lrn, Mrn};
+
+fn holder_values(holder: HolderNo) -> [ValueRef<'static>; 1]
+    ensures { bound result ≡ number_value holder ∷ [] }
+{
+    [ValueRef::Int(i64::from(holder.number()))]
+}
+
+fn lrn_values(holder: HolderNo, lrn: &Lrn) -> [ValueRef<'_>; 2]
+    ensures { bound result ≡ number_value holder ∷ Text lrn.now ∷ [] }
+{
+    [
+        ValueRef::Int(i64::from(holder.number())),
+        ValueRef::Text(lrn.as_bytes()),
+    ]
+}
+
+fn mrn_values(holder: HolderNo, serial: u32, mrn: &Mrn) -> [ValueRef<'_>; 3]
+    ensures { bound result ≡ number_value holder ∷ number_value serial ∷ Text mrn.now ∷ [] }
+{
+    [
+        ValueRef::Int(i64::from(holder.number())),
+        ValueRef::Int(i64::from(serial)),
+        ValueRef::Text(mrn.as_bytes()),
+    ]
+}
+
+// The movements that a statement shows, in its order.
+fn shown<S: Alter>(
+    alloc: Global,
+    tx: &mut Transaction<'_, S>,
+    text: &str,
+    values: &[ValueRef<'_>],
+) -> Result<Vec<StoredMovement>, Error>
+    requires { HasCleanDisk (state S.Store tx.old.conn.now) → IsTrue (state S.Store tx.old.conn.now).in_transaction }
+    ensures same_reference { tx.new.conn.ghost_name ≡ tx.old.conn.ghost_name }
+    ensures found { HasCleanDisk (state S.Store tx.new.conn.now) → IfOk result (λ found.
+        ShowsMovements text.now (bound values.now) (state S.Store tx.old.conn.now) found.items) }
+    ensures still { HasCleanDisk (state S.Store tx.new.conn.now)
+        → OnOk result (OnlyReads text.now (state S.Store tx.old.conn.now) (state S.Store tx.new.conn.now)) }
+    ensures inside { HasCleanDisk (state S.Store tx.new.conn.now) → OnOk result (IsTrue (state S.Store tx.new.conn.now).in_transaction) }
+    ensures kept { HasCleanDisk (state S.Store tx.new.conn.now)
+        → KeepsCommit (state S.Store tx.old.conn.now) (state S.Store tx.new.conn.now) }
+    ensures survives { Survives (state S.Store tx.old.conn.now) (state S.Store tx.new.conn.now) (λ _. ⊥) }
+{
+    let rows = td_sql::select(tx, text, values)?;
+    read_movements(alloc, &rows)
+}
+
+// One movement at most. `DatabaseCorrupt`: there are several.
+fn only(mut found: Vec<StoredMovement>) -> Result<Option<StoredMovement>, Error>
+    ensures { IfOk result (λ one. option_to_list one ≡ found.items) }
+{
+    if found.len() > 1 {
+        return Err(Error::SqliteFailure(ErrorCode::DatabaseCorrupt));
+    }
+    Ok(found.pop())
+}
+
+/// The holder's movement with a serial and exactly an MRN, if there is one.
+pub fn find_by_mrn<S: Alter>(
+    alloc: Global,
+    tx: &mut Transaction<'_, S>,
+    holder: HolderNo,
+    serial: u32,
+    mrn: &Mrn,
+) -> Result<Option<StoredMovement>, Error>
+    requires { HasCleanDisk (state S.Store tx.old.conn.now) → IsTrue (state S.Store tx.old.conn.now).in_transaction }
+    ensures same_reference { tx.new.conn.ghost_name ≡ tx.old.conn.ghost_name }
+    ensures found { HasCleanDisk (state S.Store tx.new.conn.now)
+        → IfOk result (IsTheMovement (has_mrn holder serial mrn.now) (state S.Store tx.old.conn.now)) }
+    ensures still { HasCleanDisk (state S.Store tx.new.conn.now)
+        → OnOk result (LeavesAll (state S.Store tx.old.conn.now) (state S.Store tx.new.conn.now)) }
+    ensures inside { HasCleanDisk (state S.Store tx.new.conn.now) → OnOk result (IsTrue (state S.Store tx.new.conn.now).in_transaction) }
+    ensures kept { HasCleanDisk (state S.Store tx.new.conn.now)
+        → KeepsCommit (state S.Store tx.old.conn.now) (state S.Store tx.new.conn.now) }
+    ensures survives { Survives (state S.Store tx.old.conn.now) (state S.Store tx.new.conn.now) (λ _. ⊥) }
+{
+    only(shown(alloc, tx, BY_MRN, &mrn_values(holder, serial, mrn))?)
+}
+
+/// The holder's movement with exactly an LRN, if there is one.
+pub fn find_by_lrn<S: Alter>(
+    alloc: Global,
+    tx: &mut Transaction<'_, S>,
+    holder: HolderNo,
+    lrn: &Lrn,
+) -> Result<Option<StoredMovement>, Error>
+    requires { HasCleanDisk (state S.Store tx.old.conn.now) → IsTrue (state S.Store tx.old.conn.now).in_transaction }
+    ensures same_reference { tx.new.conn.ghost_name ≡ tx.old.conn.ghost_name }
+    ensures found { HasCleanDisk (state S.Store tx.new.conn.now)
+        → IfOk result (IsTheMovement (has_lrn holder lrn.now) (state S.Store tx.old.conn.now)) }
+    ensures still { HasCleanDisk (state S.Store tx.new.conn.now)
+        → OnOk result (LeavesAll (state S.Store tx.old.conn.now) (state S.Store tx.new.conn.now)) }
+    ensures inside { HasCleanDisk (state S.Store tx.new.conn.now) → OnOk result (IsTrue (state S.Store tx.new.conn.now).in_transaction) }
+    ensures kept { HasCleanDisk (state S.Store tx.new.conn.now)
+        → KeepsCommit (state S.Store tx.old.conn.now) (state S.Store tx.new.conn.now) }
+    ensures survives { Survives (state S.Store tx.old.conn.now) (state S.Store tx.new.conn.now) (λ _. ⊥) }
+{
+    only(shown(alloc, tx, BY_LRN, &lrn_values(holder, lrn))?)
+}
+
+/// All movements of a holder.
+pub fn movements_of<S: Alter>(
+    alloc: Global,
+    tx: &mut Transaction<'_, S>,
+    holder: HolderNo,
+) -> Result<Vec<StoredMovement>, Error>
+    requires { HasCleanDisk (state S.Store tx.old.conn.now) → IsTrue (state S.Store tx.old.conn.now).in_transaction }
+    ensures same_reference { tx.new.conn.ghost_name ≡ tx.old.conn.ghost_name }
+    ensures found { HasCleanDisk (state S.Store tx.new.conn.now)
+        → IfOk result (λ found. AreMovements (is_of holder) (state S.Store tx.old.conn.now) found.items) }
+    ensures still { HasCleanDisk (state S.Store tx.new.conn.now)
+        → OnOk result (LeavesAll (state S.Store tx.old.conn.now) (state S.Store tx.new.conn.now)) }
+    ensures inside { HasCleanDisk (state S.Store tx.new.conn.now) → OnOk result (IsTrue (state S.Store tx.new.conn.now).in_transaction) }
+    ensures kept { HasCleanDisk (state S.Store tx.new.conn.now)
+        → KeepsCommit (state S.Store tx.old.conn.now) (state S.Store tx.new.conn.now) }
+    ensures survives { Survives (state S.Store tx.old.conn.now) (state S.Store tx.new.conn.now) (λ _. ⊥) }
+{
+    shown(alloc, tx, OF_HOLDER, &holder_values(holder))
+}
+
+/// The movements of a holder that count against their guarantees.
+pub fn counting_movements<S: Alter>(
+    alloc: Global,
+    tx: &mut Transaction<'_, S>,
+    holder: HolderNo,
+) -> Result<Vec<StoredMovement>, Error>
+    requires { HasCleanDisk (state S.Store tx.old.conn.now) → IsTrue (state S.Store tx.old.conn.now).in_transaction }
+    ensures same_reference { tx.new.conn.ghost_name ≡ tx.old.conn.ghost_name }
+    ensures found { HasCleanDisk (state S.Store tx.new.conn.now)
+        → IfOk result (λ found. AreMovements (counts_for holder) (state S.Store tx.old.conn.now) found.items) }
+    ensures still { HasCleanDisk (state S.Store tx.new.conn.now)
+        → OnOk result (LeavesAll (state S.Store tx.old.conn.now) (state S.Store tx.new.conn.now)) }
+    ensures inside { HasCleanDisk (state S.Store tx.new.conn.now) → OnOk result (IsTrue (state S.Store tx.new.conn.now).in_transaction) }
+    ensures kept { HasCleanDisk (state S.Store tx.new.conn.now)
+        → KeepsCommit (state S.Store tx.old.conn.now) (state S.Store tx.new.conn.now) }
+    ensures survives { Survives (state S.Store tx.old.conn.now) (state S.Store tx.new.conn.now) (λ _. ⊥) }
+{
+    shown(alloc, tx, COUNTING, &holder_values(holder))
+}

@@ -1,0 +1,14 @@
+//! The movements of a store: what is read of their table, and what is written into it. Each function runs one statement
+//! inside a transaction that the caller commits.
+#![tactic(auto)]
+
+mod finding;
+mod stored;
+#[cfg(test)]
+mod tests;
+mod texts;
+mod writing;
+
+pub use finding::{counting_movements, find_by_lrn, find_by_mrn, movements_of};
+pub use stored::StoredMovement;
+pub use writing::{insert_movement, set_status};

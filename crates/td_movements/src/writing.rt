@@ -1,0 +1,119 @@
+//! What is written into the table of movements. An error is the database's own, and commits nothing.
+ghost use Rattle.std.specs.Prelude.{◌≡◌, [], ◌∷◌, true, if◌then◌else◌, map, IsTrue, OnOk};
+ghost use Rattle.sqlite.specs.Held.{state};
+ghost use Rattle.sqlite.specs.State.{HasCleanDisk, KeepsCommit, Shows, Survives};
+ghost use Rattle.sqlite.specs.Values.{bound};
+ghost use Rattle.td_movement.specs.States.{state_name};
+ghost use Rattle.td_tables.specs.Tables.{movement_row};
+ghost use Rattle.td_movements.specs.Cells.{movement_cells};
+ghost use Rattle.td_movements.specs.Stored.{TurnsMovements, has_mrn, with_new_status, status_values};
+ghost use Rattle.td_sql.specs.Values.{number_value, number_or_null, text_or_null};
+
+use crate::texts::{INSERT, SET_STATUS};
+use sqlite::{Error, Transaction};
+use sqlite_trees::store::Alter;
+use sqlite_value::value::ValueRef;
+use td_acts::NewStatus;
+use td_base::{Day, HolderNo, OfficeNo};
+use td_movement::Movement;
+
+fn day_value(day: Day) -> ValueRef<'static>
+    ensures { bound (result ∷ []) ≡ number_value day ∷ [] }
+{
+    ValueRef::Int(day.number())
+}
+
+fn optional_day(day: Option<Day>) -> ValueRef<'static>
+    ensures { bound (result ∷ []) ≡ number_or_null day ∷ [] }
+{
+    match day {
+        Some(day) => ValueRef::Int(day.number()),
+        None => ValueRef::Null,
+    }
+}
+
+fn optional_office(office: &Option<OfficeNo>) -> ValueRef<'_>
+    ensures { bound (result ∷ []) ≡ text_or_null office.now ∷ [] }
+{
+    match office {
+        Some(office) => ValueRef::Text(office.as_bytes()),
+        None => ValueRef::Null,
+    }
+}
+
+// The columns of a movement's row.
+fn columns(holder: HolderNo, serial: u32, movement: &Movement) -> [ValueRef<'_>; 11]
+    ensures { bound result ≡ movement_cells (movement_row holder (serial, movement.now)) }
+{
+    [
+        ValueRef::Int(i64::from(holder.number())),
+        ValueRef::Int(i64::from(serial)),
+        ValueRef::Text(movement.mrn.as_bytes()),
+        ValueRef::Text(movement.lrn.as_bytes()),
+        ValueRef::Text(movement.departure.as_bytes()),
+        ValueRef::Text(movement.destination.as_bytes()),
+        day_value(movement.accepted),
+        ValueRef::Text(movement.state.name().as_bytes()),
+        optional_day(movement.limit),
+        optional_day(movement.arrival),
+        optional_office(&movement.actual),
+    ]
+}
+
+// What a new status is written by: the key and the MRN, and then the columns.
+fn status_columns(holder: HolderNo, serial: u32, status: &NewStatus) -> [ValueRef<'_>; 7]
+    ensures { bound result ≡ status_values holder serial status.now }
+{
+    [
+        ValueRef::Int(i64::from(holder.number())),
+        ValueRef::Int(i64::from(serial)),
+        ValueRef::Text(status.mrn.as_bytes()),
+        ValueRef::Text(status.state.name().as_bytes()),
+        optional_day(status.limit),
+        optional_day(status.arrival),
+        optional_office(&status.actual),
+    ]
+}
+
+/// Inserts the row of a holder's movement under a serial, without its lines.
+pub fn insert_movement<S: Alter>(
+    tx: &mut Transaction<'_, S>,
+    holder: HolderNo,
+    serial: u32,
+    movement: &Movement,
+) -> Result<(), Error>
+    requires { HasCleanDisk (state S.Store tx.old.conn.now) → IsTrue (state S.Store tx.old.conn.now).in_transaction }
+    ensures same_reference { tx.new.conn.ghost_name ≡ tx.old.conn.ghost_name }
+    ensures inserted { HasCleanDisk (state S.Store tx.new.conn.now)
+        → OnOk result (TurnsMovements (λ rows. movement_row holder (serial, movement.now) ∷ rows)
+        (state S.Store tx.old.conn.now) (state S.Store tx.new.conn.now)) }
+    ensures inside { HasCleanDisk (state S.Store tx.new.conn.now) → OnOk result (Shows (state S.Store tx.old.conn.now)
+        (state S.Store tx.new.conn.now) (state S.Store tx.new.conn.now).now (state S.Store tx.old.conn.now).committed true) }
+    ensures kept { HasCleanDisk (state S.Store tx.new.conn.now)
+        → KeepsCommit (state S.Store tx.old.conn.now) (state S.Store tx.new.conn.now) }
+    ensures survives { Survives (state S.Store tx.old.conn.now) (state S.Store tx.new.conn.now) (λ _. ⊥) }
+{
+    td_sql::insert(tx, INSERT, &columns(holder, serial, movement))
+}
+
+/// Puts the movement of a holder with a serial and the MRN of the status into that status: the days and the office that
+/// come with it are set, and the others stay. `DatabaseCorrupt`: there isn't just one such movement.
+pub fn set_status<S: Alter>(
+    tx: &mut Transaction<'_, S>,
+    holder: HolderNo,
+    serial: u32,
+    status: &NewStatus,
+) -> Result<(), Error>
+    requires { HasCleanDisk (state S.Store tx.old.conn.now) → IsTrue (state S.Store tx.old.conn.now).in_transaction }
+    ensures same_reference { tx.new.conn.ghost_name ≡ tx.old.conn.ghost_name }
+    ensures set { HasCleanDisk (state S.Store tx.new.conn.now) → OnOk result (TurnsMovements
+        (map (λ m. if has_mrn holder serial status.now.mrn m then with_new_status status.now m else m))
+        (state S.Store tx.old.conn.now) (state S.Store tx.new.conn.now)) }
+    ensures inside { HasCleanDisk (state S.Store tx.new.conn.now) → OnOk result (Shows (state S.Store tx.old.conn.now)
+        (state S.Store tx.new.conn.now) (state S.Store tx.new.conn.now).now (state S.Store tx.old.conn.now).committed true) }
+    ensures kept { HasCleanDisk (state S.Store tx.new.conn.now)
+        → KeepsCommit (state S.Store tx.old.conn.now) (state S.Store tx.new.conn.now) }
+    ensures survives { Survives (state S.Store tx.old.conn.now) (state S.Store tx.new.conn.now) (λ _. ⊥) }
+{
+    td_sql::update(tx, SET_STATUS, &status_columns(holder, serial, status))
+}
