@@ -35,10 +35,11 @@ fn value(c: u8) -> Option<u8>
 {
     match c {
         b'0'..=b'9' => Some(c - b'0'),
-        b'A' => Some(10),
-        b'B'..=b'K' => Some(c - b'B' + 12),
-        b'L'..=b'U' => Some(c - b'L' + 23),
-        b'V'..=b'Z' => Some(c - b'V' + 34),
+        b'A'..=b'Z' => {
+            // one is left out behind A, behind K and behind U
+            let letter = c - b'A';
+            Some(10 + letter + (letter + 9) / 10)
+        }
         _ => None,
     }
 }

@@ -1,9 +1,11 @@
 -- The access codes of a guarantee.
-use Rattle.std.specs.Prelude.{ℕ, List, ◌∷◌, ◌++◌, filter, Bool, not}
+use Rattle.std.specs.Prelude.{ℕ, List, [], ◌∷◌, ◌++◌, filter, Bool, not}
 use Rattle.std.specs.Ordering.{nat_cmp, is_lt}
 use Rattle.std.specs.Str.{bytes_eq}
 use Rattle.std.specs.Cmp.Lexicographic.{slice_cmp}
 use Rattle.std.specs.List.Sorted.{IsStrictlySortedBy}
+use Rattle.td_guarantee.specs.declared.codes.Items.{Items}
+use Rattle.td_guarantee.specs.declared.codes.Items.TheVariants.{One, Many}
 
 -- they stand in ascending order of their characters, no two alike
 abbrev pub AreAscending : List (List ℕ) → Type 0
@@ -20,3 +22,8 @@ with_code code codes = filter (λ c. is_before c code) codes ++ code ∷ filter 
 -- the codes without this one
 abbrev pub without_code : List ℕ → List (List ℕ) → List (List ℕ)
 without_code code codes = filter (λ c. not (bytes_eq c code)) codes
+
+-- the codes as they are kept: one that stands alone, or those of a list
+abbrev pub codes_in : Items → List (List ℕ)
+codes_in (One code) = code ∷ []
+codes_in (Many codes) = codes.items

@@ -10,18 +10,69 @@ use td_base::AccessCode;
 /// The access codes of a guarantee, in ascending order of their characters.
 #[derive(Debug, Drop)]
 pub struct Codes {
-    items: Vec<AccessCode>,
+    alloc: Global,
+    items: Items,
+}
+
+// Most guarantees have one code, which takes no memory of its own.
+#[derive(Debug, Drop)]
+enum Items {
+    One(AccessCode),
+    Many(Vec<AccessCode>),
+}
+
+impl Items {
+    ghost use Rattle.std.specs.Prelude.{◌≤◌, insert};
+    ghost use Rattle.td_guarantee.specs.Codes.{codes_in, without_code};
+
+    // The codes, in order.
+    fn listed(&self) -> &[AccessCode]
+        ensures { result.now ≡ codes_in self.now }
+    {
+        match self {
+            Items::One(code) => std::slice::from_ref(code),
+            Items::Many(codes) => codes,
+        }
+    }
+
+    // Puts a code at a place. `AllocError`: want of memory, and they are as they were.
+    fn insert(&mut self, alloc: Global, at: usize, code: AccessCode) -> Result<(), AllocError>
+        requires { at ≤ length (codes_in self.old) }
+        ensures ok { OnOk result (codes_in self.new ≡ insert (codes_in self.old) at code) }
+        ensures err { OnErr result (codes_in self.new ≡ codes_in self.old) }
+    {
+        match self {
+            Items::One(known) => {
+                let mut codes = vec![in alloc; *known]?;
+                codes.insert(at, code)?;
+                *self = Items::Many(codes);
+            }
+            Items::Many(codes) => codes.insert(at, code)?,
+        }
+        Ok(())
+    }
+
+    // Takes a code out, if it is there.
+    fn remove(&mut self, alloc: Global, code: &AccessCode)
+        ensures { codes_in self.new ≡ without_code code.now (codes_in self.old) }
+    {
+        if let Items::Many(codes) = self {
+            codes.retain(|known| known != code);
+        } else if self.listed().contains(code) {
+            *self = Items::Many(Vec::new(alloc));
+        }
+    }
 }
 
 impl Model for Codes {
     ghost use Rattle.std.specs.Prelude.{List, ℕ};
-    ghost use Rattle.td_guarantee.specs.Codes.{AreAscending};
+    ghost use Rattle.td_guarantee.specs.Codes.{AreAscending, codes_in};
 
     ghost Value = { List (List ℕ) };
 
-    ghost view = { λ c. c.items.items };
+    ghost view = { λ c. codes_in c.items };
 
-    ghost invariant = { λ c. AreAscending c.items.items };
+    ghost invariant = { λ c. AreAscending (codes_in c.items) };
 }
 
 impl Codes {
@@ -31,22 +82,22 @@ impl Codes {
     pub fn one(alloc: Global, code: AccessCode) -> Result<Self, AllocError>
         ensures { IfOk result (λ codes. codes ≡ code ∷ []) }
     {
-        let items = vec![in alloc; code]?;
-        Ok(Codes { items })
+        let items = Items::One(code);
+        Ok(Codes { alloc, items })
     }
 
     /// Whether a code is one of them.
     pub fn has(&self, code: &AccessCode) -> bool
         ensures { result ≡ list_any (λ c. bytes_eq c code.now) self.now }
     {
-        self.items.contains(code)
+        self.as_slice().contains(code)
     }
 
     /// How many they are.
     pub fn len(&self) -> usize
         ensures { result ≡ length self.now }
     {
-        self.items.len()
+        self.as_slice().len()
     }
 
     /// Puts a code in its place; one that is there already stays, once. `AllocError`: want of memory, and
@@ -55,8 +106,8 @@ impl Codes {
         ensures ok { OnOk result (self.new ≡ with_code code self.old) }
         ensures err { OnErr result (self.new ≡ self.old) }
     {
-        if let Err(at) = self.items.binary_search(&code) {
-            self.items.insert(at, code)?;
+        if let Err(at) = self.as_slice().binary_search(&code) {
+            self.items.insert(self.alloc, at, code)?;
         }
         Ok(())
     }
@@ -65,7 +116,7 @@ impl Codes {
     pub fn remove(&mut self, code: &AccessCode)
         ensures { self.new ≡ without_code code.now self.old }
     {
-        self.items.retain(|known| known != code);
+        self.items.remove(self.alloc, code);
     }
 
     /// The codes, in order.
@@ -73,14 +124,17 @@ impl Codes {
         ensures value { result.now ≡ self.now }
         ensures ascending { AreAscending result.now }
     {
-        self.items.as_slice()
+        self.items.listed()
     }
 
     /// The same codes in other memory. `AllocError`: want of memory.
     pub fn copy(&self, alloc: Global) -> Result<Self, AllocError>
         ensures { IfOk result (λ codes. codes ≡ self.now) }
     {
-        let items = Vec::from_slice(alloc, &self.items)?;
-        Ok(Codes { items })
+        let items = match &self.items {
+            Items::One(code) => Items::One(*code),
+            Items::Many(codes) => Items::Many(Vec::from_slice(alloc, codes)?),
+        };
+        Ok(Codes { alloc, items })
     }
 }

@@ -49,7 +49,11 @@ fn weigh_and_carry<D: Desk>(
         (λ why. IsOutcomeOf D.called desk.old (outcome.Failed why) desk.new
         ⊎ ((why ≡ fault.NoMemory) × D.called desk.old None desk.new)) }
 {
-    let decision = desk.weigh(alloc, at, command)?;
+    // no `?`: a decision is large, and `?` would copy it twice more
+    let decision = match desk.weigh(alloc, at, command) {
+        Ok(decision) => decision,
+        Err(fault) => return Err(fault),
+    };
     let bytes = match reply_bytes(alloc, decision.said(), close) {
         Ok(bytes) => bytes,
         Err(error) => {

@@ -92,8 +92,10 @@ fn holder_and_mrn(parts: &Parts<'_, '_>) -> Result<(HolderNo, Mrn), WebFault>
 // The route that the parts name, once they are read.
 macro_rules! named {
     ($read:expr, $route:ident { $($part:ident),+ }) => {{
-        let ($($part),+) = $read?;
-        Ok(Route::$route { $($part),+ })
+        match $read {
+            Ok(($($part),+)) => Ok(Route::$route { $($part),+ }),
+            Err(fault) => Err(fault),
+        }
     }};
 }
 

@@ -12,22 +12,22 @@ pub returns-clause-answered : goal.returns-clause-answered
 returns-clause-answered g c = λ clean.
     let content = g.D.Desk.content in
     let s : Stamped = record { at = c.args.at; command = c.args.command.now } in
-    let weighing = c.in_ok-decision.ensures in
+    let weighing = c.in-Ok.ensures in
     let carrying = c.in_ok-_said.ensures in
     let before = carrying.clean clean in
     let shown = weighing.shown before in
     let live = carrying.stays clean shown.1 in
     let same = weighing.same before shown.1 in (
-      c.in_ok-decision.decision.said,
-      c.in-Ok.ensures ∙ ap (λ (words : Said). said_reply words c.args.close) c.said.ensures,
+      c.in-Ok.decision.said,
+      c.in-Ok-reply_bytes.ensures ∙ ap (λ (words : Said). said_reply words c.args.close) c.said.ensures,
       (
         shown.0,
         live,
         λ sound.
-            let weighed : IsWeighed (content c.args.desk.now) c.args.at c.args.command.now c.in_ok-decision.decision = rw (to_z-of_z w64 c.args.at c.ranges.at) at (weighing.decision before shown.0 sound) in (
+            let weighed : IsWeighed (content c.args.desk.now) c.args.at c.args.command.now c.in-Ok.decision = rw (to_z-of_z w64 c.args.at c.ranges.at) at (weighing.decision before shown.0 sound) in (
               weighed.said,
               subst (λ (old : Content). Carries old s (content c.carry.new.self)) same
-                  (carrying.carried clean live (subst IsSound (sym same) sound) s weighing.proper (subst (λ (old : Content). IsWeighed old s.at s.command c.in_ok-decision.decision) (sym same) weighed)),
+                  (carrying.carried clean live (subst IsSound (sym same) sound) s weighing.proper (subst (λ (old : Content). IsWeighed old s.at s.command c.in-Ok.decision) (sym same) weighed)),
             ),
       ),
     )
