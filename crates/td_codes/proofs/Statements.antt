@@ -1,0 +1,107 @@
+-- What the statements on the table of codes did.
+use Rattle.td_tables.specs.Changes.{is_code_of}
+use Rattle.td_codes.specs.declared.texts.TheConstants.{DELETE}
+use Rattle.td_codes.proofs.Meanings.{code_tests, delete_means}
+use Rattle.td_sql.proofs.TypedRows.{deleted_typed}
+use Rattle.td_sql.proofs.Columns.{text_is}
+use Rattle.td_sql.specs.Writing.{Deletes}
+use Rattle.std.specs.Prelude.{not}
+use Rattle.sqlite.specs.State.{State}
+use Rattle.sqlite.specs.declared.error.Error.{Error}
+use Rattle.std.proofs.Common.{Result, Ok, Err, OnOk, subst}
+use Rattle.std.specs.Prelude.{Vec, IfOk, pos}
+use Rattle.std.specs.declared.alloc.Global.{Global}
+use Rattle.sqlite_typed.proofs.TestLemmas.{then_value, then_term, last_term}
+use Rattle.td_sql.proofs.Effects.{cast_int}
+use Rattle.td_codes.proofs.Meanings.{all_columns, by_code, insert_means, key_tests, new_row, of_guarantee_means}
+use Rattle.sqlite_rules.specs.Cast.{cast_all}
+use Rattle.sqlite_sql.specs.Term.{eval_all}
+use Rattle.sqlite_value.specs.Order.{Row, column}
+use Rattle.std.proofs.Common.{IsPermutation, List, [], ap, map, refl, sym, ℕ, ◌∷◌, ◌≡◌}
+use Rattle.std.specs.Prelude.{filter}
+use Rattle.td_codes.specs.Cells.{code_cells, code_from, code_typing, stored_table}
+use Rattle.td_codes.specs.Stored.{AreCodes, LeavesAll, TurnsCodes, is_code_of_guarantee, row_of_stored}
+use Rattle.td_codes.specs.declared.stored.StoredCode.{StoredCode}
+use Rattle.td_codes.specs.declared.texts.TheConstants.{INSERT, OF_GUARANTEE}
+use Rattle.td_schema.specs.Tables.{desk_schema}
+use Rattle.td_sql.proofs.Columns.{number_is}
+use Rattle.td_sql.proofs.TypedRows.{inserted_typed, selected_typed}
+use Rattle.td_sql.specs.Reading.{OnlyReads, Selects, row_order, shown_by}
+use Rattle.td_sql.specs.Typed.{IsTypedRow, row_of, rows_in}
+use Rattle.td_sql.specs.Values.{number_value}
+use Rattle.td_sql.specs.Writing.{Inserts, IsInserted, passes}
+use Rattle.td_tables.specs.Tables.{Keyed}
+use Rattle.td_codes.specs.declared.texts.TheConstants.{INSERT, OF_GUARANTEE}
+use Rattle.td_codes.specs.declared.stored.StoredCode.{StoredCode}
+
+back : (l : Keyed (List ℕ)) → code_from (code_cells l) ≡ l
+back l = refl
+
+cells_stored : (l : Keyed (List ℕ)) → cast_all stored_table.columns (code_cells l) ≡ code_cells l
+cells_stored l = then_value (cast_int (pos l.holder)) (then_value (cast_int (pos l.serial)) refl)
+
+pub inserted : (l : Keyed (List ℕ)) (values : Row) → values ≡ code_cells l → (old new : State)
+    → Inserts INSERT.now values old new
+    → TurnsCodes (λ rows. l ∷ rows) old new
+inserted l values is old new h has typed =
+    let did : Inserts INSERT.now (code_cells l) old new = subst (λ v. Inserts INSERT.now v old new) is h in
+    let done = did desk_schema stored_table new_row has insert_means in
+    inserted_typed code_typing desk_schema (eval_all new_row (code_cells l ∷ [])) (code_cells l) l old.now new.now
+    (λ id. refl) (back l)
+    (subst (λ c. IsInserted desk_schema stored_table (eval_all new_row (code_cells l ∷ [])) c old.now new.now)
+    (cells_stored l) done) typed
+
+code_passes : (c : Keyed (List ℕ)) (r : Row) → IsTypedRow code_typing r
+    → passes (code_cells c) code_tests r ≡ is_code_of c.holder c.serial c.row (row_of code_typing r)
+code_passes c r is =
+    then_term (number_is (column r 1) (row_of code_typing r).holder c.holder (ap (λ l. column l 0) is))
+    (then_term (number_is (column r 2) (row_of code_typing r).serial c.serial (ap (λ l. column l 1) is))
+    (last_term (text_is (column r 3) (row_of code_typing r).row c.row (ap (λ l. column l 2) is))))
+
+pub deleted : (c : Keyed (List ℕ)) (values : Row) → values ≡ code_cells c → (old new : State)
+    → Deletes DELETE.now values old new
+    → TurnsCodes (filter (λ r. not (is_code_of c.holder c.serial c.row r))) old new
+deleted c values is old new h has typed =
+    let did : Deletes DELETE.now (code_cells c) old new = subst (λ v. Deletes DELETE.now v old new) is h in
+    let done = did desk_schema stored_table code_tests has delete_means typed.ids in
+    deleted_typed code_typing desk_schema (passes (code_cells c) code_tests)
+    (is_code_of c.holder c.serial c.row) old.now
+    new.now (code_passes c) done typed
+
+key_passes : (H n : ℕ) (r : Row) → IsTypedRow code_typing r
+    → passes (number_value H ∷ number_value n ∷ []) key_tests r ≡ is_code_of_guarantee H n (row_of code_typing r)
+key_passes H n r is =
+    then_term (number_is (column r 1) (row_of code_typing r).holder H (ap (λ l. column l 0) is))
+    (last_term (number_is (column r 2) (row_of code_typing r).serial n (ap (λ l. column l 1) is)))
+
+-- the codes that were shown are those of the guarantee
+pub those : (H n : ℕ) (values : Row) → values ≡ number_value H ∷ number_value n ∷ []
+    → (old : State) (rows : List Row)
+    → Selects OF_GUARANTEE.now values old rows → (found : List StoredCode)
+    → map row_of_stored found ≡ map code_from rows
+    → AreCodes (is_code_of_guarantee H n) old found
+those H n values is old rows h found read has typed =
+    let given : Row = number_value H ∷ number_value n ∷ [] in
+    let did : Selects OF_GUARANTEE.now given old rows = subst (λ v. Selects OF_GUARANTEE.now v old rows) is h in
+    let answer = did desk_schema 2 key_tests all_columns by_code has of_guarantee_means in
+    subst (IsPermutation (filter (is_code_of_guarantee H n) (rows_in code_typing old.now.trees))) (sym read)
+    (selected_typed code_typing desk_schema (passes given key_tests) (shown_by all_columns given)
+    (is_code_of_guarantee H n)
+    (row_order by_code given) old.now.trees rows
+    (key_passes H n) (λ r. refl) answer typed)
+
+pub those_found : (H n : ℕ) (values : Row) → values ≡ number_value H ∷ number_value n ∷ []
+    → (old : State) (rows : List Row)
+    → Selects OF_GUARANTEE.now values old rows → (r : Result (Vec StoredCode Global) Error)
+    → IfOk r (λ found. map row_of_stored found.items ≡ map code_from rows)
+    → IfOk r (λ found. AreCodes (is_code_of_guarantee H n) old found.items)
+those_found H n values is old rows h (Ok found) read = those H n values is old rows h found.items read
+those_found H n values is old rows h (Err e) read = read
+
+-- and all stays as it was
+pub stays : (old new : State) → OnlyReads OF_GUARANTEE.now old new → LeavesAll old new
+stays old new h has = h desk_schema has of_guarantee_means.plain
+
+pub any_ok : {T E P : Type 0} (r : Result T E) → P → OnOk r P
+any_ok (Ok x) p = p
+any_ok (Err e) p = tt
