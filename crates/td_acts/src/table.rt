@@ -48,7 +48,9 @@ fn verdict_at(
             reference,
             cover,
             code,
-        } => open(alloc, loaded, at, *holder, *reference, *cover, *code),
+        } => Ok(open(
+            alloc, loaded, at, *holder, *reference, *cover, *code,
+        )),
         Command::Amend {
             grn,
             reference,
@@ -121,32 +123,32 @@ fn open(
     reference: Reference,
     cover: Cover,
     code: AccessCode,
-) -> Result<Verdict, AllocError>
-    ensures { IfOk result (IsVerdictAt loaded.now at (Command.OpenGuarantee holder reference cover code)) }
+) -> Verdict
+    ensures { IsVerdictAt loaded.now at (Command.OpenGuarantee holder reference cover code) result }
 {
     let Some(row) = loaded.holder else {
-        return Ok(Verdict::refused(Refusal::NoHolder));
+        return Verdict::refused(Refusal::NoHolder);
     };
     if at < row.last_at {
-        return Ok(Verdict::refused(Refusal::ClockBack));
+        return Verdict::refused(Refusal::ClockBack);
     }
     let Some((serial, grn)) = next_grn(loaded.country, holder, at, row.grn_count) else {
-        return Ok(Verdict::refused(Refusal::SerialsSpent));
+        return Verdict::refused(Refusal::SerialsSpent);
     };
     let guarantee = Guarantee {
         grn,
         reference: reference.get(),
         cover,
         ends: None,
-        codes: Codes::one(alloc, code)?,
+        codes: Codes::one(alloc, code),
     };
     let row = HolderRow {
         last_at: at,
         grn_count: serial,
         ..row
     };
-    Ok(Verdict {
+    Verdict {
         said: Said::Answered(Answer::Opened { grn }),
         change: Change::Opened(row, guarantee),
-    })
+    }
 }

@@ -36,7 +36,7 @@ fn guarantee(alloc: Global) -> Result<Guarantee, Fail> {
         reference: Cents::new(1_000_000).ok_or("an amount")?,
         cover: Cover::new(50).ok_or("a cover")?,
         ends: None,
-        codes: Codes::one(alloc, code)?,
+        codes: Codes::one(alloc, code),
     })
 }
 

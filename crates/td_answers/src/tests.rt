@@ -50,6 +50,6 @@ fn guarantee(
         reference,
         cover,
         ends: Day::read(ends),
-        codes: Codes::one(alloc, code).ok()?,
+        codes: Codes::one(alloc, code),
     })
 }

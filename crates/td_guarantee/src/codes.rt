@@ -78,12 +78,20 @@ impl Model for Codes {
 impl Codes {
     ghost use Rattle.td_guarantee.specs.Codes.{AreAscending, with_code, without_code};
 
-    /// One code alone. `AllocError`: want of memory.
-    pub fn one(alloc: Global, code: AccessCode) -> Result<Self, AllocError>
-        ensures { IfOk result (λ codes. codes ≡ code ∷ []) }
+    /// None yet.
+    pub fn none(alloc: Global) -> Self
+        ensures { result ≡ [] }
+    {
+        let items = Items::Many(Vec::new(alloc));
+        Codes { alloc, items }
+    }
+
+    /// One code alone.
+    pub fn one(alloc: Global, code: AccessCode) -> Self
+        ensures { result ≡ code ∷ [] }
     {
         let items = Items::One(code);
-        Ok(Codes { alloc, items })
+        Codes { alloc, items }
     }
 
     /// Whether a code is one of them.

@@ -136,7 +136,7 @@ fn guarantees_are_copied_with_their_codes(rt: HostRuntime) -> Result<(), Fail> {
         reference: Cents::new(1_000_000).ok_or("an amount")?,
         cover: Cover::new(50).ok_or("a cover")?,
         ends: None,
-        codes: Codes::one(alloc, code)?,
+        codes: Codes::one(alloc, code),
     };
     let copy = guarantee.copy(alloc)?;
     assert_eq!(rt; copy.grn, guarantee.grn);
@@ -149,7 +149,7 @@ fn guarantees_are_copied_with_their_codes(rt: HostRuntime) -> Result<(), Fail> {
 
 // The codes BBBB, DDDD and FFFF.
 fn three_codes(alloc: Global) -> Result<Codes, Fail> {
-    let mut codes = Codes::one(alloc, AccessCode::read(b"DDDD").ok_or("a code")?)?;
+    let mut codes = Codes::one(alloc, AccessCode::read(b"DDDD").ok_or("a code")?);
     codes.add(AccessCode::read(b"FFFF").ok_or("a code")?)?;
     codes.add(AccessCode::read(b"BBBB").ok_or("a code")?)?;
     Ok(codes)

@@ -39,7 +39,7 @@ fn guarantee(alloc: Global, grn: &[u8]) -> Result<Guarantee, Fail> {
         reference: Cents::new(1_000_000).ok_or("an amount")?,
         cover: Cover::new(50).ok_or("a cover")?,
         ends: None,
-        codes: Codes::one(alloc, AccessCode::read(b"AB12").ok_or("a code")?)?,
+        codes: Codes::one(alloc, AccessCode::read(b"AB12").ok_or("a code")?),
     })
 }
 
