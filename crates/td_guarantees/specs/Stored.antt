@@ -1,0 +1,36 @@
+-- What is asked of the guarantees in a store's file, and what is said anew of one.
+use Rattle.std.specs.Prelude.{◌≡◌, [], ◌∷◌, ℕ, ◌==◌, Bool, ◌&&◌, List, map, Option}
+use Rattle.std.specs.Option.{option_to_list}
+use Rattle.std.specs.Str.{bytes_eq}
+use Rattle.td_guarantee.specs.declared.guarantee.Guarantee.{Guarantee}
+use Rattle.td_acts.specs.Changes.{with_terms}
+use Rattle.td_acts.specs.declared.rows.NewTerms.{NewTerms}
+use Rattle.td_tables.specs.Tables.{Keyed}
+use Rattle.td_schema.specs.Tables.{desk_schema}
+use Rattle.td_sql.specs.Typed.{AreThose, Turns}
+use Rattle.td_sql.specs.Reading.{Selects}
+use Rattle.td_sql.specs.Values.{number_value, number_or_null}
+use Rattle.td_sql.specs.Writing.{HasSchema}
+use Rattle.sqlite_value.specs.declared.value.Value.TheVariants.{Text}
+use Rattle.sqlite_value.specs.Order.{Row}
+use Rattle.sqlite.specs.State.{State, IsUnchanged}
+use Rattle.td_guarantees.specs.Cells.{guarantee_from, guarantee_typing}
+
+-- the guarantee of a holder with a serial and a GRN; with a serial; each of the holder
+abbrev pub has_grn : ℕ → ℕ → List ℕ → Keyed Guarantee → Bool
+has_grn H n grn g = g.holder == H && (g.serial == n && bytes_eq g.row.grn grn)
+
+abbrev pub has_serial : ℕ → ℕ → Keyed Guarantee → Bool
+has_serial H n g = g.holder == H && g.serial == n
+
+abbrev pub is_of : ℕ → Keyed Guarantee → Bool
+is_of H g = g.holder == H
+
+-- the guarantee with new terms
+abbrev pub with_new_terms : NewTerms → Keyed Guarantee → Keyed Guarantee
+with_new_terms terms g = record g { row = with_terms terms g.row }
+
+-- the statement turned the guarantees into what f makes of them
+abbrev pub TurnsGuarantees : (List (Keyed Guarantee) → List (Keyed Guarantee)) → State → State → Type 0
+TurnsGuarantees f = Turns guarantee_typing desk_schema f
+

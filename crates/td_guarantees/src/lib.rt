@@ -1,0 +1,2 @@
+//! Interim.
+#![tactic(auto)]

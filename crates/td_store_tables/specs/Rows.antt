@@ -1,0 +1,51 @@
+-- The tables in a store's file, whose rows are typed, as the tables of a desk.
+use Rattle.std.specs.Prelude.{◌≡◌, ℕ, List, [], ◌∷◌, map}
+use Rattle.sqlite_trees.specs.Tree.{Trees}
+use Rattle.sqlite.specs.Effect.{Database}
+use Rattle.sqlite.specs.State.{State}
+use Rattle.td_tables.specs.Tables.{Tables}
+use Rattle.td_tables.specs.Changes.{HaveSameRows}
+use Rattle.td_schema.specs.Tables.{desk_schema}
+use Rattle.td_sql.specs.Typed.{AreTyped, rows_in}
+use Rattle.td_sql.specs.Writing.{HasSchema}
+use Rattle.td_meta.specs.Cells.{MetaRow, meta_typing}
+use Rattle.td_holders.specs.Cells.{holder_typing}
+use Rattle.td_guarantees.specs.Cells.{guarantee_typing}
+use Rattle.td_codes.specs.Cells.{code_typing}
+use Rattle.td_movements.specs.Cells.{movement_typing}
+use Rattle.td_lines.specs.Cells.{line_typing}
+
+-- the country in the office's own row; none where there is no such row
+abbrev pub country_in : List MetaRow → List ℕ
+country_in [] = []
+country_in (row ∷ rows) = row.country
+
+-- the tables that stand in the trees
+abbrev pub tables_in : Trees → Tables
+tables_in trees = record {
+  country = country_in (rows_in meta_typing trees);
+  holders = rows_in holder_typing trees;
+  guarantees = rows_in guarantee_typing trees;
+  codes = rows_in code_typing trees;
+  movements = rows_in movement_typing trees;
+  lines = rows_in line_typing trees;
+}
+
+-- the rows of every table are typed
+pub record AreAllTyped (trees : Trees) : Type 0 where
+  pub meta : AreTyped meta_typing trees
+  pub holders : AreTyped holder_typing trees
+  pub guarantees : AreTyped guarantee_typing trees
+  pub codes : AreTyped code_typing trees
+  pub movements : AreTyped movement_typing trees
+  pub lines : AreTyped line_typing trees
+
+-- the tables are now what f makes of those that were there, their rows in any order
+pub record HasTables (f : Tables → Tables) (old new : Database) : Type 0 where
+  pub same : HaveSameRows (f (tables_in old.trees)) (tables_in new.trees)
+  pub typed : AreAllTyped new.trees
+  pub schema : new.schema ≡ desk_schema
+
+-- where the rows of a store's tables were typed, they are now what f makes of them
+abbrev pub TurnsTables : (Tables → Tables) → State → State → Type 0
+TurnsTables f old new = HasSchema old desk_schema → AreAllTyped old.now.trees → HasTables f old.now new.now
