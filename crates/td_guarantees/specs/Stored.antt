@@ -1,0 +1,63 @@
+-- What is asked of the guarantees in a store's file, and what is said anew of one.
+use Rattle.std.specs.Prelude.{◌≡◌, [], ◌∷◌, ℕ, ◌==◌, Bool, ◌&&◌, List, map, Option}
+use Rattle.std.specs.Option.{option_to_list}
+use Rattle.std.specs.Str.{bytes_eq}
+use Rattle.td_guarantee.specs.declared.guarantee.Guarantee.{Guarantee}
+use Rattle.td_acts.specs.Changes.{with_terms}
+use Rattle.td_acts.specs.declared.rows.NewTerms.{NewTerms}
+use Rattle.td_tables.specs.Tables.{Keyed}
+use Rattle.td_schema.specs.Tables.{desk_schema}
+use Rattle.td_sql.specs.Typed.{AreThose, Turns}
+use Rattle.td_sql.specs.Reading.{Selects}
+use Rattle.td_sql.specs.Values.{number_value, number_or_null}
+use Rattle.td_sql.specs.Writing.{HasSchema}
+use Rattle.sqlite_value.specs.declared.value.Value.TheVariants.{Text}
+use Rattle.sqlite_value.specs.Order.{Row}
+use Rattle.sqlite.specs.State.{State, IsUnchanged}
+use Rattle.td_guarantees.specs.Cells.{guarantee_from, guarantee_typing}
+use Rattle.td_guarantees.specs.declared.stored.StoredGuarantee.{StoredGuarantee}
+
+-- a guarantee that was found, as its row
+abbrev pub row_of_stored : StoredGuarantee → Keyed Guarantee
+row_of_stored g = record { holder = g.holder; serial = g.serial; row = g.guarantee }
+
+-- the guarantee of a holder with a serial and a GRN; with a serial; each of the holder
+abbrev pub has_grn : ℕ → ℕ → List ℕ → Keyed Guarantee → Bool
+has_grn H n grn g = g.holder == H && (g.serial == n && bytes_eq g.row.grn grn)
+
+abbrev pub has_serial : ℕ → ℕ → Keyed Guarantee → Bool
+has_serial H n g = g.holder == H && g.serial == n
+
+abbrev pub is_of : ℕ → Keyed Guarantee → Bool
+is_of H g = g.holder == H
+
+-- the guarantee with new terms
+abbrev pub with_new_terms : NewTerms → Keyed Guarantee → Keyed Guarantee
+with_new_terms terms g = record g { row = with_terms terms g.row }
+
+-- the statement turned the guarantees into what f makes of them
+abbrev pub TurnsGuarantees : (List (Keyed Guarantee) → List (Keyed Guarantee)) → State → State → Type 0
+TurnsGuarantees f = Turns guarantee_typing desk_schema f
+
+-- these are the guarantees that pass the test
+abbrev pub AreGuarantees : (Keyed Guarantee → Bool) → State → List StoredGuarantee → Type 0
+AreGuarantees p state found = AreThose guarantee_typing desk_schema p state (map row_of_stored found)
+
+-- this is the guarantee that passes the test, or there is none
+abbrev pub IsTheGuarantee : (Keyed Guarantee → Bool) → State → Option StoredGuarantee → Type 0
+IsTheGuarantee p state found = AreGuarantees p state (option_to_list found)
+
+-- the guarantees that a statement showed
+abbrev pub ShowsGuarantees : List ℕ → Row → State → List StoredGuarantee → Type 0
+ShowsGuarantees text values old found =
+    (rows : List Row) × Selects text values old rows × (map row_of_stored found ≡ map guarantee_from rows)
+
+-- a store's file is left as it was
+abbrev pub LeavesAll : State → State → Type 0
+LeavesAll old new = HasSchema old desk_schema → IsUnchanged old new
+
+-- what new terms are written by: the holder, the serial and the GRN, and then the terms
+abbrev pub terms_values : ℕ → ℕ → NewTerms → Row
+terms_values H n terms =
+    number_value H ∷ number_value n ∷ Text terms.grn ∷ number_or_null terms.reference ∷ number_or_null terms.cover
+    ∷ number_or_null terms.ends ∷ []
