@@ -15,6 +15,11 @@ use Rattle.sqlite_value.specs.declared.value.Value.TheVariants.{Text}
 use Rattle.sqlite_value.specs.Order.{Row}
 use Rattle.sqlite.specs.State.{State, IsUnchanged}
 use Rattle.td_guarantees.specs.Cells.{guarantee_from, guarantee_typing}
+use Rattle.td_guarantees.specs.declared.stored.StoredGuarantee.{StoredGuarantee}
+
+-- a guarantee that was found, as its row
+abbrev pub row_of_stored : StoredGuarantee → Keyed Guarantee
+row_of_stored g = record { holder = g.holder; serial = g.serial; row = g.guarantee }
 
 -- the guarantee of a holder with a serial and a GRN; with a serial; each of the holder
 abbrev pub has_grn : ℕ → ℕ → List ℕ → Keyed Guarantee → Bool
@@ -34,3 +39,25 @@ with_new_terms terms g = record g { row = with_terms terms g.row }
 abbrev pub TurnsGuarantees : (List (Keyed Guarantee) → List (Keyed Guarantee)) → State → State → Type 0
 TurnsGuarantees f = Turns guarantee_typing desk_schema f
 
+-- these are the guarantees that pass the test
+abbrev pub AreGuarantees : (Keyed Guarantee → Bool) → State → List StoredGuarantee → Type 0
+AreGuarantees p state found = AreThose guarantee_typing desk_schema p state (map row_of_stored found)
+
+-- this is the guarantee that passes the test, or there is none
+abbrev pub IsTheGuarantee : (Keyed Guarantee → Bool) → State → Option StoredGuarantee → Type 0
+IsTheGuarantee p state found = AreGuarantees p state (option_to_list found)
+
+-- the guarantees that a statement showed
+abbrev pub ShowsGuarantees : List ℕ → Row → State → List StoredGuarantee → Type 0
+ShowsGuarantees text values old found =
+    (rows : List Row) × Selects text values old rows × (map row_of_stored found ≡ map guarantee_from rows)
+
+-- a store's file is left as it was
+abbrev pub LeavesAll : State → State → Type 0
+LeavesAll old new = HasSchema old desk_schema → IsUnchanged old new
+
+-- what new terms are written by: the holder, the serial and the GRN, and then the terms
+abbrev pub terms_values : ℕ → ℕ → NewTerms → Row
+terms_values H n terms =
+    number_value H ∷ number_value n ∷ Text terms.grn ∷ number_or_null terms.reference ∷ number_or_null terms.cover
+    ∷ number_or_null terms.ends ∷ []
