@@ -1,16 +1,13 @@
 -- A statement that turned the rows of one table, seen at all tables: the others are as they were.
-use Rattle.std.proofs.Common.{◌≡◌, ◌≢◌, ℕ, List, [], ◌∷◌, map, ap, sym, refl, subst, IsPermutation}
+use Rattle.std.proofs.Common.{◌≡◌, ◌≢◌, ℕ, List, map, ap, sym, subst, IsPermutation}
 use Rattle.std.specs.List.{AllByRecursion}
-use Rattle.std.proofs.lemmas.List.Sorted.{IsPermutation-refl}
 use Rattle.sqlite_trees.specs.Tree.{Trees}
 use Rattle.sqlite_trees.proofs.ListLemmas.{IsPermutation-same}
-use Rattle.sqlite.specs.Effect.{Database}
 use Rattle.sqlite.specs.State.{State}
 use Rattle.td_acts.specs.declared.rows.HolderRow.{HolderRow}
 use Rattle.td_guarantee.specs.declared.guarantee.Guarantee.{Guarantee}
 use Rattle.td_movement.specs.declared.movement.Movement.{Movement}
 use Rattle.td_tables.specs.Tables.{Keyed, LineCells, Tables}
-use Rattle.td_tables.specs.Changes.{HaveSameRows}
 use Rattle.td_schema.specs.Tables.{desk_schema}
 use Rattle.td_sql.specs.Rows.{AreOthersKept, HaveIds}
 use Rattle.td_sql.specs.Writing.{HasSchema}
@@ -21,7 +18,7 @@ use Rattle.td_guarantees.specs.Cells.{guarantee_typing}
 use Rattle.td_codes.specs.Cells.{code_typing}
 use Rattle.td_movements.specs.Cells.{movement_typing}
 use Rattle.td_lines.specs.Cells.{line_typing}
-use Rattle.td_store_tables.specs.Rows.{AreAllTyped, HasTables, TurnsTables, tables_in, country_in}
+use Rattle.td_store_tables.specs.Rows.{AreAllTyped, HasTables, tables_in, country_in}
 
 -- a table whose tree is as it was has the same rows, typed as before
 rows_still : {R : Type 0} (ty : Typing R) (old new : Trees) → new ty.table.tree ≡ old ty.table.tree
@@ -69,14 +66,14 @@ still : {R : Type 0} (ty : Typing R) (old new : Trees) → AreTyped ty old → n
 still ty old new typed is = record { same = rows_still ty old new is; typed = typed_still ty old new is typed }
 
 -- all of them, each as it is now
-assembled : (f : Tables → Tables) (old new : Database)
-    → country_in (rows_in meta_typing new.trees) ≡ (f (tables_in old.trees)).country → AreTyped meta_typing new.trees
-    → Now holder_typing (f (tables_in old.trees)).holders new.trees
-    → Now guarantee_typing (f (tables_in old.trees)).guarantees new.trees
-    → Now code_typing (f (tables_in old.trees)).codes new.trees
-    → Now movement_typing (f (tables_in old.trees)).movements new.trees
-    → Now line_typing (f (tables_in old.trees)).lines new.trees
-    → new.schema ≡ desk_schema → HasTables f old new
+assembled : (f : Tables → Tables) (old new : State)
+    → country_in (rows_in meta_typing new.now.trees) ≡ (f (tables_in old.now.trees)).country → AreTyped meta_typing new.now.trees
+    → Now holder_typing (f (tables_in old.now.trees)).holders new.now.trees
+    → Now guarantee_typing (f (tables_in old.now.trees)).guarantees new.now.trees
+    → Now code_typing (f (tables_in old.now.trees)).codes new.now.trees
+    → Now movement_typing (f (tables_in old.now.trees)).movements new.now.trees
+    → Now line_typing (f (tables_in old.now.trees)).lines new.now.trees
+    → HasSchema new desk_schema → HasTables f old new
 assembled f old new country meta holders guarantees codes movements lines schema = record {
   same = record {
     country = country;
@@ -105,71 +102,71 @@ module _ (old new : State) (has : HasSchema old desk_schema) (typed : AreAllType
   b = new.now.trees
 
   pub holders_turned : (f : List HolderRow → List HolderRow) → Turns holder_typing desk_schema f old new
-      → HasTables (λ t. record t { holders = f t.holders }) old.now new.now
+      → HasTables (λ t. record t { holders = f t.holders }) old new
   holders_turned f turns =
       let now = turns has typed.holders in
       let rest = kept 1 a b now.others in
-      assembled (λ t. record t { holders = f t.holders }) old.now new.now (country_still a b (rest.meta (λ e. cc)))
+      assembled (λ t. record t { holders = f t.holders }) old new (country_still a b (rest.meta (λ e. cc)))
       (typed_still meta_typing a b (rest.meta (λ e. cc)) typed.meta)
       (record { same = now.same; typed = now.typed })
       (still guarantee_typing a b typed.guarantees (rest.guarantees (λ e. cc)))
       (still code_typing a b typed.codes (rest.codes (λ e. cc)))
       (still movement_typing a b typed.movements (rest.movements (λ e. cc)))
       (still line_typing a b typed.lines (rest.lines (λ e. cc)))
-      now.schema
+      (λ is_open. now.schema)
 
   pub guarantees_turned : (f : List (Keyed Guarantee) → List (Keyed Guarantee)) → Turns guarantee_typing desk_schema f old new
-      → HasTables (λ t. record t { guarantees = f t.guarantees }) old.now new.now
+      → HasTables (λ t. record t { guarantees = f t.guarantees }) old new
   guarantees_turned f turns =
       let now = turns has typed.guarantees in
       let rest = kept 8 a b now.others in
-      assembled (λ t. record t { guarantees = f t.guarantees }) old.now new.now (country_still a b (rest.meta (λ e. cc)))
+      assembled (λ t. record t { guarantees = f t.guarantees }) old new (country_still a b (rest.meta (λ e. cc)))
       (typed_still meta_typing a b (rest.meta (λ e. cc)) typed.meta)
       (still holder_typing a b typed.holders (rest.holders (λ e. cc)))
       (record { same = now.same; typed = now.typed })
       (still code_typing a b typed.codes (rest.codes (λ e. cc)))
       (still movement_typing a b typed.movements (rest.movements (λ e. cc)))
       (still line_typing a b typed.lines (rest.lines (λ e. cc)))
-      now.schema
+      (λ is_open. now.schema)
 
   pub codes_turned : (f : List (Keyed (List ℕ)) → List (Keyed (List ℕ))) → Turns code_typing desk_schema f old new
-      → HasTables (λ t. record t { codes = f t.codes }) old.now new.now
+      → HasTables (λ t. record t { codes = f t.codes }) old new
   codes_turned f turns =
       let now = turns has typed.codes in
       let rest = kept 2 a b now.others in
-      assembled (λ t. record t { codes = f t.codes }) old.now new.now (country_still a b (rest.meta (λ e. cc)))
+      assembled (λ t. record t { codes = f t.codes }) old new (country_still a b (rest.meta (λ e. cc)))
       (typed_still meta_typing a b (rest.meta (λ e. cc)) typed.meta)
       (still holder_typing a b typed.holders (rest.holders (λ e. cc)))
       (still guarantee_typing a b typed.guarantees (rest.guarantees (λ e. cc)))
       (record { same = now.same; typed = now.typed })
       (still movement_typing a b typed.movements (rest.movements (λ e. cc)))
       (still line_typing a b typed.lines (rest.lines (λ e. cc)))
-      now.schema
+      (λ is_open. now.schema)
 
   pub movements_turned : (f : List (Keyed Movement) → List (Keyed Movement)) → Turns movement_typing desk_schema f old new
-      → HasTables (λ t. record t { movements = f t.movements }) old.now new.now
+      → HasTables (λ t. record t { movements = f t.movements }) old new
   movements_turned f turns =
       let now = turns has typed.movements in
       let rest = kept 4 a b now.others in
-      assembled (λ t. record t { movements = f t.movements }) old.now new.now (country_still a b (rest.meta (λ e. cc)))
+      assembled (λ t. record t { movements = f t.movements }) old new (country_still a b (rest.meta (λ e. cc)))
       (typed_still meta_typing a b (rest.meta (λ e. cc)) typed.meta)
       (still holder_typing a b typed.holders (rest.holders (λ e. cc)))
       (still guarantee_typing a b typed.guarantees (rest.guarantees (λ e. cc)))
       (still code_typing a b typed.codes (rest.codes (λ e. cc)))
       (record { same = now.same; typed = now.typed })
       (still line_typing a b typed.lines (rest.lines (λ e. cc)))
-      now.schema
+      (λ is_open. now.schema)
 
   pub lines_turned : (f : List (Keyed LineCells) → List (Keyed LineCells)) → Turns line_typing desk_schema f old new
-      → HasTables (λ t. record t { lines = f t.lines }) old.now new.now
+      → HasTables (λ t. record t { lines = f t.lines }) old new
   lines_turned f turns =
       let now = turns has typed.lines in
       let rest = kept 11 a b now.others in
-      assembled (λ t. record t { lines = f t.lines }) old.now new.now (country_still a b (rest.meta (λ e. cc)))
+      assembled (λ t. record t { lines = f t.lines }) old new (country_still a b (rest.meta (λ e. cc)))
       (typed_still meta_typing a b (rest.meta (λ e. cc)) typed.meta)
       (still holder_typing a b typed.holders (rest.holders (λ e. cc)))
       (still guarantee_typing a b typed.guarantees (rest.guarantees (λ e. cc)))
       (still code_typing a b typed.codes (rest.codes (λ e. cc)))
       (still movement_typing a b typed.movements (rest.movements (λ e. cc)))
       (record { same = now.same; typed = now.typed })
-      now.schema
+      (λ is_open. now.schema)

@@ -1,7 +1,6 @@
 -- The tables in a store's file, whose rows are typed, as the tables of a desk.
-use Rattle.std.specs.Prelude.{◌≡◌, ℕ, List, [], ◌∷◌, map}
+use Rattle.std.specs.Prelude.{ℕ, List, [], ◌∷◌}
 use Rattle.sqlite_trees.specs.Tree.{Trees}
-use Rattle.sqlite.specs.Effect.{Database}
 use Rattle.sqlite.specs.State.{State}
 use Rattle.td_tables.specs.Tables.{Tables}
 use Rattle.td_tables.specs.Changes.{HaveSameRows}
@@ -41,11 +40,11 @@ pub record AreAllTyped (trees : Trees) : Type 0 where
   pub lines : AreTyped line_typing trees
 
 -- the tables are now what f makes of those that were there, their rows in any order
-pub record HasTables (f : Tables → Tables) (old new : Database) : Type 0 where
-  pub same : HaveSameRows (f (tables_in old.trees)) (tables_in new.trees)
-  pub typed : AreAllTyped new.trees
-  pub schema : new.schema ≡ desk_schema
+pub record HasTables (f : Tables → Tables) (old new : State) : Type 0 where
+  pub same : HaveSameRows (f (tables_in old.now.trees)) (tables_in new.now.trees)
+  pub typed : AreAllTyped new.now.trees
+  pub schema : HasSchema new desk_schema
 
 -- where the rows of a store's tables were typed, they are now what f makes of them
 abbrev pub TurnsTables : (Tables → Tables) → State → State → Type 0
-TurnsTables f old new = HasSchema old desk_schema → AreAllTyped old.now.trees → HasTables f old.now new.now
+TurnsTables f old new = HasSchema old desk_schema → AreAllTyped old.now.trees → HasTables f old new

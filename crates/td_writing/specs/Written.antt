@@ -1,13 +1,11 @@
 -- What the statements of a change do to the tables of a store's file.
 use Rattle.std.specs.Prelude.{◌≡◌, ℕ, if◌then◌else◌, List}
-use Rattle.sqlite.specs.Effect.{Database}
 use Rattle.sqlite.specs.State.{State}
 use Rattle.td_guarantee.specs.declared.guarantee.Guarantee.{Guarantee}
 use Rattle.td_movement.specs.declared.movement.Movement.{Movement}
 use Rattle.td_acts.specs.declared.rows.Change.{Change}
 use Rattle.td_acts.specs.declared.rows.NewStatus.{NewStatus}
 use Rattle.td_acts.specs.declared.rows.NewTerms.{NewTerms}
-use Rattle.td_acts.specs.Changes.{with_status, with_terms}
 use Rattle.td_tables.specs.Tables.{Keyed}
 use Rattle.td_tables.specs.Changes.{tables_after}
 use Rattle.td_tables.specs.Looking.{MayBeAskedByKey}
@@ -30,4 +28,4 @@ terms_by_key H n terms g = if has_grn H n terms.grn g then with_new_terms terms 
 abbrev pub WritesChange : List ℕ → Change → State → State → Type 0
 WritesChange country change old new =
     HasSchema old desk_schema → AreAllTyped old.now.trees → (tables_in old.now.trees).country ≡ country
-    → MayBeAskedByKey (tables_in old.now.trees) → HasTables (tables_after change) old.now new.now
+    → MayBeAskedByKey (tables_in old.now.trees) → HasTables (tables_after change) old new

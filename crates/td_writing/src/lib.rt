@@ -4,3 +4,5 @@
 
 mod changes;
 mod lists;
+
+pub use changes::write_change;
