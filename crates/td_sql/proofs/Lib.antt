@@ -1,9 +1,11 @@
 pub mod Lists
 pub mod Ids
 pub mod Queries
-mod Steps
+pub mod Steps
 pub mod Effects
 mod Answering
+pub mod Leaving
 pub mod TypedRows
+pub mod Fetched
 pub mod Columns
 pub mod Joined
