@@ -2,7 +2,10 @@
 use Rattle.std.proofs.Common.{◌≡◌, ℕ, Bool, true, false, List, Option, Some, None, refl, sym, ◌∙◌, ap, ap₂}
 use Rattle.std.specs.Prelude.{◌&&◌, not, if◌then◌else◌, option_map}
 use Rattle.td_commands.specs.declared.command.Command.{Command}
+use Rattle.td_commands.specs.declared.command.Command.TheVariants.{SeeGuarantee}
 use Rattle.td_commands.specs.declared.said.Answer.{Answer}
+use Rattle.td_commands.specs.declared.said.Answer.TheVariants as answer
+use Rattle.td_commands.specs.declared.said.Refusal.TheVariants.{NoHolder, NoGuarantee}
 use Rattle.td_commands.specs.declared.said.Refusal.{Refusal}
 use Rattle.td_commands.specs.declared.said.Said.{Said}
 use Rattle.td_commands.specs.declared.said.Said.TheVariants.{Answered, Refused}
@@ -19,7 +22,7 @@ use Rattle.td_acts.specs.Account.{Account, entry_in, guarantee_by_grn, movement_
 use Rattle.td_commands.specs.Commands.{is_changing}
 use Rattle.td_acts.specs.Acceptance.{is_answer, has_known_lrn}
 use Rattle.td_acts.specs.Deciding.{change_of, decision_at, if_row, touched}
-use Rattle.td_acts.specs.Table.{said_at, on_guarantee, on_movement}
+use Rattle.td_acts.specs.Table.{said_at, on_guarantee, on_movement, or_refuse}
 
 abbrev verdict_of : Said → Change → Verdict
 verdict_of said change = record { said = said; change = change }
@@ -108,3 +111,19 @@ same_guarantee account grn entry is = ap (option_map (λ (e : Guarantee × ℕ).
 -- and so is the amount in use on it
 pub same_use : (account : Account) (grn : List ℕ) (entry : Option (Guarantee × ℕ)) (g : Guarantee) (used : ℕ) → entry ≡ entry_in account grn → entry ≡ Some (g, used) → used ≡ used_on g.grn account.movements
 same_use account grn entry g used is has = second_of (λ g. used_on g.grn account.movements) (guarantee_by_grn grn account.guarantees) g used (sym is ∙ has)
+
+-- a guarantee and the amount in use on it, as a view shows them
+abbrev pub shown_entry : Option HolderRow → Option (Guarantee × ℕ) → Said
+shown_entry holder found = or_refuse NoHolder holder (λ row. or_refuse NoGuarantee found (λ e. Answered (answer.Guarantee e.0 e.1)))
+
+-- what a view shows of an entry that was loaded is what it shows of the account's guarantee
+pub told_shown : (account : Account) (holder : Option HolderRow) (found : Option (Guarantee × ℕ)) (t H : ℕ) (grn : List ℕ) (v : Verdict)
+    → holder ≡ account.holder → found ≡ entry_in account grn → v.said ≡ shown_entry holder found → v.change ≡ Nothing → v ≡ decision_at account t (SeeGuarantee H grn)
+told_shown account holder found t H grn v same_holder same_found said change =
+    ap₂ verdict_of (said ∙ ap₂ shown_entry same_holder same_found ∙ of_guarantee account.holder (guarantee_by_grn grn account.guarantees)) change
+  where
+    of_guarantee : (h : Option HolderRow) (o : Option Guarantee) → shown_entry h (option_map (λ g. (g, used_on g.grn account.movements)) o)
+        ≡ or_refuse NoHolder h (λ row. or_refuse NoGuarantee o (λ g. Answered (answer.Guarantee g (used_on g.grn account.movements))))
+    of_guarantee None o = refl
+    of_guarantee (Some row) None = refl
+    of_guarantee (Some row) (Some g) = refl

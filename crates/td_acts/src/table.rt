@@ -1,15 +1,19 @@
 //! The table of refusals and answers, over the rows of a command's owner: a function for each command.
-ghost use Rattle.std.specs.Prelude.{◌≡◌, ℕ, IfOk};
+ghost use Rattle.std.specs.Prelude.{◌≡◌, ℕ, Some, None, IfOk, MatchResult};
+ghost use Rattle.td_base.specs.Moment.{moment_of};
+ghost use Rattle.td_commands.specs.declared.said.Refusal.TheVariants.{ClockRange};
 ghost use Rattle.td_acts.specs.Deciding.{IsVerdict, IsVerdictAt};
 
 use crate::declaring::{Declaration, lodge};
+use crate::finding::{copy_entries, copy_entry, copy_movement, take_entry, take_movement};
 use crate::moving::{arrive, cancel, enquire, judge, write_off};
 use crate::releasing::release;
 use crate::rows::{Change, HolderRow, Loaded, Verdict};
 use crate::serials::next_grn;
 use crate::terms::{add_code, amend, remove_code, revoke};
 use crate::views::{
-    holder_answer, see_guarantee, see_guarantees, see_holder, see_movement, see_movements,
+    holder_answer, list_movements, see_guarantee, see_guarantees, see_holder, see_movement,
+    see_movements,
 };
 use std::alloc::{AllocError, Global};
 use td_base::{AccessCode, Cover, Eori, HolderNo, Moment, Reference};
@@ -18,7 +22,8 @@ use td_guarantee::{Codes, Guarantee};
 
 /// The verdict on a command at a number of seconds since 1970, over what was loaded of its owner's rows.
 /// Where that is just what the verdict needs of the owner's account, it is the table's; else it is only
-/// some verdict. `AllocError`: want of memory.
+/// some verdict. What a view shows is copied, and what was loaded stays the caller's; where the caller doesn't
+/// need it any more, call `decide`. `AllocError`: want of memory.
 pub fn verdict(
     alloc: Global,
     loaded: &Loaded,
@@ -27,9 +32,9 @@ pub fn verdict(
 ) -> Result<Verdict, AllocError>
     ensures { IfOk result (IsVerdict loaded.now at command.now) }
 {
-    match Moment::new(at) {
+    match moment_at(at) {
         Ok(at) => verdict_at(alloc, loaded, at, command),
-        Err(_) => Ok(Verdict::refused(Refusal::ClockRange)),
+        Err(why) => Ok(Verdict::refused(why)),
     }
 }
 
@@ -48,9 +53,7 @@ fn verdict_at(
             reference,
             cover,
             code,
-        } => Ok(open(
-            alloc, loaded, at, *holder, *reference, *cover, *code,
-        )),
+        } => Ok(open(alloc, loaded, at, *holder, *reference, *cover, *code)),
         Command::Amend {
             grn,
             reference,
@@ -88,11 +91,72 @@ fn verdict_at(
         } => Ok(judge(loaded, at, mrn, *control)),
         Command::Ie045 { mrn, ground } => Ok(write_off(loaded, at, mrn, *ground)),
         Command::Ie140 { mrn } => Ok(enquire(loaded, at, mrn)),
-        Command::SeeHolder { holder } => Ok(see_holder(loaded, *holder)),
-        Command::SeeMovement { holder, mrn } => see_movement(alloc, loaded, *holder, mrn),
-        Command::SeeMovements { holder } => see_movements(alloc, loaded, *holder),
-        Command::SeeGuarantee { holder, grn } => see_guarantee(alloc, loaded, *holder, grn),
-        Command::SeeGuarantees { holder } => see_guarantees(alloc, loaded, *holder),
+        Command::SeeHolder { .. } => Ok(see_holder(loaded.holder)),
+        Command::SeeMovement { mrn, .. } => {
+            let found = copy_movement(alloc, &loaded.movements, mrn)?;
+            Ok(see_movement(loaded.holder, found))
+        }
+        Command::SeeMovements { .. } => {
+            let items = list_movements(alloc, &loaded.movements)?;
+            Ok(see_movements(loaded.holder, items))
+        }
+        Command::SeeGuarantee { grn, .. } => {
+            let found = copy_entry(alloc, &loaded.guarantees, grn)?;
+            Ok(see_guarantee(loaded.holder, found))
+        }
+        Command::SeeGuarantees { .. } => {
+            let entries = copy_entries(alloc, &loaded.guarantees)?;
+            Ok(see_guarantees(loaded.holder, entries))
+        }
+    }
+}
+
+/// The same verdict as `verdict`'s, for a caller that doesn't need what was loaded any more: the movement or the
+/// guarantees that a view shows are moved out of it and not copied. `AllocError`: want of memory.
+pub fn decide(
+    alloc: Global,
+    loaded: Loaded,
+    at: i64,
+    command: &Command,
+) -> Result<Verdict, AllocError>
+    ensures { IfOk result (IsVerdict loaded at command.now) }
+{
+    match moment_at(at) {
+        Ok(at) => decide_at(alloc, loaded, at, command),
+        Err(why) => Ok(Verdict::refused(why)),
+    }
+}
+
+fn decide_at(
+    alloc: Global,
+    loaded: Loaded,
+    at: Moment,
+    command: &Command,
+) -> Result<Verdict, AllocError>
+    ensures { IfOk result (IsVerdictAt loaded at command.now) }
+{
+    match command {
+        Command::SeeMovement { mrn, .. } => {
+            let found = take_movement(loaded.movements, mrn);
+            Ok(see_movement(loaded.holder, found))
+        }
+        Command::SeeGuarantee { grn, .. } => {
+            let found = take_entry(loaded.guarantees, grn);
+            Ok(see_guarantee(loaded.holder, found))
+        }
+        Command::SeeGuarantees { .. } => Ok(see_guarantees(loaded.holder, loaded.guarantees)),
+        _ => verdict_at(alloc, &loaded, at, command),
+    }
+}
+
+// The moment at a number of seconds since 1970, or what is said to each command where the clock shows none.
+fn moment_at(at: i64) -> Result<Moment, Refusal>
+    ensures { MatchResult result (λ moment. moment_of at ≡ Some moment)
+        (λ why. (moment_of at ≡ None) × (why ≡ ClockRange)) }
+{
+    match Moment::new(at) {
+        Ok(at) => Ok(at),
+        Err(_) => Err(Refusal::ClockRange),
     }
 }
 

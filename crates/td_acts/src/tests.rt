@@ -1,5 +1,6 @@
 //! The public calls, with ample memory: what is said to each command, and whether something is written.
 mod moves;
+mod shown;
 mod terms;
 
 use crate::table::verdict;

@@ -1,63 +1,57 @@
-//! Views: what they show, and nothing is written for them.
-ghost use Rattle.std.specs.Prelude.{◌≡◌, ℕ, IfOk, map};
-ghost use Rattle.td_acts.specs.Deciding.{IsVerdictAt};
-ghost use Rattle.td_acts.specs.Table.{listed};
+//! Views: what they show, and nothing is written for them. They take what they show, and know not where it comes
+//! from.
+ghost use Rattle.std.specs.Prelude.{◌≡◌, IfOk, map};
+ghost use Rattle.td_acts.specs.Table.{listed, or_refuse};
 
-use crate::finding::{find_entry, find_movement_by_mrn};
-use crate::rows::{Change, HolderRow, Loaded, Verdict};
+use crate::rows::{Change, HolderRow, Verdict};
 use std::alloc::{AllocError, Global};
-use td_base::{Cents, Grn, HolderNo, Mrn};
-use td_commands::{
-    Answer, Command, ListedGuarantees, ListedMovement, ListedMovements, Refusal, Said,
-};
+use td_base::Cents;
+use td_commands::{Answer, ListedGuarantees, ListedMovement, ListedMovements, Refusal, Said};
 use td_guarantee::Guarantee;
 use td_movement::Movement;
 
-/// The verdict on a view of a holder.
-pub fn see_holder(loaded: &Loaded, holder: HolderNo) -> Verdict
-    ensures { (at : ℕ) → IsVerdictAt loaded.now at (Command.SeeHolder holder) result }
+/// The verdict on a view of a holder, of whom this is the row, if it is there.
+pub fn see_holder(holder: Option<HolderRow>) -> Verdict
+    ensures said { result.said ≡ or_refuse Refusal.NoHolder holder (λ row.
+        Said.Answered (Answer.Holder row.holder row.eori row.grn_count row.mrn_count)) }
+    ensures change { result.change ≡ Change.Nothing }
 {
-    match &loaded.holder {
+    match &holder {
         None => Verdict::refused(Refusal::NoHolder),
         Some(row) => Verdict::shown(holder_answer(row)),
     }
 }
 
-/// The verdict on a view of a movement. `AllocError`: want of memory.
-pub fn see_movement(
-    alloc: Global,
-    loaded: &Loaded,
-    holder: HolderNo,
-    mrn: &Mrn,
-) -> Result<Verdict, AllocError>
-    ensures { IfOk result (λ v. (at : ℕ) → IsVerdictAt loaded.now at (Command.SeeMovement holder mrn.now) v) }
+/// The verdict on a view of a movement, where this is the holder's row and this the movement, if they are there.
+pub fn see_movement(holder: Option<HolderRow>, found: Option<Movement>) -> Verdict
+    ensures said { result.said ≡ or_refuse Refusal.NoHolder holder (λ row.
+        or_refuse Refusal.NoMovement found (λ movement. Said.Answered (Answer.Movement movement))) }
+    ensures change { result.change ≡ Change.Nothing }
 {
-    if loaded.holder.is_none() {
-        return Ok(Verdict::refused(Refusal::NoHolder));
+    if holder.is_none() {
+        return Verdict::refused(Refusal::NoHolder);
     }
-    let Some(movement) = find_movement_by_mrn(&loaded.movements, mrn) else {
-        return Ok(Verdict::refused(Refusal::NoMovement));
-    };
-    Ok(Verdict::shown(Answer::Movement(movement.copy(alloc)?)))
+    match found {
+        None => Verdict::refused(Refusal::NoMovement),
+        Some(movement) => Verdict::shown(Answer::Movement(movement)),
+    }
 }
 
-/// The verdict on a view of all movements. `AllocError`: want of memory.
-pub fn see_movements(
-    alloc: Global,
-    loaded: &Loaded,
-    holder: HolderNo,
-) -> Result<Verdict, AllocError>
-    ensures { IfOk result (λ v. (at : ℕ) → IsVerdictAt loaded.now at (Command.SeeMovements holder) v) }
+/// The verdict on a view of all movements, where this is the holder's row, if it is there, and these are the
+/// movements as a list shows them.
+pub fn see_movements(holder: Option<HolderRow>, items: Vec<ListedMovement>) -> Verdict
+    ensures said { result.said ≡ or_refuse Refusal.NoHolder holder (λ row.
+        Said.Answered (Answer.Movements items.items)) }
+    ensures change { result.change ≡ Change.Nothing }
 {
-    if loaded.holder.is_none() {
-        return Ok(Verdict::refused(Refusal::NoHolder));
+    if holder.is_none() {
+        return Verdict::refused(Refusal::NoHolder);
     }
-    let items = listed_movements(alloc, &loaded.movements)?;
-    Ok(Verdict::shown(Answer::Movements(ListedMovements::new(items))))
+    Verdict::shown(Answer::Movements(ListedMovements::new(items)))
 }
 
-// Movements as a list shows them.
-fn listed_movements(
+/// Movements as a list shows them. `AllocError`: want of memory.
+pub fn list_movements(
     alloc: Global,
     movements: &[Movement],
 ) -> Result<Vec<ListedMovement>, AllocError>
@@ -74,51 +68,33 @@ fn listed_movements(
     Ok(items)
 }
 
-/// The verdict on a view of a guarantee. `AllocError`: want of memory.
-pub fn see_guarantee(
-    alloc: Global,
-    loaded: &Loaded,
-    holder: HolderNo,
-    grn: &Grn,
-) -> Result<Verdict, AllocError>
-    ensures { IfOk result (λ v. (at : ℕ) → IsVerdictAt loaded.now at (Command.SeeGuarantee holder grn.now) v) }
+/// The verdict on a view of a guarantee, where this is the holder's row, and this the guarantee with the amount in
+/// use on it, if they are there.
+pub fn see_guarantee(holder: Option<HolderRow>, found: Option<(Guarantee, Cents)>) -> Verdict
+    ensures said { result.said ≡ or_refuse Refusal.NoHolder holder (λ row.
+        or_refuse Refusal.NoGuarantee found (λ entry. Said.Answered (Answer.Guarantee entry.0 entry.1))) }
+    ensures change { result.change ≡ Change.Nothing }
 {
-    if loaded.holder.is_none() {
-        return Ok(Verdict::refused(Refusal::NoHolder));
+    if holder.is_none() {
+        return Verdict::refused(Refusal::NoHolder);
     }
-    let Some((guarantee, used)) = find_entry(&loaded.guarantees, grn) else {
-        return Ok(Verdict::refused(Refusal::NoGuarantee));
-    };
-    Ok(Verdict::shown(Answer::Guarantee(guarantee.copy(alloc)?, *used)))
+    match found {
+        None => Verdict::refused(Refusal::NoGuarantee),
+        Some((guarantee, used)) => Verdict::shown(Answer::Guarantee(guarantee, used)),
+    }
 }
 
-/// The verdict on a view of all guarantees. `AllocError`: want of memory.
-pub fn see_guarantees(
-    alloc: Global,
-    loaded: &Loaded,
-    holder: HolderNo,
-) -> Result<Verdict, AllocError>
-    ensures { IfOk result (λ v. (at : ℕ) → IsVerdictAt loaded.now at (Command.SeeGuarantees holder) v) }
+/// The verdict on a view of all guarantees, where this is the holder's row, if it is there, and these are the
+/// guarantees with the amounts in use on them.
+pub fn see_guarantees(holder: Option<HolderRow>, entries: Vec<(Guarantee, Cents)>) -> Verdict
+    ensures said { result.said ≡ or_refuse Refusal.NoHolder holder (λ row.
+        Said.Answered (Answer.Guarantees entries.items)) }
+    ensures change { result.change ≡ Change.Nothing }
 {
-    if loaded.holder.is_none() {
-        return Ok(Verdict::refused(Refusal::NoHolder));
+    if holder.is_none() {
+        return Verdict::refused(Refusal::NoHolder);
     }
-    let items = copied_entries(alloc, &loaded.guarantees)?;
-    Ok(Verdict::shown(Answer::Guarantees(ListedGuarantees::new(items))))
-}
-
-// The same guarantees, and the amounts in use on them, in other memory.
-fn copied_entries(
-    alloc: Global,
-    entries: &[(Guarantee, Cents)],
-) -> Result<Vec<(Guarantee, Cents)>, AllocError>
-    ensures { IfOk result (λ items. items.items ≡ entries.now) }
-{
-    let mut items = Vec::with_capacity(alloc, entries.len())?;
-    for (guarantee, used) in entries {
-        items.push((guarantee.copy(alloc)?, *used))?;
-    }
-    Ok(items)
+    Verdict::shown(Answer::Guarantees(ListedGuarantees::new(entries)))
 }
 
 /// The answer that shows a holder's row.

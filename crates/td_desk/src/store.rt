@@ -13,7 +13,7 @@ use crate::decision::Decision;
 use crate::desk::Desk;
 use crate::fault::Fault;
 use std::alloc::Global;
-use td_acts::table::verdict;
+use td_acts::table::decide;
 use td_acts::{Change, Command, Loaded, Needs, Said, Verdict, known, owner};
 use td_base::{Country, HolderNo};
 
@@ -98,7 +98,7 @@ impl<S: Store> Desk for S {
         let _known = known(command);
         let owner = owner(self.office(), command);
         let loaded = self.load(alloc, owner, &command.needs())?;
-        let verdict = verdict(alloc, &loaded, at, command)?;
+        let verdict = decide(alloc, loaded, at, command)?;
         Ok(Decision::new(verdict))
     }
 
