@@ -1,5 +1,5 @@
 -- What one text makes.
-use Rattle.std.proofs.Common.{◌≡◌, ◌⊎◌, inl, inr, ℕ, List, [], ◌∷◌, ◌++◌, Ok, Err, None, false, Result, refl, sym, ap, subst, ◌∙◌}
+use Rattle.std.proofs.Common.{◌≡◌, ℕ, List, [], ◌∷◌, ◌++◌, Ok, Err, None, false, Result, refl, sym, ap, subst, ◌∙◌}
 use Rattle.std.specs.List.{AllByRecursion}
 use Rattle.sqlite_catalog.specs.Change.{created, next_tree, KeepsRows}
 use Rattle.sqlite_resolve.specs.declared.compiled.Compiled.{Compiled}
@@ -12,23 +12,12 @@ use Rattle.sqlite.specs.Does.{Tally, lacks_sequence}
 use Rattle.sqlite.specs.Effect.{Database}
 use Rattle.sqlite.specs.Listing.{understood}
 use Rattle.sqlite.specs.State.{State, Writes, ExecutesInside}
-use Rattle.sqlite.proofs.Callers.{command_of, statement_of, runs_as}
-use Rattle.td_schema.specs.Making.{command_in, text_in, MakesOne, IsEmptyOf}
+use Rattle.sqlite.proofs.Callers.{statement_of, runs_as}
+use Rattle.td_sql.proofs.Steps.{command_is, same_value, went}
+use Rattle.td_schema.specs.Making.{own_text, MakesOne, IsEmptyOf}
 
--- a part that gave a value did not stop on the way
-went : {B E R : Type 0} {b : B} {Stops : E → Type 0} → ((stop : E) × Stops stop × (Ok b ≡ Err stop)) ⊎ R → R
-went (inl stopped) = absurd (let e = stopped.2 in cc)
-went (inr on) = on
-
-same_value : {B E : Type 0} {a b : B} → ◌≡◌ {A = Result B E} (Ok a) (Ok b) → a ≡ b
-same_value e = cc
-
--- the command of a text, in the words of the crate's own proofs
-command_is : (r : Result Compiled CompileError) → command_of r ≡ command_in r
-command_is (Ok c) = refl
-command_is (Err e) = refl
-
-text_is : (text : List ℕ) (r : Result Compiled CompileError) → statement_of text r ≡ text_in text r
+-- the own text, in the words of the kit
+text_is : (text : List ℕ) (r : Result Compiled CompileError) → statement_of text r ≡ own_text text r
 text_is text (Ok c) = refl
 text_is text (Err e) = refl
 

@@ -5,8 +5,7 @@ use Rattle.sqlite_catalog.specs.Change.{created}
 use Rattle.sqlite_resolve.specs.Compile.{table_defined_by}
 use Rattle.sqlite_resolve.specs.declared.compiled.Compiled.{Compiled}
 use Rattle.sqlite_resolve.specs.declared.error.CompileError.{CompileError}
-use Rattle.sqlite_schema.specs.declared.command.Command.{Command}
-use Rattle.sqlite_schema.specs.declared.command.Command.TheVariants.{CreateTable, Nothing}
+use Rattle.sqlite_schema.specs.declared.command.Command.TheVariants.{CreateTable}
 use Rattle.sqlite_schema.specs.declared.schema.Schema.{Schema}
 use Rattle.sqlite_schema.specs.declared.schema.Table.{Table}
 use Rattle.sqlite.specs.Does.{lacks_sequence}
@@ -14,21 +13,18 @@ use Rattle.sqlite.specs.Effect.{Database}
 use Rattle.sqlite.specs.Given.{IsPlain}
 use Rattle.sqlite.specs.Listing.{understood}
 use Rattle.sqlite.specs.State.{text_of}
+use Rattle.td_sql.specs.Meanings.{command_in}
 
--- the command of a text that is understood, and its own text
-abbrev pub command_in : Result Compiled CompileError → Command
-command_in (Ok c) = c.command
-command_in (Err e) = Nothing
-
-abbrev pub text_in : List ℕ → Result Compiled CompileError → List ℕ
-text_in text (Ok c) = text_of text c
-text_in text (Err e) = []
+-- the own text of a statement that is understood
+abbrev pub own_text : List ℕ → Result Compiled CompileError → List ℕ
+own_text text (Ok c) = text_of text c
+own_text text (Err e) = []
 
 -- where these tables are, the text makes this one, and nothing else
 pub record MakesOne (s : Schema) (text : List ℕ) (t : Table) : Type 0 where
   pub command : command_in (understood s text) ≡ CreateTable
   pub plain : IsPlain (understood s text)
-  pub whole : text_in text (understood s text) ≡ text
+  pub whole : own_text text (understood s text) ≡ text
   pub table : table_defined_by text ≡ Ok t
   pub uncounted : lacks_sequence (created s t) ≡ false
 

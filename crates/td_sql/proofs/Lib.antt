@@ -1,9 +1,10 @@
 pub mod Lists
 pub mod Ids
 pub mod Queries
-mod Steps
+pub mod Steps
 pub mod Effects
 mod Answering
+pub mod Leaving
 pub mod TypedRows
 pub mod Columns
 pub mod Joined

@@ -40,6 +40,10 @@ Selects text values old answer =
 abbrev pub OnlyReads : List ℕ → State → State → Type 0
 OnlyReads text old new = (s : Schema) → HasSchema old s → IsPlain (understood s text) → IsUnchanged old new
 
+-- where the tables are those of the schema, all is left as it was
+abbrev pub LeavesAll : Schema → State → State → Type 0
+LeavesAll s old new = HasSchema old s → IsUnchanged old new
+
 -- the calls between the two states have only read
 pub record HasOnlyRead (old new : State) : Type 0 where
   pub was_open : IsTrue new.is_open → IsTrue old.is_open

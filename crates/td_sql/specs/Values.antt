@@ -1,5 +1,5 @@
 -- Numbers and texts as values of columns. A column that holds neither is read as something all the same.
-use Rattle.std.specs.Prelude.{ℕ, ◌+◌, ◌^◌, pos, negsuc, List, [], Option, Some, None}
+use Rattle.std.specs.Prelude.{ℕ, ℤ, ◌+◌, ◌^◌, pos, negsuc, List, [], Option, Some, None}
 use Rattle.sqlite_value.specs.declared.value.Value.{Value}
 use Rattle.sqlite_value.specs.declared.value.Value.TheVariants.{Null, Int, Real, Text, Blob}
 use Rattle.sqlite.specs.Values.{or_null}
@@ -13,6 +13,29 @@ number_or_null = or_null number_value
 
 abbrev pub text_or_null : Option (List ℕ) → Value
 text_or_null = or_null Text
+
+-- the integer that a value is, the number, the text; none where it is something else
+abbrev pub as_integer : Value → Option ℤ
+as_integer (Int n) = Some n
+as_integer Null = None
+as_integer (Real x) = None
+as_integer (Text t) = None
+as_integer (Blob b) = None
+
+abbrev pub as_number : Value → Option ℕ
+as_number (Int (pos n)) = Some n
+as_number (Int (negsuc n)) = None
+as_number Null = None
+as_number (Real x) = None
+as_number (Text t) = None
+as_number (Blob b) = None
+
+abbrev pub as_text : Value → Option (List ℕ)
+as_text (Text t) = Some t
+as_text Null = None
+as_text (Int n) = None
+as_text (Real x) = None
+as_text (Blob b) = None
 
 -- the number in a value: a negative one is read as one above 2^63, and what is no integer as 0
 abbrev pub number_in : Value → ℕ

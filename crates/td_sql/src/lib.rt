@@ -3,9 +3,11 @@
 #![tactic(auto)]
 
 mod cells;
+mod rows;
 mod statements;
 #[cfg(test)]
 mod tests;
 
-pub use cells::{is_null_at, number_at, text_at};
+pub use cells::{integer_at, is_null_at, number_at, text_at};
+pub use rows::{FromRow, only, read_rows};
 pub use statements::{delete, insert, select, update};

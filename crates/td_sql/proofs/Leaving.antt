@@ -1,0 +1,21 @@
+-- A text that doesn't write leaves all as it was, whatever comes after it.
+use Rattle.std.proofs.Common.{Err, List, Ok, OnOk, Result, ℕ}
+use Rattle.sqlite_schema.specs.declared.schema.Schema.{Schema}
+use Rattle.sqlite.specs.Given.{IsPlain}
+use Rattle.sqlite.specs.Listing.{understood}
+use Rattle.sqlite.specs.State.{State}
+use Rattle.td_sql.specs.Reading.{LeavesAll, OnlyReads}
+
+-- what holds whatever a call answered
+pub any_ok : {T E P : Type 0} (r : Result T E) → P → OnOk r P
+any_ok (Ok x) p = p
+any_ok (Err e) p = tt
+
+pub stays : (s : Schema) (text : List ℕ) → IsPlain (understood s text) → (old new : State) → OnlyReads text old new
+    → LeavesAll s old new
+stays s text plain old new h has = h s has plain
+
+pub stays_ok : {T E : Type 0} (s : Schema) (text : List ℕ) → IsPlain (understood s text) → (old new : State)
+    (r : Result T E) → OnOk r (OnlyReads text old new) → OnOk r (LeavesAll s old new)
+stays_ok s text plain old new (Ok x) h = stays s text plain old new h
+stays_ok s text plain old new (Err e) h = h
