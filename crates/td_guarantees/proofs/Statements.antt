@@ -1,11 +1,9 @@
 -- What the statements on the table of guarantees did.
-use Rattle.std.proofs.Common.{Result, Ok, Err, Option, OnOk, Bool, IsPermutation, List, [], ap, false, map, refl, subst, sym, ℕ, ◌∙◌, ◌∷◌, ◌≡◌}
+use Rattle.std.proofs.Common.{Result, Ok, Err, Option, Bool, IsPermutation, List, [], ap, false, map, refl, subst, sym, ℕ, ◌∙◌, ◌∷◌, ◌≡◌}
 use Rattle.std.specs.Prelude.{Vec, IfOk, filter, if◌then◌else◌, ◌==◌}
 use Rattle.std.specs.Option.{option_to_list}
 use Rattle.std.specs.declared.alloc.Global.{Global}
 use Rattle.sqlite.specs.declared.error.Error.{Error}
-use Rattle.sqlite.specs.Given.{IsPlain}
-use Rattle.sqlite.specs.Listing.{understood}
 use Rattle.sqlite.specs.State.{State}
 use Rattle.sqlite_rules.specs.Cast.{cast_all}
 use Rattle.sqlite_sql.specs.Ops.{binary}
@@ -23,14 +21,14 @@ use Rattle.td_guarantee.specs.declared.guarantee.Guarantee.{Guarantee}
 use Rattle.td_guarantees.proofs.CellLemmas.{back, bare, cells_stored, given_else}
 use Rattle.td_guarantees.proofs.Meanings.{all_columns, grn_tests, holder_tests, insert_means, new_row, serial_tests, set_columns, set_means}
 use Rattle.td_guarantees.specs.Cells.{guarantee_cells, guarantee_columns, guarantee_typing, guarantees_table}
-use Rattle.td_guarantees.specs.Stored.{AreGuarantees, IsTheGuarantee, LeavesAll, ShowsGuarantees, TurnsGuarantees, has_grn, has_serial, is_of, terms_values, with_new_terms}
+use Rattle.td_guarantees.specs.Stored.{AreGuarantees, IsTheGuarantee, ShowsGuarantees, TurnsGuarantees, has_grn, has_serial, is_of, terms_values, with_new_terms}
 use Rattle.td_guarantees.specs.declared.stored.StoredGuarantee.{StoredGuarantee}
 use Rattle.td_guarantees.specs.declared.texts.TheConstants.{INSERT, SET_TERMS}
 use Rattle.td_schema.specs.Tables.{desk_schema}
 use Rattle.td_sql.proofs.Columns.{given_or, number_is, text_is}
 use Rattle.td_sql.proofs.TypedRows.{inserted_typed, selected_typed, updated_typed}
 use Rattle.td_sql.specs.Meanings.{MeansSelect}
-use Rattle.td_sql.specs.Reading.{OnlyReads, Selects, row_order, shown_by}
+use Rattle.td_sql.specs.Reading.{Selects, row_order, shown_by}
 use Rattle.td_sql.specs.Typed.{IsTypedRow, row_of, rows_in}
 use Rattle.td_sql.specs.Values.{number_or_null, number_value}
 use Rattle.td_sql.specs.Writing.{Inserts, IsInserted, Updates, columns_set, passes}
@@ -125,18 +123,3 @@ module _ (text : List ℕ) (values given : Row) (same : values ≡ given) (tests
       → IfOk r (IsTheGuarantee p old)
   one_found old (Ok one) found is h = subst (AreGuarantees p old) (sym is) (those old found h)
   one_found old (Err e) found is h = is
-
--- and all stays as it was
-pub stays : (text : List ℕ) → IsPlain (understood desk_schema text) → (old new : State) → OnlyReads text old new
-    → LeavesAll old new
-stays text plain old new h has = h desk_schema has plain
-
-pub stays_ok : {T : Type 0} (text : List ℕ) → IsPlain (understood desk_schema text)
-    → (old new : State) (r : Result T Error)
-    → OnOk r (OnlyReads text old new) → OnOk r (LeavesAll old new)
-stays_ok text plain old new (Ok x) h = stays text plain old new h
-stays_ok text plain old new (Err e) h = h
-
-pub any_ok : {T E P : Type 0} (r : Result T E) → P → OnOk r P
-any_ok (Ok x) p = p
-any_ok (Err e) p = tt

@@ -10,10 +10,9 @@ use Rattle.td_schema.specs.Tables.{desk_schema}
 use Rattle.td_sql.specs.Typed.{AreThose, Turns}
 use Rattle.td_sql.specs.Reading.{Selects}
 use Rattle.td_sql.specs.Values.{number_value, number_or_null}
-use Rattle.td_sql.specs.Writing.{HasSchema}
 use Rattle.sqlite_value.specs.declared.value.Value.TheVariants.{Text}
 use Rattle.sqlite_value.specs.Order.{Row}
-use Rattle.sqlite.specs.State.{State, IsUnchanged}
+use Rattle.sqlite.specs.State.{State}
 use Rattle.td_guarantees.specs.Cells.{guarantee_from, guarantee_typing}
 use Rattle.td_guarantees.specs.declared.stored.StoredGuarantee.{StoredGuarantee}
 
@@ -51,10 +50,6 @@ IsTheGuarantee p state found = AreGuarantees p state (option_to_list found)
 abbrev pub ShowsGuarantees : List ℕ → Row → State → List StoredGuarantee → Type 0
 ShowsGuarantees text values old found =
     (rows : List Row) × Selects text values old rows × (map row_of_stored found ≡ map guarantee_from rows)
-
--- a store's file is left as it was
-abbrev pub LeavesAll : State → State → Type 0
-LeavesAll old new = HasSchema old desk_schema → IsUnchanged old new
 
 -- what new terms are written by: the holder, the serial and the GRN, and then the terms
 abbrev pub terms_values : ℕ → ℕ → NewTerms → Row

@@ -1,7 +1,7 @@
 -- What is asked of the office's own row in a store's file, and that it is written.
 use Rattle.std.specs.Prelude.{◌≡◌, List, map, Option}
 use Rattle.std.specs.Option.{option_to_list}
-use Rattle.sqlite.specs.State.{State, IsUnchanged}
+use Rattle.sqlite.specs.State.{State}
 use Rattle.td_base.specs.Country.{country_read}
 use Rattle.td_schema.specs.Tables.{desk_schema}
 use Rattle.td_sql.specs.Typed.{AreTyped, Turns, rows_in}
@@ -21,7 +21,3 @@ TurnsMeta f = Turns meta_typing desk_schema f
 abbrev pub IsTheMeta : State → Option StoredMeta → Type 0
 IsTheMeta state found = HasSchema state desk_schema → AreTyped meta_typing state.now.trees
     → map stored_of (rows_in meta_typing state.now.trees) ≡ option_to_list found
-
--- a store's file is left as it was
-abbrev pub LeavesAll : State → State → Type 0
-LeavesAll old new = HasSchema old desk_schema → IsUnchanged old new

@@ -2,7 +2,9 @@
 ghost use Rattle.std.specs.Prelude.{◌≡◌, IsTrue, IfOk, OnOk};
 ghost use Rattle.sqlite.specs.Held.{state};
 ghost use Rattle.sqlite.specs.State.{HasCleanDisk, KeepsCommit, Survives};
-ghost use Rattle.td_meta.specs.Stored.{IsTheMeta, LeavesAll};
+ghost use Rattle.td_schema.specs.Tables.{desk_schema};
+ghost use Rattle.td_sql.specs.Reading.{LeavesAll};
+ghost use Rattle.td_meta.specs.Stored.{IsTheMeta};
 
 use crate::stored::{StoredMeta, only_meta};
 use crate::texts::FIND;
@@ -17,12 +19,12 @@ pub fn find_meta<S: Alter>(tx: &mut Transaction<'_, S>) -> Result<Option<StoredM
     ensures found { HasCleanDisk (state S.Store tx.new.conn.now)
         → IfOk result (IsTheMeta (state S.Store tx.old.conn.now)) }
     ensures still { HasCleanDisk (state S.Store tx.new.conn.now)
-        → OnOk result (LeavesAll (state S.Store tx.old.conn.now) (state S.Store tx.new.conn.now)) }
+        → OnOk result (LeavesAll desk_schema (state S.Store tx.old.conn.now) (state S.Store tx.new.conn.now)) }
     ensures inside { HasCleanDisk (state S.Store tx.new.conn.now) → OnOk result (IsTrue (state S.Store tx.new.conn.now).in_transaction) }
     ensures kept { HasCleanDisk (state S.Store tx.new.conn.now)
         → KeepsCommit (state S.Store tx.old.conn.now) (state S.Store tx.new.conn.now) }
     ensures survives { Survives (state S.Store tx.old.conn.now) (state S.Store tx.new.conn.now) (λ _. ⊥) }
 {
     let rows = td_sql::select(tx, FIND, &[])?;
-    only_meta(&rows)
+    only_meta(rows)
 }

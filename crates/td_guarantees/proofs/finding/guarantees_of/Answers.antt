@@ -1,10 +1,12 @@
 use Rattle.std.specs.Prelude.{[], ◌∷◌}
 use Rattle.sqlite.specs.Held.{state}
+use Rattle.td_schema.specs.Tables.{desk_schema}
+use Rattle.td_sql.proofs.Leaving.{stays_ok}
 use Rattle.td_sql.specs.Values.{number_value}
 use Rattle.td_guarantees.specs.Stored.{is_of}
 use Rattle.td_guarantees.specs.declared.texts.TheConstants.{OF_HOLDER}
 use Rattle.td_guarantees.proofs.Meanings.{of_holder_means, holder_tests, by_serial}
-use Rattle.td_guarantees.proofs.Statements.{those_found, stays_ok, holder_passes}
+use Rattle.td_guarantees.proofs.Statements.{those_found, holder_passes}
 use Rattle.td_guarantees.proofs.finding.guarantees_of.Goals as goal
 
 pub returns-clause-found : goal.returns-clause-found
@@ -16,4 +18,4 @@ returns-clause-found g c clean =
 
 pub returns-clause-still : goal.returns-clause-still
 returns-clause-still g c clean =
-    stays_ok OF_HOLDER.now of_holder_means.plain _ _ c.shown.result (c.shown.ensures.still clean)
+    stays_ok desk_schema OF_HOLDER.now of_holder_means.plain _ _ c.shown.result (c.shown.ensures.still clean)

@@ -14,8 +14,8 @@ use Rattle.td_guarantees.proofs.finding.shown.Goals as goal
 
 pub returns-clause-found : goal.returns-clause-found
 returns-clause-found g c clean =
-    read_by c.read_guarantees.result c.in_ok-rows.rows.items (c.in_ok-rows.ensures.selected clean)
-    (rw c.deref.ensures.value at c.read_guarantees.ensures)
+    read_by c.read_rows.result c.in_ok-rows.rows.items (c.in_ok-rows.ensures.selected clean)
+    (rw c.deref.ensures.value at c.read_rows.ensures)
   where
     old : State
     old = state g.S.Store c.args.tx.now.conn.now

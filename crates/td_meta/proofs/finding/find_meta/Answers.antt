@@ -1,22 +1,22 @@
 use Rattle.std.proofs.Common.{◌≡◌, Ok, Err, Result, Option, map}
-use Rattle.std.specs.Prelude.{OnOk, IfOk}
+use Rattle.std.specs.Prelude.{IfOk}
 use Rattle.std.specs.Option.{option_to_list}
 use Rattle.sqlite.specs.Held.{state}
 use Rattle.sqlite.specs.State.{State}
 use Rattle.sqlite.specs.declared.error.Error.{Error}
 use Rattle.td_schema.specs.Tables.{desk_schema}
-use Rattle.td_sql.specs.Reading.{OnlyReads}
+use Rattle.td_sql.proofs.Leaving.{any_ok, stays}
 use Rattle.td_meta.specs.declared.stored.StoredMeta.{StoredMeta}
 use Rattle.td_meta.specs.declared.texts.TheConstants.{FIND}
 use Rattle.td_meta.specs.Cells.{meta_from}
-use Rattle.td_meta.specs.Stored.{IsTheMeta, LeavesAll, stored_of}
+use Rattle.td_meta.specs.Stored.{IsTheMeta, stored_of}
 use Rattle.td_meta.proofs.Meanings.{find_means}
 use Rattle.td_meta.proofs.Statements.{found_meta}
 use Rattle.td_meta.proofs.finding.find_meta.Goals as goal
 
 pub returns-clause-found : goal.returns-clause-found
 returns-clause-found g c clean =
-    by_result c.only_meta.result (rw c.deref.ensures.value at c.only_meta.ensures)
+    by_result c.only_meta.result c.only_meta.ensures
   where
     old : State
     old = state g.S.Store c.args.tx.now.conn.now
@@ -28,14 +28,5 @@ returns-clause-found g c clean =
     by_result (Err e) is = is
 
 pub returns-clause-still : goal.returns-clause-still
-returns-clause-still g c clean = by_result c.only_meta.result (c.in_ok-rows.ensures.still clean)
-  where
-    old : State
-    old = state g.S.Store c.args.tx.now.conn.now
-
-    new : State
-    new = state g.S.Store c.select.new.tx.conn.now
-
-    by_result : (r : Result (Option StoredMeta) Error) → OnlyReads FIND.now old new → OnOk r (LeavesAll old new)
-    by_result (Ok one) only_read = λ has. only_read desk_schema has find_means.plain
-    by_result (Err e) only_read = tt
+returns-clause-still g c clean =
+    any_ok c.only_meta.result (stays desk_schema FIND.now find_means.plain _ _ (c.in_ok-rows.ensures.still clean))
