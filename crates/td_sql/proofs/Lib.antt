@@ -6,5 +6,6 @@ pub mod Effects
 mod Answering
 pub mod Leaving
 pub mod TypedRows
+pub mod Fetched
 pub mod Columns
 pub mod Joined

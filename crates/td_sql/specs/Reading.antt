@@ -36,6 +36,11 @@ Selects text values old answer =
     → MeansSelect s text tree tests shows order
     → IsAnswerOf (old.now.trees tree) (passes values tests) (shown_by shows values) (row_order order values) answer
 
+-- these are what the rows say that the text asks for, in their order
+abbrev pub Fetches : {T R : Type 0} → (T → R) → (Row → R) → List ℕ → Row → State → List T → Type 0
+Fetches typed from text values old found =
+    (rows : List Row) × Selects text values old rows × (map typed found ≡ map from rows)
+
 -- a text that doesn't write left all as it was
 abbrev pub OnlyReads : List ℕ → State → State → Type 0
 OnlyReads text old new = (s : Schema) → HasSchema old s → IsPlain (understood s text) → IsUnchanged old new

@@ -3,11 +3,13 @@
 #![tactic(auto)]
 
 mod cells;
+mod fetching;
 mod rows;
 mod statements;
 #[cfg(test)]
 mod tests;
 
 pub use cells::{integer_at, is_null_at, number_at, text_at};
+pub use fetching::{fetch, fetch_one};
 pub use rows::{FromRow, only, read_rows};
 pub use statements::{delete, insert, select, update};
