@@ -6,9 +6,9 @@ ghost use Rattle.sqlite.specs.State.{HasCleanDisk, KeepsCommit, Survives};
 ghost use Rattle.sqlite.specs.Values.{bound};
 ghost use Rattle.sqlite_value.specs.declared.value.Value.TheVariants.{Text};
 ghost use Rattle.td_schema.specs.Tables.{desk_schema};
-ghost use Rattle.td_sql.specs.Reading.{LeavesAll, OnlyReads};
+ghost use Rattle.td_sql.specs.Reading.{LeavesAll};
 ghost use Rattle.td_sql.specs.Values.{number_value};
-ghost use Rattle.td_guarantees.specs.Stored.{AreGuarantees, IsTheGuarantee, ShowsGuarantees, has_grn, has_serial, is_of};
+ghost use Rattle.td_guarantees.specs.Stored.{AreGuarantees, IsTheGuarantee, has_grn, has_serial, is_of};
 
 use crate::stored::StoredGuarantee;
 use crate::texts::{BY_GRN, BY_SERIAL, OF_HOLDER};
@@ -18,7 +18,7 @@ use sqlite_value::value::ValueRef;
 use std::alloc::Global;
 use td_base::{Grn, HolderNo};
 use td_columns::number_of;
-use td_sql::{only, read_rows};
+use td_sql::{fetch, fetch_one};
 
 fn grn_values(holder: HolderNo, serial: u32, grn: &Grn) -> [ValueRef<'_>; 3]
     ensures { bound result ≡ number_value holder ∷ number_value serial ∷ Text grn.now ∷ [] }
@@ -42,28 +42,6 @@ fn holder_values(holder: HolderNo) -> [ValueRef<'static>; 1]
     [number_of(holder.number())]
 }
 
-// The guarantees that a statement shows, in its order.
-fn shown<S: Alter>(
-    alloc: Global,
-    tx: &mut Transaction<'_, S>,
-    text: &str,
-    values: &[ValueRef<'_>],
-) -> Result<Vec<StoredGuarantee>, Error>
-    requires { HasCleanDisk (state S.Store tx.old.conn.now) → IsTrue (state S.Store tx.old.conn.now).in_transaction }
-    ensures same_reference { tx.new.conn.ghost_name ≡ tx.old.conn.ghost_name }
-    ensures found { HasCleanDisk (state S.Store tx.new.conn.now) → IfOk result (λ found.
-        ShowsGuarantees text.now (bound values.now) (state S.Store tx.old.conn.now) found.items) }
-    ensures still { HasCleanDisk (state S.Store tx.new.conn.now)
-        → OnOk result (OnlyReads text.now (state S.Store tx.old.conn.now) (state S.Store tx.new.conn.now)) }
-    ensures inside { HasCleanDisk (state S.Store tx.new.conn.now) → OnOk result (IsTrue (state S.Store tx.new.conn.now).in_transaction) }
-    ensures kept { HasCleanDisk (state S.Store tx.new.conn.now)
-        → KeepsCommit (state S.Store tx.old.conn.now) (state S.Store tx.new.conn.now) }
-    ensures survives { Survives (state S.Store tx.old.conn.now) (state S.Store tx.new.conn.now) (λ _. ⊥) }
-{
-    let rows = td_sql::select(tx, text, values)?;
-    read_rows(alloc, &rows)
-}
-
 /// The holder's guarantee with a serial and exactly a GRN, if there is one.
 pub fn find_by_grn<S: Alter>(
     alloc: Global,
@@ -83,7 +61,7 @@ pub fn find_by_grn<S: Alter>(
         → KeepsCommit (state S.Store tx.old.conn.now) (state S.Store tx.new.conn.now) }
     ensures survives { Survives (state S.Store tx.old.conn.now) (state S.Store tx.new.conn.now) (λ _. ⊥) }
 {
-    only(shown(alloc, tx, BY_GRN, &grn_values(holder, serial, grn))?)
+    fetch_one(alloc, tx, BY_GRN, &grn_values(holder, serial, grn))
 }
 
 /// The holder's guarantee with a serial, if there is one: a movement's line names it by that.
@@ -104,7 +82,7 @@ pub fn find_by_serial<S: Alter>(
         → KeepsCommit (state S.Store tx.old.conn.now) (state S.Store tx.new.conn.now) }
     ensures survives { Survives (state S.Store tx.old.conn.now) (state S.Store tx.new.conn.now) (λ _. ⊥) }
 {
-    only(shown(alloc, tx, BY_SERIAL, &serial_values(holder, serial))?)
+    fetch_one(alloc, tx, BY_SERIAL, &serial_values(holder, serial))
 }
 
 /// All guarantees of a holder.
@@ -124,5 +102,5 @@ pub fn guarantees_of<S: Alter>(
         → KeepsCommit (state S.Store tx.old.conn.now) (state S.Store tx.new.conn.now) }
     ensures survives { Survives (state S.Store tx.old.conn.now) (state S.Store tx.new.conn.now) (λ _. ⊥) }
 {
-    shown(alloc, tx, OF_HOLDER, &holder_values(holder))
+    fetch(alloc, tx, OF_HOLDER, &holder_values(holder))
 }
