@@ -7,32 +7,27 @@ use Rattle.td_sql.proofs.Columns.{text_is}
 use Rattle.td_sql.specs.Writing.{Deletes}
 use Rattle.std.specs.Prelude.{not}
 use Rattle.sqlite.specs.State.{State}
-use Rattle.sqlite.specs.declared.error.Error.{Error}
-use Rattle.std.proofs.Common.{Result, Ok, Err, OnOk, subst}
-use Rattle.std.specs.Prelude.{Vec, IfOk, pos}
-use Rattle.std.specs.declared.alloc.Global.{Global}
+use Rattle.std.proofs.Common.{subst}
+use Rattle.std.specs.Prelude.{pos}
 use Rattle.sqlite_typed.proofs.TestLemmas.{then_value, then_term, last_term}
 use Rattle.td_sql.proofs.Effects.{cast_int}
-use Rattle.td_codes.proofs.Meanings.{all_columns, by_code, insert_means, key_tests, new_row, of_guarantee_means}
+use Rattle.td_codes.proofs.Meanings.{insert_means, key_tests, new_row}
 use Rattle.sqlite_rules.specs.Cast.{cast_all}
 use Rattle.sqlite_sql.specs.Term.{eval_all}
 use Rattle.sqlite_value.specs.Order.{Row, column}
-use Rattle.std.proofs.Common.{IsPermutation, List, [], ap, map, refl, sym, ℕ, ◌∷◌, ◌≡◌}
+use Rattle.std.proofs.Common.{List, [], ap, refl, ℕ, ◌∷◌, ◌≡◌}
 use Rattle.std.specs.Prelude.{filter}
 use Rattle.td_codes.specs.Cells.{code_cells, code_from, code_typing, stored_table}
-use Rattle.td_codes.specs.Stored.{AreCodes, LeavesAll, TurnsCodes, is_code_of_guarantee, row_of_stored}
-use Rattle.td_codes.specs.declared.stored.StoredCode.{StoredCode}
-use Rattle.td_codes.specs.declared.texts.TheConstants.{INSERT, OF_GUARANTEE}
+use Rattle.td_codes.specs.Stored.{TurnsCodes, is_code_of_guarantee}
+use Rattle.td_codes.specs.declared.texts.TheConstants.{INSERT}
 use Rattle.td_schema.specs.Tables.{desk_schema}
 use Rattle.td_sql.proofs.Columns.{number_is}
-use Rattle.td_sql.proofs.TypedRows.{inserted_typed, selected_typed}
-use Rattle.td_sql.specs.Reading.{OnlyReads, Selects, row_order, shown_by}
-use Rattle.td_sql.specs.Typed.{IsTypedRow, row_of, rows_in}
+use Rattle.td_sql.proofs.TypedRows.{inserted_typed}
+use Rattle.td_sql.specs.Typed.{IsTypedRow, row_of}
 use Rattle.td_sql.specs.Values.{number_value}
 use Rattle.td_sql.specs.Writing.{Inserts, IsInserted, passes}
 use Rattle.td_tables.specs.Tables.{Keyed}
-use Rattle.td_codes.specs.declared.texts.TheConstants.{INSERT, OF_GUARANTEE}
-use Rattle.td_codes.specs.declared.stored.StoredCode.{StoredCode}
+use Rattle.td_codes.specs.declared.texts.TheConstants.{INSERT}
 
 back : (l : Keyed (List ℕ)) → code_from (code_cells l) ≡ l
 back l = refl
@@ -68,40 +63,9 @@ deleted c values is old new h has typed =
     (is_code_of c.holder c.serial c.row) old.now
     new.now (code_passes c) done typed
 
-key_passes : (H n : ℕ) (r : Row) → IsTypedRow code_typing r
+-- a row passes where it is of the guarantee
+pub key_passes : (H n : ℕ) (r : Row) → IsTypedRow code_typing r
     → passes (number_value H ∷ number_value n ∷ []) key_tests r ≡ is_code_of_guarantee H n (row_of code_typing r)
 key_passes H n r is =
     then_term (number_is (column r 1) (row_of code_typing r).holder H (ap (λ l. column l 0) is))
     (last_term (number_is (column r 2) (row_of code_typing r).serial n (ap (λ l. column l 1) is)))
-
--- the codes that were shown are those of the guarantee
-pub those : (H n : ℕ) (values : Row) → values ≡ number_value H ∷ number_value n ∷ []
-    → (old : State) (rows : List Row)
-    → Selects OF_GUARANTEE.now values old rows → (found : List StoredCode)
-    → map row_of_stored found ≡ map code_from rows
-    → AreCodes (is_code_of_guarantee H n) old found
-those H n values is old rows h found read has typed =
-    let given : Row = number_value H ∷ number_value n ∷ [] in
-    let did : Selects OF_GUARANTEE.now given old rows = subst (λ v. Selects OF_GUARANTEE.now v old rows) is h in
-    let answer = did desk_schema 2 key_tests all_columns by_code has of_guarantee_means in
-    subst (IsPermutation (filter (is_code_of_guarantee H n) (rows_in code_typing old.now.trees))) (sym read)
-    (selected_typed code_typing desk_schema (passes given key_tests) (shown_by all_columns given)
-    (is_code_of_guarantee H n)
-    (row_order by_code given) old.now.trees rows
-    (key_passes H n) (λ r. refl) answer typed)
-
-pub those_found : (H n : ℕ) (values : Row) → values ≡ number_value H ∷ number_value n ∷ []
-    → (old : State) (rows : List Row)
-    → Selects OF_GUARANTEE.now values old rows → (r : Result (Vec StoredCode Global) Error)
-    → IfOk r (λ found. map row_of_stored found.items ≡ map code_from rows)
-    → IfOk r (λ found. AreCodes (is_code_of_guarantee H n) old found.items)
-those_found H n values is old rows h (Ok found) read = those H n values is old rows h found.items read
-those_found H n values is old rows h (Err e) read = read
-
--- and all stays as it was
-pub stays : (old new : State) → OnlyReads OF_GUARANTEE.now old new → LeavesAll old new
-stays old new h has = h desk_schema has of_guarantee_means.plain
-
-pub any_ok : {T E P : Type 0} (r : Result T E) → P → OnOk r P
-any_ok (Ok x) p = p
-any_ok (Err e) p = tt

@@ -1,10 +1,9 @@
 -- What is asked of the codes in a store's file, and what is written into them.
 use Rattle.std.specs.Prelude.{ℕ, ◌==◌, Bool, ◌&&◌, List, map}
-use Rattle.sqlite.specs.State.{State, IsUnchanged}
+use Rattle.sqlite.specs.State.{State}
 use Rattle.td_tables.specs.Tables.{Keyed}
 use Rattle.td_schema.specs.Tables.{desk_schema}
 use Rattle.td_sql.specs.Typed.{AreThose, Turns}
-use Rattle.td_sql.specs.Writing.{HasSchema}
 use Rattle.td_codes.specs.Cells.{code_typing}
 use Rattle.td_codes.specs.declared.stored.StoredCode.{StoredCode}
 
@@ -23,7 +22,3 @@ TurnsCodes f = Turns code_typing desk_schema f
 -- these are the codes that pass the test
 abbrev pub AreCodes : (Keyed (List ℕ) → Bool) → State → List StoredCode → Type 0
 AreCodes p state found = AreThose code_typing desk_schema p state (map row_of_stored found)
-
--- a store's file is left as it was
-abbrev pub LeavesAll : State → State → Type 0
-LeavesAll old new = HasSchema old desk_schema → IsUnchanged old new

@@ -1,28 +1,19 @@
 //! What is looked up in the table of codes. It changes nothing. `DatabaseCorrupt`: a row is no code's; `OutOfMemory`: want
 //! of memory; any other error is the database's own.
-ghost use Rattle.std.specs.Prelude.{◌≡◌, [], ◌∷◌, IsTrue, IfOk, OnOk};
+ghost use Rattle.std.specs.Prelude.{◌≡◌, IsTrue, IfOk, OnOk};
 ghost use Rattle.sqlite.specs.Held.{state};
 ghost use Rattle.sqlite.specs.State.{HasCleanDisk, KeepsCommit, Survives};
-ghost use Rattle.sqlite.specs.Values.{bound};
-ghost use Rattle.td_sql.specs.Values.{number_value};
-ghost use Rattle.td_codes.specs.Stored.{AreCodes, LeavesAll, is_code_of_guarantee};
+ghost use Rattle.td_schema.specs.Tables.{desk_schema};
+ghost use Rattle.td_sql.specs.Reading.{LeavesAll};
+ghost use Rattle.td_codes.specs.Stored.{AreCodes, is_code_of_guarantee};
 
-use crate::stored::{StoredCode, read_codes};
+use crate::stored::StoredCode;
 use crate::texts::OF_GUARANTEE;
 use sqlite::{Error, Transaction};
 use sqlite_trees::store::Alter;
-use sqlite_value::value::ValueRef;
 use std::alloc::Global;
 use td_base::HolderNo;
-
-fn key_values(holder: HolderNo, serial: u32) -> [ValueRef<'static>; 2]
-    ensures { bound result ≡ number_value holder ∷ number_value serial ∷ [] }
-{
-    [
-        ValueRef::Int(i64::from(holder.number())),
-        ValueRef::Int(i64::from(serial)),
-    ]
-}
+use td_columns::serial_key;
 
 /// The codes of the guarantee of a holder with a serial.
 pub fn codes_of<S: Alter>(
@@ -36,12 +27,11 @@ pub fn codes_of<S: Alter>(
     ensures found { HasCleanDisk (state S.Store tx.new.conn.now)
         → IfOk result (λ found. AreCodes (is_code_of_guarantee holder serial) (state S.Store tx.old.conn.now) found.items) }
     ensures still { HasCleanDisk (state S.Store tx.new.conn.now)
-        → OnOk result (LeavesAll (state S.Store tx.old.conn.now) (state S.Store tx.new.conn.now)) }
+        → OnOk result (LeavesAll desk_schema (state S.Store tx.old.conn.now) (state S.Store tx.new.conn.now)) }
     ensures inside { HasCleanDisk (state S.Store tx.new.conn.now) → OnOk result (IsTrue (state S.Store tx.new.conn.now).in_transaction) }
     ensures kept { HasCleanDisk (state S.Store tx.new.conn.now)
         → KeepsCommit (state S.Store tx.old.conn.now) (state S.Store tx.new.conn.now) }
     ensures survives { Survives (state S.Store tx.old.conn.now) (state S.Store tx.new.conn.now) (λ _. ⊥) }
 {
-    let rows = td_sql::select(tx, OF_GUARANTEE, &key_values(holder, serial))?;
-    read_codes(alloc, &rows)
+    td_sql::fetch(alloc, tx, OF_GUARANTEE, &serial_key(holder, serial))
 }

@@ -12,14 +12,15 @@ use crate::texts::{DELETE, INSERT};
 use sqlite::{Error, Transaction};
 use sqlite_trees::store::Alter;
 use sqlite_value::value::ValueRef;
+use td_columns::number_of;
 
 // The columns of a code's row.
 fn columns(code: &StoredCode) -> [ValueRef<'_>; 3]
     ensures { bound result ≡ code_cells (row_of_stored code.now) }
 {
     [
-        ValueRef::Int(i64::from(code.holder.number())),
-        ValueRef::Int(i64::from(code.serial)),
+        number_of(code.holder.number()),
+        number_of(code.serial),
         ValueRef::Text(code.code.as_bytes()),
     ]
 }

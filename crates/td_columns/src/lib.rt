@@ -10,6 +10,6 @@ pub use reading::{
     office_at, optional_day_at, optional_office_at, serial_at, state_at,
 };
 pub use values::{
-    amount_of, amount_or_null, cover_of, cover_or_null, day_of, day_or_null, number_of,
-    office_or_null,
+    amount_of, amount_or_null, cover_of, cover_or_null, day_of, day_or_null, holder_key, number_of,
+    office_or_null, serial_key,
 };

@@ -1,11 +1,11 @@
 //! Fields as values of statements. Contracts say what each is bound as.
-ghost use Rattle.std.specs.Prelude.{◌≡◌};
-ghost use Rattle.sqlite.specs.Values.{bound_value};
+ghost use Rattle.std.specs.Prelude.{◌≡◌, [], ◌∷◌};
+ghost use Rattle.sqlite.specs.Values.{bound, bound_value};
 ghost use Rattle.sqlite_value.specs.Value.{owned};
 ghost use Rattle.td_sql.specs.Values.{number_value, number_or_null, text_or_null};
 
 use sqlite_value::value::ValueRef;
-use td_base::{Cents, Cover, Day, OfficeNo};
+use td_base::{Cents, Cover, Day, HolderNo, OfficeNo};
 
 /// A number.
 pub fn number_of(number: u32) -> ValueRef<'static>
@@ -73,4 +73,18 @@ pub fn office_or_null(office: &Option<OfficeNo>) -> ValueRef<'_>
         Some(office) => ValueRef::Text(office.as_bytes()),
         None => ValueRef::Null,
     }
+}
+
+/// What the rows of a holder are asked for by.
+pub fn holder_key(holder: HolderNo) -> [ValueRef<'static>; 1]
+    ensures { bound result ≡ number_value holder ∷ [] }
+{
+    [number_of(holder.number())]
+}
+
+/// What the rows of a holder's guarantee, or movement, with a serial are asked for by.
+pub fn serial_key(holder: HolderNo, serial: u32) -> [ValueRef<'static>; 2]
+    ensures { bound result ≡ number_value holder ∷ number_value serial ∷ [] }
+{
+    [number_of(holder.number()), number_of(serial)]
 }

@@ -1,5 +1,5 @@
 -- What the statements on the table of holders did to its typed rows, and what they showed.
-use Rattle.std.proofs.Common.{◌≡◌, ℕ, pos, Bool, true, false, List, [], ◌∷◌, map, refl, subst, ap, ap₂, ◌∙◌, arith}
+use Rattle.std.proofs.Common.{◌≡◌, ℕ, pos, Bool, true, false, [], ◌∷◌, map, refl, subst, ap, ap₂, ◌∙◌, arith}
 use Rattle.std.specs.Prelude.{◌==◌, ◌&&◌, if◌then◌else◌}
 use Rattle.std.proofs.lemmas.Bool.Decides.{nat_tests}
 use Rattle.sqlite_value.specs.declared.value.Value.TheVariants.{Int, Null, Text}
@@ -10,17 +10,16 @@ use Rattle.sqlite.specs.State.{State}
 use Rattle.td_acts.specs.declared.rows.HolderRow.{HolderRow}
 use Rattle.td_tables.specs.Changes.{with_row}
 use Rattle.td_schema.specs.Tables.{desk_schema}
-use Rattle.td_sql.specs.Reading.{Selects, row_order, shown_by}
-use Rattle.td_sql.specs.Typed.{AreThose, HasNow, IsTypedRow, row_of, rows_in}
+use Rattle.td_sql.specs.Typed.{HasNow, IsTypedRow, row_of, rows_in}
 use Rattle.td_sql.specs.Values.{number_value}
 use Rattle.td_sql.specs.Writing.{Inserts, Updates, columns_put, columns_set, passes}
 use Rattle.td_sql.proofs.Columns.{cast_null, number_is}
 use Rattle.td_sql.proofs.Effects.{cast_int}
-use Rattle.td_sql.proofs.TypedRows.{inserted_typed_under, updated_typed, selected_typed}
-use Rattle.td_holders.specs.declared.texts.TheConstants.{INSERT, SET, BY_NUMBER}
-use Rattle.td_holders.specs.Cells.{holder_columns, holder_cells, holder_from, holder_typing, holders_table}
+use Rattle.td_sql.proofs.TypedRows.{inserted_typed_under, updated_typed}
+use Rattle.td_holders.specs.declared.texts.TheConstants.{INSERT, SET}
+use Rattle.td_holders.specs.Cells.{holder_columns, holder_cells, holder_typing, holders_table}
 use Rattle.td_holders.specs.Stored.{TurnsHolders}
-use Rattle.td_holders.proofs.Meanings.{new_row, set_columns, number_tests, all_columns, insert_means, set_means, by_number_means}
+use Rattle.td_holders.proofs.Meanings.{new_row, set_columns, number_tests, insert_means, set_means}
 
 -- the columns that are stored: the number is kept in the rowid
 abbrev stored : HolderRow → Row
@@ -47,7 +46,7 @@ and_true true = refl
 and_true false = refl
 
 -- a row passes where it has the number
-passes_number : (H : ℕ) (rest r : Row) → IsTypedRow holder_typing r → passes (number_value H ∷ rest) number_tests r ≡ ((row_of holder_typing r).holder == H)
+pub passes_number : (H : ℕ) (rest r : Row) → IsTypedRow holder_typing r → passes (number_value H ∷ rest) number_tests r ≡ ((row_of holder_typing r).holder == H)
 passes_number H rest r is =
     ap (λ b. b && true) (number_is (column r 0) (row_of holder_typing r).holder H (ap (λ l. column l 0) is)) ∙ and_true ((row_of holder_typing r).holder == H)
 
@@ -67,8 +66,3 @@ set_anew row old new did has typed =
     (λ r is. ap (λ l. holder_columns (rowid r ∷ l)) (put_columns row) ∙ ap (λ v. v ∷ Text row.eori ∷ number_value row.last_at ∷ number_value row.grn_count ∷ number_value row.mrn_count ∷ []) (ap (λ l. column l 0) is))
     (λ r. refl)
     (did desk_schema holders_table number_tests set_columns has set_means typed.ids) typed)
-
-pub found_by_number : (H : ℕ) (state : State) (rows : List Row) → Selects BY_NUMBER.now (number_value H ∷ []) state rows → AreThose holder_typing desk_schema (λ h. h.holder == H) state (map holder_from rows)
-found_by_number H state rows shows has typed =
-    selected_typed holder_typing desk_schema (passes (number_value H ∷ []) number_tests) (shown_by all_columns (number_value H ∷ [])) (λ h. h.holder == H) (row_order [] (number_value H ∷ [])) state.now.trees rows
-    (λ r is. passes_number H [] r is) (λ r. refl) (shows desk_schema 1 number_tests all_columns [] has by_number_means) typed

@@ -1,11 +1,10 @@
 -- What is asked of the holders in a store's file, and what is said anew of one.
 use Rattle.std.specs.Prelude.{ℕ, ◌==◌, List, Option}
 use Rattle.std.specs.Option.{option_to_list}
-use Rattle.sqlite.specs.State.{State, IsUnchanged}
+use Rattle.sqlite.specs.State.{State}
 use Rattle.td_acts.specs.declared.rows.HolderRow.{HolderRow}
 use Rattle.td_schema.specs.Tables.{desk_schema}
 use Rattle.td_sql.specs.Typed.{AreThose, Turns}
-use Rattle.td_sql.specs.Writing.{HasSchema}
 use Rattle.td_holders.specs.Cells.{holder_typing}
 
 -- the statement turned the holders into what f makes of them
@@ -15,7 +14,3 @@ TurnsHolders f = Turns holder_typing desk_schema f
 -- this is the holder with the number, or there is none
 abbrev pub IsTheHolder : ℕ → State → Option HolderRow → Type 0
 IsTheHolder H state found = AreThose holder_typing desk_schema (λ h. h.holder == H) state (option_to_list found)
-
--- a store's file is left as it was
-abbrev pub LeavesAll : State → State → Type 0
-LeavesAll old new = HasSchema old desk_schema → IsUnchanged old new

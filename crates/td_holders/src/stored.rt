@@ -1,36 +1,36 @@
 //! Holders as their rows have them, read from the columns that a statement shows.
-ghost use Rattle.std.specs.Prelude.{◌≡◌, IfSome, IfOk, map};
-ghost use Rattle.td_holders.specs.Cells.{holder_from};
-
-use sqlite::{Error, ErrorCode, Row};
+use sqlite::Row;
 use std::alloc::Global;
 use td_acts::HolderRow;
 use td_columns::{eori_at, holder_at, moment_at, serial_at};
+use td_sql::FromRow;
 
-// The holder in a row of five columns: `None` where a column can't be that of a holder.
-fn read_holder(row: &Row) -> Option<HolderRow>
-    ensures { IfSome result (λ holder. holder ≡ holder_from row.now) }
-{
-    Some(HolderRow {
-        holder: holder_at(row, 0)?,
-        eori: eori_at(row, 1)?,
-        last_at: moment_at(row, 2)?,
-        grn_count: serial_at(row, 3)?,
-        mrn_count: serial_at(row, 4)?,
-    })
+/// The row of a holder.
+#[derive(Drop)]
+pub(crate) struct StoredHolder {
+    pub(crate) row: HolderRow,
 }
 
-/// The holders in rows of five columns, in their order. `DatabaseCorrupt`: a column can't be that of a holder.
-/// `OutOfMemory`: want of memory.
-pub(crate) fn read_holders(alloc: Global, rows: &[Row]) -> Result<Vec<HolderRow>, Error>
-    ensures { IfOk result (λ found. found.items ≡ map holder_from rows.now) }
-{
-    let mut found = Vec::new(alloc);
-    for row in rows {
-        let Some(holder) = read_holder(row) else {
-            return Err(Error::SqliteFailure(ErrorCode::DatabaseCorrupt));
-        };
-        found.push(holder)?;
+impl FromRow for StoredHolder {
+    ghost use Rattle.td_acts.specs.declared.rows.HolderRow.{HolderRow};
+    ghost use Rattle.td_holders.specs.Cells.{holder_from};
+
+    ghost Typed = { HolderRow };
+
+    ghost typed = { λ h. h.row };
+
+    ghost from = { holder_from };
+
+    // A row of five columns.
+    fn from_row(_alloc: Global, row: &Row) -> Option<Self> {
+        Some(StoredHolder {
+            row: HolderRow {
+                holder: holder_at(row, 0)?,
+                eori: eori_at(row, 1)?,
+                last_at: moment_at(row, 2)?,
+                grn_count: serial_at(row, 3)?,
+                mrn_count: serial_at(row, 4)?,
+            },
+        })
     }
-    Ok(found)
 }

@@ -12,17 +12,18 @@ use sqlite::{Error, Transaction};
 use sqlite_trees::store::Alter;
 use sqlite_value::value::ValueRef;
 use td_acts::HolderRow;
+use td_columns::number_of;
 
 // The columns of a holder's row.
 fn columns(row: &HolderRow) -> [ValueRef<'_>; 5]
     ensures { bound result ≡ holder_cells row.now }
 {
     [
-        ValueRef::Int(i64::from(row.holder.number())),
+        number_of(row.holder.number()),
         ValueRef::Text(row.eori.as_bytes()),
         ValueRef::Int(row.last_at.get()),
-        ValueRef::Int(i64::from(row.grn_count)),
-        ValueRef::Int(i64::from(row.mrn_count)),
+        number_of(row.grn_count),
+        number_of(row.mrn_count),
     ]
 }
 

@@ -1,13 +1,10 @@
 -- What is asked of the lines in a store's file, and what is written into them.
-use Rattle.std.specs.Prelude.{◌≡◌, ℕ, ◌==◌, Bool, ◌&&◌, List, map}
-use Rattle.sqlite_value.specs.Order.{Row}
-use Rattle.sqlite.specs.State.{State, IsUnchanged}
+use Rattle.std.specs.Prelude.{ℕ, ◌==◌, Bool, ◌&&◌, List, map}
+use Rattle.sqlite.specs.State.{State}
 use Rattle.td_tables.specs.Tables.{Keyed, LineCells}
 use Rattle.td_schema.specs.Tables.{desk_schema}
-use Rattle.td_sql.specs.Reading.{Selects}
 use Rattle.td_sql.specs.Typed.{AreThose, Turns}
-use Rattle.td_sql.specs.Writing.{HasSchema}
-use Rattle.td_lines.specs.Cells.{line_from, line_typing}
+use Rattle.td_lines.specs.Cells.{line_typing}
 use Rattle.td_lines.specs.declared.stored.StoredLine.{StoredLine}
 
 -- a line of a holder's movement, as its row
@@ -29,12 +26,3 @@ TurnsLines f = Turns line_typing desk_schema f
 -- these are the lines that pass the test
 abbrev pub AreLines : (Keyed LineCells → Bool) → State → List StoredLine → Type 0
 AreLines p state found = AreThose line_typing desk_schema p state (map row_of_stored found)
-
--- the lines that a statement showed
-abbrev pub ShowsLines : List ℕ → Row → State → List StoredLine → Type 0
-ShowsLines text values old found =
-    (rows : List Row) × Selects text values old rows × (map row_of_stored found ≡ map line_from rows)
-
--- a store's file is left as it was
-abbrev pub LeavesAll : State → State → Type 0
-LeavesAll old new = HasSchema old desk_schema → IsUnchanged old new

@@ -1,28 +1,19 @@
 //! What is looked up in the table of lines. It changes nothing. `DatabaseCorrupt`: a row is no line's; `OutOfMemory`: want
 //! of memory; any other error is the database's own.
-ghost use Rattle.std.specs.Prelude.{◌≡◌, [], ◌∷◌, IsTrue, IfOk, OnOk};
+ghost use Rattle.std.specs.Prelude.{◌≡◌, IsTrue, IfOk, OnOk};
 ghost use Rattle.sqlite.specs.Held.{state};
 ghost use Rattle.sqlite.specs.State.{HasCleanDisk, KeepsCommit, Survives};
-ghost use Rattle.sqlite.specs.Values.{bound};
-ghost use Rattle.td_sql.specs.Values.{number_value};
-ghost use Rattle.td_lines.specs.Stored.{AreLines, LeavesAll, is_line_of};
+ghost use Rattle.td_schema.specs.Tables.{desk_schema};
+ghost use Rattle.td_sql.specs.Reading.{LeavesAll};
+ghost use Rattle.td_lines.specs.Stored.{AreLines, is_line_of};
 
-use crate::stored::{StoredLine, read_lines};
+use crate::stored::StoredLine;
 use crate::texts::OF_MOVEMENT;
 use sqlite::{Error, Transaction};
 use sqlite_trees::store::Alter;
-use sqlite_value::value::ValueRef;
 use std::alloc::Global;
 use td_base::HolderNo;
-
-fn key_values(holder: HolderNo, serial: u32) -> [ValueRef<'static>; 2]
-    ensures { bound result ≡ number_value holder ∷ number_value serial ∷ [] }
-{
-    [
-        ValueRef::Int(i64::from(holder.number())),
-        ValueRef::Int(i64::from(serial)),
-    ]
-}
+use td_columns::serial_key;
 
 /// The lines of the movement of a holder with a serial.
 pub fn lines_of<S: Alter>(
@@ -36,12 +27,11 @@ pub fn lines_of<S: Alter>(
     ensures found { HasCleanDisk (state S.Store tx.new.conn.now)
         → IfOk result (λ found. AreLines (is_line_of holder serial) (state S.Store tx.old.conn.now) found.items) }
     ensures still { HasCleanDisk (state S.Store tx.new.conn.now)
-        → OnOk result (LeavesAll (state S.Store tx.old.conn.now) (state S.Store tx.new.conn.now)) }
+        → OnOk result (LeavesAll desk_schema (state S.Store tx.old.conn.now) (state S.Store tx.new.conn.now)) }
     ensures inside { HasCleanDisk (state S.Store tx.new.conn.now) → OnOk result (IsTrue (state S.Store tx.new.conn.now).in_transaction) }
     ensures kept { HasCleanDisk (state S.Store tx.new.conn.now)
         → KeepsCommit (state S.Store tx.old.conn.now) (state S.Store tx.new.conn.now) }
     ensures survives { Survives (state S.Store tx.old.conn.now) (state S.Store tx.new.conn.now) (λ _. ⊥) }
 {
-    let rows = td_sql::select(tx, OF_MOVEMENT, &key_values(holder, serial))?;
-    read_lines(alloc, &rows)
+    td_sql::fetch(alloc, tx, OF_MOVEMENT, &serial_key(holder, serial))
 }

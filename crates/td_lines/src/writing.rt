@@ -11,17 +11,18 @@ use crate::texts::INSERT;
 use sqlite::{Error, Transaction};
 use sqlite_trees::store::Alter;
 use sqlite_value::value::ValueRef;
+use td_columns::{amount_of, number_of};
 
 // The columns of a line's row.
 fn columns(line: &StoredLine) -> [ValueRef<'static>; 5]
     ensures { bound result ≡ line_cells (row_of_stored line.now) }
 {
     [
-        ValueRef::Int(i64::from(line.holder.number())),
-        ValueRef::Int(i64::from(line.serial)),
-        ValueRef::Int(i64::from(line.no)),
-        ValueRef::Int(i64::from(line.guarantee)),
-        ValueRef::Int(line.cents.get() as i64),
+        number_of(line.holder.number()),
+        number_of(line.serial),
+        number_of(line.no),
+        number_of(line.guarantee),
+        amount_of(line.cents),
     ]
 }
 

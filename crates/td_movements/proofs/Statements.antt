@@ -1,57 +1,44 @@
 -- What the statements on the table of movements did.
-use Rattle.std.proofs.Common.{Result, Ok, Err, Option, OnOk}
-use Rattle.std.specs.Prelude.{Vec, IfOk}
-use Rattle.std.specs.Option.{option_to_list}
-use Rattle.std.specs.declared.alloc.Global.{Global}
-use Rattle.sqlite.specs.declared.error.Error.{Error}
-use Rattle.sqlite.specs.Given.{IsPlain}
-use Rattle.sqlite.specs.Listing.{understood}
-use Rattle.td_movements.specs.Stored.{IsTheMovement}
 use Rattle.sqlite.specs.State.{State}
 use Rattle.td_movements.proofs.CellLemmas.{counting_names}
 use Rattle.sqlite_rules.specs.Cast.{cast_all}
 use Rattle.sqlite_sql.specs.Ops.{binary}
-use Rattle.sqlite_sql.specs.Term.{Term, eval_all}
+use Rattle.sqlite_sql.specs.Term.{eval_all}
 use Rattle.sqlite_sql.specs.declared.ops.BinaryOp.TheVariants.{Coalesce, Compare}
 use Rattle.sqlite_sql.specs.declared.ops.CompareOp.TheVariants.{Eq}
 use Rattle.sqlite_trees.specs.Tree.{rowid}
 use Rattle.sqlite_typed.proofs.TestLemmas.{at_or, last_term, then_term, truth_or}
 use Rattle.sqlite_value.specs.Order.{Row, column}
 use Rattle.sqlite_value.specs.declared.keys.Collation.TheVariants.{Binary}
-use Rattle.sqlite_value.specs.declared.keys.Key.{Key}
 use Rattle.sqlite_value.specs.declared.value.Value.TheVariants.{Text}
-use Rattle.std.proofs.Common.{Bool, IsPermutation, List, [], ap, false, map, refl, subst, sym, ℕ, ◌∙◌, ◌∷◌, ◌≡◌}
-use Rattle.std.specs.Prelude.{codes, filter, if◌then◌else◌, ◌==◌}
+use Rattle.std.proofs.Common.{List, [], ap, false, map, refl, subst, ℕ, ◌∙◌, ◌∷◌, ◌≡◌}
+use Rattle.std.specs.Prelude.{codes, if◌then◌else◌, ◌==◌}
 use Rattle.std.specs.Str.{bytes_eq}
 use Rattle.td_acts.specs.declared.rows.NewStatus.{NewStatus}
 use Rattle.td_movement.specs.States.{state_name}
 use Rattle.td_movement.specs.declared.movement.Movement.{Movement}
 use Rattle.td_movements.proofs.CellLemmas.{back, bare, cells_stored}
-use Rattle.td_movements.proofs.Meanings.{all_columns, counting_tests, holder_tests, insert_means, key_tests, lrn_tests, new_row, set_columns, set_means}
+use Rattle.td_movements.proofs.Meanings.{counting_tests, holder_tests, insert_means, key_tests, lrn_tests, new_row, set_columns, set_means}
 use Rattle.td_movements.specs.Cells.{movement_cells, movement_columns, movement_typing, movements_table}
-use Rattle.td_movements.specs.Stored.{AreMovements, LeavesAll, ShowsMovements, TurnsMovements, counts_for, has_lrn, has_mrn, is_of, status_values, with_new_status}
-use Rattle.td_movements.specs.declared.stored.StoredMovement.{StoredMovement}
+use Rattle.td_movements.specs.Stored.{TurnsMovements, counts_for, has_lrn, has_mrn, is_of, status_values, with_new_status}
 use Rattle.td_movements.specs.declared.texts.TheConstants.{INSERT, SET_STATUS}
 use Rattle.td_schema.specs.Tables.{desk_schema}
 use Rattle.td_sql.proofs.Columns.{given_or, number_is, text_is}
-use Rattle.td_sql.proofs.TypedRows.{inserted_typed, selected_typed, updated_typed}
-use Rattle.td_sql.specs.Meanings.{MeansSelect}
-use Rattle.td_sql.specs.Reading.{OnlyReads, Selects, row_order, shown_by}
-use Rattle.td_sql.specs.Typed.{IsTypedRow, row_of, rows_in}
+use Rattle.td_sql.proofs.TypedRows.{inserted_typed, updated_typed}
+use Rattle.td_sql.specs.Typed.{IsTypedRow, row_of}
 use Rattle.td_sql.specs.Values.{number_or_null, number_value, text_or_null}
 use Rattle.td_sql.specs.Writing.{Inserts, IsInserted, Updates, columns_set, passes}
 use Rattle.td_tables.specs.Tables.{Keyed}
 use Rattle.sqlite_rules.specs.Cast.{cast_all}
 use Rattle.sqlite_sql.specs.Ops.{binary}
-use Rattle.sqlite_sql.specs.Term.{Term, eval_all}
+use Rattle.sqlite_sql.specs.Term.{eval_all}
 use Rattle.sqlite_sql.specs.declared.ops.CompareOp.TheVariants.{Eq}
 use Rattle.sqlite_trees.specs.Tree.{rowid}
 use Rattle.sqlite_value.specs.Order.{Row, column}
 use Rattle.sqlite_value.specs.declared.keys.Collation.TheVariants.{Binary}
-use Rattle.sqlite_value.specs.declared.keys.Key.{Key}
 use Rattle.sqlite_value.specs.declared.value.Value.TheVariants.{Text}
-use Rattle.std.proofs.Common.{Bool, IsPermutation, List, [], ap, false, map, refl, sym, ℕ, ◌∙◌, ◌∷◌, ◌≡◌}
-use Rattle.std.specs.Prelude.{codes, filter, if◌then◌else◌, ◌==◌}
+use Rattle.std.proofs.Common.{List, [], ap, false, map, refl, ℕ, ◌∙◌, ◌∷◌, ◌≡◌}
+use Rattle.std.specs.Prelude.{codes, if◌then◌else◌, ◌==◌}
 use Rattle.std.specs.Str.{bytes_eq}
 use Rattle.td_acts.specs.declared.rows.NewStatus.{NewStatus}
 use Rattle.td_movement.specs.States.{state_name}
@@ -59,19 +46,16 @@ use Rattle.td_movement.specs.declared.movement.Movement.{Movement}
 use Rattle.td_movements.specs.Cells.{movement_cells, movement_columns, movement_typing, movements_table}
 use Rattle.td_schema.specs.Tables.{desk_schema}
 use Rattle.td_sql.proofs.Columns.{given_or, number_is, text_is}
-use Rattle.td_sql.proofs.TypedRows.{inserted_typed, selected_typed, updated_typed}
-use Rattle.td_sql.specs.Meanings.{MeansSelect}
-use Rattle.td_sql.specs.Typed.{IsTypedRow, row_of, rows_in}
+use Rattle.td_sql.proofs.TypedRows.{inserted_typed, updated_typed}
+use Rattle.td_sql.specs.Typed.{IsTypedRow, row_of}
 use Rattle.td_sql.specs.Values.{number_or_null, number_value, text_or_null}
 use Rattle.td_sql.specs.Writing.{Inserts, IsInserted, Updates, columns_set, passes}
 use Rattle.td_tables.specs.Tables.{Keyed}
 use Rattle.td_movements.specs.declared.texts.TheConstants.{INSERT, SET_STATUS}
-use Rattle.td_movements.specs.declared.stored.StoredMovement.{StoredMovement}
-use Rattle.td_movements.proofs.Meanings.{new_row, set_columns, all_columns, key_tests, lrn_tests, holder_tests, counting_tests, insert_means, set_means}
+use Rattle.td_movements.proofs.Meanings.{new_row, set_columns, key_tests, lrn_tests, holder_tests, counting_tests, insert_means, set_means}
 use Rattle.td_movements.proofs.CellLemmas.{bare, back, cells_stored}
 use Rattle.sqlite_sql.specs.declared.ops.BinaryOp.TheVariants.{Compare, Coalesce}
 use Rattle.sqlite_typed.proofs.TestLemmas.{then_value, then_term, last_term, at_or, truth_or}
-use Rattle.td_sql.specs.Reading.{Selects, OnlyReads, shown_by, row_order}
 
 pub inserted : (m : Keyed Movement) → bare m ≡ m → (values : Row) → values ≡ movement_cells m → (old new : State)
     → Inserts INSERT.now values old new → TurnsMovements (λ rows. m ∷ rows) old new
@@ -149,44 +133,3 @@ status_turned H n status values is old new h has typed =
     (Text (state_name status.state) ∷ number_or_null status.limit ∷ number_or_null status.arrival
     ∷ text_or_null status.actual ∷ [])) (λ r row_is. status_set r row_is H n status)
     (λ r. back (with_new_status status (row_of movement_typing r))) done typed
-
--- the movements that a statement showed are those that pass
-module _ (text : List ℕ) (values given : Row) (same : values ≡ given) (tests : List Term)
-    (order : List (Term × Key)) (p : Keyed Movement → Bool)
-    (means : MeansSelect desk_schema text 4 tests all_columns order) (passing : (r : Row)
-    → IsTypedRow movement_typing r → passes given tests r ≡ p (row_of movement_typing r)) where
-  pub those : (old : State) (found : List StoredMovement) → ShowsMovements text values old found
-      → AreMovements p old found
-  those old found h has typed =
-      let did : Selects text given old h.0 = subst (λ v. Selects text v old h.0) same h.1 in
-      let answer = did desk_schema 4 tests all_columns order has means in
-      subst (IsPermutation (filter p (rows_in movement_typing old.now.trees))) (sym h.2)
-      (selected_typed movement_typing desk_schema (passes given tests) (shown_by all_columns given) p
-      (row_order order given) old.now.trees h.0 passing (λ r. refl) answer typed)
-
-  pub those_found : (old : State) (r : Result (Vec StoredMovement Global) Error)
-      → IfOk r (λ found. ShowsMovements text values old found.items)
-      → IfOk r (λ found. AreMovements p old found.items)
-  those_found old (Ok found) h = those old found.items h
-  those_found old (Err e) h = h
-
-  pub one_found : (old : State) (r : Result (Option StoredMovement) Error) (found : List StoredMovement)
-      → IfOk r (λ one. option_to_list one ≡ found) → ShowsMovements text values old found
-      → IfOk r (IsTheMovement p old)
-  one_found old (Ok one) found is h = subst (AreMovements p old) (sym is) (those old found h)
-  one_found old (Err e) found is h = is
-
--- and all stays as it was
-pub stays : (text : List ℕ) → IsPlain (understood desk_schema text) → (old new : State) → OnlyReads text old new
-    → LeavesAll old new
-stays text plain old new h has = h desk_schema has plain
-
-pub stays_ok : {T : Type 0} (text : List ℕ) → IsPlain (understood desk_schema text)
-    → (old new : State) (r : Result T Error)
-    → OnOk r (OnlyReads text old new) → OnOk r (LeavesAll old new)
-stays_ok text plain old new (Ok x) h = stays text plain old new h
-stays_ok text plain old new (Err e) h = h
-
-pub any_ok : {T E P : Type 0} (r : Result T E) → P → OnOk r P
-any_ok (Ok x) p = p
-any_ok (Err e) p = tt

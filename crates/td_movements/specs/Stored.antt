@@ -1,5 +1,5 @@
 -- What is asked of the movements in a store's file, and what is said anew of one.
-use Rattle.std.specs.Prelude.{◌≡◌, [], ◌∷◌, ℕ, ◌==◌, Bool, ◌&&◌, List, map, Option}
+use Rattle.std.specs.Prelude.{[], ◌∷◌, ℕ, ◌==◌, Bool, ◌&&◌, List, map, Option}
 use Rattle.std.specs.Option.{option_to_list}
 use Rattle.std.specs.Str.{bytes_eq}
 use Rattle.td_movement.specs.States.{is_counting, state_name}
@@ -9,13 +9,11 @@ use Rattle.td_acts.specs.declared.rows.NewStatus.{NewStatus}
 use Rattle.td_tables.specs.Tables.{Keyed}
 use Rattle.td_schema.specs.Tables.{desk_schema}
 use Rattle.td_sql.specs.Typed.{AreThose, Turns}
-use Rattle.td_sql.specs.Reading.{Selects}
 use Rattle.td_sql.specs.Values.{number_value, number_or_null, text_or_null}
-use Rattle.td_sql.specs.Writing.{HasSchema}
 use Rattle.sqlite_value.specs.declared.value.Value.TheVariants.{Text}
 use Rattle.sqlite_value.specs.Order.{Row}
-use Rattle.sqlite.specs.State.{State, IsUnchanged}
-use Rattle.td_movements.specs.Cells.{movement_from, movement_typing}
+use Rattle.sqlite.specs.State.{State}
+use Rattle.td_movements.specs.Cells.{movement_typing}
 use Rattle.td_movements.specs.declared.stored.StoredMovement.{StoredMovement}
 
 -- a movement that was found, as its row
@@ -51,15 +49,6 @@ AreMovements p state found = AreThose movement_typing desk_schema p state (map r
 -- this is the movement that passes the test, or there is none
 abbrev pub IsTheMovement : (Keyed Movement → Bool) → State → Option StoredMovement → Type 0
 IsTheMovement p state found = AreMovements p state (option_to_list found)
-
--- the movements that a statement showed
-abbrev pub ShowsMovements : List ℕ → Row → State → List StoredMovement → Type 0
-ShowsMovements text values old found =
-    (rows : List Row) × Selects text values old rows × (map row_of_stored found ≡ map movement_from rows)
-
--- a store's file is left as it was
-abbrev pub LeavesAll : State → State → Type 0
-LeavesAll old new = HasSchema old desk_schema → IsUnchanged old new
 
 -- what a new status is written by: the holder, the serial and the MRN, and then the new columns
 abbrev pub status_values : ℕ → ℕ → NewStatus → Row

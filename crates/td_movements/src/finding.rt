@@ -6,73 +6,33 @@ ghost use Rattle.sqlite.specs.State.{HasCleanDisk, KeepsCommit, Survives};
 ghost use Rattle.sqlite.specs.Values.{bound};
 ghost use Rattle.sqlite_value.specs.declared.value.Value.TheVariants.{Text};
 ghost use Rattle.td_sql.specs.Values.{number_value};
-ghost use Rattle.std.specs.Option.{option_to_list};
-ghost use Rattle.td_sql.specs.Reading.{OnlyReads};
-ghost use Rattle.td_movements.specs.Stored.{AreMovements, IsTheMovement, LeavesAll, ShowsMovements, has_lrn, has_mrn, is_of, counts_for};
+ghost use Rattle.td_schema.specs.Tables.{desk_schema};
+ghost use Rattle.td_sql.specs.Reading.{LeavesAll};
+ghost use Rattle.td_movements.specs.Stored.{AreMovements, IsTheMovement, has_lrn, has_mrn, is_of, counts_for};
 
-use crate::stored::{StoredMovement, read_movements};
+use crate::stored::StoredMovement;
 use crate::texts::{BY_LRN, BY_MRN, COUNTING, OF_HOLDER};
-use sqlite::{Error, ErrorCode, Transaction};
+use sqlite::{Error, Transaction};
 use sqlite_trees::store::Alter;
 use sqlite_value::value::ValueRef;
 use std::alloc::Global;
 use td_base::{HolderNo, Lrn, Mrn};
-
-fn holder_values(holder: HolderNo) -> [ValueRef<'static>; 1]
-    ensures { bound result ≡ number_value holder ∷ [] }
-{
-    [ValueRef::Int(i64::from(holder.number()))]
-}
+use td_columns::{holder_key, number_of};
 
 fn lrn_values(holder: HolderNo, lrn: &Lrn) -> [ValueRef<'_>; 2]
     ensures { bound result ≡ number_value holder ∷ Text lrn.now ∷ [] }
 {
-    [
-        ValueRef::Int(i64::from(holder.number())),
-        ValueRef::Text(lrn.as_bytes()),
-    ]
+    [number_of(holder.number()), ValueRef::Text(lrn.as_bytes())]
 }
 
 fn mrn_values(holder: HolderNo, serial: u32, mrn: &Mrn) -> [ValueRef<'_>; 3]
     ensures { bound result ≡ number_value holder ∷ number_value serial ∷ Text mrn.now ∷ [] }
 {
     [
-        ValueRef::Int(i64::from(holder.number())),
-        ValueRef::Int(i64::from(serial)),
+        number_of(holder.number()),
+        number_of(serial),
         ValueRef::Text(mrn.as_bytes()),
     ]
-}
-
-// The movements that a statement shows, in its order.
-fn shown<S: Alter>(
-    alloc: Global,
-    tx: &mut Transaction<'_, S>,
-    text: &str,
-    values: &[ValueRef<'_>],
-) -> Result<Vec<StoredMovement>, Error>
-    requires { HasCleanDisk (state S.Store tx.old.conn.now) → IsTrue (state S.Store tx.old.conn.now).in_transaction }
-    ensures same_reference { tx.new.conn.ghost_name ≡ tx.old.conn.ghost_name }
-    ensures found { HasCleanDisk (state S.Store tx.new.conn.now) → IfOk result (λ found.
-        ShowsMovements text.now (bound values.now) (state S.Store tx.old.conn.now) found.items) }
-    ensures still { HasCleanDisk (state S.Store tx.new.conn.now)
-        → OnOk result (OnlyReads text.now (state S.Store tx.old.conn.now) (state S.Store tx.new.conn.now)) }
-    ensures inside { HasCleanDisk (state S.Store tx.new.conn.now) → OnOk result (IsTrue (state S.Store tx.new.conn.now).in_transaction) }
-    ensures kept { HasCleanDisk (state S.Store tx.new.conn.now)
-        → KeepsCommit (state S.Store tx.old.conn.now) (state S.Store tx.new.conn.now) }
-    ensures survives { Survives (state S.Store tx.old.conn.now) (state S.Store tx.new.conn.now) (λ _. ⊥) }
-{
-    let rows = td_sql::select(tx, text, values)?;
-    read_movements(alloc, &rows)
-}
-
-// One movement at most. `DatabaseCorrupt`: there are several.
-fn only(mut found: Vec<StoredMovement>) -> Result<Option<StoredMovement>, Error>
-    ensures { IfOk result (λ one. option_to_list one ≡ found.items) }
-{
-    if found.len() > 1 {
-        return Err(Error::SqliteFailure(ErrorCode::DatabaseCorrupt));
-    }
-    Ok(found.pop())
 }
 
 /// The holder's movement with a serial and exactly an MRN, if there is one.
@@ -88,13 +48,13 @@ pub fn find_by_mrn<S: Alter>(
     ensures found { HasCleanDisk (state S.Store tx.new.conn.now)
         → IfOk result (IsTheMovement (has_mrn holder serial mrn.now) (state S.Store tx.old.conn.now)) }
     ensures still { HasCleanDisk (state S.Store tx.new.conn.now)
-        → OnOk result (LeavesAll (state S.Store tx.old.conn.now) (state S.Store tx.new.conn.now)) }
+        → OnOk result (LeavesAll desk_schema (state S.Store tx.old.conn.now) (state S.Store tx.new.conn.now)) }
     ensures inside { HasCleanDisk (state S.Store tx.new.conn.now) → OnOk result (IsTrue (state S.Store tx.new.conn.now).in_transaction) }
     ensures kept { HasCleanDisk (state S.Store tx.new.conn.now)
         → KeepsCommit (state S.Store tx.old.conn.now) (state S.Store tx.new.conn.now) }
     ensures survives { Survives (state S.Store tx.old.conn.now) (state S.Store tx.new.conn.now) (λ _. ⊥) }
 {
-    only(shown(alloc, tx, BY_MRN, &mrn_values(holder, serial, mrn))?)
+    td_sql::fetch_one(alloc, tx, BY_MRN, &mrn_values(holder, serial, mrn))
 }
 
 /// The holder's movement with exactly an LRN, if there is one.
@@ -109,13 +69,13 @@ pub fn find_by_lrn<S: Alter>(
     ensures found { HasCleanDisk (state S.Store tx.new.conn.now)
         → IfOk result (IsTheMovement (has_lrn holder lrn.now) (state S.Store tx.old.conn.now)) }
     ensures still { HasCleanDisk (state S.Store tx.new.conn.now)
-        → OnOk result (LeavesAll (state S.Store tx.old.conn.now) (state S.Store tx.new.conn.now)) }
+        → OnOk result (LeavesAll desk_schema (state S.Store tx.old.conn.now) (state S.Store tx.new.conn.now)) }
     ensures inside { HasCleanDisk (state S.Store tx.new.conn.now) → OnOk result (IsTrue (state S.Store tx.new.conn.now).in_transaction) }
     ensures kept { HasCleanDisk (state S.Store tx.new.conn.now)
         → KeepsCommit (state S.Store tx.old.conn.now) (state S.Store tx.new.conn.now) }
     ensures survives { Survives (state S.Store tx.old.conn.now) (state S.Store tx.new.conn.now) (λ _. ⊥) }
 {
-    only(shown(alloc, tx, BY_LRN, &lrn_values(holder, lrn))?)
+    td_sql::fetch_one(alloc, tx, BY_LRN, &lrn_values(holder, lrn))
 }
 
 /// All movements of a holder.
@@ -129,13 +89,13 @@ pub fn movements_of<S: Alter>(
     ensures found { HasCleanDisk (state S.Store tx.new.conn.now)
         → IfOk result (λ found. AreMovements (is_of holder) (state S.Store tx.old.conn.now) found.items) }
     ensures still { HasCleanDisk (state S.Store tx.new.conn.now)
-        → OnOk result (LeavesAll (state S.Store tx.old.conn.now) (state S.Store tx.new.conn.now)) }
+        → OnOk result (LeavesAll desk_schema (state S.Store tx.old.conn.now) (state S.Store tx.new.conn.now)) }
     ensures inside { HasCleanDisk (state S.Store tx.new.conn.now) → OnOk result (IsTrue (state S.Store tx.new.conn.now).in_transaction) }
     ensures kept { HasCleanDisk (state S.Store tx.new.conn.now)
         → KeepsCommit (state S.Store tx.old.conn.now) (state S.Store tx.new.conn.now) }
     ensures survives { Survives (state S.Store tx.old.conn.now) (state S.Store tx.new.conn.now) (λ _. ⊥) }
 {
-    shown(alloc, tx, OF_HOLDER, &holder_values(holder))
+    td_sql::fetch(alloc, tx, OF_HOLDER, &holder_key(holder))
 }
 
 /// The movements of a holder that count against their guarantees.
@@ -149,11 +109,11 @@ pub fn counting_movements<S: Alter>(
     ensures found { HasCleanDisk (state S.Store tx.new.conn.now)
         → IfOk result (λ found. AreMovements (counts_for holder) (state S.Store tx.old.conn.now) found.items) }
     ensures still { HasCleanDisk (state S.Store tx.new.conn.now)
-        → OnOk result (LeavesAll (state S.Store tx.old.conn.now) (state S.Store tx.new.conn.now)) }
+        → OnOk result (LeavesAll desk_schema (state S.Store tx.old.conn.now) (state S.Store tx.new.conn.now)) }
     ensures inside { HasCleanDisk (state S.Store tx.new.conn.now) → OnOk result (IsTrue (state S.Store tx.new.conn.now).in_transaction) }
     ensures kept { HasCleanDisk (state S.Store tx.new.conn.now)
         → KeepsCommit (state S.Store tx.old.conn.now) (state S.Store tx.new.conn.now) }
     ensures survives { Survives (state S.Store tx.old.conn.now) (state S.Store tx.new.conn.now) (λ _. ⊥) }
 {
-    shown(alloc, tx, COUNTING, &holder_values(holder))
+    td_sql::fetch(alloc, tx, COUNTING, &holder_key(holder))
 }

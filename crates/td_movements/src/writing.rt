@@ -1,5 +1,5 @@
 //! What is written into the table of movements. An error is the database's own, and commits nothing.
-ghost use Rattle.std.specs.Prelude.{◌≡◌, [], ◌∷◌, true, if◌then◌else◌, map, IsTrue, OnOk};
+ghost use Rattle.std.specs.Prelude.{◌≡◌, ◌∷◌, true, if◌then◌else◌, map, IsTrue, OnOk};
 ghost use Rattle.sqlite.specs.Held.{state};
 ghost use Rattle.sqlite.specs.State.{HasCleanDisk, KeepsCommit, Shows, Survives};
 ghost use Rattle.sqlite.specs.Values.{bound};
@@ -7,56 +7,32 @@ ghost use Rattle.td_movement.specs.States.{state_name};
 ghost use Rattle.td_tables.specs.Tables.{movement_row};
 ghost use Rattle.td_movements.specs.Cells.{movement_cells};
 ghost use Rattle.td_movements.specs.Stored.{TurnsMovements, has_mrn, with_new_status, status_values};
-ghost use Rattle.td_sql.specs.Values.{number_value, number_or_null, text_or_null};
 
 use crate::texts::{INSERT, SET_STATUS};
 use sqlite::{Error, Transaction};
 use sqlite_trees::store::Alter;
 use sqlite_value::value::ValueRef;
 use td_acts::NewStatus;
-use td_base::{Day, HolderNo, OfficeNo};
+use td_base::HolderNo;
+use td_columns::{day_of, day_or_null, number_of, office_or_null};
 use td_movement::Movement;
-
-fn day_value(day: Day) -> ValueRef<'static>
-    ensures { bound (result ∷ []) ≡ number_value day ∷ [] }
-{
-    ValueRef::Int(day.number())
-}
-
-fn optional_day(day: Option<Day>) -> ValueRef<'static>
-    ensures { bound (result ∷ []) ≡ number_or_null day ∷ [] }
-{
-    match day {
-        Some(day) => ValueRef::Int(day.number()),
-        None => ValueRef::Null,
-    }
-}
-
-fn optional_office(office: &Option<OfficeNo>) -> ValueRef<'_>
-    ensures { bound (result ∷ []) ≡ text_or_null office.now ∷ [] }
-{
-    match office {
-        Some(office) => ValueRef::Text(office.as_bytes()),
-        None => ValueRef::Null,
-    }
-}
 
 // The columns of a movement's row.
 fn columns(holder: HolderNo, serial: u32, movement: &Movement) -> [ValueRef<'_>; 11]
     ensures { bound result ≡ movement_cells (movement_row holder (serial, movement.now)) }
 {
     [
-        ValueRef::Int(i64::from(holder.number())),
-        ValueRef::Int(i64::from(serial)),
+        number_of(holder.number()),
+        number_of(serial),
         ValueRef::Text(movement.mrn.as_bytes()),
         ValueRef::Text(movement.lrn.as_bytes()),
         ValueRef::Text(movement.departure.as_bytes()),
         ValueRef::Text(movement.destination.as_bytes()),
-        day_value(movement.accepted),
+        day_of(movement.accepted),
         ValueRef::Text(movement.state.name().as_bytes()),
-        optional_day(movement.limit),
-        optional_day(movement.arrival),
-        optional_office(&movement.actual),
+        day_or_null(movement.limit),
+        day_or_null(movement.arrival),
+        office_or_null(&movement.actual),
     ]
 }
 
@@ -65,13 +41,13 @@ fn status_columns(holder: HolderNo, serial: u32, status: &NewStatus) -> [ValueRe
     ensures { bound result ≡ status_values holder serial status.now }
 {
     [
-        ValueRef::Int(i64::from(holder.number())),
-        ValueRef::Int(i64::from(serial)),
+        number_of(holder.number()),
+        number_of(serial),
         ValueRef::Text(status.mrn.as_bytes()),
         ValueRef::Text(status.state.name().as_bytes()),
-        optional_day(status.limit),
-        optional_day(status.arrival),
-        optional_office(&status.actual),
+        day_or_null(status.limit),
+        day_or_null(status.arrival),
+        office_or_null(&status.actual),
     ]
 }
 

@@ -1,16 +1,24 @@
+use Rattle.std.proofs.Common.{refl}
+use Rattle.std.specs.Prelude.{[], ◌∷◌}
 use Rattle.sqlite.specs.Held.{state}
-use Rattle.sqlite.specs.Values.{bound}
-use Rattle.td_codes.proofs.Statements.{any_ok, stays, those_found}
+use Rattle.td_schema.specs.Tables.{desk_schema}
+use Rattle.td_sql.proofs.Fetched.{those_fetched}
+use Rattle.td_sql.proofs.Leaving.{stays_ok}
+use Rattle.td_sql.specs.Values.{number_value}
+use Rattle.td_codes.proofs.Meanings.{all_columns, by_code, key_tests, of_guarantee_means}
+use Rattle.td_codes.proofs.Statements.{key_passes}
+use Rattle.td_codes.specs.Cells.{code_typing}
+use Rattle.td_codes.specs.Stored.{is_code_of_guarantee, row_of_stored}
+use Rattle.td_codes.specs.declared.texts.TheConstants.{OF_GUARANTEE}
 use Rattle.td_codes.proofs.finding.codes_of.Goals as goal
 
 pub returns-clause-found : goal.returns-clause-found
 returns-clause-found g c clean =
-    those_found c.args.holder c.args.serial (bound c.key_values.result) c.key_values.ensures
-    (state g.S.Store c.args.tx.now.conn.now) c.in_ok-rows.rows.items (c.in_ok-rows.ensures.selected clean)
-    c.read_codes.result (rw c.deref.ensures.value at c.read_codes.ensures)
+    those_fetched code_typing desk_schema row_of_stored OF_GUARANTEE.now key_tests all_columns by_code
+    (is_code_of_guarantee c.args.holder c.args.serial) (number_value c.args.holder ∷ number_value c.args.serial ∷ [])
+    _ c.serial_key.ensures of_guarantee_means (key_passes c.args.holder c.args.serial) (λ r. refl)
+    (state g.S.Store c.args.tx.now.conn.now) c.fetch.result (c.fetch.ensures.found clean)
 
 pub returns-clause-still : goal.returns-clause-still
 returns-clause-still g c clean =
-    any_ok c.read_codes.result
-    (stays (state g.S.Store c.args.tx.now.conn.now) (state g.S.Store c.select.new.tx.conn.now)
-    (c.in_ok-rows.ensures.still clean))
+    stays_ok desk_schema OF_GUARANTEE.now of_guarantee_means.plain _ _ c.fetch.result (c.fetch.ensures.still clean)

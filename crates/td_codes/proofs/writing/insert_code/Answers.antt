@@ -1,26 +1,13 @@
-use Rattle.std.proofs.Common.{Result, Ok, Err, OnOk}
-use Rattle.std.specs.Prelude.{◌∷◌}
 use Rattle.sqlite.specs.Held.{state}
-use Rattle.sqlite.specs.State.{State}
 use Rattle.sqlite.specs.Values.{bound}
-use Rattle.sqlite.specs.declared.error.Error.{Error}
-use Rattle.td_sql.specs.Writing.{Inserts}
-use Rattle.td_codes.specs.Stored.{TurnsCodes, row_of_stored}
-use Rattle.td_codes.specs.declared.texts.TheConstants.{INSERT}
+use Rattle.td_sql.proofs.Leaving.{on_ok}
+use Rattle.td_codes.specs.Stored.{row_of_stored}
 use Rattle.td_codes.proofs.Statements.{inserted}
 use Rattle.td_codes.proofs.writing.insert_code.Goals as goal
 
 pub returns-clause-inserted : goal.returns-clause-inserted
-returns-clause-inserted g c clean = by_result c.insert.result (c.insert.ensures.inserted clean)
-  where
-    old : State
-    old = state g.S.Store c.args.tx.now.conn.now
-
-    new : State
-    new = state g.S.Store c.insert.new.tx.conn.now
-
-    by_result : (r : Result (Unit {0}) Error) → OnOk r (Inserts INSERT.now (bound c.columns.result) old new)
-        → OnOk r (TurnsCodes (λ rows. row_of_stored c.args.code.now ∷ rows) old new)
-    by_result (Ok x) did =
-        inserted (row_of_stored c.args.code.now) (bound c.columns.result) c.columns.ensures old new did
-    by_result (Err e) did = did
+returns-clause-inserted g c clean =
+    on_ok c.insert.result
+    (inserted (row_of_stored c.args.code.now) (bound c.columns.result) c.columns.ensures
+    (state g.S.Store c.args.tx.now.conn.now) (state g.S.Store c.insert.new.tx.conn.now))
+    (c.insert.ensures.inserted clean)

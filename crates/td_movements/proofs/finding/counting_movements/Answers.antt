@@ -1,19 +1,24 @@
-use Rattle.sqlite.specs.Held.{state}
+use Rattle.std.proofs.Common.{refl}
 use Rattle.std.specs.Prelude.{[], ◌∷◌}
+use Rattle.sqlite.specs.Held.{state}
+use Rattle.td_schema.specs.Tables.{desk_schema}
+use Rattle.td_sql.proofs.Fetched.{those_fetched}
+use Rattle.td_sql.proofs.Leaving.{stays_ok}
 use Rattle.td_sql.specs.Values.{number_value}
-use Rattle.td_movements.specs.Stored.{counts_for}
+use Rattle.td_movements.proofs.Meanings.{all_columns, by_serial, counting_means, counting_tests}
+use Rattle.td_movements.proofs.Statements.{counting_passes}
+use Rattle.td_movements.specs.Cells.{movement_typing}
+use Rattle.td_movements.specs.Stored.{counts_for, row_of_stored}
 use Rattle.td_movements.specs.declared.texts.TheConstants.{COUNTING}
-use Rattle.td_movements.proofs.Meanings.{counting_means, counting_tests, by_serial}
-use Rattle.td_movements.proofs.Statements.{those_found, stays_ok, counting_passes}
 use Rattle.td_movements.proofs.finding.counting_movements.Goals as goal
 
 pub returns-clause-found : goal.returns-clause-found
 returns-clause-found g c clean =
-    those_found COUNTING.now _ (number_value c.args.holder ∷ []) c.holder_values.ensures counting_tests by_serial
-    (counts_for c.args.holder) counting_means
-    (λ r is. counting_passes r is c.args.holder) (state g.S.Store c.args.tx.now.conn.now) c.shown.result
-    (c.shown.ensures.found clean)
+    those_fetched movement_typing desk_schema row_of_stored COUNTING.now counting_tests all_columns by_serial
+    (counts_for c.args.holder) (number_value c.args.holder ∷ []) _
+    c.holder_key.ensures counting_means (λ r is. counting_passes r is c.args.holder) (λ r. refl)
+    (state g.S.Store c.args.tx.now.conn.now) c.fetch.result (c.fetch.ensures.found clean)
 
 pub returns-clause-still : goal.returns-clause-still
 returns-clause-still g c clean =
-    stays_ok COUNTING.now counting_means.plain _ _ c.shown.result (c.shown.ensures.still clean)
+    stays_ok desk_schema COUNTING.now counting_means.plain _ _ c.fetch.result (c.fetch.ensures.still clean)

@@ -1,13 +1,9 @@
-use Rattle.std.proofs.Common.{arith, Ok, Err, Result, OnOk}
+use Rattle.std.proofs.Common.{arith}
 use Rattle.sqlite.specs.Held.{state}
 use Rattle.sqlite.specs.State.{HasCleanDisk}
+use Rattle.td_sql.proofs.Leaving.{on_ok}
 use Rattle.td_schema.proofs.Meanings.{meta_made, holders_made, codes_made, movements_made, guarantees_made, lines_made}
 use Rattle.td_schema.proofs.making.make_tables.Goals as goal
-
--- what follows on a call that was well follows from what that says
-on_ok : {T E P Q : Type 0} (r : Result T E) → (P → Q) → OnOk r P → OnOk r Q
-on_ok (Ok x) so p = so p
-on_ok (Err e) so p = p
 
 pub returns-clause-made : goal.returns-clause-made
 returns-clause-made g c clean =
