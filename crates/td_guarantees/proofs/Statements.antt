@@ -1,37 +1,28 @@
 -- What the statements on the table of guarantees did.
-use Rattle.std.proofs.Common.{Result, Ok, Err, Option, OnOk, Bool, IsPermutation, List, [], ap, false, map, refl, subst, sym, ℕ, ◌∙◌, ◌∷◌, ◌≡◌}
-use Rattle.std.specs.Prelude.{Vec, IfOk, filter, if◌then◌else◌, ◌==◌}
-use Rattle.std.specs.Option.{option_to_list}
-use Rattle.std.specs.declared.alloc.Global.{Global}
-use Rattle.sqlite.specs.declared.error.Error.{Error}
-use Rattle.sqlite.specs.Given.{IsPlain}
-use Rattle.sqlite.specs.Listing.{understood}
+use Rattle.std.proofs.Common.{List, [], ap, false, map, refl, subst, ℕ, ◌∙◌, ◌∷◌, ◌≡◌}
+use Rattle.std.specs.Prelude.{if◌then◌else◌, ◌==◌}
 use Rattle.sqlite.specs.State.{State}
 use Rattle.sqlite_rules.specs.Cast.{cast_all}
 use Rattle.sqlite_sql.specs.Ops.{binary}
-use Rattle.sqlite_sql.specs.Term.{Term, eval_all}
+use Rattle.sqlite_sql.specs.Term.{eval_all}
 use Rattle.sqlite_sql.specs.declared.ops.BinaryOp.TheVariants.{Coalesce, Compare}
 use Rattle.sqlite_sql.specs.declared.ops.CompareOp.TheVariants.{Eq}
 use Rattle.sqlite_trees.specs.Tree.{rowid}
 use Rattle.sqlite_typed.proofs.TestLemmas.{last_term, then_term, then_value, truth_or}
 use Rattle.sqlite_value.specs.Order.{Row, column}
 use Rattle.sqlite_value.specs.declared.keys.Collation.TheVariants.{Binary}
-use Rattle.sqlite_value.specs.declared.keys.Key.{Key}
 use Rattle.sqlite_value.specs.declared.value.Value.TheVariants.{Text}
 use Rattle.td_acts.specs.declared.rows.NewTerms.{NewTerms}
 use Rattle.td_guarantee.specs.declared.guarantee.Guarantee.{Guarantee}
 use Rattle.td_guarantees.proofs.CellLemmas.{back, bare, cells_stored, given_else}
-use Rattle.td_guarantees.proofs.Meanings.{all_columns, grn_tests, holder_tests, insert_means, new_row, serial_tests, set_columns, set_means}
+use Rattle.td_guarantees.proofs.Meanings.{grn_tests, holder_tests, insert_means, new_row, serial_tests, set_columns, set_means}
 use Rattle.td_guarantees.specs.Cells.{guarantee_cells, guarantee_columns, guarantee_typing, guarantees_table}
-use Rattle.td_guarantees.specs.Stored.{AreGuarantees, IsTheGuarantee, LeavesAll, ShowsGuarantees, TurnsGuarantees, has_grn, has_serial, is_of, terms_values, with_new_terms}
-use Rattle.td_guarantees.specs.declared.stored.StoredGuarantee.{StoredGuarantee}
+use Rattle.td_guarantees.specs.Stored.{TurnsGuarantees, has_grn, has_serial, is_of, terms_values, with_new_terms}
 use Rattle.td_guarantees.specs.declared.texts.TheConstants.{INSERT, SET_TERMS}
 use Rattle.td_schema.specs.Tables.{desk_schema}
 use Rattle.td_sql.proofs.Columns.{given_or, number_is, text_is}
-use Rattle.td_sql.proofs.TypedRows.{inserted_typed, selected_typed, updated_typed}
-use Rattle.td_sql.specs.Meanings.{MeansSelect}
-use Rattle.td_sql.specs.Reading.{OnlyReads, Selects, row_order, shown_by}
-use Rattle.td_sql.specs.Typed.{IsTypedRow, row_of, rows_in}
+use Rattle.td_sql.proofs.TypedRows.{inserted_typed, updated_typed}
+use Rattle.td_sql.specs.Typed.{IsTypedRow, row_of}
 use Rattle.td_sql.specs.Values.{number_or_null, number_value}
 use Rattle.td_sql.specs.Writing.{Inserts, IsInserted, Updates, columns_set, passes}
 use Rattle.td_tables.specs.Tables.{Keyed}
@@ -99,44 +90,3 @@ terms_turned H n terms values is old new h has typed =
     (number_or_null terms.reference ∷ number_or_null terms.cover ∷ number_or_null terms.ends ∷ []))
     (λ r row_is. terms_set r row_is H n terms)
     (λ r. back (with_new_terms terms (row_of guarantee_typing r))) done typed
-
--- the guarantees that a statement showed are those that pass
-module _ (text : List ℕ) (values given : Row) (same : values ≡ given) (tests : List Term)
-    (order : List (Term × Key)) (p : Keyed Guarantee → Bool)
-    (means : MeansSelect desk_schema text 8 tests all_columns order) (passing : (r : Row)
-    → IsTypedRow guarantee_typing r → passes given tests r ≡ p (row_of guarantee_typing r)) where
-  pub those : (old : State) (found : List StoredGuarantee) → ShowsGuarantees text values old found
-      → AreGuarantees p old found
-  those old found h has typed =
-      let did : Selects text given old h.0 = subst (λ v. Selects text v old h.0) same h.1 in
-      let answer = did desk_schema 8 tests all_columns order has means in
-      subst (IsPermutation (filter p (rows_in guarantee_typing old.now.trees))) (sym h.2)
-      (selected_typed guarantee_typing desk_schema (passes given tests) (shown_by all_columns given) p
-      (row_order order given) old.now.trees h.0 passing (λ r. refl) answer typed)
-
-  pub those_found : (old : State) (r : Result (Vec StoredGuarantee Global) Error)
-      → IfOk r (λ found. ShowsGuarantees text values old found.items)
-      → IfOk r (λ found. AreGuarantees p old found.items)
-  those_found old (Ok found) h = those old found.items h
-  those_found old (Err e) h = h
-
-  pub one_found : (old : State) (r : Result (Option StoredGuarantee) Error) (found : List StoredGuarantee)
-      → IfOk r (λ one. option_to_list one ≡ found) → ShowsGuarantees text values old found
-      → IfOk r (IsTheGuarantee p old)
-  one_found old (Ok one) found is h = subst (AreGuarantees p old) (sym is) (those old found h)
-  one_found old (Err e) found is h = is
-
--- and all stays as it was
-pub stays : (text : List ℕ) → IsPlain (understood desk_schema text) → (old new : State) → OnlyReads text old new
-    → LeavesAll old new
-stays text plain old new h has = h desk_schema has plain
-
-pub stays_ok : {T : Type 0} (text : List ℕ) → IsPlain (understood desk_schema text)
-    → (old new : State) (r : Result T Error)
-    → OnOk r (OnlyReads text old new) → OnOk r (LeavesAll old new)
-stays_ok text plain old new (Ok x) h = stays text plain old new h
-stays_ok text plain old new (Err e) h = h
-
-pub any_ok : {T E P : Type 0} (r : Result T E) → P → OnOk r P
-any_ok (Ok x) p = p
-any_ok (Err e) p = tt

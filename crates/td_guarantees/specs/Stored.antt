@@ -1,5 +1,5 @@
 -- What is asked of the guarantees in a store's file, and what is said anew of one.
-use Rattle.std.specs.Prelude.{◌≡◌, [], ◌∷◌, ℕ, ◌==◌, Bool, ◌&&◌, List, map, Option}
+use Rattle.std.specs.Prelude.{[], ◌∷◌, ℕ, ◌==◌, Bool, ◌&&◌, List, map, Option}
 use Rattle.std.specs.Option.{option_to_list}
 use Rattle.std.specs.Str.{bytes_eq}
 use Rattle.td_guarantee.specs.declared.guarantee.Guarantee.{Guarantee}
@@ -8,13 +8,11 @@ use Rattle.td_acts.specs.declared.rows.NewTerms.{NewTerms}
 use Rattle.td_tables.specs.Tables.{Keyed}
 use Rattle.td_schema.specs.Tables.{desk_schema}
 use Rattle.td_sql.specs.Typed.{AreThose, Turns}
-use Rattle.td_sql.specs.Reading.{Selects}
 use Rattle.td_sql.specs.Values.{number_value, number_or_null}
-use Rattle.td_sql.specs.Writing.{HasSchema}
 use Rattle.sqlite_value.specs.declared.value.Value.TheVariants.{Text}
 use Rattle.sqlite_value.specs.Order.{Row}
-use Rattle.sqlite.specs.State.{State, IsUnchanged}
-use Rattle.td_guarantees.specs.Cells.{guarantee_from, guarantee_typing}
+use Rattle.sqlite.specs.State.{State}
+use Rattle.td_guarantees.specs.Cells.{guarantee_typing}
 use Rattle.td_guarantees.specs.declared.stored.StoredGuarantee.{StoredGuarantee}
 
 -- a guarantee that was found, as its row
@@ -46,15 +44,6 @@ AreGuarantees p state found = AreThose guarantee_typing desk_schema p state (map
 -- this is the guarantee that passes the test, or there is none
 abbrev pub IsTheGuarantee : (Keyed Guarantee → Bool) → State → Option StoredGuarantee → Type 0
 IsTheGuarantee p state found = AreGuarantees p state (option_to_list found)
-
--- the guarantees that a statement showed
-abbrev pub ShowsGuarantees : List ℕ → Row → State → List StoredGuarantee → Type 0
-ShowsGuarantees text values old found =
-    (rows : List Row) × Selects text values old rows × (map row_of_stored found ≡ map guarantee_from rows)
-
--- a store's file is left as it was
-abbrev pub LeavesAll : State → State → Type 0
-LeavesAll old new = HasSchema old desk_schema → IsUnchanged old new
 
 -- what new terms are written by: the holder, the serial and the GRN, and then the terms
 abbrev pub terms_values : ℕ → ℕ → NewTerms → Row

@@ -1,23 +1,24 @@
 //! What is looked up in the table of guarantees. It changes nothing. `DatabaseCorrupt`: a row is no guarantee's, or there
 //! are several where there can be one; `OutOfMemory`: want of memory; any other error is the database's own.
 ghost use Rattle.std.specs.Prelude.{◌≡◌, [], ◌∷◌, IsTrue, IfOk, OnOk};
-ghost use Rattle.std.specs.Option.{option_to_list};
 ghost use Rattle.sqlite.specs.Held.{state};
 ghost use Rattle.sqlite.specs.State.{HasCleanDisk, KeepsCommit, Survives};
 ghost use Rattle.sqlite.specs.Values.{bound};
 ghost use Rattle.sqlite_value.specs.declared.value.Value.TheVariants.{Text};
-ghost use Rattle.td_sql.specs.Reading.{OnlyReads};
+ghost use Rattle.td_schema.specs.Tables.{desk_schema};
+ghost use Rattle.td_sql.specs.Reading.{LeavesAll};
 ghost use Rattle.td_sql.specs.Values.{number_value};
-ghost use Rattle.td_guarantees.specs.Stored.{AreGuarantees, IsTheGuarantee, LeavesAll, ShowsGuarantees, has_grn, has_serial, is_of};
+ghost use Rattle.td_guarantees.specs.Stored.{AreGuarantees, IsTheGuarantee, has_grn, has_serial, is_of};
 
-use crate::stored::{StoredGuarantee, read_guarantees};
+use crate::stored::StoredGuarantee;
 use crate::texts::{BY_GRN, BY_SERIAL, OF_HOLDER};
-use sqlite::{Error, ErrorCode, Transaction};
+use sqlite::{Error, Transaction};
 use sqlite_trees::store::Alter;
 use sqlite_value::value::ValueRef;
 use std::alloc::Global;
 use td_base::{Grn, HolderNo};
 use td_columns::number_of;
+use td_sql::{fetch, fetch_one};
 
 fn grn_values(holder: HolderNo, serial: u32, grn: &Grn) -> [ValueRef<'_>; 3]
     ensures { bound result ≡ number_value holder ∷ number_value serial ∷ Text grn.now ∷ [] }
@@ -41,38 +42,6 @@ fn holder_values(holder: HolderNo) -> [ValueRef<'static>; 1]
     [number_of(holder.number())]
 }
 
-// The guarantees that a statement shows, in its order.
-fn shown<S: Alter>(
-    alloc: Global,
-    tx: &mut Transaction<'_, S>,
-    text: &str,
-    values: &[ValueRef<'_>],
-) -> Result<Vec<StoredGuarantee>, Error>
-    requires { HasCleanDisk (state S.Store tx.old.conn.now) → IsTrue (state S.Store tx.old.conn.now).in_transaction }
-    ensures same_reference { tx.new.conn.ghost_name ≡ tx.old.conn.ghost_name }
-    ensures found { HasCleanDisk (state S.Store tx.new.conn.now) → IfOk result (λ found.
-        ShowsGuarantees text.now (bound values.now) (state S.Store tx.old.conn.now) found.items) }
-    ensures still { HasCleanDisk (state S.Store tx.new.conn.now)
-        → OnOk result (OnlyReads text.now (state S.Store tx.old.conn.now) (state S.Store tx.new.conn.now)) }
-    ensures inside { HasCleanDisk (state S.Store tx.new.conn.now) → OnOk result (IsTrue (state S.Store tx.new.conn.now).in_transaction) }
-    ensures kept { HasCleanDisk (state S.Store tx.new.conn.now)
-        → KeepsCommit (state S.Store tx.old.conn.now) (state S.Store tx.new.conn.now) }
-    ensures survives { Survives (state S.Store tx.old.conn.now) (state S.Store tx.new.conn.now) (λ _. ⊥) }
-{
-    let rows = td_sql::select(tx, text, values)?;
-    read_guarantees(alloc, &rows)
-}
-
-// One guarantee at most. `DatabaseCorrupt`: there are several.
-fn only(mut found: Vec<StoredGuarantee>) -> Result<Option<StoredGuarantee>, Error>
-    ensures { IfOk result (λ one. option_to_list one ≡ found.items) }
-{
-    if found.len() > 1 {
-        return Err(Error::SqliteFailure(ErrorCode::DatabaseCorrupt));
-    }
-    Ok(found.pop())
-}
-
 /// The holder's guarantee with a serial and exactly a GRN, if there is one.
 pub fn find_by_grn<S: Alter>(
     alloc: Global,
@@ -86,13 +55,13 @@ pub fn find_by_grn<S: Alter>(
     ensures found { HasCleanDisk (state S.Store tx.new.conn.now)
         → IfOk result (IsTheGuarantee (has_grn holder serial grn.now) (state S.Store tx.old.conn.now)) }
     ensures still { HasCleanDisk (state S.Store tx.new.conn.now)
-        → OnOk result (LeavesAll (state S.Store tx.old.conn.now) (state S.Store tx.new.conn.now)) }
+        → OnOk result (LeavesAll desk_schema (state S.Store tx.old.conn.now) (state S.Store tx.new.conn.now)) }
     ensures inside { HasCleanDisk (state S.Store tx.new.conn.now) → OnOk result (IsTrue (state S.Store tx.new.conn.now).in_transaction) }
     ensures kept { HasCleanDisk (state S.Store tx.new.conn.now)
         → KeepsCommit (state S.Store tx.old.conn.now) (state S.Store tx.new.conn.now) }
     ensures survives { Survives (state S.Store tx.old.conn.now) (state S.Store tx.new.conn.now) (λ _. ⊥) }
 {
-    only(shown(alloc, tx, BY_GRN, &grn_values(holder, serial, grn))?)
+    fetch_one(alloc, tx, BY_GRN, &grn_values(holder, serial, grn))
 }
 
 /// The holder's guarantee with a serial, if there is one: a movement's line names it by that.
@@ -107,13 +76,13 @@ pub fn find_by_serial<S: Alter>(
     ensures found { HasCleanDisk (state S.Store tx.new.conn.now)
         → IfOk result (IsTheGuarantee (has_serial holder serial) (state S.Store tx.old.conn.now)) }
     ensures still { HasCleanDisk (state S.Store tx.new.conn.now)
-        → OnOk result (LeavesAll (state S.Store tx.old.conn.now) (state S.Store tx.new.conn.now)) }
+        → OnOk result (LeavesAll desk_schema (state S.Store tx.old.conn.now) (state S.Store tx.new.conn.now)) }
     ensures inside { HasCleanDisk (state S.Store tx.new.conn.now) → OnOk result (IsTrue (state S.Store tx.new.conn.now).in_transaction) }
     ensures kept { HasCleanDisk (state S.Store tx.new.conn.now)
         → KeepsCommit (state S.Store tx.old.conn.now) (state S.Store tx.new.conn.now) }
     ensures survives { Survives (state S.Store tx.old.conn.now) (state S.Store tx.new.conn.now) (λ _. ⊥) }
 {
-    only(shown(alloc, tx, BY_SERIAL, &serial_values(holder, serial))?)
+    fetch_one(alloc, tx, BY_SERIAL, &serial_values(holder, serial))
 }
 
 /// All guarantees of a holder.
@@ -127,11 +96,11 @@ pub fn guarantees_of<S: Alter>(
     ensures found { HasCleanDisk (state S.Store tx.new.conn.now)
         → IfOk result (λ found. AreGuarantees (is_of holder) (state S.Store tx.old.conn.now) found.items) }
     ensures still { HasCleanDisk (state S.Store tx.new.conn.now)
-        → OnOk result (LeavesAll (state S.Store tx.old.conn.now) (state S.Store tx.new.conn.now)) }
+        → OnOk result (LeavesAll desk_schema (state S.Store tx.old.conn.now) (state S.Store tx.new.conn.now)) }
     ensures inside { HasCleanDisk (state S.Store tx.new.conn.now) → OnOk result (IsTrue (state S.Store tx.new.conn.now).in_transaction) }
     ensures kept { HasCleanDisk (state S.Store tx.new.conn.now)
         → KeepsCommit (state S.Store tx.old.conn.now) (state S.Store tx.new.conn.now) }
     ensures survives { Survives (state S.Store tx.old.conn.now) (state S.Store tx.new.conn.now) (λ _. ⊥) }
 {
-    shown(alloc, tx, OF_HOLDER, &holder_values(holder))
+    fetch(alloc, tx, OF_HOLDER, &holder_values(holder))
 }

@@ -13,7 +13,9 @@ use sqlite_trees::store::Alter;
 use sqlite_value::value::ValueRef;
 use td_acts::NewTerms;
 use td_base::HolderNo;
-use td_columns::{amount_or_null, cover_or_null, day_or_null, number_of};
+use td_columns::{
+    amount_of, amount_or_null, cover_of, cover_or_null, day_or_null, number_of,
+};
 use td_guarantee::Guarantee;
 
 // The columns of a guarantee's row.
@@ -24,8 +26,8 @@ fn columns(holder: HolderNo, serial: u32, guarantee: &Guarantee) -> [ValueRef<'_
         number_of(holder.number()),
         number_of(serial),
         ValueRef::Text(guarantee.grn.as_bytes()),
-        amount_or_null(Some(guarantee.reference)),
-        cover_or_null(Some(guarantee.cover)),
+        amount_of(guarantee.reference),
+        cover_of(guarantee.cover),
         day_or_null(guarantee.ends),
     ]
 }

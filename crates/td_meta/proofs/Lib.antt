@@ -1,0 +1,2 @@
+mod Meanings
+mod Statements
