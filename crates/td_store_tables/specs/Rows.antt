@@ -2,7 +2,9 @@
 use Rattle.std.specs.Prelude.{ℕ, List, [], ◌∷◌}
 use Rattle.sqlite_trees.specs.Tree.{Trees}
 use Rattle.sqlite.specs.State.{State}
-use Rattle.td_tables.specs.Tables.{Tables}
+use Rattle.td_desk.specs.Content.{Content}
+use Rattle.td_desk.specs.Sound.{IsSound}
+use Rattle.td_tables.specs.Tables.{Tables, AreTablesOf}
 use Rattle.td_tables.specs.Changes.{HaveSameRows}
 use Rattle.td_schema.specs.Tables.{desk_schema}
 use Rattle.td_sql.specs.Typed.{AreTyped, rows_in}
@@ -48,3 +50,10 @@ pub record HasTables (f : Tables → Tables) (old new : State) : Type 0 where
 -- where the rows of a store's tables were typed, they are now what f makes of them
 abbrev pub TurnsTables : (Tables → Tables) → State → State → Type 0
 TurnsTables f old new = HasSchema old desk_schema → AreAllTyped old.now.trees → HasTables f old new
+
+-- the connection, as far as it is open, has the tables of this content, which is sound
+pub record HoldsContent (c : Content) (s : State) : Type 0 where
+  pub schema : HasSchema s desk_schema
+  pub typed : AreAllTyped s.now.trees
+  pub sound : IsSound c
+  pub tables : AreTablesOf (tables_in s.now.trees) c
