@@ -98,8 +98,3 @@ pub code_removed : (row : HolderRow) (p : Keyed (List ℕ) → Bool) (a b d : St
 code_removed row p a b d set put =
     row_then row (λ t. record t { codes = filter p t.codes }) (codes_respect (filter p) (filter_respects p)) a b d set
     (λ has typed. codes_turned b d has typed (filter p) put)
-
--- what follows on a call that was well follows from what that says
-pub on_ok : {T E P Q : Type 0} (r : Result T E) → (P → Q) → OnOk r P → OnOk r Q
-on_ok (Ok x) so p = so p
-on_ok (Err e) so p = p

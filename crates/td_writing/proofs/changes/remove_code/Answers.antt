@@ -5,7 +5,8 @@ use Rattle.td_tables.specs.Changes.{is_code_of}
 use Rattle.td_codes.specs.Stored.{TurnsCodes}
 use Rattle.sqlite.specs.Held.{state}
 use Rattle.sqlite.specs.State.{State, HasCleanDisk}
-use Rattle.td_writing.proofs.Changed.{code_removed, on_ok}
+use Rattle.td_sql.proofs.Leaving.{on_ok}
+use Rattle.td_writing.proofs.Changed.{code_removed}
 use Rattle.td_writing.proofs.changes.remove_code.Goals as goal
 
 pub returns-clause-written : goal.returns-clause-written

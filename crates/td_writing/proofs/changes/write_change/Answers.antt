@@ -3,7 +3,7 @@ use Rattle.std.specs.Prelude.{OnOk}
 use Rattle.sqlite.specs.Held.{state}
 use Rattle.td_writing.specs.Written.{WritesChange}
 use Rattle.td_writing.proofs.AsSaid.{added_written, declared_written, moved_written, removed_written, terms_written}
-use Rattle.td_writing.proofs.Changed.{on_ok}
+use Rattle.td_sql.proofs.Leaving.{on_ok}
 use Rattle.td_writing.proofs.changes.write_change.Goals as goal
 
 pub returns-in-Declared-clause-written : goal.returns-in-Declared-clause-written

@@ -2,7 +2,8 @@ use Rattle.std.proofs.Common.{arith}
 use Rattle.td_tables.specs.Looking.{movement_no}
 use Rattle.sqlite.specs.Held.{state}
 use Rattle.sqlite.specs.State.{State, HasCleanDisk}
-use Rattle.td_writing.proofs.Changed.{moved_on, on_ok}
+use Rattle.td_sql.proofs.Leaving.{on_ok}
+use Rattle.td_writing.proofs.Changed.{moved_on}
 use Rattle.td_writing.proofs.changes.write_moved.Goals as goal
 
 pub returns-clause-written : goal.returns-clause-written

@@ -1,7 +1,8 @@
 use Rattle.std.proofs.Common.{arith}
 use Rattle.sqlite.specs.Held.{state}
 use Rattle.sqlite.specs.State.{State, HasCleanDisk}
-use Rattle.td_writing.proofs.Changed.{on_ok, opened}
+use Rattle.td_sql.proofs.Leaving.{on_ok}
+use Rattle.td_writing.proofs.Changed.{opened}
 use Rattle.td_writing.proofs.changes.write_opened.Goals as goal
 
 pub returns-clause-written : goal.returns-clause-written

@@ -2,7 +2,8 @@ use Rattle.std.proofs.Common.{arith}
 use Rattle.td_tables.specs.Tables.{guarantee_no}
 use Rattle.sqlite.specs.Held.{state}
 use Rattle.sqlite.specs.State.{State, HasCleanDisk}
-use Rattle.td_writing.proofs.Changed.{on_ok, terms_were_set}
+use Rattle.td_sql.proofs.Leaving.{on_ok}
+use Rattle.td_writing.proofs.Changed.{terms_were_set}
 use Rattle.td_writing.proofs.changes.write_terms.Goals as goal
 
 pub returns-clause-written : goal.returns-clause-written

@@ -1,0 +1,2 @@
+mod After
+mod Made
