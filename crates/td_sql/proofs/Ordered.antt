@@ -1,6 +1,7 @@
 -- Typed rows that were shown in an order stand in it.
 use Rattle.std.proofs.Common.{Bool, Equal, List, [], ap, arith, cond, false, map, nat_cmp, refl, subst, sym, true, true≢false, ℕ, ◌+◌, ◌∙◌, ◌∷◌, ◌≡◌}
 use Rattle.std.specs.Prelude.{filter, pos, ◌&&◌, ◌==◌}
+use Rattle.std.specs.Cmp.Lexicographic.{slice_cmp}
 use Rattle.std.specs.List.{AllByRecursion}
 use Rattle.std.specs.List.Sorted.{IsSorted}
 use Rattle.std.proofs.lemmas.Bool.Decides.{nat_tests}
@@ -10,10 +11,10 @@ use Rattle.std.specs.declared.cmp.Ordering.{Ordering}
 use Rattle.sqlite_exec.proofs.RowsLemmas.{IsSorted-map}
 use Rattle.sqlite_trees.proofs.ListLemmas.{all-get_or, all-permutation, map-map}
 use Rattle.sqlite_trees.specs.Tree.{Trees}
-use Rattle.sqlite_value.proofs.OrderLemmas.{value_cmp-Int}
+use Rattle.sqlite_value.proofs.OrderLemmas.{value_cmp-Int, value_cmp-Text}
 use Rattle.sqlite_value.specs.declared.keys.Collation.TheVariants.{Binary}
 use Rattle.sqlite_value.specs.declared.value.Value.{Value}
-use Rattle.sqlite_value.specs.declared.value.Value.TheVariants.{Int}
+use Rattle.sqlite_value.specs.declared.value.Value.TheVariants.{Int, Text}
 use Rattle.sqlite_value.specs.Keys.{ascending, by_key}
 use Rattle.sqlite_value.specs.Order.{Row, value_cmp}
 use Rattle.td_sql.specs.Reading.{IsAnswerOf}
@@ -28,6 +29,12 @@ pub numbers_compared : (v w : Value) (m n : ℕ) → v ≡ Int (pos m) → w ≡
 numbers_compared v w m n is other =
     ap (λ v. value_cmp v w) is ∙ ap (value_cmp (Int (pos m))) other ∙ value_cmp-Int (pos m) (pos n) ∙ numbers_alike m n
 
+-- and two that are texts as the texts do
+pub texts_compared : (v w : Value) (s t : List ℕ) → v ≡ Text s → w ≡ Text t
+    → by_key (ascending Binary) v w ≡ slice_cmp nat_cmp s t
+texts_compared v w s t is other =
+    ap (λ v. value_cmp v w) is ∙ ap (value_cmp (Text s)) other ∙ value_cmp-Text s t
+
 -- two numbers that are one tie
 pub numbers_tie : (m n N : ℕ) → (m == N) ≡ true → (n == N) ≡ true → nat_cmp m n ≡ Equal
 numbers_tie m n N is other = grind (arith, nat_tests, is, other)
@@ -38,7 +45,7 @@ both_pass true b is = (refl, is)
 both_pass false b is = absurd (true≢false (sym is))
 
 -- elements that two orders compare alike are in both, where they are in one
-sorted_alike : {X : Type 0} (P : X → Type 0) (c d : X → X → Ordering) → ((a b : X) → P a → P b → c a b ≡ d a b)
+pub sorted_alike : {X : Type 0} (P : X → Type 0) (c d : X → X → Ordering) → ((a b : X) → P a → P b → c a b ≡ d a b)
     → (xs : List X) → AllByRecursion P xs → IsSorted c xs → IsSorted d xs
 sorted_alike P c d same xs all sorted k e low high =
     ap is_lt (sym (same _ _ (all-get_or P xs (k + 1) e all high) (all-get_or P xs k e all (omega (arith, high)))))
