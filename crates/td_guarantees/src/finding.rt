@@ -17,7 +17,7 @@ use sqlite_trees::store::Alter;
 use sqlite_value::value::ValueRef;
 use std::alloc::Global;
 use td_base::{Grn, HolderNo};
-use td_columns::number_of;
+use td_columns::{holder_key, number_of, serial_key};
 use td_sql::{fetch, fetch_one};
 
 fn grn_values(holder: HolderNo, serial: u32, grn: &Grn) -> [ValueRef<'_>; 3]
@@ -28,18 +28,6 @@ fn grn_values(holder: HolderNo, serial: u32, grn: &Grn) -> [ValueRef<'_>; 3]
         number_of(serial),
         ValueRef::Text(grn.as_bytes()),
     ]
-}
-
-fn serial_values(holder: HolderNo, serial: u32) -> [ValueRef<'static>; 2]
-    ensures { bound result ≡ number_value holder ∷ number_value serial ∷ [] }
-{
-    [number_of(holder.number()), number_of(serial)]
-}
-
-fn holder_values(holder: HolderNo) -> [ValueRef<'static>; 1]
-    ensures { bound result ≡ number_value holder ∷ [] }
-{
-    [number_of(holder.number())]
 }
 
 /// The holder's guarantee with a serial and exactly a GRN, if there is one.
@@ -82,7 +70,7 @@ pub fn find_by_serial<S: Alter>(
         → KeepsCommit (state S.Store tx.old.conn.now) (state S.Store tx.new.conn.now) }
     ensures survives { Survives (state S.Store tx.old.conn.now) (state S.Store tx.new.conn.now) (λ _. ⊥) }
 {
-    fetch_one(alloc, tx, BY_SERIAL, &serial_values(holder, serial))
+    fetch_one(alloc, tx, BY_SERIAL, &serial_key(holder, serial))
 }
 
 /// All guarantees of a holder.
@@ -102,5 +90,5 @@ pub fn guarantees_of<S: Alter>(
         → KeepsCommit (state S.Store tx.old.conn.now) (state S.Store tx.new.conn.now) }
     ensures survives { Survives (state S.Store tx.old.conn.now) (state S.Store tx.new.conn.now) (λ _. ⊥) }
 {
-    fetch(alloc, tx, OF_HOLDER, &holder_values(holder))
+    fetch(alloc, tx, OF_HOLDER, &holder_key(holder))
 }

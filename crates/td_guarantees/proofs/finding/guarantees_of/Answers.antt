@@ -16,7 +16,7 @@ pub returns-clause-found : goal.returns-clause-found
 returns-clause-found g c clean =
     those_fetched guarantee_typing desk_schema row_of_stored OF_HOLDER.now holder_tests all_columns by_serial
     (is_of c.args.holder) (number_value c.args.holder ∷ [])
-    _ c.holder_values.ensures of_holder_means (λ r is. holder_passes r is c.args.holder) (λ r. refl)
+    _ c.holder_key.ensures of_holder_means (λ r is. holder_passes r is c.args.holder) (λ r. refl)
     (state g.S.Store c.args.tx.now.conn.now) c.fetch.result (c.fetch.ensures.found clean)
 
 pub returns-clause-still : goal.returns-clause-still
