@@ -1,33 +1,24 @@
 -- What the statements on the table of codes did.
 use Rattle.td_tables.specs.Changes.{is_code_of}
-use Rattle.td_codes.specs.declared.texts.TheConstants.{DELETE}
-use Rattle.td_codes.proofs.Meanings.{code_tests, delete_means}
-use Rattle.td_sql.proofs.TypedRows.{deleted_typed}
-use Rattle.td_sql.proofs.Columns.{text_is}
-use Rattle.td_sql.specs.Writing.{Deletes}
-use Rattle.std.specs.Prelude.{not}
+use Rattle.td_codes.specs.declared.texts.TheConstants.{DELETE, INSERT}
+use Rattle.td_codes.proofs.Meanings.{code_tests, delete_means, insert_means, key_tests, new_row}
+use Rattle.td_sql.proofs.TypedRows.{deleted_typed, inserted_typed}
+use Rattle.td_sql.proofs.Columns.{text_is, number_is}
+use Rattle.td_sql.specs.Writing.{Deletes, Inserts, IsInserted, passes}
+use Rattle.std.specs.Prelude.{not, pos, filter}
 use Rattle.sqlite.specs.State.{State}
-use Rattle.std.proofs.Common.{subst}
-use Rattle.std.specs.Prelude.{pos}
+use Rattle.std.proofs.Common.{subst, List, [], ap, refl, ℕ, ◌∷◌, ◌≡◌}
 use Rattle.sqlite_typed.proofs.TestLemmas.{then_value, then_term, last_term}
 use Rattle.td_sql.proofs.Effects.{cast_int}
-use Rattle.td_codes.proofs.Meanings.{insert_means, key_tests, new_row}
 use Rattle.sqlite_rules.specs.Cast.{cast_all}
 use Rattle.sqlite_sql.specs.Term.{eval_all}
 use Rattle.sqlite_value.specs.Order.{Row, column}
-use Rattle.std.proofs.Common.{List, [], ap, refl, ℕ, ◌∷◌, ◌≡◌}
-use Rattle.std.specs.Prelude.{filter}
 use Rattle.td_codes.specs.Cells.{code_cells, code_from, code_typing, stored_table}
 use Rattle.td_codes.specs.Stored.{TurnsCodes, is_code_of_guarantee}
-use Rattle.td_codes.specs.declared.texts.TheConstants.{INSERT}
 use Rattle.td_schema.specs.Tables.{desk_schema}
-use Rattle.td_sql.proofs.Columns.{number_is}
-use Rattle.td_sql.proofs.TypedRows.{inserted_typed}
 use Rattle.td_sql.specs.Typed.{IsTypedRow, row_of}
 use Rattle.td_sql.specs.Values.{number_value}
-use Rattle.td_sql.specs.Writing.{Inserts, IsInserted, passes}
 use Rattle.td_tables.specs.Tables.{Keyed}
-use Rattle.td_codes.specs.declared.texts.TheConstants.{INSERT}
 
 back : (l : Keyed (List ℕ)) → code_from (code_cells l) ≡ l
 back l = refl
