@@ -25,6 +25,17 @@ use Rattle.td_sql.proofs.TypedRows.{inserted_typed, updated_typed}
 use Rattle.td_sql.specs.Typed.{IsTypedRow, row_of}
 use Rattle.td_sql.specs.Values.{number_or_null, number_value}
 use Rattle.td_sql.specs.Writing.{Inserts, IsInserted, Updates, columns_set, passes}
+use Rattle.td_sql.proofs.Ordered.{Passes, numbers_compared, numbers_tie}
+use Rattle.td_sql.specs.Reading.{row_order}
+use Rattle.td_sql.specs.Typed.{AreInOrder, rows_in}
+use Rattle.td_tables.proofs.Orders.{sorted_is_order}
+use Rattle.td_tables.specs.Gathering.{place}
+use Rattle.sqlite_typed.proofs.TestLemmas.{last_key, then_key}
+use Rattle.std.proofs.Common.{nat_cmp, Bool}
+use Rattle.std.specs.Prelude.{filter}
+use Rattle.td_guarantees.proofs.Meanings.{by_serial}
+use Rattle.td_guarantees.specs.Stored.{AreBySerial, AreGuarantees, row_of_stored}
+use Rattle.td_guarantees.specs.declared.stored.StoredGuarantee.{StoredGuarantee}
 use Rattle.td_tables.specs.Tables.{Keyed}
 
 pub inserted : (g : Keyed Guarantee) → bare g ≡ g → (values : Row) → values ≡ guarantee_cells g → (old new : State)
@@ -90,3 +101,24 @@ terms_turned H n terms values is old new h has typed =
     (number_or_null terms.reference ∷ number_or_null terms.cover ∷ number_or_null terms.ends ∷ []))
     (λ r row_is. terms_set r row_is H n terms)
     (λ r. back (with_new_terms terms (row_of guarantee_typing r))) done typed
+
+-- guarantees of one holder are compared by their serials
+pub compared : (H : ℕ) (a b : Row) → Passes guarantee_typing (is_of H) a → Passes guarantee_typing (is_of H) b
+    → row_order by_serial (number_value H ∷ []) a b
+    ≡ nat_cmp (place (row_of guarantee_typing a)) (place (row_of guarantee_typing b))
+compared H a b is other =
+    let x = row_of guarantee_typing a in
+    let y = row_of guarantee_typing b in
+    then_key
+    (numbers_compared (column a 1) (column b 1) x.holder y.holder (ap (λ l. column l 0) is.0)
+    (ap (λ l. column l 0) other.0) ∙ numbers_tie x.holder y.holder H is.1 other.1)
+    (last_key (numbers_compared (column a 2) (column b 2) (place x) (place y) (ap (λ l. column l 1) is.0)
+    (ap (λ l. column l 1) other.0)))
+
+-- so those that were fetched are they by their serials
+pub by_serials : (p : Keyed Guarantee → Bool) (old : State) (found : List StoredGuarantee) → AreGuarantees p old found
+    → AreInOrder guarantee_typing desk_schema (λ a b. nat_cmp (place a) (place b)) old (map row_of_stored found)
+    → AreBySerial p old found
+by_serials p old found those sorted has typed apart =
+    sorted_is_order place (map row_of_stored found) (filter p (rows_in guarantee_typing old.now.trees))
+    (those has typed) (sorted has typed) apart

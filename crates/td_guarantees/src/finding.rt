@@ -8,7 +8,7 @@ ghost use Rattle.sqlite_value.specs.declared.value.Value.TheVariants.{Text};
 ghost use Rattle.td_schema.specs.Tables.{desk_schema};
 ghost use Rattle.td_sql.specs.Reading.{LeavesAll};
 ghost use Rattle.td_sql.specs.Values.{number_value};
-ghost use Rattle.td_guarantees.specs.Stored.{AreGuarantees, IsTheGuarantee, has_grn, has_serial, is_of};
+ghost use Rattle.td_guarantees.specs.Stored.{AreBySerial, AreGuarantees, IsTheGuarantee, has_grn, has_serial, is_of};
 
 use crate::stored::StoredGuarantee;
 use crate::texts::{BY_GRN, BY_SERIAL, OF_HOLDER};
@@ -73,7 +73,7 @@ pub fn find_by_serial<S: Alter>(
     fetch_one(alloc, tx, BY_SERIAL, &serial_key(holder, serial))
 }
 
-/// All guarantees of a holder.
+/// All guarantees of a holder, by their serials.
 pub fn guarantees_of<S: Alter>(
     alloc: Global,
     tx: &mut Transaction<'_, S>,
@@ -83,6 +83,8 @@ pub fn guarantees_of<S: Alter>(
     ensures same_reference { tx.new.conn.ghost_name ≡ tx.old.conn.ghost_name }
     ensures found { HasCleanDisk (state S.Store tx.new.conn.now)
         → IfOk result (λ found. AreGuarantees (is_of holder) (state S.Store tx.old.conn.now) found.items) }
+    ensures order { HasCleanDisk (state S.Store tx.new.conn.now)
+        → IfOk result (λ found. AreBySerial (is_of holder) (state S.Store tx.old.conn.now) found.items) }
     ensures still { HasCleanDisk (state S.Store tx.new.conn.now)
         → OnOk result (LeavesAll desk_schema (state S.Store tx.old.conn.now) (state S.Store tx.new.conn.now)) }
     ensures inside { HasCleanDisk (state S.Store tx.new.conn.now) → OnOk result (IsTrue (state S.Store tx.new.conn.now).in_transaction) }
