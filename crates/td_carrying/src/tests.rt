@@ -184,7 +184,7 @@ fn tables_are_made_once(rt: HostRuntime) -> Result<(), Fail> {
     assert!(rt; conn.is_autocommit());
     assert!(rt; create_tables(&mut conn, other).is_err());
     let mut tx = conn.transaction();
-    let meta = find_meta(alloc, &mut tx)?.ok_or("the office's row")?;
+    let meta = find_meta(&mut tx)?.ok_or("the office's row")?;
     assert!(rt; meta.version == 1);
     assert!(rt; meta.country == Some(country));
     Ok(())
