@@ -11,7 +11,7 @@ use Rattle.td_sql.specs.Typed.{IsTypedRow, Typing, row_of}
 -- A pair passes where its first row has a mark and the second belongs to it.
 module _ {A B : Type 0} (ta : Typing A) (tb : Typing B) (test : Row → Row → Bool) (marked : A → Bool) (belongs : A → B → Bool)
     (passing : (a b : Row) → IsTypedRow ta a → IsTypedRow tb b
-        → test a b ≡ (marked (row_of ta a) && belongs (row_of ta a) (row_of tb b)))
+    → test a b ≡ (marked (row_of ta a) && belongs (row_of ta a) (row_of tb b)))
     (others : List Row) (typed : AllByRecursion (IsTypedRow tb) others) where
   -- those that belong to one row, if it has the mark
   of_one : (a : Row) → IsTypedRow ta a

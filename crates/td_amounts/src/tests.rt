@@ -41,7 +41,13 @@ fn with_rows(alloc: Global) -> Result<Connection<MemStore>, Error> {
 fn what_counts_on_a_guarantee_is_in_use(rt: HostRuntime) -> Result<(), Fail> {
     let alloc = rt.alloc();
     let mut conn = with_rows(alloc)?;
-    for (holder, guarantee, cents) in [(1, 1, 400), (1, 2, 20_000), (1, 3, 0), (2, 1, 70), (3, 1, 0)] {
+    for (holder, guarantee, cents) in [
+        (1, 1, 400),
+        (1, 2, 20_000),
+        (1, 3, 0),
+        (2, 1, 70),
+        (3, 1, 0),
+    ] {
         let holder = HolderNo::new(holder).expect(&rt, "a number");
         assert!(rt; conn.is_autocommit());
         let mut tx = conn.transaction();
