@@ -1,6 +1,9 @@
 //! Each statement once, on a table in memory.
-use crate::{delete, insert, is_null_at, number_at, select, text_at, update};
-use sqlite::{Connection, Error, ErrorCode, MemStore};
+use crate::{
+    FromRow, delete, fetch, fetch_one, insert, integer_at, is_null_at, number_at, select, text_at,
+    update,
+};
+use sqlite::{Connection, Error, ErrorCode, MemStore, Row};
 use sqlite_value::value::ValueRef;
 use std::alloc::Global;
 use std::test::Fail;
@@ -145,5 +148,81 @@ fn columns_are_read(rt: HostRuntime) -> Result<(), Fail> {
     assert!(rt; is_null_at(&rows[0], 1));
     assert!(rt; number_at(&rows[1], 1) == Some(4));
     assert!(rt; number_at(&rows[1], 0).is_none());
+    assert!(rt; integer_at(&rows[1], 1) == Some(4));
+    assert!(rt; integer_at(&rows[1], 0).is_none());
+    assert!(rt; integer_at(&rows[1], 2).is_none());
+    assert!(rt; is_null_at(&rows[1], 2));
+    assert!(rt; !is_null_at(&rows[1], 1));
+    Ok(())
+}
+
+#[test]
+fn a_negative_integer_is_no_number(rt: HostRuntime) -> Result<(), Fail> {
+    let mut conn = with_crew(rt.alloc())?;
+    assert!(rt; conn.is_autocommit());
+    let mut tx = conn.transaction();
+    let rows = select(&mut tx, "SELECT -4 FROM crew WHERE ship = 2", &[])?;
+    assert!(rt; rows.len() == 1);
+    assert!(rt; integer_at(&rows[0], 0) == Some(-4));
+    assert!(rt; number_at(&rows[0], 0).is_none());
+    Ok(())
+}
+
+/// The rank of one of the crew.
+#[derive(Drop)]
+struct Ranked {
+    rank: u64,
+}
+
+impl FromRow for Ranked {
+    ghost use Rattle.std.specs.Prelude.{ℕ};
+    ghost use Rattle.sqlite_value.specs.Order.{column};
+    ghost use Rattle.td_sql.specs.Values.{number_in};
+
+    ghost Typed = { ℕ };
+
+    ghost typed = { λ ranked. ranked.rank };
+
+    ghost from = { λ row. number_in (column row 1) };
+
+    fn from_row(_alloc: Global, row: &Row) -> Option<Self> {
+        Some(Ranked {
+            rank: number_at(row, 1)?,
+        })
+    }
+}
+
+#[test]
+fn rows_are_fetched_as_they_are_read(rt: HostRuntime) -> Result<(), Fail> {
+    let alloc = rt.alloc();
+    let mut conn = with_crew(alloc)?;
+    assert!(rt; conn.is_autocommit());
+    let mut tx = conn.transaction();
+    let all: Vec<Ranked> = fetch(alloc, &mut tx, OF_SHIP, &[ValueRef::Int(2)])?;
+    assert!(rt; all.len() == 1);
+    assert!(rt; all[0].rank == 1);
+    let unranked: Result<Vec<Ranked>, Error> = fetch(alloc, &mut tx, OF_SHIP, &[ValueRef::Int(1)]);
+    assert!(rt; unranked.err() == Some(Error::SqliteFailure(ErrorCode::DatabaseCorrupt)));
+    Ok(())
+}
+
+#[test]
+fn one_at_most_is_fetched(rt: HostRuntime) -> Result<(), Fail> {
+    let alloc = rt.alloc();
+    let mut conn = with_crew(alloc)?;
+    conn.execute("UPDATE crew SET rank = 2 WHERE rank IS NULL", &[])?;
+    assert!(rt; conn.is_autocommit());
+    let mut tx = conn.transaction();
+    let one: Option<Ranked> = fetch_one(alloc, &mut tx, OF_SHIP, &[ValueRef::Int(2)])?;
+    let none: Option<Ranked> = fetch_one(alloc, &mut tx, OF_SHIP, &[ValueRef::Int(3)])?;
+    assert!(rt; one.expect(&rt, "a rank").rank == 1);
+    assert!(rt; none.is_none());
+    let several: Result<Option<Ranked>, Error> = fetch_one(
+        alloc,
+        &mut tx,
+        OF_SHIP,
+        &[ValueRef::Int(1)],
+    );
+    assert!(rt; several.err() == Some(Error::SqliteFailure(ErrorCode::DatabaseCorrupt)));
     Ok(())
 }
