@@ -115,9 +115,10 @@ fn what_is_declared_and_moved_is_there(rt: HostRuntime) -> Result<(), Fail> {
     carry(&mut conn, country, &Change::Moved(row, released))?;
     assert!(rt; conn.is_autocommit());
     let mut tx = conn.transaction();
-    let found = find_by_mrn(alloc, &mut tx, row.holder, 1, &mrn)?.ok_or("the movement")?;
-    assert!(rt; found.movement.state == State::Released);
-    assert!(rt; found.movement.limit == limit);
+    let found = find_by_mrn(alloc, &mut tx, row.holder, 1, &mrn)?;
+    let movement = found.ok_or("the movement")?.movement;
+    assert!(rt; movement.state == State::Released);
+    assert!(rt; movement.limit == limit);
     let lines = lines_of(alloc, &mut tx, row.holder, 1)?;
     assert!(rt; lines.len() == 1);
     assert!(rt; lines[0].no == 1 && lines[0].guarantee == 1);
@@ -146,9 +147,10 @@ fn terms_and_codes_are_set(rt: HostRuntime) -> Result<(), Fail> {
     carry(&mut conn, country, &Change::CodeRemoved(row, grn, first))?;
     assert!(rt; conn.is_autocommit());
     let mut tx = conn.transaction();
-    let found = find_by_grn(alloc, &mut tx, row.holder, 1, &grn)?.ok_or("the guarantee")?;
-    assert!(rt; found.guarantee.ends == ends);
-    assert!(rt; found.guarantee.reference.get() == 1_000_000);
+    let found = find_by_grn(alloc, &mut tx, row.holder, 1, &grn)?;
+    let guarantee = found.ok_or("the guarantee")?.guarantee;
+    assert!(rt; guarantee.ends == ends);
+    assert!(rt; guarantee.reference.get() == 1_000_000);
     let codes = codes_of(alloc, &mut tx, row.holder, 1)?;
     assert!(rt; codes.len() == 1);
     assert!(rt; codes[0].code == second);
