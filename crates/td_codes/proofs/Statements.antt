@@ -1,33 +1,36 @@
 -- What the statements on the table of codes did.
+use Rattle.std.proofs.Common.{IsPermutation, List, map, nat_cmp, subst, ◌∙◌, [], ap, refl, ℕ, ◌∷◌, ◌≡◌}
+use Rattle.std.specs.Prelude.{◌==◌, not, pos, filter}
+use Rattle.std.specs.Cmp.Lexicographic.{slice_cmp}
+use Rattle.std.specs.List.Sorted.{IsSorted}
+use Rattle.std.specs.declared.cmp.Ordering.{Ordering}
+use Rattle.sqlite_trees.proofs.ListLemmas.{all-permutation}
+use Rattle.sqlite_typed.proofs.TestLemmas.{then_key, last_key, then_value, then_term, last_term}
+use Rattle.td_base.specs.Codes.{IsAccessCode}
+use Rattle.td_sql.proofs.Ordered.{Passes, both_pass, numbers_compared, numbers_tie, sorted_alike, texts_compared}
+use Rattle.td_sql.specs.Reading.{row_order}
+use Rattle.td_sql.specs.Typed.{AreInOrder, rows_in, IsTypedRow, row_of}
+use Rattle.td_tables.proofs.Counting.{filter_both}
+use Rattle.td_tables.proofs.Orders.{sorted_is_order}
+use Rattle.td_tables.proofs.Ranks.{ranks_apart, ranks_compare}
+use Rattle.td_tables.specs.Gathering.{code_rank, place}
+use Rattle.td_codes.proofs.Meanings.{by_code, code_tests, delete_means, insert_means, key_tests, new_row}
+use Rattle.td_codes.specs.Stored.{AreByCode, AreCodes, codes_in, row_of_stored, TurnsCodes, is_code_of_guarantee}
+use Rattle.td_codes.specs.declared.stored.StoredCode.{StoredCode}
 use Rattle.td_tables.specs.Changes.{is_code_of}
-use Rattle.td_codes.specs.declared.texts.TheConstants.{DELETE}
-use Rattle.td_codes.proofs.Meanings.{code_tests, delete_means}
-use Rattle.td_sql.proofs.TypedRows.{deleted_typed}
-use Rattle.td_sql.proofs.Columns.{text_is}
-use Rattle.td_sql.specs.Writing.{Deletes}
-use Rattle.std.specs.Prelude.{not}
+use Rattle.td_codes.specs.declared.texts.TheConstants.{DELETE, INSERT}
+use Rattle.td_sql.proofs.TypedRows.{deleted_typed, inserted_typed}
+use Rattle.td_sql.proofs.Columns.{text_is, number_is}
+use Rattle.td_sql.specs.Writing.{Deletes, Inserts, IsInserted, passes}
 use Rattle.sqlite.specs.State.{State}
-use Rattle.std.proofs.Common.{subst}
-use Rattle.std.specs.Prelude.{pos}
-use Rattle.sqlite_typed.proofs.TestLemmas.{then_value, then_term, last_term}
 use Rattle.td_sql.proofs.Effects.{cast_int}
-use Rattle.td_codes.proofs.Meanings.{insert_means, key_tests, new_row}
 use Rattle.sqlite_rules.specs.Cast.{cast_all}
 use Rattle.sqlite_sql.specs.Term.{eval_all}
 use Rattle.sqlite_value.specs.Order.{Row, column}
-use Rattle.std.proofs.Common.{List, [], ap, refl, ℕ, ◌∷◌, ◌≡◌}
-use Rattle.std.specs.Prelude.{filter}
 use Rattle.td_codes.specs.Cells.{code_cells, code_from, code_typing, stored_table}
-use Rattle.td_codes.specs.Stored.{TurnsCodes, is_code_of_guarantee}
-use Rattle.td_codes.specs.declared.texts.TheConstants.{INSERT}
 use Rattle.td_schema.specs.Tables.{desk_schema}
-use Rattle.td_sql.proofs.Columns.{number_is}
-use Rattle.td_sql.proofs.TypedRows.{inserted_typed}
-use Rattle.td_sql.specs.Typed.{IsTypedRow, row_of}
 use Rattle.td_sql.specs.Values.{number_value}
-use Rattle.td_sql.specs.Writing.{Inserts, IsInserted, passes}
 use Rattle.td_tables.specs.Tables.{Keyed}
-use Rattle.td_codes.specs.declared.texts.TheConstants.{INSERT}
 
 back : (l : Keyed (List ℕ)) → code_from (code_cells l) ≡ l
 back l = refl
@@ -69,3 +72,42 @@ pub key_passes : (H n : ℕ) (r : Row) → IsTypedRow code_typing r
 key_passes H n r is =
     then_term (number_is (column r 1) (row_of code_typing r).holder H (ap (λ l. column l 0) is))
     (last_term (number_is (column r 2) (row_of code_typing r).serial n (ap (λ l. column l 1) is)))
+
+-- the codes of one guarantee are compared as texts
+abbrev pub code_cmp : Keyed (List ℕ) → Keyed (List ℕ) → Ordering
+code_cmp a b = slice_cmp nat_cmp a.row b.row
+
+pub compared : (H n : ℕ) (a b : Row) → Passes code_typing (is_code_of_guarantee H n) a
+    → Passes code_typing (is_code_of_guarantee H n) b
+    → row_order by_code (number_value H ∷ number_value n ∷ []) a b
+    ≡ code_cmp (row_of code_typing a) (row_of code_typing b)
+compared H n a b is other =
+    let x = row_of code_typing a in
+    let y = row_of code_typing b in
+    let here = both_pass (x.holder == H) (x.serial == n) is.1 in
+    let there = both_pass (y.holder == H) (y.serial == n) other.1 in
+    then_key
+    (numbers_compared (column a 1) (column b 1) x.holder y.holder (ap (λ l. column l 0) is.0)
+    (ap (λ l. column l 0) other.0) ∙ numbers_tie x.holder y.holder H here.0 there.0)
+    (then_key
+    (numbers_compared (column a 2) (column b 2) x.serial y.serial (ap (λ l. column l 1) is.0)
+    (ap (λ l. column l 1) other.0) ∙ numbers_tie x.serial y.serial n here.1 there.1)
+    (last_key (texts_compared (column a 3) (column b 3) x.row y.row (ap (λ l. column l 2) is.0)
+    (ap (λ l. column l 2) other.0))))
+
+-- so those that were fetched are they in ascending order
+pub by_codes : (H n : ℕ) (old : State) (found : List StoredCode) → AreCodes (is_code_of_guarantee H n) old found
+    → AreInOrder code_typing desk_schema code_cmp old (map row_of_stored found)
+    → AreByCode H n old found
+by_codes H n old found those sorted has typed form apart =
+    let rows : List (Keyed (List ℕ)) = map row_of_stored found in
+    let same : IsPermutation (codes_in H n old.now.trees) rows =
+    subst (λ l. IsPermutation l rows)
+    (filter_both (λ c. place c == n) (λ c. c.holder == H) (rows_in code_typing old.now.trees)) (those has typed) in
+    let ranked : IsSorted (λ a b. nat_cmp (code_rank a) (code_rank b)) rows =
+    sorted_alike (λ (c : Keyed (List ℕ)). IsAccessCode c.row) code_cmp (λ a b. nat_cmp (code_rank a) (code_rank b))
+    (λ a b is other. ranks_compare a.row b.row is other) rows
+    (all-permutation (λ (c : Keyed (List ℕ)). IsAccessCode c.row) (codes_in H n old.now.trees) rows same form)
+    (sorted has typed) in
+    sorted_is_order code_rank rows (codes_in H n old.now.trees) same ranked
+    (ranks_apart (codes_in H n old.now.trees) form apart)

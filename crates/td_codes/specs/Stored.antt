@@ -1,9 +1,15 @@
 -- What is asked of the codes in a store's file, and what is written into them.
-use Rattle.std.specs.Prelude.{ℕ, ◌==◌, Bool, ◌&&◌, List, map}
+use Rattle.std.specs.Prelude.{◌≡◌, ℕ, ◌==◌, Bool, ◌&&◌, List, map}
 use Rattle.sqlite.specs.State.{State}
+use Rattle.std.specs.List.{AllByRecursion}
+use Rattle.sqlite_trees.specs.Tree.{Trees}
+use Rattle.td_base.specs.Codes.{IsAccessCode}
+use Rattle.td_tables.specs.Apart.{IsTextApart}
+use Rattle.td_tables.specs.Gathering.{code_rank, in_order, of_key, part, place}
 use Rattle.td_tables.specs.Tables.{Keyed}
 use Rattle.td_schema.specs.Tables.{desk_schema}
-use Rattle.td_sql.specs.Typed.{AreThose, Turns}
+use Rattle.td_sql.specs.Typed.{AreThose, AreTyped, Turns, rows_in}
+use Rattle.td_sql.specs.Writing.{HasSchema}
 use Rattle.td_codes.specs.Cells.{code_typing}
 use Rattle.td_codes.specs.declared.stored.StoredCode.{StoredCode}
 
@@ -22,3 +28,15 @@ TurnsCodes f = Turns code_typing desk_schema f
 -- these are the codes that pass the test
 abbrev pub AreCodes : (Keyed (List ℕ) → Bool) → State → List StoredCode → Type 0
 AreCodes p state found = AreThose code_typing desk_schema p state (map row_of_stored found)
+
+-- the codes of a holder's guarantee in a store's file, in no order
+abbrev pub codes_in : ℕ → ℕ → Trees → List (Keyed (List ℕ))
+codes_in H n trees = of_key place n (part H (rows_in code_typing trees))
+
+-- where all of them are access codes, and no two one text, these are they in ascending order
+abbrev pub AreByCode : ℕ → ℕ → State → List StoredCode → Type 0
+AreByCode H n state found =
+    HasSchema state desk_schema → AreTyped code_typing state.now.trees
+    → AllByRecursion (λ (c : Keyed (List ℕ)). IsAccessCode c.row) (codes_in H n state.now.trees)
+    → IsTextApart (λ (c : Keyed (List ℕ)). c.row) (codes_in H n state.now.trees)
+    → map row_of_stored found ≡ in_order code_rank (codes_in H n state.now.trees)

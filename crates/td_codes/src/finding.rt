@@ -5,7 +5,7 @@ ghost use Rattle.sqlite.specs.Held.{state};
 ghost use Rattle.sqlite.specs.State.{HasCleanDisk, KeepsCommit, Survives};
 ghost use Rattle.td_schema.specs.Tables.{desk_schema};
 ghost use Rattle.td_sql.specs.Reading.{LeavesAll};
-ghost use Rattle.td_codes.specs.Stored.{AreCodes, is_code_of_guarantee};
+ghost use Rattle.td_codes.specs.Stored.{AreByCode, AreCodes, is_code_of_guarantee};
 
 use crate::stored::StoredCode;
 use crate::texts::OF_GUARANTEE;
@@ -15,7 +15,7 @@ use std::alloc::Global;
 use td_base::HolderNo;
 use td_columns::serial_key;
 
-/// The codes of the guarantee of a holder with a serial.
+/// The codes of the guarantee of a holder with a serial, in ascending order.
 pub fn codes_of<S: Alter>(
     alloc: Global,
     tx: &mut Transaction<'_, S>,
@@ -26,6 +26,8 @@ pub fn codes_of<S: Alter>(
     ensures same_reference { tx.new.conn.ghost_name ≡ tx.old.conn.ghost_name }
     ensures found { HasCleanDisk (state S.Store tx.new.conn.now)
         → IfOk result (λ found. AreCodes (is_code_of_guarantee holder serial) (state S.Store tx.old.conn.now) found.items) }
+    ensures order { HasCleanDisk (state S.Store tx.new.conn.now)
+        → IfOk result (λ found. AreByCode holder serial (state S.Store tx.old.conn.now) found.items) }
     ensures still { HasCleanDisk (state S.Store tx.new.conn.now)
         → OnOk result (LeavesAll desk_schema (state S.Store tx.old.conn.now) (state S.Store tx.new.conn.now)) }
     ensures inside { HasCleanDisk (state S.Store tx.new.conn.now) → OnOk result (IsTrue (state S.Store tx.new.conn.now).in_transaction) }

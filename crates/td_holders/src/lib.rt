@@ -4,6 +4,8 @@
 
 mod finding;
 mod stored;
+#[cfg(test)]
+mod tests;
 mod texts;
 mod writing;
 

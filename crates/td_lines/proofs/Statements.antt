@@ -1,25 +1,29 @@
 -- What the statements on the table of lines did.
 use Rattle.sqlite.specs.State.{State}
-use Rattle.std.proofs.Common.{subst}
-use Rattle.std.specs.Prelude.{pos}
-use Rattle.sqlite_typed.proofs.TestLemmas.{then_value, then_term, last_term}
+use Rattle.std.proofs.Common.{subst, IsPermutation, List, [], ap, map, nat_cmp, refl, ℕ, ◌∙◌, ◌∷◌, ◌≡◌}
+use Rattle.std.specs.Prelude.{pos, ◌==◌}
+use Rattle.sqlite_typed.proofs.TestLemmas.{last_key, last_term, then_key, then_term, then_value}
 use Rattle.td_sql.proofs.Effects.{cast_int}
-use Rattle.td_lines.proofs.Meanings.{insert_means, key_tests, new_row}
+use Rattle.td_lines.proofs.Meanings.{by_number, insert_means, key_tests, new_row}
 use Rattle.sqlite_rules.specs.Cast.{cast_all}
 use Rattle.sqlite_sql.specs.Term.{eval_all}
 use Rattle.sqlite_value.specs.Order.{Row, column}
-use Rattle.std.proofs.Common.{[], ap, refl, ℕ, ◌∷◌, ◌≡◌}
+use Rattle.td_sql.specs.Reading.{row_order}
+use Rattle.td_lines.specs.declared.stored.StoredLine.{StoredLine}
 use Rattle.td_lines.specs.Cells.{line_cells, line_from, line_typing, lines_table}
-use Rattle.td_lines.specs.Stored.{TurnsLines, is_line_of}
+use Rattle.td_lines.specs.Stored.{AreByNumber, AreLines, TurnsLines, is_line_of, lines_in, row_of_stored}
 use Rattle.td_lines.specs.declared.texts.TheConstants.{INSERT}
 use Rattle.td_schema.specs.Tables.{desk_schema}
 use Rattle.td_sql.proofs.Columns.{number_is}
+use Rattle.td_sql.proofs.Ordered.{Passes, both_pass, numbers_compared, numbers_tie}
+use Rattle.td_tables.proofs.Counting.{filter_both}
+use Rattle.td_tables.proofs.Orders.{sorted_is_order}
+use Rattle.td_tables.specs.Gathering.{no_of, place}
 use Rattle.td_sql.proofs.TypedRows.{inserted_typed}
-use Rattle.td_sql.specs.Typed.{IsTypedRow, row_of}
+use Rattle.td_sql.specs.Typed.{AreInOrder, IsTypedRow, row_of, rows_in}
 use Rattle.td_sql.specs.Values.{number_value}
 use Rattle.td_sql.specs.Writing.{Inserts, IsInserted, passes}
 use Rattle.td_tables.specs.Tables.{Keyed, LineCells}
-use Rattle.td_lines.specs.declared.texts.TheConstants.{INSERT}
 
 back : (l : Keyed LineCells) → line_from (line_cells l) ≡ l
 back l = refl
@@ -47,3 +51,31 @@ pub key_passes : (H n : ℕ) (r : Row) → IsTypedRow line_typing r
 key_passes H n r is =
     then_term (number_is (column r 1) (row_of line_typing r).holder H (ap (λ l. column l 0) is))
     (last_term (number_is (column r 2) (row_of line_typing r).serial n (ap (λ l. column l 1) is)))
+
+-- the lines of one movement are compared by their numbers
+pub compared : (H n : ℕ) (a b : Row) → Passes line_typing (is_line_of H n) a → Passes line_typing (is_line_of H n) b
+    → row_order by_number (number_value H ∷ number_value n ∷ []) a b
+    ≡ nat_cmp (no_of (row_of line_typing a)) (no_of (row_of line_typing b))
+compared H n a b is other =
+    let x = row_of line_typing a in
+    let y = row_of line_typing b in
+    let here = both_pass (x.holder == H) (x.serial == n) is.1 in
+    let there = both_pass (y.holder == H) (y.serial == n) other.1 in
+    then_key
+    (numbers_compared (column a 1) (column b 1) x.holder y.holder (ap (λ l. column l 0) is.0)
+    (ap (λ l. column l 0) other.0) ∙ numbers_tie x.holder y.holder H here.0 there.0)
+    (then_key
+    (numbers_compared (column a 2) (column b 2) x.serial y.serial (ap (λ l. column l 1) is.0)
+    (ap (λ l. column l 1) other.0) ∙ numbers_tie x.serial y.serial n here.1 there.1)
+    (last_key (numbers_compared (column a 3) (column b 3) (no_of x) (no_of y) (ap (λ l. column l 2) is.0)
+    (ap (λ l. column l 2) other.0))))
+
+-- so those that were fetched are they by their numbers
+pub by_numbers : (H n : ℕ) (old : State) (found : List StoredLine) → AreLines (is_line_of H n) old found
+    → AreInOrder line_typing desk_schema (λ a b. nat_cmp (no_of a) (no_of b)) old (map row_of_stored found)
+    → AreByNumber H n old found
+by_numbers H n old found those sorted has typed apart =
+    sorted_is_order no_of (map row_of_stored found) (lines_in H n old.now.trees)
+    (subst (λ l. IsPermutation l (map row_of_stored found))
+    (filter_both (λ l. place l == n) (λ l. l.holder == H) (rows_in line_typing old.now.trees)) (those has typed))
+    (sorted has typed) apart

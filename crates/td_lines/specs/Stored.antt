@@ -1,9 +1,13 @@
 -- What is asked of the lines in a store's file, and what is written into them.
-use Rattle.std.specs.Prelude.{ℕ, ◌==◌, Bool, ◌&&◌, List, map}
+use Rattle.std.specs.Prelude.{◌≡◌, ℕ, ◌==◌, Bool, ◌&&◌, List, map}
 use Rattle.sqlite.specs.State.{State}
+use Rattle.sqlite_trees.specs.Tree.{Trees}
+use Rattle.td_tables.specs.Apart.{IsApart}
+use Rattle.td_tables.specs.Gathering.{in_order, no_of, of_key, part, place}
 use Rattle.td_tables.specs.Tables.{Keyed, LineCells}
 use Rattle.td_schema.specs.Tables.{desk_schema}
-use Rattle.td_sql.specs.Typed.{AreThose, Turns}
+use Rattle.td_sql.specs.Typed.{AreThose, AreTyped, Turns, rows_in}
+use Rattle.td_sql.specs.Writing.{HasSchema}
 use Rattle.td_lines.specs.Cells.{line_typing}
 use Rattle.td_lines.specs.declared.stored.StoredLine.{StoredLine}
 
@@ -26,3 +30,13 @@ TurnsLines f = Turns line_typing desk_schema f
 -- these are the lines that pass the test
 abbrev pub AreLines : (Keyed LineCells → Bool) → State → List StoredLine → Type 0
 AreLines p state found = AreThose line_typing desk_schema p state (map row_of_stored found)
+
+-- the lines of a holder's movement in a store's file, in no order
+abbrev pub lines_in : ℕ → ℕ → Trees → List (Keyed LineCells)
+lines_in H n trees = of_key place n (part H (rows_in line_typing trees))
+
+-- where no two of them have one number, these are they by their numbers
+abbrev pub AreByNumber : ℕ → ℕ → State → List StoredLine → Type 0
+AreByNumber H n state found =
+    HasSchema state desk_schema → AreTyped line_typing state.now.trees → IsApart no_of (lines_in H n state.now.trees)
+    → map row_of_stored found ≡ in_order no_of (lines_in H n state.now.trees)

@@ -12,34 +12,7 @@ use Rattle.td_sql.proofs.Columns.{cast_number_if, cast_text_if}
 use Rattle.td_sql.proofs.Effects.{cast_int}
 use Rattle.td_sql.specs.Values.{number_if, number_or_null, text_if, text_or_null}
 use Rattle.td_tables.specs.Tables.{Keyed}
-use Rattle.sqlite_rules.specs.Cast.{cast_all}
-use Rattle.std.proofs.Common.{List, None, Option, Some, [], refl, ℕ, ◌≡◌}
-use Rattle.std.specs.Prelude.{pos}
-use Rattle.td_movement.specs.States.{state_name}
-use Rattle.td_movement.specs.declared.movement.Movement.{Movement}
-use Rattle.td_movement.specs.declared.state.State.{State}
-use Rattle.td_movement.specs.declared.state.State.TheVariants.{Accepted, Arrived, Cancelled, Cleared, Discrepant, Enquired, Released, WrittenOff}
-use Rattle.td_movements.specs.Cells.{movement_cells, movement_from, movements_table, state_in}
-use Rattle.td_sql.proofs.Columns.{cast_number_if, cast_text_if}
-use Rattle.td_sql.proofs.Effects.{cast_int}
-use Rattle.td_sql.specs.Values.{number_if, number_or_null, text_if, text_or_null}
-use Rattle.td_tables.specs.Tables.{Keyed}
-use Rattle.sqlite_rules.specs.Cast.{cast_all}
-use Rattle.std.proofs.Common.{List, None, Option, Some, [], refl, ℕ, ◌≡◌}
-use Rattle.std.specs.Prelude.{pos}
-use Rattle.td_movement.specs.States.{state_name}
-use Rattle.td_movement.specs.declared.movement.Movement.{Movement}
-use Rattle.td_movement.specs.declared.state.State.{State}
-use Rattle.td_movement.specs.declared.state.State.TheVariants.{Accepted, Arrived, Cancelled, Cleared, Discrepant, Enquired, Released, WrittenOff}
-use Rattle.td_movements.specs.Cells.{movement_cells, movement_from, movements_table, state_in}
-use Rattle.td_sql.proofs.Columns.{cast_number_if, cast_text_if}
-use Rattle.td_sql.proofs.Effects.{cast_int}
-use Rattle.td_sql.specs.Values.{number_if, number_or_null, text_if, text_or_null}
-use Rattle.td_tables.specs.Tables.{Keyed}
 use Rattle.sqlite_typed.proofs.TestLemmas.{then_value}
-use Rattle.td_sql.proofs.Columns.{cast_number_if, cast_text_if}
-use Rattle.td_sql.proofs.Effects.{cast_int}
-use Rattle.td_movement.specs.declared.state.State.TheVariants.{Accepted, Cancelled, Released, Enquired, Arrived, Discrepant, Cleared, WrittenOff}
 
 -- the movement without its lines
 abbrev pub bare : Keyed Movement → Keyed Movement

@@ -1,61 +1,38 @@
 -- What the statements on the table of movements did.
+use Rattle.std.proofs.Common.{IsPermutation, Bool, nat_cmp, true, List, [], ap, false, map, refl, subst, ℕ, ◌∙◌, ◌∷◌, ◌≡◌}
+use Rattle.std.specs.Prelude.{filter, codes, if◌then◌else◌, ◌==◌}
+use Rattle.sqlite_typed.proofs.TestLemmas.{then_key, last_key, at_or, last_term, then_term, truth_or, then_value}
+use Rattle.td_sql.proofs.Ordered.{Passes, numbers_compared, numbers_tie}
+use Rattle.td_sql.specs.Reading.{row_order}
+use Rattle.td_sql.specs.Typed.{AreInOrder, rows_in, IsTypedRow, row_of}
+use Rattle.td_tables.proofs.Orders.{sorted_is_order}
+use Rattle.td_tables.specs.Gathering.{place}
+use Rattle.td_movements.proofs.Meanings.{by_serial, counting_tests, holder_tests, insert_means, key_tests, lrn_tests, new_row, set_columns, set_means}
+use Rattle.td_movements.specs.Stored.{AreBySerial, AreMovements, row_of_stored, TurnsMovements, counts_for, has_lrn, has_mrn, is_of, status_values, with_new_status}
+use Rattle.td_movements.specs.declared.stored.StoredMovement.{StoredMovement}
 use Rattle.sqlite.specs.State.{State}
-use Rattle.td_movements.proofs.CellLemmas.{counting_names}
+use Rattle.td_movements.proofs.CellLemmas.{counting_names, back, bare, cells_stored}
 use Rattle.sqlite_rules.specs.Cast.{cast_all}
 use Rattle.sqlite_sql.specs.Ops.{binary}
 use Rattle.sqlite_sql.specs.Term.{eval_all}
 use Rattle.sqlite_sql.specs.declared.ops.BinaryOp.TheVariants.{Coalesce, Compare}
 use Rattle.sqlite_sql.specs.declared.ops.CompareOp.TheVariants.{Eq}
 use Rattle.sqlite_trees.specs.Tree.{rowid}
-use Rattle.sqlite_typed.proofs.TestLemmas.{at_or, last_term, then_term, truth_or}
 use Rattle.sqlite_value.specs.Order.{Row, column}
 use Rattle.sqlite_value.specs.declared.keys.Collation.TheVariants.{Binary}
 use Rattle.sqlite_value.specs.declared.value.Value.TheVariants.{Text}
-use Rattle.std.proofs.Common.{List, [], ap, false, map, refl, subst, ℕ, ◌∙◌, ◌∷◌, ◌≡◌}
-use Rattle.std.specs.Prelude.{codes, if◌then◌else◌, ◌==◌}
-use Rattle.std.specs.Str.{bytes_eq}
-use Rattle.td_acts.specs.declared.rows.NewStatus.{NewStatus}
-use Rattle.td_movement.specs.States.{state_name}
-use Rattle.td_movement.specs.declared.movement.Movement.{Movement}
-use Rattle.td_movements.proofs.CellLemmas.{back, bare, cells_stored}
-use Rattle.td_movements.proofs.Meanings.{counting_tests, holder_tests, insert_means, key_tests, lrn_tests, new_row, set_columns, set_means}
-use Rattle.td_movements.specs.Cells.{movement_cells, movement_columns, movement_typing, movements_table}
-use Rattle.td_movements.specs.Stored.{TurnsMovements, counts_for, has_lrn, has_mrn, is_of, status_values, with_new_status}
-use Rattle.td_movements.specs.declared.texts.TheConstants.{INSERT, SET_STATUS}
-use Rattle.td_schema.specs.Tables.{desk_schema}
-use Rattle.td_sql.proofs.Columns.{given_or, number_is, text_is}
-use Rattle.td_sql.proofs.TypedRows.{inserted_typed, updated_typed}
-use Rattle.td_sql.specs.Typed.{IsTypedRow, row_of}
-use Rattle.td_sql.specs.Values.{number_or_null, number_value, text_or_null}
-use Rattle.td_sql.specs.Writing.{Inserts, IsInserted, Updates, columns_set, passes}
-use Rattle.td_tables.specs.Tables.{Keyed}
-use Rattle.sqlite_rules.specs.Cast.{cast_all}
-use Rattle.sqlite_sql.specs.Ops.{binary}
-use Rattle.sqlite_sql.specs.Term.{eval_all}
-use Rattle.sqlite_sql.specs.declared.ops.CompareOp.TheVariants.{Eq}
-use Rattle.sqlite_trees.specs.Tree.{rowid}
-use Rattle.sqlite_value.specs.Order.{Row, column}
-use Rattle.sqlite_value.specs.declared.keys.Collation.TheVariants.{Binary}
-use Rattle.sqlite_value.specs.declared.value.Value.TheVariants.{Text}
-use Rattle.std.proofs.Common.{List, [], ap, false, map, refl, ℕ, ◌∙◌, ◌∷◌, ◌≡◌}
-use Rattle.std.specs.Prelude.{codes, if◌then◌else◌, ◌==◌}
 use Rattle.std.specs.Str.{bytes_eq}
 use Rattle.td_acts.specs.declared.rows.NewStatus.{NewStatus}
 use Rattle.td_movement.specs.States.{state_name}
 use Rattle.td_movement.specs.declared.movement.Movement.{Movement}
 use Rattle.td_movements.specs.Cells.{movement_cells, movement_columns, movement_typing, movements_table}
+use Rattle.td_movements.specs.declared.texts.TheConstants.{INSERT, SET_STATUS}
 use Rattle.td_schema.specs.Tables.{desk_schema}
 use Rattle.td_sql.proofs.Columns.{given_or, number_is, text_is}
 use Rattle.td_sql.proofs.TypedRows.{inserted_typed, updated_typed}
-use Rattle.td_sql.specs.Typed.{IsTypedRow, row_of}
 use Rattle.td_sql.specs.Values.{number_or_null, number_value, text_or_null}
 use Rattle.td_sql.specs.Writing.{Inserts, IsInserted, Updates, columns_set, passes}
 use Rattle.td_tables.specs.Tables.{Keyed}
-use Rattle.td_movements.specs.declared.texts.TheConstants.{INSERT, SET_STATUS}
-use Rattle.td_movements.proofs.Meanings.{new_row, set_columns, key_tests, lrn_tests, holder_tests, counting_tests, insert_means, set_means}
-use Rattle.td_movements.proofs.CellLemmas.{bare, back, cells_stored}
-use Rattle.sqlite_sql.specs.declared.ops.BinaryOp.TheVariants.{Compare, Coalesce}
-use Rattle.sqlite_typed.proofs.TestLemmas.{then_value, then_term, last_term, at_or, truth_or}
 
 pub inserted : (m : Keyed Movement) → bare m ≡ m → (values : Row) → values ≡ movement_cells m → (old new : State)
     → Inserts INSERT.now values old new → TurnsMovements (λ rows. m ∷ rows) old new
@@ -133,3 +110,26 @@ status_turned H n status values is old new h has typed =
     (Text (state_name status.state) ∷ number_or_null status.limit ∷ number_or_null status.arrival
     ∷ text_or_null status.actual ∷ [])) (λ r row_is. status_set r row_is H n status)
     (λ r. back (with_new_status status (row_of movement_typing r))) done typed
+
+-- movements of one holder are compared by their serials
+module _ (H : ℕ) (p : Keyed Movement → Bool)
+    (own : (m : Keyed Movement) → p m ≡ true → (m.holder == H) ≡ true) where
+  pub compared : (a b : Row) → Passes movement_typing p a → Passes movement_typing p b
+      → row_order by_serial (number_value H ∷ []) a b
+      ≡ nat_cmp (place (row_of movement_typing a)) (place (row_of movement_typing b))
+  compared a b is other =
+      let x = row_of movement_typing a in
+      let y = row_of movement_typing b in
+      then_key
+      (numbers_compared (column a 1) (column b 1) x.holder y.holder (ap (λ l. column l 0) is.0)
+      (ap (λ l. column l 0) other.0) ∙ numbers_tie x.holder y.holder H (own x is.1) (own y other.1))
+      (last_key (numbers_compared (column a 2) (column b 2) (place x) (place y) (ap (λ l. column l 1) is.0)
+      (ap (λ l. column l 1) other.0)))
+
+-- so those that were fetched are they by their serials
+pub by_serials : (p : Keyed Movement → Bool) (old : State) (found : List StoredMovement) → AreMovements p old found
+    → AreInOrder movement_typing desk_schema (λ a b. nat_cmp (place a) (place b)) old (map row_of_stored found)
+    → AreBySerial p old found
+by_serials p old found those sorted has typed apart =
+    sorted_is_order place (map row_of_stored found) (filter p (rows_in movement_typing old.now.trees))
+    (those has typed) (sorted has typed) apart

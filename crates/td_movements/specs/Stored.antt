@@ -1,5 +1,5 @@
 -- What is asked of the movements in a store's file, and what is said anew of one.
-use Rattle.std.specs.Prelude.{[], ◌∷◌, ℕ, ◌==◌, Bool, ◌&&◌, List, map, Option}
+use Rattle.std.specs.Prelude.{◌≡◌, [], ◌∷◌, ℕ, ◌==◌, Bool, ◌&&◌, List, filter, map, Option}
 use Rattle.std.specs.Option.{option_to_list}
 use Rattle.std.specs.Str.{bytes_eq}
 use Rattle.td_movement.specs.States.{is_counting, state_name}
@@ -8,7 +8,10 @@ use Rattle.td_acts.specs.Changes.{with_status}
 use Rattle.td_acts.specs.declared.rows.NewStatus.{NewStatus}
 use Rattle.td_tables.specs.Tables.{Keyed}
 use Rattle.td_schema.specs.Tables.{desk_schema}
-use Rattle.td_sql.specs.Typed.{AreThose, Turns}
+use Rattle.td_sql.specs.Typed.{AreThose, AreTyped, Turns, rows_in}
+use Rattle.td_sql.specs.Writing.{HasSchema}
+use Rattle.td_tables.specs.Apart.{IsApart}
+use Rattle.td_tables.specs.Gathering.{in_order, place}
 use Rattle.td_sql.specs.Values.{number_value, number_or_null, text_or_null}
 use Rattle.sqlite_value.specs.declared.value.Value.TheVariants.{Text}
 use Rattle.sqlite_value.specs.Order.{Row}
@@ -45,6 +48,13 @@ TurnsMovements f = Turns movement_typing desk_schema f
 -- these are the movements that pass the test
 abbrev pub AreMovements : (Keyed Movement → Bool) → State → List StoredMovement → Type 0
 AreMovements p state found = AreThose movement_typing desk_schema p state (map row_of_stored found)
+
+-- where no two of them have one serial, these are they by their serials
+abbrev pub AreBySerial : (Keyed Movement → Bool) → State → List StoredMovement → Type 0
+AreBySerial p state found =
+    HasSchema state desk_schema → AreTyped movement_typing state.now.trees
+    → IsApart place (filter p (rows_in movement_typing state.now.trees))
+    → map row_of_stored found ≡ in_order place (filter p (rows_in movement_typing state.now.trees))
 
 -- this is the movement that passes the test, or there is none
 abbrev pub IsTheMovement : (Keyed Movement → Bool) → State → Option StoredMovement → Type 0

@@ -8,7 +8,7 @@ ghost use Rattle.sqlite_value.specs.declared.value.Value.TheVariants.{Text};
 ghost use Rattle.td_sql.specs.Values.{number_value};
 ghost use Rattle.td_schema.specs.Tables.{desk_schema};
 ghost use Rattle.td_sql.specs.Reading.{LeavesAll};
-ghost use Rattle.td_movements.specs.Stored.{AreMovements, IsTheMovement, has_lrn, has_mrn, is_of, counts_for};
+ghost use Rattle.td_movements.specs.Stored.{AreBySerial, AreMovements, IsTheMovement, has_lrn, has_mrn, is_of, counts_for};
 
 use crate::stored::StoredMovement;
 use crate::texts::{BY_LRN, BY_MRN, COUNTING, OF_HOLDER};
@@ -78,7 +78,7 @@ pub fn find_by_lrn<S: Alter>(
     td_sql::fetch_one(alloc, tx, BY_LRN, &lrn_values(holder, lrn))
 }
 
-/// All movements of a holder.
+/// All movements of a holder, by their serials.
 pub fn movements_of<S: Alter>(
     alloc: Global,
     tx: &mut Transaction<'_, S>,
@@ -88,6 +88,8 @@ pub fn movements_of<S: Alter>(
     ensures same_reference { tx.new.conn.ghost_name ≡ tx.old.conn.ghost_name }
     ensures found { HasCleanDisk (state S.Store tx.new.conn.now)
         → IfOk result (λ found. AreMovements (is_of holder) (state S.Store tx.old.conn.now) found.items) }
+    ensures order { HasCleanDisk (state S.Store tx.new.conn.now)
+        → IfOk result (λ found. AreBySerial (is_of holder) (state S.Store tx.old.conn.now) found.items) }
     ensures still { HasCleanDisk (state S.Store tx.new.conn.now)
         → OnOk result (LeavesAll desk_schema (state S.Store tx.old.conn.now) (state S.Store tx.new.conn.now)) }
     ensures inside { HasCleanDisk (state S.Store tx.new.conn.now) → OnOk result (IsTrue (state S.Store tx.new.conn.now).in_transaction) }
@@ -98,7 +100,7 @@ pub fn movements_of<S: Alter>(
     td_sql::fetch(alloc, tx, OF_HOLDER, &holder_key(holder))
 }
 
-/// The movements of a holder that count against their guarantees.
+/// The movements of a holder that count against their guarantees, by their serials.
 pub fn counting_movements<S: Alter>(
     alloc: Global,
     tx: &mut Transaction<'_, S>,
@@ -108,6 +110,8 @@ pub fn counting_movements<S: Alter>(
     ensures same_reference { tx.new.conn.ghost_name ≡ tx.old.conn.ghost_name }
     ensures found { HasCleanDisk (state S.Store tx.new.conn.now)
         → IfOk result (λ found. AreMovements (counts_for holder) (state S.Store tx.old.conn.now) found.items) }
+    ensures order { HasCleanDisk (state S.Store tx.new.conn.now)
+        → IfOk result (λ found. AreBySerial (counts_for holder) (state S.Store tx.old.conn.now) found.items) }
     ensures still { HasCleanDisk (state S.Store tx.new.conn.now)
         → OnOk result (LeavesAll desk_schema (state S.Store tx.old.conn.now) (state S.Store tx.new.conn.now)) }
     ensures inside { HasCleanDisk (state S.Store tx.new.conn.now) → OnOk result (IsTrue (state S.Store tx.new.conn.now).in_transaction) }

@@ -1,18 +1,16 @@
 -- What a SELECT answered, and that it only read.
 use Rattle.sqlite.specs.declared.error.Error.{Error}
-use Rattle.sqlite.specs.State.{FailsToShow}
-use Rattle.std.proofs.Common.{ap, cond}
+use Rattle.sqlite.specs.State.{FailsToShow, FailsToQuery, IsNotRun, IsRolledBack, IsTooLate, IsUnchanged, KeepsCommit, Shown, ShowsRows, State}
+use Rattle.std.proofs.Common.{ap, cond, List, None, Ok, Option, Result, Some, inl, inr, subst, sym, ℕ, ◌∙◌, ◌≡◌}
 use Rattle.sqlite_schema.specs.declared.command.Returning.{Returning}
 use Rattle.sqlite_value.specs.declared.value.Value.TheVariants.{Null}
 use Rattle.sqlite.proofs.Callers.{reads_as}
 use Rattle.sqlite.specs.Clock.{timed}
 use Rattle.sqlite.specs.Given.{IsPlain}
 use Rattle.sqlite.specs.Listing.{understood}
-use Rattle.sqlite.specs.State.{FailsToQuery, FailsToShow, IsNotRun, IsRolledBack, IsTooLate, IsUnchanged, KeepsCommit, Shown, ShowsRows, State}
 use Rattle.sqlite_resolve.specs.declared.compiled.Compiled.{Compiled}
 use Rattle.sqlite_resolve.specs.declared.error.CompileError.{CompileError}
 use Rattle.sqlite_value.specs.Order.{Row}
-use Rattle.std.proofs.Common.{List, None, Ok, Option, Result, Some, ap, inl, inr, subst, sym, ℕ, ◌∙◌, ◌≡◌}
 use Rattle.std.specs.Prelude.{IsTrue}
 use Rattle.td_sql.proofs.Queries.{plain_answer}
 use Rattle.td_sql.proofs.Steps.{command_is}

@@ -2,8 +2,8 @@
 use Rattle.sqlite.specs.Values.{or_null}
 use Rattle.std.proofs.lemmas.Int.{ints}
 use Rattle.std.proofs.lemmas.Bool.Decides.{nat_tests}
-use Rattle.std.proofs.Common.{arith}
-use Rattle.std.specs.Ordering.{int_eq}
+use Rattle.std.proofs.Common.{arith, List, None, Option, Some, ap, false, refl, true, ℕ, ◌∙◌, ◌≡◌}
+use Rattle.std.specs.Ordering.{int_eq, is_eq, is_lt}
 use Rattle.sqlite_rules.specs.Cast.{cast}
 use Rattle.sqlite_sql.specs.Ops.{binary, is_null, unary}
 use Rattle.sqlite_sql.specs.declared.ops.BinaryOp.TheVariants.{Coalesce, Compare}
@@ -13,25 +13,13 @@ use Rattle.sqlite_value.specs.Order.{value_cmp}
 use Rattle.sqlite_value.specs.declared.keys.Collation.TheVariants.{Binary}
 use Rattle.sqlite_value.specs.declared.value.Value.{Value}
 use Rattle.sqlite_value.specs.declared.value.Value.TheVariants.{Int, Null, Real, Text}
-use Rattle.std.proofs.Common.{List, None, Option, Some, ap, false, refl, true, ℕ, ◌∙◌, ◌≡◌}
 use Rattle.std.proofs.lemmas.Map.Text.{is_eq-slice_cmp}
 use Rattle.std.specs.Float.{minus_two_to}
 use Rattle.std.specs.Option.{option_or}
-use Rattle.std.specs.Ordering.{is_eq, is_lt}
 use Rattle.std.specs.Prelude.{if◌then◌else◌, pos, ◌&&◌, ◌==◌}
 use Rattle.std.specs.Str.{bytes_eq}
 use Rattle.td_sql.proofs.Effects.{cast_int}
 use Rattle.sqlite_schema.specs.declared.schema.Kind.TheVariants as kind
-use Rattle.sqlite.specs.Values.{or_null}
-use Rattle.std.proofs.lemmas.Int.{ints}
-use Rattle.std.proofs.lemmas.Bool.Decides.{nat_tests}
-use Rattle.std.proofs.Common.{arith}
-use Rattle.std.specs.Ordering.{int_eq}
-use Rattle.td_sql.proofs.Effects.{cast_int}
-use Rattle.std.proofs.lemmas.Map.Text.{is_eq-slice_cmp}
-use Rattle.sqlite_typed.proofs.TestLemmas.{truth_or, at_ints, at_texts}
-use Rattle.sqlite_sql.specs.Ops.{is_null, unary, binary}
-use Rattle.std.specs.Option.{option_or}
 
 -- an integer, a text and NULL are stored as they are
 pub cast_null : cast kind.Integer Null ≡ Null

@@ -9,10 +9,13 @@ use Rattle.sqlite_schema.specs.declared.schema.Schema.{Schema}
 use Rattle.sqlite_sql.specs.Term.{Term}
 use Rattle.sqlite_value.specs.declared.keys.Key.{Key}
 use Rattle.sqlite_value.specs.Order.{Row}
+use Rattle.std.specs.List.Sorted.{IsSorted}
+use Rattle.std.specs.declared.cmp.Ordering.{Ordering}
+use Rattle.td_sql.proofs.Ordered.{Passes, selected_sorted}
 use Rattle.td_sql.proofs.TypedRows.{selected_typed}
 use Rattle.td_sql.specs.Meanings.{MeansSelect}
 use Rattle.td_sql.specs.Reading.{Fetches, Selects, row_order, shown_by}
-use Rattle.td_sql.specs.Typed.{AreThose, IsTypedRow, Typing, row_of, rows_in}
+use Rattle.td_sql.specs.Typed.{AreInOrder, AreThose, IsTypedRow, Typing, row_of, rows_in}
 use Rattle.td_sql.specs.Writing.{passes}
 
 -- The text shows the columns of the rows that pass, in some order, where the values are those that it was given.
@@ -40,3 +43,20 @@ module _ {T R : Type 0} (ty : Typing R) (s : Schema) (typed : T → R) (text : L
       → IfOk r (λ found. AreThose ty s p old (map typed (option_to_list found)))
   one_fetched (Ok found) h = those (option_to_list found) h
   one_fetched (Err e) h = h
+
+  -- in the order of the text, as it compares typed rows
+  module _ (cmp : R → R → Ordering)
+      (compares : (a b : Row) → Passes ty p a → Passes ty p b
+      → row_order order values a b ≡ cmp (row_of ty a) (row_of ty b)) where
+    in_order : (found : List T) → Fetches typed ty.from text given old found → AreInOrder ty s cmp old (map typed found)
+    in_order found h has typed_rows =
+        let did : Selects text values old h.0 = subst (λ v. Selects text v old h.0) same h.1 in
+        subst (IsSorted cmp) (sym h.2)
+        (selected_sorted ty p (passes values tests) (shown_by shows values) (row_order order values) cmp old.now.trees
+        h.0 passing showing compares (did s ty.table.tree tests shows order has means) typed_rows)
+
+    pub in_order_fetched : (r : Result (Vec T Global) Error)
+        → IfOk r (λ found. Fetches typed ty.from text given old found.items)
+        → IfOk r (λ found. AreInOrder ty s cmp old (map typed found.items))
+    in_order_fetched (Ok found) h = in_order found.items h
+    in_order_fetched (Err e) h = h

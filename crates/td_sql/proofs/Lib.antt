@@ -6,6 +6,7 @@ pub mod Effects
 mod Answering
 pub mod Leaving
 pub mod TypedRows
+pub mod Ordered
 pub mod Fetched
 pub mod Columns
 pub mod Joined

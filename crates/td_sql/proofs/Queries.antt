@@ -1,6 +1,6 @@
 -- The answer of a plain query.
 use Rattle.std.proofs.lemmas.List.{length-map}
-use Rattle.std.proofs.Common.{zero, suc, ◌+◌}
+use Rattle.std.proofs.Common.{zero, suc, ◌+◌, Bool, List, None, [], ap, cond, false, flat_map, get_or, is_lt, map, refl, subst, subst₂, true, ℕ, ◌++◌, ◌-◌, ◌^◌, ◌∙◌, ◌∷◌, ◌≡◌}
 use Rattle.sqlite_sql.specs.Program.{overlay}
 use Rattle.sqlite_sql.specs.Query.{IsAnswer, Output, Query, end, inner, matches_as, output, output_cmp}
 use Rattle.sqlite_sql.specs.Term.{Env, Term}
@@ -9,7 +9,6 @@ use Rattle.sqlite_trees.specs.Tree.{Trees}
 use Rattle.sqlite_value.specs.Order.{Row}
 use Rattle.sqlite_value.specs.declared.keys.Key.{Key}
 use Rattle.sqlite_value.specs.declared.value.Value.TheVariants.{Null}
-use Rattle.std.proofs.Common.{Bool, List, None, [], ap, cond, false, flat_map, get_or, is_lt, map, refl, subst, subst₂, suc, true, ℕ, ◌++◌, ◌-◌, ◌^◌, ◌∙◌, ◌∷◌, ◌≡◌}
 use Rattle.std.specs.List.Sorted.{IsSorted}
 use Rattle.std.specs.Prelude.{filter, if◌then◌else◌, nat_le, slice_get, unwrap_or}
 use Rattle.std.specs.declared.cmp.Ordering.{Ordering}

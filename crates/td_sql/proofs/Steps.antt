@@ -1,17 +1,15 @@
 -- What one statement on one table wrote, in the words of the store.
-use Rattle.sqlite.specs.Rows.{Inserts}
-use Rattle.sqlite_rules.specs.Action.{Writes}
+use Rattle.sqlite.specs.Rows.{Inserts, Task, Written}
+use Rattle.sqlite_rules.specs.Action.{Writes, works}
 use Rattle.sqlite.proofs.Callers.{command_of, one_step, runs_as, statement_of}
 use Rattle.sqlite.specs.Does.{AtPlace, Concludes, Does, OnRows, Tally}
 use Rattle.sqlite.specs.Effect.{Answers, Database, value_rows}
 use Rattle.sqlite.specs.Given.{IsPlain}
 use Rattle.sqlite.specs.Listing.{understood}
-use Rattle.sqlite.specs.Rows.{Task, Written}
 use Rattle.sqlite.specs.State.{Executes, State, mode_of}
 use Rattle.sqlite.specs.declared.run.Mode.{Mode}
 use Rattle.sqlite_resolve.specs.declared.compiled.Compiled.{Compiled}
 use Rattle.sqlite_resolve.specs.declared.error.CompileError.{CompileError}
-use Rattle.sqlite_rules.specs.Action.{works}
 use Rattle.sqlite_rules.specs.Calls.{ids_of}
 use Rattle.sqlite_rules.specs.Cast.{cast_row}
 use Rattle.sqlite_rules.specs.Edit.{Applies, Edit, edit_of, numbered, taken_by, with_rowid}

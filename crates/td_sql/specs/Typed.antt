@@ -1,7 +1,8 @@
 -- A table whose rows are typed: each has the columns of a typed row, and is read back as that.
 use Rattle.std.specs.Prelude.{◌≡◌, Bool, List, map, filter}
 use Rattle.std.specs.List.{AllByRecursion}
-use Rattle.std.specs.List.Sorted.{IsPermutation}
+use Rattle.std.specs.List.Sorted.{IsPermutation, IsSorted}
+use Rattle.std.specs.declared.cmp.Ordering.{Ordering}
 use Rattle.sqlite_value.specs.Order.{Row}
 use Rattle.sqlite_trees.specs.Tree.{Trees}
 use Rattle.sqlite_schema.specs.declared.schema.Schema.{Schema}
@@ -51,3 +52,7 @@ Turns ty s f old new = HasSchema old s → AreTyped ty old.now.trees
 abbrev pub AreThose : {R : Type 0} → Typing R → Schema → (R → Bool) → State → List R → Type 0
 AreThose ty s p state found = HasSchema state s → AreTyped ty state.now.trees
     → IsPermutation (filter p (rows_in ty state.now.trees)) found
+
+-- where the table's rows are typed, these are in this order
+abbrev pub AreInOrder : {R : Type 0} → Typing R → Schema → (R → R → Ordering) → State → List R → Type 0
+AreInOrder ty s cmp state found = HasSchema state s → AreTyped ty state.now.trees → IsSorted cmp found

@@ -1,9 +1,11 @@
 -- Rows brought in order of a number: whatever order they were given in, the outcome is one.
-use Rattle.std.proofs.Common.{◌≡◌, ◌≢◌, ℕ, ◌+◌, ◌<◌, ◌≤◌, Bool, true, false, cond, List, [], ◌∷◌, length, map, Some, None, refl, sym, ◌∙◌, ap, arith, IsPermutation}
-use Rattle.std.specs.Prelude.{◌==◌, nat_lt, if◌then◌else◌}
+use Rattle.std.proofs.Common.{◌≡◌, ◌≢◌, ℕ, suc, ◌+◌, ◌<◌, ◌≤◌, Bool, true, false, cond, List, [], ◌∷◌, length, map, Some, None, refl, sym, subst, ◌∙◌, ap, arith, IsPermutation}
+use Rattle.std.specs.Prelude.{◌==◌, nat_lt, slice_index_or, if◌then◌else◌}
 use Rattle.std.specs.List.{AllByRecursion}
 use Rattle.std.proofs.lemmas.Bool.Decides.{nat_tests}
-use Rattle.std.proofs.lemmas.List.Sorted.{IsPermutation-refl, IsPermutation-cons, IsPermutation-middle, IsPermutation-trans, length_permutation}
+use Rattle.std.proofs.lemmas.List.Sorted.{IsPermutation-refl, IsPermutation-cons, IsPermutation-middle, IsPermutation-sym, IsPermutation-trans, length_permutation}
+use Rattle.std.specs.List.Sorted.{IsSortedByKey}
+use Rattle.std.specs.Ordering.{is_lt, nat_cmp}
 use Rattle.sqlite_trees.proofs.ListLemmas.{all_weaker, all_both, along_permutation, IsPermutation-filter}
 use Rattle.keyed_rows.specs.Rows.{row_at, Rises, put_row}
 use Rattle.keyed_rows.proofs.Putting.{Rises-put_row, row_at-put_row_same, row_at-put_row_other}
@@ -82,6 +84,25 @@ module _ {R : Type 0} (key : R → ℕ) where
   -- so a permutation of rising rows is brought back to them
   pub brought_to_order : (low : ℕ) (rows given : List R) → Rises key low rows → IsPermutation rows given → in_order key given ≡ rows
   brought_to_order low rows given rise same = sym (in_order_permuted rows given same (rises_apart low rows rise)) ∙ in_order_same low rows rise
+
+  tail_sorted : (r : R) (rows : List R) → IsSortedByKey key nat_cmp (r ∷ rows) → IsSortedByKey key nat_cmp rows
+  tail_sorted r rows sorted k d low high =
+      let next : suc k + 1 ≡ suc (k + 1) = omega arith in
+      subst (λ j. is_lt (nat_cmp (key (slice_index_or (r ∷ rows) j d)) (key (slice_index_or rows k d))) ≡ false) next (sorted (suc k) d (omega arith) (omega (arith, high)))
+
+  -- rows whose keys don't fall, and that are apart, rise
+  sorted_rise : (low : ℕ) (r : R) (rows : List R) → low ≤ key r → IsSortedByKey key nat_cmp (r ∷ rows) → IsApart key (r ∷ rows) → Rises key low (r ∷ rows)
+  sorted_rise low r [] first sorted apart = (first, tt)
+  sorted_rise low r (s ∷ rows) first sorted apart =
+      let other = first_two r s rows apart in
+      let after : is_lt (nat_cmp (key s) (key r)) ≡ false = sorted 0 r (omega arith) (omega arith) in
+      (first, sorted_rise (key r + 1) s rows (grind (arith, nat_tests, other, after)) (tail_sorted r (s ∷ rows) sorted) (apart_behind r (s ∷ rows) apart))
+
+  -- so a permutation whose keys don't fall is what the rows are brought to
+  pub sorted_is_order : (rows given : List R) → IsPermutation given rows → IsSortedByKey key nat_cmp rows → IsApart key given → rows ≡ in_order key given
+  sorted_is_order [] given same sorted apart = sym (brought_to_order 0 [] given tt (IsPermutation-sym given [] same))
+  sorted_is_order (r ∷ rows) given same sorted apart =
+      sym (brought_to_order 0 (r ∷ rows) given (sorted_rise 0 r rows (omega arith) sorted (apart_permuted given (r ∷ rows) same apart)) (IsPermutation-sym given (r ∷ rows) same))
 
   -- what is found of rows in order is what is found of the rows
   pub found_in_order : (k : ℕ) (rows : List R) → row_at key k (in_order key rows) ≡ row_at key k rows

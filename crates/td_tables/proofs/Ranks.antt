@@ -180,6 +180,17 @@ one_rank s t is_s is_t same = by_order (cmp s t) refl
         let back : cmp t s ≡ Less = nat_list_cmp_total.antisymm t s ∙ ap ordering_reverse is in
         absurd (let up = rank_below t s is_t is_s back in omega (arith, up, same))
 
+-- codes compare as their ranks do
+pub ranks_compare : (s t : List ℕ) → IsAccessCode s → IsAccessCode t → cmp s t ≡ nat_cmp (text_rank s) (text_rank t)
+ranks_compare s t is_s is_t = by_order (cmp s t) refl
+  where
+    by_order : (o : Ordering) → cmp s t ≡ o → o ≡ nat_cmp (text_rank s) (text_rank t)
+    by_order Less is = let up = rank_below s t is_s is_t is in grind (arith, nat_tests, up)
+    by_order Equal is = let same = ap text_rank ((bytes_eq-Decides s t).0 (sym (is_eq-slice_cmp s t) ∙ ap is_eq is)) in grind (arith, nat_tests, same)
+    by_order Greater is =
+        let back : cmp t s ≡ Less = nat_list_cmp_total.antisymm t s ∙ ap ordering_reverse is in
+        let down = rank_below t s is_t is_s back in grind (arith, nat_tests, down)
+
 -- codes of which no two are one text have no rank twice
 pub ranks_apart : (rows : List (Keyed (List ℕ))) → AllByRecursion (λ (c : Keyed (List ℕ)). IsAccessCode c.row) rows → IsTextApart (λ (c : Keyed (List ℕ)). c.row) rows → IsApart code_rank rows
 ranks_apart rows form apart k = by_rows (of_key code_rank k rows) refl (of_key_has code_rank k rows) (all-filter (λ (c : Keyed (List ℕ)). IsAccessCode c.row) (λ r. code_rank r == k) rows form)

@@ -1,10 +1,8 @@
-use Rattle.std.proofs.Common.{Result}
+use Rattle.std.proofs.Common.{Result, Err, Ok, true}
 use Rattle.sqlite.specs.declared.error.Error.{Error}
-use Rattle.sqlite.specs.State.{Shows}
+use Rattle.sqlite.specs.State.{Shows, Executes, State}
 use Rattle.sqlite.specs.Held.{state}
-use Rattle.sqlite.specs.State.{Executes, State}
 use Rattle.sqlite.specs.Values.{bound}
-use Rattle.std.proofs.Common.{Err, Ok, true}
 use Rattle.std.specs.Prelude.{OnOk}
 use Rattle.td_sql.proofs.Effects.{deleted_as}
 use Rattle.td_sql.specs.Writing.{Deletes}

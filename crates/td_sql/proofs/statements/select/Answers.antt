@@ -1,17 +1,12 @@
-use Rattle.std.proofs.Common.{arith}
-use Rattle.sqlite.specs.State.{HasCleanDisk}
-use Rattle.std.proofs.Common.{◌⊎◌, inl, inr}
-use Rattle.std.specs.Prelude.{Result, Vec, List}
+use Rattle.std.proofs.Common.{arith, ◌⊎◌, inl, inr, Err, IfErr, IsTrue, List, Ok, Result, Vec}
+use Rattle.sqlite.specs.State.{HasCleanDisk, FailsToQuery, IsTooLate, KeepsCommit, Shown, State}
+use Rattle.std.specs.Prelude.{Result, Vec, List, IfOk, OnOk}
 use Rattle.std.specs.declared.alloc.Global.{Global}
 use Rattle.sqlite.specs.declared.error.Error.{Error}
 use Rattle.sqlite_value.specs.declared.value.Value.{Value}
-use Rattle.sqlite_value.specs.declared.value.Value.{Value}
 use Rattle.sqlite.specs.Held.{state}
-use Rattle.sqlite.specs.State.{FailsToQuery, IsTooLate, KeepsCommit, Shown, State}
 use Rattle.sqlite.specs.Values.{bound}
-use Rattle.std.proofs.Common.{Err, IfErr, IsTrue, List, Ok, Result, Vec}
-use Rattle.std.specs.Prelude.{IfOk, OnOk}
-use Rattle.td_sql.proofs.Answering.{failed_keeps, late_keeps, shown_inside, shown_keeps, failed_keeps, reads_only, selected_as, shown_keeps}
+use Rattle.td_sql.proofs.Answering.{failed_keeps, late_keeps, shown_inside, shown_keeps, reads_only, selected_as}
 use Rattle.td_sql.specs.Reading.{OnlyReads, Selects}
 use Rattle.td_sql.proofs.Joined.{selected_pairs}
 use Rattle.td_sql.specs.Joins.{SelectsPairs}
