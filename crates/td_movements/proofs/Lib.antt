@@ -1,3 +1,3 @@
-mod Meanings
+pub mod Meanings
 mod CellLemmas
-mod Statements
+pub mod Statements

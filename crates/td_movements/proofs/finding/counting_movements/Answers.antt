@@ -19,7 +19,7 @@ pub returns-clause-found : goal.returns-clause-found
 returns-clause-found g c clean =
     those_fetched movement_typing desk_schema row_of_stored COUNTING.now counting_tests all_columns by_serial
     (counts_for c.args.holder) (number_value c.args.holder ∷ []) _
-    c.holder_key.ensures counting_means (λ r is. counting_passes r is c.args.holder) (λ r. refl)
+    c.holder_key.ensures counting_means (λ r is. counting_passes r is c.args.holder [] []) (λ r. refl)
     (state g.S.Store c.args.tx.now.conn.now) c.fetch.result (c.fetch.ensures.found clean)
 
 pub returns-clause-order : goal.returns-clause-order

@@ -1,0 +1,9 @@
+//! The amount in use on a guarantee, by one statement over the movements and the lines of a store.
+#![tactic(auto)]
+
+mod amounts;
+#[cfg(test)]
+mod tests;
+mod texts;
+
+pub use amounts::amount_in_use;
