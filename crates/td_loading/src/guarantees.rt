@@ -1,6 +1,6 @@
 //! Guarantees with their codes. `DatabaseCorrupt`: a row is no such row, or there are several where there can be one;
 //! `OutOfMemory`: want of memory; any other error is the database's own.
-ghost use Rattle.std.specs.Prelude.{◌≡◌, map, IsTrue, IfOk, OnOk};
+ghost use Rattle.std.specs.Prelude.{◌≡◌, filter_map, map, IsTrue, IfOk, OnOk};
 ghost use Rattle.sqlite.specs.Held.{state};
 ghost use Rattle.sqlite.specs.State.{HasCleanDisk, KeepsCommit, Survives};
 ghost use Rattle.td_guarantee.specs.Codes.{AreAscending};
@@ -10,12 +10,13 @@ ghost use Rattle.td_schema.specs.Tables.{desk_schema};
 ghost use Rattle.td_tables.specs.Gathering.{with_codes};
 ghost use Rattle.td_sql.specs.Reading.{LeavesAll};
 ghost use Rattle.td_guarantees.specs.Stored.{row_of_stored};
-ghost use Rattle.td_loading.specs.Loaded.{IsOfContent, IsOfTables, code_of};
+ghost use Rattle.td_loading.specs.Loaded.{IsOfContent, IsOfTables, LeavesTables, code_of};
 
 use sqlite::{Error, Transaction};
 use sqlite_trees::store::Alter;
 use std::alloc::{AllocError, Global};
-use td_base::{Country, Grn, HolderNo};
+use td_acts::Lines;
+use td_base::{Cents, Country, Grn, HolderNo};
 use td_codes::{StoredCode, codes_of};
 use td_guarantee::{Codes, Guarantee};
 use td_guarantees::{StoredGuarantee, find_by_grn};
@@ -79,4 +80,35 @@ pub fn load_guarantee<S: Alter>(
         return Ok(None);
     };
     Ok(Some(guarantee_with_codes(alloc, tx, stored)?))
+}
+
+/// The guarantees that lines name, as far as they are there, at an office of that country, each with its codes. A declaration
+/// doesn't ask for the amounts in use: they stand as 0.
+pub fn load_guarantees_of<S: Alter>(
+    alloc: Global,
+    tx: &mut Transaction<'_, S>,
+    country: Country,
+    holder: HolderNo,
+    lines: &Lines,
+) -> Result<Vec<(Guarantee, Cents)>, Error>
+    requires { HasCleanDisk (state S.Store tx.old.conn.now) → IsTrue (state S.Store tx.old.conn.now).in_transaction }
+    ensures same_reference { tx.new.conn.ghost_name ≡ tx.old.conn.ghost_name }
+    ensures found { HasCleanDisk (state S.Store tx.new.conn.now)
+        → IfOk result (λ found. IsOfContent country (λ c. filter_map (λ l. guarantee_by_grn l.0.grn
+        (account_in holder c).guarantees) lines.now) (state S.Store tx.old.conn.now) (map (λ e. e.0) found.items)) }
+    ensures still { HasCleanDisk (state S.Store tx.new.conn.now)
+        → OnOk result (LeavesTables (state S.Store tx.old.conn.now) (state S.Store tx.new.conn.now)) }
+    ensures inside { HasCleanDisk (state S.Store tx.new.conn.now) → OnOk result (IsTrue (state S.Store tx.new.conn.now).in_transaction) }
+    ensures kept { HasCleanDisk (state S.Store tx.new.conn.now)
+        → KeepsCommit (state S.Store tx.old.conn.now) (state S.Store tx.new.conn.now) }
+    ensures survives { Survives (state S.Store tx.old.conn.now) (state S.Store tx.new.conn.now) (λ _. ⊥) }
+{
+    let unasked = Cents::new(0).unwrap();
+    let mut found = Vec::new(alloc);
+    'lines: for (line, _) in lines.as_slice() {
+        if let Some(guarantee) = load_guarantee(alloc, tx, country, holder, &line.grn)? {
+            found.push((guarantee, unasked))?;
+        }
+    }
+    Ok(found)
 }
