@@ -19,9 +19,10 @@ use Rattle.td_movement.specs.declared.moves.Move.{Move}
 use Rattle.td_guarantee.specs.declared.guarantee.Guarantee.{Guarantee}
 use Rattle.td_guarantee.specs.Usage.{used_on}
 use Rattle.td_acts.specs.Account.{Account, entry_in, guarantee_by_grn, movement_by_mrn}
-use Rattle.td_commands.specs.Commands.{is_changing}
+use Rattle.td_acts.specs.declared.rows.Loaded.{Loaded}
+use Rattle.td_commands.specs.Commands.{is_changing, Need, nothing, lodging, movement, release, all_movements, guarantee, all_guarantees}
 use Rattle.td_acts.specs.Acceptance.{is_answer, has_known_lrn}
-use Rattle.td_acts.specs.Deciding.{change_of, decision_at, if_row, touched}
+use Rattle.td_acts.specs.Deciding.{IsLoaded, IsLookedUp, change_of, decision_at, if_row, touched}
 use Rattle.td_acts.specs.Table.{said_at, on_guarantee, on_movement, or_refuse}
 
 abbrev verdict_of : Said → Change → Verdict
@@ -127,3 +128,18 @@ told_shown account holder found t H grn v same_holder same_found said change =
     of_guarantee None o = refl
     of_guarantee (Some row) None = refl
     of_guarantee (Some row) (Some g) = refl
+
+-- what else is loaded of the same rows is loaded as they are
+pub loaded_again : (account : Account) (need : Need) (loaded copy : Loaded) → copy.country ≡ loaded.country → copy.holder ≡ loaded.holder
+    → copy.movements.items ≡ loaded.movements.items → copy.guarantees.items ≡ loaded.guarantees.items → IsLoaded account need loaded → IsLoaded account need copy
+loaded_again account need loaded copy country holder movements guarantees is =
+    record { country = country ∙ is.country; holder = holder ∙ is.holder; things = looked_up need is.things }
+  where
+    looked_up : (n : Need) → IsLookedUp account n loaded → IsLookedUp account n copy
+    looked_up nothing things = tt
+    looked_up (lodging lrn lines) things = rw (movements, guarantees) things
+    looked_up (movement mrn) things = rw movements things
+    looked_up (release mrn) things = rw (movements, guarantees) things
+    looked_up all_movements things = rw movements things
+    looked_up (guarantee grn) things = rw guarantees things
+    looked_up all_guarantees things = rw guarantees things

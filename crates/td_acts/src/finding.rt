@@ -1,9 +1,8 @@
-//! Movements and guarantees found among others, copied, and taken out.
-ghost use Rattle.std.specs.Prelude.{◌≡◌, map, option_map, IfOk};
+//! Movements and guarantees found among others, and taken out.
+ghost use Rattle.std.specs.Prelude.{◌≡◌, map, option_map};
 ghost use Rattle.td_acts.specs.Account.{guarantee_by_grn, movement_by_mrn, movement_by_lrn};
 ghost use Rattle.td_acts.specs.Deciding.{entry_by_grn};
 
-use std::alloc::{AllocError, Global};
 use td_base::{Cents, Grn, Lrn, Mrn};
 use td_guarantee::Guarantee;
 use td_movement::Movement;
@@ -48,40 +47,11 @@ pub fn find_entry<'a>(
     None
 }
 
-/// A copy of the movement with exactly an MRN, if there is one. `AllocError`: want of memory.
-pub fn copy_movement(
-    alloc: Global,
-    movements: &[Movement],
-    mrn: &Mrn,
-) -> Result<Option<Movement>, AllocError>
-    ensures { IfOk result (λ found. found ≡ movement_by_mrn mrn.now movements.now) }
-{
-    match find_movement_by_mrn(movements, mrn) {
-        Some(movement) => Ok(Some(movement.copy(alloc)?)),
-        None => Ok(None),
-    }
-}
-
 /// The movement with exactly an MRN, if there is one, taken out of movements that are given up.
 pub fn take_movement(movements: Vec<Movement>, mrn: &Mrn) -> Option<Movement>
     ensures { result ≡ movement_by_mrn mrn.now movements.items }
 {
     movements.into_iter().find(|movement| movement.mrn == *mrn)
-}
-
-/// A copy of the guarantee with exactly a GRN, and the amount in use on it, if there is one. `AllocError`: want of
-/// memory.
-pub fn copy_entry(
-    alloc: Global,
-    entries: &[(Guarantee, Cents)],
-    grn: &Grn,
-) -> Result<Option<(Guarantee, Cents)>, AllocError>
-    ensures { IfOk result (λ found. found ≡ entry_by_grn grn.now entries.now) }
-{
-    match find_entry(entries, grn) {
-        Some((guarantee, used)) => Ok(Some((guarantee.copy(alloc)?, *used))),
-        None => Ok(None),
-    }
 }
 
 /// The guarantee with exactly a GRN, and the amount in use on it, if there is one, taken out of entries that are
@@ -90,18 +60,4 @@ pub fn take_entry(entries: Vec<(Guarantee, Cents)>, grn: &Grn) -> Option<(Guaran
     ensures { result ≡ entry_by_grn grn.now entries.items }
 {
     entries.into_iter().find(|entry| entry.0.grn == *grn)
-}
-
-/// The same guarantees, and the amounts in use on them, in other memory. `AllocError`: want of memory.
-pub fn copy_entries(
-    alloc: Global,
-    entries: &[(Guarantee, Cents)],
-) -> Result<Vec<(Guarantee, Cents)>, AllocError>
-    ensures { IfOk result (λ items. items.items ≡ entries.now) }
-{
-    let mut items = Vec::with_capacity(alloc, entries.len())?;
-    for (guarantee, used) in entries {
-        items.push((guarantee.copy(alloc)?, *used))?;
-    }
-    Ok(items)
 }

@@ -1,7 +1,7 @@
 //! The rows of one holder, and the rows that a verdict writes.
-ghost use Rattle.std.specs.Prelude.{◌≡◌};
+ghost use Rattle.std.specs.Prelude.{◌≡◌, IfOk};
 
-use std::alloc::Global;
+use std::alloc::{AllocError, Global};
 use td_base::{AccessCode, Cents, Country, Cover, Day, Eori, Grn, HolderNo, Moment, Mrn, OfficeNo};
 use td_commands::{Answer, Refusal, Said};
 use td_guarantee::Guarantee;
@@ -49,6 +49,48 @@ impl Loaded {
             guarantees: Vec::new(alloc),
         }
     }
+
+    /// The same in other memory. `AllocError`: want of memory.
+    pub fn copy(&self, alloc: Global) -> Result<Self, AllocError>
+        ensures country { IfOk result (λ copy. copy.country ≡ self.now.country) }
+        ensures holder { IfOk result (λ copy. copy.holder ≡ self.now.holder) }
+        ensures movements { IfOk result (λ copy. copy.movements.items ≡ self.now.movements.items) }
+        ensures guarantees { IfOk result (λ copy. copy.guarantees.items ≡ self.now.guarantees.items) }
+    {
+        let movements = copy_movements(alloc, &self.movements)?;
+        let guarantees = copy_entries(alloc, &self.guarantees)?;
+        Ok(Loaded {
+            country: self.country,
+            holder: self.holder,
+            movements,
+            guarantees,
+        })
+    }
+}
+
+// The same movements in other memory.
+fn copy_movements(alloc: Global, movements: &[Movement]) -> Result<Vec<Movement>, AllocError>
+    ensures { IfOk result (λ items. items.items ≡ movements.now) }
+{
+    let mut items = Vec::with_capacity(alloc, movements.len())?;
+    for movement in movements {
+        items.push(movement.copy(alloc)?)?;
+    }
+    Ok(items)
+}
+
+// The same guarantees, and the amounts in use on them, in other memory.
+fn copy_entries(
+    alloc: Global,
+    entries: &[(Guarantee, Cents)],
+) -> Result<Vec<(Guarantee, Cents)>, AllocError>
+    ensures { IfOk result (λ items. items.items ≡ entries.now) }
+{
+    let mut items = Vec::with_capacity(alloc, entries.len())?;
+    for (guarantee, used) in entries {
+        items.push((guarantee.copy(alloc)?, *used))?;
+    }
+    Ok(items)
 }
 
 /// What is said of a movement that has moved: its state, and the days and the office that come with it. Those

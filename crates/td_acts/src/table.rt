@@ -1,11 +1,9 @@
 //! The table of refusals and answers, over the rows of a command's owner: a function for each command.
-ghost use Rattle.std.specs.Prelude.{◌≡◌, ℕ, Some, None, IfOk, MatchResult};
-ghost use Rattle.td_base.specs.Moment.{moment_of};
-ghost use Rattle.td_commands.specs.declared.said.Refusal.TheVariants.{ClockRange};
+ghost use Rattle.std.specs.Prelude.{◌≡◌, ℕ, IfOk};
 ghost use Rattle.td_acts.specs.Deciding.{IsVerdict, IsVerdictAt};
 
 use crate::declaring::{Declaration, lodge};
-use crate::finding::{copy_entries, copy_entry, copy_movement, take_entry, take_movement};
+use crate::finding::{take_entry, take_movement};
 use crate::moving::{arrive, cancel, enquire, judge, write_off};
 use crate::releasing::release;
 use crate::rows::{Change, HolderRow, Loaded, Verdict};
@@ -20,10 +18,9 @@ use td_base::{AccessCode, Cover, Eori, HolderNo, Moment, Reference};
 use td_commands::{Answer, Command, Refusal, Said};
 use td_guarantee::{Codes, Guarantee};
 
-/// The verdict on a command at a number of seconds since 1970, over what was loaded of its owner's rows.
-/// Where that is just what the verdict needs of the owner's account, it is the table's; else it is only
-/// some verdict. What a view shows is copied, and what was loaded stays the caller's; where the caller doesn't
-/// need it any more, call `decide`. `AllocError`: want of memory.
+/// The verdict on a command at a number of seconds since 1970, over what was loaded of its owner's rows, which
+/// stays the caller's: it is copied first. A caller that doesn't need it any more calls `decide`. `AllocError`:
+/// want of memory.
 pub fn verdict(
     alloc: Global,
     loaded: &Loaded,
@@ -32,34 +29,50 @@ pub fn verdict(
 ) -> Result<Verdict, AllocError>
     ensures { IfOk result (IsVerdict loaded.now at command.now) }
 {
-    match moment_at(at) {
-        Ok(at) => verdict_at(alloc, loaded, at, command),
-        Err(why) => Ok(Verdict::refused(why)),
+    let copy = loaded.copy(alloc)?;
+    decide(alloc, copy, at, command)
+}
+
+/// The verdict on a command at a number of seconds since 1970, over what was loaded of its owner's rows.
+/// Where that is just what the verdict needs of the owner's account, it is the table's; else it is only
+/// some verdict. The movement or the guarantees that a view shows are moved out of what was loaded, and not copied.
+/// `AllocError`: want of memory.
+pub fn decide(
+    alloc: Global,
+    loaded: Loaded,
+    at: i64,
+    command: &Command,
+) -> Result<Verdict, AllocError>
+    ensures { IfOk result (IsVerdict loaded at command.now) }
+{
+    match Moment::new(at) {
+        Ok(at) => decide_at(alloc, loaded, at, command),
+        Err(_) => Ok(Verdict::refused(Refusal::ClockRange)),
     }
 }
 
-fn verdict_at(
+fn decide_at(
     alloc: Global,
-    loaded: &Loaded,
+    loaded: Loaded,
     at: Moment,
     command: &Command,
 ) -> Result<Verdict, AllocError>
-    ensures { IfOk result (IsVerdictAt loaded.now at command.now) }
+    ensures { IfOk result (IsVerdictAt loaded at command.now) }
 {
     match command {
-        Command::Register { holder, eori } => Ok(register(loaded, at, *holder, *eori)),
+        Command::Register { holder, eori } => Ok(register(&loaded, at, *holder, *eori)),
         Command::OpenGuarantee {
             holder,
             reference,
             cover,
             code,
-        } => Ok(open(alloc, loaded, at, *holder, *reference, *cover, *code)),
+        } => Ok(open(alloc, &loaded, at, *holder, *reference, *cover, *code)),
         Command::Amend {
             grn,
             reference,
             cover,
-        } => amend(alloc, loaded, at, grn, *reference, *cover),
-        Command::Revoke { grn } => Ok(revoke(loaded, at, grn)),
+        } => amend(alloc, &loaded, at, grn, *reference, *cover),
+        Command::Revoke { grn } => Ok(revoke(&loaded, at, grn)),
         Command::Ie015 {
             holder,
             lrn,
@@ -74,26 +87,26 @@ fn verdict_at(
                 destination: *destination,
                 lines,
             };
-            lodge(alloc, loaded, at, &declaration)
+            lodge(alloc, &loaded, at, &declaration)
         }
-        Command::Ie014 { holder, mrn } => Ok(cancel(loaded, at, *holder, mrn)),
+        Command::Ie014 { holder, mrn } => Ok(cancel(&loaded, at, *holder, mrn)),
         Command::AddCode { holder, grn, code } => {
-            add_code(alloc, loaded, at, *holder, grn, *code)
+            add_code(alloc, &loaded, at, *holder, grn, *code)
         }
         Command::RemoveCode { holder, grn, code } => {
-            remove_code(alloc, loaded, at, *holder, grn, *code)
+            remove_code(alloc, &loaded, at, *holder, grn, *code)
         }
-        Command::Ie029 { mrn, limit } => Ok(release(loaded, at, mrn, *limit)),
-        Command::Ie007 { mrn, office } => Ok(arrive(loaded, at, mrn, *office)),
+        Command::Ie029 { mrn, limit } => Ok(release(&loaded, at, mrn, *limit)),
+        Command::Ie007 { mrn, office } => Ok(arrive(&loaded, at, mrn, *office)),
         Command::Ie018 {
             mrn,
             result: control,
-        } => Ok(judge(loaded, at, mrn, *control)),
-        Command::Ie045 { mrn, ground } => Ok(write_off(loaded, at, mrn, *ground)),
-        Command::Ie140 { mrn } => Ok(enquire(loaded, at, mrn)),
+        } => Ok(judge(&loaded, at, mrn, *control)),
+        Command::Ie045 { mrn, ground } => Ok(write_off(&loaded, at, mrn, *ground)),
+        Command::Ie140 { mrn } => Ok(enquire(&loaded, at, mrn)),
         Command::SeeHolder { .. } => Ok(see_holder(loaded.holder)),
         Command::SeeMovement { mrn, .. } => {
-            let found = copy_movement(alloc, &loaded.movements, mrn)?;
+            let found = take_movement(loaded.movements, mrn);
             Ok(see_movement(loaded.holder, found))
         }
         Command::SeeMovements { .. } => {
@@ -101,62 +114,10 @@ fn verdict_at(
             Ok(see_movements(loaded.holder, items))
         }
         Command::SeeGuarantee { grn, .. } => {
-            let found = copy_entry(alloc, &loaded.guarantees, grn)?;
-            Ok(see_guarantee(loaded.holder, found))
-        }
-        Command::SeeGuarantees { .. } => {
-            let entries = copy_entries(alloc, &loaded.guarantees)?;
-            Ok(see_guarantees(loaded.holder, entries))
-        }
-    }
-}
-
-/// The same verdict as `verdict`'s, for a caller that doesn't need what was loaded any more: the movement or the
-/// guarantees that a view shows are moved out of it and not copied. `AllocError`: want of memory.
-pub fn decide(
-    alloc: Global,
-    loaded: Loaded,
-    at: i64,
-    command: &Command,
-) -> Result<Verdict, AllocError>
-    ensures { IfOk result (IsVerdict loaded at command.now) }
-{
-    match moment_at(at) {
-        Ok(at) => decide_at(alloc, loaded, at, command),
-        Err(why) => Ok(Verdict::refused(why)),
-    }
-}
-
-fn decide_at(
-    alloc: Global,
-    loaded: Loaded,
-    at: Moment,
-    command: &Command,
-) -> Result<Verdict, AllocError>
-    ensures { IfOk result (IsVerdictAt loaded at command.now) }
-{
-    match command {
-        Command::SeeMovement { mrn, .. } => {
-            let found = take_movement(loaded.movements, mrn);
-            Ok(see_movement(loaded.holder, found))
-        }
-        Command::SeeGuarantee { grn, .. } => {
             let found = take_entry(loaded.guarantees, grn);
             Ok(see_guarantee(loaded.holder, found))
         }
         Command::SeeGuarantees { .. } => Ok(see_guarantees(loaded.holder, loaded.guarantees)),
-        _ => verdict_at(alloc, &loaded, at, command),
-    }
-}
-
-// The moment at a number of seconds since 1970, or what is said to each command where the clock shows none.
-fn moment_at(at: i64) -> Result<Moment, Refusal>
-    ensures { MatchResult result (λ moment. moment_of at ≡ Some moment)
-        (λ why. (moment_of at ≡ None) × (why ≡ ClockRange)) }
-{
-    match Moment::new(at) {
-        Ok(at) => Ok(at),
-        Err(_) => Err(Refusal::ClockRange),
     }
 }
 

@@ -2,7 +2,7 @@
 use Rattle.std.proofs.Common.{◌≡◌, ◌∙◌, ℕ, List, ap, sym, subst}
 use Rattle.sqlite_trees.specs.Tree.{Trees}
 use Rattle.sqlite.specs.Effect.{Database}
-use Rattle.sqlite.specs.State.{State, Shows}
+use Rattle.sqlite.specs.State.{State}
 use Rattle.td_acts.specs.declared.rows.Change.{Change}
 use Rattle.td_desk.specs.Content.{Content, content_after}
 use Rattle.td_desk.specs.Sound.{IsSound}
@@ -15,7 +15,7 @@ use Rattle.td_tables.proofs.Decided.{decisions_are_written}
 use Rattle.td_tables.proofs.Told.{references_tell}
 use Rattle.td_store_tables.specs.Rows.{AreAllTyped, HoldsContent, tables_in}
 use Rattle.td_writing.specs.Written.{WritesChange}
-use Rattle.td_carrying.specs.Carried.{CarriesChange, IsDecidedOver, MayLeave}
+use Rattle.td_carrying.specs.Carried.{CarriesChange, MayLeave}
 
 -- what is decided on over sound content leaves sound content
 sound_after : (c : Content) (v : Verdict) → IsSound c → IsDecision c v → IsSound (content_after v.change c)

@@ -1,13 +1,13 @@
 -- What the statements on the table of codes did.
-use Rattle.std.proofs.Common.{IsPermutation, List, map, nat_cmp, subst, ◌∙◌, [], ap, refl, ℕ, ◌∷◌, ◌≡◌}
+use Rattle.std.proofs.Common.{IsPermutation, List, map, nat_cmp, subst, [], ap, refl, ℕ, ◌∷◌, ◌≡◌}
 use Rattle.std.specs.Prelude.{◌==◌, not, pos, filter}
 use Rattle.std.specs.Cmp.Lexicographic.{slice_cmp}
 use Rattle.std.specs.List.Sorted.{IsSorted}
 use Rattle.std.specs.declared.cmp.Ordering.{Ordering}
 use Rattle.sqlite_trees.proofs.ListLemmas.{all-permutation}
-use Rattle.sqlite_typed.proofs.TestLemmas.{then_key, last_key, then_value, then_term, last_term}
+use Rattle.sqlite_typed.proofs.TestLemmas.{then_value, then_term, last_term}
 use Rattle.td_base.specs.Codes.{IsAccessCode}
-use Rattle.td_sql.proofs.Ordered.{Passes, both_pass, numbers_compared, numbers_tie, sorted_alike, texts_compared}
+use Rattle.td_sql.proofs.Ordered.{Passes, both_pass, by_third, sorted_alike, texts_compared}
 use Rattle.td_sql.specs.Reading.{row_order}
 use Rattle.td_sql.specs.Typed.{AreInOrder, rows_in, IsTypedRow, row_of}
 use Rattle.td_tables.proofs.Counting.{filter_both}
@@ -81,19 +81,13 @@ pub compared : (H n : ℕ) (a b : Row) → Passes code_typing (is_code_of_guaran
     → Passes code_typing (is_code_of_guarantee H n) b
     → row_order by_code (number_value H ∷ number_value n ∷ []) a b
     ≡ code_cmp (row_of code_typing a) (row_of code_typing b)
-compared H n a b is other =
-    let x = row_of code_typing a in
-    let y = row_of code_typing b in
-    let here = both_pass (x.holder == H) (x.serial == n) is.1 in
-    let there = both_pass (y.holder == H) (y.serial == n) other.1 in
-    then_key
-    (numbers_compared (column a 1) (column b 1) x.holder y.holder (ap (λ l. column l 0) is.0)
-    (ap (λ l. column l 0) other.0) ∙ numbers_tie x.holder y.holder H here.0 there.0)
-    (then_key
-    (numbers_compared (column a 2) (column b 2) x.serial y.serial (ap (λ l. column l 1) is.0)
-    (ap (λ l. column l 1) other.0) ∙ numbers_tie x.serial y.serial n here.1 there.1)
-    (last_key (texts_compared (column a 3) (column b 3) x.row y.row (ap (λ l. column l 2) is.0)
-    (ap (λ l. column l 2) other.0))))
+compared H n =
+    by_third code_typing (is_code_of_guarantee H n) (λ c. c.holder) H (λ r is. ap (λ l. column l 0) is)
+    (λ c passes. (both_pass (c.holder == H) (c.serial == n) passes).0) (number_value H ∷ number_value n ∷ [])
+    (λ c. c.serial) n (λ r is. ap (λ l. column l 1) is)
+    (λ c passes. (both_pass (c.holder == H) (c.serial == n) passes).1) code_cmp
+    (λ a b is other. texts_compared (column a 3) (column b 3) (row_of code_typing a).row (row_of code_typing b).row
+    (ap (λ l. column l 2) is) (ap (λ l. column l 2) other))
 
 -- so those that were fetched are they in ascending order
 pub by_codes : (H n : ℕ) (old : State) (found : List StoredCode) → AreCodes (is_code_of_guarantee H n) old found

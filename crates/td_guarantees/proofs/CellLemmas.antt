@@ -7,18 +7,14 @@ use Rattle.sqlite_sql.specs.declared.ops.BinaryOp.TheVariants.{Coalesce}
 use Rattle.sqlite_typed.proofs.TestLemmas.{then_value}
 use Rattle.td_guarantee.specs.declared.guarantee.Guarantee.{Guarantee}
 use Rattle.td_guarantees.specs.Cells.{guarantee_cells, guarantee_from, guarantees_table}
-use Rattle.td_sql.proofs.Columns.{cast_number_if}
+use Rattle.td_sql.proofs.Columns.{cast_number_if, number_back}
 use Rattle.td_sql.proofs.Effects.{cast_int}
-use Rattle.td_sql.specs.Values.{number_if, number_or_null, number_value}
+use Rattle.td_sql.specs.Values.{number_or_null, number_value}
 use Rattle.td_tables.specs.Tables.{Keyed}
 
 -- the guarantee without its codes
 abbrev pub bare : Keyed Guarantee → Keyed Guarantee
 bare g = record g { row = record g.row { codes = [] } }
-
-pub number_back : (o : Option ℕ) → number_if (number_or_null o) ≡ o
-number_back None = refl
-number_back (Some n) = refl
 
 pub back : (g : Keyed Guarantee) → guarantee_from (guarantee_cells g) ≡ bare g
 back g = rw (number_back g.row.ends) refl

@@ -1,3 +1,3 @@
 mod Meanings
-mod CellLemmas
+pub mod CellLemmas
 mod Statements

@@ -1,6 +1,6 @@
 -- What the statements on the table of guarantees did.
-use Rattle.std.proofs.Common.{List, [], ap, false, map, refl, subst, ℕ, ◌∙◌, ◌∷◌, ◌≡◌}
-use Rattle.std.specs.Prelude.{if◌then◌else◌, ◌==◌}
+use Rattle.std.proofs.Common.{List, [], ap, false, map, refl, subst, ℕ, ◌∙◌, ◌∷◌, ◌≡◌, nat_cmp, Bool}
+use Rattle.std.specs.Prelude.{if◌then◌else◌, ◌==◌, filter}
 use Rattle.sqlite.specs.State.{State}
 use Rattle.sqlite_rules.specs.Cast.{cast_all}
 use Rattle.sqlite_sql.specs.Ops.{binary}
@@ -8,23 +8,28 @@ use Rattle.sqlite_sql.specs.Term.{eval_all}
 use Rattle.sqlite_sql.specs.declared.ops.BinaryOp.TheVariants.{Coalesce, Compare}
 use Rattle.sqlite_sql.specs.declared.ops.CompareOp.TheVariants.{Eq}
 use Rattle.sqlite_trees.specs.Tree.{rowid}
-use Rattle.sqlite_typed.proofs.TestLemmas.{last_term, then_term, then_value, truth_or}
+use Rattle.sqlite_typed.proofs.TestLemmas.{last_term, then_term, then_value, truth_or, last_key, then_key}
 use Rattle.sqlite_value.specs.Order.{Row, column}
 use Rattle.sqlite_value.specs.declared.keys.Collation.TheVariants.{Binary}
 use Rattle.sqlite_value.specs.declared.value.Value.TheVariants.{Text}
 use Rattle.td_acts.specs.declared.rows.NewTerms.{NewTerms}
 use Rattle.td_guarantee.specs.declared.guarantee.Guarantee.{Guarantee}
 use Rattle.td_guarantees.proofs.CellLemmas.{back, bare, cells_stored, given_else}
-use Rattle.td_guarantees.proofs.Meanings.{grn_tests, holder_tests, insert_means, new_row, serial_tests, set_columns, set_means}
+use Rattle.td_guarantees.proofs.Meanings.{grn_tests, holder_tests, insert_means, new_row, serial_tests, set_columns, set_means, by_serial}
 use Rattle.td_guarantees.specs.Cells.{guarantee_cells, guarantee_columns, guarantee_typing, guarantees_table}
-use Rattle.td_guarantees.specs.Stored.{TurnsGuarantees, has_grn, has_serial, is_of, terms_values, with_new_terms}
+use Rattle.td_guarantees.specs.Stored.{TurnsGuarantees, has_grn, has_serial, is_of, terms_values, with_new_terms, AreBySerial, AreGuarantees, row_of_stored}
 use Rattle.td_guarantees.specs.declared.texts.TheConstants.{INSERT, SET_TERMS}
 use Rattle.td_schema.specs.Tables.{desk_schema}
 use Rattle.td_sql.proofs.Columns.{given_or, number_is, text_is}
 use Rattle.td_sql.proofs.TypedRows.{inserted_typed, updated_typed}
-use Rattle.td_sql.specs.Typed.{IsTypedRow, row_of}
+use Rattle.td_sql.specs.Typed.{IsTypedRow, row_of, AreInOrder, rows_in}
 use Rattle.td_sql.specs.Values.{number_or_null, number_value}
 use Rattle.td_sql.specs.Writing.{Inserts, IsInserted, Updates, columns_set, passes}
+use Rattle.td_sql.proofs.Ordered.{Passes, numbers_compared, numbers_tie}
+use Rattle.td_sql.specs.Reading.{row_order}
+use Rattle.td_tables.proofs.Orders.{sorted_is_order}
+use Rattle.td_tables.specs.Gathering.{place}
+use Rattle.td_guarantees.specs.declared.stored.StoredGuarantee.{StoredGuarantee}
 use Rattle.td_tables.specs.Tables.{Keyed}
 
 pub inserted : (g : Keyed Guarantee) → bare g ≡ g → (values : Row) → values ≡ guarantee_cells g → (old new : State)
@@ -90,3 +95,24 @@ terms_turned H n terms values is old new h has typed =
     (number_or_null terms.reference ∷ number_or_null terms.cover ∷ number_or_null terms.ends ∷ []))
     (λ r row_is. terms_set r row_is H n terms)
     (λ r. back (with_new_terms terms (row_of guarantee_typing r))) done typed
+
+-- guarantees of one holder are compared by their serials
+pub compared : (H : ℕ) (a b : Row) → Passes guarantee_typing (is_of H) a → Passes guarantee_typing (is_of H) b
+    → row_order by_serial (number_value H ∷ []) a b
+    ≡ nat_cmp (place (row_of guarantee_typing a)) (place (row_of guarantee_typing b))
+compared H a b is other =
+    let x = row_of guarantee_typing a in
+    let y = row_of guarantee_typing b in
+    then_key
+    (numbers_compared (column a 1) (column b 1) x.holder y.holder (ap (λ l. column l 0) is.0)
+    (ap (λ l. column l 0) other.0) ∙ numbers_tie x.holder y.holder H is.1 other.1)
+    (last_key (numbers_compared (column a 2) (column b 2) (place x) (place y) (ap (λ l. column l 1) is.0)
+    (ap (λ l. column l 1) other.0)))
+
+-- so those that were fetched are they by their serials
+pub by_serials : (p : Keyed Guarantee → Bool) (old : State) (found : List StoredGuarantee) → AreGuarantees p old found
+    → AreInOrder guarantee_typing desk_schema (λ a b. nat_cmp (place a) (place b)) old (map row_of_stored found)
+    → AreBySerial p old found
+by_serials p old found those sorted has typed apart =
+    sorted_is_order place (map row_of_stored found) (filter p (rows_in guarantee_typing old.now.trees))
+    (those has typed) (sorted has typed) apart

@@ -1,14 +1,17 @@
 -- What is asked of the guarantees in a store's file, and what is said anew of one.
-use Rattle.std.specs.Prelude.{[], ◌∷◌, ℕ, ◌==◌, Bool, ◌&&◌, List, map, Option}
+use Rattle.std.specs.Prelude.{◌≡◌, [], ◌∷◌, ℕ, ◌==◌, Bool, ◌&&◌, List, filter, map, Option}
 use Rattle.std.specs.Option.{option_to_list}
 use Rattle.std.specs.Str.{bytes_eq}
 use Rattle.td_guarantee.specs.declared.guarantee.Guarantee.{Guarantee}
 use Rattle.td_acts.specs.Changes.{with_terms}
 use Rattle.td_acts.specs.declared.rows.NewTerms.{NewTerms}
+use Rattle.td_tables.specs.Apart.{IsApart}
+use Rattle.td_tables.specs.Gathering.{in_order, place}
 use Rattle.td_tables.specs.Tables.{Keyed}
 use Rattle.td_schema.specs.Tables.{desk_schema}
-use Rattle.td_sql.specs.Typed.{AreThose, Turns}
+use Rattle.td_sql.specs.Typed.{AreThose, AreTyped, Turns, rows_in}
 use Rattle.td_sql.specs.Values.{number_value, number_or_null}
+use Rattle.td_sql.specs.Writing.{HasSchema}
 use Rattle.sqlite_value.specs.declared.value.Value.TheVariants.{Text}
 use Rattle.sqlite_value.specs.Order.{Row}
 use Rattle.sqlite.specs.State.{State}
@@ -40,6 +43,13 @@ TurnsGuarantees f = Turns guarantee_typing desk_schema f
 -- these are the guarantees that pass the test
 abbrev pub AreGuarantees : (Keyed Guarantee → Bool) → State → List StoredGuarantee → Type 0
 AreGuarantees p state found = AreThose guarantee_typing desk_schema p state (map row_of_stored found)
+
+-- where no two of them have one serial, these are they by their serials
+abbrev pub AreBySerial : (Keyed Guarantee → Bool) → State → List StoredGuarantee → Type 0
+AreBySerial p state found =
+    HasSchema state desk_schema → AreTyped guarantee_typing state.now.trees
+    → IsApart place (filter p (rows_in guarantee_typing state.now.trees))
+    → map row_of_stored found ≡ in_order place (filter p (rows_in guarantee_typing state.now.trees))
 
 -- this is the guarantee that passes the test, or there is none
 abbrev pub IsTheGuarantee : (Keyed Guarantee → Bool) → State → Option StoredGuarantee → Type 0

@@ -8,7 +8,7 @@ ghost use Rattle.sqlite_value.specs.declared.value.Value.TheVariants.{Text};
 ghost use Rattle.td_schema.specs.Tables.{desk_schema};
 ghost use Rattle.td_sql.specs.Reading.{LeavesAll};
 ghost use Rattle.td_sql.specs.Values.{number_value};
-ghost use Rattle.td_guarantees.specs.Stored.{AreGuarantees, IsTheGuarantee, has_grn, has_serial, is_of};
+ghost use Rattle.td_guarantees.specs.Stored.{AreBySerial, AreGuarantees, IsTheGuarantee, has_grn, has_serial, is_of};
 
 use crate::stored::StoredGuarantee;
 use crate::texts::{BY_GRN, BY_SERIAL, OF_HOLDER};
@@ -17,7 +17,7 @@ use sqlite_trees::store::Alter;
 use sqlite_value::value::ValueRef;
 use std::alloc::Global;
 use td_base::{Grn, HolderNo};
-use td_columns::number_of;
+use td_columns::{holder_key, number_of, serial_key};
 use td_sql::{fetch, fetch_one};
 
 fn grn_values(holder: HolderNo, serial: u32, grn: &Grn) -> [ValueRef<'_>; 3]
@@ -28,18 +28,6 @@ fn grn_values(holder: HolderNo, serial: u32, grn: &Grn) -> [ValueRef<'_>; 3]
         number_of(serial),
         ValueRef::Text(grn.as_bytes()),
     ]
-}
-
-fn serial_values(holder: HolderNo, serial: u32) -> [ValueRef<'static>; 2]
-    ensures { bound result ≡ number_value holder ∷ number_value serial ∷ [] }
-{
-    [number_of(holder.number()), number_of(serial)]
-}
-
-fn holder_values(holder: HolderNo) -> [ValueRef<'static>; 1]
-    ensures { bound result ≡ number_value holder ∷ [] }
-{
-    [number_of(holder.number())]
 }
 
 /// The holder's guarantee with a serial and exactly a GRN, if there is one.
@@ -82,10 +70,10 @@ pub fn find_by_serial<S: Alter>(
         → KeepsCommit (state S.Store tx.old.conn.now) (state S.Store tx.new.conn.now) }
     ensures survives { Survives (state S.Store tx.old.conn.now) (state S.Store tx.new.conn.now) (λ _. ⊥) }
 {
-    fetch_one(alloc, tx, BY_SERIAL, &serial_values(holder, serial))
+    fetch_one(alloc, tx, BY_SERIAL, &serial_key(holder, serial))
 }
 
-/// All guarantees of a holder.
+/// All guarantees of a holder, by their serials.
 pub fn guarantees_of<S: Alter>(
     alloc: Global,
     tx: &mut Transaction<'_, S>,
@@ -95,6 +83,8 @@ pub fn guarantees_of<S: Alter>(
     ensures same_reference { tx.new.conn.ghost_name ≡ tx.old.conn.ghost_name }
     ensures found { HasCleanDisk (state S.Store tx.new.conn.now)
         → IfOk result (λ found. AreGuarantees (is_of holder) (state S.Store tx.old.conn.now) found.items) }
+    ensures order { HasCleanDisk (state S.Store tx.new.conn.now)
+        → IfOk result (λ found. AreBySerial (is_of holder) (state S.Store tx.old.conn.now) found.items) }
     ensures still { HasCleanDisk (state S.Store tx.new.conn.now)
         → OnOk result (LeavesAll desk_schema (state S.Store tx.old.conn.now) (state S.Store tx.new.conn.now)) }
     ensures inside { HasCleanDisk (state S.Store tx.new.conn.now) → OnOk result (IsTrue (state S.Store tx.new.conn.now).in_transaction) }
@@ -102,5 +92,5 @@ pub fn guarantees_of<S: Alter>(
         → KeepsCommit (state S.Store tx.old.conn.now) (state S.Store tx.new.conn.now) }
     ensures survives { Survives (state S.Store tx.old.conn.now) (state S.Store tx.new.conn.now) (λ _. ⊥) }
 {
-    fetch(alloc, tx, OF_HOLDER, &holder_values(holder))
+    fetch(alloc, tx, OF_HOLDER, &holder_key(holder))
 }

@@ -13,9 +13,7 @@ use sqlite_trees::store::Alter;
 use sqlite_value::value::ValueRef;
 use td_acts::NewTerms;
 use td_base::HolderNo;
-use td_columns::{
-    amount_of, amount_or_null, cover_of, cover_or_null, day_or_null, number_of,
-};
+use td_columns::{amount_of, amount_or_null, cover_of, cover_or_null, day_or_null, number_of};
 use td_guarantee::Guarantee;
 
 // The columns of a guarantee's row.

@@ -1,8 +1,8 @@
 -- What the statements on the table of lines did.
 use Rattle.sqlite.specs.State.{State}
-use Rattle.std.proofs.Common.{subst, IsPermutation, List, [], ap, map, nat_cmp, refl, ℕ, ◌∙◌, ◌∷◌, ◌≡◌}
+use Rattle.std.proofs.Common.{subst, IsPermutation, List, [], ap, map, nat_cmp, refl, ℕ, ◌∷◌, ◌≡◌}
 use Rattle.std.specs.Prelude.{pos, ◌==◌}
-use Rattle.sqlite_typed.proofs.TestLemmas.{last_key, last_term, then_key, then_term, then_value}
+use Rattle.sqlite_typed.proofs.TestLemmas.{last_term, then_term, then_value}
 use Rattle.td_sql.proofs.Effects.{cast_int}
 use Rattle.td_lines.proofs.Meanings.{by_number, insert_means, key_tests, new_row}
 use Rattle.sqlite_rules.specs.Cast.{cast_all}
@@ -15,7 +15,7 @@ use Rattle.td_lines.specs.Stored.{AreByNumber, AreLines, TurnsLines, is_line_of,
 use Rattle.td_lines.specs.declared.texts.TheConstants.{INSERT}
 use Rattle.td_schema.specs.Tables.{desk_schema}
 use Rattle.td_sql.proofs.Columns.{number_is}
-use Rattle.td_sql.proofs.Ordered.{Passes, both_pass, numbers_compared, numbers_tie}
+use Rattle.td_sql.proofs.Ordered.{Passes, both_pass, by_third, numbers_compared}
 use Rattle.td_tables.proofs.Counting.{filter_both}
 use Rattle.td_tables.proofs.Orders.{sorted_is_order}
 use Rattle.td_tables.specs.Gathering.{no_of, place}
@@ -56,19 +56,13 @@ key_passes H n r is =
 pub compared : (H n : ℕ) (a b : Row) → Passes line_typing (is_line_of H n) a → Passes line_typing (is_line_of H n) b
     → row_order by_number (number_value H ∷ number_value n ∷ []) a b
     ≡ nat_cmp (no_of (row_of line_typing a)) (no_of (row_of line_typing b))
-compared H n a b is other =
-    let x = row_of line_typing a in
-    let y = row_of line_typing b in
-    let here = both_pass (x.holder == H) (x.serial == n) is.1 in
-    let there = both_pass (y.holder == H) (y.serial == n) other.1 in
-    then_key
-    (numbers_compared (column a 1) (column b 1) x.holder y.holder (ap (λ l. column l 0) is.0)
-    (ap (λ l. column l 0) other.0) ∙ numbers_tie x.holder y.holder H here.0 there.0)
-    (then_key
-    (numbers_compared (column a 2) (column b 2) x.serial y.serial (ap (λ l. column l 1) is.0)
-    (ap (λ l. column l 1) other.0) ∙ numbers_tie x.serial y.serial n here.1 there.1)
-    (last_key (numbers_compared (column a 3) (column b 3) (no_of x) (no_of y) (ap (λ l. column l 2) is.0)
-    (ap (λ l. column l 2) other.0))))
+compared H n =
+    by_third line_typing (is_line_of H n) (λ l. l.holder) H (λ r is. ap (λ l. column l 0) is)
+    (λ l passes. (both_pass (l.holder == H) (l.serial == n) passes).0) (number_value H ∷ number_value n ∷ [])
+    (λ l. l.serial) n (λ r is. ap (λ l. column l 1) is)
+    (λ l passes. (both_pass (l.holder == H) (l.serial == n) passes).1) (λ x y. nat_cmp (no_of x) (no_of y))
+    (λ a b is other. numbers_compared (column a 3) (column b 3) (no_of (row_of line_typing a))
+    (no_of (row_of line_typing b)) (ap (λ l. column l 2) is) (ap (λ l. column l 2) other))
 
 -- so those that were fetched are they by their numbers
 pub by_numbers : (H n : ℕ) (old : State) (found : List StoredLine) → AreLines (is_line_of H n) old found

@@ -1,18 +1,17 @@
 -- The columns of a movement are stored as they are, and read back as the movement.
-use Rattle.sqlite_rules.specs.Cast.{cast_all}
-use Rattle.std.proofs.Common.{List, None, Option, Some, [], refl, ℕ, ◌≡◌}
+use Rattle.std.proofs.Common.{[], refl, ◌≡◌}
 use Rattle.std.specs.Prelude.{codes, pos, ◌||◌}
 use Rattle.std.specs.Str.{bytes_eq}
+use Rattle.sqlite_rules.specs.Cast.{cast_all}
+use Rattle.sqlite_typed.proofs.TestLemmas.{then_value}
 use Rattle.td_movement.specs.States.{is_counting, state_name}
 use Rattle.td_movement.specs.declared.movement.Movement.{Movement}
 use Rattle.td_movement.specs.declared.state.State.{State}
 use Rattle.td_movement.specs.declared.state.State.TheVariants.{Accepted, Arrived, Cancelled, Cleared, Discrepant, Enquired, Released, WrittenOff}
 use Rattle.td_movements.specs.Cells.{movement_cells, movement_from, movements_table, state_in}
-use Rattle.td_sql.proofs.Columns.{cast_number_if, cast_text_if}
+use Rattle.td_sql.proofs.Columns.{cast_number_if, cast_text_if, number_back, text_back}
 use Rattle.td_sql.proofs.Effects.{cast_int}
-use Rattle.td_sql.specs.Values.{number_if, number_or_null, text_if, text_or_null}
 use Rattle.td_tables.specs.Tables.{Keyed}
-use Rattle.sqlite_typed.proofs.TestLemmas.{then_value}
 
 -- the movement without its lines
 abbrev pub bare : Keyed Movement → Keyed Movement
@@ -27,14 +26,6 @@ state_back Arrived = refl
 state_back Discrepant = refl
 state_back Cleared = refl
 state_back WrittenOff = refl
-
-number_back : (o : Option ℕ) → number_if (number_or_null o) ≡ o
-number_back None = refl
-number_back (Some n) = refl
-
-text_back : (o : Option (List ℕ)) → text_if (text_or_null o) ≡ o
-text_back None = refl
-text_back (Some t) = refl
 
 pub back : (m : Keyed Movement) → movement_from (movement_cells m) ≡ bare m
 back m = rw (state_back m.row.state, number_back m.row.limit, number_back m.row.arrival, text_back m.row.actual)

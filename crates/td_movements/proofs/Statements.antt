@@ -1,8 +1,8 @@
 -- What the statements on the table of movements did.
-use Rattle.std.proofs.Common.{IsPermutation, Bool, nat_cmp, true, List, [], ap, false, map, refl, subst, ℕ, ◌∙◌, ◌∷◌, ◌≡◌}
+use Rattle.std.proofs.Common.{Bool, nat_cmp, true, List, [], ap, false, map, refl, subst, ℕ, ◌∙◌, ◌∷◌, ◌≡◌}
 use Rattle.std.specs.Prelude.{filter, codes, if◌then◌else◌, ◌==◌}
-use Rattle.sqlite_typed.proofs.TestLemmas.{then_key, last_key, at_or, last_term, then_term, truth_or, then_value}
-use Rattle.td_sql.proofs.Ordered.{Passes, numbers_compared, numbers_tie}
+use Rattle.sqlite_typed.proofs.TestLemmas.{at_or, last_term, then_term, truth_or, then_value}
+use Rattle.td_sql.proofs.Ordered.{Passes, by_second}
 use Rattle.td_sql.specs.Reading.{row_order}
 use Rattle.td_sql.specs.Typed.{AreInOrder, rows_in, IsTypedRow, row_of}
 use Rattle.td_tables.proofs.Orders.{sorted_is_order}
@@ -120,14 +120,9 @@ module _ (H : ℕ) (p : Keyed Movement → Bool)
   pub compared : (a b : Row) → Passes movement_typing p a → Passes movement_typing p b
       → row_order by_serial (number_value H ∷ []) a b
       ≡ nat_cmp (place (row_of movement_typing a)) (place (row_of movement_typing b))
-  compared a b is other =
-      let x = row_of movement_typing a in
-      let y = row_of movement_typing b in
-      then_key
-      (numbers_compared (column a 1) (column b 1) x.holder y.holder (ap (λ l. column l 0) is.0)
-      (ap (λ l. column l 0) other.0) ∙ numbers_tie x.holder y.holder H (own x is.1) (own y other.1))
-      (last_key (numbers_compared (column a 2) (column b 2) (place x) (place y) (ap (λ l. column l 1) is.0)
-      (ap (λ l. column l 1) other.0)))
+  compared =
+      by_second movement_typing p (λ m. m.holder) H (λ r is. ap (λ l. column l 0) is) own (number_value H ∷ []) place
+      (λ r is. ap (λ l. column l 1) is)
 
 -- so those that were fetched are they by their serials
 pub by_serials : (p : Keyed Movement → Bool) (old : State) (found : List StoredMovement) → AreMovements p old found

@@ -19,6 +19,7 @@ use Rattle.std.specs.Option.{option_or}
 use Rattle.std.specs.Prelude.{if◌then◌else◌, pos, ◌&&◌, ◌==◌}
 use Rattle.std.specs.Str.{bytes_eq}
 use Rattle.td_sql.proofs.Effects.{cast_int}
+use Rattle.td_sql.specs.Values.{number_if, number_or_null, text_if, text_or_null}
 use Rattle.sqlite_schema.specs.declared.schema.Kind.TheVariants as kind
 
 -- an integer, a text and NULL are stored as they are
@@ -35,6 +36,15 @@ cast_number_if (Some n) = cast_int (pos n)
 pub cast_text_if : (o : Option (List ℕ)) → cast kind.Text (or_null Text o) ≡ or_null Text o
 cast_text_if None = refl
 cast_text_if (Some t) = refl
+
+-- a number, and a text, that may be NULL is read back
+pub number_back : (o : Option ℕ) → number_if (number_or_null o) ≡ o
+number_back None = refl
+number_back (Some n) = refl
+
+pub text_back : (o : Option (List ℕ)) → text_if (text_or_null o) ≡ o
+text_back None = refl
+text_back (Some t) = refl
 
 numbers_same : (n N : ℕ) → int_eq (pos n) (pos N) ≡ (n == N)
 numbers_same n N = grind (arith, ints, nat_tests)

@@ -1,4 +1,9 @@
 -- Typed rows that were shown in an order stand in it.
+use Rattle.sqlite_sql.specs.Term.{col}
+use Rattle.sqlite_typed.proofs.TestLemmas.{last_key, then_key}
+use Rattle.sqlite_value.specs.Order.{column, Row, value_cmp}
+use Rattle.td_sql.specs.Reading.{row_order, IsAnswerOf}
+use Rattle.td_sql.specs.Values.{number_value}
 use Rattle.std.proofs.Common.{Bool, Equal, List, [], ap, arith, cond, false, map, nat_cmp, refl, subst, sym, true, true≢false, ℕ, ◌+◌, ◌∙◌, ◌∷◌, ◌≡◌}
 use Rattle.std.specs.Prelude.{filter, pos, ◌&&◌, ◌==◌}
 use Rattle.std.specs.Cmp.Lexicographic.{slice_cmp}
@@ -16,8 +21,6 @@ use Rattle.sqlite_value.specs.declared.keys.Collation.TheVariants.{Binary}
 use Rattle.sqlite_value.specs.declared.value.Value.{Value}
 use Rattle.sqlite_value.specs.declared.value.Value.TheVariants.{Int, Text}
 use Rattle.sqlite_value.specs.Keys.{ascending, by_key}
-use Rattle.sqlite_value.specs.Order.{Row, value_cmp}
-use Rattle.td_sql.specs.Reading.{IsAnswerOf}
 use Rattle.td_sql.specs.Typed.{AreTyped, IsTypedRow, Typing, row_of}
 
 numbers_alike : (m n : ℕ) → int_cmp (pos m) (pos n) ≡ nat_cmp m n
@@ -83,3 +86,39 @@ module _ {R : Type 0} (ty : Typing R) (p : R → Bool) where
       subst (IsSorted cmp) (sym read)
       (IsSorted-map cmp (row_of ty) a.found
       (sorted_alike Passes order (λ x y. cmp (row_of ty x) (row_of ty y)) compares a.found passed a.sorted))
+
+-- two tie in a column that holds the same number in each row that passes
+module _ {R : Type 0} (ty : Typing R) (p : R → Bool) where
+  ties : (at : ℕ) (key : R → ℕ) (k : ℕ) → ((r : Row) → IsTypedRow ty r → column r at ≡ number_value (key (row_of ty r)))
+      → ((x : R) → p x ≡ true → (key x == k) ≡ true) → (a b : Row) → Passes ty p a → Passes ty p b
+      → by_key (ascending Binary) (column a at) (column b at) ≡ Equal
+  ties at key k holds own a b is other =
+      numbers_compared (column a at) (column b at) (key (row_of ty a)) (key (row_of ty b)) (holds a is.0) (holds b other.0)
+      ∙ numbers_tie (key (row_of ty a)) (key (row_of ty b)) k (own (row_of ty a) is.1) (own (row_of ty b) other.1)
+
+  module _ (first : R → ℕ) (H : ℕ)
+      (firsts : (r : Row) → IsTypedRow ty r → column r 1 ≡ number_value (first (row_of ty r)))
+      (own : (x : R) → p x ≡ true → (first x == H) ≡ true) (values : Row) where
+    -- so rows with one number in the first column stand by the second
+    pub by_second : (second : R → ℕ)
+        → ((r : Row) → IsTypedRow ty r → column r 2 ≡ number_value (second (row_of ty r)))
+        → (a b : Row) → Passes ty p a → Passes ty p b
+        → row_order ((col 1 1, ascending Binary) ∷ (col 1 2, ascending Binary) ∷ []) values a b
+        ≡ nat_cmp (second (row_of ty a)) (second (row_of ty b))
+    by_second second seconds a b is other =
+        then_key (ties 1 first H firsts own a b is other)
+        (last_key (numbers_compared (column a 2) (column b 2) (second (row_of ty a)) (second (row_of ty b))
+        (seconds a is.0) (seconds b other.0)))
+
+    -- and those with one number in each of the first two by the third
+    pub by_third : (second : R → ℕ) (n : ℕ)
+        → ((r : Row) → IsTypedRow ty r → column r 2 ≡ number_value (second (row_of ty r)))
+        → ((x : R) → p x ≡ true → (second x == n) ≡ true) → (cmp : R → R → Ordering)
+        → ((a b : Row) → IsTypedRow ty a → IsTypedRow ty b
+        → by_key (ascending Binary) (column a 3) (column b 3) ≡ cmp (row_of ty a) (row_of ty b))
+        → (a b : Row) → Passes ty p a → Passes ty p b
+        → row_order ((col 1 1, ascending Binary) ∷ (col 1 2, ascending Binary) ∷ (col 1 3, ascending Binary) ∷ []) values a b
+        ≡ cmp (row_of ty a) (row_of ty b)
+    by_third second n seconds own_second cmp thirds a b is other =
+        then_key (ties 1 first H firsts own a b is other)
+        (then_key (ties 2 second n seconds own_second a b is other) (last_key (thirds a b is.0 other.0)))

@@ -16,7 +16,7 @@ pub returns-clause-found : goal.returns-clause-found
 returns-clause-found g c clean =
     one_fetched guarantee_typing desk_schema row_of_stored BY_SERIAL.now serial_tests all_columns []
     (has_serial c.args.holder c.args.serial) (number_value c.args.holder ∷ number_value c.args.serial ∷ [])
-    _ c.serial_values.ensures by_serial_means (λ r is. serial_passes r is c.args.holder c.args.serial) (λ r. refl)
+    _ c.serial_key.ensures by_serial_means (λ r is. serial_passes r is c.args.holder c.args.serial) (λ r. refl)
     (state g.S.Store c.args.tx.now.conn.now) c.fetch_one.result (c.fetch_one.ensures.found clean)
 
 pub returns-clause-still : goal.returns-clause-still

@@ -1,29 +1,14 @@
-use Rattle.std.proofs.Common.{Err, Ok, Result, refl, ◌∷◌}
-use Rattle.std.specs.Prelude.{OnOk}
+use Rattle.std.proofs.Common.{refl}
 use Rattle.sqlite.specs.Held.{state}
-use Rattle.sqlite.specs.State.{State}
 use Rattle.sqlite.specs.Values.{bound}
-use Rattle.sqlite.specs.declared.error.Error.{Error}
-use Rattle.td_sql.specs.Writing.{Inserts}
+use Rattle.td_sql.proofs.Leaving.{on_ok}
 use Rattle.td_tables.specs.Tables.{guarantee_row}
-use Rattle.td_guarantees.specs.Stored.{TurnsGuarantees}
-use Rattle.td_guarantees.specs.declared.texts.TheConstants.{INSERT}
 use Rattle.td_guarantees.proofs.Statements.{inserted}
 use Rattle.td_guarantees.proofs.writing.insert_guarantee.Goals as goal
 
 pub returns-clause-inserted : goal.returns-clause-inserted
-returns-clause-inserted g c clean = by_result c.insert.result (c.insert.ensures.inserted clean)
-  where
-    old : State
-    old = state g.S.Store c.args.tx.now.conn.now
-
-    new : State
-    new = state g.S.Store c.insert.new.tx.conn.now
-
-    by_result : (r : Result (Unit {0}) Error) → OnOk r (Inserts INSERT.now (bound c.columns.result) old new)
-        → OnOk r (TurnsGuarantees
-        (λ rows. guarantee_row c.args.holder (c.args.serial, c.args.guarantee.now) ∷ rows) old new)
-    by_result (Ok x) did =
-        inserted (guarantee_row c.args.holder (c.args.serial, c.args.guarantee.now)) refl
-        (bound c.columns.result) c.columns.ensures old new did
-    by_result (Err e) did = did
+returns-clause-inserted g c clean =
+    on_ok c.insert.result
+    (inserted (guarantee_row c.args.holder (c.args.serial, c.args.guarantee.now)) refl (bound c.columns.result)
+    c.columns.ensures (state g.S.Store c.args.tx.now.conn.now) (state g.S.Store c.insert.new.tx.conn.now))
+    (c.insert.ensures.inserted clean)

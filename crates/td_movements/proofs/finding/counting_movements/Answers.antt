@@ -29,7 +29,7 @@ returns-clause-order g c clean =
     (returns-clause-found g c clean)
     (in_order_fetched movement_typing desk_schema row_of_stored COUNTING.now counting_tests all_columns by_serial
     (counts_for c.args.holder) (number_value c.args.holder ∷ []) _ c.holder_key.ensures counting_means
-    (λ r is. counting_passes r is c.args.holder) (λ r. refl) (state g.S.Store c.args.tx.now.conn.now)
+    (λ r is. counting_passes r is c.args.holder [] []) (λ r. refl) (state g.S.Store c.args.tx.now.conn.now)
     (λ a b. nat_cmp (place a) (place b)) (compared c.args.holder (counts_for c.args.holder) (λ m is. (both_pass (m.holder == c.args.holder) (is_counting m.row.state) is).0))
     c.fetch.result (c.fetch.ensures.found clean))
 

@@ -1,5 +1,5 @@
 use Rattle.std.proofs.Common.{◌≡◌, take}
-use Rattle.td_acts.proofs.finding.copy_entries.Given as goal
+use Rattle.td_acts.proofs.rows.copy_entries.Given as goal
 
 -- the entries so far
 abbrev pub invariant-loop-guarantee : goal.invariant-loop-guarantee
