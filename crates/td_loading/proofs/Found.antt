@@ -12,14 +12,14 @@ use Rattle.td_guarantee.specs.Codes.{AreAscending, with_code}
 use Rattle.td_guarantee.specs.declared.guarantee.Guarantee.{Guarantee}
 use Rattle.td_movement.specs.declared.line.Line.{Line}
 use Rattle.td_movement.specs.declared.movement.Movement.{Movement}
-use Rattle.td_acts.specs.Account.{guarantee_by_grn, movement_by_lrn, movement_by_mrn}
+use Rattle.td_acts.specs.Account.{Account, guarantee_by_grn, movement_by_lrn, movement_by_mrn}
 use Rattle.td_desk.specs.Content.{Content, account_in}
 use Rattle.td_tables.specs.Tables.{Keyed, LineCells, Tables, guarantee_no}
-use Rattle.td_tables.specs.Gathering.{codes_by, line_from, lines_by, with_codes, with_lines}
+use Rattle.td_tables.specs.Gathering.{codes_by, line_from, lines_by, movements_by, with_codes, with_lines}
 use Rattle.td_tables.specs.Looking.{movement_no}
 use Rattle.td_tables.specs.Rules.{KeepRules}
 use Rattle.td_tables.proofs.KeepingRules.{keep_rules}
-use Rattle.td_tables.proofs.Looked.{are_found}
+use Rattle.td_tables.proofs.Looked.{account_is, are_found}
 use Rattle.td_tables.proofs.Told.{references_tell}
 use Rattle.td_schema.specs.Tables.{desk_schema}
 use Rattle.td_sql.specs.Reading.{LeavesAll}
@@ -29,7 +29,7 @@ use Rattle.td_guarantees.specs.Stored.{IsTheGuarantee, has_grn, has_serial, row_
 use Rattle.td_guarantees.specs.declared.stored.StoredGuarantee.{StoredGuarantee}
 use Rattle.td_lines.specs.Stored.{AreByNumber, row_of_stored as row_of_line}
 use Rattle.td_lines.specs.declared.stored.StoredLine.{StoredLine}
-use Rattle.td_movements.specs.Stored.{IsTheMovement, has_lrn, has_mrn, row_of_stored as row_of_movement}
+use Rattle.td_movements.specs.Stored.{AreBySerial, IsTheMovement, has_lrn, has_mrn, is_of, row_of_stored as row_of_movement}
 use Rattle.td_movements.specs.declared.stored.StoredMovement.{StoredMovement}
 use Rattle.td_store_tables.specs.Rows.{HoldsContent, tables_in}
 use Rattle.td_loading.specs.Loaded.{IsOfContent, IsOfTables, LeavesTables, code_of}
@@ -84,6 +84,27 @@ whole_movement a b stored rows lines order still each content holds =
     ap (λ (l : List Line). record stored.movement { lines = l })
     (said_before (λ t. map (λ r. line_from t (row_of_line r)) rows) a b lines (as_tables a b still) each content holds
     ∙ sym (map-map (line_from t) row_of_line rows) ∙ ap (map (line_from t)) found)
+
+-- one movement more, read out of a copy of its row
+pub next_movement : (a b : State) (rows : List StoredMovement) (i : ℕ) (d row stored : StoredMovement) (movements : List Movement) (m : Movement) → i < length rows → row ≡ get_or rows i d → stored ≡ row → LeavesTables a b
+    → IsOfTables (λ t. map (λ r. with_lines t (row_of_movement r)) (take i rows)) a movements → IsOfTables (λ t. with_lines t (row_of_movement stored)) b m
+    → IsOfTables (λ t. map (λ r. with_lines t (row_of_movement r)) (take (i + 1) rows)) a (movements ++ m ∷ [])
+next_movement a b rows i d row stored movements m within is copied left before next content holds =
+    let t : Tables = tables_in a.now.trees in
+    let here : m ≡ with_lines t (row_of_movement stored) = said_before (λ t. with_lines t (row_of_movement stored)) a b m left next content holds in
+    ap₂ (λ l x. l ++ x ∷ []) (before content holds) (here ∙ ap (λ r. with_lines t (row_of_movement r)) (copied ∙ is))
+    ∙ sym (map-append (λ r. with_lines t (row_of_movement r)) (take i rows) (get_or rows i d ∷ [])) ∙ ap (map (λ r. with_lines t (row_of_movement r))) (sym (take_more rows i d within))
+
+-- all movements of a holder
+pub all_movements : (a b : State) (H : ℕ) (rows : List StoredMovement) (movements : List Movement) → AreBySerial (is_of H) a rows → LeavesAll desk_schema a b
+    → IsOfTables (λ t. map (λ r. with_lines t (row_of_movement r)) rows) b movements → (content : Content) → HoldsContent content a → movements ≡ (account_in H content).movements
+all_movements a b H rows movements order still each content holds =
+    let t : Tables = tables_in a.now.trees in
+    let keep : KeepRules t = keep_rules t content holds.sound holds.tables in
+    let found : map row_of_movement rows ≡ movements_by H t = order holds.schema holds.typed.movements (keep.stored.movements H) in
+    said_before (λ t. map (λ r. with_lines t (row_of_movement r)) rows) a b movements (as_tables a b still) each content holds
+    ∙ sym (map-map (with_lines t) row_of_movement rows) ∙ ap (map (with_lines t)) found
+    ∙ ap (λ (account : Account). account.movements) (sym (account_is t content holds.sound holds.tables H))
 
 listed : {X Y : Type 0} (f : X → Y) (o : Option X) → map f (option_to_list o) ≡ option_to_list (option_map f o)
 listed f None = refl

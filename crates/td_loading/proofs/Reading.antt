@@ -1,5 +1,5 @@
 -- What statements one after another have read: nothing is changed.
-use Rattle.std.proofs.Common.{◌≡◌, ◌∙◌, ap, inl, refl, subst, sym, arith}
+use Rattle.std.proofs.Common.{◌≡◌, ◌∙◌, ℕ, List, ap, inl, refl, subst, sym, arith}
 use Rattle.std.specs.Prelude.{IsTrue}
 use Rattle.sqlite.specs.Effect.{Database}
 use Rattle.sqlite.specs.State.{State, HasCleanDisk, IsUnchanged, KeepsCommit, Survives}
@@ -9,7 +9,7 @@ use Rattle.td_schema.specs.Tables.{desk_schema}
 use Rattle.td_sql.specs.Reading.{LeavesAll}
 use Rattle.td_sql.specs.Writing.{HasSchema}
 use Rattle.sqlite.proofs.StateLemmas.{survives_then, unchanged}
-use Rattle.td_loading.specs.Loaded.{IsOfTables, LeavesTables}
+use Rattle.td_loading.specs.Loaded.{IsOfContent, IsOfTables, LeavesTables}
 use Rattle.td_store_tables.specs.Rows.{AreAllTyped, HoldsContent, tables_in}
 
 unchanged_then : (a b d : State) → IsUnchanged a b → IsUnchanged b d → IsUnchanged a d
@@ -64,6 +64,12 @@ pub said_before : {X : Type 0} (f : Tables → X) (a b : State) (x : X) → Leav
 said_before f a b x left says c holds =
     let one = left holds.schema in
     subst (λ (d : Database). x ≡ f (tables_in d.trees)) one.now_is (says c (still_holds c a b one.now_is one.schema holds))
+
+pub content_before : {X : Type 0} (country : List ℕ) (f : Content → X) (a b : State) (x : X) → LeavesTables a b → IsOfContent country f b x
+    → IsOfContent country f a x
+content_before country f a b x left says c holds at =
+    let one = left holds.schema in
+    says c (still_holds c a b one.now_is one.schema holds) at
 
 pub as_tables : (a b : State) → LeavesAll desk_schema a b → LeavesTables a b
 as_tables a b still has =

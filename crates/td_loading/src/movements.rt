@@ -20,7 +20,7 @@ use td_base::{Country, HolderNo, Lrn, Mrn};
 use td_guarantees::find_by_serial;
 use td_lines::{StoredLine, lines_of};
 use td_movement::{Line, Movement, MovementLines};
-use td_movements::{StoredMovement, find_by_lrn, find_by_mrn};
+use td_movements::{StoredMovement, find_by_lrn, find_by_mrn, movements_of};
 
 // The line in a row, on the guarantee that the row names.
 fn line_on<S: Alter>(
@@ -149,4 +149,57 @@ pub fn load_movement_by_lrn<S: Alter>(
         return Ok(None);
     };
     Ok(Some(movement_with_lines(alloc, tx, stored)?))
+}
+
+/// All movements of a holder with their lines, by their serials.
+pub fn load_all_movements<S: Alter>(
+    alloc: Global,
+    tx: &mut Transaction<'_, S>,
+    holder: HolderNo,
+) -> Result<Vec<Movement>, Error>
+    requires { HasCleanDisk (state S.Store tx.old.conn.now) → IsTrue (state S.Store tx.old.conn.now).in_transaction }
+    ensures same_reference { tx.new.conn.ghost_name ≡ tx.old.conn.ghost_name }
+    ensures found { HasCleanDisk (state S.Store tx.new.conn.now)
+        → IfOk result (λ found. (c : Content) → HoldsContent c (state S.Store tx.old.conn.now)
+        → found.items ≡ (account_in holder c).movements) }
+    ensures still { HasCleanDisk (state S.Store tx.new.conn.now)
+        → OnOk result (LeavesAll desk_schema (state S.Store tx.old.conn.now) (state S.Store tx.new.conn.now)) }
+    ensures inside { HasCleanDisk (state S.Store tx.new.conn.now) → OnOk result (IsTrue (state S.Store tx.new.conn.now).in_transaction) }
+    ensures kept { HasCleanDisk (state S.Store tx.new.conn.now)
+        → KeepsCommit (state S.Store tx.old.conn.now) (state S.Store tx.new.conn.now) }
+    ensures survives { Survives (state S.Store tx.old.conn.now) (state S.Store tx.new.conn.now) (λ _. ⊥) }
+{
+    let rows = movements_of(alloc, tx, holder)?;
+    all_with_lines(alloc, tx, &rows)
+}
+
+// The movements in rows with their lines, in their order.
+fn all_with_lines<S: Alter>(
+    alloc: Global,
+    tx: &mut Transaction<'_, S>,
+    rows: &[StoredMovement],
+) -> Result<Vec<Movement>, Error>
+    requires { HasCleanDisk (state S.Store tx.old.conn.now) → IsTrue (state S.Store tx.old.conn.now).in_transaction }
+    ensures same_reference { tx.new.conn.ghost_name ≡ tx.old.conn.ghost_name }
+    ensures whole { HasCleanDisk (state S.Store tx.new.conn.now)
+        → IfOk result (λ found. IsOfTables (λ t. map (λ m. with_lines t (row_of_stored m)) rows.now)
+        (state S.Store tx.old.conn.now) found.items) }
+    ensures still { HasCleanDisk (state S.Store tx.new.conn.now)
+        → OnOk result (LeavesTables (state S.Store tx.old.conn.now) (state S.Store tx.new.conn.now)) }
+    ensures inside { HasCleanDisk (state S.Store tx.new.conn.now) → OnOk result (IsTrue (state S.Store tx.new.conn.now).in_transaction) }
+    ensures kept { HasCleanDisk (state S.Store tx.new.conn.now)
+        → KeepsCommit (state S.Store tx.old.conn.now) (state S.Store tx.new.conn.now) }
+    ensures survives { Survives (state S.Store tx.old.conn.now) (state S.Store tx.new.conn.now) (λ _. ⊥) }
+{
+    let mut movements = Vec::with_capacity(alloc, rows.len())?;
+    'rows: for row in rows {
+        let stored = StoredMovement {
+            holder: row.holder,
+            serial: row.serial,
+            movement: row.movement.copy(alloc)?,
+        };
+        let movement = movement_with_lines(alloc, tx, stored)?;
+        movements.push(movement)?;
+    }
+    Ok(movements)
 }
