@@ -14,7 +14,7 @@ use Rattle.td_movement.specs.declared.line.Line.{Line}
 use Rattle.td_movement.specs.declared.movement.Movement.{Movement}
 use Rattle.td_acts.specs.Account.{Account, guarantee_by_grn, movement_by_lrn, movement_by_mrn}
 use Rattle.td_desk.specs.Content.{Content, account_in}
-use Rattle.td_tables.specs.Tables.{Keyed, LineCells, Tables, guarantee_no}
+use Rattle.td_tables.specs.Tables.{Keyed, Tables, guarantee_no}
 use Rattle.td_tables.specs.Gathering.{codes_by, line_from, lines_by, movements_by, with_codes, with_lines}
 use Rattle.td_tables.specs.Looking.{movement_no}
 use Rattle.td_tables.specs.Rules.{KeepRules}
@@ -32,7 +32,7 @@ use Rattle.td_lines.specs.declared.stored.StoredLine.{StoredLine}
 use Rattle.td_movements.specs.Stored.{AreBySerial, IsTheMovement, has_lrn, has_mrn, is_of, row_of_stored as row_of_movement}
 use Rattle.td_movements.specs.declared.stored.StoredMovement.{StoredMovement}
 use Rattle.td_store_tables.specs.Rows.{HoldsContent, tables_in}
-use Rattle.td_loading.specs.Loaded.{IsOfContent, IsOfTables, LeavesTables, code_of}
+use Rattle.td_loading.specs.Loaded.{IsOfTables, LeavesTables, code_of}
 use Rattle.td_loading.proofs.Reading.{as_tables, said_before}
 use Rattle.td_loading.proofs.Whole.{code_forms, codes_ascend, found_alone, grn_alone, next_code}
 

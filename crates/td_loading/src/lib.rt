@@ -6,4 +6,6 @@ mod guarantees;
 mod movements;
 
 pub use guarantees::{gather_codes, guarantee_with_codes, load_guarantee, load_guarantees_of};
-pub use movements::{load_all_movements, load_movement_by_lrn, load_movement_by_mrn, movement_with_lines};
+pub use movements::{
+    load_all_movements, load_movement_by_lrn, load_movement_by_mrn, movement_with_lines,
+};

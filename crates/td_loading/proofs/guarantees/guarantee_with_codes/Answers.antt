@@ -1,4 +1,4 @@
-use Rattle.std.proofs.Common.{◌≡◌, List, map, subst, ℕ}
+use Rattle.std.proofs.Common.{◌≡◌, List, map, subst}
 use Rattle.sqlite.specs.Held.{state}
 use Rattle.td_codes.specs.declared.stored.StoredCode.{StoredCode}
 use Rattle.td_guarantee.specs.Codes.{AreAscending}

@@ -5,7 +5,6 @@ use Rattle.sqlite.specs.Held.{state}
 use Rattle.sqlite.specs.State.{State, HasCleanDisk}
 use Rattle.td_movement.specs.declared.line.Line.{Line}
 use Rattle.td_guarantee.specs.declared.guarantee.Guarantee.{Guarantee}
-use Rattle.td_acts.specs.Account.{guarantee_by_grn}
 use Rattle.td_desk.specs.Content.{Content, account_in}
 use Rattle.td_holder_file.proofs.Loading.{look, one_more}
 use Rattle.td_loading.specs.Loaded.{IsOfContent}

@@ -8,11 +8,15 @@ use Rattle.td_loading.proofs.Reading.{HasRead, read_then}
 use Rattle.td_loading.proofs.movements.all_with_lines.Goals as goal
 
 pub rows-preserved : goal.rows-preserved
-rows-preserved g c = (c.movement_with_lines.ensures.same_reference ∙ c.rows.invariant.0, more, λ clean content holds.
-    c.in_ok-push.ensures.items
-    ∙ next_movement a b c.args.rows.now c.rows.row-index _ c.row-item.result stored c.rows.movements.items c.in_ok-movement.movement c.rows-test.true c.row-item.is
-    (ap (λ (m : Movement). record c.row-item.result { movement = m }) c.in_ok-copy.ensures)
-    (c.rows.invariant.1.still (clean_b clean)) (c.rows.invariant.2 (clean_b clean)) (c.in_ok-movement.ensures.whole clean) content holds)
+rows-preserved g c = (
+  c.movement_with_lines.ensures.same_reference ∙ c.rows.invariant.0,
+  more,
+  λ clean content holds.
+      c.in_ok-push.ensures.items
+      ∙ next_movement a b c.args.rows.now c.rows.row-index _ c.row-item.result stored c.rows.movements.items c.in_ok-movement.movement c.rows-test.true c.row-item.is
+      (ap (λ (m : Movement). record c.row-item.result { movement = m }) c.in_ok-copy.ensures)
+      (c.rows.invariant.1.still (clean_b clean)) (c.rows.invariant.2 (clean_b clean)) (c.in_ok-movement.ensures.whole clean) content holds,
+)
   where
     stored : StoredMovement
     stored = record c.row-item.result { movement = c.in_ok-copy.field-0 }

@@ -1,6 +1,6 @@
-use Rattle.std.proofs.Common.{◌≡◌, map, take, IsTrue}
+use Rattle.std.proofs.Common.{◌≡◌, map, take}
 use Rattle.sqlite.specs.Held.{state}
-use Rattle.sqlite.specs.State.{HasCleanDisk, KeepsCommit, Survives}
+use Rattle.sqlite.specs.State.{HasCleanDisk}
 use Rattle.td_tables.specs.Gathering.{line_from}
 use Rattle.td_lines.specs.Stored.{row_of_stored}
 use Rattle.td_loading.specs.Loaded.{IsOfTables}
