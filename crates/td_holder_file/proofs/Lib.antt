@@ -1,6 +1,6 @@
 mod PlaceOfLrn
 mod Found
-mod Loading
+pub mod Loading
 mod Mapping
 mod BySerial
 mod Indexed
