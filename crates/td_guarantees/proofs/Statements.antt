@@ -25,7 +25,7 @@ use Rattle.td_sql.proofs.TypedRows.{inserted_typed, updated_typed}
 use Rattle.td_sql.specs.Typed.{IsTypedRow, row_of, AreInOrder, rows_in}
 use Rattle.td_sql.specs.Values.{number_or_null, number_value}
 use Rattle.td_sql.specs.Writing.{Inserts, IsInserted, Updates, columns_set, passes}
-use Rattle.td_sql.proofs.Ordered.{Passes, numbers_compared, numbers_tie}
+use Rattle.td_sql.proofs.Ordered.{Passes, by_second}
 use Rattle.td_sql.specs.Reading.{row_order}
 use Rattle.td_tables.proofs.Orders.{sorted_is_order}
 use Rattle.td_tables.specs.Gathering.{place}
@@ -100,14 +100,9 @@ terms_turned H n terms values is old new h has typed =
 pub compared : (H : ℕ) (a b : Row) → Passes guarantee_typing (is_of H) a → Passes guarantee_typing (is_of H) b
     → row_order by_serial (number_value H ∷ []) a b
     ≡ nat_cmp (place (row_of guarantee_typing a)) (place (row_of guarantee_typing b))
-compared H a b is other =
-    let x = row_of guarantee_typing a in
-    let y = row_of guarantee_typing b in
-    then_key
-    (numbers_compared (column a 1) (column b 1) x.holder y.holder (ap (λ l. column l 0) is.0)
-    (ap (λ l. column l 0) other.0) ∙ numbers_tie x.holder y.holder H is.1 other.1)
-    (last_key (numbers_compared (column a 2) (column b 2) (place x) (place y) (ap (λ l. column l 1) is.0)
-    (ap (λ l. column l 1) other.0)))
+compared H =
+    by_second guarantee_typing (is_of H) (λ g. g.holder) H (λ r is. ap (λ l. column l 0) is) (λ g own. own)
+    (number_value H ∷ []) place (λ r is. ap (λ l. column l 1) is)
 
 -- so those that were fetched are they by their serials
 pub by_serials : (p : Keyed Guarantee → Bool) (old : State) (found : List StoredGuarantee) → AreGuarantees p old found
