@@ -28,11 +28,6 @@ unchanged_then a b d one two = (
 still_has : (a b : State) → HasSchema a desk_schema → IsUnchanged a b → HasSchema b desk_schema
 still_has a b has one now = ap (λ (d : Database). d.schema) one.0.now_is ∙ has one.0.was_open
 
--- two calls that leave all as it was
-pub still_then : (a b d : State) → LeavesAll desk_schema a b → LeavesAll desk_schema b d → LeavesAll desk_schema a d
-still_then a b d first second has =
-    unchanged_then a b d (first has) (second (still_has a b has (first has)))
-
 -- a call that leaves all as it was after calls that left the tables
 left_then : (a b d : State) → LeavesTables a b → LeavesAll desk_schema b d → LeavesTables a d
 left_then a b d first second has =

@@ -9,7 +9,7 @@ use Rattle.std.specs.declared.cmp.Ordering.TheVariants.{Less}
 use Rattle.std.specs.Cmp.Lexicographic.{slice_cmp}
 use Rattle.std.proofs.lemmas.Cmp.{nat_list_cmp_total}
 use Rattle.std.proofs.lemmas.List.Sorted.{length_permutation}
-use Rattle.sqlite_trees.proofs.ListLemmas.{all_both, all-filter, all-map}
+use Rattle.sqlite_trees.proofs.ListLemmas.{all-get_or, all_both, all-filter, all-map}
 use Rattle.keyed_rows.specs.Rows.{row_at}
 use Rattle.keyed_rows.proofs.Putting.{row_at_has, All-row_at}
 use Rattle.td_base.specs.Codes.{IsAccessCode}
@@ -35,11 +35,6 @@ put_last code (c ∷ codes) all =
     let fails : is_before code c ≡ false = ap is_lt (nat_list_cmp_total.antisymm code c ∙ ap ordering_reverse all.0) in
     rw (holds, fails) (ap (λ l. c ∷ l) (put_last code codes all.1))
 
-at_place : {X : Type 0} (P : X → Type 0) (xs : List X) (k : ℕ) (d : X) → AllByRecursion P xs → k < length xs → P (get_or xs k d)
-at_place P [] k d all within = absurd (omega (arith, within))
-at_place P (x ∷ xs) zero d all within = all.0
-at_place P (x ∷ xs) (suc k) d all within = at_place P xs k d all.1 (omega (arith, within))
-
 -- codes in ascending order: those before a place stand before the one there
 before_place : (codes : List (List ℕ)) (i : ℕ) (d : List ℕ) → AreAscending codes → i < length codes
     → AllByRecursion (λ c. slice_cmp nat_cmp c (get_or codes i d) ≡ Less) (take i codes)
@@ -47,7 +42,7 @@ unfolding IsStrictlySortedBy
 before_place [] i d order within = absurd (omega (arith, within))
 before_place (c ∷ codes) zero d order within = tt
 before_place (c ∷ codes) (suc i) d order within = (
-  at_place (λ z. slice_cmp nat_cmp c z ≡ Less) codes i d order.0 (omega (arith, within)),
+  all-get_or (λ z. slice_cmp nat_cmp c z ≡ Less) codes i d order.0 (omega (arith, within)),
   before_place codes i d order.1 (omega (arith, within)),
 )
 
