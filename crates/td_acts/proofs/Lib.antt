@@ -6,6 +6,7 @@ pub mod Cover
 pub mod Accepted
 pub mod ByKey
 pub mod Steps
+pub mod Taken
 pub mod SaidAnew
 pub mod Covering
 pub mod EachMove

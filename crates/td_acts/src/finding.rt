@@ -1,5 +1,7 @@
 //! Movements and guarantees found among others, and taken out.
 ghost use Rattle.std.specs.Prelude.{◌≡◌, map, option_map};
+ghost use Rattle.std.specs.List.{position};
+ghost use Rattle.std.specs.Str.{bytes_eq};
 ghost use Rattle.td_acts.specs.Account.{guarantee_by_grn, movement_by_mrn, movement_by_lrn};
 ghost use Rattle.td_acts.specs.Deciding.{entry_by_grn};
 
@@ -47,17 +49,31 @@ pub fn find_entry<'a>(
     None
 }
 
-/// The movement with exactly an MRN, if there is one, taken out of movements that are given up.
-pub fn take_movement(movements: Vec<Movement>, mrn: &Mrn) -> Option<Movement>
-    ensures { result ≡ movement_by_mrn mrn.now movements.items }
+/// The movement with exactly an MRN, if there is one, taken out of movements, whose order may change.
+pub fn take_movement(movements: &mut Vec<Movement>, mrn: &Mrn) -> Option<Movement>
+    ensures { result ≡ movement_by_mrn mrn.now movements.old.items }
 {
-    movements.into_iter().find(|movement| movement.mrn == *mrn)
+    let at = place_of_movement(movements, mrn)?;
+    Some(movements.swap_remove(at))
 }
 
-/// The guarantee with exactly a GRN, and the amount in use on it, if there is one, taken out of entries that are
-/// given up.
-pub fn take_entry(entries: Vec<(Guarantee, Cents)>, grn: &Grn) -> Option<(Guarantee, Cents)>
-    ensures { result ≡ entry_by_grn grn.now entries.items }
+fn place_of_movement(movements: &[Movement], mrn: &Mrn) -> Option<usize>
+    ensures { result ≡ position (λ m. bytes_eq m.mrn mrn.now) movements.now }
 {
-    entries.into_iter().find(|entry| entry.0.grn == *grn)
+    movements.iter().position(|movement| movement.mrn == *mrn)
+}
+
+/// The guarantee with exactly a GRN, and the amount in use on it, if there is one, taken out of entries, whose order
+/// may change.
+pub fn take_entry(entries: &mut Vec<(Guarantee, Cents)>, grn: &Grn) -> Option<(Guarantee, Cents)>
+    ensures { result ≡ entry_by_grn grn.now entries.old.items }
+{
+    let at = place_of_entry(entries, grn)?;
+    Some(entries.swap_remove(at))
+}
+
+fn place_of_entry(entries: &[(Guarantee, Cents)], grn: &Grn) -> Option<usize>
+    ensures { result ≡ position (λ e. bytes_eq e.0.grn grn.now) entries.now }
+{
+    entries.iter().position(|entry| entry.0.grn == *grn)
 }

@@ -14,6 +14,7 @@ use crate::views::{
     see_movements,
 };
 use std::alloc::{AllocError, Global};
+use std::mem::replace;
 use td_base::{AccessCode, Cover, Eori, HolderNo, Moment, Reference};
 use td_commands::{Answer, Command, Refusal, Said};
 use td_guarantee::{Codes, Guarantee};
@@ -29,21 +30,21 @@ pub fn verdict(
 ) -> Result<Verdict, AllocError>
     ensures { IfOk result (IsVerdict loaded.now at command.now) }
 {
-    let copy = loaded.copy(alloc)?;
-    decide(alloc, copy, at, command)
+    let mut copy = loaded.copy(alloc)?;
+    decide(alloc, &mut copy, at, command)
 }
 
 /// The verdict on a command at a number of seconds since 1970, over what was loaded of its owner's rows.
 /// Where that is just what the verdict needs of the owner's account, it is the table's; else it is only
-/// some verdict. The movement or the guarantees that a view shows are moved out of what was loaded, and not copied.
-/// `AllocError`: want of memory.
+/// some verdict. The movement or the guarantees that a view shows are taken out of what was loaded, and not copied:
+/// it is of no use for another verdict. `AllocError`: want of memory.
 pub fn decide(
     alloc: Global,
-    loaded: Loaded,
+    loaded: &mut Loaded,
     at: i64,
     command: &Command,
 ) -> Result<Verdict, AllocError>
-    ensures { IfOk result (IsVerdict loaded at command.now) }
+    ensures { IfOk result (IsVerdict loaded.old at command.now) }
 {
     match Moment::new(at) {
         Ok(at) => decide_at(alloc, loaded, at, command),
@@ -53,26 +54,26 @@ pub fn decide(
 
 fn decide_at(
     alloc: Global,
-    loaded: Loaded,
+    loaded: &mut Loaded,
     at: Moment,
     command: &Command,
 ) -> Result<Verdict, AllocError>
-    ensures { IfOk result (IsVerdictAt loaded at command.now) }
+    ensures { IfOk result (IsVerdictAt loaded.old at command.now) }
 {
     match command {
-        Command::Register { holder, eori } => Ok(register(&loaded, at, *holder, *eori)),
+        Command::Register { holder, eori } => Ok(register(loaded, at, *holder, *eori)),
         Command::OpenGuarantee {
             holder,
             reference,
             cover,
             code,
-        } => Ok(open(alloc, &loaded, at, *holder, *reference, *cover, *code)),
+        } => Ok(open(alloc, loaded, at, *holder, *reference, *cover, *code)),
         Command::Amend {
             grn,
             reference,
             cover,
-        } => amend(alloc, &loaded, at, grn, *reference, *cover),
-        Command::Revoke { grn } => Ok(revoke(&loaded, at, grn)),
+        } => amend(alloc, loaded, at, grn, *reference, *cover),
+        Command::Revoke { grn } => Ok(revoke(loaded, at, grn)),
         Command::Ie015 {
             holder,
             lrn,
@@ -87,26 +88,26 @@ fn decide_at(
                 destination: *destination,
                 lines,
             };
-            lodge(alloc, &loaded, at, &declaration)
+            lodge(alloc, loaded, at, &declaration)
         }
-        Command::Ie014 { holder, mrn } => Ok(cancel(&loaded, at, *holder, mrn)),
+        Command::Ie014 { holder, mrn } => Ok(cancel(loaded, at, *holder, mrn)),
         Command::AddCode { holder, grn, code } => {
-            add_code(alloc, &loaded, at, *holder, grn, *code)
+            add_code(alloc, loaded, at, *holder, grn, *code)
         }
         Command::RemoveCode { holder, grn, code } => {
-            remove_code(alloc, &loaded, at, *holder, grn, *code)
+            remove_code(alloc, loaded, at, *holder, grn, *code)
         }
-        Command::Ie029 { mrn, limit } => Ok(release(&loaded, at, mrn, *limit)),
-        Command::Ie007 { mrn, office } => Ok(arrive(&loaded, at, mrn, *office)),
+        Command::Ie029 { mrn, limit } => Ok(release(loaded, at, mrn, *limit)),
+        Command::Ie007 { mrn, office } => Ok(arrive(loaded, at, mrn, *office)),
         Command::Ie018 {
             mrn,
             result: control,
-        } => Ok(judge(&loaded, at, mrn, *control)),
-        Command::Ie045 { mrn, ground } => Ok(write_off(&loaded, at, mrn, *ground)),
-        Command::Ie140 { mrn } => Ok(enquire(&loaded, at, mrn)),
+        } => Ok(judge(loaded, at, mrn, *control)),
+        Command::Ie045 { mrn, ground } => Ok(write_off(loaded, at, mrn, *ground)),
+        Command::Ie140 { mrn } => Ok(enquire(loaded, at, mrn)),
         Command::SeeHolder { .. } => Ok(see_holder(loaded.holder)),
         Command::SeeMovement { mrn, .. } => {
-            let found = take_movement(loaded.movements, mrn);
+            let found = take_movement(&mut loaded.movements, mrn);
             Ok(see_movement(loaded.holder, found))
         }
         Command::SeeMovements { .. } => {
@@ -114,10 +115,13 @@ fn decide_at(
             Ok(see_movements(loaded.holder, items))
         }
         Command::SeeGuarantee { grn, .. } => {
-            let found = take_entry(loaded.guarantees, grn);
+            let found = take_entry(&mut loaded.guarantees, grn);
             Ok(see_guarantee(loaded.holder, found))
         }
-        Command::SeeGuarantees { .. } => Ok(see_guarantees(loaded.holder, loaded.guarantees)),
+        Command::SeeGuarantees { .. } => {
+            let entries = replace(&mut loaded.guarantees, Vec::new(alloc));
+            Ok(see_guarantees(loaded.holder, entries))
+        }
     }
 }
 

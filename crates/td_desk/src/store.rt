@@ -97,8 +97,8 @@ impl<S: Store> Desk for S {
     fn weigh(&mut self, alloc: Global, at: i64, command: &Command) -> Result<Decision, Fault> {
         let _known = known(command);
         let owner = owner(self.office(), command);
-        let loaded = self.load(alloc, owner, &command.needs())?;
-        let verdict = decide(alloc, loaded, at, command)?;
+        let mut loaded = self.load(alloc, owner, &command.needs())?;
+        let verdict = decide(alloc, &mut loaded, at, command)?;
         Ok(Decision::new(verdict))
     }
 

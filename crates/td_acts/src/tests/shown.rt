@@ -1,4 +1,4 @@
-//! A verdict is the same, whether what was loaded is lent to it or given up.
+//! A verdict is the same, whether what was loaded is lent to be read, or to be taken from.
 use super::*;
 use crate::table::decide;
 
@@ -26,13 +26,13 @@ fn two_of_each(alloc: Global) -> Result<Loaded, Fail> {
 }
 
 /// Whether both calls give one verdict over the same, to the last field, and say this.
-fn is_one(alloc: Global, loaded: Loaded, command: &Command, want: &str) -> Result<bool, Fail> {
+fn is_one(alloc: Global, mut loaded: Loaded, command: &Command, want: &str) -> Result<bool, Fail> {
     let lent = verdict(alloc, &loaded, AT, command)?;
-    let given_up = decide(alloc, loaded, AT, command)?;
-    let said = words(alloc, &given_up.said)?;
+    let taken = decide(alloc, &mut loaded, AT, command)?;
+    let said = words(alloc, &taken.said)?;
     let lent = format!(in alloc; "{lent:?}")?;
-    let given_up = format!(in alloc; "{given_up:?}")?;
-    Ok(lent == given_up && said.as_str() == want)
+    let taken = format!(in alloc; "{taken:?}")?;
+    Ok(lent == taken && said.as_str() == want)
 }
 
 /// Whether this is said to a command over two of each, and to a holder who isn't registered.
