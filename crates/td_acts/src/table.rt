@@ -19,8 +19,7 @@ use td_base::{AccessCode, Cover, Eori, HolderNo, Moment, Reference};
 use td_commands::{Answer, Command, Refusal, Said};
 use td_guarantee::{Codes, Guarantee};
 
-/// The verdict on a command at a number of seconds since 1970, over what was loaded of its owner's rows, which
-/// stays the caller's: it is copied first. A caller that doesn't need it any more calls `decide`. `AllocError`:
+/// The verdict that `decide` gives, for a caller that keeps what was loaded: all of it is copied first. `AllocError`:
 /// want of memory.
 pub fn verdict(
     alloc: Global,
@@ -38,6 +37,8 @@ pub fn verdict(
 /// Where that is just what the verdict needs of the owner's account, it is the table's; else it is only
 /// some verdict. The movement or the guarantees that a view shows are taken out of what was loaded, and not copied:
 /// it is of no use for another verdict. `AllocError`: want of memory.
+// Inlined, the verdict is made where the caller keeps it, and not copied there.
+#[inline(always)]
 pub fn decide(
     alloc: Global,
     loaded: &mut Loaded,
@@ -52,6 +53,7 @@ pub fn decide(
     }
 }
 
+#[inline(always)]
 fn decide_at(
     alloc: Global,
     loaded: &mut Loaded,
