@@ -1,0 +1,2 @@
+mod WithUse
+mod Owner
