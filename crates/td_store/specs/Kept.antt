@@ -1,0 +1,42 @@
+-- What a desk over a store's file keeps, and what a crash during one of its calls leaves.
+use Rattle.std.specs.Prelude.{◌≡◌, ◌⊎◌, ℕ, List, IsTrue}
+use Rattle.sqlite_trees.specs.Tree.{Trees}
+use Rattle.sqlite.specs.State.{State, HasCleanDisk}
+use Rattle.td_acts.specs.declared.rows.Verdict.{Verdict}
+use Rattle.td_desk.specs.Content.{Content, content_after}
+use Rattle.td_desk.specs.Weighing.{IsDecision}
+use Rattle.td_tables.specs.Tables.{AreTablesOf}
+use Rattle.td_tables.specs.Gathering.{content_of}
+use Rattle.td_schema.specs.Tables.{desk_schema}
+use Rattle.td_sql.specs.Writing.{HasSchema}
+use Rattle.td_store_tables.specs.Rows.{AreAllTyped, HoldsContent, tables_in}
+
+-- the content that trees hold
+abbrev pub content_in : Trees → Content
+content_in trees = content_of (tables_in trees)
+
+-- as far as the disk is clean and the connection open, it holds a content of that country
+abbrev pub IsDeskOf : List ℕ → State → Type 0
+IsDeskOf country s =
+    HasCleanDisk s → IsTrue s.is_open → (c : Content) × HoldsContent c s × (c.country ≡ country)
+
+-- over a store's tables these trees are as they were
+abbrev pub LeavesTrees : State → Trees → Type 0
+LeavesTrees s trees = HasSchema s desk_schema → trees ≡ s.now.trees
+
+-- and the connection to them was open
+abbrev pub LeavesAsIs : State → Trees → Type 0
+LeavesAsIs s trees = HasSchema s desk_schema → IsTrue s.is_open × (trees ≡ s.now.trees)
+
+-- the trees have the tables after a decision on this content
+pub record AreAfterDecision (c : Content) (trees : Trees) : Type 0 where
+  pub verdict : Verdict
+  pub decision : IsDecision c verdict
+  pub typed : AreAllTyped trees
+  pub tables : AreTablesOf (tables_in trees) (content_after verdict.change c)
+
+-- A call of a desk whose store was open may leave these trees: they are as they were, or have the tables after a decision on
+-- the content that was there.
+abbrev pub MayLeaveAfter : State → Trees → Type 0
+MayLeaveAfter s trees =
+    IsTrue s.is_open → (trees ≡ s.now.trees) ⊎ AreAfterDecision (content_in s.now.trees) trees

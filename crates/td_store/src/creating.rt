@@ -1,0 +1,71 @@
+//! A desk made in an empty database.
+ghost use Rattle.std.specs.Prelude.{◌≡◌, ◌⊎◌, ◌↔◌, false, IsTrue, IfOk, IfErr, MatchResult};
+ghost use Rattle.sqlite.specs.Held.{state};
+ghost use Rattle.sqlite.specs.State.{HasCleanDisk, Survives};
+ghost use Rattle.td_desk.specs.Content.{empty_content};
+ghost use Rattle.td_schema.specs.Making.{IsEmptyOf};
+ghost use Rattle.td_schema.specs.Tables.{no_schema};
+ghost use Rattle.td_carrying.specs.Created.{AreOfEmptyDesk};
+ghost use Rattle.td_store.specs.declared.refused.OpenFault.TheVariants as fault;
+ghost use Rattle.td_store.specs.Kept.{content_in};
+
+use crate::desk::SqlDesk;
+use crate::refused::{OpenFault, Refused};
+use sqlite::{Connection, Error, ErrorCode};
+use sqlite_trees::store::Alter;
+use td_base::Country;
+use td_carrying::create_tables;
+
+// Whether the database has no table.
+fn is_blank<S: Alter>(conn: &Connection<S>) -> bool
+    ensures { IsTrue result ↔ IsEmptyOf no_schema (state S.Store conn.now).now }
+{
+    let schema = conn.schema();
+    schema.tables.is_empty() && schema.indexes.is_empty() && schema.views.is_empty()
+}
+
+// Why a desk isn't made, by the error that the database answered.
+fn fault_of(error: &Error) -> OpenFault
+    ensures { (result ≡ OpenFault.Store) ⊎ (result ≡ OpenFault.NoMemory) }
+{
+    if matches!(error, Error::SqliteFailure(ErrorCode::OutOfMemory)) {
+        return OpenFault::NoMemory;
+    }
+    OpenFault::Store
+}
+
+impl<S: Alter> SqlDesk<S> {
+    /// Makes a desk of an office of that country, which has no holders yet, in a database that has no table. `Store`: it has a
+    /// table already, or the database answered an error other than want of memory; `NoMemory`: want of memory. With an error the
+    /// connection is handed back, its database as it was. A crash during the call leaves what it could leave before, or the
+    /// tables of the empty desk.
+    pub fn create(mut conn: Connection<S>, country: Country) -> Result<Self, Refused<S>>
+        requires { conn.in_transaction ≡ false }
+        ensures live { IfOk result (λ desk. HasCleanDisk (state S.Store desk)
+            → IsTrue (state S.Store conn).is_open × IsTrue (state S.Store desk).is_open) }
+        ensures empty { IfOk result (λ desk. HasCleanDisk (state S.Store desk)
+            → content_in (state S.Store desk).now.trees ≡ empty_content country) }
+        ensures taken { ¬ IsEmptyOf no_schema (state S.Store conn).now
+            → MatchResult result (λ _. ⊥) (λ refused. (refused.fault ≡ OpenFault.Store) × (refused.connection ≡ conn)) }
+        ensures fault { IfErr result (λ refused. (refused.fault ≡ OpenFault.Store) ⊎ (refused.fault ≡ OpenFault.NoMemory)) }
+        ensures same { IfErr result (λ refused. HasCleanDisk (state S.Store refused.connection)
+            → IsTrue (state S.Store refused.connection).is_open → (state S.Store refused.connection).now ≡ (state S.Store conn).now) }
+        ensures ended { IfErr result (λ refused. refused.connection.in_transaction ≡ false) }
+        ensures crash { MatchResult result (λ desk. Survives (state S.Store conn) (state S.Store desk) (AreOfEmptyDesk country))
+            (λ refused. Survives (state S.Store conn) (state S.Store refused.connection) (AreOfEmptyDesk country)) }
+    {
+        if !is_blank(&conn) {
+            return Err(Refused {
+                fault: OpenFault::Store,
+                connection: conn,
+            });
+        }
+        if let Err(error) = create_tables(&mut conn, country) {
+            return Err(Refused {
+                fault: fault_of(&error),
+                connection: conn,
+            });
+        }
+        Ok(SqlDesk::over(conn, country))
+    }
+}

@@ -1,0 +1,104 @@
+//! The desk over a store's file.
+use crate::faults::fault_of;
+use crate::reading::read;
+use sqlite::Connection;
+use sqlite_trees::store::Alter;
+use std::alloc::Global;
+use std::marker::Model;
+use td_acts::{Change, Loaded, Needs};
+use td_base::{Country, HolderNo};
+use td_carrying::carry_change;
+use td_desk::{Fault, Store};
+
+/// A desk whose rows stand in the tables of a store. It holds the store's connection, outside a transaction, and the country
+/// of its office. What contracts see of it is the connection.
+#[derive(Drop)]
+pub struct SqlDesk<S: Alter> {
+    country: Country,
+    conn: Connection<S>,
+}
+
+impl<S: Alter> Model for SqlDesk<S> {
+    ghost use Rattle.std.specs.Prelude.{◌≡◌, false};
+    ghost use Rattle.sqlite.specs.Held.{Held, held_code, state};
+    ghost use Rattle.td_store.specs.Kept.{IsDeskOf};
+
+    ghost Value = { Held S };
+
+    ghost coded = { held_code S.code };
+
+    ghost view = { λ d. d.conn };
+
+    ghost invariant = { λ d. IsDeskOf d.country (state S.Store d.conn) × (d.conn.in_transaction ≡ false) };
+}
+
+impl<S: Alter> SqlDesk<S> {
+    ghost use Rattle.std.specs.Prelude.{◌≡◌, false, IsTrue};
+    ghost use Rattle.sqlite.specs.Held.{state};
+    ghost use Rattle.sqlite.specs.State.{HasCleanDisk};
+    ghost use Rattle.td_store_tables.specs.Rows.{HoldsContent};
+    ghost use Rattle.td_store.specs.Kept.{IsDeskOf, content_in};
+
+    // The desk over a connection that holds a content of that country.
+    pub(crate) fn over(conn: Connection<S>, country: Country) -> Self
+        requires desk { IsDeskOf country (state S.Store conn) }
+        requires ended { conn.in_transaction ≡ false }
+        ensures { result ≡ conn }
+    {
+        SqlDesk { country, conn }
+    }
+
+    /// Gives the connection back, outside a transaction. No row is changed: as far as the disk is clean and the connection
+    /// open, it holds the desk's content.
+    pub fn close(self) -> Connection<S>
+        ensures same { result ≡ self }
+        ensures ended { result.in_transaction ≡ false }
+        ensures holds { HasCleanDisk (state S.Store result) → IsTrue (state S.Store result).is_open
+            → HoldsContent (content_in (state S.Store result).now.trees) (state S.Store result) }
+    {
+        let SqlDesk { country: _, conn } = self;
+        conn
+    }
+}
+
+impl<S: Alter> Store for SqlDesk<S> {
+    ghost use Rattle.std.specs.Prelude.{IsTrue};
+    ghost use Rattle.sqlite.specs.Held.{state};
+    ghost use Rattle.sqlite.specs.State.{HasCleanDisk, Survives};
+    ghost use Rattle.td_store.specs.Kept.{MayLeaveAfter, content_in};
+
+    ghost rows = { λ d. content_in (state S.Store d).now.trees };
+
+    ghost is_kept = { λ d. HasCleanDisk (state S.Store d) };
+
+    ghost is_open = { λ d. IsTrue (state S.Store d).is_open };
+
+    ghost may_fail = { Unit {0} };
+
+    // No fault is forgotten; and a crash during a call leaves what it could leave before, the tables as they were, or those
+    // after a decision on their content.
+    ghost asked = { λ old _ new. Survives (state S.Store old) (state S.Store new) (MayLeaveAfter (state S.Store old)) };
+
+    fn office(&self) -> Country {
+        self.country
+    }
+
+    fn load(
+        &mut self,
+        alloc: Global,
+        owner: Option<HolderNo>,
+        needs: &Needs<'_>,
+    ) -> Result<Loaded, Fault> {
+        match read(alloc, &mut self.conn, self.country, owner, needs) {
+            Ok(loaded) => Ok(loaded),
+            Err(error) => Err(fault_of(&mut self.conn, &error)),
+        }
+    }
+
+    fn write(&mut self, alloc: Global, change: Change) -> Result<(), Fault> {
+        if let Err(error) = carry_change(&mut self.conn, self.country, &change) {
+            return Err(fault_of(&mut self.conn, &error));
+        }
+        Ok(())
+    }
+}
