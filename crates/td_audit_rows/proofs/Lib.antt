@@ -1,0 +1,12 @@
+mod Raw
+mod Meanings
+mod Shown
+mod Rising
+mod Forms
+mod Fields
+mod ReadRows
+mod Telling
+mod Chained
+mod Identities
+mod ReadByRules
+mod FoundHolders

@@ -1,0 +1,41 @@
+-- The rowids of a store's six tables.
+use Rattle.std.specs.Prelude.{ℕ, ℤ, ◌<ℤ◌, List, [], ◌∷◌, Option, Some, None}
+use Rattle.sqlite_value.specs.declared.keys.Key.{Key}
+use Rattle.sqlite_trees.specs.Tree.{Trees}
+use Rattle.sqlite_sql.specs.Term.{Term, col}
+use Rattle.sqlite_schema.specs.declared.schema.Schema.{Schema}
+use Rattle.sqlite.specs.State.{State}
+use Rattle.td_schema.specs.Tables.{desk_schema}
+use Rattle.td_sql.specs.Meanings.{MeansSelect}
+use Rattle.td_sql.specs.Rows.{HaveIds}
+use Rattle.td_sql.specs.Writing.{HasSchema}
+use Rattle.td_meta.specs.Cells.{meta_typing}
+use Rattle.td_holders.specs.Cells.{holder_typing}
+use Rattle.td_guarantees.specs.Cells.{guarantee_typing}
+use Rattle.td_codes.specs.Cells.{code_typing}
+use Rattle.td_movements.specs.Cells.{movement_typing}
+use Rattle.td_lines.specs.Cells.{line_typing}
+
+-- the integer is above the last one, if there is one
+abbrev pub IsAbove : Option ℤ → ℤ → Type 0
+IsAbove None id = Unit {0}
+IsAbove (Some before) id = before <ℤ id
+
+-- whatever table the text shows the rowids of, they are integers, and no two are the same
+abbrev pub ShowsIds : List ℕ → State → Type 0
+ShowsIds text state =
+    (s : Schema) (tree : ℕ) (order : List (Term × Key)) → HasSchema state s
+    → MeansSelect s text tree [] (col 1 0 ∷ []) order → HaveIds (state.now.trees tree)
+
+-- so are those of each table of a store
+pub record HaveAllIds (trees : Trees) : Type 0 where
+  pub meta : HaveIds (trees meta_typing.table.tree)
+  pub holders : HaveIds (trees holder_typing.table.tree)
+  pub guarantees : HaveIds (trees guarantee_typing.table.tree)
+  pub codes : HaveIds (trees code_typing.table.tree)
+  pub movements : HaveIds (trees movement_typing.table.tree)
+  pub lines : HaveIds (trees line_typing.table.tree)
+
+-- where the file has a store's tables, its rowids are so
+abbrev pub HaveTheirIds : State → Type 0
+HaveTheirIds state = HasSchema state desk_schema → HaveAllIds state.now.trees

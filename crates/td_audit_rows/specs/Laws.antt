@@ -1,0 +1,37 @@
+-- What the rules say of tables as they stand in a file.
+use Rattle.std.specs.Prelude.{◌≤◌, length}
+use Rattle.sqlite_trees.specs.Tree.{Trees}
+use Rattle.td_desk.specs.Content.{Content}
+use Rattle.td_desk.specs.Sound.{IsSound}
+use Rattle.td_tables.specs.declared.rule.Rule.{Rule}
+use Rattle.td_tables.specs.Gathering.{content_of}
+use Rattle.td_tables.specs.Stored.{AreStored}
+use Rattle.td_tables.specs.Tables.{AreTablesOf}
+use Rattle.td_meta.specs.Cells.{meta_typing}
+use Rattle.td_holders.specs.Cells.{holder_typing}
+use Rattle.td_store_tables.specs.Rows.{AreAllTyped, tables_in}
+use Rattle.td_audit_rows.specs.Ids.{HaveAllIds}
+use Rattle.td_audit_rows.specs.Kinds.{AllRows, HasNumber, KeepsRaw}
+
+-- What the database itself keeps of the tables: the rowids, the holders' numbers, and, where all rows are typed, their keys and
+-- references.
+pub record AreKept (trees : Trees) : Type 0 where
+  pub ids : HaveAllIds trees
+  pub numbers : AllRows holder_typing HasNumber trees
+  pub stored : AreAllTyped trees → AreStored (tables_in trees)
+
+-- the tables hold a content, which is sound
+pub record HoldSoundContent (trees : Trees) : Type 0 where
+  pub typed : AreAllTyped trees
+  pub sound : IsSound (content_of (tables_in trees))
+  pub tables : AreTablesOf (tables_in trees) (content_of (tables_in trees))
+
+-- tables that keep each rule as they stand hold sound content
+abbrev pub KeptRulesMeanContent : Type 0
+KeptRulesMeanContent = (trees : Trees) → AreKept trees → ((rule : Rule) → KeepsRaw trees rule) → HoldSoundContent trees
+
+-- and typed tables of sound content, in which the office has one row at most, keep each rule as they stand
+abbrev pub ContentKeepsRules : Type 0
+ContentKeepsRules =
+    (trees : Trees) (c : Content) → AreAllTyped trees → length (trees meta_typing.table.tree) ≤ 1 → IsSound c
+    → AreTablesOf (tables_in trees) c → (rule : Rule) → KeepsRaw trees rule
