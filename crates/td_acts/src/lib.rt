@@ -24,6 +24,3 @@ pub use td_commands::{
     Answer, Command, Lines, ListedGuarantees, ListedMovement, ListedMovements, Needs, Refusal,
     Said, Stamped, Subject, known, owner,
 };
-
-#[cfg(test)]
-mod tests;

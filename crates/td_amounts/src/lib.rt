@@ -2,8 +2,6 @@
 #![tactic(auto)]
 
 mod amounts;
-#[cfg(test)]
-mod tests;
 mod texts;
 
 pub use amounts::amount_in_use;

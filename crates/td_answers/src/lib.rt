@@ -9,6 +9,3 @@ mod refusals;
 
 pub use answers::{answer_is_told_in, fault_bytes, fault_is_told_in, reply_bytes};
 pub use refusals::refusal_is_told_in;
-
-#[cfg(test)]
-mod tests;

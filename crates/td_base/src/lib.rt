@@ -13,8 +13,6 @@ mod lrn;
 mod mrn;
 mod office;
 mod references;
-#[cfg(test)]
-mod tests;
 
 pub use access_code::AccessCode;
 pub use checking::{check_digit, letter_values_skip_elevens};

@@ -13,7 +13,10 @@ use Rattle.td_tables.specs.Tables.{AreTablesOf}
 use Rattle.td_tables.specs.Changes.{HaveSameRows, tables_after}
 use Rattle.td_tables.proofs.Decided.{decisions_are_written}
 use Rattle.td_tables.proofs.Told.{references_tell}
-use Rattle.td_store_tables.specs.Rows.{AreAllTyped, HoldsContent, tables_in}
+use Rattle.td_schema.specs.Tables.{desk_schema}
+use Rattle.td_sql.specs.Writing.{HasSchema}
+use Rattle.td_store_tables.specs.Rows.{AreAllTyped, tables_in}
+use Rattle.td_store_tables.proofs.Holding.{holds_still}
 use Rattle.td_writing.specs.Written.{WritesChange}
 use Rattle.td_carrying.specs.Carried.{CarriesChange, MayLeave}
 
@@ -40,26 +43,22 @@ inside country change a b writes c d =
           (decisions_are_written d.verdict t (tables_in b.now.trees) c d.holds.sound d.decision d.holds.tables same).0;
     }
 
--- a connection that sees the same database holds the same content
-pub holds_still : (c : Content) (a b : State) → b.now ≡ a.now → (a.is_open ≡ b.is_open) → HoldsContent c a → HoldsContent c b
-holds_still c a b same both holds = record {
-  schema = λ is_open. ap (λ (d : Database). d.schema) same ∙ holds.schema (both ∙ is_open);
-  typed = subst (λ (d : Database). AreAllTyped d.trees) (sym same) holds.typed;
-  sound = holds.sound;
-  tables = subst (λ (d : Database). AreTablesOf (tables_in d.trees) c) (sym same) holds.tables;
-}
+-- a connection that sees the same database has the same tables
+still_has_schema : (a b : State) → b.now ≡ a.now → a.is_open ≡ b.is_open → HasSchema a desk_schema → HasSchema b desk_schema
+still_has_schema a b same both has is_open = ap (λ (d : Database). d.schema) same ∙ has (both ∙ is_open)
 
 -- what the change carries is carried from a connection that sees the same, and to one
 pub carried_as : (country : List ℕ) (change : Change) (o a b e : State) → a.now ≡ o.now → o.is_open ≡ a.is_open
     → e.now ≡ b.now → b.is_open ≡ e.is_open → CarriesChange country change a b → CarriesChange country change o e
 carried_as country change o a b e begins opens ends closes carries c d =
-    holds_still (content_after change c) b e ends closes (carries c (record {
-      holds = holds_still c o a begins opens d.holds;
+    let holds = carries c (record {
+      holds = holds_still c o a begins (still_has_schema o a begins opens d.holds.schema) d.holds;
       country = d.country;
       verdict = d.verdict;
       change = d.change;
       decision = d.decision;
-    }))
+    }) in
+    holds_still (content_after change c) b e ends (still_has_schema b e ends closes holds.schema) holds
 
 -- and a crash that leaves what was written leaves the tables of that content
 pub left : (country : List ℕ) (change : Change) (o b : State) (trees : Trees) → trees ≡ b.now.trees

@@ -4,8 +4,6 @@
 
 mod carrying;
 mod creating;
-#[cfg(test)]
-mod tests;
 
 pub use carrying::carry_change;
 pub use creating::create_tables;

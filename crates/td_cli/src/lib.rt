@@ -7,9 +7,8 @@ mod jobs;
 mod laws;
 mod program;
 mod serving;
-#[cfg(test)]
-mod tests;
 
+pub use clock::{FixedClock, MachineClock};
 pub use jobs::perform;
 pub use laws::{agreeing_jobs_tell_the_same, agreeing_servings_tell_the_same};
 pub use program::{run_program, words_of};

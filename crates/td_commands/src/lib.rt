@@ -7,8 +7,6 @@ mod lines;
 mod lists;
 mod needs;
 mod said;
-#[cfg(test)]
-mod tests;
 
 pub use command::{Command, Stamped, Subject, known, owner};
 pub use lines::Lines;

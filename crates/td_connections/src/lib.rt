@@ -8,6 +8,3 @@ mod sockets;
 pub use connections::{Connections, serve_connections};
 pub use laws::agreeing_connections_tell_the_same;
 pub use sockets::serve_on;
-
-#[cfg(test)]
-mod tests;

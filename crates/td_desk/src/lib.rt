@@ -9,8 +9,6 @@ mod laws;
 mod plain;
 mod running;
 mod store;
-#[cfg(test)]
-mod tests;
 
 pub use decision::Decision;
 pub use desk::Desk;

@@ -4,8 +4,6 @@
 mod codes;
 mod guarantee;
 mod terms;
-#[cfg(test)]
-mod tests;
 mod usage;
 
 pub use codes::Codes;

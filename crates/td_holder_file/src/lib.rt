@@ -8,7 +8,5 @@ mod guarantee_rows;
 mod lookups;
 mod movement_rows;
 mod serials;
-#[cfg(test)]
-mod tests;
 
 pub use file::HolderFile;

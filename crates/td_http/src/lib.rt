@@ -17,6 +17,3 @@ pub use td_wire::{
     Clock, FramingError, Handler, Next, Reply, Request, StreamEnd, error_body, head_reply,
     json_reply, next_request, one_reading, serve_requests,
 };
-
-#[cfg(test)]
-mod tests;

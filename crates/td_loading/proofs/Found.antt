@@ -64,15 +64,13 @@ line_loaded a row g found content holds =
     ap (λ (grn : List ℕ). record { grn = grn; cents = row.cents })
     (sym (grn_alone (tables_in a.now.trees) row.holder row.guarantee (row_of_guarantee g) (found holds.schema holds.typed.guarantees)))
 
--- one line more
-pub next_line : (a b : State) (rows : List StoredLine) (i : ℕ) (d row : StoredLine) (lines : List Line) (line : Line) → i < length rows → row ≡ get_or rows i d → LeavesTables a b
-    → IsOfTables (λ t. map (λ r. line_from t (row_of_line r)) (take i rows)) a lines → IsOfTables (λ t. line_from t (row_of_line row)) b line
-    → IsOfTables (λ t. map (λ r. line_from t (row_of_line r)) (take (i + 1) rows)) a (lines ++ line ∷ [])
-next_line a b rows i d row lines line within is left before next content holds =
+-- one more of what rows say
+pub next_of : {R X : Type 0} (f : Tables → R → X) (a b : State) (rows : List R) (i : ℕ) (d row : R) (found : List X) (x : X) → i < length rows → row ≡ get_or rows i d → LeavesTables a b
+    → IsOfTables (λ t. map (f t) (take i rows)) a found → IsOfTables (λ t. f t row) b x → IsOfTables (λ t. map (f t) (take (i + 1) rows)) a (found ++ x ∷ [])
+next_of f a b rows i d row found x within is left before next content holds =
     let t : Tables = tables_in a.now.trees in
-    let here : line ≡ line_from t (row_of_line row) = said_before (λ t. line_from t (row_of_line row)) a b line left next content holds in
-    ap₂ (λ l x. l ++ x ∷ []) (before content holds) (here ∙ ap (λ r. line_from t (row_of_line r)) is)
-    ∙ sym (map-append (λ r. line_from t (row_of_line r)) (take i rows) (get_or rows i d ∷ [])) ∙ ap (map (λ r. line_from t (row_of_line r))) (sym (take_more rows i d within))
+    ap₂ (λ l e. l ++ e ∷ []) (before content holds) (said_before (λ t. f t row) a b x left next content holds ∙ ap (f t) is)
+    ∙ sym (map-append (f t) (take i rows) (get_or rows i d ∷ [])) ∙ ap (map (f t)) (sym (take_more rows i d within))
 
 -- a movement with its lines
 pub whole_movement : (a b : State) (stored : StoredMovement) (rows : List StoredLine) (lines : List Line) → AreByNumber stored.holder stored.serial a rows → LeavesAll desk_schema a b
@@ -84,16 +82,6 @@ whole_movement a b stored rows lines order still each content holds =
     ap (λ (l : List Line). record stored.movement { lines = l })
     (said_before (λ t. map (λ r. line_from t (row_of_line r)) rows) a b lines (as_tables a b still) each content holds
     ∙ sym (map-map (line_from t) row_of_line rows) ∙ ap (map (line_from t)) found)
-
--- one movement more, read out of a copy of its row
-pub next_movement : (a b : State) (rows : List StoredMovement) (i : ℕ) (d row stored : StoredMovement) (movements : List Movement) (m : Movement) → i < length rows → row ≡ get_or rows i d → stored ≡ row → LeavesTables a b
-    → IsOfTables (λ t. map (λ r. with_lines t (row_of_movement r)) (take i rows)) a movements → IsOfTables (λ t. with_lines t (row_of_movement stored)) b m
-    → IsOfTables (λ t. map (λ r. with_lines t (row_of_movement r)) (take (i + 1) rows)) a (movements ++ m ∷ [])
-next_movement a b rows i d row stored movements m within is copied left before next content holds =
-    let t : Tables = tables_in a.now.trees in
-    let here : m ≡ with_lines t (row_of_movement stored) = said_before (λ t. with_lines t (row_of_movement stored)) a b m left next content holds in
-    ap₂ (λ l x. l ++ x ∷ []) (before content holds) (here ∙ ap (λ r. with_lines t (row_of_movement r)) (copied ∙ is))
-    ∙ sym (map-append (λ r. with_lines t (row_of_movement r)) (take i rows) (get_or rows i d ∷ [])) ∙ ap (map (λ r. with_lines t (row_of_movement r))) (sym (take_more rows i d within))
 
 -- all movements of a holder
 pub all_movements : (a b : State) (H : ℕ) (rows : List StoredMovement) (movements : List Movement) → AreBySerial (is_of H) a rows → LeavesAll desk_schema a b

@@ -1,3 +1,3 @@
-mod Found
-mod Reading
-mod Whole
+pub mod Found
+pub mod Reading
+pub mod Whole

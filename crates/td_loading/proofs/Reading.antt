@@ -1,29 +1,18 @@
 -- What statements one after another have read: nothing is changed.
-use Rattle.std.proofs.Common.{◌≡◌, ◌∙◌, ℕ, List, ap, inl, refl, subst, sym, arith}
+use Rattle.std.proofs.Common.{◌≡◌, ◌∙◌, ℕ, List, ap, inl, refl, subst, arith}
 use Rattle.std.specs.Prelude.{IsTrue}
 use Rattle.sqlite.specs.Effect.{Database}
 use Rattle.sqlite.specs.State.{State, HasCleanDisk, IsUnchanged, KeepsCommit, Survives}
 use Rattle.td_desk.specs.Content.{Content}
-use Rattle.td_tables.specs.Tables.{AreTablesOf, Tables}
+use Rattle.td_tables.specs.Tables.{Tables}
 use Rattle.td_schema.specs.Tables.{desk_schema}
 use Rattle.td_sql.specs.Reading.{LeavesAll}
 use Rattle.td_sql.specs.Writing.{HasSchema}
+use Rattle.sqlite.proofs.Callers.{unchanged_then}
 use Rattle.sqlite.proofs.StateLemmas.{survives_then, unchanged}
 use Rattle.td_loading.specs.Loaded.{IsOfContent, IsOfTables, LeavesTables}
-use Rattle.td_store_tables.specs.Rows.{AreAllTyped, HoldsContent, tables_in}
-
-unchanged_then : (a b d : State) → IsUnchanged a b → IsUnchanged b d → IsUnchanged a d
-unchanged_then a b d one two = (
-  record {
-    was_open = one.0.was_open;
-    is_open = two.0.is_open;
-    now_is = two.0.now_is ∙ one.0.now_is;
-    committed_is = two.0.committed_is ∙ one.0.committed_is;
-    mode = two.0.mode ∙ one.0.mode;
-  },
-  record { changes = two.1.changes ∙ one.1.changes; last_rowid = two.1.last_rowid ∙ one.1.last_rowid },
-  two.2 ∙ one.2,
-)
+use Rattle.td_store_tables.specs.Rows.{HoldsContent, tables_in}
+use Rattle.td_store_tables.proofs.Holding.{holds_still}
 
 still_has : (a b : State) → HasSchema a desk_schema → IsUnchanged a b → HasSchema b desk_schema
 still_has a b has one now = ap (λ (d : Database). d.schema) one.0.now_is ∙ has one.0.was_open
@@ -45,26 +34,20 @@ then_left a b d first second has =
     let one = first has in
     unchanged_then a b d one ((second (still_has a b has one)).unchanged one.0.is_open)
 
--- the store still holds its content
-still_holds : (c : Content) (a b : State) → b.now ≡ a.now → HasSchema b desk_schema → HoldsContent c a → HoldsContent c b
-still_holds c a b same has holds = record {
-  schema = has;
-  typed = subst (λ (d : Database). AreAllTyped d.trees) (sym same) holds.typed;
-  sound = holds.sound;
-  tables = subst (λ (d : Database). AreTablesOf (tables_in d.trees) c) (sym same) holds.tables;
-}
+-- a content that it holds it still holds
+pub held_after : (c : Content) (a b : State) → LeavesTables a b → HoldsContent c a → HoldsContent c b
+held_after c a b left holds =
+    let one = left holds.schema in
+    holds_still c a b one.now_is one.schema holds
 
--- so what its tables say afterwards they said before
+-- what its tables say afterwards they said before
 pub said_before : {X : Type 0} (f : Tables → X) (a b : State) (x : X) → LeavesTables a b → IsOfTables f b x → IsOfTables f a x
 said_before f a b x left says c holds =
-    let one = left holds.schema in
-    subst (λ (d : Database). x ≡ f (tables_in d.trees)) one.now_is (says c (still_holds c a b one.now_is one.schema holds))
+    subst (λ (d : Database). x ≡ f (tables_in d.trees)) (left holds.schema).now_is (says c (held_after c a b left holds))
 
 pub content_before : {X : Type 0} (country : List ℕ) (f : Content → X) (a b : State) (x : X) → LeavesTables a b → IsOfContent country f b x
     → IsOfContent country f a x
-content_before country f a b x left says c holds at =
-    let one = left holds.schema in
-    says c (still_holds c a b one.now_is one.schema holds) at
+content_before country f a b x left says c holds at = says c (held_after c a b left holds) at
 
 pub as_tables : (a b : State) → LeavesAll desk_schema a b → LeavesTables a b
 as_tables a b still has =

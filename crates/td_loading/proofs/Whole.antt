@@ -1,5 +1,5 @@
 -- A guarantee with its codes, and a movement with its lines, as the tables say.
-use Rattle.std.proofs.Common.{◌≡◌, ◌∙◌, ℕ, zero, suc, ◌<◌, ◌≤◌, Bool, true, false, cond, List, [], ◌∷◌, ◌++◌, length, filter, map, take, get_or, Option, Some, None, refl, ap, subst, arith, IsPermutation}
+use Rattle.std.proofs.Common.{◌≡◌, ◌∙◌, ℕ, zero, suc, ◌<◌, ◌≤◌, Bool, true, false, List, [], ◌∷◌, ◌++◌, length, filter, map, take, get_or, Option, Some, None, refl, ap, subst, arith, IsPermutation}
 use Rattle.std.specs.Prelude.{◌==◌, ◌&&◌, find, option_to_list, IsSome, IfSome}
 use Rattle.std.specs.List.{AllByRecursion}
 use Rattle.std.specs.List.Sorted.{IsStrictlySortedBy}
@@ -21,7 +21,7 @@ use Rattle.td_tables.specs.Gathering.{code_rank, codes_by, grn_by, holder_no, of
 use Rattle.td_tables.specs.Rules.{KeepRules, KeepsRules}
 use Rattle.td_tables.proofs.Counting.{filter_both}
 use Rattle.td_tables.proofs.Grouped.{of_key_has}
-use Rattle.td_tables.proofs.Looked.{short_permutation}
+use Rattle.td_tables.proofs.Looked.{find_first, first, short_permutation}
 use Rattle.td_tables.proofs.Orders.{found_in_order, in_order_rises, rises-map}
 use Rattle.td_tables.proofs.Ranks.{ranks_ascend}
 use Rattle.td_tables.proofs.Rebuilt.{all_in_order}
@@ -79,28 +79,19 @@ module _ (t : Tables) (keep : KeepRules t) (H : ℕ) where
       (all-map IsAccessCode (λ (c : Keyed (List ℕ)). c.row) (codes_by H n t) (all_in_order code_rank IsCode (of_key place n (part H t.codes)) (code_forms n)))
       (rises-map (λ (c : Keyed (List ℕ)). c.row) text_rank 0 (codes_by H n t) (in_order_rises code_rank (of_key place n (part H t.codes))))
 
--- what is found is the first that passes
-found_first : {X : Type 0} (p : X → Bool) (xs : List X) (o : Option X) → filter p xs ≡ option_to_list o → find p xs ≡ o
-found_first p [] None is = refl
-found_first p [] (Some x) is = cc
-found_first {X} p (x ∷ xs) o is = by_test (p x) is (found_first p xs o)
-  where
-    front : (o : Option X) → x ∷ filter p xs ≡ option_to_list o → Some x ≡ o
-    front None is = cc
-    front (Some y) is = cc
-
-    by_test : (b : Bool) → cond b (x ∷ filter p xs) (filter p xs) ≡ option_to_list o → (filter p xs ≡ option_to_list o → find p xs ≡ o) → cond b (Some x) (find p xs) ≡ o
-    by_test true is later = front o is
-    by_test false is later = later is
+-- the first of one or none
+first_listed : {X : Type 0} (o : Option X) → first (option_to_list o) ≡ o
+first_listed None = refl
+first_listed (Some x) = refl
 
 short : {X : Type 0} (o : Option X) → length (option_to_list o) ≤ 1
 short None = omega arith
 short (Some x) = omega arith
 
--- so it is the one that passes, where at most one does
+-- what is found is the one that passes, where at most one does
 pub found_alone : {X : Type 0} (p : X → Bool) (xs : List X) (o : Option X) → IsPermutation (filter p xs) (option_to_list o) → find p xs ≡ o
 found_alone p xs o same =
-    found_first p xs o (short_permutation (filter p xs) (option_to_list o) same (omega (arith, length_permutation (filter p xs) (option_to_list o) same, short o)))
+    find_first p xs ∙ ap first (short_permutation (filter p xs) (option_to_list o) same (omega (arith, length_permutation (filter p xs) (option_to_list o) same, short o))) ∙ first_listed o
 
 -- the GRN of the holder's guarantee with a serial
 pub grn_alone : (t : Tables) (H n : ℕ) (g : Keyed Guarantee) → IsPermutation (filter (λ r. r.holder == H && r.serial == n) t.guarantees) (g ∷ [])

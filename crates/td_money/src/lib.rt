@@ -2,7 +2,5 @@
 #![tactic(auto)]
 
 mod money;
-#[cfg(test)]
-mod tests;
 
 pub use money::{Cents, Cover, Reference, cents_read_back};

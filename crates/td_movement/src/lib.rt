@@ -6,8 +6,6 @@ mod line;
 mod movement;
 mod moves;
 mod state;
-#[cfg(test)]
-mod tests;
 mod times;
 
 pub use line::{Line, MovementLines};

@@ -4,8 +4,6 @@
 
 mod finding;
 mod stored;
-#[cfg(test)]
-mod tests;
 mod texts;
 mod writing;
 

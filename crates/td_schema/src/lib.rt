@@ -2,8 +2,6 @@
 #![tactic(auto)]
 
 mod making;
-#[cfg(test)]
-mod tests;
 mod texts;
 
 pub use making::make_tables;

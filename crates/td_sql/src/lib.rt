@@ -6,8 +6,6 @@ mod cells;
 mod fetching;
 mod rows;
 mod statements;
-#[cfg(test)]
-mod tests;
 
 pub use cells::{integer_at, is_null_at, number_at, text_at};
 pub use fetching::{fetch, fetch_one};

@@ -28,12 +28,12 @@ use Rattle.td_tables.proofs.Pairs.{pairs_text_apart, text_apart_permuted}
 use Rattle.td_tables.proofs.Keeping.{part_of, text_apart_from_map, are_stored}
 
 -- the first of a list
-abbrev first : {X : Type 0} → List X → Option X
+abbrev pub first : {X : Type 0} → List X → Option X
 first [] = None
 first (x ∷ xs) = Some x
 
 -- what is found is the first that passes
-find_first : {X : Type 0} (p : X → Bool) (xs : List X) → find p xs ≡ first (filter p xs)
+pub find_first : {X : Type 0} (p : X → Bool) (xs : List X) → find p xs ≡ first (filter p xs)
 find_first p [] = refl
 find_first {X} p (x ∷ xs) = by_test (p x) (find_first p xs)
   where

@@ -20,6 +20,3 @@ pub use next::{Next, next_request};
 pub use reply::{Reply, error_body, head_reply, json_reply};
 pub use request::Request;
 pub use stream::{Handler, StreamEnd, serve_requests};
-
-#[cfg(test)]
-mod tests;

@@ -1,8 +1,6 @@
 //! The words of the command line: what they ask for, help, and one clear line for wrong ones.
 #![tactic(auto)]
 
-#[cfg(test)]
-mod tests;
 mod words;
 
 pub use words::{Job, Listening, NoJob, Task, read_words};

@@ -1,9 +1,12 @@
-use Rattle.std.proofs.Common.{◌∙◌, ap, arith}
+use Rattle.std.proofs.Common.{◌∙◌, ap, arith, subst}
 use Rattle.td_movement.specs.declared.movement.Movement.{Movement}
 use Rattle.td_movements.specs.declared.stored.StoredMovement.{StoredMovement}
 use Rattle.sqlite.specs.Held.{state}
 use Rattle.sqlite.specs.State.{State, HasCleanDisk}
-use Rattle.td_loading.proofs.Found.{next_movement}
+use Rattle.td_movements.specs.Stored.{row_of_stored}
+use Rattle.td_tables.specs.Gathering.{with_lines}
+use Rattle.td_loading.specs.Loaded.{IsOfTables}
+use Rattle.td_loading.proofs.Found.{next_of}
 use Rattle.td_loading.proofs.Reading.{HasRead, read_then}
 use Rattle.td_loading.proofs.movements.all_with_lines.Goals as goal
 
@@ -13,9 +16,8 @@ rows-preserved g c = (
   more,
   λ clean content holds.
       c.in_ok-push.ensures.items
-      ∙ next_movement a b c.args.rows.now c.rows.row-index _ c.row-item.result stored c.rows.movements.items c.in_ok-movement.movement c.rows-test.true c.row-item.is
-      (ap (λ (m : Movement). record c.row-item.result { movement = m }) c.in_ok-copy.ensures)
-      (c.rows.invariant.1.still (clean_b clean)) (c.rows.invariant.2 (clean_b clean)) (c.in_ok-movement.ensures.whole clean) content holds,
+      ∙ next_of (λ t r. with_lines t (row_of_stored r)) a b c.args.rows.now c.rows.row-index _ c.row-item.result c.rows.movements.items c.in_ok-movement.movement c.rows-test.true c.row-item.is
+      (c.rows.invariant.1.still (clean_b clean)) (c.rows.invariant.2 (clean_b clean)) (of_row (c.in_ok-movement.ensures.whole clean)) content holds,
 )
   where
     stored : StoredMovement
@@ -35,3 +37,7 @@ rows-preserved g c = (
 
     clean_b : HasCleanDisk d → HasCleanDisk b
     clean_b clean = omega (arith, clean, c.movement_with_lines.ensures.survives.clean)
+
+    -- what is loaded by a copy of the row is what the row says
+    of_row : {m : Movement} → IsOfTables (λ t. with_lines t (row_of_stored stored)) b m → IsOfTables (λ t. with_lines t (row_of_stored c.row-item.result)) b m
+    of_row {m} = subst (λ (r : StoredMovement). IsOfTables (λ t. with_lines t (row_of_stored r)) b m) (ap (λ (m : Movement). record c.row-item.result { movement = m }) c.in_ok-copy.ensures)

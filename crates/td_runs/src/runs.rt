@@ -1,0 +1,166 @@
+//! The program's jobs, over readers and writers in memory. Expected bytes are those of the desk's formats,
+//! written out.
+mod acts;
+mod answered_words;
+mod cancellations;
+mod codes;
+mod declarations;
+mod devices;
+mod exchanges;
+mod first_requests;
+mod heads;
+mod laws;
+mod lists;
+mod lives;
+mod machine_clock;
+mod many_declarations;
+mod many_holders;
+mod many_releases;
+mod memory;
+mod moments;
+mod nine_lines;
+mod openings;
+mod privacy;
+mod releases;
+mod repeats;
+mod serving;
+mod states;
+mod strangers;
+mod streams;
+mod terms;
+mod texts;
+mod views;
+mod waiting_clients;
+
+use std::alloc::{AllocError, Global};
+use std::io::Read;
+use std::net::{Net, TcpListener, TcpStream};
+use std::process::Abort;
+use std::rt::Clock;
+use std::test::Fail;
+use td_base::Counted;
+use td_cli::perform;
+
+/// What a job left: its status, and what it wrote.
+#[derive(Drop)]
+struct Done {
+    status: u8,
+    out: Vec<u8>,
+    errors: Vec<u8>,
+}
+
+/// What a job has to leave.
+#[derive(Clone, Copy)]
+struct Due<'a> {
+    status: u8,
+    out: &'a [u8],
+    errors: &'a [u8],
+}
+
+impl<'a> Due<'a> {
+    /// Of a job that is done: these replies, and no message.
+    fn replies(out: &'a [u8]) -> Due<'a> {
+        Due {
+            status: 0,
+            out,
+            errors: b"",
+        }
+    }
+}
+
+fn words_of(alloc: Global, words: &[&str]) -> Result<Vec<String>, AllocError> {
+    let mut owned = Vec::new(alloc);
+    for word in words {
+        owned.push(String::from_str(alloc, word)?)?;
+    }
+    Ok(owned)
+}
+
+/// Does the job of the words over any reader.
+fn perform_over<R: Read>(
+    rt: &(impl AllocGlobal + Clock + Net<Listener = TcpListener, Stream = TcpStream>),
+    words: &[&str],
+    reader: R,
+) -> Result<Done, Fail>
+where
+    R: Drop,
+{
+    let words = words_of(rt.alloc(), words)?;
+    let mut input = Counted::new(reader);
+    let mut out = Counted::new(Vec::new(rt.alloc()));
+    let mut errors = Counted::new(Vec::new(rt.alloc()));
+    let status = perform(rt, &words, &mut input, &mut out, &mut errors);
+    Ok(Done {
+        status,
+        out: out.into_inner(),
+        errors: errors.into_inner(),
+    })
+}
+
+fn text_of(bytes: &[u8]) -> Result<&str, Fail> {
+    Ok(str::from_utf8(bytes)?)
+}
+
+fn assert_same(rt: &impl Abort, told: &str, wanted: &str) {
+    assert_eq!(rt; told, wanted);
+}
+
+/// The same text.
+fn assert_text(rt: &impl Abort, told: &[u8], wanted: &[u8]) -> Result<(), Fail> {
+    assert_same(rt, text_of(told)?, text_of(wanted)?);
+    Ok(())
+}
+
+fn assert_status(rt: &impl Abort, done: &Done, status: u8) {
+    assert_eq!(rt; done.status, status);
+}
+
+/// The job ended with this status, and said this message.
+fn assert_ended(rt: &impl Abort, done: &Done, status: u8, errors: &[u8]) -> Result<(), Fail> {
+    assert_status(rt, done, status);
+    assert_text(rt, &done.errors, errors)
+}
+
+fn assert_due(rt: &impl Abort, done: &Done, due: Due<'_>) -> Result<(), Fail> {
+    assert_text(rt, &done.out, due.out)?;
+    assert_ended(rt, done, due.status, due.errors)
+}
+
+/// The job of the words over the reader leaves what is due.
+fn assert_job<R: Read>(
+    rt: &(impl AllocGlobal + Clock + Net<Listener = TcpListener, Stream = TcpStream> + Abort),
+    words: &[&str],
+    reader: R,
+    due: Due<'_>,
+) -> Result<(), Fail>
+where
+    R: Drop,
+{
+    let done = perform_over(rt, words, reader)?;
+    assert_due(rt, &done, due)
+}
+
+/// `transit-desk pipe` at a desk of this country, at this moment.
+fn words_at<'a>(country: &'a str, seconds: &'a str) -> [&'a str; 6] {
+    [
+        "transit-desk",
+        "pipe",
+        "--country",
+        country,
+        "--at",
+        seconds,
+    ]
+}
+
+/// The words of the worked rows.
+const WORDS: [&str; 6] = [
+    "transit-desk",
+    "pipe",
+    "--country",
+    "CH",
+    "--at",
+    "1740819600",
+];
+
+/// The same without a moment: the machine's clock is asked.
+const WORDS_WITHOUT_MOMENT: [&str; 4] = ["transit-desk", "pipe", "--country", "CH"];

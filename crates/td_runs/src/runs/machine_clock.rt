@@ -1,0 +1,51 @@
+//! The machine's clock.
+use super::WORDS_WITHOUT_MOMENT;
+use super::exchanges::assert_replies;
+use super::first_requests::{REGISTER, SEE, SHOWN};
+use std::process::Abort;
+use std::rt::Clock;
+use std::test::Fail;
+use std::time::{SystemTime, UNIX_EPOCH};
+use td_cli::MachineClock;
+use td_http::Clock as _;
+
+// The seconds since 1970, by a reading of the test's own.
+fn seconds(rt: &impl Clock) -> Result<i64, Fail> {
+    let since = SystemTime::now(rt)?.duration_since(UNIX_EPOCH)?;
+    Ok(i64::try_from(since.as_secs())?)
+}
+
+// The machine's clock shows these one after the other.
+fn assert_in_order(rt: &impl Abort, moments: &[i64]) {
+    assert!(rt; moments.is_sorted());
+}
+
+// From 2000 to 2099.
+fn assert_in_range(rt: &impl Abort, at: i64) {
+    assert!(rt; (946_684_800..4_102_444_800).contains(&at));
+}
+
+#[test]
+fn the_machines_clock_shows_the_time(rt: HostRuntime) -> Result<(), Fail> {
+    let mut clock = MachineClock { rt: &rt };
+    let before = seconds(&rt)?;
+    let first = clock.seconds();
+    let second = clock.seconds();
+    let after = seconds(&rt)?;
+    assert_in_order(
+        &rt,
+        &[before, first, second, after, before.saturating_add(2)],
+    );
+    assert_in_range(&rt, first);
+    Ok(())
+}
+
+// Without a moment of its own the program asks the machine's clock, whose moment is in range.
+#[test]
+fn requests_come_by_the_machines_clock(rt: HostRuntime) -> Result<(), Fail> {
+    assert_replies(
+        &rt,
+        &WORDS_WITHOUT_MOMENT,
+        &[(REGISTER, SHOWN), (SEE, SHOWN)],
+    )
+}

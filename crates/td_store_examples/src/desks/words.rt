@@ -1,0 +1,57 @@
+//! What a desk says, as a text that tells two answers apart and hangs on nothing else.
+use std::alloc::{AllocError, Global};
+use td_desk::{Answer, Outcome, Said};
+use td_guarantee::Guarantee;
+use td_movement::Movement;
+
+fn guarantee_words(alloc: Global, guarantee: &Guarantee) -> Result<String, AllocError> {
+    let grn = guarantee.grn;
+    let reference = guarantee.reference;
+    let cover = guarantee.cover;
+    let ends = guarantee.ends;
+    let codes = guarantee.codes.as_slice();
+    format!(in alloc; "{grn} {reference} {cover:?} {ends:?} {codes:?}")
+}
+
+fn movement_words(alloc: Global, movement: &Movement) -> Result<String, AllocError> {
+    let mrn = movement.mrn;
+    let lrn = movement.lrn;
+    let departure = movement.departure;
+    let destination = movement.destination;
+    let accepted = movement.accepted;
+    let state = movement.state;
+    let limit = movement.limit;
+    let arrival = movement.arrival;
+    let actual = movement.actual;
+    let lines = movement.lines.as_slice();
+    let asked = format!(in alloc; "{mrn} {lrn} {departure} {destination} {accepted}")?;
+    format!(in alloc; "{asked} {state:?} {limit:?} {arrival:?} {actual:?} {lines:?}")
+}
+
+fn answer_words(alloc: Global, answer: &Answer) -> Result<String, AllocError> {
+    match answer {
+        Answer::Movement(movement) => movement_words(alloc, movement),
+        Answer::Guarantee(guarantee, used) => {
+            let words = guarantee_words(alloc, guarantee)?;
+            format!(in alloc; "{words} {used}")
+        }
+        Answer::Guarantees(list) => {
+            let mut words = String::new(alloc);
+            for (guarantee, used) in list.as_slice() {
+                let own = guarantee_words(alloc, guarantee)?;
+                words = format!(in alloc; "{words}; {own} {used}")?;
+            }
+            Ok(words)
+        }
+        other => format!(in alloc; "{other:?}"),
+    }
+}
+
+/// What the outcome says.
+pub fn words_of(alloc: Global, outcome: &Outcome) -> Result<String, AllocError> {
+    match outcome {
+        Outcome::Said(Said::Answered(answer)) => answer_words(alloc, answer),
+        Outcome::Said(Said::Refused(why)) => format!(in alloc; "{why:?}"),
+        Outcome::Failed(fault) => format!(in alloc; "{fault}"),
+    }
+}

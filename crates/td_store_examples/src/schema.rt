@@ -1,0 +1,81 @@
+//! The tables are made once, with their keys and checks.
+use sqlite::{Connection, Error, MemStore};
+use std::alloc::Global;
+use std::test::Fail;
+use td_schema::make_tables;
+
+/// A database in memory with the tables.
+fn with_tables(alloc: Global) -> Result<Connection<MemStore>, Error> {
+    let mut conn = Connection::open_in_memory(alloc)?;
+    if conn.is_autocommit() {
+        let mut tx = conn.transaction();
+        make_tables(&mut tx)?;
+        tx.commit()?;
+    }
+    Ok(conn)
+}
+
+/// Statements, one after another, and whether each is taken.
+const STATEMENTS: [(&str, bool); 16] = [
+    ("INSERT INTO meta VALUES (2, 1, 'CH')", false),
+    ("INSERT INTO meta VALUES (1, 1, 'CH')", true),
+    (
+        "INSERT INTO holders VALUES (0, 'CH1234567', 1740819600, 1, 1)",
+        false,
+    ),
+    (
+        "INSERT INTO holders VALUES (1, 'CH1234567', 1740819600, 1, 1)",
+        true,
+    ),
+    (
+        "INSERT INTO holders VALUES (2, 'CH1234567', 'soon', 1, 1)",
+        false,
+    ),
+    (
+        "INSERT INTO guarantees1 VALUES (2, 1, '25CH0000010000014', 1000000, 50, NULL)",
+        false,
+    ),
+    (
+        "INSERT INTO guarantees1 VALUES (1, 1, '25CH0000010000014', 1000000, 40, NULL)",
+        false,
+    ),
+    (
+        "INSERT INTO guarantees1 VALUES (1, 1, '25CH0000010000014', 1000000, 50, NULL)",
+        true,
+    ),
+    ("INSERT INTO codes VALUES (1, 1, 'AB12')", true),
+    ("INSERT INTO codes VALUES (1, 1, 'AB12')", false),
+    (
+        "INSERT INTO movements VALUES (1, 1, '25CH00000100000013', 'A1', 'CH001251', 'DE005600', 20148, 'lost', NULL, NULL, NULL)",
+        false,
+    ),
+    (
+        "INSERT INTO movements VALUES (1, 1, '25CH00000100000013', 'A1', 'CH001251', 'DE005600', 20148, 'accepted', NULL, NULL, NULL)",
+        true,
+    ),
+    (
+        "INSERT INTO movements VALUES (1, 2, '25CH00000100000029', 'A1', 'CH001251', 'DE005600', 20148, 'accepted', NULL, NULL, NULL)",
+        false,
+    ),
+    ("INSERT INTO lines1 VALUES (1, 2, 1, 1, 500000)", false),
+    ("INSERT INTO lines1 VALUES (1, 1, 10, 1, 500000)", false),
+    ("INSERT INTO lines1 VALUES (1, 1, 1, 1, 500000)", true),
+];
+
+#[test]
+fn rows_that_break_a_key_or_a_check_are_refused(rt: HostRuntime) -> Result<(), Fail> {
+    let mut conn = with_tables(rt.alloc())?;
+    for (text, taken) in STATEMENTS {
+        assert!(rt; conn.execute(text, &[]).is_ok() == taken);
+    }
+    Ok(())
+}
+
+#[test]
+fn tables_are_made_once(rt: HostRuntime) -> Result<(), Fail> {
+    let mut conn = with_tables(rt.alloc())?;
+    assert!(rt; conn.is_autocommit());
+    let mut tx = conn.transaction();
+    assert!(rt; make_tables(&mut tx).is_err());
+    Ok(())
+}
