@@ -17,7 +17,7 @@ use Rattle.td_schema.specs.Tables.{desk_schema}
 use Rattle.td_sql.specs.Writing.{HasSchema}
 use Rattle.td_store_tables.specs.Rows.{AreAllTyped, tables_in}
 use Rattle.td_store_tables.proofs.Holding.{holds_still}
-use Rattle.td_writing.specs.Written.{WritesChange}
+use Rattle.td_carrying.specs.Written.{WritesChange}
 use Rattle.td_carrying.specs.Carried.{CarriesChange, MayLeave}
 
 -- what is decided on over sound content leaves sound content

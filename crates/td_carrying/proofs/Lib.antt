@@ -1,2 +1,5 @@
+mod Written
+mod Changed
+mod AsSaid
 mod After
 mod Made

@@ -4,11 +4,11 @@ ghost use Rattle.sqlite.specs.Held.{state};
 ghost use Rattle.sqlite.specs.State.{HasCleanDisk, Survives};
 ghost use Rattle.td_carrying.specs.Carried.{CarriesChange, MayLeave};
 
+use crate::changes::write_change;
 use sqlite::{Connection, Error};
 use sqlite_trees::store::Alter;
 use td_acts::Change;
 use td_base::Country;
-use td_writing::write_change;
 
 /// Carries a change that was decided on over the content of the tables, at an office of that country: all of it or, where it
 /// answers `Err`, nothing. An error is the database's own; `DatabaseCorrupt`, too, where a row that changes isn't there.

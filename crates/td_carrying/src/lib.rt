@@ -1,9 +1,11 @@
-//! A store's file is made, and a change is carried into it: all the statements in one transaction, whose commit is the last
-//! call of the database.
+//! A store's file is made, and what a change says is written into its tables: one INSERT a new row, one UPDATE a row that
+//! changes, one DELETE a row that goes, all of them in one transaction, whose commit is the last call of the database.
 #![tactic(auto)]
 
 mod carrying;
+mod changes;
 mod creating;
+mod lists;
 
 pub use carrying::carry_change;
 pub use creating::create_tables;

@@ -15,9 +15,9 @@ use Rattle.td_tables.specs.Gathering.{holder_no}
 use Rattle.td_tables.proofs.Looked.{account_is}
 use Rattle.td_holders.specs.Stored.{IsTheHolder}
 use Rattle.td_store_tables.specs.Rows.{HoldsContent, tables_in}
-use Rattle.td_loading.specs.Loaded.{LeavesTables}
-use Rattle.td_loading.proofs.Reading.{held_after}
-use Rattle.td_loading.proofs.Whole.{found_alone}
+use Rattle.td_needs.specs.Loaded.{LeavesTables}
+use Rattle.td_needs.proofs.Reading.{held_after}
+use Rattle.td_needs.proofs.Whole.{found_alone}
 use Rattle.td_needs.specs.Needed.{IsLoadedFor}
 
 -- nothing is kept of a number without a row

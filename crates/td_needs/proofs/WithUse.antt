@@ -28,9 +28,9 @@ use Rattle.td_sql.specs.Reading.{LeavesAll}
 use Rattle.td_guarantees.specs.Stored.{AreBySerial, is_of, row_of_stored}
 use Rattle.td_guarantees.specs.declared.stored.StoredGuarantee.{StoredGuarantee}
 use Rattle.td_store_tables.specs.Rows.{HoldsContent, tables_in}
-use Rattle.td_amounts.specs.InUse.{IsInUse}
-use Rattle.td_loading.specs.Loaded.{IsOfTables}
-use Rattle.td_loading.proofs.Reading.{as_tables, said_before}
+use Rattle.td_needs.specs.InUse.{IsInUse}
+use Rattle.td_needs.specs.Loaded.{IsOfTables}
+use Rattle.td_needs.proofs.Reading.{as_tables, said_before}
 use Rattle.td_needs.specs.Needed.{entry_from, with_use}
 
 -- what is found is found among more

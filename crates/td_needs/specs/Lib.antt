@@ -1,1 +1,3 @@
+pub mod InUse
+pub mod Loaded
 pub mod Needed

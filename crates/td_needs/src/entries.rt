@@ -10,17 +10,17 @@ ghost use Rattle.td_schema.specs.Tables.{desk_schema};
 ghost use Rattle.td_sql.specs.Reading.{LeavesAll};
 ghost use Rattle.td_guarantees.specs.Stored.{row_of_stored};
 ghost use Rattle.td_store_tables.specs.Rows.{HoldsContent};
-ghost use Rattle.td_loading.specs.Loaded.{IsOfContent, IsOfTables, LeavesTables};
+ghost use Rattle.td_needs.specs.Loaded.{IsOfContent, IsOfTables, LeavesTables};
 ghost use Rattle.td_needs.specs.Needed.{entry_from, with_use};
 
+use crate::amounts::amount_in_use;
+use crate::guarantees::{guarantee_with_codes, load_guarantee};
 use sqlite::{Error, Transaction};
 use sqlite_trees::store::Alter;
 use std::alloc::Global;
-use td_amounts::amount_in_use;
 use td_base::{Cents, Country, Grn, HolderNo};
 use td_guarantee::Guarantee;
 use td_guarantees::{StoredGuarantee, guarantees_of};
-use td_loading::{guarantee_with_codes, load_guarantee};
 use td_movement::Line;
 
 /// The holder's guarantee with a GRN at an office of that country, if there is one, and the amount in use on it.

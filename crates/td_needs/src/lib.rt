@@ -1,9 +1,14 @@
-//! What a verdict needs, loaded out of the tables of a store's file: what it asks for of the rows of a command's owner. Each
+//! What a verdict needs, loaded out of the tables of a store's file: guarantees with their codes, movements with their lines, the
+//! amount in use by one statement over movements and lines, and what is asked for of the rows of a command's owner. Each
 //! function runs its statements inside a transaction and changes nothing.
 #![tactic(auto)]
 
+mod amounts;
 mod entries;
+mod guarantees;
+mod movements;
 mod needs;
+mod texts;
 
-pub use entries::{load_all_entries, load_entries_of, load_entry};
+pub use amounts::amount_in_use;
 pub use needs::load;

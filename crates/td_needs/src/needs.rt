@@ -9,19 +9,18 @@ ghost use Rattle.td_acts.specs.Deciding.{IsLoaded};
 ghost use Rattle.td_desk.specs.Content.{Content};
 ghost use Rattle.td_desk.specs.Weighing.{kept_for};
 ghost use Rattle.td_store_tables.specs.Rows.{HoldsContent};
-ghost use Rattle.td_loading.specs.Loaded.{LeavesTables};
+ghost use Rattle.td_needs.specs.Loaded.{LeavesTables};
 ghost use Rattle.td_needs.specs.Needed.{IsLoadedFor};
 
 use crate::entries::{load_all_entries, load_entries_of, load_entry};
+use crate::guarantees::load_guarantees_of;
+use crate::movements::{load_all_movements, load_movement_by_lrn, load_movement_by_mrn};
 use sqlite::{Error, Transaction};
 use sqlite_trees::store::Alter;
 use std::alloc::{AllocError, Global};
 use td_acts::{HolderRow, Lines, Loaded, Needs};
 use td_base::{Country, Grn, HolderNo, Lrn, Mrn};
 use td_holders::find_holder;
-use td_loading::{
-    load_all_movements, load_guarantees_of, load_movement_by_lrn, load_movement_by_mrn,
-};
 
 /// What a verdict needs of the rows of a command's owner, at an office of that country: of a registered holder the holder's row and
 /// what is needed beside it, of another number, and where nobody owns the command, nothing.

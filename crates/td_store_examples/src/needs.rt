@@ -3,10 +3,9 @@ use sqlite::{Connection, Error, MemStore};
 use std::alloc::{AllocError, Global};
 use std::test::Fail;
 use td_acts::{Lines, Loaded, Needs};
-use td_amounts::amount_in_use;
 use td_base::{AccessCode, Cents, Country, Grn, HolderNo, Lrn, Mrn};
 use td_movement::Line;
-use td_needs::load;
+use td_needs::{amount_in_use, load};
 use td_schema::make_tables;
 
 const GRN: &[u8] = b"25CH0000010000014";

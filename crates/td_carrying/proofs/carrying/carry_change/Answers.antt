@@ -4,7 +4,7 @@ use Rattle.sqlite.specs.Held.{state}
 use Rattle.sqlite.specs.State.{State, HasCleanDisk, KeepsCounts, Shows, Survives}
 use Rattle.sqlite.proofs.Callers.{survives_begin}
 use Rattle.sqlite.proofs.StateLemmas.{survives_then}
-use Rattle.td_writing.specs.Written.{WritesChange}
+use Rattle.td_carrying.specs.Written.{WritesChange}
 use Rattle.td_carrying.specs.Carried.{MayLeave}
 use Rattle.td_sql.proofs.Leaving.{on_ok}
 use Rattle.td_carrying.proofs.After.{carried_as, inside, left}

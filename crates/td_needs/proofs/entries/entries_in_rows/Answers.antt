@@ -2,8 +2,8 @@ use Rattle.std.proofs.Common.{◌∙◌, arith}
 use Rattle.sqlite.specs.Held.{state}
 use Rattle.sqlite.specs.State.{State, HasCleanDisk}
 use Rattle.td_guarantees.specs.Stored.{row_of_stored}
-use Rattle.td_loading.proofs.Found.{next_of}
-use Rattle.td_loading.proofs.Reading.{HasRead, read_then}
+use Rattle.td_needs.proofs.Found.{next_of}
+use Rattle.td_needs.proofs.Reading.{HasRead, read_then}
 use Rattle.td_needs.specs.Needed.{entry_from}
 use Rattle.td_needs.proofs.entries.entries_in_rows.Goals as goal
 

@@ -2,8 +2,8 @@ use Rattle.std.proofs.Common.{◌≡◌, map, take}
 use Rattle.sqlite.specs.Held.{state}
 use Rattle.sqlite.specs.State.{HasCleanDisk}
 use Rattle.td_guarantees.specs.Stored.{row_of_stored}
-use Rattle.td_loading.specs.Loaded.{IsOfTables}
-use Rattle.td_loading.proofs.Reading.{HasRead}
+use Rattle.td_needs.specs.Loaded.{IsOfTables}
+use Rattle.td_needs.proofs.Reading.{HasRead}
 use Rattle.td_needs.specs.Needed.{entry_from}
 use Rattle.td_needs.proofs.entries.entries_in_rows.Given as goal
 

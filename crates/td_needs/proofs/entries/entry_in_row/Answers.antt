@@ -5,8 +5,8 @@ use Rattle.td_guarantee.specs.declared.guarantee.Guarantee.{Guarantee}
 use Rattle.td_guarantees.specs.Stored.{row_of_stored}
 use Rattle.td_guarantees.specs.declared.stored.StoredGuarantee.{StoredGuarantee}
 use Rattle.td_tables.specs.Gathering.{with_codes}
-use Rattle.td_loading.specs.Loaded.{IsOfTables}
-use Rattle.td_loading.proofs.Reading.{as_tables, said_before, then_left}
+use Rattle.td_needs.specs.Loaded.{IsOfTables}
+use Rattle.td_needs.proofs.Reading.{as_tables, said_before, then_left}
 use Rattle.td_needs.proofs.entries.entry_in_row.Goals as goal
 
 pub returns-clause-entry : goal.returns-clause-entry

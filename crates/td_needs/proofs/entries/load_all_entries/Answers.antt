@@ -4,8 +4,8 @@ use Rattle.sqlite.specs.State.{State, HasCleanDisk}
 use Rattle.td_guarantees.specs.Stored.{row_of_stored}
 use Rattle.td_guarantees.specs.declared.stored.StoredGuarantee.{StoredGuarantee}
 use Rattle.td_sql.proofs.Leaving.{if_both, on_ok}
-use Rattle.td_loading.specs.Loaded.{IsOfTables}
-use Rattle.td_loading.proofs.Reading.{as_tables, then_left}
+use Rattle.td_needs.specs.Loaded.{IsOfTables}
+use Rattle.td_needs.proofs.Reading.{as_tables, then_left}
 use Rattle.td_needs.specs.Needed.{entry_from}
 use Rattle.td_needs.proofs.WithUse.{all_entries}
 use Rattle.td_needs.proofs.entries.load_all_entries.Goals as goal

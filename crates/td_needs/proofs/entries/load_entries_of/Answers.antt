@@ -8,8 +8,8 @@ use Rattle.td_guarantee.specs.declared.guarantee.Guarantee.{Guarantee}
 use Rattle.td_acts.specs.Account.{entry_in}
 use Rattle.td_desk.specs.Content.{Content, account_in}
 use Rattle.td_holder_file.proofs.Loading.{one_more}
-use Rattle.td_loading.specs.Loaded.{IsOfContent}
-use Rattle.td_loading.proofs.Reading.{HasRead, content_before, read_then}
+use Rattle.td_needs.specs.Loaded.{IsOfContent}
+use Rattle.td_needs.proofs.Reading.{HasRead, content_before, read_then}
 use Rattle.td_needs.proofs.entries.load_entries_of.Goals as goal
 use Rattle.td_needs.proofs.entries.load_entries_of.Goals.{in-Some+in_ok-push, in_default}
 

@@ -4,8 +4,8 @@ use Rattle.sqlite.specs.Held.{state}
 use Rattle.sqlite.specs.State.{HasCleanDisk}
 use Rattle.td_acts.specs.Account.{entry_in}
 use Rattle.td_desk.specs.Content.{account_in}
-use Rattle.td_loading.specs.Loaded.{IsOfContent}
-use Rattle.td_loading.proofs.Reading.{HasRead}
+use Rattle.td_needs.specs.Loaded.{IsOfContent}
+use Rattle.td_needs.proofs.Reading.{HasRead}
 use Rattle.td_needs.proofs.entries.load_entries_of.Given as goal
 
 abbrev pub invariant-lines : goal.invariant-lines

@@ -3,7 +3,7 @@ use Rattle.std.specs.Prelude.{option_map}
 use Rattle.sqlite.specs.Held.{state}
 use Rattle.sqlite.specs.State.{State, HasCleanDisk}
 use Rattle.td_desk.specs.Content.{account_in}
-use Rattle.td_loading.proofs.Reading.{as_tables, held_after, then_left}
+use Rattle.td_needs.proofs.Reading.{as_tables, held_after, then_left}
 use Rattle.td_needs.specs.Needed.{with_use}
 use Rattle.td_needs.proofs.WithUse.{entry_is}
 use Rattle.td_needs.proofs.entries.load_entry.Goals as goal

@@ -8,7 +8,7 @@ use Rattle.td_commands.specs.Commands.{need_said}
 use Rattle.td_desk.specs.Weighing.{kept_for}
 use Rattle.td_holders.specs.Stored.{IsTheHolder}
 use Rattle.td_sql.proofs.Leaving.{if_both}
-use Rattle.td_loading.proofs.Reading.{as_tables}
+use Rattle.td_needs.proofs.Reading.{as_tables}
 use Rattle.td_needs.proofs.Owner.{loaded_for, nothing_loaded}
 use Rattle.td_needs.proofs.needs.load.Goals as goal
 

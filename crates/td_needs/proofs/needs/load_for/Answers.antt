@@ -3,7 +3,7 @@ use Rattle.std.specs.Prelude.{IfOk}
 use Rattle.sqlite.specs.Held.{state}
 use Rattle.sqlite.specs.State.{State}
 use Rattle.td_commands.specs.Commands.{need_said}
-use Rattle.td_loading.proofs.Reading.{nothing_read}
+use Rattle.td_needs.proofs.Reading.{nothing_read}
 use Rattle.td_needs.specs.Needed.{IsLoadedFor}
 use Rattle.td_needs.proofs.needs.load_for.Goals as goal
 

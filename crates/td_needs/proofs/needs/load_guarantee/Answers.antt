@@ -4,7 +4,7 @@ use Rattle.sqlite.specs.Held.{state}
 use Rattle.td_acts.specs.declared.rows.Loaded.{Loaded}
 use Rattle.td_desk.specs.Content.{account_in}
 use Rattle.td_holder_file.proofs.Loading.{guarantee_looked_up}
-use Rattle.td_loading.proofs.Reading.{as_tables}
+use Rattle.td_needs.proofs.Reading.{as_tables}
 use Rattle.td_needs.proofs.needs.load_guarantee.Goals as goal
 
 pub returns-clause-loaded : goal.returns-clause-loaded

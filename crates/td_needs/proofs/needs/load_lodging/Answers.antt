@@ -5,7 +5,7 @@ use Rattle.sqlite.specs.State.{State, HasCleanDisk}
 use Rattle.td_acts.specs.declared.rows.Loaded.{Loaded}
 use Rattle.td_desk.specs.Content.{account_in}
 use Rattle.td_holder_file.proofs.Loading.{lodging_looked_up}
-use Rattle.td_loading.proofs.Reading.{as_tables, held_after, then_left}
+use Rattle.td_needs.proofs.Reading.{as_tables, held_after, then_left}
 use Rattle.td_needs.proofs.needs.load_lodging.Goals as goal
 
 pub returns-clause-loaded : goal.returns-clause-loaded

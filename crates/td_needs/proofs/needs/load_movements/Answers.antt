@@ -1,6 +1,6 @@
 use Rattle.std.proofs.Common.{◌∙◌, sym}
 use Rattle.sqlite.specs.Held.{state}
-use Rattle.td_loading.proofs.Reading.{as_tables}
+use Rattle.td_needs.proofs.Reading.{as_tables}
 use Rattle.td_needs.proofs.needs.load_movements.Goals as goal
 
 pub returns-clause-loaded : goal.returns-clause-loaded

@@ -7,7 +7,7 @@ use Rattle.td_acts.specs.declared.rows.Loaded.{Loaded}
 use Rattle.td_acts.specs.Account.{Account, entry_in, movement_by_mrn}
 use Rattle.td_desk.specs.Content.{account_in}
 use Rattle.td_holder_file.proofs.Loading.{release_looked_up}
-use Rattle.td_loading.proofs.Reading.{as_tables, held_after, then_left}
+use Rattle.td_needs.proofs.Reading.{as_tables, held_after, then_left}
 use Rattle.td_needs.proofs.needs.load_release.Goals as goal
 
 pub returns-in_default-clause-loaded : goal.returns-in_default-clause-loaded

@@ -1,3 +1,0 @@
-mod Joined
-mod Meanings
-mod Statements

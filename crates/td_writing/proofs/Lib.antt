@@ -1,3 +1,0 @@
-mod Written
-mod Changed
-mod AsSaid
