@@ -60,7 +60,7 @@ fn grn(dice: &mut Dice, country: Country, own: HolderNo) -> Option<Grn> {
 fn mrn(dice: &mut Dice, country: Country, own: HolderNo) -> Option<Mrn> {
     let other = holder(dice)?;
     let owner = if dice.roll(8) == 0 { other } else { own };
-    Mrn::make(25, country, owner, 1 + dice.roll(10))
+    Mrn::make(25, country, owner, 1 + dice.roll(6))
 }
 
 fn lrn(dice: &mut Dice) -> Option<Lrn> {
@@ -72,7 +72,7 @@ fn office(dice: &mut Dice) -> Option<OfficeNo> {
 }
 
 fn reference(dice: &mut Dice) -> Option<Reference> {
-    Reference::new(600_000 + 100_000 * u64::from(dice.roll(5)))
+    Reference::new(200_000 + 200_000 * u64::from(dice.roll(5)))
 }
 
 fn cover(dice: &mut Dice) -> Option<Cover> {
@@ -85,7 +85,7 @@ fn lines(alloc: Global, dice: &mut Dice, country: Country, owner: HolderNo) -> O
     let first = 1 + dice.roll(4);
     for serial in first..first + 1 + dice.roll(2) {
         let grn = Grn::make(25, country, owner, serial)?;
-        let cents = Cents::new(1_000 + 50_000 * u64::from(dice.roll(6)))?;
+        let cents = Cents::new(1_000 + 100_000 * u64::from(dice.roll(6)))?;
         let code = code(dice)?;
         items.push((Line { grn, cents }, code)).ok()?;
     }
@@ -110,13 +110,13 @@ fn on_guarantees(dice: &mut Dice, country: Country, kind: u32) -> Option<Command
             holder,
             eori: Eori::read(b"CH1234567")?,
         },
-        1 | 2 => Command::OpenGuarantee {
+        1..=3 => Command::OpenGuarantee {
             holder,
             reference: reference(dice)?,
             cover: cover(dice)?,
             code: code(dice)?,
         },
-        3 => Command::Amend {
+        4..=6 => Command::Amend {
             grn: grn(dice, country, holder)?,
             reference: reference(dice)?,
             cover: cover(dice)?,
@@ -127,24 +127,24 @@ fn on_guarantees(dice: &mut Dice, country: Country, kind: u32) -> Option<Command
     })
 }
 
-// A command of an office on a movement, on the day of this number.
+// A command of an office on a movement, on the day of this number: a limit is now and then the day before.
 fn on_movements(dice: &mut Dice, country: Country, kind: u32, today: i64) -> Option<Command> {
     let own = holder(dice)?;
     let mrn = mrn(dice, country, own)?;
     Some(match kind {
-        5..=8 => Command::Ie029 {
+        8..=12 => Command::Ie029 {
             mrn,
-            limit: Day::new(today + i64::from(dice.roll(12)))?,
+            limit: Day::new(today.checked_add(i64::from(dice.roll(12)) - 1)?)?,
         },
-        9 | 10 => Command::Ie007 {
+        13 | 14 => Command::Ie007 {
             mrn,
             office: office(dice)?,
         },
-        11 | 12 => Command::Ie018 {
+        15 | 16 => Command::Ie018 {
             mrn,
             result: [Control::A1, Control::A2, Control::B1][dice.roll(3) as usize],
         },
-        13 | 14 => Command::Ie045 {
+        17..=20 => Command::Ie045 {
             mrn,
             ground: [Ground::Results, Ground::Proof][dice.roll(2) as usize],
         },
@@ -156,47 +156,51 @@ fn on_movements(dice: &mut Dice, country: Country, kind: u32, today: i64) -> Opt
 fn of_holders(alloc: Global, dice: &mut Dice, country: Country, kind: u32) -> Option<Command> {
     let holder = holder(dice)?;
     Some(match kind {
-        16 => Command::Ie014 {
+        24 => Command::Ie014 {
             holder,
             mrn: mrn(dice, country, holder)?,
         },
-        17 => Command::AddCode {
+        25..=27 => Command::AddCode {
             holder,
             grn: grn(dice, country, holder)?,
             code: code(dice)?,
         },
-        18 => Command::RemoveCode {
+        28..=30 => Command::RemoveCode {
             holder,
             grn: grn(dice, country, holder)?,
             code: code(dice)?,
         },
-        19 => Command::SeeHolder { holder },
-        20 => Command::SeeMovement {
+        31 => Command::SeeHolder { holder },
+        32 => Command::SeeMovement {
             holder,
             mrn: mrn(dice, country, holder)?,
         },
-        21 => Command::SeeMovements { holder },
-        22 => Command::SeeGuarantee {
+        33 => Command::SeeMovements { holder },
+        34 => Command::SeeGuarantee {
             holder,
             grn: grn(dice, country, holder)?,
         },
-        23 => Command::SeeGuarantees { holder },
+        35 => Command::SeeGuarantees { holder },
         _ => lodging(alloc, dice, country, holder)?,
     })
 }
 
-/// The next command, some hours after this many before it.
+/// The next command, some hours after this many before it, or at times before the last one or before the clock's first moment.
 pub fn drawn(alloc: Global, dice: &mut Dice, country: Country, before: u32) -> Option<Stamped> {
-    let at = START + 20_000 * i64::from(before) + i64::from(dice.roll(25_000));
+    let now = START + 20_000 * i64::from(before);
+    let at = match dice.roll(60) {
+        0 => 0,
+        _ => now + i64::from(dice.roll(60_000)),
+    };
     let kind = if before < 12 {
         before % 3
     } else {
-        dice.roll(36)
+        dice.roll(48)
     };
-    let command = if kind < 5 {
+    let command = if kind < 8 {
         on_guarantees(dice, country, kind)?
-    } else if kind < 16 {
-        on_movements(dice, country, kind, at / 86_400)?
+    } else if kind < 24 {
+        on_movements(dice, country, kind, now / 86_400)?
     } else {
         of_holders(alloc, dice, country, kind)?
     };

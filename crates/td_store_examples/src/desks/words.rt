@@ -1,6 +1,6 @@
 //! What a desk says, as a text that tells two answers apart and hangs on nothing else.
 use std::alloc::{AllocError, Global};
-use td_desk::{Answer, Outcome, Said};
+use td_desk::{Answer, Command, Outcome, Said};
 use td_guarantee::Guarantee;
 use td_movement::Movement;
 
@@ -53,5 +53,38 @@ pub fn words_of(alloc: Global, outcome: &Outcome) -> Result<String, AllocError> 
         Outcome::Said(Said::Answered(answer)) => answer_words(alloc, answer),
         Outcome::Said(Said::Refused(why)) => format!(in alloc; "{why:?}"),
         Outcome::Failed(fault) => format!(in alloc; "{fault}"),
+    }
+}
+
+// What a command is called here; no name stands in another.
+fn command_name(command: &Command) -> &'static str {
+    match command {
+        Command::Register { .. } => "register",
+        Command::OpenGuarantee { .. } => "open-guarantee",
+        Command::Amend { .. } => "amend",
+        Command::Revoke { .. } => "revoke",
+        Command::Ie015 { .. } => "ie015",
+        Command::Ie014 { .. } => "ie014",
+        Command::AddCode { .. } => "add-code",
+        Command::RemoveCode { .. } => "remove-code",
+        Command::Ie029 { .. } => "ie029",
+        Command::Ie007 { .. } => "ie007",
+        Command::Ie018 { .. } => "ie018",
+        Command::Ie045 { .. } => "ie045",
+        Command::Ie140 { .. } => "ie140",
+        Command::SeeHolder { .. } => "see-holder",
+        Command::SeeMovement { .. } => "one-movement",
+        Command::SeeMovements { .. } => "all-movements",
+        Command::SeeGuarantee { .. } => "one-guarantee",
+        Command::SeeGuarantees { .. } => "all-guarantees",
+    }
+}
+
+/// What a command's end is called: an answered command by its own name, else why it was refused, or that it failed.
+pub fn end_name(command: &Command, outcome: &Outcome) -> &'static str {
+    match outcome {
+        Outcome::Said(Said::Answered(_)) => command_name(command),
+        Outcome::Said(Said::Refused(why)) => why.name(),
+        Outcome::Failed(_) => "failed",
     }
 }
