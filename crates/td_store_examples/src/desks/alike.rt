@@ -17,7 +17,7 @@ struct Ended {
     name: &'static str,
 }
 
-fn ended(
+fn end_at_both(
     alloc: Global,
     plain: &mut PlainDesk,
     stored: &mut SqlDesk<MemStore>,
@@ -84,7 +84,7 @@ fn both_desks_say_the_same(rt: HostRuntime) -> Result<(), Fail> {
     let mut met = String::new(alloc);
     for before in 0..600 {
         let stamped = drawn(alloc, &mut dice, country, before).ok_or("a command")?;
-        let ended = ended(alloc, &mut plain, &mut stored, &stamped)?;
+        let ended = end_at_both(alloc, &mut plain, &mut stored, &stamped)?;
         assert_eq!(rt; ended.stored.as_str(), ended.plain.as_str(), "at {before}");
         if !met.as_str().contains(ended.name) {
             let name = ended.name;
