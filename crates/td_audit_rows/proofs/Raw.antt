@@ -11,6 +11,7 @@ use Rattle.td_base.specs.Country.{IsCountry}
 use Rattle.td_tables.specs.declared.rule.Rule.{Rule}
 use Rattle.td_tables.specs.declared.rule.Rule.TheVariants.{S1, S2, S3, S4, S5, S6, S7, S8}
 use Rattle.td_tables.specs.Rules.{KeepRules}
+use Rattle.td_tables.specs.Stored.{AreStored}
 use Rattle.td_tables.proofs.Failing.{kept_each}
 use Rattle.td_tables.proofs.KeepingRules.{keep_rules}
 use Rattle.td_tables.proofs.Ruled.{are_of_content}
@@ -56,10 +57,33 @@ all_typed trees kept kinds = record {
   lines = record { ids = kept.ids.lines; cells = kinds S6 };
 }
 
+-- what the database keeps of each typed table, put together
+stored_of_kept : (trees : Trees) → AreKept trees → AreAllTyped trees → AreStored (tables_in trees)
+stored_of_kept trees kept typed =
+    let guarantees = kept.guarantees typed.guarantees.cells in
+    let codes = kept.codes typed.codes.cells in
+    let movements = kept.movements typed.movements.cells in
+    let lines = kept.lines typed.lines.cells in
+    record {
+      numbers = kept.holders.numbers;
+      holders = kept.holders.apart;
+      guarantees = guarantees.apart;
+      codes = codes.apart;
+      movements = movements.apart;
+      lrns = movements.lrns;
+      lines = lines.apart;
+      guarantees_owned = guarantees.owned;
+      codes_owned = codes.owned;
+      movements_owned = movements.owned;
+      lines_owned = lines.owned;
+      without_codes = guarantees.without_codes;
+      without_lines = movements.without_lines;
+    }
+
 pub rules_mean_content : KeptRulesMeanContent
 rules_mean_content trees kept keeps =
     let typed = all_typed trees kept (λ rule. (keeps rule).0) in
-    let keep : KeepRules (tables_in trees) = (kept_each (tables_in trees) (kept.stored typed)).1 (λ rule. (keeps rule).1) in
+    let keep : KeepRules (tables_in trees) = (kept_each (tables_in trees) (stored_of_kept trees kept typed)).1 (λ rule. (keeps rule).1) in
     record { typed = typed; sound = content_is_sound (tables_in trees) keep; tables = are_of_content (tables_in trees) keep }
 
 -- where there is a country there is the office's row

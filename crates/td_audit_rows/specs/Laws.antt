@@ -5,20 +5,29 @@ use Rattle.td_desk.specs.Content.{Content}
 use Rattle.td_desk.specs.Sound.{IsSound}
 use Rattle.td_tables.specs.declared.rule.Rule.{Rule}
 use Rattle.td_tables.specs.Gathering.{content_of}
-use Rattle.td_tables.specs.Stored.{AreStored}
 use Rattle.td_tables.specs.Tables.{AreTablesOf}
+use Rattle.td_sql.specs.Typed.{IsTypedRow}
 use Rattle.td_meta.specs.Cells.{meta_typing}
 use Rattle.td_holders.specs.Cells.{holder_typing}
+use Rattle.td_guarantees.specs.Cells.{guarantee_typing}
+use Rattle.td_codes.specs.Cells.{code_typing}
+use Rattle.td_movements.specs.Cells.{movement_typing}
+use Rattle.td_lines.specs.Cells.{line_typing}
 use Rattle.td_store_tables.specs.Rows.{AreAllTyped, tables_in}
 use Rattle.td_audit_rows.specs.Ids.{HaveAllIds}
+use Rattle.td_audit_rows.specs.Kept.{AreCodesKept, AreGuaranteesKept, AreHoldersKept, AreLinesKept, AreMovementsKept}
 use Rattle.td_audit_rows.specs.Kinds.{AllRows, HasNumber, KeepsRaw}
 
--- What the database itself keeps of the tables: the rowids, the holders' numbers, and, where all rows are typed, their keys and
--- references.
+-- What the database itself keeps of the tables: the rowids, the holders' numbers, and of each other table whose rows are typed
+-- its keys and references.
 pub record AreKept (trees : Trees) : Type 0 where
   pub ids : HaveAllIds trees
   pub numbers : AllRows holder_typing HasNumber trees
-  pub stored : AreAllTyped trees → AreStored (tables_in trees)
+  pub holders : AreHoldersKept (tables_in trees)
+  pub guarantees : AllRows guarantee_typing (IsTypedRow guarantee_typing) trees → AreGuaranteesKept (tables_in trees)
+  pub codes : AllRows code_typing (IsTypedRow code_typing) trees → AreCodesKept (tables_in trees)
+  pub movements : AllRows movement_typing (IsTypedRow movement_typing) trees → AreMovementsKept (tables_in trees)
+  pub lines : AllRows line_typing (IsTypedRow line_typing) trees → AreLinesKept (tables_in trees)
 
 -- the tables hold a content, which is sound
 pub record HoldSoundContent (trees : Trees) : Type 0 where

@@ -1,4 +1,5 @@
 pub mod Kinds
+pub mod Kept
 pub mod Laws
 pub mod Ids
 pub mod Holders

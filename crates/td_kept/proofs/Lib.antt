@@ -1,0 +1,9 @@
+mod Equal
+mod Unique
+mod Ruled
+mod Parents
+mod Checked
+mod Holders
+mod Keyed
+mod Tables
+mod Live
