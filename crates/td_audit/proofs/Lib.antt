@@ -1,0 +1,5 @@
+mod Reading
+mod HoldersTold
+mod GuaranteesKept
+mod MovementsKept
+mod Walking
