@@ -4,4 +4,4 @@
 mod amounts;
 mod texts;
 
-pub use amounts::amount_in_use;
+pub use amounts::{amount_if_in_range, amount_in_use};

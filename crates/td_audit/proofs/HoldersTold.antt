@@ -28,8 +28,8 @@ identities_decided [] = (λ t. tt, λ t. refl)
 identities_decided (h ∷ holders) =
     Decides-and _ _ (Decides-and _ _ (some_decided h.eori) (some_decided h.last_at)) (identities_decided holders)
 
--- what is so of each holder's number and count is so of those of the rows
-pub of_pairs : (pair : HolderRow → ℕ × ℕ) (raw_pair : RawHolder → ℕ × ℕ) (P : ℕ × ℕ → Type 0) (rows : List HolderRow) (found : List RawHolder)
+-- what is so of each holder's number, or number and count, is so of those of the rows
+pub of_pairs : {K : Type 0} (pair : HolderRow → K) (raw_pair : RawHolder → K) (P : K → Type 0) (rows : List HolderRow) (found : List RawHolder)
     → IsPermutation (map pair rows) (map raw_pair found)
     → AllByRecursion (λ row. P (pair row)) rows ↔ AllByRecursion (λ h. P (raw_pair h)) found
 of_pairs pair raw_pair P rows found same = (

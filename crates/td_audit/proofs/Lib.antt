@@ -3,3 +3,5 @@ mod HoldersTold
 mod GuaranteesKept
 mod MovementsKept
 mod Walking
+mod InUse
+mod CoverKept

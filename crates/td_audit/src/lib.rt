@@ -2,10 +2,12 @@
 //! given a transaction runs inside it and changes nothing.
 #![tactic(auto)]
 
+mod cover;
 mod guarantees;
 mod holders;
 mod movements;
 
+pub use cover::cover_keeps_rule;
 pub use guarantees::guarantees_keep_rule;
 pub use holders::holders_keep_rule;
 pub use movements::movements_keep_rule;
