@@ -10,5 +10,5 @@ mod movements;
 mod needs;
 mod texts;
 
-pub use amounts::amount_in_use;
+pub use amounts::{amount_if_in_range, amount_in_use};
 pub use needs::load;

@@ -1,0 +1,7 @@
+mod Reading
+mod HoldersTold
+mod GuaranteesKept
+mod MovementsKept
+mod Walking
+mod InUse
+mod CoverKept

@@ -1,0 +1,17 @@
+use Rattle.std.proofs.Common.{◌≡◌, take}
+use Rattle.std.specs.List.{AllByRecursion}
+use Rattle.sqlite.specs.Held.{state}
+use Rattle.sqlite.specs.State.{HasCleanDisk}
+use Rattle.td_movements.specs.Cells.{movement_typing}
+use Rattle.td_audit.specs.InFile.{AreTypedApart, HasMovementsInPlace, IsSoWhere}
+use Rattle.td_audit.proofs.Reading.{HasRead}
+use Rattle.td_audit.proofs.movements.all_have_movements.Given as goal
+
+-- nothing is changed, and those before have theirs
+abbrev pub invariant-holders : goal.invariant-holders
+invariant-holders g l =
+    (l.tx.conn.ghost_name ≡ l.initial.tx.conn.ghost_name)
+    × HasRead (state g.S.Store l.initial.tx.conn.now) (state g.S.Store l.tx.conn.now)
+    × (HasCleanDisk (state g.S.Store l.tx.conn.now)
+    → IsSoWhere (AreTypedApart movement_typing) (λ trees. AllByRecursion (HasMovementsInPlace l.country trees) (take l.raw-index l.holders))
+    (state g.S.Store l.initial.tx.conn.now))

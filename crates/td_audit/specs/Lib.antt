@@ -1,0 +1,2 @@
+pub mod Auditable
+pub mod InFile

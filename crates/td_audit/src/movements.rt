@@ -1,0 +1,98 @@
+//! S5: each holder's movements have the serials from 1 to their count in the holder's row, and their columns are in range.
+ghost use Rattle.std.specs.Prelude.{◌≡◌, IsTrue, IfOk, OnOk};
+ghost use Rattle.std.specs.List.{AllByRecursion};
+ghost use Rattle.sqlite.specs.Held.{state};
+ghost use Rattle.sqlite.specs.State.{HasCleanDisk, KeepsCommit, Survives};
+ghost use Rattle.td_schema.specs.Tables.{desk_schema};
+ghost use Rattle.td_sql.specs.Reading.{LeavesAll};
+ghost use Rattle.td_movements.specs.Cells.{movement_typing};
+ghost use Rattle.td_tables.specs.declared.rule.Rule.TheVariants.{S5};
+ghost use Rattle.td_audit.specs.Auditable.{TellsRule};
+ghost use Rattle.td_audit.specs.InFile.{AreTypedApart, HasMovementsInPlace, ReadsStore, TellsWhere};
+
+use sqlite::{Error, Transaction};
+use sqlite_trees::store::Alter;
+use std::alloc::Global;
+use td_audit_rows::{RawHolder, all_movements_are_read, found_holders_tell, kept_rules_are_read};
+use td_base::Country;
+use td_movements::movements_of;
+use td_rules::movements_are_in_place;
+
+/// Whether the tables keep S5 as they stand in the file, at an office of that country. It is given all holders, as
+/// `td_audit_rows::all_holders` reads them. `OutOfMemory`: want of memory; any other error is the database's own.
+pub fn movements_keep_rule<S: Alter>(
+    alloc: Global,
+    tx: &mut Transaction<'_, S>,
+    country: Country,
+    holders: &[RawHolder],
+) -> Result<bool, Error>
+    requires { HasCleanDisk (state S.Store tx.old.conn.now) → IsTrue (state S.Store tx.old.conn.now).in_transaction }
+    ensures same_reference { tx.new.conn.ghost_name ≡ tx.old.conn.ghost_name }
+    ensures told { HasCleanDisk (state S.Store tx.new.conn.now)
+        → IfOk result (TellsRule S5 country holders.now (state S.Store tx.old.conn.now)) }
+    ensures still { HasCleanDisk (state S.Store tx.new.conn.now)
+        → OnOk result (LeavesAll desk_schema (state S.Store tx.old.conn.now) (state S.Store tx.new.conn.now)) }
+    ensures inside { HasCleanDisk (state S.Store tx.new.conn.now) → OnOk result (IsTrue (state S.Store tx.new.conn.now).in_transaction) }
+    ensures kept { HasCleanDisk (state S.Store tx.new.conn.now)
+        → KeepsCommit (state S.Store tx.old.conn.now) (state S.Store tx.new.conn.now) }
+    ensures survives { Survives (state S.Store tx.old.conn.now) (state S.Store tx.new.conn.now) (λ _. ⊥) }
+{
+    found_holders_tell();
+    kept_rules_are_read();
+    if !all_movements_are_read(tx)? {
+        return Ok(false);
+    }
+    all_have_movements(alloc, tx, country, holders)
+}
+
+// Whether the movements of each of the holders are counted, and in their places.
+fn all_have_movements<S: Alter>(
+    alloc: Global,
+    tx: &mut Transaction<'_, S>,
+    country: Country,
+    holders: &[RawHolder],
+) -> Result<bool, Error>
+    requires { HasCleanDisk (state S.Store tx.old.conn.now) → IsTrue (state S.Store tx.old.conn.now).in_transaction }
+    ensures same_reference { tx.new.conn.ghost_name ≡ tx.old.conn.ghost_name }
+    ensures told { HasCleanDisk (state S.Store tx.new.conn.now)
+        → IfOk result (TellsWhere (AreTypedApart movement_typing) (λ trees. AllByRecursion (HasMovementsInPlace country trees) holders.now)
+        (state S.Store tx.old.conn.now)) }
+    ensures still { HasCleanDisk (state S.Store tx.new.conn.now)
+        → OnOk result (ReadsStore (state S.Store tx.old.conn.now) (state S.Store tx.new.conn.now)) }
+    ensures inside { HasCleanDisk (state S.Store tx.new.conn.now) → OnOk result (IsTrue (state S.Store tx.new.conn.now).in_transaction) }
+    ensures kept { HasCleanDisk (state S.Store tx.new.conn.now)
+        → KeepsCommit (state S.Store tx.old.conn.now) (state S.Store tx.new.conn.now) }
+    ensures survives { Survives (state S.Store tx.old.conn.now) (state S.Store tx.new.conn.now) (λ _. ⊥) }
+{
+    'holders: for raw in holders {
+        if !has_movements(alloc, tx, country, raw)? {
+            return Ok(false);
+        }
+    }
+    Ok(true)
+}
+
+// Whether a holder's movements are.
+fn has_movements<S: Alter>(
+    alloc: Global,
+    tx: &mut Transaction<'_, S>,
+    country: Country,
+    raw: &RawHolder,
+) -> Result<bool, Error>
+    requires { HasCleanDisk (state S.Store tx.old.conn.now) → IsTrue (state S.Store tx.old.conn.now).in_transaction }
+    ensures same_reference { tx.new.conn.ghost_name ≡ tx.old.conn.ghost_name }
+    ensures told { HasCleanDisk (state S.Store tx.new.conn.now)
+        → IfOk result (TellsWhere (AreTypedApart movement_typing) (λ trees. HasMovementsInPlace country trees raw.now) (state S.Store tx.old.conn.now)) }
+    ensures still { HasCleanDisk (state S.Store tx.new.conn.now)
+        → OnOk result (ReadsStore (state S.Store tx.old.conn.now) (state S.Store tx.new.conn.now)) }
+    ensures inside { HasCleanDisk (state S.Store tx.new.conn.now) → OnOk result (IsTrue (state S.Store tx.new.conn.now).in_transaction) }
+    ensures kept { HasCleanDisk (state S.Store tx.new.conn.now)
+        → KeepsCommit (state S.Store tx.old.conn.now) (state S.Store tx.new.conn.now) }
+    ensures survives { Survives (state S.Store tx.old.conn.now) (state S.Store tx.new.conn.now) (λ _. ⊥) }
+{
+    let Some(count) = raw.mrn_count else {
+        return Ok(false);
+    };
+    let rows = movements_of(alloc, tx, raw.holder)?;
+    Ok(movements_are_in_place(country, count, &rows))
+}
