@@ -1,0 +1,5 @@
+//! The statements: each shows the rows of a holder.
+
+/// The codes, by the serials of their guarantees.
+pub const CODES_OF_HOLDER: &str =
+    "SELECT holder, serial, code FROM codes WHERE holder = ?1 ORDER BY holder, serial, code";
