@@ -10,19 +10,19 @@ use Rattle.td_base.specs.Codes.{IsAccessCode}
 use Rattle.td_base.specs.Holder.{IsHolderNumber}
 use Rattle.td_acts.specs.declared.rows.HolderRow.{HolderRow}
 use Rattle.td_tables.specs.Gathering.{part}
-use Rattle.td_tables.specs.Rules.{HasCodes, HasGuarantees}
+use Rattle.td_tables.specs.Rules.{HasCodes, HasGuarantees, HasLines, HasMovements}
 use Rattle.td_tables.specs.Tables.{Keyed, Tables}
 use Rattle.td_tables.proofs.Ruled.{are_mine}
 use Rattle.td_sql.specs.Typed.{row_of, rows_in}
 use Rattle.td_holders.specs.Cells.{holder_typing}
 use Rattle.td_store_tables.specs.Rows.{tables_in}
 use Rattle.td_audit_rows.specs.Holders.{AreHoldersIn, HolderFields, fields_of, fields_of_raw}
-use Rattle.td_audit_rows.specs.Kinds.{AllRows, HasGrnCount}
+use Rattle.td_audit_rows.specs.Kinds.{AllRows, HasGrnCount, HasMrnCount}
 use Rattle.td_audit_rows.specs.Told.{HolderFieldsTell}
 use Rattle.td_audit_rows.specs.declared.holders.RawHolder.{RawHolder}
-use Rattle.td_audit_parts.specs.InPlace.{AreCodesInPlace}
-use Rattle.td_audit_parts.specs.Premises.{HasCodesInPlace}
-use Rattle.td_audit_parts.proofs.Tells.{codes_tell}
+use Rattle.td_audit_parts.specs.InPlace.{AreAllLinesInPlace, AreCodesInPlace}
+use Rattle.td_audit_parts.specs.Premises.{HasCodesInPlace, HasLinesInPlace}
+use Rattle.td_audit_parts.proofs.Tells.{codes_tell, lines_tell}
 
 -- the value of a field that is there
 value_is : (o : Option ℕ) (n d : ℕ) → IsSome o → IfSome o (λ k. k ≡ n) → unwrap_or o d ≡ n
@@ -102,4 +102,50 @@ module _ (trees : Trees) (found : List RawHolder) (all : AreHoldersIn trees foun
               subst (λ H. AreCodesInPlace (unwrap_or (fields_of r).grn_count 0) (part H t.codes)) (sym number)
                   (subst (λ n. AreCodesInPlace n (part row.holder t.codes)) (sym count) (tells.1 has)),
             ),
+          )
+
+  -- the count of movements of a row whose movements keep their rule
+  mrn_there : (r : Row) → HasMrnCount r → HasMovements t (row_of holder_typing r) → IsSome (fields_of r).mrn_count
+  mrn_there r kind has = (tell r).0.mrn_count.1 (kind, omega (arith, has.most))
+
+  mrn_is : (r : Row) → HasMrnCount r → HasMovements t (row_of holder_typing r) → unwrap_or (fields_of r).mrn_count 0 ≡ (row_of holder_typing r).mrn_count
+  mrn_is r kind has = value_is (fields_of r).mrn_count (row_of holder_typing r).mrn_count 0 (mrn_there r kind has) (tell r).1.mrn_count
+
+  -- a row whose counts are of their kinds, and whose guarantees and movements keep their rules
+  record IsCounted (r : Row) : Type 0 where
+    grns : HasGrnCount r
+    guarantees : HasGuarantees t (row_of holder_typing r)
+    mrns : HasMrnCount r
+    movements : HasMovements t (row_of holder_typing r)
+
+  -- the fields of a holder say that the lines are in their places
+  abbrev HasItsLines : HolderFields → Type 0
+  HasItsLines f =
+      (IsSome f.grn_count × IsSome f.mrn_count)
+      × AreAllLinesInPlace (unwrap_or f.grn_count 0) (unwrap_or f.mrn_count 0) (part (unwrap_or f.holder 0) t.lines)
+
+  -- the lines of each holder that was found are in their places exactly where those of each holder's row keep the rule
+  pub lines_told : AllRows holder_typing HasGrnCount trees → AllByRecursion (HasGuarantees t) t.holders
+      → AllRows holder_typing HasMrnCount trees → AllByRecursion (HasMovements t) t.holders
+      → AllByRecursion (HasLinesInPlace trees) found ↔ AllByRecursion (HasLines t) t.holders
+  lines_told grn_kinds guarantees mrn_kinds movements = told HasItsLines IsCounted (HasLines t) says counted
+    where
+      counted : AllByRecursion IsCounted rows
+      counted =
+          all_both (λ r. HasGrnCount r × HasGuarantees t (row_of holder_typing r)) (λ r. HasMrnCount r × HasMovements t (row_of holder_typing r)) IsCounted
+          (λ r g m. record { grns = g.0; guarantees = g.1; mrns = m.0; movements = m.1 }) rows
+          (all_both HasGrnCount (λ r. HasGuarantees t (row_of holder_typing r)) (λ r. HasGrnCount r × HasGuarantees t (row_of holder_typing r)) (λ r k h. (k, h)) rows grn_kinds
+          (all_from_map (HasGuarantees t) (row_of holder_typing) rows guarantees))
+          (all_both HasMrnCount (λ r. HasMovements t (row_of holder_typing r)) (λ r. HasMrnCount r × HasMovements t (row_of holder_typing r)) (λ r k h. (k, h)) rows mrn_kinds
+          (all_from_map (HasMovements t) (row_of holder_typing) rows movements))
+
+      says : (r : Row) → IsSome (fields_of r).holder → IsCounted r → HasItsLines (fields_of r) ↔ HasLines t (row_of holder_typing r)
+      says r some k =
+          let row = row_of holder_typing r in
+          let tells = lines_tell t row k.guarantees (are_mine row.holder t.guarantees) k.movements (are_mine row.holder t.movements) in
+          let number = number_is r some in
+          let grns = grn_is r k.grns k.guarantees in
+          let mrns = mrn_is r k.mrns k.movements in (
+            λ are. tells.0 (rw (number, grns, mrns) at are.1),
+            λ has. ((grn_there r k.grns k.guarantees, mrn_there r k.mrns k.movements), rw (number, grns, mrns) (tells.1 has)),
           )

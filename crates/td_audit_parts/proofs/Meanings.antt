@@ -1,4 +1,4 @@
--- What the statements on a holder's codes mean, where the tables are those of a store.
+-- What the statements on a holder's codes and lines mean, where the tables are those of a store.
 use Rattle.std.proofs.Common.{refl}
 use Rattle.std.specs.Prelude.{List, [], ◌∷◌, codes}
 use Rattle.sqlite_tied.specs.Compute.{everything}
@@ -11,7 +11,7 @@ use Rattle.sqlite_sql.specs.declared.ops.BinaryOp.TheVariants.{Compare}
 use Rattle.sqlite_sql.specs.declared.ops.CompareOp.TheVariants.{Eq}
 use Rattle.td_schema.specs.Tables.{desk_schema}
 use Rattle.td_sql.specs.Meanings.{MeansSelect}
-use Rattle.td_audit_parts.specs.declared.texts.TheConstants.{CODES_OF_HOLDER}
+use Rattle.td_audit_parts.specs.declared.texts.TheConstants.{CODES_OF_HOLDER, LINES_OF_HOLDER}
 
 -- the holder is the one that was given
 abbrev pub holder_tests : List Term
@@ -29,6 +29,19 @@ pub codes_mean : MeansSelect desk_schema CODES_OF_HOLDER.now 2 holder_tests code
 unfolding understood everything
 codes_mean = record {
   names = codes "holder" ∷ codes "serial" ∷ codes "code" ∷ [];
+  command = refl;
+  plain = (refl, refl);
+  unlisted = refl;
+}
+
+-- and of a line
+abbrev pub line_terms : List Term
+line_terms = col 1 1 ∷ col 1 2 ∷ col 1 3 ∷ col 1 4 ∷ col 1 5 ∷ []
+
+pub lines_mean : MeansSelect desk_schema LINES_OF_HOLDER.now 11 holder_tests line_terms by_three
+unfolding understood everything
+lines_mean = record {
+  names = codes "holder" ∷ codes "serial" ∷ codes "no" ∷ codes "guarantee" ∷ codes "cents" ∷ [];
   command = refl;
   plain = (refl, refl);
   unlisted = refl;

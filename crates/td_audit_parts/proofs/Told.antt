@@ -1,4 +1,4 @@
--- What an audit of codes is told of the rule.
+-- What an audit of codes, and of lines, is told of the rule.
 use Rattle.std.proofs.Common.{◌≡◌, ℕ, Bool, List, Some, refl, subst, sym, IsPermutation}
 use Rattle.std.specs.Prelude.{◌↔◌, ◌==◌, IsSome, IsTrue, unwrap_or}
 use Rattle.std.specs.List.{AllByRecursion}
@@ -9,22 +9,23 @@ use Rattle.sqlite_trees.proofs.ListLemmas.{all-filter, all-map, all_weaker}
 use Rattle.sqlite.specs.State.{State}
 use Rattle.td_base.specs.Codes.{IsAccessCode}
 use Rattle.td_sql.specs.Typed.{IsTypedRow, row_of, rows_in}
-use Rattle.td_tables.specs.declared.rule.Rule.TheVariants.{S4}
+use Rattle.td_tables.specs.declared.rule.Rule.TheVariants.{S4, S6}
 use Rattle.td_tables.specs.Gathering.{owner, part}
-use Rattle.td_tables.specs.Tables.{Keyed}
+use Rattle.td_tables.specs.Tables.{Keyed, LineCells}
 use Rattle.td_codes.specs.Cells.{code_typing}
+use Rattle.td_lines.specs.Cells.{line_typing}
 use Rattle.td_store_tables.specs.Rows.{tables_in}
-use Rattle.td_audit_rows.specs.Fields.{AreCodeFields}
+use Rattle.td_audit_rows.specs.Fields.{AreCodeFields, AreLineFields}
 use Rattle.td_audit_rows.specs.Kinds.{AllRows, KeepsRaw}
 use Rattle.td_audit_rows.specs.Scans.{IsReadRow}
-use Rattle.td_audit_rows.specs.Told.{CodesAreRead, HaveOwners, HolderFieldsTell}
+use Rattle.td_audit_rows.specs.Told.{CodesAreRead, HaveOwners, HolderFieldsTell, LinesAreRead}
 use Rattle.td_audit_rows.specs.declared.holders.RawHolder.{RawHolder}
-use Rattle.td_audit_parts.specs.Found.{code_order}
-use Rattle.td_audit_parts.specs.InPlace.{AreCodesInPlace, IsBySerial}
-use Rattle.td_audit_parts.specs.Premises.{AreCodesAuditable, HasCodesInPlace, IsAuditable}
-use Rattle.td_audit_parts.proofs.Holders.{codes_told, numbers}
-use Rattle.td_audit_parts.proofs.Ordering.{codes_by_serial}
-use Rattle.td_audit_parts.proofs.Permuted.{codes_permuted}
+use Rattle.td_audit_parts.specs.Found.{code_order, line_order}
+use Rattle.td_audit_parts.specs.InPlace.{AreAllLinesInPlace, AreCodesInPlace, AreNumbersApart, IsByNumber, IsBySerial}
+use Rattle.td_audit_parts.specs.Premises.{AreCodesAuditable, AreLinesAuditable, HasCodesInPlace, HasLinesInPlace, IsAuditable}
+use Rattle.td_audit_parts.proofs.Holders.{codes_told, lines_told, numbers}
+use Rattle.td_audit_parts.proofs.Ordering.{codes_by_serial, lines_by_number, lines_by_serial}
+use Rattle.td_audit_parts.proofs.Permuted.{apart_still, codes_permuted, lines_permuted}
 
 -- one holder's codes, found in order
 pub holder_told : (raw : RawHolder) (trees : Trees) (count : ℕ) (rows : List (Keyed (List ℕ))) (b : Bool) → raw.grn_count ≡ Some count
@@ -59,3 +60,29 @@ module _ (tell : HolderFieldsTell) (state : State) (found : List RawHolder) wher
         λ each. (all_weaker (IsReadRow code_typing AreCodeFields) (IsTypedRow code_typing) (λ r is. is.0) rows read, told.0 each),
         λ keeps. told.1 keeps.1,
       )
+
+  -- lines that keep their rule are read
+  pub lines_read : LinesAreRead → AreLinesAuditable state found → KeepsRaw state.now.trees S6 → AllRows line_typing (IsReadRow line_typing AreLineFields) state.now.trees
+  lines_read read auditable keeps =
+      read state.now.trees (owners auditable.common) (auditable.owned keeps.0) (auditable.apart keeps.0) auditable.common.guarantees.1 auditable.movements.1 keeps
+
+  -- lines that are read keep it exactly where those of each holder are in their places
+  pub lines_rule : AreLinesAuditable state found → AllRows line_typing (IsTypedRow line_typing) state.now.trees
+      → AllByRecursion (HasLinesInPlace state.now.trees) found ↔ KeepsRaw state.now.trees S6
+  lines_rule auditable typed =
+      let told = lines_told state.now.trees found auditable.common.holders tell auditable.common.guarantees.0.0 auditable.common.guarantees.1
+      auditable.movements.0.0 auditable.movements.1 in
+      (λ each. (typed, told.0 each), λ keeps. told.1 keeps.1)
+
+-- one holder's lines, found in order
+pub lines_of_told : (raw : RawHolder) (trees : Trees) (guarantees movements : ℕ) (rows : List (Keyed LineCells)) (b : Bool) → raw.grn_count ≡ Some guarantees
+    → raw.mrn_count ≡ Some movements → IsPermutation (part raw.holder (rows_in line_typing trees)) rows → IsSorted line_order rows
+    → AreNumbersApart (part raw.holder (rows_in line_typing trees))
+    → (IsBySerial rows → IsByNumber rows → AreNumbersApart rows → IsTrue b ↔ AreAllLinesInPlace guarantees movements rows) → IsTrue b ↔ HasLinesInPlace trees raw
+lines_of_told raw trees guarantees movements rows b grns mrns same sorted apart tells =
+    let mine : List (Keyed LineCells) = part raw.holder (rows_in line_typing trees) in
+    let still = apart_still mine rows same apart in
+    let it = tells (lines_by_serial rows sorted) (lines_by_number rows sorted) still in (
+      λ t. rw (grns, mrns) ((refl, refl), lines_permuted guarantees movements rows mine (IsPermutation-sym mine rows same) still (it.0 t)),
+      λ has. it.1 (lines_permuted guarantees movements mine rows same apart (rw (grns, mrns) at has.1)),
+    )

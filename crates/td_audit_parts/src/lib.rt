@@ -6,7 +6,10 @@
 mod codes;
 mod codes_in_place;
 mod finding;
+mod lines;
+mod lines_in_place;
 mod texts;
 
 pub use codes::codes_keep_rule;
-pub use finding::codes_of_holder;
+pub use finding::{codes_of_holder, lines_of_holder};
+pub use lines::lines_keep_rule;
