@@ -1,0 +1,3 @@
+pub mod InPlace
+pub mod Found
+pub mod Premises
