@@ -11,9 +11,9 @@ ghost use Rattle.td_audit.specs.InFile.{AreAmountsTyped, IsHolderCoveredInFile, 
 use sqlite::{Error, Transaction};
 use sqlite_trees::store::Alter;
 use std::alloc::Global;
-use td_needs::amount_if_in_range;
 use td_audit_rows::{RawHolder, found_holders_tell};
 use td_guarantees::{StoredGuarantee, guarantees_of};
+use td_needs::amount_if_in_range;
 
 /// Whether the tables keep S8 as they stand in the file, at an office of whatever country. It is given all holders, as
 /// `td_audit_rows::all_holders` reads them. `OutOfMemory`: want of memory; any other error is the database's own.
