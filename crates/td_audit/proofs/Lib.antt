@@ -1,3 +1,12 @@
+mod Equal
+mod Unique
+mod Ruled
+mod Parents
+mod Checked
+mod HoldersKept
+mod Keyed
+mod Tables
+mod Live
 mod Reading
 mod HoldersTold
 mod GuaranteesKept
@@ -5,3 +14,11 @@ mod MovementsKept
 mod Walking
 mod InUse
 mod CoverKept
+mod Runs
+mod Tells
+mod Meanings
+mod Ordering
+mod ReadingParts
+mod Permuted
+mod PartsOfHolders
+mod Told

@@ -1,2 +1,6 @@
+pub mod Keeping
 pub mod Auditable
 pub mod InFile
+pub mod InPlace
+pub mod Found
+pub mod Premises

@@ -1,13 +1,30 @@
-//! Whether a store's file keeps the rules of sound tables, rule by rule, whatever stands in its tables. Each function that is
-//! given a transaction runs inside it and changes nothing.
+//! Whether a store's file keeps the rules of sound tables, rule by rule, whatever stands in its tables, and what the database
+//! itself keeps of them: each CHECK, UNIQUE and FOREIGN KEY of the schema, read of the rows. A table is scanned whole first, and
+//! then asked holder by holder. Each function that is given a transaction runs inside it and changes nothing.
 #![tactic(auto)]
 
+mod codes;
+mod codes_in_place;
+mod connection;
 mod cover;
+mod finding;
 mod guarantees;
 mod holders;
+mod laws;
+mod lines;
+mod lines_in_place;
 mod movements;
+mod texts;
 
+pub use codes::codes_keep_rule;
+pub use connection::kept;
 pub use cover::cover_keeps_rule;
+pub use finding::{codes_of_holder, lines_of_holder};
 pub use guarantees::guarantees_keep_rule;
 pub use holders::holders_keep_rule;
+pub use laws::{
+    schema_keeps_codes, schema_keeps_guarantees, schema_keeps_holders, schema_keeps_lines,
+    schema_keeps_movements, schema_keeps_tables,
+};
+pub use lines::lines_keep_rule;
 pub use movements::movements_keep_rule;

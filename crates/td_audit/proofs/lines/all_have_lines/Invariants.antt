@@ -1,0 +1,23 @@
+use Rattle.std.proofs.Common.{◌≡◌, ℕ, take}
+use Rattle.std.specs.List.{AllByRecursion}
+use Rattle.sqlite.specs.Held.{state}
+use Rattle.sqlite.specs.State.{HasCleanDisk}
+use Rattle.td_schema.specs.Tables.{desk_schema}
+use Rattle.td_sql.specs.Typed.{AreTyped, rows_in}
+use Rattle.td_sql.specs.Writing.{HasSchema}
+use Rattle.td_lines.specs.Cells.{line_typing}
+use Rattle.td_tables.specs.Gathering.{part}
+use Rattle.td_audit.specs.InPlace.{AreNumbersApart}
+use Rattle.td_audit.specs.Premises.{HasLinesInPlace}
+use Rattle.td_audit.proofs.ReadingParts.{HasRead}
+use Rattle.td_audit.proofs.lines.all_have_lines.Given as goal
+
+-- the holders before have theirs in place
+abbrev pub invariant-holders : goal.invariant-holders
+invariant-holders g l =
+    (l.tx.conn.ghost_name ≡ l.initial.tx.conn.ghost_name)
+    × HasRead (state g.S.Store l.initial.tx.conn.now) (state g.S.Store l.tx.conn.now)
+    × (HasCleanDisk (state g.S.Store l.tx.conn.now) → HasSchema (state g.S.Store l.initial.tx.conn.now) desk_schema
+    → AreTyped line_typing (state g.S.Store l.initial.tx.conn.now).now.trees
+    → ((H : ℕ) → AreNumbersApart (part H (rows_in line_typing (state g.S.Store l.initial.tx.conn.now).now.trees)))
+    → AllByRecursion (HasLinesInPlace (state g.S.Store l.initial.tx.conn.now).now.trees) (take l.raw-index l.holders))

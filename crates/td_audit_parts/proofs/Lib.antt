@@ -1,8 +1,0 @@
-mod Runs
-mod Tells
-mod Meanings
-mod Ordering
-mod Reading
-mod Permuted
-mod Holders
-mod Told

@@ -1,3 +1,0 @@
-pub mod InPlace
-pub mod Found
-pub mod Premises

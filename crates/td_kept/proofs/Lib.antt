@@ -1,9 +1,0 @@
-mod Equal
-mod Unique
-mod Ruled
-mod Parents
-mod Checked
-mod Holders
-mod Keyed
-mod Tables
-mod Live
