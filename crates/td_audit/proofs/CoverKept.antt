@@ -51,11 +51,11 @@ module _ (law : FoundHoldersTell) (trees : Trees) (country : List ℕ) (holders 
   pub typed : AreAmountsTyped trees
   typed = record {
     guarantees = record {
-      typed = record { ids = known.ids.guarantees; cells = guarantees_kept.0.1 };
-      apart = (known.guarantees guarantees_kept.0.1).apart;
+      typed = record { ids = known.kept.ids.guarantees; cells = guarantees_kept.0.1 };
+      apart = (known.kept.guarantees guarantees_kept.0.1).apart;
     };
-    movements = record { ids = known.ids.movements; cells = movements_kept.0.1 };
-    lines = record { ids = known.ids.lines; cells = lines_kept.0 };
+    movements = record { ids = known.kept.ids.movements; cells = movements_kept.0.1 };
+    lines = record { ids = known.kept.ids.lines; cells = lines_kept.0 };
   }
 
   -- what is known of a holder's row
@@ -84,7 +84,7 @@ module _ (law : FoundHoldersTell) (trees : Trees) (country : List ℕ) (holders 
     same g own found =
         ap (λ h. sum_by cents_of (lines_in_use h g.serial t)) own
         ∙ used_is t (before S1 (omega arith)).1 row is.number is.guarantees g.serial (subst IsSome (sym found) refl)
-        ((known.movements movements_kept.0.1).apart H) (known.lines lines_kept.0 H) is.lines
+        ((known.kept.movements movements_kept.0.1).apart H) ((known.kept.lines lines_kept.0).apart H) is.lines
         ∙ ap (λ (o : Option (Keyed Guarantee)). used_on (option_map_or (λ (r : Keyed Guarantee). r.row.grn) o []) movements) found
 
     all_same : AllByRecursion (λ (g : Keyed Guarantee). sum_by cents_of (lines_in_use g.holder g.serial t) ≡ used_on g.row.grn movements) (guarantees_by H t)

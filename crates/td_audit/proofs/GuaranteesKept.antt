@@ -41,7 +41,7 @@ module _ (law : FoundHoldersTell) (trees : Trees) (country : List ℕ) (holders 
   -- where S3 is kept each row is read
   pub kept_read : GuaranteesAreRead → KeepsRaw trees S1 → KeepsRaw trees S3 → AreAllRead trees
   kept_read read first keeps =
-      let keyed = known.guarantees keeps.0.1 in
+      let keyed = known.kept.guarantees keeps.0.1 in
       read trees (owners law trees country holders known first) keyed.owned keyed.apart keeps
 
   module _ (read : AreAllRead trees) where
@@ -49,7 +49,7 @@ module _ (law : FoundHoldersTell) (trees : Trees) (country : List ℕ) (holders 
     cells = all_weaker (IsReadRow guarantee_typing AreGuaranteeFields) (IsTypedRow guarantee_typing) (λ r is. is.0) (trees guarantee_typing.table.tree) read
 
     pub typed_apart : AreTypedApart guarantee_typing trees
-    typed_apart = record { typed = record { ids = known.ids.guarantees; cells = cells }; apart = (known.guarantees cells).apart }
+    typed_apart = record { typed = record { ids = known.kept.ids.guarantees; cells = cells }; apart = (known.kept.guarantees cells).apart }
 
     fields : (H : ℕ) → AllByRecursion AreGuaranteeFields (guarantees_by H t)
     fields H =

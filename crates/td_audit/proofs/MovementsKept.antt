@@ -41,7 +41,7 @@ module _ (law : FoundHoldersTell) (trees : Trees) (country : List ℕ) (holders 
   -- where S5 is kept each row is read
   pub kept_read : MovementsAreRead → KeepsRaw trees S1 → KeepsRaw trees S5 → AreAllRead trees
   kept_read read first keeps =
-      let keyed = known.movements keeps.0.1 in
+      let keyed = known.kept.movements keeps.0.1 in
       read trees (owners law trees country holders known first) keyed.owned keyed.apart keeps
 
   module _ (read : AreAllRead trees) where
@@ -49,7 +49,7 @@ module _ (law : FoundHoldersTell) (trees : Trees) (country : List ℕ) (holders 
     cells = all_weaker (IsReadRow movement_typing AreMovementFields) (IsTypedRow movement_typing) (λ r is. is.0) (trees movement_typing.table.tree) read
 
     pub typed_apart : AreTypedApart movement_typing trees
-    typed_apart = record { typed = record { ids = known.ids.movements; cells = cells }; apart = (known.movements cells).apart }
+    typed_apart = record { typed = record { ids = known.kept.ids.movements; cells = cells }; apart = (known.kept.movements cells).apart }
 
     fields : (H : ℕ) → AllByRecursion AreMovementFields (movements_by H t)
     fields H =
