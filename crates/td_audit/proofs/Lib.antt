@@ -22,3 +22,6 @@ mod ReadingParts
 mod Permuted
 mod PartsOfHolders
 mod Told
+mod OfficeRow
+mod Succession
+mod FromFile

@@ -22,7 +22,7 @@ use Rattle.td_audit_rows.specs.Told.{CodesAreRead, HaveOwners, HolderFieldsTell,
 use Rattle.td_audit_rows.specs.declared.holders.RawHolder.{RawHolder}
 use Rattle.td_audit.specs.Found.{code_order, line_order}
 use Rattle.td_audit.specs.InPlace.{AreAllLinesInPlace, AreCodesInPlace, AreNumbersApart, IsByNumber, IsBySerial}
-use Rattle.td_audit.specs.Premises.{AreCodesAuditable, AreLinesAuditable, HasCodesInPlace, HasLinesInPlace, IsAuditable}
+use Rattle.td_audit.specs.Premises.{AreCodesAuditable, AreHoldersAuditable, AreLinesAuditable, HasCodesInPlace, HasLinesInPlace}
 use Rattle.td_audit.proofs.PartsOfHolders.{codes_told, lines_told, numbers}
 use Rattle.td_audit.proofs.Ordering.{codes_by_serial, lines_by_number, lines_by_serial}
 use Rattle.td_audit.proofs.Permuted.{apart_still, codes_permuted, lines_permuted}
@@ -39,7 +39,7 @@ holder_told raw trees count rows b is same sorted tells =
     )
 
 module _ (tell : HolderFieldsTell) (state : State) (found : List RawHolder) where
-  pub owners : IsAuditable state found → HaveOwners (tables_in state.now.trees)
+  pub owners : AreHoldersAuditable state found → HaveOwners (tables_in state.now.trees)
   owners common = record { numbers = numbers state.now.trees found common.holders tell; country = common.country }
 
   -- codes that keep their rule are read

@@ -4,3 +4,4 @@ pub mod InFile
 pub mod InPlace
 pub mod Found
 pub mod Premises
+pub mod Broken

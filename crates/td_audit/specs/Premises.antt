@@ -20,7 +20,7 @@ use Rattle.td_audit_rows.specs.declared.holders.RawHolder.{RawHolder}
 use Rattle.td_audit.specs.InPlace.{AreAllLinesInPlace, AreCodesInPlace, AreNumbersApart}
 
 -- the file has a store's tables, these are all holders, the country is one, and the guarantees keep their rule
-pub record IsAuditable (state : State) (found : List RawHolder) : Type 0 where
+pub record AreHoldersAuditable (state : State) (found : List RawHolder) : Type 0 where
   pub schema : HasSchema state desk_schema
   pub holders : AreHoldersIn state.now.trees found
   pub order : NumbersRise found
@@ -29,7 +29,7 @@ pub record IsAuditable (state : State) (found : List RawHolder) : Type 0 where
 
 -- beside that, what the database keeps of codes: their rowids, and that each is of a holder who is there
 pub record AreCodesAuditable (state : State) (found : List RawHolder) : Type 0 where
-  pub common : IsAuditable state found
+  pub common : AreHoldersAuditable state found
   pub ids : HaveIds (state.now.trees code_typing.table.tree)
   pub owned : AllRows code_typing (IsTypedRow code_typing) state.now.trees
       → AreOfHolders (tables_in state.now.trees).holders (tables_in state.now.trees).codes
@@ -37,7 +37,7 @@ pub record AreCodesAuditable (state : State) (found : List RawHolder) : Type 0 w
 -- and what it keeps of lines: their rowids, that each is of a holder who is there, and that no two lines of a movement have one
 -- number; and the movements keep their rule
 pub record AreLinesAuditable (state : State) (found : List RawHolder) : Type 0 where
-  pub common : IsAuditable state found
+  pub common : AreHoldersAuditable state found
   pub ids : HaveIds (state.now.trees line_typing.table.tree)
   pub owned : AllRows line_typing (IsTypedRow line_typing) state.now.trees
       → AreOfHolders (tables_in state.now.trees).holders (tables_in state.now.trees).lines

@@ -1,8 +1,10 @@
-//! Whether a store's file keeps the rules of sound tables, rule by rule, whatever stands in its tables, and what the database
-//! itself keeps of them: each CHECK, UNIQUE and FOREIGN KEY of the schema, read of the rows. A table is scanned whole first, and
-//! then asked holder by holder. Each function that is given a transaction runs inside it and changes nothing.
+//! Whether a store's file keeps the rules of sound tables, rule by rule, whatever stands in its tables, which of them it breaks
+//! first, and what the database itself keeps of them: each CHECK, UNIQUE and FOREIGN KEY of the schema, read of the rows. A table
+//! is scanned whole first, and then asked holder by holder. Each function that is given a transaction runs inside it and changes
+//! nothing.
 #![tactic(auto)]
 
+mod audit;
 mod codes;
 mod codes_in_place;
 mod connection;
@@ -14,8 +16,10 @@ mod laws;
 mod lines;
 mod lines_in_place;
 mod movements;
+mod office;
 mod texts;
 
+pub use audit::first_broken;
 pub use codes::codes_keep_rule;
 pub use connection::kept;
 pub use cover::cover_keeps_rule;

@@ -1,1 +1,3 @@
 mod Holding
+mod Judged
+mod Refusing

@@ -10,8 +10,9 @@ ghost use Rattle.td_store.specs.declared.refused.OpenFault.TheVariants as fault;
 ghost use Rattle.td_store.specs.Kept.{content_in};
 
 use crate::desk::SqlDesk;
+use crate::faults::open_fault_of;
 use crate::refused::{OpenFault, Refused};
-use sqlite::{Connection, Error, ErrorCode};
+use sqlite::Connection;
 use sqlite_trees::store::Alter;
 use td_base::Country;
 use td_carrying::create_tables;
@@ -22,16 +23,6 @@ fn is_blank<S: Alter>(conn: &Connection<S>) -> bool
 {
     let schema = conn.schema();
     schema.tables.is_empty() && schema.indexes.is_empty() && schema.views.is_empty()
-}
-
-// Why a desk isn't made, by the error that the database answered.
-fn fault_of(error: &Error) -> OpenFault
-    ensures { (result ≡ OpenFault.Store) ⊎ (result ≡ OpenFault.NoMemory) }
-{
-    if matches!(error, Error::SqliteFailure(ErrorCode::OutOfMemory)) {
-        return OpenFault::NoMemory;
-    }
-    OpenFault::Store
 }
 
 impl<S: Alter> SqlDesk<S> {
@@ -62,7 +53,7 @@ impl<S: Alter> SqlDesk<S> {
         }
         if let Err(error) = create_tables(&mut conn, country) {
             return Err(Refused {
-                fault: fault_of(&error),
+                fault: open_fault_of(&error),
                 connection: conn,
             });
         }

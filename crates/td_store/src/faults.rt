@@ -1,12 +1,14 @@
 //! Which fault an error of the database is told as.
-ghost use Rattle.std.specs.Prelude.{◌≡◌, ◌≢◌, false, IsTrue};
+ghost use Rattle.std.specs.Prelude.{◌≡◌, ◌≢◌, ◌⊎◌, false, IsTrue};
 ghost use Rattle.sqlite.specs.Held.{state};
 ghost use Rattle.sqlite.specs.State.{HasCleanDisk, Survives};
 ghost use Rattle.td_desk.specs.declared.fault.Fault.TheVariants as fault;
 ghost use Rattle.td_schema.specs.Tables.{desk_schema};
 ghost use Rattle.td_sql.specs.Writing.{HasSchema};
+ghost use Rattle.td_store.specs.declared.refused.OpenFault.TheVariants as open_fault;
 ghost use Rattle.td_store.specs.Kept.{LeavesAsIs};
 
+use crate::refused::OpenFault;
 use sqlite::{Connection, Error, ErrorCode};
 use sqlite_trees::store::Alter;
 use td_desk::Fault;
@@ -46,4 +48,14 @@ pub(crate) fn fault_of<S: Alter>(conn: &mut Connection<S>, error: &Error) -> Fau
         return Fault::NoMemory;
     }
     Fault::Store
+}
+
+/// Why a desk isn't made or opened, by the error that the database answered: `NoMemory` for want of memory, else `Store`.
+pub(crate) fn open_fault_of(error: &Error) -> OpenFault
+    ensures { (result ≡ open_fault.Store) ⊎ (result ≡ open_fault.NoMemory) }
+{
+    if matches!(error, Error::SqliteFailure(ErrorCode::OutOfMemory)) {
+        return OpenFault::NoMemory;
+    }
+    OpenFault::Store
 }

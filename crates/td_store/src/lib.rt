@@ -1,12 +1,16 @@
-//! The desk over a store's file: it is made in an empty database, loads and writes by transactions, and gives its connection
-//! back.
+//! The desk over a store's file: it is made in an empty database, or opened where one was made before, loads and writes
+//! by transactions, and gives its connection back.
 #![tactic(auto)]
 
 mod creating;
 mod desk;
 mod faults;
+mod judging;
+mod office;
+mod opening;
 mod reading;
 mod refused;
+mod schema;
 
 pub use desk::SqlDesk;
 pub use refused::{OpenFault, Refused};

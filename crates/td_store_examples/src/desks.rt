@@ -1,6 +1,7 @@
-//! Desks are made, refused and closed, over a store in memory, and say what a plain desk says.
+//! Desks are made, opened, refused and closed, over a store in memory, and say what a plain desk says.
 mod alike;
 mod commands;
+mod opening;
 mod words;
 
 use sqlite::{Connection, MemStore};

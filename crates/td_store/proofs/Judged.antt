@@ -1,0 +1,97 @@
+-- What the office's own row and the rules tell of a store's tables.
+use Rattle.std.proofs.Common.{◌≡◌, ◌∙◌, ℕ, Bool, true, false, if◌then◌else◌, List, [], ◌∷◌, Option, Some, None, ap, length, map, refl, sym}
+use Rattle.std.specs.Prelude.{◌≢◌, pos, is_some, option_map}
+use Rattle.std.specs.Bool.{Decides}
+use Rattle.std.specs.Option.{option_to_list}
+use Rattle.std.proofs.lemmas.Bool.Decides.{Decides-and, Decides-eqb, Decides-like}
+use Rattle.sqlite_trees.specs.Tree.{Trees}
+use Rattle.td_base.specs.Country.{IsCountry, country_read, is_country}
+use Rattle.td_base.proofs.Decided.{capitals_decided, some_where}
+use Rattle.td_tables.specs.declared.rule.Rule.{Rule}
+use Rattle.td_tables.specs.declared.rule.Rule.TheVariants.{S1}
+use Rattle.td_sql.specs.Typed.{AreTyped, rows_in}
+use Rattle.td_meta.specs.Cells.{MetaRow, meta_row, meta_typing}
+use Rattle.td_meta.specs.Stored.{stored_of}
+use Rattle.td_meta.specs.declared.stored.StoredMeta.{StoredMeta}
+use Rattle.td_audit_rows.specs.Ids.{HaveAllIds}
+use Rattle.td_audit_rows.specs.Laws.{AreKept, KeptRulesMeanContent}
+use Rattle.td_audit.specs.Broken.{TellsBroken}
+use Rattle.td_store.specs.declared.refused.OpenFault.{OpenFault}
+use Rattle.td_store.specs.declared.refused.OpenFault.TheVariants.{UnknownVersion, NeedsMigration, OtherCountry, Damaged, Store, NoMemory}
+use Rattle.td_store.specs.Opened.{HasOfficeRow, IsOfAnother, IsOfVersion, TellsOffice, TellsTables}
+
+country_decided : (text : List ℕ) → Decides (is_country text) (IsCountry text)
+country_decided text =
+    Decides-like (is_country text)
+    (λ h. record { size = h.0; letters = h.1 })
+    (λ h. (h.size, h.letters))
+    (Decides-and _ _ (Decides-eqb (length text) 2) (capitals_decided text))
+
+-- a country is read as itself, and what is read as a country is that
+read_country : (text : List ℕ) → IsCountry text → country_read text ≡ Some text
+read_country text is = sym (some_where (is_country text) (Some text) text (country_decided text) (is, refl))
+
+same_country : (text country : List ℕ) → country_read text ≡ Some country → text ≡ country
+same_country text country is = go (is_country text) is
+  where
+    go : (b : Bool) → (if b then Some text else None) ≡ Some country → text ≡ country
+    go true it = cc
+    go false it = absurd cc
+
+only_one : {X : Type 0} (x : X) (o : Option X) → x ∷ [] ≡ option_to_list o → o ≡ Some x
+only_one x None is = absurd cc
+only_one x (Some y) is = cc
+
+one_row : (rows : List MetaRow) (m : StoredMeta) → map stored_of rows ≡ m ∷ []
+    → (row : MetaRow) × (rows ≡ row ∷ []) × (stored_of row ≡ m)
+one_row [] m is = absurd cc
+one_row (r ∷ []) m is = let same : stored_of r ≡ m = cc in (r, refl, same)
+one_row (r ∷ s ∷ rows) m is = absurd cc
+
+made_of : (row : MetaRow) (country : List ℕ) → row.version ≡ pos 1 → row.country ≡ country → row ≡ meta_row 1 country
+made_of row country version text =
+    ap (λ v. record { version = v; country = row.country }) version ∙ ap (meta_row 1) text
+
+module _ (country : List ℕ) (trees : Trees) (office : Option StoredMeta)
+    (found : AreTyped meta_typing trees → map stored_of (rows_in meta_typing trees) ≡ option_to_list office) where
+  not_of_version : ((m : StoredMeta) → office ≡ Some m → m.version ≢ pos 1) → ¬ IsOfVersion 1 trees
+  not_of_version none is =
+      let one : stored_of (meta_row 1 is.country) ∷ [] ≡ option_to_list office =
+      ap (map stored_of) (sym is.row) ∙ found is.typed in
+      none (stored_of (meta_row 1 is.country)) (only_one _ office one) refl
+
+  row_there : (m : StoredMeta) → office ≡ Some m → AreTyped meta_typing trees
+      → (row : MetaRow) × (rows_in meta_typing trees ≡ row ∷ []) × (stored_of row ≡ m)
+  row_there m is typed = one_row (rows_in meta_typing trees) m (found typed ∙ ap option_to_list is)
+
+  of_this : TellsOffice country office None → AreTyped meta_typing trees → HasOfficeRow 1 country trees
+  of_this is typed =
+      let r = row_there (record { version = pos 1; country = Some country }) is typed in
+      r.1 ∙ ap (λ row. row ∷ []) (made_of r.0 country (ap (λ (m : StoredMeta). m.version) r.2)
+      (same_country r.0.country country (ap (λ (m : StoredMeta). m.country) r.2)))
+
+  of_another : IsCountry country → TellsOffice country office (Some OtherCountry) → IsOfAnother country trees
+  of_another letters said typed =
+      let r = row_there said.0 said.1 typed in (
+        r.0.country,
+        r.1 ∙ ap (λ row. row ∷ []) (made_of r.0 r.0.country (ap (λ (m : StoredMeta). m.version) r.2 ∙ said.2) refl),
+        λ same. said.3 (sym (ap (λ (m : StoredMeta). m.country) r.2) ∙ ap country_read same ∙ read_country country letters),
+      )
+
+  -- what the office's own row is refused for
+  pub judged : (fault : Option OpenFault) → IsCountry country → TellsOffice country office fault → is_some fault ≡ true
+      → TellsTables country trees fault
+  judged None letters said some = absurd cc
+  judged (Some UnknownVersion) letters said some = not_of_version said
+  judged (Some (NeedsMigration version)) letters said some = said
+  judged (Some OtherCountry) letters said some = of_another letters said
+  judged (Some (Damaged rule)) letters said some = absurd said
+  judged (Some Store) letters said some = said
+  judged (Some NoMemory) letters said some = said
+
+  -- and where it isn't refused, what the rules tell
+  pub audited : (broken : Option Rule) → TellsOffice country office None → HaveAllIds trees → KeptRulesMeanContent
+      → AreKept trees → TellsBroken trees broken → TellsTables country trees (option_map Damaged broken)
+  audited None said ids law kept all =
+      record { content = law trees kept all; office = of_this said (record { ids = ids.meta; cells = (all S1).0.1 }) }
+  audited (Some rule) said ids law kept first = record { first = first; office = of_this said }

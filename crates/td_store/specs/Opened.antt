@@ -1,0 +1,69 @@
+-- What is told of a store's file when a desk is to be opened over it.
+use Rattle.std.specs.Prelude.{◌≡◌, ◌≢◌, ◌⊎◌, ℕ, pos, List, [], ◌∷◌, Option, Some, None, codes}
+use Rattle.sqlite_schema.specs.Names.{table_named}
+use Rattle.sqlite_schema.specs.declared.schema.Schema.{Schema}
+use Rattle.sqlite_trees.specs.Tree.{Trees}
+use Rattle.sqlite.specs.Effect.{Database}
+use Rattle.td_tables.specs.declared.rule.Rule.{Rule}
+use Rattle.td_schema.specs.Tables.{desk_schema}
+use Rattle.td_sql.specs.Typed.{AreTyped, rows_in}
+use Rattle.td_meta.specs.Cells.{meta_row, meta_typing}
+use Rattle.td_meta.specs.declared.stored.StoredMeta.{StoredMeta}
+use Rattle.td_audit_rows.specs.Kinds.{IsFirstBrokenRaw}
+use Rattle.td_audit_rows.specs.Laws.{HoldSoundContent}
+use Rattle.td_store.specs.declared.refused.OpenFault.{OpenFault}
+use Rattle.td_store.specs.declared.refused.OpenFault.TheVariants.{UnknownVersion, NeedsMigration, OtherCountry, Damaged, Store, NoMemory}
+
+-- there is no table `meta`
+abbrev pub LacksMeta : Schema → Type 0
+LacksMeta s = table_named s (codes "meta") ≡ None
+
+-- the office's own row, which is there once, says this version and this country
+abbrev pub HasOfficeRow : ℕ → List ℕ → Trees → Type 0
+HasOfficeRow version country trees = rows_in meta_typing trees ≡ meta_row version country ∷ []
+
+-- it is typed, and says this version
+pub record IsOfVersion (version : ℕ) (trees : Trees) : Type 0 where
+  pub typed : AreTyped meta_typing trees
+  pub country : List ℕ
+  pub row : HasOfficeRow version country trees
+
+-- where it is typed, it says version 1 and another country than this
+abbrev pub IsOfAnother : List ℕ → Trees → Type 0
+IsOfAnother country trees =
+    AreTyped meta_typing trees → (other : List ℕ) × HasOfficeRow 1 other trees × (other ≢ country)
+
+-- the tables break this rule first; where the office's own row is typed, it says version 1 and this country
+pub record AreDamaged (country : List ℕ) (rule : Rule) (trees : Trees) : Type 0 where
+  pub first : IsFirstBrokenRaw trees rule
+  pub office : AreTyped meta_typing trees → HasOfficeRow 1 country trees
+
+-- they hold sound content, and the office's own row says version 1 and this country
+pub record AreOfDesk (country : List ℕ) (trees : Trees) : Type 0 where
+  pub content : HoldSoundContent trees
+  pub office : HasOfficeRow 1 country trees
+
+-- what a fault, or none, says of a store's tables
+abbrev pub TellsTables : List ℕ → Trees → Option OpenFault → Type 0
+TellsTables country trees None = AreOfDesk country trees
+TellsTables country trees (Some UnknownVersion) = ¬ IsOfVersion 1 trees
+TellsTables country trees (Some (NeedsMigration version)) = ⊥
+TellsTables country trees (Some OtherCountry) = IsOfAnother country trees
+TellsTables country trees (Some (Damaged rule)) = AreDamaged country rule trees
+TellsTables country trees (Some Store) = ⊥
+TellsTables country trees (Some NoMemory) = ⊥
+
+-- what it says of a database: `Store` and `NoMemory` say nothing
+abbrev pub TellsDatabase : List ℕ → Database → Option OpenFault → Type 0
+TellsDatabase country db fault =
+    ((fault ≡ Some Store) ⊎ (fault ≡ Some NoMemory))
+    ⊎ (((fault ≡ Some UnknownVersion) × LacksMeta db.schema)
+    ⊎ ((db.schema ≡ desk_schema) × TellsTables country db.trees fault))
+
+-- what the office's own row, as it was read, is refused for
+abbrev pub TellsOffice : List ℕ → Option StoredMeta → Option OpenFault → Type 0
+TellsOffice country meta None = meta ≡ Some (record { version = pos 1; country = Some country })
+TellsOffice country meta (Some UnknownVersion) = (m : StoredMeta) → meta ≡ Some m → m.version ≢ pos 1
+TellsOffice country meta (Some OtherCountry) =
+    (m : StoredMeta) × (meta ≡ Some m) × (m.version ≡ pos 1) × (m.country ≢ Some country)
+TellsOffice country meta (Some _) = ⊥

@@ -1,0 +1,73 @@
+//! A desk opened over a database that one was made in before.
+ghost use Rattle.std.specs.Prelude.{◌≡◌, ◌≢◌, ◌⊎◌, ℕ, false, IsTrue, IfOk, IfErr, MatchResult};
+ghost use Rattle.sqlite.specs.Held.{state};
+ghost use Rattle.sqlite.specs.State.{HasCleanDisk, Survives};
+ghost use Rattle.td_desk.specs.Content.{Content};
+ghost use Rattle.td_tables.specs.declared.rule.Rule.{Rule};
+ghost use Rattle.td_schema.specs.Tables.{desk_schema};
+ghost use Rattle.td_store_tables.specs.Rows.{HoldsContent};
+ghost use Rattle.td_store.specs.declared.refused.OpenFault.TheVariants as fault;
+ghost use Rattle.td_store.specs.Kept.{LeavesTrees, content_in};
+ghost use Rattle.td_store.specs.Opened.{AreDamaged, HasOfficeRow, IsOfAnother, IsOfVersion, LacksMeta};
+
+use crate::desk::SqlDesk;
+use crate::judging::refusal;
+use crate::refused::Refused;
+use sqlite::Connection;
+use sqlite_trees::store::Alter;
+use std::alloc::Global;
+use td_audit_rows::content_keeps_rules;
+use td_base::Country;
+
+impl<S: Alter> SqlDesk<S> {
+    /// Opens the desk of an office of that country over a database that one was made in before. The first of these that holds is
+    /// the refusal. `UnknownVersion`: there is no table `meta`. `Store`: the tables are others than a store's. `UnknownVersion`:
+    /// the office's own row is missing, or its version isn't 1. `OtherCountry`: its country is another. `Damaged`: the tables
+    /// break this rule, and none before it. An error of the database on the way is `Store`, want of memory `NoMemory`. With a
+    /// refusal the connection is handed back, its database as it was; nor does a crash during the call change it.
+    pub fn open(
+        alloc: Global,
+        mut conn: Connection<S>,
+        country: Country,
+    ) -> Result<Self, Refused<S>>
+        requires { conn.in_transaction ≡ false }
+        ensures live { IfOk result (λ desk. HasCleanDisk (state S.Store desk)
+            → IsTrue (state S.Store conn).is_open × IsTrue (state S.Store desk).is_open) }
+        ensures opened { IfOk result (λ desk. HasCleanDisk (state S.Store desk)
+            → HoldsContent (content_in (state S.Store desk).now.trees) (state S.Store desk)) }
+        ensures country { IfOk result (λ desk. HasCleanDisk (state S.Store desk)
+            → (content_in (state S.Store desk).now.trees).country ≡ country) }
+        ensures version { IfOk result (λ desk. HasCleanDisk (state S.Store desk)
+            → HasOfficeRow 1 country (state S.Store desk).now.trees) }
+        ensures same { IfOk result (λ desk. HasCleanDisk (state S.Store desk) → (state S.Store desk).now ≡ (state S.Store conn).now) }
+        ensures absent { LacksMeta (state S.Store conn).now.schema
+            → MatchResult result (λ _. ⊥) (λ refused. (refused.fault ≡ fault.UnknownVersion) × (refused.connection ≡ conn)) }
+        ensures unknown { IfErr result (λ refused. HasCleanDisk (state S.Store refused.connection) → refused.fault ≡ fault.UnknownVersion
+            → LacksMeta (state S.Store conn).now.schema
+            ⊎ (((state S.Store conn).now.schema ≡ desk_schema) × (¬ IsOfVersion 1 (state S.Store conn).now.trees))) }
+        ensures newest { IfErr result (λ refused. HasCleanDisk (state S.Store refused.connection)
+            → (version : ℕ) → refused.fault ≢ fault.NeedsMigration version) }
+        ensures other { IfErr result (λ refused. HasCleanDisk (state S.Store refused.connection) → refused.fault ≡ fault.OtherCountry
+            → ((state S.Store conn).now.schema ≡ desk_schema) × IsOfAnother country (state S.Store conn).now.trees) }
+        ensures broken { IfErr result (λ refused. HasCleanDisk (state S.Store refused.connection) → (rule : Rule)
+            → refused.fault ≡ fault.Damaged rule
+            → ((state S.Store conn).now.schema ≡ desk_schema) × AreDamaged country rule (state S.Store conn).now.trees) }
+        ensures sound { IfErr result (λ refused. HasCleanDisk (state S.Store refused.connection) → IsTrue (state S.Store conn).is_open
+            → (c : Content) → HoldsContent c (state S.Store conn) → HasOfficeRow 1 country (state S.Store conn).now.trees
+            → (refused.fault ≡ fault.Store) ⊎ (refused.fault ≡ fault.NoMemory)) }
+        ensures handed { IfErr result (λ refused. HasCleanDisk (state S.Store refused.connection)
+            → IsTrue (state S.Store refused.connection).is_open → (state S.Store refused.connection).now ≡ (state S.Store conn).now) }
+        ensures ended { IfErr result (λ refused. refused.connection.in_transaction ≡ false) }
+        ensures crash { MatchResult result (λ desk. Survives (state S.Store conn) (state S.Store desk) (LeavesTrees (state S.Store conn)))
+            (λ refused. Survives (state S.Store conn) (state S.Store refused.connection) (LeavesTrees (state S.Store conn))) }
+    {
+        content_keeps_rules();
+        match refusal(alloc, &mut conn, country) {
+            None => Ok(SqlDesk::over(conn, country)),
+            Some(fault) => Err(Refused {
+                fault,
+                connection: conn,
+            }),
+        }
+    }
+}
