@@ -8,8 +8,6 @@ mod changes;
 #[cfg(test)]
 mod codes;
 #[cfg(test)]
-mod desks;
-#[cfg(test)]
 mod guarantees;
 #[cfg(test)]
 mod holders;
