@@ -1,34 +1,46 @@
 -- What the program does with its words, its input and its outputs.
-use Rattle.std.specs.Prelude.{◌≡◌, ◌≢◌, ◌⊎◌, ℕ, ℤ, List, codes, Option}
+use Rattle.std.specs.Prelude.{◌≡◌, ◌≢◌, ◌⊎◌, ℕ, ℤ, List, codes, Option, Result}
 use Rattle.std.specs.IoError.{error_kind}
 use Rattle.std.specs.declared.io.Error.{Error}
 use Rattle.std.specs.declared.io.ErrorKind.TheVariants.{OutOfMemory}
+use Rattle.sqlite_wal.specs.Recovery.{Image}
 use Rattle.counted_io.specs.declared.counted.Counted.{Counted}
-use Rattle.td_cli.specs.declared.serving.ServingEnd.{ServingEnd}
-use Rattle.td_words.specs.declared.words.Listening.{Listening}
-use Rattle.td_words.specs.declared.words.NoJob.{NoJob}
-use Rattle.td_words.specs.declared.words.Task.TheVariants.{Pipe, Serve}
-use Rattle.td_cli.specs.Piped.{IsDone}
-use Rattle.td_cli.specs.Listening.{IsServing}
-use Rattle.td_cli.specs.Statuses.{status_of_end, message_of_end, status_of_serving, message_of_serving, IsTold, IsAnswered}
-use Rattle.td_words.specs.Words.{AsksFor}
+use Rattle.td_files.specs.declared.desks.DeskFault.{DeskFault}
 use Rattle.td_wire.specs.declared.stream.StreamEnd.{StreamEnd}
+use Rattle.td_words.specs.declared.words.NoJob.{NoJob}
+use Rattle.td_words.specs.declared.words.Task.{Task}
+use Rattle.td_words.specs.declared.words.Task.TheVariants.{Serve, Pipe, Check}
+use Rattle.td_words.specs.Words.{AsksFor}
+use Rattle.td_cli.specs.declared.serving.ServingEnd.{ServingEnd}
+use Rattle.td_cli.specs.Checked.{IsChecked}
+use Rattle.td_cli.specs.Piped.{PipesAs}
+use Rattle.td_cli.specs.Listening.{IsServing}
+use Rattle.td_cli.specs.Statuses.{IsAnswered, IsEndTold, IsServingTold, IsTold}
 
--- The words ask for a job, which was done at that country and moment, and its end has its status and its
--- message: one stream from the input to the first writer, or connections, for which the input isn't read. Or
--- they ask for none: then nothing was read, and they were answered.
-abbrev pub IsPerformed : {R W E : Type 0} → (R → Option (List ℕ)) → (W → Option (List ℕ)) → (E → Option (List ℕ))
+-- A task was done, in this country and at this moment or by the machine's clock, and how it ended was told: one stream from the
+-- input to the first writer; connections, for which the input isn't read; or a file was tested, which the image says.
+abbrev pub IsDone : {R W E : Type 0} → (R → Option (List ℕ)) → (W → Option (List ℕ)) → (E → Option (List ℕ)) → Image
+    → Task → List ℕ → Option ℤ → Counted R → Counted R → Counted W → Counted W → Counted E → Counted E → ℕ → Type 0
+IsDone remaining contents said image (Pipe records) country at reader reader_left writer writer_left errors errors_left status =
+    (end : Result StreamEnd DeskFault)
+    × PipesAs remaining contents image country at records reader reader_left writer writer_left end
+    × IsEndTold said errors errors_left end status
+IsDone remaining contents said image (Serve listening records) country at reader reader_left writer writer_left errors errors_left status =
+    (end : Result ServingEnd DeskFault) × (reader_left ≡ reader)
+    × IsServing contents image country at records listening.port listening.connections writer writer_left end
+    × IsServingTold said errors errors_left end status
+IsDone remaining contents said image (Check path) country at reader reader_left writer writer_left errors errors_left status =
+    (reader_left ≡ reader) × IsChecked contents said image country writer writer_left errors errors_left status
+
+-- The words ask for a task, which was done in that country and at that moment. Or they ask for none: then nothing was read, and
+-- they were answered. The image is what the file held that the words name, if they name one.
+abbrev pub IsPerformed : {R W E : Type 0} → (R → Option (List ℕ)) → (W → Option (List ℕ)) → (E → Option (List ℕ)) → Image
     → List (List ℕ) → Counted R → Counted R → Counted W → Counted W → Counted E → Counted E → ℕ → Type 0
-IsPerformed remaining contents said words reader reader_left writer writer_left errors errors_left status =
-    ((country : List ℕ) × (at : Option ℤ) × (end : Option StreamEnd) × AsksFor words Pipe country at
-    × IsDone remaining contents country at reader reader_left writer writer_left end
-    × (status ≡ status_of_end end) × IsTold said errors errors_left (message_of_end end))
-    ⊎ (((country : List ℕ) × (at : Option ℤ) × (listening : Listening) × (end : ServingEnd)
-    × AsksFor words (Serve listening) country at × (reader_left ≡ reader)
-    × IsServing contents country at listening.port listening.connections writer writer_left end
-    × (status ≡ status_of_serving end) × IsTold said errors errors_left (message_of_serving end))
+IsPerformed remaining contents said image words reader reader_left writer writer_left errors errors_left status =
+    ((task : Task) × (country : List ℕ) × (at : Option ℤ) × AsksFor words task country at
+    × IsDone remaining contents said image task country at reader reader_left writer writer_left errors errors_left status)
     ⊎ ((no_job : NoJob) × (reader_left ≡ reader)
-    × IsAnswered contents said writer writer_left errors errors_left no_job status))
+    × IsAnswered contents said writer writer_left errors errors_left no_job status)
 
 -- Words that couldn't be read: there was no memory for them, or they aren't text, and the error's kind says which.
 abbrev pub IsUnread : {E : Type 0} → (E → Option (List ℕ)) → Error → Counted E → Counted E → ℕ → Type 0

@@ -1,41 +1,36 @@
--- One stream of requests on a new desk.
-use Rattle.std.specs.Prelude.{◌≡◌, ℕ, ℤ, List, Option, None, Some}
+-- One stream of requests at a desk.
+use Rattle.std.specs.Prelude.{◌≡◌, ℕ, ℤ, List, Option, Result, None, Some, Ok, Err}
+use Rattle.sqlite_wal.specs.Recovery.{Image}
 use Rattle.counted_io.specs.declared.counted.Counted.{Counted}
-use Rattle.td_acts.specs.Account.{empty_account}
-use Rattle.td_acts.specs.Book.{fresh_book}
-use Rattle.td_desk.specs.declared.plain.PlainDesk.{PlainDesk}
-use Rattle.td_desk.specs.Content.{empty_content}
-use Rattle.td_desk.specs.Plain.{rows_in}
-use Rattle.td_http.specs.declared.service.Service.{Service}
-use Rattle.td_wire.specs.declared.stream.StreamEnd.{StreamEnd}
-use Rattle.td_http.specs.Served.{desk_of, IsHandledBy, IsHeadHandledBy}
+use Rattle.td_desk.specs.Content.{Content}
+use Rattle.td_files.specs.Found.{IsToldOf, IsUnmade}
+use Rattle.td_files.specs.declared.desks.DeskFault.{DeskFault}
+use Rattle.td_files.specs.declared.desks.DeskFault.TheVariants.{Refused}
+use Rattle.td_store.specs.declared.refused.OpenFault.TheVariants as fault
 use Rattle.td_http.specs.Serving.{IsServed}
+use Rattle.td_wire.specs.declared.stream.StreamEnd.{StreamEnd}
 use Rattle.td_wire.specs.Stream.{Serves}
+use Rattle.td_words.specs.declared.words.Records.{Records}
+use Rattle.td_words.specs.declared.words.Records.TheVariants.{Memory, File, NewFile}
+use Rattle.td_cli.specs.Desks.{Sight, in_memory, over_file, BeginsEmpty, BeginsKept, BeginsMade, IsHandledAt, IsHeadHandledAt, fresh_books}
 
--- A stream of requests was served at a desk that began empty, in this country: the bytes consumed are whole
--- requests and a rest, what was written is the replies to them and what parts with the rest, and each
--- holder's requests had the replies of that holder's own machine, from an empty book.
-pub record IsPiped {R W C : Type 0} (remaining : R → Option (List ℕ)) (contents : W → Option (List ℕ))
-    (ticks : C → ℤ → C → Type 0) (country : List ℕ)
+-- A stream of requests was served at a desk that is seen so and began so: the bytes consumed are whole requests and a rest, and
+-- what was written is the replies to them and what parts with the rest. Where the desk is clean in the end, each holder's
+-- requests had the replies of that holder's own machine, from a book that opens with what the desk had of the holder at first;
+-- and where no fault has shut it, its content is the one after them.
+pub record IsPiped {D R W C : Type 0} (sight : Sight D) (begins : D → Type 0)
+    (remaining : R → Option (List ℕ)) (contents : W → Option (List ℕ)) (ticks : C → ℤ → C → Type 0)
     (reader reader_left : Counted R) (writer writer_left : Counted W) (clock : C) (end : StreamEnd) : Type 0 where
-  pub opened : Service PlainDesk
-  pub left : Service PlainDesk
+  pub opened : D
+  pub left : D
   pub clock_left : C
-  pub empty : rows_in (desk_of opened) ≡ empty_content country
-  pub served : Serves remaining contents ticks (IsHandledBy rows_in (λ d. Unit {0}) (λ d. Unit {0}) ⊥) IsHeadHandledBy
+  pub begun : begins opened
+  pub served : Serves remaining contents ticks (IsHandledAt sight) IsHeadHandledAt
       (record { reader = reader; writer = writer; clock = clock; handler = opened })
       (record { reader = reader_left; writer = writer_left; clock = clock_left; handler = left }) end
-  pub private : IsServed country (λ H. fresh_book (empty_account country)) 0 served.run.exchanges
-      (rows_in (desk_of left))
-
--- What a job leaves whose stream ended so: a stream that was served, or, where there was no memory for the
--- desk, both sides as they were.
-abbrev pub PipesAs : {R W C : Type 0} → (R → Option (List ℕ)) → (W → Option (List ℕ)) → (C → ℤ → C → Type 0) → List ℕ
-    → Counted R → Counted R → Counted W → Counted W → C → Option StreamEnd → Type 0
-PipesAs remaining contents ticks country reader reader_left writer writer_left clock (Some end) =
-    IsPiped remaining contents ticks country reader reader_left writer writer_left clock end
-PipesAs remaining contents ticks country reader reader_left writer writer_left clock None =
-    (reader_left ≡ reader) × (writer_left ≡ writer)
+  pub private : sight.is_clean left
+      → (c : Content) × IsServed (sight.content opened).country (fresh_books (sight.content opened)) 0 served.run.exchanges c
+      × (sight.is_live left → sight.content left ≡ c)
 
 -- The moments of a job's requests: the one of the job, or, where it has none, any that the machine's clock
 -- shows. What the clock itself is in between is left out.
@@ -43,8 +38,30 @@ abbrev pub IsMoment : Option ℤ → Unit {0} → ℤ → Unit {0} → Type 0
 IsMoment (Some at) old now new = now ≡ at
 IsMoment None old now new = Unit {0}
 
--- what a job of this country leaves, at this moment or by the machine's clock
-abbrev pub IsDone : {R W : Type 0} → (R → Option (List ℕ)) → (W → Option (List ℕ)) → List ℕ → Option ℤ
-    → Counted R → Counted R → Counted W → Counted W → Option StreamEnd → Type 0
-IsDone remaining contents country at reader reader_left writer writer_left end =
-    PipesAs {C = Unit {0}} remaining contents (IsMoment at) country reader reader_left writer writer_left tt end
+-- the same at the moments of a job
+abbrev pub IsPipedAt : {D R W : Type 0} → Sight D → (D → Type 0) → (R → Option (List ℕ)) → (W → Option (List ℕ)) → Option ℤ
+    → Counted R → Counted R → Counted W → Counted W → StreamEnd → Type 0
+IsPipedAt sight begins remaining contents at reader reader_left writer writer_left end =
+    IsPiped {C = Unit {0}} sight begins remaining contents (IsMoment at) reader reader_left writer writer_left tt end
+
+-- nothing was read or written
+abbrev pub IsUntouched : {R W : Type 0} → Counted R → Counted R → Counted W → Counted W → Type 0
+IsUntouched reader reader_left writer writer_left = (reader_left ≡ reader) × (writer_left ≡ writer)
+
+-- What a job leaves that serves one stream at a desk whose records stand there, in this country and at this moment or by the
+-- machine's clock: the stream was served, or there was no desk for this fault, and both sides are as they were. In memory that
+-- is want of memory.
+abbrev pub PipesAs : {R W : Type 0} → (R → Option (List ℕ)) → (W → Option (List ℕ)) → Image → List ℕ → Option ℤ
+    → Records → Counted R → Counted R → Counted W → Counted W → Result StreamEnd DeskFault → Type 0
+PipesAs remaining contents image country at Memory reader reader_left writer writer_left (Ok end) =
+    IsPipedAt in_memory (BeginsEmpty country) remaining contents at reader reader_left writer writer_left end
+PipesAs remaining contents image country at (File path) reader reader_left writer writer_left (Ok end) =
+    IsPipedAt over_file (BeginsKept image country) remaining contents at reader reader_left writer writer_left end
+PipesAs remaining contents image country at (NewFile path) reader reader_left writer writer_left (Ok end) =
+    IsPipedAt over_file (BeginsMade image country) remaining contents at reader reader_left writer writer_left end
+PipesAs remaining contents image country at Memory reader reader_left writer writer_left (Err why) =
+    IsUntouched reader reader_left writer writer_left × (why ≡ Refused fault.NoMemory)
+PipesAs remaining contents image country at (File path) reader reader_left writer writer_left (Err why) =
+    IsUntouched reader reader_left writer writer_left × IsToldOf image country why
+PipesAs remaining contents image country at (NewFile path) reader reader_left writer writer_left (Err why) =
+    IsUntouched reader reader_left writer writer_left × IsUnmade why

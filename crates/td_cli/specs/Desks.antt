@@ -1,0 +1,62 @@
+-- What the program's jobs say of a desk: what contracts see of it, what it begins with, and what is told to each holder.
+use Rattle.std.specs.Prelude.{◌≡◌, ℕ, ℤ, List, IsTrue}
+use Rattle.sqlite_wal.specs.Recovery.{Image}
+use Rattle.sqlite.specs.State.{State, HasCleanDisk}
+use Rattle.td_acts.specs.Book.{Book, fresh_book}
+use Rattle.td_desk.specs.Content.{Content, account_in, empty_content}
+use Rattle.td_desk.specs.Sound.{IsSound}
+use Rattle.td_store.specs.Kept.{content_in}
+use Rattle.td_files.specs.Found.{IsKeptDesk, IsMadeDesk}
+use Rattle.td_wire.specs.declared.reply.Reply.{Reply}
+use Rattle.td_wire.specs.Request.{Asked}
+use Rattle.td_http.specs.Served.{IsHeadReply}
+use Rattle.td_http.specs.Serving.{IsHandled}
+
+-- What contracts see of a desk: its content; whether its disk is clean, that is returned what was written while nobody else
+-- wrote; whether no fault has shut it; and whether a store stands behind it.
+pub record Sight (D : Type 0) : Type 1 where
+  pub content : D → Content
+  pub is_clean : D → Type 0
+  pub is_live : D → Type 0
+  pub has_store : Type 0
+
+-- a desk in memory is seen by its content, which is always clean and live
+abbrev pub in_memory : Sight Content
+in_memory = record { content = λ c. c; is_clean = λ c. Unit {0}; is_live = λ c. Unit {0}; has_store = ⊥ }
+
+-- a desk over a file is seen by the state of its database
+abbrev pub over_file : Sight State
+over_file = record {
+  content = λ s. content_in s.now.trees;
+  is_clean = HasCleanDisk;
+  is_live = λ s. IsTrue s.is_open;
+  has_store = Unit {0};
+}
+
+-- what a request does to a desk that is seen so, and a HEAD request, which leaves it as it is
+abbrev pub IsHandledAt : {D : Type 0} → Sight D → D → ℤ → Asked → Reply → D → Type 0
+IsHandledAt sight = IsHandled (λ d. d) sight.content sight.is_clean sight.is_live sight.has_store
+
+pub record IsHeadHandledAt {D : Type 0} (old : D) (target : List ℕ) (reply : Reply) (new : D) : Type 0 where
+  pub stays : new ≡ old
+  pub told : IsHeadReply target reply
+
+-- each holder's book is fresh: it opens with what the content has of the holder
+abbrev pub fresh_books : Content → ℕ → Book
+fresh_books c H = fresh_book (account_in H c)
+
+-- What a job's desk begins with. One in memory is empty.
+abbrev pub BeginsEmpty : List ℕ → Content → Type 0
+BeginsEmpty country c = c ≡ empty_content country
+
+-- one over a file has what the file held
+abbrev pub BeginsKept : Image → List ℕ → State → Type 0
+BeginsKept image country s = HasCleanDisk s → IsKeptDesk image country s
+
+-- and where the file was new it is empty
+abbrev pub BeginsMade : Image → List ℕ → State → Type 0
+BeginsMade image country s = HasCleanDisk s → IsMadeDesk image country s
+
+-- a desk that can serve: as far as it is clean no fault has shut it, and its content is sound
+abbrev pub IsReady : {D : Type 0} → Sight D → D → Type 0
+IsReady sight d = sight.is_clean d → sight.is_live d × IsSound (sight.content d)

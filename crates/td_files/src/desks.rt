@@ -1,0 +1,107 @@
+//! Desks over files, made and opened.
+ghost use Rattle.std.specs.Prelude.{◌≡◌, Some, IfOk, IfErr, option_map};
+ghost use Rattle.sqlite.specs.Files.{file_state};
+ghost use Rattle.sqlite.specs.WalFiles.{image_at};
+ghost use Rattle.td_files.specs.Found.{IsClean, IsKeptDesk, IsMadeDesk, IsToldOf, IsUnmade, shown};
+ghost use Rattle.td_files.specs.declared.desks.DeskFault.TheVariants as fault;
+
+use crate::files::{OneFile, open_file};
+use sqlite::{Error, ErrorCode, FileFrom, FileStore, Start};
+use td_base::Country;
+use td_store::{OpenFault, Refused, SqlDesk};
+use thiserror::Error as AsError;
+
+/// A desk over a file of the machine. `S` stands for what the file held as it was opened.
+pub type FileDesk<S> = SqlDesk<FileStore<FileFrom<S>>>;
+
+/// Why there is no desk over a file. Its line is what the program prints.
+#[derive(Clone, Copy, Debug, PartialEq, Eq, AsError)]
+pub enum DeskFault {
+    /// The file isn't there, can't be opened, or is no database.
+    #[error("file")]
+    File,
+    /// Its database was refused. `Store`, too, where another program has the file open.
+    #[error("{0}")]
+    Refused(OpenFault),
+}
+
+// Why a file wasn't opened.
+fn file_fault(error: &Error) -> DeskFault
+    ensures { IsUnmade result }
+{
+    match error {
+        Error::SqliteFailure(ErrorCode::OutOfMemory) => DeskFault::Refused(OpenFault::NoMemory),
+        Error::SqliteFailure(ErrorCode::DatabaseBusy) => DeskFault::Refused(OpenFault::Store),
+        _ => DeskFault::File,
+    }
+}
+
+impl<S: Start> OneFile<S, FileStore<FileFrom<S>>> {
+    // Takes a connection back that was refused, and says why it was.
+    fn turn_away(&mut self, refused: Refused<FileStore<FileFrom<S>>>) -> DeskFault
+        ensures fault { result ≡ fault.Refused refused.fault }
+        ensures handed { self.new.connection ≡ Some refused.connection }
+    {
+        let Refused { fault, connection } = refused;
+        self.connection = Some(connection);
+        DeskFault::Refused(fault)
+    }
+
+    /// Opens the desk of an office of that country over the file at the path, which has to be there and have a desk's tables.
+    /// `File`: it isn't there, can't be opened, is no database, or this file was opened before; `Refused`: its database is
+    /// refused by `SqlDesk::open`, there was no memory, or another program has the file open (`Store`). Nothing in the file is
+    /// changed.
+    pub fn open_desk(
+        &mut self,
+        rt: &HostRuntime,
+        country: Country,
+        path: &str,
+    ) -> Result<FileDesk<S>, DeskFault>
+        ensures kept { IfOk result (λ desk. IsClean (shown (file_state desk)) → IsKeptDesk (image_at S.Start) country (shown (file_state desk))) }
+        ensures fault { IfErr result (IsToldOf (image_at S.Start) country (option_map (λ c. shown (file_state c)) self.new.connection)) }
+    {
+        let Some(start) = self.start.take() else {
+            return Err(DeskFault::File);
+        };
+        let conn = match open_file(rt, path, false, start) {
+            Ok(conn) => conn,
+            Err(error) => return Err(file_fault(&error)),
+        };
+        match SqlDesk::open(rt.alloc(), conn, country) {
+            Ok(desk) => Ok(desk),
+            Err(refused) => Err(self.turn_away(refused)),
+        }
+    }
+
+    /// Makes a desk of an office of that country, which has no holders yet, in the file at the path: a new file, or one whose
+    /// database has no table. `File`: it can't be made or opened, is no database, or this file was opened before;
+    /// `Refused(Store)`: it has a table, another program has it open, or the store failed; `Refused(NoMemory)`: want of memory.
+    pub fn make_desk(
+        &mut self,
+        rt: &HostRuntime,
+        country: Country,
+        path: &str,
+    ) -> Result<FileDesk<S>, DeskFault>
+        ensures made { IfOk result (λ desk. IsClean (shown (file_state desk)) → IsMadeDesk (image_at S.Start) country (shown (file_state desk))) }
+        ensures fault { IfErr result IsUnmade }
+    {
+        let Some(start) = self.start.take() else {
+            return Err(DeskFault::File);
+        };
+        let conn = match open_file(rt, path, true, start) {
+            Ok(conn) => conn,
+            Err(error) => return Err(file_fault(&error)),
+        };
+        match SqlDesk::create(conn, country) {
+            Ok(desk) => Ok(desk),
+            Err(refused) => Err(self.turn_away(refused)),
+        }
+    }
+
+    /// Takes the desk's connection back, once its job is done.
+    pub fn keep(&mut self, desk: FileDesk<S>)
+        ensures { self.new.connection ≡ Some desk }
+    {
+        self.connection = Some(desk.close());
+    }
+}

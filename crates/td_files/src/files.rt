@@ -1,0 +1,71 @@
+//! The file of the machine that a program opens, by its path.
+ghost use Rattle.std.specs.Prelude.{◌≡◌, false, Some, None, IfOk, OnErr};
+ghost use Rattle.sqlite.specs.Files.{file_state};
+ghost use Rattle.sqlite.specs.Start.{FindsIn};
+ghost use Rattle.sqlite.specs.State.{HasCleanDisk, Opens};
+ghost use Rattle.sqlite.specs.WalFiles.{image_at};
+
+use sqlite::{Alter, Connection, Error, ErrorCode, FileFrom, FileStore, Start};
+use std::fs;
+
+/// A connection to the database in a file of the machine. `S` stands for what the file held as it was opened.
+pub type FileConnection<S> = Connection<FileStore<FileFrom<S>>>;
+
+/// The one file that a program opens, and what is left of it after a job.
+#[derive(Drop)]
+pub struct OneFile<S, T: Alter> {
+    /// What stands for what it held as it was opened; it is taken then.
+    pub start: Option<S>,
+    /// The connection that a job handed back, whether it had a desk over it or was refused one.
+    pub connection: Option<Connection<T>>,
+}
+
+/// One file of the machine. `S` stands for what it held as it was opened.
+pub type DeskFile<S> = OneFile<S, FileStore<FileFrom<S>>>;
+
+impl<S: Start> OneFile<S, FileStore<FileFrom<S>>> {
+    /// A file that isn't opened yet.
+    pub fn new(start: S) -> Self
+        ensures { result.connection ≡ None }
+    {
+        OneFile {
+            start: Some(start),
+            connection: None,
+        }
+    }
+
+    /// Closes the file, if it is open: what its log holds is copied into it. Whatever was committed is kept, also where that
+    /// fails: it is in the log then, and the next open finds it there.
+    pub fn close(self) {
+        let OneFile {
+            start: _,
+            connection,
+        } = self;
+        if let Some(connection) = connection {
+            let _copied = connection.close();
+        }
+    }
+}
+
+const CANNOT_OPEN: Error = Error::SqliteFailure(ErrorCode::CannotOpen);
+
+/// Opens the database in the file at the path. With `is_new` a file that isn't there is made; else it has to be there. An error
+/// is want of memory (`OutOfMemory`), another program that has the file open (`DatabaseBusy`), or why the file can't be opened.
+pub(crate) fn open_file<S: Start>(
+    rt: &HostRuntime,
+    path: &str,
+    is_new: bool,
+    start: S,
+) -> Result<FileConnection<S>, Error>
+    ensures open { IfOk result (λ conn. HasCleanDisk (file_state conn) → Opens (file_state conn)) }
+    ensures found { IfOk result (λ conn. HasCleanDisk (file_state conn) → FindsIn (image_at S.Start) (file_state conn)) }
+    ensures ended { IfOk result (λ conn. conn.in_transaction ≡ false) }
+{
+    if !is_new && !fs::exists(rt, path).unwrap_or(false) {
+        return Err(CANNOT_OPEN);
+    }
+    match Connection::open_from(rt, path, false, start) {
+        Ok(conn) => Ok(conn),
+        Err((error, _)) => Err(error),
+    }
+}

@@ -1,0 +1,8 @@
+//! The file of the machine in which a desk's records stand: opened by its path, with a desk over it, and closed.
+#![tactic(auto)]
+
+mod desks;
+mod files;
+
+pub use desks::{DeskFault, FileDesk};
+pub use files::{DeskFile, FileConnection, OneFile};
