@@ -1,12 +1,11 @@
 -- What the program's jobs say of a desk: what contracts see of it, what it begins with, and what is told to each holder.
 use Rattle.std.specs.Prelude.{◌≡◌, ℕ, ℤ, List, IsTrue}
 use Rattle.sqlite_wal.specs.Recovery.{Image}
-use Rattle.sqlite.specs.State.{State, HasCleanDisk}
 use Rattle.td_acts.specs.Book.{Book, fresh_book}
 use Rattle.td_desk.specs.Content.{Content, account_in, empty_content}
 use Rattle.td_desk.specs.Sound.{IsSound}
 use Rattle.td_store.specs.Kept.{content_in}
-use Rattle.td_files.specs.Found.{IsKeptDesk, IsMadeDesk}
+use Rattle.td_files.specs.Found.{FileState, IsClean, IsKeptDesk, IsMadeDesk}
 use Rattle.td_wire.specs.declared.reply.Reply.{Reply}
 use Rattle.td_wire.specs.Request.{Asked}
 use Rattle.td_http.specs.Served.{IsHeadReply}
@@ -24,11 +23,11 @@ pub record Sight (D : Type 0) : Type 1 where
 abbrev pub in_memory : Sight Content
 in_memory = record { content = λ c. c; is_clean = λ c. Unit {0}; is_live = λ c. Unit {0}; has_store = ⊥ }
 
--- a desk over a file is seen by the state of its database
-abbrev pub over_file : Sight State
+-- a desk over a file is seen by what its connection shows
+abbrev pub over_file : Sight FileState
 over_file = record {
   content = λ s. content_in s.now.trees;
-  is_clean = HasCleanDisk;
+  is_clean = IsClean;
   is_live = λ s. IsTrue s.is_open;
   has_store = Unit {0};
 }
@@ -49,13 +48,13 @@ fresh_books c H = fresh_book (account_in H c)
 abbrev pub BeginsEmpty : List ℕ → Content → Type 0
 BeginsEmpty country c = c ≡ empty_content country
 
--- one over a file has what the file held
-abbrev pub BeginsKept : Image → List ℕ → State → Type 0
-BeginsKept image country s = HasCleanDisk s → IsKeptDesk image country s
+-- one over a file has what the file held, as far as its disk is clean
+abbrev pub BeginsKept : Image → List ℕ → FileState → Type 0
+BeginsKept image country s = IsClean s → IsKeptDesk image country s
 
 -- and where the file was new it is empty
-abbrev pub BeginsMade : Image → List ℕ → State → Type 0
-BeginsMade image country s = HasCleanDisk s → IsMadeDesk image country s
+abbrev pub BeginsMade : Image → List ℕ → FileState → Type 0
+BeginsMade image country s = IsClean s → IsMadeDesk image country s
 
 -- a desk that can serve: as far as it is clean no fault has shut it, and its content is sound
 abbrev pub IsReady : {D : Type 0} → Sight D → D → Type 0

@@ -1,5 +1,5 @@
 -- Connections to a port of this machine, served at a desk.
-use Rattle.std.specs.Prelude.{◌≡◌, ◌⊎◌, ℕ, ℤ, List, ◌++◌, codes, map, string_bytes, Option, Result, Ok, Err}
+use Rattle.std.specs.Prelude.{◌≡◌, ◌⊎◌, ℕ, ℤ, List, ◌++◌, codes, map, string_bytes, Option, Some, Result, Ok, Err}
 use Rattle.std.specs.Fmt.{decimal}
 use Rattle.std.specs.Io.KnownBytes.{Appends}
 use Rattle.std.specs.declared.io.Error.{Error}
@@ -8,7 +8,7 @@ use Rattle.counted_io.specs.declared.counted.Counted.{Counted}
 use Rattle.counted_io.specs.Counted.{known_bytes}
 use Rattle.counted_io.specs.Writing.{IsCutShort}
 use Rattle.td_desk.specs.Content.{Content}
-use Rattle.td_files.specs.Found.{IsToldOf, IsUnmade}
+use Rattle.td_files.specs.Found.{FileState, IsToldOf, IsUnmade}
 use Rattle.td_files.specs.declared.desks.DeskFault.{DeskFault}
 use Rattle.td_files.specs.declared.desks.DeskFault.TheVariants.{Refused}
 use Rattle.td_store.specs.declared.refused.OpenFault.TheVariants as fault
@@ -36,17 +36,18 @@ AreLinesOf listening lines =
     (string_bytes lines.first ≡ listening_line listening.port)
     × (string_bytes lines.last ≡ served_line listening.connections)
 
--- That was printed, and then so many connections were served, one after another, at a desk that is seen so and began so. Where
+-- That was printed, and then so many connections were served, one after another, at a desk that is seen so, and began and ended so. Where
 -- the desk is clean in the end, to each holder the bytes of the replies, over all connections, are those of that holder's own
 -- machine, from a book that opens with what the desk had of the holder at first; and where no fault has shut it, its content
 -- is the one after them. Where the answer is an error, no further connection came.
-pub record HasServed {D W C : Type 0} (sight : Sight D) (begins : D → Type 0) (contents : W → Option (List ℕ)) (ticks : C → ℤ → C → Type 0)
+pub record HasServed {D W C : Type 0} (sight : Sight D) (begins ends : D → Type 0) (contents : W → Option (List ℕ)) (ticks : C → ℤ → C → Type 0)
     (port connections : ℕ) (writer writer_left : Counted W) (clock : C) (answer : Result Unit Error) : Type 0 where
   pub listening : Appends (known_bytes contents writer) (known_bytes contents writer_left) (listening_line port)
   pub opened : D
   pub left : D
   pub clock_left : C
   pub begun : begins opened
+  pub ended : ends left
   pub served : ServesSockets ticks (IsHandledAt sight) IsHeadHandledAt clock opened clock_left left connections answer
   pub private : sight.is_clean left
       → (c : Content) × IsServedOver (sight.content opened).country (fresh_books (sight.content opened))
@@ -55,39 +56,42 @@ pub record HasServed {D W C : Type 0} (sight : Sight D) (begins : D → Type 0) 
 
 -- What a serving at a desk leaves that ended so. Without memory for what is printed, and where the port couldn't be listened on,
 -- nothing was printed; all connections were served where that is printed in the end, or couldn't be.
-abbrev pub ServesAs : {D W C : Type 0} → Sight D → (D → Type 0) → (W → Option (List ℕ)) → (C → ℤ → C → Type 0) → ℕ → ℕ
+abbrev pub ServesAs : {D W C : Type 0} → Sight D → (D → Type 0) → (D → Type 0) → (W → Option (List ℕ)) → (C → ℤ → C → Type 0) → ℕ → ℕ
     → Counted W → Counted W → C → ServingEnd → Type 0
-ServesAs {W = W} sight begins contents ticks port connections writer writer_left clock Done =
-    (said : Counted W) × HasServed sight begins contents ticks port connections writer said clock (Ok tt)
+ServesAs {W = W} sight begins ends contents ticks port connections writer writer_left clock Done =
+    (said : Counted W) × HasServed sight begins ends contents ticks port connections writer said clock (Ok tt)
     × Appends (known_bytes contents said) (known_bytes contents writer_left) (served_line connections)
-ServesAs sight begins contents ticks port connections writer writer_left clock NoMemory = writer_left ≡ writer
-ServesAs sight begins contents ticks port connections writer writer_left clock Socket =
+ServesAs sight begins ends contents ticks port connections writer writer_left clock NoMemory = writer_left ≡ writer
+ServesAs sight begins ends contents ticks port connections writer writer_left clock Socket =
     (writer_left ≡ writer)
-    ⊎ ((why : Error) × HasServed sight begins contents ticks port connections writer writer_left clock (Err why))
-ServesAs {W = W} sight begins contents ticks port connections writer writer_left clock Write =
+    ⊎ ((why : Error) × HasServed sight begins ends contents ticks port connections writer writer_left clock (Err why))
+ServesAs {W = W} sight begins ends contents ticks port connections writer writer_left clock Write =
     IsCutShort contents writer writer_left (listening_line port)
-    ⊎ ((said : Counted W) × HasServed sight begins contents ticks port connections writer said clock (Ok tt)
+    ⊎ ((said : Counted W) × HasServed sight begins ends contents ticks port connections writer said clock (Ok tt)
     × IsCutShort contents said writer_left (served_line connections))
 
 -- the same at the moments of a job
-abbrev pub ServesAt : {D W : Type 0} → Sight D → (D → Type 0) → (W → Option (List ℕ)) → Option ℤ → ℕ → ℕ
+abbrev pub ServesAt : {D W : Type 0} → Sight D → (D → Type 0) → (D → Type 0) → (W → Option (List ℕ)) → Option ℤ → ℕ → ℕ
     → Counted W → Counted W → ServingEnd → Type 0
-ServesAt sight begins contents at port connections writer writer_left end =
-    ServesAs {C = Unit {0}} sight begins contents (IsMoment at) port connections writer writer_left tt end
+ServesAt sight begins ends contents at port connections writer writer_left end =
+    ServesAs {C = Unit {0}} sight begins ends contents (IsMoment at) port connections writer writer_left tt end
 
 -- What a serving leaves at a desk whose records stand there, in this country and at this moment or by the machine's clock: how
--- it ended, or there was no desk for this fault, and nothing was printed. In memory that is want of memory.
+-- it ended, and a file shows what the desk left; or there was no desk for this fault, and nothing was printed. In memory that
+-- is want of memory.
 abbrev pub IsServing : {W : Type 0} → (W → Option (List ℕ)) → Image → List ℕ → Option ℤ → Records → ℕ → ℕ
-    → Counted W → Counted W → Result ServingEnd DeskFault → Type 0
-IsServing contents image country at Memory port connections writer writer_left (Ok end) =
-    ServesAt in_memory (BeginsEmpty country) contents at port connections writer writer_left end
-IsServing contents image country at (File path) port connections writer writer_left (Ok end) =
-    ServesAt over_file (BeginsKept image country) contents at port connections writer writer_left end
-IsServing contents image country at (NewFile path) port connections writer writer_left (Ok end) =
-    ServesAt over_file (BeginsMade image country) contents at port connections writer writer_left end
-IsServing contents image country at Memory port connections writer writer_left (Err why) =
+    → Counted W → Counted W → Option FileState → Result ServingEnd DeskFault → Type 0
+IsServing contents image country at Memory port connections writer writer_left file (Ok end) =
+    ServesAt in_memory (BeginsEmpty country) (λ c. Unit {0}) contents at port connections writer writer_left end
+IsServing contents image country at (File path) port connections writer writer_left file (Ok end) =
+    (s : FileState) × (file ≡ Some s)
+    × ServesAt over_file (BeginsKept image country) (λ d. d ≡ s) contents at port connections writer writer_left end
+IsServing contents image country at (NewFile path) port connections writer writer_left file (Ok end) =
+    (s : FileState) × (file ≡ Some s)
+    × ServesAt over_file (BeginsMade image country) (λ d. d ≡ s) contents at port connections writer writer_left end
+IsServing contents image country at Memory port connections writer writer_left file (Err why) =
     (writer_left ≡ writer) × (why ≡ Refused fault.NoMemory)
-IsServing contents image country at (File path) port connections writer writer_left (Err why) =
-    (writer_left ≡ writer) × IsToldOf image country why
-IsServing contents image country at (NewFile path) port connections writer writer_left (Err why) =
+IsServing contents image country at (File path) port connections writer writer_left file (Err why) =
+    (writer_left ≡ writer) × IsToldOf image country file why
+IsServing contents image country at (NewFile path) port connections writer writer_left file (Err why) =
     (writer_left ≡ writer) × IsUnmade why

@@ -5,6 +5,7 @@ use Rattle.std.specs.declared.io.Error.{Error}
 use Rattle.std.specs.declared.io.ErrorKind.TheVariants.{OutOfMemory}
 use Rattle.sqlite_wal.specs.Recovery.{Image}
 use Rattle.counted_io.specs.declared.counted.Counted.{Counted}
+use Rattle.td_files.specs.Found.{FileState}
 use Rattle.td_files.specs.declared.desks.DeskFault.{DeskFault}
 use Rattle.td_wire.specs.declared.stream.StreamEnd.{StreamEnd}
 use Rattle.td_words.specs.declared.words.NoJob.{NoJob}
@@ -18,27 +19,27 @@ use Rattle.td_cli.specs.Listening.{IsServing}
 use Rattle.td_cli.specs.Statuses.{IsAnswered, IsEndTold, IsServingTold, IsTold}
 
 -- A task was done, in this country and at this moment or by the machine's clock, and how it ended was told: one stream from the
--- input to the first writer; connections, for which the input isn't read; or a file was tested, which the image says.
+-- input to the first writer; connections, for which the input isn't read; or a file was tested, of which the image is what it held. The file is what a connection to it shows then.
 abbrev pub IsDone : {R W E : Type 0} → (R → Option (List ℕ)) → (W → Option (List ℕ)) → (E → Option (List ℕ)) → Image
-    → Task → List ℕ → Option ℤ → Counted R → Counted R → Counted W → Counted W → Counted E → Counted E → ℕ → Type 0
-IsDone remaining contents said image (Pipe records) country at reader reader_left writer writer_left errors errors_left status =
+    → Task → List ℕ → Option ℤ → Counted R → Counted R → Counted W → Counted W → Counted E → Counted E → Option FileState → ℕ → Type 0
+IsDone remaining contents said image (Pipe records) country at reader reader_left writer writer_left errors errors_left file status =
     (end : Result StreamEnd DeskFault)
-    × PipesAs remaining contents image country at records reader reader_left writer writer_left end
+    × PipesAs remaining contents image country at records reader reader_left writer writer_left file end
     × IsEndTold said errors errors_left end status
-IsDone remaining contents said image (Serve listening records) country at reader reader_left writer writer_left errors errors_left status =
+IsDone remaining contents said image (Serve listening records) country at reader reader_left writer writer_left errors errors_left file status =
     (end : Result ServingEnd DeskFault) × (reader_left ≡ reader)
-    × IsServing contents image country at records listening.port listening.connections writer writer_left end
+    × IsServing contents image country at records listening.port listening.connections writer writer_left file end
     × IsServingTold said errors errors_left end status
-IsDone remaining contents said image (Check path) country at reader reader_left writer writer_left errors errors_left status =
-    (reader_left ≡ reader) × IsChecked contents said image country writer writer_left errors errors_left status
+IsDone remaining contents said image (Check path) country at reader reader_left writer writer_left errors errors_left file status =
+    (reader_left ≡ reader) × IsChecked contents said image country writer writer_left errors errors_left file status
 
 -- The words ask for a task, which was done in that country and at that moment. Or they ask for none: then nothing was read, and
 -- they were answered. The image is what the file held that the words name, if they name one.
 abbrev pub IsPerformed : {R W E : Type 0} → (R → Option (List ℕ)) → (W → Option (List ℕ)) → (E → Option (List ℕ)) → Image
-    → List (List ℕ) → Counted R → Counted R → Counted W → Counted W → Counted E → Counted E → ℕ → Type 0
-IsPerformed remaining contents said image words reader reader_left writer writer_left errors errors_left status =
+    → List (List ℕ) → Counted R → Counted R → Counted W → Counted W → Counted E → Counted E → Option FileState → ℕ → Type 0
+IsPerformed remaining contents said image words reader reader_left writer writer_left errors errors_left file status =
     ((task : Task) × (country : List ℕ) × (at : Option ℤ) × AsksFor words task country at
-    × IsDone remaining contents said image task country at reader reader_left writer writer_left errors errors_left status)
+    × IsDone remaining contents said image task country at reader reader_left writer writer_left errors errors_left file status)
     ⊎ ((no_job : NoJob) × (reader_left ≡ reader)
     × IsAnswered contents said writer writer_left errors errors_left no_job status)
 

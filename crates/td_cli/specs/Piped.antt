@@ -3,7 +3,7 @@ use Rattle.std.specs.Prelude.{◌≡◌, ℕ, ℤ, List, Option, Result, None, S
 use Rattle.sqlite_wal.specs.Recovery.{Image}
 use Rattle.counted_io.specs.declared.counted.Counted.{Counted}
 use Rattle.td_desk.specs.Content.{Content}
-use Rattle.td_files.specs.Found.{IsToldOf, IsUnmade}
+use Rattle.td_files.specs.Found.{FileState, IsToldOf, IsUnmade}
 use Rattle.td_files.specs.declared.desks.DeskFault.{DeskFault}
 use Rattle.td_files.specs.declared.desks.DeskFault.TheVariants.{Refused}
 use Rattle.td_store.specs.declared.refused.OpenFault.TheVariants as fault
@@ -14,17 +14,18 @@ use Rattle.td_words.specs.declared.words.Records.{Records}
 use Rattle.td_words.specs.declared.words.Records.TheVariants.{Memory, File, NewFile}
 use Rattle.td_cli.specs.Desks.{Sight, in_memory, over_file, BeginsEmpty, BeginsKept, BeginsMade, IsHandledAt, IsHeadHandledAt, fresh_books}
 
--- A stream of requests was served at a desk that is seen so and began so: the bytes consumed are whole requests and a rest, and
+-- A stream of requests was served at a desk that is seen so, and began and ended so: the bytes consumed are whole requests and a rest, and
 -- what was written is the replies to them and what parts with the rest. Where the desk is clean in the end, each holder's
 -- requests had the replies of that holder's own machine, from a book that opens with what the desk had of the holder at first;
 -- and where no fault has shut it, its content is the one after them.
-pub record IsPiped {D R W C : Type 0} (sight : Sight D) (begins : D → Type 0)
+pub record IsPiped {D R W C : Type 0} (sight : Sight D) (begins ends : D → Type 0)
     (remaining : R → Option (List ℕ)) (contents : W → Option (List ℕ)) (ticks : C → ℤ → C → Type 0)
     (reader reader_left : Counted R) (writer writer_left : Counted W) (clock : C) (end : StreamEnd) : Type 0 where
   pub opened : D
   pub left : D
   pub clock_left : C
   pub begun : begins opened
+  pub ended : ends left
   pub served : Serves remaining contents ticks (IsHandledAt sight) IsHeadHandledAt
       (record { reader = reader; writer = writer; clock = clock; handler = opened })
       (record { reader = reader_left; writer = writer_left; clock = clock_left; handler = left }) end
@@ -39,29 +40,31 @@ IsMoment (Some at) old now new = now ≡ at
 IsMoment None old now new = Unit {0}
 
 -- the same at the moments of a job
-abbrev pub IsPipedAt : {D R W : Type 0} → Sight D → (D → Type 0) → (R → Option (List ℕ)) → (W → Option (List ℕ)) → Option ℤ
+abbrev pub IsPipedAt : {D R W : Type 0} → Sight D → (D → Type 0) → (D → Type 0) → (R → Option (List ℕ)) → (W → Option (List ℕ)) → Option ℤ
     → Counted R → Counted R → Counted W → Counted W → StreamEnd → Type 0
-IsPipedAt sight begins remaining contents at reader reader_left writer writer_left end =
-    IsPiped {C = Unit {0}} sight begins remaining contents (IsMoment at) reader reader_left writer writer_left tt end
+IsPipedAt sight begins ends remaining contents at reader reader_left writer writer_left end =
+    IsPiped {C = Unit {0}} sight begins ends remaining contents (IsMoment at) reader reader_left writer writer_left tt end
 
 -- nothing was read or written
 abbrev pub IsUntouched : {R W : Type 0} → Counted R → Counted R → Counted W → Counted W → Type 0
 IsUntouched reader reader_left writer writer_left = (reader_left ≡ reader) × (writer_left ≡ writer)
 
 -- What a job leaves that serves one stream at a desk whose records stand there, in this country and at this moment or by the
--- machine's clock: the stream was served, or there was no desk for this fault, and both sides are as they were. In memory that
--- is want of memory.
+-- machine's clock: the stream was served, and a file shows what the desk left; or there was no desk for this fault, and both
+-- sides are as they were. In memory that is want of memory.
 abbrev pub PipesAs : {R W : Type 0} → (R → Option (List ℕ)) → (W → Option (List ℕ)) → Image → List ℕ → Option ℤ
-    → Records → Counted R → Counted R → Counted W → Counted W → Result StreamEnd DeskFault → Type 0
-PipesAs remaining contents image country at Memory reader reader_left writer writer_left (Ok end) =
-    IsPipedAt in_memory (BeginsEmpty country) remaining contents at reader reader_left writer writer_left end
-PipesAs remaining contents image country at (File path) reader reader_left writer writer_left (Ok end) =
-    IsPipedAt over_file (BeginsKept image country) remaining contents at reader reader_left writer writer_left end
-PipesAs remaining contents image country at (NewFile path) reader reader_left writer writer_left (Ok end) =
-    IsPipedAt over_file (BeginsMade image country) remaining contents at reader reader_left writer writer_left end
-PipesAs remaining contents image country at Memory reader reader_left writer writer_left (Err why) =
+    → Records → Counted R → Counted R → Counted W → Counted W → Option FileState → Result StreamEnd DeskFault → Type 0
+PipesAs remaining contents image country at Memory reader reader_left writer writer_left file (Ok end) =
+    IsPipedAt in_memory (BeginsEmpty country) (λ c. Unit {0}) remaining contents at reader reader_left writer writer_left end
+PipesAs remaining contents image country at (File path) reader reader_left writer writer_left file (Ok end) =
+    (s : FileState) × (file ≡ Some s)
+    × IsPipedAt over_file (BeginsKept image country) (λ d. d ≡ s) remaining contents at reader reader_left writer writer_left end
+PipesAs remaining contents image country at (NewFile path) reader reader_left writer writer_left file (Ok end) =
+    (s : FileState) × (file ≡ Some s)
+    × IsPipedAt over_file (BeginsMade image country) (λ d. d ≡ s) remaining contents at reader reader_left writer writer_left end
+PipesAs remaining contents image country at Memory reader reader_left writer writer_left file (Err why) =
     IsUntouched reader reader_left writer writer_left × (why ≡ Refused fault.NoMemory)
-PipesAs remaining contents image country at (File path) reader reader_left writer writer_left (Err why) =
-    IsUntouched reader reader_left writer writer_left × IsToldOf image country why
-PipesAs remaining contents image country at (NewFile path) reader reader_left writer writer_left (Err why) =
+PipesAs remaining contents image country at (File path) reader reader_left writer writer_left file (Err why) =
+    IsUntouched reader reader_left writer writer_left × IsToldOf image country file why
+PipesAs remaining contents image country at (NewFile path) reader reader_left writer writer_left file (Err why) =
     IsUntouched reader reader_left writer writer_left × IsUnmade why

@@ -5,8 +5,10 @@
 mod clock;
 mod jobs;
 mod laws;
+mod piping;
 mod program;
 mod serving;
+mod telling;
 
 pub use clock::{FixedClock, MachineClock};
 pub use jobs::perform;

@@ -1,13 +1,18 @@
 //! What a `main` calls: the words of the command line as the machine has them, and the program on them.
-ghost use Rattle.std.specs.Prelude.{◌≡◌, map, string_bytes, MatchResult};
+ghost use Rattle.std.specs.Prelude.{◌≡◌, map, option_map, string_bytes, MatchResult};
+ghost use Rattle.sqlite.specs.Files.{file_state};
+ghost use Rattle.sqlite.specs.WalFiles.{image_at};
+ghost use Rattle.td_files.specs.Found.{shown};
 ghost use Rattle.td_cli.specs.Performed.{IsPerformed, IsUnread};
 
-use crate::jobs::{perform, unread_words};
+use crate::jobs::perform;
+use crate::telling::unread_words;
+use sqlite::Start;
 use std::env::Env;
 use std::io::{Read, Write};
-use std::net::{Net, TcpListener, TcpStream};
 use std::{env, io};
 use td_base::Counted;
+use td_files::DeskFile;
 
 /// The words of the command line, the program's name first. An error: there was no memory for them, or they
 /// aren't UTF-8 text.
@@ -16,22 +21,25 @@ pub fn words_of(rt: &(impl AllocGlobal + Env)) -> io::Result<Vec<String>> {
 }
 
 /// The program on words that were read, or not: does what they ask for as `perform` does, or says why they
-/// couldn't be read, and gives the status. Replies go to `out`, and what is wrong to `errors`.
-pub fn run_program<R: Read, W: Write, E: Write>(
-    rt: &(impl AllocGlobal + std::rt::Clock + Net<Listener = TcpListener, Stream = TcpStream>),
+/// couldn't be read, and gives the status. Replies go to `out`, and what is wrong to `errors`; the file is the one that the
+/// words name.
+pub fn run_program<S: Start, R: Read, W: Write, E: Write>(
+    rt: &HostRuntime,
     words: io::Result<Vec<String>>,
+    file: &mut DeskFile<S>,
     input: &mut Counted<R>,
     out: &mut Counted<W>,
     errors: &mut Counted<E>,
 ) -> u8
     ensures { MatchResult words
-        (λ words. IsPerformed R.remaining W.contents E.contents (map string_bytes words.items)
-        input.old input.new out.old out.new errors.old errors.new result)
+        (λ words. IsPerformed R.remaining W.contents E.contents (image_at S.Start) (map string_bytes words.items)
+        input.old input.new out.old out.new errors.old errors.new
+        (option_map (λ c. shown (file_state c)) file.new.connection) result)
         (λ error. (input.new ≡ input.old) × (out.new ≡ out.old)
         × IsUnread E.contents error errors.old errors.new result) }
 {
     match words {
-        Ok(words) => perform(rt, &words, input, out, errors),
+        Ok(words) => perform(rt, &words, file, input, out, errors),
         Err(error) => unread_words(&error, errors),
     }
 }

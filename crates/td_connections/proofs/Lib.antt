@@ -1,4 +1,4 @@
 mod Visits
-mod Private
+pub mod Private
 mod Anyhow
 pub mod Alike

@@ -110,7 +110,7 @@ module _ {R W C D L : Type 0} (remaining : R → Option (List ℕ)) (contents : 
       (served.0, rw is.exchanges served.1, served.2)
 
   -- connections that leave a clean desk found it clean
-  visits_clean : (visits : List (Visit R W)) (old new : Between L C (Service D))
+  pub visits_clean : (visits : List (Visit R W)) (old new : Between L C (Service D))
       → Served old visits new → is_clean (desk_of new.handler) → is_clean (desk_of old.handler)
   visits_clean [] old new visited clean =
       subst (λ (b : Between L C (Service D)). is_clean (desk_of b.handler)) (sym visited) clean
