@@ -3,7 +3,7 @@ use std::alloc::{AllocError, Global};
 use std::process::Abort;
 use std::test::Fail;
 use td_base::Country;
-use td_words::{Job, Listening, NoJob, Task, read_words};
+use td_words::{Job, Listening, NoJob, Records, Task, read_words};
 
 fn owned(alloc: Global, words: &[&str]) -> Result<Vec<String>, AllocError> {
     let mut owned = Vec::new(alloc);
@@ -69,7 +69,7 @@ const WRONG: [&[&str]; 14] = [
         "--at",
         "9223372036854775808",
     ],
-    &["transit-desk", "pipe", "--country", "CH", "--db", "desk.db"],
+    &["transit-desk", "pipe", "--country", "CH", "--new"],
 ];
 
 #[test]
@@ -81,10 +81,10 @@ fn wrong_words_are_told(rt: HostRuntime) -> Result<(), Fail> {
 }
 
 /// Words that are wrong, and what is told of them.
-const TOLD: [(&[&str], &str); 14] = [
+const TOLD: [(&[&str], &str); 13] = [
     (
         &["transit-desk"],
-        "error: 'transit-desk' requires a subcommand but one was not provided [subcommands: serve, pipe, help]\n",
+        "error: 'transit-desk' requires a subcommand but one was not provided [subcommands: serve, pipe, check, help]\n",
     ),
     (
         &["transit-desk", "batch", "--country", "CH"],
@@ -93,10 +93,6 @@ const TOLD: [(&[&str], &str); 14] = [
     (
         &["transit-desk", "serve"],
         "error: the following required arguments were not provided: --country <CC> --port <N> --connections <K>\n",
-    ),
-    (
-        &["transit-desk", "pipe", "--country", "CH", "--db", "desk.db"],
-        "error: unexpected argument '--db' found\n",
     ),
     (
         &["transit-desk", "pipe", "--country", "CH", "--version"],
@@ -252,27 +248,32 @@ fn help_is_no_fault(rt: HostRuntime) -> Result<(), Fail> {
 /// The help of the program.
 const HELP: &str = "The desk of a national transit office under the Common Transit Convention
 
-Usage: transit-desk serve --country <CC> --port <N> --connections <K> [--at <SECONDS>]
-       transit-desk pipe --country <CC> [--at <SECONDS>]
+Usage: transit-desk serve --country <CC> --port <N> --connections <K> [--db <FILE> [--new]] [--at <SECONDS>]
+       transit-desk pipe --country <CC> [--db <FILE> [--new]] [--at <SECONDS>]
+       transit-desk check --country <CC> --db <FILE>
 
 Commands:
   serve  Serves connections to a port of this machine, one after another
   pipe   Serves one stream of HTTP requests, from standard input to standard output
+  check  Tests whether a desk of the country can be opened over a file
   help   Print this message or the help of the given subcommand(s)
 
 Options:
   -h, --help     Print help
   -V, --version  Print version
 
-The desk starts empty, and it is gone when the program ends. Its moments are from
-2000 to 2099: a request at any other is told clock-range.
+Without --db the desk starts empty, and it is gone when the program ends. With --db its
+records stand in that file, an SQLite database; --new makes the desk's tables in it first.
+Moments are from 2000 to 2099: a request at any other is told clock-range.
 
 Examples:
   transit-desk pipe --country CH --at 1740819600 < examples/first.http
   transit-desk serve --country CH --port 8080 --connections 1000
+  transit-desk serve --country CH --port 8080 --connections 1000 --db desk.db --new
+  transit-desk check --country CH --db desk.db
 
 Status:
-  0  Done: the stream ended well, or all connections were served
+  0  Done: the stream ended well, all connections were served, or the file is a desk's
   1  A fault, which one line on standard error tells, as: transit-desk: stream cut
   2  Wrong words: one line on standard error tells what was wrong
 ";
@@ -287,21 +288,55 @@ fn help_of_the_program_is_told(rt: HostRuntime) -> Result<(), Fail> {
 /// The help of `serve` up to what the help of the program says too.
 const SERVE_HELP: &str = "Serves connections to a port of this machine, one after another
 
-Usage: transit-desk serve --country <CC> --port <N> --connections <K> [--at <SECONDS>]
+Usage: transit-desk serve --country <CC> --port <N> --connections <K> [--db <FILE> [--new]] [--at <SECONDS>]
 
 Options:
       --country <CC>     The country of the office, two capital letters
+      --db <FILE>        The file with the records, an SQLite database; else they are in memory
+      --new              Makes the desk's tables in the file first
       --at <SECONDS>     The moment of all requests, in seconds since 1970; else the clock is asked
       --port <N>         The port of 127.0.0.1 that is listened on, from 1 to 65535
       --connections <K>  How many connections are served, from 1 to 1000000
   -h, --help             Print help
 
-The desk starts empty, ";
+Without --db the desk starts empty, ";
+
+/// The help of `pipe`, up to the same.
+const PIPE_HELP: &str = "Serves one stream of HTTP requests, from standard input to standard output
+
+Usage: transit-desk pipe --country <CC> [--db <FILE> [--new]] [--at <SECONDS>]
+
+Options:
+      --country <CC>  The country of the office, two capital letters
+      --db <FILE>     The file with the records, an SQLite database; else they are in memory
+      --new           Makes the desk's tables in the file first
+      --at <SECONDS>  The moment of all requests, in seconds since 1970; else the clock is asked
+  -h, --help          Print help
+
+Without --db the desk starts empty, ";
+
+/// The help of `check`, up to the same.
+const CHECK_HELP: &str = "Tests whether a desk of the country can be opened over a file
+
+Usage: transit-desk check --country <CC> --db <FILE>
+
+Options:
+      --country <CC>  The country of the office, two capital letters
+      --db <FILE>     The file that is tested
+  -h, --help          Print help
+
+Without --db the desk starts empty, ";
 
 #[test]
 fn help_of_a_command_tells_its_options(rt: HostRuntime) -> Result<(), Fail> {
-    let help = help_text(rt.alloc(), &["transit-desk", "serve", "--help"])?;
-    assert_begins(&rt, &help, SERVE_HELP);
+    for (name, told) in [
+        ("serve", SERVE_HELP),
+        ("pipe", PIPE_HELP),
+        ("check", CHECK_HELP),
+    ] {
+        let help = help_text(rt.alloc(), &["transit-desk", name, "--help"])?;
+        assert_begins(&rt, &help, told);
+    }
     Ok(())
 }
 
@@ -358,7 +393,7 @@ fn job_of(task: Task, at: Option<i64>) -> Option<Job> {
 #[test]
 fn a_stream_is_asked_for(rt: HostRuntime) -> Result<(), Fail> {
     for (words, at) in STREAMS {
-        assert_job(&rt, words, job_of(Task::Pipe, at))?;
+        assert_job(&rt, words, job_of(Task::Pipe(Records::Memory), at))?;
     }
     Ok(())
 }
@@ -372,8 +407,214 @@ const LISTENINGS: [(&str, &str, u16, u32); 2] = [
 #[test]
 fn connections_are_asked_for(rt: HostRuntime) -> Result<(), Fail> {
     for (words, more, port, connections) in LISTENINGS {
-        let task = Task::Serve(Listening { port, connections });
+        let task = Task::Serve(Listening { port, connections }, Records::Memory);
         assert_job(&rt, &serve_words(words, more), job_of(task, None))?;
+    }
+    Ok(())
+}
+
+/// Words of a desk whose records stand in a file that is kept.
+const KEPT: [(&[&str], &str); 3] = [
+    (
+        &["transit-desk", "pipe", "--country", "CH", "--db", "desk.db"],
+        "desk.db",
+    ),
+    (
+        &["transit-desk", "pipe", "--db=-1", "--country", "CH"],
+        "-1",
+    ),
+    (&["transit-desk", "pipe", "--country", "CH", "--db", ""], ""),
+];
+
+#[test]
+fn a_kept_file_is_asked_for(rt: HostRuntime) -> Result<(), Fail> {
+    for (words, path) in KEPT {
+        let records = Records::File(String::from_str(rt.alloc(), path)?);
+        assert_job(&rt, words, job_of(Task::Pipe(records), None))?;
+    }
+    Ok(())
+}
+
+/// Words of a desk whose tables are made first.
+const MADE: [&[&str]; 2] = [
+    &[
+        "transit-desk",
+        "pipe",
+        "--country",
+        "CH",
+        "--db",
+        "desk.db",
+        "--new",
+        "--at",
+        "7",
+    ],
+    &[
+        "transit-desk",
+        "pipe",
+        "--new",
+        "--at",
+        "7",
+        "--db=desk.db",
+        "--country",
+        "CH",
+    ],
+];
+
+#[test]
+fn a_new_file_is_asked_for(rt: HostRuntime) -> Result<(), Fail> {
+    for words in MADE {
+        let records = Records::NewFile(String::from_str(rt.alloc(), "desk.db")?);
+        assert_job(&rt, words, job_of(Task::Pipe(records), Some(7)))?;
+    }
+    Ok(())
+}
+
+/// Words that serve one connection over a file; without the last one the file is kept.
+const SERVED_FILE: [&str; 11] = [
+    "transit-desk",
+    "serve",
+    "--country",
+    "CH",
+    "--port",
+    "80",
+    "--connections",
+    "1",
+    "--db",
+    "desk.db",
+    "--new",
+];
+
+#[test]
+fn connections_to_a_file_are_asked_for(rt: HostRuntime) -> Result<(), Fail> {
+    let listening = Listening {
+        port: 80,
+        connections: 1,
+    };
+    let made = Records::NewFile(String::from_str(rt.alloc(), "desk.db")?);
+    assert_job(
+        &rt,
+        &SERVED_FILE,
+        job_of(Task::Serve(listening, made), None),
+    )?;
+    let kept = Records::File(String::from_str(rt.alloc(), "desk.db")?);
+    assert_job(
+        &rt,
+        &SERVED_FILE[..10],
+        job_of(Task::Serve(listening, kept), None),
+    )
+}
+
+#[test]
+fn a_test_of_a_file_is_asked_for(rt: HostRuntime) -> Result<(), Fail> {
+    let words = [
+        "transit-desk",
+        "check",
+        "--country",
+        "CH",
+        "--db",
+        "desk.db",
+    ];
+    let path = String::from_str(rt.alloc(), "desk.db")?;
+    assert_job(&rt, &words, job_of(Task::Check(path), None))
+}
+
+/// Wrong words on the file, and what is told of them.
+const TOLD_OF_FILES: [(&[&str], &str); 9] = [
+    (
+        &["transit-desk", "pipe", "--country", "CH", "--new"],
+        "error: the following required arguments were not provided: --db <FILE>\n",
+    ),
+    (
+        &[
+            "transit-desk",
+            "pipe",
+            "--country",
+            "CH",
+            "--db",
+            "a",
+            "--db",
+            "a",
+        ],
+        "error: the argument '--db <FILE>' cannot be used multiple times\n",
+    ),
+    (
+        &[
+            "transit-desk",
+            "pipe",
+            "--country",
+            "CH",
+            "--db",
+            "a",
+            "--new",
+            "--new",
+        ],
+        "error: the argument '--new' cannot be used multiple times\n",
+    ),
+    (
+        &["transit-desk", "pipe", "--country", "CH", "--db"],
+        "error: a value is required for '--db <FILE>' but none was supplied\n",
+    ),
+    (
+        &[
+            "transit-desk",
+            "pipe",
+            "--country",
+            "CH",
+            "--db",
+            "F",
+            "--new",
+            "x",
+        ],
+        "error: unexpected argument 'x' found\n",
+    ),
+    (
+        &["transit-desk", "check", "--country", "CH"],
+        "error: the following required arguments were not provided: --db <FILE>\n",
+    ),
+    (
+        &[
+            "transit-desk",
+            "check",
+            "--country",
+            "CH",
+            "--db",
+            "F",
+            "--at",
+            "1",
+        ],
+        "error: unexpected argument '--at' found\n",
+    ),
+    (
+        &[
+            "transit-desk",
+            "check",
+            "--country",
+            "CH",
+            "--db",
+            "F",
+            "--new",
+        ],
+        "error: unexpected argument '--new' found\n",
+    ),
+    (
+        &[
+            "transit-desk",
+            "check",
+            "--country",
+            "CH",
+            "--db",
+            "F",
+            "--port",
+            "80",
+        ],
+        "error: unexpected argument '--port' found\n",
+    ),
+];
+
+#[test]
+fn what_was_wrong_on_a_file_is_told(rt: HostRuntime) -> Result<(), Fail> {
+    for (words, told) in TOLD_OF_FILES {
+        assert_same(&rt, &wrong_line(rt.alloc(), words)?, told);
     }
     Ok(())
 }

@@ -1,12 +1,12 @@
 //! The command line: which job its words ask for, and what is told where they ask for none.
-ghost use Rattle.std.specs.Prelude.{◌≡◌, ◌≤◌, codes, false, map, pos, string_bytes, IfOk, IfSome, Some};
+ghost use Rattle.std.specs.Prelude.{◌≡◌, ◌≤◌, codes, map, pos, string_bytes, IfOk, IfSome, Some};
 ghost use Rattle.std.specs.Str.Parse.{signed_digits_value};
-ghost use Rattle.clap.specs.Words.{app_of, first_value, found_of, new_app, rule_of};
-ghost use Rattle.clap.specs.declared.Command.TheViews.{out-Command};
-ghost use Rattle.td_words.specs.Words.{AsksFor, bare_app, number_in, option_rule, pipe_app, program_app, serve_app, with_office};
+ghost use Rattle.clap.specs.Words.{first_value, found_of};
+ghost use Rattle.td_words.specs.Words.{AreRecordsBy, AsksFor, number_in};
 
+use crate::options::{AT, CONNECTIONS, COUNTRY, DB, NEW, PORT, program};
+use clap::ArgMatches;
 use clap::error::ErrorKind;
-use clap::{Arg, ArgAction, ArgMatches, Command};
 use std::alloc::{AllocError, Global};
 use td_base::Country;
 
@@ -19,23 +19,37 @@ pub struct Listening {
     pub connections: u32,
 }
 
+/// Where the records of a desk stand.
+#[derive(Debug, PartialEq, Eq, Drop)]
+pub enum Records {
+    /// In memory: the desk starts empty, and is gone when the job ends.
+    Memory,
+    /// In the file at this path, which has a desk's tables.
+    File(String),
+    /// In the file at this path, in which the tables are made first.
+    NewFile(String),
+}
+
 /// What is done with a desk.
-#[derive(Clone, Copy, Debug, PartialEq, Eq)]
+#[derive(Debug, PartialEq, Eq, Drop)]
 pub enum Task {
     /// Connections are served.
-    Serve(Listening),
+    Serve(Listening, Records),
     /// One stream of requests is served, from standard input to standard output.
-    Pipe,
+    Pipe(Records),
+    /// The file at this path is tested: whether a desk of the country can be opened over it.
+    Check(String),
 }
 
 /// What the words ask for.
-#[derive(Clone, Copy, Debug, PartialEq, Eq)]
+#[derive(Debug, PartialEq, Eq, Drop)]
 pub struct Job {
     /// What is done with the desk.
     pub task: Task,
     /// The country of the office.
     pub country: Country,
     /// The moment of all requests, in seconds since 1970; with none, the machine's clock is asked for each.
+    /// A test of a file has none.
     pub at: Option<i64>,
 }
 
@@ -55,44 +69,6 @@ impl From<AllocError> for NoJob {
         NoJob::NoMemory
     }
 }
-
-const COUNTRY: &str = "country";
-
-const AT: &str = "at";
-
-const PORT: &str = "port";
-
-const CONNECTIONS: &str = "connections";
-
-const SERVE: &str = "serve";
-
-const PIPE: &str = "pipe";
-
-/// What `--version` tells.
-const VERSION: &str = "0.1";
-
-/// How the jobs are asked for, each alone and both.
-const SERVE_USAGE: &str =
-    "transit-desk serve --country <CC> --port <N> --connections <K> [--at <SECONDS>]";
-
-const PIPE_USAGE: &str = "transit-desk pipe --country <CC> [--at <SECONDS>]";
-
-const USAGE: &str = "transit-desk serve --country <CC> --port <N> --connections <K> [--at <SECONDS>]
-       transit-desk pipe --country <CC> [--at <SECONDS>]";
-
-/// What help says behind the options.
-const NOTES: &str =
-    "The desk starts empty, and it is gone when the program ends. Its moments are from
-2000 to 2099: a request at any other is told clock-range.
-
-Examples:
-  transit-desk pipe --country CH --at 1740819600 < examples/first.http
-  transit-desk serve --country CH --port 8080 --connections 1000
-
-Status:
-  0  Done: the stream ended well, or all connections were served
-  1  A fault, which one line on standard error tells, as: transit-desk: stream cut
-  2  Wrong words: one line on standard error tells what was wrong";
 
 /// An option whose value is a number.
 #[derive(Clone, Copy)]
@@ -124,104 +100,6 @@ const MAX_PORT: u32 = 65_535;
 /// The most connections that are served.
 const MAX_CONNECTIONS: u32 = 1_000_000;
 
-fn option<'a>(alloc: Global, name: &'a str, value: &'a str, help: &'a str) -> Arg<'a>
-    ensures rule { rule_of result ≡ option_rule name.entry.now }
-    ensures local { result.global ≡ false }
-{
-    Arg::new(alloc, name)
-        .long(name)
-        .value_name(value)
-        .help(help)
-        .action(ArgAction::Set)
-}
-
-// A job of that name, with the options that every job has.
-fn job_command<'a>(
-    alloc: Global,
-    name: &'a str,
-    about: &'a str,
-    usage: &'a str,
-) -> Result<Command<'a>, AllocError>
-    ensures { IfOk result (λ c. (app_of c ≡ with_office (new_app name.now)) × ((out-Command c).has_globals ≡ false)) }
-{
-    Command::new(alloc, name)
-        .about(about)
-        .override_usage(usage)
-        .after_help(NOTES)
-        .arg(option(
-            alloc,
-            COUNTRY,
-            "CC",
-            "The country of the office, two capital letters",
-        )
-        .required(true))?
-        .arg(option(
-            alloc,
-            AT,
-            "SECONDS",
-            "The moment of all requests, in seconds since 1970; else the clock is asked",
-        ))
-}
-
-fn serve_command<'a>(alloc: Global) -> Result<Command<'a>, AllocError>
-    ensures { IfOk result (λ c. (app_of c ≡ serve_app) × ((out-Command c).has_globals ≡ false)) }
-{
-    job_command(
-        alloc,
-        SERVE,
-        "Serves connections to a port of this machine, one after another",
-        SERVE_USAGE,
-    )?
-    .arg(option(
-        alloc,
-        PORT,
-        "N",
-        "The port of 127.0.0.1 that is listened on, from 1 to 65535",
-    )
-    .required(true))?
-    .arg(option(
-        alloc,
-        CONNECTIONS,
-        "K",
-        "How many connections are served, from 1 to 1000000",
-    )
-    .required(true))
-}
-
-fn pipe_command<'a>(alloc: Global) -> Result<Command<'a>, AllocError>
-    ensures { IfOk result (λ c. (app_of c ≡ pipe_app) × ((out-Command c).has_globals ≡ false)) }
-{
-    job_command(
-        alloc,
-        PIPE,
-        "Serves one stream of HTTP requests, from standard input to standard output",
-        PIPE_USAGE,
-    )
-}
-
-// The program before its jobs are added.
-fn bare_program<'a>(alloc: Global) -> Result<Command<'a>, AllocError>
-    ensures { IfOk result (λ c. app_of c ≡ bare_app) }
-{
-    Ok(
-        Command::new(alloc, "transit-desk")
-            .bin_name("transit-desk")?
-            .about("The desk of a national transit office under the Common Transit Convention")
-            .override_usage(USAGE)
-            .after_help(NOTES)
-            .version(VERSION)
-            .subcommand_required(true),
-    )
-}
-
-fn program<'a>(alloc: Global) -> Result<Command<'a>, AllocError>
-    ensures { IfOk result (λ c. app_of c ≡ program_app) }
-{
-    bare_program(alloc)?
-        .subcommand(serve_command(alloc)?)?
-        .subcommand(pipe_command(alloc)?)
-}
-
 /// The job that the words ask for; the first of them is the program's name. An error is what is told instead:
 /// the text that they ask for by `--help` or `--version`, or one line on wrong words; or there was no memory.
 pub fn read_words(alloc: Global, words: &[String]) -> Result<Job, NoJob>
@@ -231,10 +109,19 @@ pub fn read_words(alloc: Global, words: &[String]) -> Result<Job, NoJob>
         Ok(matches) => match matches.subcommand() {
             Some(("serve", matches)) => job_of(
                 alloc,
-                Task::Serve(listening_in(alloc, matches)?),
+                Task::Serve(listening_in(alloc, matches)?, records_in(alloc, matches)?),
                 matches,
             ),
-            Some(("pipe", matches)) => job_of(alloc, Task::Pipe, matches),
+            Some(("pipe", matches)) => job_of(
+                alloc,
+                Task::Pipe(records_in(alloc, matches)?),
+                matches,
+            ),
+            Some(("check", matches)) => job_of(
+                alloc,
+                Task::Check(file_in(alloc, matches)?),
+                matches,
+            ),
             _ => Err(NoJob::NoMemory),
         },
         Err(error) => Err(no_job(alloc, &error, words)?),
@@ -320,6 +207,29 @@ fn job_of(alloc: Global, task: Task, matches: &ArgMatches<'_>) -> Result<Job, No
         country: country_in(alloc, matches)?,
         at: seconds_in(alloc, matches)?,
     })
+}
+
+// Where the records stand. `clap` refuses `--new` without `--db`, and has "false" for a `--new` that isn't there.
+fn records_in(alloc: Global, matches: &ArgMatches<'_>) -> Result<Records, NoJob>
+    ensures { IfOk result (λ records. AreRecordsBy records
+        (first_value (found_of matches.now) (codes "db")) (first_value (found_of matches.now) (codes "new"))) }
+{
+    match (matches.get_str(DB), matches.get_str(NEW)) {
+        (None, Some("false")) => Ok(Records::Memory),
+        (Some(path), Some("false")) => Ok(Records::File(String::from_str(alloc, path)?)),
+        (Some(path), Some("true")) => Ok(Records::NewFile(String::from_str(alloc, path)?)),
+        _ => Err(NoJob::NoMemory),
+    }
+}
+
+// The file that is to be tested.
+fn file_in(alloc: Global, matches: &ArgMatches<'_>) -> Result<String, NoJob>
+    ensures { IfOk result (λ path. first_value (found_of matches.now) (codes "db") ≡ Some (string_bytes path)) }
+{
+    match matches.get_str(DB) {
+        Some(path) => Ok(String::from_str(alloc, path)?),
+        None => Err(NoJob::NoMemory),
+    }
 }
 
 // Where the desk is to be served.

@@ -17,7 +17,7 @@ const ANSWERED: [(&[&str], Due<'static>); 5] = [
         Due {
             status: 2,
             out: b"",
-            errors: b"error: 'transit-desk' requires a subcommand but one was not provided [subcommands: serve, pipe, help]\n",
+            errors: b"error: 'transit-desk' requires a subcommand but one was not provided [subcommands: serve, pipe, check, help]\n",
         },
     ),
     (

@@ -1,0 +1,202 @@
+//! The commands and their options, and what help tells of them.
+ghost use Rattle.std.specs.Prelude.{◌≡◌, false, IfOk};
+ghost use Rattle.clap.specs.Words.{app_of, new_app, rule_of};
+ghost use Rattle.clap.specs.declared.Command.TheViews.{out-Command};
+ghost use Rattle.td_words.specs.Words.{bare_app, check_app, new_file_rule, option_rule, pipe_app, program_app, serve_app, with_country, with_office};
+
+use clap::{Arg, ArgAction, Command};
+use std::alloc::{AllocError, Global};
+
+pub(crate) const COUNTRY: &str = "country";
+
+pub(crate) const AT: &str = "at";
+
+pub(crate) const PORT: &str = "port";
+
+pub(crate) const CONNECTIONS: &str = "connections";
+
+pub(crate) const DB: &str = "db";
+
+pub(crate) const NEW: &str = "new";
+
+const SERVE: &str = "serve";
+
+const PIPE: &str = "pipe";
+
+const CHECK: &str = "check";
+
+/// What `--version` tells.
+const VERSION: &str = "0.1";
+
+/// How the jobs are asked for, each alone and all.
+const SERVE_USAGE: &str =
+    "transit-desk serve --country <CC> --port <N> --connections <K> [--db <FILE> [--new]] [--at <SECONDS>]";
+
+const PIPE_USAGE: &str = "transit-desk pipe --country <CC> [--db <FILE> [--new]] [--at <SECONDS>]";
+
+const CHECK_USAGE: &str = "transit-desk check --country <CC> --db <FILE>";
+
+const USAGE: &str =
+    "transit-desk serve --country <CC> --port <N> --connections <K> [--db <FILE> [--new]] [--at <SECONDS>]
+       transit-desk pipe --country <CC> [--db <FILE> [--new]] [--at <SECONDS>]
+       transit-desk check --country <CC> --db <FILE>";
+
+/// What help says behind the options.
+const NOTES: &str =
+    "Without --db the desk starts empty, and it is gone when the program ends. With --db its
+records stand in that file, an SQLite database; --new makes the desk's tables in it first.
+Moments are from 2000 to 2099: a request at any other is told clock-range.
+
+Examples:
+  transit-desk pipe --country CH --at 1740819600 < examples/first.http
+  transit-desk serve --country CH --port 8080 --connections 1000
+  transit-desk serve --country CH --port 8080 --connections 1000 --db desk.db --new
+  transit-desk check --country CH --db desk.db
+
+Status:
+  0  Done: the stream ended well, all connections were served, or the file is a desk's
+  1  A fault, which one line on standard error tells, as: transit-desk: stream cut
+  2  Wrong words: one line on standard error tells what was wrong";
+
+fn option<'a>(alloc: Global, name: &'a str, value: &'a str, help: &'a str) -> Arg<'a>
+    ensures rule { rule_of result ≡ option_rule name.entry.now }
+    ensures local { result.global ≡ false }
+{
+    Arg::new(alloc, name)
+        .long(name)
+        .value_name(value)
+        .help(help)
+        .action(ArgAction::Set)
+}
+
+// The flag that has the tables made first.
+fn new_option<'a>(alloc: Global) -> Result<Arg<'a>, AllocError>
+    ensures rule { IfOk result (λ r. rule_of r ≡ new_file_rule) }
+    ensures local { IfOk result (λ r. r.global ≡ false) }
+{
+    Arg::new(alloc, NEW)
+        .long(NEW)
+        .help("Makes the desk's tables in the file first")
+        .action(ArgAction::SetTrue)
+        .requires_arg(DB)
+}
+
+// A command of that name, with the option that every command has.
+fn country_command<'a>(
+    alloc: Global,
+    name: &'a str,
+    about: &'a str,
+    usage: &'a str,
+) -> Result<Command<'a>, AllocError>
+    ensures { IfOk result (λ c. (app_of c ≡ with_country (new_app name.now)) × ((out-Command c).has_globals ≡ false)) }
+{
+    Command::new(alloc, name)
+        .about(about)
+        .override_usage(usage)
+        .after_help(NOTES)
+        .arg(option(
+            alloc,
+            COUNTRY,
+            "CC",
+            "The country of the office, two capital letters",
+        )
+        .required(true))
+}
+
+// A command of that name that serves requests, with the options that each of those has.
+fn job_command<'a>(
+    alloc: Global,
+    name: &'a str,
+    about: &'a str,
+    usage: &'a str,
+) -> Result<Command<'a>, AllocError>
+    ensures { IfOk result (λ c. (app_of c ≡ with_office (new_app name.now)) × ((out-Command c).has_globals ≡ false)) }
+{
+    country_command(alloc, name, about, usage)?
+        .arg(option(
+            alloc,
+            DB,
+            "FILE",
+            "The file with the records, an SQLite database; else they are in memory",
+        ))?
+        .arg(new_option(alloc)?)?
+        .arg(option(
+            alloc,
+            AT,
+            "SECONDS",
+            "The moment of all requests, in seconds since 1970; else the clock is asked",
+        ))
+}
+
+fn serve_command<'a>(alloc: Global) -> Result<Command<'a>, AllocError>
+    ensures { IfOk result (λ c. (app_of c ≡ serve_app) × ((out-Command c).has_globals ≡ false)) }
+{
+    job_command(
+        alloc,
+        SERVE,
+        "Serves connections to a port of this machine, one after another",
+        SERVE_USAGE,
+    )?
+    .arg(option(
+        alloc,
+        PORT,
+        "N",
+        "The port of 127.0.0.1 that is listened on, from 1 to 65535",
+    )
+    .required(true))?
+    .arg(option(
+        alloc,
+        CONNECTIONS,
+        "K",
+        "How many connections are served, from 1 to 1000000",
+    )
+    .required(true))
+}
+
+fn pipe_command<'a>(alloc: Global) -> Result<Command<'a>, AllocError>
+    ensures { IfOk result (λ c. (app_of c ≡ pipe_app) × ((out-Command c).has_globals ≡ false)) }
+{
+    job_command(
+        alloc,
+        PIPE,
+        "Serves one stream of HTTP requests, from standard input to standard output",
+        PIPE_USAGE,
+    )
+}
+
+fn check_command<'a>(alloc: Global) -> Result<Command<'a>, AllocError>
+    ensures { IfOk result (λ c. (app_of c ≡ check_app) × ((out-Command c).has_globals ≡ false)) }
+{
+    country_command(
+        alloc,
+        CHECK,
+        "Tests whether a desk of the country can be opened over a file",
+        CHECK_USAGE,
+    )?
+    .arg(option(alloc, DB, "FILE", "The file that is tested").required(true))
+}
+
+// The program before its jobs are added.
+fn bare_program<'a>(alloc: Global) -> Result<Command<'a>, AllocError>
+    ensures { IfOk result (λ c. app_of c ≡ bare_app) }
+{
+    Ok(
+        Command::new(alloc, "transit-desk")
+            .bin_name("transit-desk")?
+            .about("The desk of a national transit office under the Common Transit Convention")
+            .override_usage(USAGE)
+            .after_help(NOTES)
+            .version(VERSION)
+            .subcommand_required(true),
+    )
+}
+
+/// The program with its commands, as `clap` reads the words.
+pub(crate) fn program<'a>(alloc: Global) -> Result<Command<'a>, AllocError>
+    ensures { IfOk result (λ c. app_of c ≡ program_app) }
+{
+    bare_program(alloc)?
+        .subcommand(serve_command(alloc)?)?
+        .subcommand(pipe_command(alloc)?)?
+        .subcommand(check_command(alloc)?)
+}
