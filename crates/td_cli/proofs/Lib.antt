@@ -1,4 +1,4 @@
-mod Moments
+mod Clocks
+mod Streams
+mod Desks
 mod Pipes
-mod Connected
-mod ServingMoments

@@ -1,24 +1,71 @@
--- A stream at a new desk.
-use Rattle.std.proofs.Common.{◌≡◌, ℕ, List, sym, refl, subst}
-use Rattle.td_acts.specs.Account.{empty_account}
-use Rattle.td_acts.specs.Book.{fresh_book}
-use Rattle.td_desk.specs.declared.plain.PlainDesk.{PlainDesk}
-use Rattle.td_desk.specs.Content.{Content, empty_content}
-use Rattle.td_desk.specs.Sound.{IsSound}
-use Rattle.td_desk.specs.Plain.{rows_in}
-use Rattle.td_desk.specs.Runs.{IsTied}
+-- Streams at desks.
+use Rattle.std.proofs.Common.{◌≡◌, ℕ, ℤ, List, Option, refl, subst, sym}
+use Rattle.counted_io.specs.declared.counted.Counted.{Counted}
+use Rattle.td_wire.specs.declared.stream.StreamEnd.{StreamEnd}
+use Rattle.td_wire.specs.Stream.{Serves}
 use Rattle.td_http.specs.declared.service.Service.{Service}
-use Rattle.td_http.specs.Served.{desk_of, IsPrivate}
-use Rattle.td_http.specs.Serving.{IsServed}
-use Rattle.td_wire.specs.Stream.{Exchange}
+use Rattle.td_http.specs.Served.{desk_of, IsHandledBy, IsHeadHandledBy, IsPrivate}
+use Rattle.td_http.proofs.Streamed.{stream_clean}
+use Rattle.td_cli.specs.Desks.{Sight, IsReady, IsHandledAt, IsHeadHandledAt, fresh_books}
+use Rattle.td_cli.specs.Piped.{IsPiped}
+use Rattle.td_cli.proofs.Clocks.{Shows, shows_itself}
+use Rattle.td_cli.proofs.Desks.{fresh_tied, handled_seen, head_seen, head_served, sight_by}
+use Rattle.td_cli.proofs.Streams.{serves_seen}
 
--- from an empty desk, each holder's machine starts at an empty book
-pub private_from_empty : (country : List ℕ) (opened left : Service PlainDesk) (es : List Exchange) → rows_in (desk_of opened) ≡ empty_content country
-    → IsSound (rows_in (desk_of opened)) → IsPrivate rows_in (λ d. Unit {0}) (λ d. Unit {0}) opened left es
-    → IsServed country (λ H. fresh_book (empty_account country)) 0 es (rows_in (desk_of left))
-private_from_empty country opened left es empty sound private =
-    let books = λ (H : ℕ). fresh_book (empty_account country) in
-    let tied = subst (λ (rows : Content). IsTied rows books) (sym empty) (record { each = λ H. refl; grown = λ H. tt }) in
-    let served = private tt tt sound books tied in
-    let at_country = subst (λ (rows : Content). IsServed rows.country books 0 es served.0) empty served.1 in
-    subst (λ (rows : Content). IsServed country books 0 es rows) (sym (served.2 tt)) at_country
+-- a stream that was served at a service of a desk
+pub piped_at : {D R W C : Type 0} (sight : Sight D) (remaining : R → Option (List ℕ)) (contents : W → Option (List ℕ)) (ticks : C → ℤ → C → Type 0)
+    (reader reader_left : Counted R) (writer writer_left : Counted W) (clock clock_left : C) (old new : Service D) (end : StreamEnd)
+    → (served : Serves remaining contents ticks (IsHandledBy sight.content sight.is_clean sight.is_live sight.has_store) IsHeadHandledBy
+    (record { reader = reader; writer = writer; clock = clock; handler = old }) (record { reader = reader_left; writer = writer_left; clock = clock_left; handler = new }) end)
+    → IsPrivate sight.content sight.is_clean sight.is_live old new served.run.exchanges → IsReady sight (desk_of old)
+    → IsPiped sight (λ d. d ≡ desk_of old) (λ d. d ≡ desk_of new) remaining contents ticks reader reader_left writer writer_left clock end
+unfolding serves_seen
+piped_at sight remaining contents ticks reader reader_left writer writer_left clock clock_left old new end served private ready =
+    let content = sight.content (desk_of old) in
+    record {
+      opened = desk_of old;
+      left = desk_of new;
+      clock_left = clock_left;
+      begun = refl;
+      ended = refl;
+      served = serves_seen ticks ticks (λ c. c) (IsHandledBy sight.content sight.is_clean sight.is_live sight.has_store) (IsHandledAt sight) IsHeadHandledBy IsHeadHandledAt desk_of
+          (handled_seen desk_of (λ d. d) sight) head_served remaining reader reader_left writer writer_left clock clock_left old new contents (shows_itself ticks clock) end served;
+      private = λ clean.
+          let was = stream_clean ticks sight.content sight.is_clean sight.is_live sight.has_store clock clock_left old served.run.handler new
+          served.run.exchanges served.run.rest served.run.parting served.chain served.parting clean in
+          let is = ready was in
+          private clean is.0 is.1 (fresh_books content) (fresh_tied content);
+    }
+
+-- what is seen of a stream at a desk
+pub piped_seen : {D D' R W C C' : Type 0} (sight : Sight D') (see : D → D') (begins ends : D → Type 0) (begins' ends' : D' → Type 0)
+    (remaining : R → Option (List ℕ)) (contents : W → Option (List ℕ)) (ticks : C → ℤ → C → Type 0) (moments : C' → ℤ → C' → Type 0) (look : C → C')
+    (reader reader_left : Counted R) (writer writer_left : Counted W) (clock : C) (end : StreamEnd)
+    → ((d : D) → begins d → begins' (see d)) → ((d : D) → ends d → ends' (see d)) → Shows ticks moments look clock
+    → IsPiped (sight_by see sight) begins ends remaining contents ticks reader reader_left writer writer_left clock end
+    → IsPiped sight begins' ends' remaining contents moments reader reader_left writer writer_left (look clock) end
+unfolding serves_seen
+piped_seen sight see begins ends begins' ends' remaining contents ticks moments look reader reader_left writer writer_left clock end begin close shows piped =
+    record {
+      opened = see piped.opened;
+      left = see piped.left;
+      clock_left = look piped.clock_left;
+      begun = begin piped.opened piped.begun;
+      ended = close piped.left piped.ended;
+      served = serves_seen ticks moments look (IsHandledAt (sight_by see sight)) (IsHandledAt sight) IsHeadHandledAt IsHeadHandledAt see
+          (handled_seen (λ d. d) see sight) (head_seen see) remaining reader reader_left writer writer_left clock piped.clock_left piped.opened piped.left contents shows end piped.served;
+      private = piped.private;
+    }
+
+-- the same from a desk that was handed in to the one that is handed back
+pub piped_from : {D R W C : Type 0} (sight : Sight D) (remaining : R → Option (List ℕ)) (contents : W → Option (List ℕ)) (ticks : C → ℤ → C → Type 0)
+    (reader reader_left : Counted R) (writer writer_left : Counted W) (clock clock_left : C) (old new : Service D) (end : StreamEnd)
+    → (served : Serves remaining contents ticks (IsHandledBy sight.content sight.is_clean sight.is_live sight.has_store) IsHeadHandledBy
+    (record { reader = reader; writer = writer; clock = clock; handler = old }) (record { reader = reader_left; writer = writer_left; clock = clock_left; handler = new }) end)
+    → IsPrivate sight.content sight.is_clean sight.is_live old new served.run.exchanges
+    → (opened left : D) → desk_of old ≡ opened → left ≡ desk_of new → IsReady sight opened
+    → IsPiped sight (λ d. d ≡ opened) (λ d. d ≡ left) remaining contents ticks reader reader_left writer writer_left clock end
+piped_from sight remaining contents ticks reader reader_left writer writer_left clock clock_left old new end served private opened left is was ready =
+    subst (λ l. IsPiped sight (λ d. d ≡ opened) (λ d. d ≡ l) remaining contents ticks reader reader_left writer writer_left clock end) (sym was)
+    (subst (λ o. IsReady sight o → IsPiped sight (λ d. d ≡ o) (λ d. d ≡ desk_of new) remaining contents ticks reader reader_left writer writer_left clock end) is
+    (piped_at sight remaining contents ticks reader reader_left writer writer_left clock clock_left old new end served private) ready)

@@ -1,5 +1,6 @@
 //! What is told beside the replies, and the statuses.
 ghost use Rattle.std.specs.Prelude.{◌≡◌, IfOk, string_bytes};
+ghost use Rattle.td_files.specs.declared.desks.DeskFault.TheVariants as desk_fault;
 ghost use Rattle.td_cli.specs.Performed.{IsUnread};
 ghost use Rattle.td_cli.specs.Statuses.{message_of_end, message_of_fault, message_of_serving, status_of_end, status_of_serving, IsEndTold, IsFaultTold, IsPrinted, IsServingTold, IsTold};
 
@@ -10,6 +11,7 @@ use std::io::{ErrorKind, Write};
 use td_base::{Counted, write_whole};
 use td_files::DeskFault;
 use td_http::StreamEnd;
+use td_store::OpenFault;
 
 /// The status of a job that is done.
 const DONE: u8 = 0;
@@ -65,7 +67,23 @@ fn desk_fault_line(alloc: Global, why: DeskFault) -> Result<String, AllocError>
 {
     match why {
         DeskFault::File => String::from_str(alloc, "transit-desk: file\n"),
-        DeskFault::Refused(fault) => format!(in alloc; "transit-desk: {fault}\n"),
+        DeskFault::Refused(fault) => refused_line(alloc, fault),
+    }
+}
+
+// What is told where the database of a file was refused.
+fn refused_line(alloc: Global, fault: OpenFault) -> Result<String, AllocError>
+    ensures { IfOk result (λ line. string_bytes line ≡ message_of_fault (desk_fault.Refused fault)) }
+{
+    match fault {
+        OpenFault::UnknownVersion => String::from_str(alloc, "transit-desk: unknown-version\n"),
+        OpenFault::NeedsMigration(version) => {
+            format!(in alloc; "transit-desk: needs-migration {version}\n")
+        }
+        OpenFault::OtherCountry => String::from_str(alloc, "transit-desk: other-country\n"),
+        OpenFault::Damaged(rule) => format!(in alloc; "transit-desk: damaged {rule}\n"),
+        OpenFault::Store => String::from_str(alloc, "transit-desk: store\n"),
+        OpenFault::NoMemory => String::from_str(alloc, NO_MEMORY),
     }
 }
 

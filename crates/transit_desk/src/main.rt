@@ -1,14 +1,19 @@
 //! The desk's program: `td_cli` on the machine's own input and outputs.
 #![tactic(auto)]
 
+use sqlite::Unknown;
 use std::process::ExitCode;
 use td_base::Counted;
 use td_cli::{run_program, words_of};
+use td_files::DeskFile;
 
 fn main(rt: HostRuntime) -> ExitCode {
     let mut input = Counted::new(rt.stdin());
     let mut out = Counted::new(rt.stdout());
     let mut errors = Counted::new(rt.stderr());
-    let status = run_program(&rt, words_of(&rt), &mut input, &mut out, &mut errors);
+    let mut file = DeskFile::new(Unknown);
+    let words = words_of(&rt);
+    let status = run_program(&rt, words, &mut file, &mut input, &mut out, &mut errors);
+    file.close();
     ExitCode::from(status)
 }

@@ -1,4 +1,4 @@
-use Rattle.td_cli.proofs.jobs.status_of_serving.Goals as goal
+use Rattle.td_cli.proofs.telling.status_of_served.Goals as goal
 
 pub returns-in-NoMemory-clause-message : goal.returns-in-NoMemory-clause-message
 returns-in-NoMemory-clause-message g c = rw c.in-NoMemory.is c.fault.ensures.message

@@ -1,4 +1,4 @@
-use Rattle.td_cli.proofs.jobs.status_of_stream.Goals as goal
+use Rattle.td_cli.proofs.telling.status_of_stream.Goals as goal
 
 pub returns-in-Refused-clause-message : goal.returns-in-Refused-clause-message
 returns-in-Refused-clause-message g c = rw c.in-Refused.is c.fault.ensures.message

@@ -1,0 +1,136 @@
+-- What is said of a stream at a clock and a handler, said of what is seen of these two.
+use Rattle.std.proofs.Common.{◌≡◌, ℕ, ◌+◌, ℤ, List, [], ◌∷◌, Option, ap, sym, subst, inl, inr}
+use Rattle.counted_io.specs.declared.counted.Counted.{Counted}
+use Rattle.td_wire.specs.declared.reply.Reply.{Reply}
+use Rattle.td_wire.specs.declared.stream.StreamEnd.{StreamEnd}
+use Rattle.td_wire.specs.declared.stream.StreamEnd.TheVariants.{Closed, Asked, Served, Refused, Cut, ReadsSpent, ReadFault, WriteFault, Failed}
+use Rattle.td_wire.specs.Request as request
+use Rattle.td_wire.specs.Stream.{Exchange, Chain, Run, EndsAs, Serves, Sides, IsParting, Parting, silence, refusal, to_head, no_memory, MetEnd, LeftOpen, AskedAtReply, FailedAtReply, CutAtReply, CutAtParting}
+use Rattle.td_cli.proofs.Clocks.{Shows}
+
+module _ {C C' H H' : Type 0} (ticks : C → ℤ → C → Type 0) (moments : C' → ℤ → C' → Type 0) (look : C → C')
+    (handles : H → ℤ → request.Asked → Reply → H → Type 0) (handles' : H' → ℤ → request.Asked → Reply → H' → Type 0)
+    (heads : H → List ℕ → Reply → H → Type 0) (heads' : H' → List ℕ → Reply → H' → Type 0) (see : H → H')
+    (carries : (old : H) (at : ℤ) (asked : request.Asked) (reply : Reply) (new : H) → handles old at asked reply new → handles' (see old) at asked reply (see new))
+    (carries_head : (old : H) (target : List ℕ) (reply : Reply) (new : H) → heads old target reply new → heads' (see old) target reply (see new)) where
+  abbrev seen : C × H → C' × H'
+  seen pair = (look pair.0, see pair.1)
+
+  pub chain_seen : (keeps : C → Type 0) → ((old : C) (at : ℤ) (new : C) → keeps old → ticks old at new → moments (look old) at (look new) × keeps new)
+      → (before : ℕ) (old new : C × H) (es : List Exchange) → keeps old.0 → Chain ticks handles before old es new
+      → Chain moments handles' before (look old.0, see old.1) es (look new.0, see new.1)
+  chain_seen keeps each before old new [] kept chain = ap seen chain
+  chain_seen keeps each before old new (e ∷ es) kept chain =
+      let tick = each old.0 e.at chain.0 kept chain.2 in (
+        look chain.0,
+        see chain.1,
+        tick.0,
+        carries old.1 e.at _ e.reply chain.1 chain.3,
+        chain_seen keeps each (before + 1) (chain.0, chain.1) new es tick.1 chain.4,
+      )
+
+  -- what the clock keeps, it keeps to the end
+  pub chain_keeps : (keeps : C → Type 0) → ((old : C) (at : ℤ) (new : C) → keeps old → ticks old at new → moments (look old) at (look new) × keeps new)
+      → (before : ℕ) (old new : C × H) (es : List Exchange) → keeps old.0 → Chain ticks handles before old es new → keeps new.0
+  chain_keeps keeps each before old new [] kept chain = subst keeps (sym (ap (λ p. p.0) chain)) kept
+  chain_keeps keeps each before old new (e ∷ es) kept chain =
+      let tick = each old.0 e.at chain.0 kept chain.2 in
+      chain_keeps keeps each (before + 1) (chain.0, chain.1) new es tick.1 chain.4
+
+  pub parting_seen : (old new : H) (rest : List ℕ) (parting : Parting) → IsParting heads old new rest parting → IsParting heads' (see old) (see new) rest parting
+  parting_seen old new rest silence is = ap see is
+  parting_seen old new rest (refusal e) is = (ap see is.0, is.1)
+  parting_seen old new rest (to_head target reply) is = (carries_head old target reply new is.0, is.1)
+  parting_seen old new rest no_memory is = (ap see is.0, is.1)
+
+  abbrev pub run_seen : Run H → Run H'
+  run_seen run =
+      record {
+        given = run.given;
+        exchanges = run.exchanges;
+        rest = run.rest;
+        handler = see run.handler;
+        parting = run.parting;
+        written = run.written;
+        reads = run.reads;
+        pieces = run.pieces;
+      }
+
+  met_seen : (left : Option (List ℕ)) (run : Run H) → MetEnd left run → MetEnd left (run_seen run)
+  met_seen left run met = record { on = met.on; silent = met.silent; end = met.end; read = met.read }
+
+  open_seen : (run : Run H) → LeftOpen run → LeftOpen (run_seen run)
+  open_seen run left = record { on = left.on; silent = left.silent; still = left.still }
+
+  asked_seen : (run : Run H) → AskedAtReply run → AskedAtReply (run_seen run)
+  asked_seen run asked =
+      record { last = asked.last; ended = asked.ended; silent = asked.silent; made = asked.made; asks = asked.asks; left = asked.left }
+
+  failed_seen : (run : Run H) → FailedAtReply run → FailedAtReply (run_seen run)
+  failed_seen run failed = record { last = failed.last; ended = failed.ended; silent = failed.silent; fixed = failed.fixed; left = failed.left }
+
+  cut_seen : (run : Run H) → CutAtReply run → CutAtReply (run_seen run)
+  cut_seen run cut =
+      record {
+        before = cut.before;
+        first = cut.first;
+        after = cut.after;
+        are = cut.are;
+        breaks = cut.breaks;
+        left = cut.left;
+        last = cut.last;
+        ended = cut.ended;
+        silent = cut.silent;
+      }
+
+  module _ {R W : Type 0} (remaining : R → Option (List ℕ)) (reader reader_left : Counted R) (writer writer_left : Counted W)
+      (clock clock_left : C) (handler handler_left : H) where
+    abbrev pub at_first : Sides R W C H
+    at_first = record { reader = reader; writer = writer; clock = clock; handler = handler }
+
+    abbrev pub at_last : Sides R W C H
+    at_last = record { reader = reader_left; writer = writer_left; clock = clock_left; handler = handler_left }
+
+    abbrev pub seen_first : Sides R W C' H'
+    seen_first = record { reader = reader; writer = writer; clock = look clock; handler = see handler }
+
+    abbrev pub seen_last : Sides R W C' H'
+    seen_last = record { reader = reader_left; writer = writer_left; clock = look clock_left; handler = see handler_left }
+
+    -- no way to end speaks of the clock or the handler
+    pub ends_seen : (run : Run H) (end : StreamEnd) → EndsAs remaining at_first at_last run end → EndsAs remaining seen_first seen_last (run_seen run) end
+    ends_seen run Closed is = (met_seen _ run is.0, is.1)
+    ends_seen run Cut is = (met_seen _ run is.0, open_seen run is.1, is.2)
+    ends_seen run ReadsSpent is = (open_seen run is.0, is.1)
+    ends_seen run ReadFault is = (open_seen run is.0, is.1, is.2)
+    ends_seen run Asked is = asked_seen run is
+    ends_seen run Served is = is
+    ends_seen run Refused is = is
+    ends_seen run Failed (inl is) = inl (failed_seen run is)
+    ends_seen run Failed (inr is) = inr is
+    ends_seen run WriteFault (failed, made, inl is) = (failed, made, inl (cut_seen run is))
+    ends_seen run WriteFault (failed, made, inr is) = (failed, made, inr (record { on = is.on; breaks = is.breaks }))
+
+    unfoldable pub serves_seen : (contents : W → Option (List ℕ)) → Shows ticks moments look clock → (end : StreamEnd)
+        → Serves remaining contents ticks handles heads at_first at_last end
+        → Serves remaining contents moments handles' heads' seen_first seen_last end
+    serves_seen contents shows end served =
+        record {
+          run = run_seen served.run;
+          consumed = served.consumed;
+          reading = served.reading;
+          at_most = served.at_most;
+          chain = chain_seen shows.keeps shows.each 0 (clock, handler) (clock_left, served.run.handler) served.run.exchanges shows.first served.chain;
+          parting = parting_seen served.run.handler handler_left served.run.rest served.run.parting served.parting;
+          appended = served.appended;
+          whole = served.whole;
+          counted = served.counted;
+          reads_at_most = served.reads_at_most;
+          given_is = served.given_is;
+          reads_are = served.reads_are;
+          read = served.read;
+          needed = served.needed;
+          wrote = served.wrote;
+          memory = served.memory;
+          ends = ends_seen served.run end served.ends;
+        }
