@@ -1,13 +1,16 @@
 -- What is said of a desk, said of what is seen of it.
-use Rattle.std.proofs.Common.{◌≡◌, ℕ, ℤ, List, ap, refl}
-use Rattle.td_desk.specs.Content.{Content, account_in}
+use Rattle.std.proofs.Common.{ℕ, ℤ, List, ap, sym}
+use Rattle.sqlite_wal.specs.Recovery.{Image}
+use Rattle.td_desk.specs.Content.{Content}
+use Rattle.td_files.specs.Found.{FileState}
 use Rattle.td_desk.specs.Runs.{IsTied}
+use Rattle.td_desk.proofs.Fresh.{account_fresh}
 use Rattle.td_wire.specs.declared.reply.Reply.{Reply}
 use Rattle.td_wire.specs.Request.{Asked}
 use Rattle.td_http.specs.Served.{desk_of, IsHeadHandledBy}
 use Rattle.td_http.specs.Serving.{IsHandled}
 use Rattle.td_http.specs.declared.service.Service.{Service}
-use Rattle.td_cli.specs.Desks.{Sight, IsHandledAt, IsHeadHandledAt, fresh_books}
+use Rattle.td_cli.specs.Desks.{Sight, over_file, BeginsKept, BeginsMade, IsHandledAt, IsHeadHandledAt, IsReady, fresh_books}
 
 -- the sight of a desk by what is seen of it
 abbrev pub sight_by : {D D' : Type 0} → (D → D') → Sight D' → Sight D
@@ -40,4 +43,11 @@ head_seen see old target reply new is = record { stays = ap see is.stays; told =
 
 -- a content is tied to fresh books
 pub fresh_tied : (c : Content) → IsTied c (fresh_books c)
-fresh_tied c = record { each = λ H. refl; grown = λ H. tt }
+fresh_tied c = record { each = λ H. sym (account_fresh H c); grown = λ H. tt }
+
+-- a desk over what a file held can serve, and so can one that was made in it
+pub made_ready : (image : Image) (country : List ℕ) (s : FileState) → BeginsMade image country s → IsReady over_file s
+made_ready image country s made = λ clean. let is = made clean in (is.live, is.sound)
+
+pub kept_ready : (image : Image) (country : List ℕ) (s : FileState) → BeginsKept image country s → IsReady over_file s
+kept_ready image country s kept = λ clean. let is = kept clean in (is.live, is.desk.content.sound)

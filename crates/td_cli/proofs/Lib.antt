@@ -2,3 +2,5 @@ mod Clocks
 mod Streams
 mod Desks
 mod Pipes
+mod Visits
+mod Agreeing

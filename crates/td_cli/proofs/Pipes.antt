@@ -69,3 +69,23 @@ piped_from sight remaining contents ticks reader reader_left writer writer_left 
     subst (λ l. IsPiped sight (λ d. d ≡ opened) (λ d. d ≡ l) remaining contents ticks reader reader_left writer writer_left clock end) (sym was)
     (subst (λ o. IsReady sight o → IsPiped sight (λ d. d ≡ o) (λ d. d ≡ desk_of new) remaining contents ticks reader reader_left writer writer_left clock end) is
     (piped_at sight remaining contents ticks reader reader_left writer writer_left clock clock_left old new end served private) ready)
+
+-- a stream at a clock is one at the moments that it shows
+pub piped_by : {D R W C C' : Type 0} (sight : Sight D) (begins ends : D → Type 0)
+    (remaining : R → Option (List ℕ)) (contents : W → Option (List ℕ)) (ticks : C → ℤ → C → Type 0) (moments : C' → ℤ → C' → Type 0) (look : C → C')
+    (reader reader_left : Counted R) (writer writer_left : Counted W) (clock : C) (end : StreamEnd) → Shows ticks moments look clock
+    → IsPiped sight begins ends remaining contents ticks reader reader_left writer writer_left clock end
+    → IsPiped sight begins ends remaining contents moments reader reader_left writer writer_left (look clock) end
+piped_by sight begins ends remaining contents ticks moments look reader reader_left writer writer_left clock end shows piped =
+    piped_seen sight (λ d. d) begins ends begins ends remaining contents ticks moments look reader reader_left writer writer_left clock end
+    (λ d is. is) (λ d is. is) shows piped
+
+-- a stream at a desk that began as it was handed in began as that desk was
+pub piped_begun : {D R W C : Type 0} (sight : Sight D) (begins ends : D → Type 0) (desk : D)
+    (remaining : R → Option (List ℕ)) (contents : W → Option (List ℕ)) (ticks : C → ℤ → C → Type 0)
+    (reader reader_left : Counted R) (writer writer_left : Counted W) (clock : C) (end : StreamEnd) → begins desk
+    → IsPiped sight (λ d. d ≡ desk) ends remaining contents ticks reader reader_left writer writer_left clock end
+    → IsPiped sight begins ends remaining contents ticks reader reader_left writer writer_left clock end
+piped_begun sight begins ends desk remaining contents ticks reader reader_left writer writer_left clock end begun piped =
+    piped_seen sight (λ d. d) (λ d. d ≡ desk) ends begins ends remaining contents ticks ticks (λ t. t) reader reader_left writer writer_left clock end
+    (λ d is. subst begins (sym is) begun) (λ d is. is) (shows_itself ticks clock) piped

@@ -1,8 +1,8 @@
 -- What the program's jobs say of a desk: what contracts see of it, what it begins with, and what is told to each holder.
-use Rattle.std.specs.Prelude.{◌≡◌, ℕ, ℤ, List, IsTrue}
+use Rattle.std.specs.Prelude.{◌≡◌, ℕ, ℤ, Bool, true, false, List, IsTrue}
 use Rattle.sqlite_wal.specs.Recovery.{Image}
-use Rattle.td_acts.specs.Book.{Book, fresh_book}
-use Rattle.td_desk.specs.Content.{Content, account_in, empty_content}
+use Rattle.td_acts.specs.Book.{Book}
+use Rattle.td_desk.specs.Content.{Content, account_in, empty_content, fresh}
 use Rattle.td_desk.specs.Sound.{IsSound}
 use Rattle.td_store.specs.Kept.{content_in}
 use Rattle.td_files.specs.Found.{FileState, IsClean, IsKeptDesk, IsMadeDesk}
@@ -42,7 +42,7 @@ pub record IsHeadHandledAt {D : Type 0} (old : D) (target : List ℕ) (reply : R
 
 -- each holder's book is fresh: it opens with what the content has of the holder
 abbrev pub fresh_books : Content → ℕ → Book
-fresh_books c H = fresh_book (account_in H c)
+fresh_books c H = fresh H c
 
 -- What a job's desk begins with. One in memory is empty.
 abbrev pub BeginsEmpty : List ℕ → Content → Type 0
@@ -56,6 +56,16 @@ BeginsKept image country s = IsClean s → IsKeptDesk image country s
 abbrev pub BeginsMade : Image → List ℕ → FileState → Type 0
 BeginsMade image country s = IsClean s → IsMadeDesk image country s
 
+-- either of the two
+abbrev pub BeginsIn : Bool → Image → List ℕ → FileState → Type 0
+BeginsIn false = BeginsKept
+BeginsIn true = BeginsMade
+
 -- a desk that can serve: as far as it is clean no fault has shut it, and its content is sound
 abbrev pub IsReady : {D : Type 0} → Sight D → D → Type 0
 IsReady sight d = sight.is_clean d → sight.is_live d × IsSound (sight.content d)
+
+-- two desks of one country that have the same of H
+abbrev pub BeginAlike : List ℕ → ℕ → Content → Content → Type 0
+BeginAlike country H one other =
+    (one.country ≡ country) × (other.country ≡ country) × (account_in H one ≡ account_in H other)

@@ -12,5 +12,8 @@ mod telling;
 
 pub use clock::{FixedClock, MachineClock};
 pub use jobs::perform;
-pub use laws::{agreeing_jobs_tell_the_same, agreeing_servings_tell_the_same};
+pub use laws::{
+    agreeing_jobs_over_files_tell_the_same, agreeing_jobs_tell_the_same,
+    agreeing_servings_over_files_tell_the_same, agreeing_servings_tell_the_same,
+};
 pub use program::{run_program, words_of};

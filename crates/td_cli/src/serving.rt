@@ -153,11 +153,27 @@ fn serve_by<W: Write, D: Desk + Drop, C: Clock + Drop>(
         (λ d. d ≡ desk) (λ d. d ≡ result.1) W.contents C.ticks listening.port listening.connections out.old out.new clock result.0 }
 {
     let mut service = Service::new(desk);
-    let end = match PrintedLines::of(rt.alloc(), listening) {
-        Ok(lines) => listen(rt, listening, &lines, &mut clock, &mut service, out),
-        Err(_) => ServingEnd::NoMemory,
-    };
+    let end = serve_printing(rt, listening, &mut clock, &mut service, out);
     (end, service.into_desk())
+}
+
+// The same at a service.
+fn serve_printing<W: Write, D: Desk + Drop, C: Clock>(
+    rt: &HostRuntime,
+    listening: Listening,
+    clock: &mut C,
+    service: &mut Service<D>,
+    out: &mut Counted<W>,
+) -> ServingEnd
+    ensures { IsReady (record { content = D.content; is_clean = D.is_clean; is_live = D.is_live; has_store = D.has_store }) (desk_of service.old)
+        → ServesAs (record { content = D.content; is_clean = D.is_clean; is_live = D.is_live; has_store = D.has_store })
+        (λ d. d ≡ desk_of service.old) (λ d. d ≡ desk_of service.new) W.contents C.ticks
+        listening.port listening.connections out.old out.new clock.old result }
+{
+    match PrintedLines::of(rt.alloc(), listening) {
+        Ok(lines) => listen(rt, listening, &lines, clock, service, out),
+        Err(_) => ServingEnd::NoMemory,
+    }
 }
 
 // Listens on the port, and serves the connections at a service.

@@ -7,6 +7,7 @@ use Rattle.sqlite.specs.Effect.{Database}
 use Rattle.sqlite.specs.Files.{HoldsDatabase, AreFoundIn}
 use Rattle.sqlite.specs.State.{State}
 use Rattle.td_desk.specs.Content.{empty_content}
+use Rattle.td_desk.specs.Sound.{IsSound}
 use Rattle.td_schema.specs.Making.{IsEmptyOf}
 use Rattle.td_schema.specs.Tables.{desk_schema, no_schema}
 use Rattle.td_store.specs.Kept.{content_in}
@@ -43,13 +44,14 @@ pub record IsKeptDesk (image : Image) (country : List ℕ) (s : FileState) : Typ
   pub desk : AreOfDesk country s.now.trees
   pub country_is : (content_in s.now.trees).country ≡ country
 
--- A desk was made: the file held no table, and the desk is empty.
+-- A desk was made: the file held no table, and the desk is empty, which is sound.
 pub record IsMadeDesk (image : Image) (country : List ℕ) (s : FileState) : Type 0 where
   pub live : IsTrue s.is_open
   pub before : Database
   pub found : IsFoundIn image before
   pub blank : ¬ (¬ IsEmptyOf no_schema before)
   pub empty : content_in s.now.trees ≡ empty_content country
+  pub sound : IsSound (content_in s.now.trees)
 
 -- What the file held was refused for this fault, which says what the tables are; and they are no sound desk of this country.
 pub record IsRefusedFor (image : Image) (country : List ℕ) (fault : OpenFault) : Type 0 where

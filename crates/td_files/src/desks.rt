@@ -8,6 +8,7 @@ ghost use Rattle.td_files.specs.declared.desks.DeskFault.TheVariants as fault;
 use crate::files::{OneFile, open_file};
 use sqlite::{Error, ErrorCode, FileFrom, FileStore, Start};
 use td_base::Country;
+use td_desk::empty_desk_is_tied;
 use td_store::{OpenFault, Refused, SqlDesk};
 use thiserror::Error as AsError;
 
@@ -85,6 +86,8 @@ impl<S: Start> OneFile<S, FileStore<FileFrom<S>>> {
         ensures made { IfOk result (λ desk. IsClean (shown (file_state desk)) → IsMadeDesk (image_at S.Start) country (shown (file_state desk))) }
         ensures fault { IfErr result IsUnmade }
     {
+        empty_desk_is_tied();
+        let _letters = country.as_bytes();
         let Some(start) = self.start.take() else {
             return Err(DeskFault::File);
         };

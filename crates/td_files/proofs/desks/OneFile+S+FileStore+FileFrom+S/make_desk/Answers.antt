@@ -1,3 +1,5 @@
+use Rattle.std.proofs.Common.{subst, sym}
+use Rattle.td_desk.specs.Sound.{IsSound}
 use Rattle.sqlite.specs.Files.{file_state}
 use Rattle.sqlite.specs.WalFiles.{image_at}
 use Rattle.td_files.proofs.Opening.{clean_before, found_there, unmade_at}
@@ -15,6 +17,7 @@ returns-in-Ok-create-clause-made g c = λ clean.
       found = found_there (image_at g.S.Start) found (c.in-Ok.ensures.open was) (c.in-Ok.ensures.found was);
       blank = λ taken. made.taken taken;
       empty = made.empty clean;
+      sound = subst IsSound (sym (made.empty clean)) (c.empty_desk_is_tied.ensures c.args.country c.as_bytes-letters.ensures.form).0;
     }
 
 pub returns-in-Err-create-clause-fault : goal.returns-in-Err-create-clause-fault
