@@ -32,14 +32,26 @@ mod texts;
 mod views;
 mod waiting_clients;
 
+use sqlite::Unknown;
 use std::alloc::{AllocError, Global};
 use std::io::Read;
-use std::net::{Net, TcpListener, TcpStream};
 use std::process::Abort;
-use std::rt::Clock;
 use std::test::Fail;
 use td_base::Counted;
 use td_cli::perform;
+use td_files::DeskFile;
+
+/// The machine that a test runs on. A job takes it whole; a helper that also asserts takes a machine with `Abort`, which the
+/// `HostRuntime` has in a test alone.
+trait Machine {
+    fn host(&self) -> &HostRuntime;
+}
+
+impl Machine for HostRuntime {
+    fn host(&self) -> &HostRuntime {
+        self
+    }
+}
 
 /// What a job left: its status, and what it wrote.
 #[derive(Drop)]
@@ -77,19 +89,16 @@ fn words_of(alloc: Global, words: &[&str]) -> Result<Vec<String>, AllocError> {
 }
 
 /// Does the job of the words over any reader.
-fn perform_over<R: Read>(
-    rt: &(impl AllocGlobal + Clock + Net<Listener = TcpListener, Stream = TcpStream>),
-    words: &[&str],
-    reader: R,
-) -> Result<Done, Fail>
+fn perform_over<R: Read>(rt: &HostRuntime, words: &[&str], reader: R) -> Result<Done, Fail>
 where
     R: Drop,
 {
     let words = words_of(rt.alloc(), words)?;
+    let mut file = DeskFile::new(Unknown);
     let mut input = Counted::new(reader);
     let mut out = Counted::new(Vec::new(rt.alloc()));
     let mut errors = Counted::new(Vec::new(rt.alloc()));
-    let status = perform(rt, &words, &mut input, &mut out, &mut errors);
+    let status = perform(rt, &words, &mut file, &mut input, &mut out, &mut errors);
     Ok(Done {
         status,
         out: out.into_inner(),
@@ -128,7 +137,7 @@ fn assert_due(rt: &impl Abort, done: &Done, due: Due<'_>) -> Result<(), Fail> {
 
 /// The job of the words over the reader leaves what is due.
 fn assert_job<R: Read>(
-    rt: &(impl AllocGlobal + Clock + Net<Listener = TcpListener, Stream = TcpStream> + Abort),
+    rt: &(impl Machine + Abort),
     words: &[&str],
     reader: R,
     due: Due<'_>,
@@ -136,7 +145,7 @@ fn assert_job<R: Read>(
 where
     R: Drop,
 {
-    let done = perform_over(rt, words, reader)?;
+    let done = perform_over(rt.host(), words, reader)?;
     assert_due(rt, &done, due)
 }
 

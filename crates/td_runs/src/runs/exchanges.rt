@@ -1,10 +1,8 @@
 //! Requests and the replies that are due to them, byte for byte.
 use super::devices::Moments;
-use super::{Done, assert_ended, assert_text, perform_over};
+use super::{Done, Machine, assert_ended, assert_text, perform_over};
 use std::alloc::{AllocError, Global};
-use std::net::{Net, TcpListener, TcpStream};
 use std::process::Abort;
-use std::rt::Clock;
 use std::test::Fail;
 use td_base::{Counted, Country};
 use td_desk::PlainDesk;
@@ -111,22 +109,18 @@ fn requests_of(alloc: Global, exchanges: &[Exchange]) -> Result<Vec<u8>, AllocEr
 }
 
 // What the program with these words leaves on a stream of these requests.
-fn done_on(
-    rt: &(impl AllocGlobal + Clock + Net<Listener = TcpListener, Stream = TcpStream>),
-    words: &[&str],
-    exchanges: &[Exchange],
-) -> Result<Done, Fail> {
+fn done_on(rt: &HostRuntime, words: &[&str], exchanges: &[Exchange]) -> Result<Done, Fail> {
     let input = requests_of(rt.alloc(), exchanges)?;
     perform_over(rt, words, input.as_slice())
 }
 
 /// The program with these words has each reply to these requests on one stream, and nothing else, and is done.
 pub fn assert_replies(
-    rt: &(impl AllocGlobal + Clock + Net<Listener = TcpListener, Stream = TcpStream> + Abort),
+    rt: &(impl Machine + Abort),
     words: &[&str],
     exchanges: &[Exchange],
 ) -> Result<(), Fail> {
-    let done = done_on(rt, words, exchanges)?;
+    let done = done_on(rt.host(), words, exchanges)?;
     assert_ended(rt, &done, 0, b"")?;
     assert_told(rt, &done.out, exchanges)
 }
