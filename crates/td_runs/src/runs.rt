@@ -1,5 +1,5 @@
-//! The program's jobs, over readers and writers in memory. Expected bytes are those of the desk's formats,
-//! written out.
+//! The program's jobs, over readers and writers in memory, and over files in the folder that the tests run in. Expected bytes
+//! are those of the desk's formats, written out.
 mod acts;
 mod answered_words;
 mod cancellations;
@@ -7,6 +7,7 @@ mod codes;
 mod declarations;
 mod devices;
 mod exchanges;
+mod files;
 mod first_requests;
 mod heads;
 mod laws;
@@ -32,14 +33,26 @@ mod texts;
 mod views;
 mod waiting_clients;
 
+use sqlite::Unknown;
 use std::alloc::{AllocError, Global};
 use std::io::Read;
-use std::net::{Net, TcpListener, TcpStream};
 use std::process::Abort;
-use std::rt::Clock;
 use std::test::Fail;
 use td_base::Counted;
 use td_cli::perform;
+use td_files::DeskFile;
+
+/// The machine that a test runs on. A job takes it whole; a helper that also asserts takes a machine with `Abort`, which the
+/// `HostRuntime` has in a test alone.
+trait Machine {
+    fn host(&self) -> &HostRuntime;
+}
+
+impl Machine for HostRuntime {
+    fn host(&self) -> &HostRuntime {
+        self
+    }
+}
 
 /// What a job left: its status, and what it wrote.
 #[derive(Drop)]
@@ -77,24 +90,30 @@ fn words_of(alloc: Global, words: &[&str]) -> Result<Vec<String>, AllocError> {
 }
 
 /// Does the job of the words over any reader.
-fn perform_over<R: Read>(
-    rt: &(impl AllocGlobal + Clock + Net<Listener = TcpListener, Stream = TcpStream>),
-    words: &[&str],
-    reader: R,
-) -> Result<Done, Fail>
+fn perform_over<R: Read>(rt: &HostRuntime, words: &[&str], reader: R) -> Result<Done, Fail>
 where
     R: Drop,
 {
     let words = words_of(rt.alloc(), words)?;
+    Ok(done_over(rt, &words, reader))
+}
+
+/// What the program leaves on these words, which closes the file that they name.
+fn done_over<R: Read>(rt: &HostRuntime, words: &[String], reader: R) -> Done
+where
+    R: Drop,
+{
+    let mut file = DeskFile::new(Unknown);
     let mut input = Counted::new(reader);
     let mut out = Counted::new(Vec::new(rt.alloc()));
     let mut errors = Counted::new(Vec::new(rt.alloc()));
-    let status = perform(rt, &words, &mut input, &mut out, &mut errors);
-    Ok(Done {
+    let status = perform(rt, words, &mut file, &mut input, &mut out, &mut errors);
+    file.close();
+    Done {
         status,
         out: out.into_inner(),
         errors: errors.into_inner(),
-    })
+    }
 }
 
 fn text_of(bytes: &[u8]) -> Result<&str, Fail> {
@@ -128,7 +147,7 @@ fn assert_due(rt: &impl Abort, done: &Done, due: Due<'_>) -> Result<(), Fail> {
 
 /// The job of the words over the reader leaves what is due.
 fn assert_job<R: Read>(
-    rt: &(impl AllocGlobal + Clock + Net<Listener = TcpListener, Stream = TcpStream> + Abort),
+    rt: &(impl Machine + Abort),
     words: &[&str],
     reader: R,
     due: Due<'_>,
@@ -136,7 +155,7 @@ fn assert_job<R: Read>(
 where
     R: Drop,
 {
-    let done = perform_over(rt, words, reader)?;
+    let done = perform_over(rt.host(), words, reader)?;
     assert_due(rt, &done, due)
 }
 

@@ -1,10 +1,8 @@
 //! Requests and the replies that are due to them, byte for byte.
 use super::devices::Moments;
-use super::{Done, assert_ended, assert_text, perform_over};
+use super::{Done, Machine, assert_ended, assert_text, perform_over};
 use std::alloc::{AllocError, Global};
-use std::net::{Net, TcpListener, TcpStream};
 use std::process::Abort;
-use std::rt::Clock;
 use std::test::Fail;
 use td_base::{Counted, Country};
 use td_desk::PlainDesk;
@@ -93,8 +91,8 @@ fn take_reply<'a>(rt: &impl Abort, replies: &'a [u8], reply: &[u8]) -> Result<&'
     Ok(rest)
 }
 
-// The replies are these, and nothing else.
-fn assert_told(rt: &impl Abort, replies: &[u8], exchanges: &[Exchange]) -> Result<(), Fail> {
+/// The replies are these, and nothing else.
+pub fn assert_told(rt: &impl Abort, replies: &[u8], exchanges: &[Exchange]) -> Result<(), Fail> {
     let mut left = replies;
     for (_, reply) in exchanges {
         left = take_reply(rt, left, reply)?;
@@ -110,23 +108,19 @@ fn requests_of(alloc: Global, exchanges: &[Exchange]) -> Result<Vec<u8>, AllocEr
     Ok(input)
 }
 
-// What the program with these words leaves on a stream of these requests.
-fn done_on(
-    rt: &(impl AllocGlobal + Clock + Net<Listener = TcpListener, Stream = TcpStream>),
-    words: &[&str],
-    exchanges: &[Exchange],
-) -> Result<Done, Fail> {
+/// What the program with these words leaves on a stream of these requests.
+pub fn done_on(rt: &HostRuntime, words: &[&str], exchanges: &[Exchange]) -> Result<Done, Fail> {
     let input = requests_of(rt.alloc(), exchanges)?;
     perform_over(rt, words, input.as_slice())
 }
 
 /// The program with these words has each reply to these requests on one stream, and nothing else, and is done.
 pub fn assert_replies(
-    rt: &(impl AllocGlobal + Clock + Net<Listener = TcpListener, Stream = TcpStream> + Abort),
+    rt: &(impl Machine + Abort),
     words: &[&str],
     exchanges: &[Exchange],
 ) -> Result<(), Fail> {
-    let done = done_on(rt, words, exchanges)?;
+    let done = done_on(rt.host(), words, exchanges)?;
     assert_ended(rt, &done, 0, b"")?;
     assert_told(rt, &done.out, exchanges)
 }

@@ -2,10 +2,8 @@
 use super::devices::Drip;
 use super::exchanges::{BAD_HOLDER, CLOCK_RANGE, Exchange, assert_replies};
 use super::texts::many;
-use super::{Due, WORDS, assert_job, words_at};
-use std::net::{Net, TcpListener, TcpStream};
+use super::{Due, Machine, WORDS, assert_job, words_at};
 use std::process::Abort;
-use std::rt::Clock;
 use std::test::Fail;
 
 /// Registers holder 000001.
@@ -30,7 +28,7 @@ const CUT: &[u8] = b"transit-desk: stream cut\n";
 
 // A prefix of a stream that ends there, or fails there, in one piece and byte by byte: these replies come, and this message where it ends.
 fn assert_ends(
-    rt: &(impl AllocGlobal + Clock + Net<Listener = TcpListener, Stream = TcpStream> + Abort),
+    rt: &(impl Machine + Abort),
     prefix: &[u8],
     out: &[u8],
     errors: &[u8],
@@ -60,20 +58,14 @@ fn message_at(end: usize) -> &'static [u8] {
 }
 
 // A prefix of the two requests has the replies to its whole requests, and nothing is done for the rest.
-fn assert_prefix(
-    rt: &(impl AllocGlobal + Clock + Net<Listener = TcpListener, Stream = TcpStream> + Abort),
-    prefix: &[u8],
-) -> Result<(), Fail> {
+fn assert_prefix(rt: &(impl Machine + Abort), prefix: &[u8]) -> Result<(), Fail> {
     let end = prefix.len();
     let whole = usize::from(end >= REGISTER.len()) + usize::from(end == REGISTER.len() + SEE.len());
-    let replies = many(rt.alloc(), b"", SHOWN, whole, b"")?;
+    let replies = many(rt.host().alloc(), b"", SHOWN, whole, b"")?;
     assert_ends(rt, prefix, &replies, message_at(end))
 }
 
-fn assert_prefixes(
-    rt: &(impl AllocGlobal + Clock + Net<Listener = TcpListener, Stream = TcpStream> + Abort),
-    input: &[u8],
-) -> Result<(), Fail> {
+fn assert_prefixes(rt: &(impl Machine + Abort), input: &[u8]) -> Result<(), Fail> {
     for end in 0..=input.len() {
         assert_prefix(rt, &input[..end])?;
     }
@@ -171,10 +163,7 @@ const ROUTED: &[Exchange] = &[
 ];
 
 // Holder 000001 is registered, and then the request of one of these comes on the same stream.
-fn assert_each_routed(
-    rt: &(impl AllocGlobal + Clock + Net<Listener = TcpListener, Stream = TcpStream> + Abort),
-    rows: &[Exchange],
-) -> Result<(), Fail> {
+fn assert_each_routed(rt: &(impl Machine + Abort), rows: &[Exchange]) -> Result<(), Fail> {
     for row in rows {
         assert_replies(rt, &WORDS, &[(REGISTER, SHOWN), *row])?;
     }

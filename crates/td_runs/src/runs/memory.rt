@@ -1,26 +1,24 @@
 //! Want of memory, as the program tells it.
 use super::first_requests::{REGISTER, SHOWN};
 use super::{Done, Due, WORDS, assert_due, words_of};
+use sqlite::Unknown;
 use std::alloc::{AllocError, Global};
 use std::io;
 use std::io::ErrorKind;
-use std::net::{Net, TcpListener, TcpStream};
 use std::process::Abort;
-use std::rt::Clock;
 use std::test::Fail;
 use td_base::Counted;
 use td_cli::{perform, run_program};
+use td_files::DeskFile;
 
 // What the program leaves where its words couldn't be read for this cause.
-fn done_unread(
-    rt: &(impl AllocGlobal + Clock + Net<Listener = TcpListener, Stream = TcpStream>),
-    kind: ErrorKind,
-) -> Done {
+fn done_unread(rt: &HostRuntime, kind: ErrorKind) -> Done {
+    let mut file = DeskFile::new(Unknown);
     let mut input = Counted::new(REGISTER);
     let mut out = Counted::new(Vec::new(rt.alloc()));
     let mut errors = Counted::new(Vec::new(rt.alloc()));
     let words: io::Result<Vec<String>> = Err(kind.into());
-    let status = run_program(rt, words, &mut input, &mut out, &mut errors);
+    let status = run_program(rt, words, &mut file, &mut input, &mut out, &mut errors);
     Done {
         status,
         out: out.into_inner(),
@@ -51,15 +49,12 @@ fn unread_words_are_told(rt: HostRuntime) -> Result<(), Fail> {
 }
 
 // The writers have their room before the program is called.
-fn done_with_room(
-    rt: &(impl AllocGlobal + Clock + Net<Listener = TcpListener, Stream = TcpStream>),
-    words: &[String],
-    room: (Vec<u8>, Vec<u8>),
-) -> Done {
+fn done_with_room(rt: &HostRuntime, words: &[String], room: (Vec<u8>, Vec<u8>)) -> Done {
+    let mut file = DeskFile::new(Unknown);
     let mut input = Counted::new(REGISTER);
     let mut out = Counted::new(room.0);
     let mut errors = Counted::new(room.1);
-    let status = perform(rt, words, &mut input, &mut out, &mut errors);
+    let status = perform(rt, words, &mut file, &mut input, &mut out, &mut errors);
     Done {
         status,
         out: out.into_inner(),

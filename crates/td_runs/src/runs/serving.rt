@@ -3,20 +3,24 @@
 //! does with connections is shown by td_connections' tests.)
 use super::devices::Narrow;
 use super::{Due, assert_job, assert_text, words_of};
+use sqlite::Unknown;
 use std::alloc::{AllocError, Global};
 use std::io;
 use std::net::{Ipv4Addr, Net, SocketAddr, TcpListener, TcpStream};
 use std::test::Fail;
 use td_base::Counted;
 use td_cli::perform;
+use td_files::DeskFile;
 
 /// A listener at a port that the machine chooses.
-fn listener<N: Net<Listener = TcpListener, Stream = TcpStream>>(rt: &N) -> io::Result<TcpListener> {
+pub fn listener<N: Net<Listener = TcpListener, Stream = TcpStream>>(
+    rt: &N,
+) -> io::Result<TcpListener> {
     TcpListener::bind(rt, SocketAddr::from((Ipv4Addr::LOCALHOST, 0)))
 }
 
 /// The words that ask for one connection to this port.
-fn serve_words<'a>(port: &'a str) -> [&'a str; 10] {
+pub fn serve_words<'a>(port: &'a str) -> [&'a str; 10] {
     [
         "transit-desk",
         "serve",
@@ -66,10 +70,11 @@ fn a_first_line_that_cannot_be_written_is_a_fault(rt: HostRuntime) -> Result<(),
     let neighbour = neighbour(&rt)?;
     let port = format!(in rt.alloc(); "{}", neighbour.local_addr()?.port())?;
     let words = words_of(rt.alloc(), &serve_words(&port))?;
+    let mut file = DeskFile::new(Unknown);
     let mut input = Counted::new(b"".as_slice());
     let mut out = narrow(rt.alloc());
     let mut errors = Counted::new(Vec::new(rt.alloc()));
-    let status = perform(&rt, &words, &mut input, &mut out, &mut errors);
+    let status = perform(&rt, &words, &mut file, &mut input, &mut out, &mut errors);
     assert_eq!(rt; status, 1);
     assert_text(&rt, &out.into_inner().taken, b"listening ")?;
     assert_text(&rt, &errors.into_inner(), b"transit-desk: write\n")

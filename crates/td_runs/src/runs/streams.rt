@@ -2,15 +2,15 @@
 use super::devices::{Drip, Endless, Narrow};
 use super::exchanges::{assert_closed, service_of_ch};
 use super::texts::many;
-use super::{Done, Due, WORDS, assert_due, assert_job, words_of};
+use super::{Done, Due, Machine, WORDS, assert_due, assert_job, words_of};
+use sqlite::Unknown;
 use std::alloc::{AllocError, Global};
-use std::net::{Net, TcpListener, TcpStream};
 use std::process::Abort;
-use std::rt::Clock;
 use std::test::Fail;
 use td_base::Counted;
 use td_cli::{FixedClock, perform};
 use td_desk::PlainDesk;
+use td_files::DeskFile;
 use td_http::{Service, StreamEnd, serve_stream};
 
 const SEE: &[u8] = b"GET /holders/000002 HTTP/1.1\r\n\r\n";
@@ -239,11 +239,8 @@ const LAST_REQUESTS: [Row; 7] = [
     },
 ];
 
-fn assert_framed(
-    rt: &(impl AllocGlobal + Clock + Net<Listener = TcpListener, Stream = TcpStream> + Abort),
-    row: &Row,
-) -> Result<(), Fail> {
-    let input = many(rt.alloc(), row.front, row.unit, row.times, row.back)?;
+fn assert_framed(rt: &(impl Machine + Abort), row: &Row) -> Result<(), Fail> {
+    let input = many(rt.host().alloc(), row.front, row.unit, row.times, row.back)?;
     let due = Due {
         status: u8::from(!row.message.is_empty()),
         out: row.reply,
@@ -252,10 +249,7 @@ fn assert_framed(
     assert_job(rt, &WORDS, input.as_slice(), due)
 }
 
-fn assert_each_framed(
-    rt: &(impl AllocGlobal + Clock + Net<Listener = TcpListener, Stream = TcpStream> + Abort),
-    rows: &[Row],
-) -> Result<(), Fail> {
+fn assert_each_framed(rt: &(impl Machine + Abort), rows: &[Row]) -> Result<(), Fail> {
     for row in rows {
         assert_framed(rt, row)?;
     }
@@ -289,7 +283,7 @@ const READS_SPENT: &[u8] = b"transit-desk: stream reads-spent\n";
 
 // These bytes, again and again, have these replies.
 fn assert_reads_spent(
-    rt: &(impl AllocGlobal + Clock + Net<Listener = TcpListener, Stream = TcpStream> + Abort),
+    rt: &(impl Machine + Abort),
     bytes: &[u8],
     replies: &[u8],
 ) -> Result<(), Fail> {
@@ -312,16 +306,12 @@ fn reads_are_spent(rt: HostRuntime) -> Result<(), Fail> {
 }
 
 // What is left where the replies go to this writer.
-fn done_narrow(
-    rt: &(impl AllocGlobal + Clock + Net<Listener = TcpListener, Stream = TcpStream>),
-    words: &[String],
-    input: &[u8],
-    writer: Narrow,
-) -> Done {
+fn done_narrow(rt: &HostRuntime, words: &[String], input: &[u8], writer: Narrow) -> Done {
+    let mut file = DeskFile::new(Unknown);
     let mut reader = Counted::new(input);
     let mut writer = Counted::new(writer);
     let mut errors = Counted::new(Vec::new(rt.alloc()));
-    let status = perform(rt, words, &mut reader, &mut writer, &mut errors);
+    let status = perform(rt, words, &mut file, &mut reader, &mut writer, &mut errors);
     Done {
         status,
         out: writer.into_inner().taken,
@@ -333,18 +323,18 @@ const WRITE_FAULT: &[u8] = b"transit-desk: stream write-fault\n";
 
 // A writer that fails or takes nothing after these replies.
 fn assert_narrow(
-    rt: &(impl AllocGlobal + Clock + Net<Listener = TcpListener, Stream = TcpStream> + Abort),
+    rt: &(impl Machine + Abort),
     words: &[String],
     input: &[u8],
     replies: &[u8],
     fails: bool,
 ) -> Result<(), Fail> {
     let writer = Narrow {
-        taken: Vec::new(rt.alloc()),
+        taken: Vec::new(rt.host().alloc()),
         left: replies.len(),
         fails,
     };
-    let done = done_narrow(rt, words, input, writer);
+    let done = done_narrow(rt.host(), words, input, writer);
     let due = Due {
         status: 1,
         out: replies,
@@ -354,7 +344,7 @@ fn assert_narrow(
 }
 
 fn assert_narrow_at_each_byte(
-    rt: &(impl AllocGlobal + Clock + Net<Listener = TcpListener, Stream = TcpStream> + Abort),
+    rt: &(impl Machine + Abort),
     words: &[String],
     input: &[u8],
     replies: &[u8],
@@ -366,12 +356,9 @@ fn assert_narrow_at_each_byte(
     Ok(())
 }
 
-fn assert_narrow_writers(
-    rt: &(impl AllocGlobal + Clock + Net<Listener = TcpListener, Stream = TcpStream> + Abort),
-    words: &[String],
-) -> Result<(), Fail> {
-    let input = many(rt.alloc(), b"", SEE, 2, b"")?;
-    let replies = many(rt.alloc(), b"", NO_HOLDER, 2, b"")?;
+fn assert_narrow_writers(rt: &(impl Machine + Abort), words: &[String]) -> Result<(), Fail> {
+    let input = many(rt.host().alloc(), b"", SEE, 2, b"")?;
+    let replies = many(rt.host().alloc(), b"", NO_HOLDER, 2, b"")?;
     assert_narrow_at_each_byte(rt, words, &input, &replies)
 }
 

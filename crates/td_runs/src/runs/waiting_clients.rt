@@ -1,15 +1,15 @@
 //! A client that waits for the replies to what it sent before it sends more.
 use super::first_requests::{REGISTER, SEE, SHOWN};
 use super::{Done, Due, WORDS, assert_due, words_of};
+use sqlite::Unknown;
 use std::alloc::{AllocError, Global};
 use std::cell::Cell;
 use std::io;
 use std::io::{Read, Write};
-use std::net::{Net, TcpListener, TcpStream};
-use std::rt::Clock;
 use std::test::Fail;
 use td_base::Counted;
 use td_cli::perform;
+use td_files::DeskFile;
 
 /// What the client sends at once, and the replies that it then waits for.
 type Turn = (&'static [u8], &'static [u8]);
@@ -81,12 +81,9 @@ fn replies_to(alloc: Global, turns: &[Turn]) -> Result<Vec<u8>, AllocError> {
 }
 
 // What the program leaves for a client with these turns.
-fn done_for(
-    rt: &(impl AllocGlobal + Clock + Net<Listener = TcpListener, Stream = TcpStream>),
-    words: &[String],
-    turns: &[Turn],
-) -> Done {
+fn done_for(rt: &HostRuntime, words: &[String], turns: &[Turn]) -> Done {
     let waited_for = Cell::new(0);
+    let mut file = DeskFile::new(Unknown);
     let mut input = Counted::new(Asking {
         left: turns,
         waited_for: &waited_for,
@@ -96,7 +93,7 @@ fn done_for(
         waited_for: &waited_for,
     });
     let mut errors = Counted::new(Vec::new(rt.alloc()));
-    let status = perform(rt, words, &mut input, &mut out, &mut errors);
+    let status = perform(rt, words, &mut file, &mut input, &mut out, &mut errors);
     Done {
         status,
         out: out.into_inner().told,
