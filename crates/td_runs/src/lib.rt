@@ -1,4 +1,4 @@
-//! Runs of the program's jobs, over readers and writers in memory. The crate has tests alone: for its tests a crate is proved
+//! Runs of the program's jobs, over readers and writers in memory and over files. The crate has tests alone: for its tests a crate is proved
 //! again, whole, and these need none of the program's private names.
 #![tactic(auto)]
 

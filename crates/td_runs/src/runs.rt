@@ -1,5 +1,5 @@
-//! The program's jobs, over readers and writers in memory. Expected bytes are those of the desk's formats,
-//! written out.
+//! The program's jobs, over readers and writers in memory, and over files in the folder that the tests run in. Expected bytes
+//! are those of the desk's formats, written out.
 mod acts;
 mod answered_words;
 mod cancellations;
@@ -7,6 +7,7 @@ mod codes;
 mod declarations;
 mod devices;
 mod exchanges;
+mod files;
 mod first_requests;
 mod heads;
 mod laws;
@@ -94,16 +95,25 @@ where
     R: Drop,
 {
     let words = words_of(rt.alloc(), words)?;
+    Ok(done_over(rt, &words, reader))
+}
+
+/// What the program leaves on these words, which closes the file that they name.
+fn done_over<R: Read>(rt: &HostRuntime, words: &[String], reader: R) -> Done
+where
+    R: Drop,
+{
     let mut file = DeskFile::new(Unknown);
     let mut input = Counted::new(reader);
     let mut out = Counted::new(Vec::new(rt.alloc()));
     let mut errors = Counted::new(Vec::new(rt.alloc()));
-    let status = perform(rt, &words, &mut file, &mut input, &mut out, &mut errors);
-    Ok(Done {
+    let status = perform(rt, words, &mut file, &mut input, &mut out, &mut errors);
+    file.close();
+    Done {
         status,
         out: out.into_inner(),
         errors: errors.into_inner(),
-    })
+    }
 }
 
 fn text_of(bytes: &[u8]) -> Result<&str, Fail> {

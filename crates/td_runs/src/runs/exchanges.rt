@@ -91,8 +91,8 @@ fn take_reply<'a>(rt: &impl Abort, replies: &'a [u8], reply: &[u8]) -> Result<&'
     Ok(rest)
 }
 
-// The replies are these, and nothing else.
-fn assert_told(rt: &impl Abort, replies: &[u8], exchanges: &[Exchange]) -> Result<(), Fail> {
+/// The replies are these, and nothing else.
+pub fn assert_told(rt: &impl Abort, replies: &[u8], exchanges: &[Exchange]) -> Result<(), Fail> {
     let mut left = replies;
     for (_, reply) in exchanges {
         left = take_reply(rt, left, reply)?;
@@ -108,8 +108,8 @@ fn requests_of(alloc: Global, exchanges: &[Exchange]) -> Result<Vec<u8>, AllocEr
     Ok(input)
 }
 
-// What the program with these words leaves on a stream of these requests.
-fn done_on(rt: &HostRuntime, words: &[&str], exchanges: &[Exchange]) -> Result<Done, Fail> {
+/// What the program with these words leaves on a stream of these requests.
+pub fn done_on(rt: &HostRuntime, words: &[&str], exchanges: &[Exchange]) -> Result<Done, Fail> {
     let input = requests_of(rt.alloc(), exchanges)?;
     perform_over(rt, words, input.as_slice())
 }

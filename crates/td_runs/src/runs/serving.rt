@@ -13,12 +13,14 @@ use td_cli::perform;
 use td_files::DeskFile;
 
 /// A listener at a port that the machine chooses.
-fn listener<N: Net<Listener = TcpListener, Stream = TcpStream>>(rt: &N) -> io::Result<TcpListener> {
+pub fn listener<N: Net<Listener = TcpListener, Stream = TcpStream>>(
+    rt: &N,
+) -> io::Result<TcpListener> {
     TcpListener::bind(rt, SocketAddr::from((Ipv4Addr::LOCALHOST, 0)))
 }
 
 /// The words that ask for one connection to this port.
-fn serve_words<'a>(port: &'a str) -> [&'a str; 10] {
+pub fn serve_words<'a>(port: &'a str) -> [&'a str; 10] {
     [
         "transit-desk",
         "serve",
