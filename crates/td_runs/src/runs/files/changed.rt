@@ -21,6 +21,7 @@ const RELEASED: Run = Run {
 };
 
 /// A change by SQL, what is told of it, and a number in the changed row.
+#[derive(Clone, Copy)]
 struct Change {
     statement: &'static str,
     errors: &'static [u8],
