@@ -50,8 +50,8 @@ impl<S: Start> OneFile<S, FileStore<FileFrom<S>>> {
 
     /// Opens the desk of an office of that country over the file at the path, which has to be there and have a desk's tables.
     /// `File`: it isn't there, can't be opened, is no database, or this file was opened before; `Refused`: its database is
-    /// refused by `SqlDesk::open`, there was no memory, or another program has the file open (`Store`). Nothing in the file is
-    /// changed.
+    /// refused by `SqlDesk::open`, there was no memory, or another program has the file open (`Store`). No row in the file is
+    /// changed; a file of no bytes becomes a database without tables.
     pub fn open_desk(
         &mut self,
         rt: &HostRuntime,

@@ -51,7 +51,7 @@ fn told(errors: &'static [u8]) -> [Run; 3] {
 }
 
 /// Changes the file by a statement, as another program does.
-fn change(rt: &HostRuntime, path: &str, statement: &str) -> Result<(), Error> {
+fn run_statement(rt: &HostRuntime, path: &str, statement: &str) -> Result<(), Error> {
     let mut conn = Connection::open(rt, path)?;
     conn.execute(statement, &[])?;
     conn.close()
@@ -77,7 +77,7 @@ fn assert_number(
 fn assert_change(rt: &(impl Machine + Abort), path: &str, row: &Change) -> Result<(), Fail> {
     remove(rt.host(), path)?;
     assert_run(rt, path, &RELEASED)?;
-    change(rt.host(), path, row.statement)?;
+    run_statement(rt.host(), path, row.statement)?;
     assert_each(rt, path, &told(row.errors))?;
     assert_number(rt, path, row.query, row.number)?;
     remove(rt.host(), path)
