@@ -4,8 +4,7 @@ use Rattle.sqlite_wal.specs.Recovery.{Image}
 use Rattle.td_acts.specs.Book.{Book}
 use Rattle.td_desk.specs.Content.{Content, account_in, empty_content, fresh}
 use Rattle.td_desk.specs.Sound.{IsSound}
-use Rattle.td_store.specs.Kept.{content_in}
-use Rattle.td_files.specs.Found.{FileState, IsClean, IsKeptDesk, IsMadeDesk}
+use Rattle.td_files.specs.Found.{content_in, FileState, IsClean, IsKeptDesk, IsMadeDesk}
 use Rattle.td_wire.specs.declared.reply.Reply.{Reply}
 use Rattle.td_wire.specs.Request.{Asked}
 use Rattle.td_http.specs.Served.{IsHeadReply}

@@ -6,7 +6,7 @@ use Rattle.td_desk.specs.Content.{Content}
 use Rattle.td_files.specs.Found.{FileState, IsToldOf, IsUnmade}
 use Rattle.td_files.specs.declared.desks.DeskFault.{DeskFault}
 use Rattle.td_files.specs.declared.desks.DeskFault.TheVariants.{Refused}
-use Rattle.td_store.specs.declared.refused.OpenFault.TheVariants as fault
+use Rattle.td_files.specs.Faults as fault
 use Rattle.td_http.specs.Serving.{IsServed}
 use Rattle.td_wire.specs.declared.stream.StreamEnd.{StreamEnd}
 use Rattle.td_wire.specs.Stream.{Serves}

@@ -5,8 +5,7 @@ use Rattle.std.specs.Io.KnownBytes.{Appends}
 use Rattle.counted_io.specs.declared.counted.Counted.{Counted}
 use Rattle.counted_io.specs.Counted.{known_bytes}
 use Rattle.counted_io.specs.Writing.{IsCutShort}
-use Rattle.td_tables.specs.Failing.{rule_name}
-use Rattle.td_store.specs.declared.refused.OpenFault.TheVariants as refused
+use Rattle.td_files.specs.Faults as refused
 use Rattle.td_files.specs.declared.desks.DeskFault.{DeskFault}
 use Rattle.td_files.specs.declared.desks.DeskFault.TheVariants as desk
 use Rattle.td_cli.specs.declared.serving.ServingEnd.{ServingEnd}
@@ -62,7 +61,7 @@ message_of_fault (desk.Refused refused.UnknownVersion) = codes "transit-desk: un
 message_of_fault (desk.Refused (refused.NeedsMigration version)) =
     codes "transit-desk: needs-migration " ++ (decimal version ++ codes "\n")
 message_of_fault (desk.Refused refused.OtherCountry) = codes "transit-desk: other-country\n"
-message_of_fault (desk.Refused (refused.Damaged rule)) = codes "transit-desk: damaged " ++ (rule_name rule ++ codes "\n")
+message_of_fault (desk.Refused (refused.Damaged rule)) = codes "transit-desk: damaged " ++ (refused.rule_name rule ++ codes "\n")
 message_of_fault (desk.Refused refused.Store) = codes "transit-desk: store\n"
 message_of_fault (desk.Refused refused.NoMemory) = codes "transit-desk: no-memory\n"
 

@@ -17,3 +17,4 @@ pub use laws::{
     agreeing_servings_over_files_tell_the_same, agreeing_servings_tell_the_same,
 };
 pub use program::{run_program, words_of};
+pub use td_files::DeskFile;

@@ -4,7 +4,7 @@ ghost use Rattle.sqlite.specs.Files.{file_state};
 ghost use Rattle.sqlite.specs.WalFiles.{image_at};
 ghost use Rattle.td_files.specs.Found.{FileState, shown};
 ghost use Rattle.td_files.specs.declared.desks.DeskFault.TheVariants as fault;
-ghost use Rattle.td_store.specs.declared.refused.OpenFault.TheVariants as refused;
+ghost use Rattle.td_files.specs.Faults as refused;
 ghost use Rattle.td_cli.specs.Desks.{in_memory, over_file, BeginsEmpty, IsReady};
 ghost use Rattle.td_cli.specs.Piped.{IsPiped, IsPipedAt, IsUntouched, PipesAs};
 
@@ -14,9 +14,8 @@ use std::alloc::Global;
 use std::io::{Read, Write};
 use td_base::{Counted, Country};
 use td_desk::{Desk, PlainDesk};
-use td_files::{DeskFault, DeskFile, FileDesk};
+use td_files::{DeskFault, DeskFile, FileDesk, OpenFault};
 use td_http::{Clock, Service, StreamEnd, serve_stream};
-use td_store::OpenFault;
 use td_words::Records;
 
 /// Serves one stream of requests of this country at a desk whose records stand there, at this moment or by the machine's clock,

@@ -4,7 +4,7 @@ ghost use Rattle.sqlite.specs.Files.{file_state};
 ghost use Rattle.sqlite.specs.WalFiles.{image_at};
 ghost use Rattle.td_files.specs.Found.{FileState, shown};
 ghost use Rattle.td_files.specs.declared.desks.DeskFault.TheVariants as fault;
-ghost use Rattle.td_store.specs.declared.refused.OpenFault.TheVariants as refused;
+ghost use Rattle.td_files.specs.Faults as refused;
 ghost use Rattle.td_http.specs.Served.{desk_of};
 ghost use Rattle.td_cli.specs.Desks.{in_memory, over_file, BeginsEmpty, IsReady};
 ghost use Rattle.td_cli.specs.Listening.{AreLinesOf, IsServing, ServesAs, ServesAt};
@@ -17,9 +17,8 @@ use std::net::{Ipv4Addr, SocketAddr, TcpListener};
 use td_base::{Counted, Country, write_whole};
 use td_connections::serve_on;
 use td_desk::{Desk, PlainDesk};
-use td_files::{DeskFault, DeskFile, FileDesk};
+use td_files::{DeskFault, DeskFile, FileDesk, OpenFault};
 use td_http::{Clock, Service};
-use td_store::OpenFault;
 use td_words::{Listening, Records};
 
 /// How a serving ended.

@@ -9,9 +9,8 @@ use std::alloc::{AllocError, Global};
 use std::io;
 use std::io::{ErrorKind, Write};
 use td_base::{Counted, write_whole};
-use td_files::DeskFault;
+use td_files::{DeskFault, OpenFault};
 use td_http::StreamEnd;
-use td_store::OpenFault;
 
 /// The status of a job that is done.
 const DONE: u8 = 0;

@@ -10,7 +10,7 @@ use Rattle.td_desk.specs.Content.{empty_content}
 use Rattle.td_desk.specs.Sound.{IsSound}
 use Rattle.td_schema.specs.Making.{IsEmptyOf}
 use Rattle.td_schema.specs.Tables.{desk_schema, no_schema}
-use Rattle.td_store.specs.Kept.{content_in}
+pub use Rattle.td_store.specs.Kept.{content_in}
 use Rattle.td_store.specs.Opened.{AreOfDesk, TellsDatabase}
 use Rattle.td_store.specs.declared.refused.OpenFault.{OpenFault}
 use Rattle.td_store.specs.declared.refused.OpenFault.TheVariants.{UnknownVersion, NeedsMigration, OtherCountry, Damaged, Store, NoMemory}

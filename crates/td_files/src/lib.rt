@@ -6,3 +6,4 @@ mod files;
 
 pub use desks::{DeskFault, FileDesk};
 pub use files::{DeskFile, FileConnection, OneFile};
+pub use td_store::OpenFault;

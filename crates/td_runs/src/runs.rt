@@ -39,8 +39,7 @@ use std::io::Read;
 use std::process::Abort;
 use std::test::Fail;
 use td_base::Counted;
-use td_cli::perform;
-use td_files::DeskFile;
+use td_cli::{DeskFile, perform};
 
 /// The machine that a test runs on. A job takes it whole; a helper that also asserts takes a machine with `Abort`, which the
 /// `HostRuntime` has in a test alone.

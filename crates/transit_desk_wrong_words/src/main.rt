@@ -5,8 +5,7 @@
 use sqlite::Unknown;
 use std::process::ExitCode;
 use td_base::Counted;
-use td_cli::{run_program, words_of};
-use td_files::DeskFile;
+use td_cli::{DeskFile, run_program, words_of};
 
 fn main(rt: HostRuntime) -> ExitCode {
     let mut input = Counted::new(rt.stdin());

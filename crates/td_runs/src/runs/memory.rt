@@ -8,8 +8,7 @@ use std::io::ErrorKind;
 use std::process::Abort;
 use std::test::Fail;
 use td_base::Counted;
-use td_cli::{perform, run_program};
-use td_files::DeskFile;
+use td_cli::{DeskFile, perform, run_program};
 
 // What the program leaves where its words couldn't be read for this cause.
 fn done_unread(rt: &HostRuntime, kind: ErrorKind) -> Done {

@@ -9,8 +9,7 @@ use std::io;
 use std::net::{Ipv4Addr, Net, SocketAddr, TcpListener, TcpStream};
 use std::test::Fail;
 use td_base::Counted;
-use td_cli::perform;
-use td_files::DeskFile;
+use td_cli::{DeskFile, perform};
 
 /// A listener at a port that the machine chooses.
 pub fn listener<N: Net<Listener = TcpListener, Stream = TcpStream>>(

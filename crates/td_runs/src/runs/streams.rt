@@ -8,9 +8,8 @@ use std::alloc::{AllocError, Global};
 use std::process::Abort;
 use std::test::Fail;
 use td_base::Counted;
-use td_cli::{FixedClock, perform};
+use td_cli::{DeskFile, FixedClock, perform};
 use td_desk::PlainDesk;
-use td_files::DeskFile;
 use td_http::{Service, StreamEnd, serve_stream};
 
 const SEE: &[u8] = b"GET /holders/000002 HTTP/1.1\r\n\r\n";

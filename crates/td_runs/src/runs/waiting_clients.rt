@@ -8,8 +8,7 @@ use std::io;
 use std::io::{Read, Write};
 use std::test::Fail;
 use td_base::Counted;
-use td_cli::perform;
-use td_files::DeskFile;
+use td_cli::{DeskFile, perform};
 
 /// What the client sends at once, and the replies that it then waits for.
 type Turn = (&'static [u8], &'static [u8]);

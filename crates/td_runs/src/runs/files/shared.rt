@@ -11,8 +11,7 @@ use sqlite::{Connection, Unknown};
 use std::process::Abort;
 use std::test::Fail;
 use td_base::Counted;
-use td_cli::perform;
-use td_files::DeskFile;
+use td_cli::{DeskFile, perform};
 
 const MADE: Run = Run {
     words: PIPE_NEW,
