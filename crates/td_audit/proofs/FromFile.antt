@@ -8,38 +8,36 @@ use Rattle.td_sql.specs.Reading.{LeavesAll}
 use Rattle.td_sql.specs.Writing.{HasSchema}
 use Rattle.td_tables.specs.declared.rule.Rule.{Rule}
 use Rattle.td_audit_rows.specs.Holders.{AreAllHolders, AreHoldersIn, NumbersRise}
-use Rattle.td_audit_rows.specs.Ids.{HaveTheirIds}
+use Rattle.td_audit_rows.specs.Laws.{AreKept}
+use Rattle.td_audit_rows.specs.Scans.{TellReadable}
 use Rattle.td_audit_rows.specs.declared.holders.RawHolder.{RawHolder}
-use Rattle.td_audit.specs.Broken.{HasOffice, KeepsItsTables, TellsBroken, TellsCountry}
-use Rattle.td_audit.specs.InFile.{IsSoWhere, ReadsStore}
+use Rattle.td_audit_rows.specs.declared.tables.Readable.{Readable}
+use Rattle.td_audit.specs.Broken.{HasOffice, TellsBroken, TellsCountry}
+use Rattle.td_audit.specs.InFile.{IsSoWhere}
 use Rattle.td_audit.proofs.Reading.{one_read, read_more, so_before}
 
-module _ (a b d e : State) (country : List ℕ) (holders : List RawHolder) (first : LeavesAll desk_schema a b) (second : LeavesAll desk_schema b d)
-    (third : LeavesAll desk_schema d e) (ids : HaveTheirIds a) (shown : Option (List ℕ)) (some : shown ≡ Some country)
-    (office : HasSchema b desk_schema → TellsCountry b.now.trees shown) (found : AreAllHolders d holders) (order : NumbersRise holders) where
-  to_holders : ReadsStore a d
-  to_holders = read_more a b d (one_read a b first) (one_read b d second)
-
+module _ (a b d : State) (country : List ℕ) (holders : List RawHolder) (readable : Readable) (first : LeavesAll desk_schema a b)
+    (second : LeavesAll desk_schema b d) (shown : Option (List ℕ)) (some : shown ≡ Some country)
+    (office : HasSchema a desk_schema → TellsCountry a.now.trees shown) (found : AreAllHolders b holders) (order : NumbersRise holders) where
   -- what the rules after S1 are asked by
-  asked_by : HasSchema a desk_schema → KeepsItsTables a → HasOffice country holders a.now.trees
-  asked_by has keeps =
-      let said : TellsCountry a.now.trees shown =
-      so_before (λ trees. Unit {0}) (λ trees. TellsCountry trees shown) a b (one_read a b first) (λ has_b it. office has_b) has tt in
-      let told : TellsCountry a.now.trees (Some country) = subst (TellsCountry a.now.trees) some said in
+  asked_by : HasSchema a desk_schema → AreKept a.now.trees → TellReadable readable a.now.trees → HasOffice country holders readable a.now.trees
+  asked_by has kept told =
+      let said : TellsCountry a.now.trees (Some country) = subst (TellsCountry a.now.trees) some (office has) in
       record {
         known = record {
-          kept = keeps (ids has);
-          country_is = told.1;
-          holders_are = so_before (λ trees. Unit {0}) (λ trees. AreHoldersIn trees holders) a d to_holders (λ has_d it. found has_d) has tt;
+          kept = kept;
+          country_is = said.1;
+          holders_are = so_before (λ trees. Unit {0}) (λ trees. AreHoldersIn trees holders) a b (one_read a b first) (λ has_b it. found has_b) has tt;
           order = order;
         };
-        keeps = told.0;
+        keeps = said.0;
+        told = told;
       }
 
   pub told_first : (result : Result (Option Rule) Error)
-      → IfOk result (λ broken. IsSoWhere (HasOffice country holders) (λ trees. TellsBroken trees broken) e)
-      → IfOk result (λ broken. HasSchema a desk_schema → KeepsItsTables a → TellsBroken a.now.trees broken)
+      → IfOk result (λ broken. IsSoWhere (HasOffice country holders readable) (λ trees. TellsBroken trees broken) d)
+      → IfOk result (λ broken. HasSchema a desk_schema → AreKept a.now.trees → TellReadable readable a.now.trees → TellsBroken a.now.trees broken)
   told_first (Err error) told = told
-  told_first (Ok broken) told = λ has keeps.
-      so_before (HasOffice country holders) (λ trees. TellsBroken trees broken) a e (read_more a d e to_holders (one_read d e third)) told has
-      (asked_by has keeps)
+  told_first (Ok broken) told = λ has kept read.
+      so_before (HasOffice country holders readable) (λ trees. TellsBroken trees broken) a d (read_more a b d (one_read a b first) (one_read b d second)) told
+      has (asked_by has kept read)

@@ -127,22 +127,21 @@ module _ (law : FoundHoldersTell) (trees : Trees) (country : List ℕ) (holders 
 
 -- what is told by the scan of the table, where a row isn't read
 pub told_unread : (scanned : Bool) (a : State) (country : List ℕ) (holders : List RawHolder) → FoundHoldersTell → MovementsAreRead
-    → TellsRead movement_typing AreMovementFields a scanned → scanned ≡ false → TellsRule S5 country holders a false
+    → TellsRead movement_typing AreMovementFields a.now.trees scanned → scanned ≡ false → TellsRule S5 country holders a false
 told_unread scanned a country holders law read tells unread has known before = (
   λ t. absurd (false≢true t),
-  λ keeps. absurd (false≢true (sym unread ∙ (tells has).1 (kept_read law a.now.trees country holders known read (before S1 (omega arith)) keeps))),
+  λ keeps. absurd (false≢true (sym unread ∙ tells.1 (kept_read law a.now.trees country holders known read (before S1 (omega arith)) keeps))),
 )
 
 -- and by the holders' own, where each row is
-pub told_each : (scanned : Bool) (a b : State) (country : List ℕ) (holders : List RawHolder) → FoundHoldersTell
-    → TellsRead movement_typing AreMovementFields a scanned → IsTrue scanned → LeavesAll desk_schema a b
-    → (result : Result Bool Error) → IfOk result (TellsWhere (AreTypedApart movement_typing) (λ trees. AllByRecursion (HasMovementsInPlace country trees) holders) b)
-    → IfOk result (TellsRule S5 country holders a)
-told_each scanned a b country holders law tells is left (Err e) each = each
-told_each scanned a b country holders law tells is left (Ok told) each = λ has known before.
+pub told_each : (scanned : Bool) (a : State) (country : List ℕ) (holders : List RawHolder) → FoundHoldersTell
+    → IsTrue scanned → (result : Result Bool Error)
+    → IfOk result (TellsWhere (AreTypedApart movement_typing) (λ trees. AllByRecursion (HasMovementsInPlace country trees) holders) a)
+    → IfOk result (λ keeps. TellsRead movement_typing AreMovementFields a.now.trees scanned → TellsRule S5 country holders a keeps)
+told_each scanned a country holders law is (Err e) each = each
+told_each scanned a country holders law is (Ok told) each = λ tells has known before.
     let trees = a.now.trees in
-    let read = (tells has).0 is in
-    let whole = so_before (AreTypedApart movement_typing) (λ trees. IsTrue told ↔ AllByRecursion (HasMovementsInPlace country trees) holders) a b (one_read a b left) each has
-    (typed_apart law trees country holders known read) in
+    let read = tells.0 is in
+    let whole = each has (typed_apart law trees country holders known read) in
     let rule = kept_each law trees country holders known read in
     (λ t. rule.1 (whole.0 t), λ keeps. whole.1 (rule.0 keeps))

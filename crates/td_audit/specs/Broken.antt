@@ -11,7 +11,9 @@ use Rattle.td_store_tables.specs.Rows.{tables_in}
 use Rattle.td_audit_rows.specs.Ids.{HaveAllIds}
 use Rattle.td_audit_rows.specs.Kinds.{IsFirstBrokenRaw, KeepsRaw}
 use Rattle.td_audit_rows.specs.Laws.{AreKept}
+use Rattle.td_audit_rows.specs.Scans.{TellReadable}
 use Rattle.td_audit_rows.specs.declared.holders.RawHolder.{RawHolder}
+use Rattle.td_audit_rows.specs.declared.tables.Readable.{Readable}
 use Rattle.td_audit.specs.Auditable.{IsAuditable, KeepsBefore}
 
 -- the first rule that the tables break as they stand, or none
@@ -41,12 +43,13 @@ abbrev pub TellsCountry : Trees → Option (List ℕ) → Type 0
 TellsCountry trees None = ¬ KeepsRaw trees S1
 TellsCountry trees (Some country) = KeepsRaw trees S1 × ((tables_in trees).country ≡ country)
 
--- what the rules after S1 are asked by
-pub record HasOffice (country : List ℕ) (holders : List RawHolder) (trees : Trees) : Type 0 where
+-- what the rules after S1 are asked by, and which tables can be read row by row
+pub record HasOffice (country : List ℕ) (holders : List RawHolder) (readable : Readable) (trees : Trees) : Type 0 where
   pub known : IsAuditable trees country holders
   pub keeps : KeepsRaw trees S1
+  pub told : TellReadable readable trees
 
 -- and one of them, where the rules before it are kept
-pub record IsNextRule (rule : Rule) (country : List ℕ) (holders : List RawHolder) (trees : Trees) : Type 0 where
-  pub office : HasOffice country holders trees
+pub record IsNextRule (rule : Rule) (country : List ℕ) (holders : List RawHolder) (readable : Readable) (trees : Trees) : Type 0 where
+  pub office : HasOffice country holders readable trees
   pub before : KeepsBefore trees rule

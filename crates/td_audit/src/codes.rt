@@ -9,6 +9,8 @@ ghost use Rattle.td_sql.specs.Typed.{AreTyped};
 ghost use Rattle.td_sql.specs.Writing.{HasSchema};
 ghost use Rattle.td_codes.specs.Cells.{code_typing};
 ghost use Rattle.td_tables.specs.declared.rule.Rule.TheVariants.{S4};
+ghost use Rattle.td_audit_rows.specs.Fields.{AreCodeFields};
+ghost use Rattle.td_audit_rows.specs.Scans.{TellsRead};
 ghost use Rattle.td_audit_rows.specs.Kinds.{KeepsRaw};
 ghost use Rattle.td_audit.specs.Found.{OnlyReadsTables};
 ghost use Rattle.td_audit.specs.Premises.{AreCodesAuditable, HasCodesInPlace};
@@ -18,7 +20,7 @@ use crate::finding::codes_of_holder;
 use sqlite::{Error, Transaction};
 use sqlite_trees::store::Alter;
 use std::alloc::Global;
-use td_audit_rows::{RawHolder, all_codes_are_read, holder_fields_tell, kept_rules_are_read};
+use td_audit_rows::{RawHolder, holder_fields_tell, kept_rules_are_read};
 
 // Whether a holder's count of guarantees can be read, and the holder's codes are in their places by it.
 fn has_codes<S: Alter>(
@@ -74,20 +76,22 @@ fn all_have_codes<S: Alter>(
 }
 
 /// Whether the codes keep their rule as they stand in the file: each can be read and is of a guarantee of its holder's, and each
-/// guarantee has 1 to 20. The holders are all that the file has. `OutOfMemory`: want of memory; any other error is the database's
+/// guarantee has 1 to 20. The holders are all that the file has, and it is given whether each
+/// row of the table can be read. `OutOfMemory`: want of memory; any other error is the database's
 /// own. It changes nothing.
 pub fn codes_keep_rule<S: Alter>(
     alloc: Global,
     tx: &mut Transaction<'_, S>,
     holders: &[RawHolder],
+    are_read: bool,
 ) -> Result<bool, Error>
     requires { HasCleanDisk (state S.Store tx.old.conn.now) → IsTrue (state S.Store tx.old.conn.now).in_transaction }
     ensures same_reference { tx.new.conn.ghost_name ≡ tx.old.conn.ghost_name }
     ensures told { HasCleanDisk (state S.Store tx.new.conn.now)
         → IfOk result (λ keeps. AreCodesAuditable (state S.Store tx.old.conn.now) holders.now
-        → IsTrue keeps ↔ KeepsRaw (state S.Store tx.old.conn.now).now.trees S4) }
+        → TellsRead code_typing AreCodeFields (state S.Store tx.old.conn.now).now.trees are_read → IsTrue keeps ↔ KeepsRaw (state S.Store tx.old.conn.now).now.trees S4) }
     ensures still { HasCleanDisk (state S.Store tx.new.conn.now)
-        → OnOk result (LeavesAll desk_schema (state S.Store tx.old.conn.now) (state S.Store tx.new.conn.now)) }
+        → OnOk result (OnlyReadsTables (state S.Store tx.old.conn.now) (state S.Store tx.new.conn.now)) }
     ensures inside { HasCleanDisk (state S.Store tx.new.conn.now) → OnOk result (IsTrue (state S.Store tx.new.conn.now).in_transaction) }
     ensures kept { HasCleanDisk (state S.Store tx.new.conn.now)
         → KeepsCommit (state S.Store tx.old.conn.now) (state S.Store tx.new.conn.now) }
@@ -95,7 +99,7 @@ pub fn codes_keep_rule<S: Alter>(
 {
     holder_fields_tell();
     kept_rules_are_read();
-    if !all_codes_are_read(tx)? {
+    if !are_read {
         return Ok(false);
     }
     all_have_codes(alloc, tx, holders)

@@ -3,35 +3,38 @@ ghost use Rattle.std.specs.Prelude.{◌≡◌, IsTrue, IfOk, OnOk};
 ghost use Rattle.std.specs.List.{AllByRecursion};
 ghost use Rattle.sqlite.specs.Held.{state};
 ghost use Rattle.sqlite.specs.State.{HasCleanDisk, KeepsCommit, Survives};
-ghost use Rattle.td_schema.specs.Tables.{desk_schema};
-ghost use Rattle.td_sql.specs.Reading.{LeavesAll};
 ghost use Rattle.td_movements.specs.Cells.{movement_typing};
 ghost use Rattle.td_tables.specs.declared.rule.Rule.TheVariants.{S5};
+ghost use Rattle.td_audit_rows.specs.Fields.{AreMovementFields};
+ghost use Rattle.td_audit_rows.specs.Scans.{TellsRead};
 ghost use Rattle.td_audit.specs.Auditable.{TellsRule};
 ghost use Rattle.td_audit.specs.InFile.{AreTypedApart, HasMovementsInPlace, ReadsStore, TellsWhere};
 
 use sqlite::{Error, Transaction};
 use sqlite_trees::store::Alter;
 use std::alloc::Global;
-use td_audit_rows::{RawHolder, all_movements_are_read, found_holders_tell, kept_rules_are_read};
+use td_audit_rows::{RawHolder, found_holders_tell, kept_rules_are_read};
 use td_base::Country;
 use td_movements::movements_of;
 use td_rules::movements_are_in_place;
 
 /// Whether the tables keep S5 as they stand in the file, at an office of that country. It is given all holders, as
-/// `td_audit_rows::all_holders` reads them. `OutOfMemory`: want of memory; any other error is the database's own.
+/// `td_audit_rows::all_holders` reads them, and whether each row of the table can be read. `OutOfMemory`: want of memory; any
+/// other error is the database's own.
 pub fn movements_keep_rule<S: Alter>(
     alloc: Global,
     tx: &mut Transaction<'_, S>,
     country: Country,
     holders: &[RawHolder],
+    are_read: bool,
 ) -> Result<bool, Error>
     requires { HasCleanDisk (state S.Store tx.old.conn.now) → IsTrue (state S.Store tx.old.conn.now).in_transaction }
     ensures same_reference { tx.new.conn.ghost_name ≡ tx.old.conn.ghost_name }
     ensures told { HasCleanDisk (state S.Store tx.new.conn.now)
-        → IfOk result (TellsRule S5 country holders.now (state S.Store tx.old.conn.now)) }
+        → IfOk result (λ keeps. TellsRead movement_typing AreMovementFields (state S.Store tx.old.conn.now).now.trees are_read
+        → TellsRule S5 country holders.now (state S.Store tx.old.conn.now) keeps) }
     ensures still { HasCleanDisk (state S.Store tx.new.conn.now)
-        → OnOk result (LeavesAll desk_schema (state S.Store tx.old.conn.now) (state S.Store tx.new.conn.now)) }
+        → OnOk result (ReadsStore (state S.Store tx.old.conn.now) (state S.Store tx.new.conn.now)) }
     ensures inside { HasCleanDisk (state S.Store tx.new.conn.now) → OnOk result (IsTrue (state S.Store tx.new.conn.now).in_transaction) }
     ensures kept { HasCleanDisk (state S.Store tx.new.conn.now)
         → KeepsCommit (state S.Store tx.old.conn.now) (state S.Store tx.new.conn.now) }
@@ -39,7 +42,7 @@ pub fn movements_keep_rule<S: Alter>(
 {
     found_holders_tell();
     kept_rules_are_read();
-    if !all_movements_are_read(tx)? {
+    if !are_read {
         return Ok(false);
     }
     all_have_movements(alloc, tx, country, holders)

@@ -13,6 +13,7 @@ use Rattle.sqlite_trees.proofs.ListLemmas.{all_weaker}
 use Rattle.sqlite_rules.specs.Edit.{id_in}
 use Rattle.td_sql.specs.Rows.{HaveIds}
 use Rattle.td_audit_rows.specs.Ids.{IsAbove}
+use Rattle.td_audit_rows.specs.Rising.{AreUpTo, HaveRisen}
 
 -- what holds of the elements up to a place, and the one there
 pub take_next : {X : Type 0} (P : List X → Type 0) (xs : List X) (i : ℕ) (x : X) → i < length xs → x ≡ get_or xs i x
@@ -35,16 +36,6 @@ count_push p (x ∷ xs) y =
     elim (p x) as (λ b. length (cond b (x ∷ filter p (xs ++ y ∷ [])) (filter p (xs ++ y ∷ [])))
     ≡ length (cond b (x ∷ filter p xs) (filter p xs)) + length (filter p (y ∷ [])))
     [ true ↦ omega (arith, count_push p xs y) | false ↦ count_push p xs y ]
-
--- no rowid is above the last one
-abbrev pub AreUpTo : Option ℤ → List Row → Type 0
-AreUpTo None rows = rows ≡ []
-AreUpTo (Some last) rows = AllByRecursion (λ r. id_in (rowid r) ≤ℤ last) rows
-
--- the rowids of the rows rise up to the last one
-pub record HaveRisen (last : Option ℤ) (rows : List Row) : Type 0 where
-  pub ids : HaveIds rows
-  pub upto : AreUpTo last rows
 
 pub none_yet : HaveRisen None []
 none_yet = record { ids = record { ints = tt; apart = λ id. omega arith }; upto = refl }

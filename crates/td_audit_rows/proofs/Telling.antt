@@ -1,10 +1,10 @@
 -- What a statement over a whole table tells, where the tables are those of a store.
-use Rattle.std.proofs.Common.{◌≡◌, ◌∙◌, Bool, List, [], Err, Ok, Result, IsPermutation, ap, map, subst, sym}
-use Rattle.std.specs.Prelude.{◌↔◌, IfOk}
+use Rattle.std.proofs.Common.{◌≡◌, ◌∙◌, Bool, List, [], IsPermutation, ap, map, subst, sym}
+use Rattle.std.specs.Prelude.{◌↔◌}
 use Rattle.std.proofs.lemmas.List.Sorted.{IsPermutation-map}
 use Rattle.sqlite.specs.State.{State}
-use Rattle.sqlite.specs.declared.error.Error.{Error}
 use Rattle.sqlite_sql.specs.Term.{Term}
+use Rattle.sqlite_trees.specs.Tree.{Trees}
 use Rattle.sqlite_trees.proofs.ListLemmas.{all_weaker, map-map}
 use Rattle.sqlite_value.specs.declared.keys.Key.{Key}
 use Rattle.sqlite_value.specs.Order.{Row}
@@ -24,16 +24,15 @@ use Rattle.td_audit_rows.proofs.Shown.{found_all}
 module _ {R : Type 0} (ty : Typing R) (AreFields : R → Type 0) (AreRead : Row → Type 0) (text : List _) (shows : List Term)
     (order : List (Term × Key)) (means : MeansSelect desk_schema text ty.table.tree [] shows order)
     (showing : (r : Row) → shown_by shows [] r ≡ ty.columns r) (read : (r : Row) → AreRead (ty.columns r) ↔ IsReadRow ty AreFields r)
-    (old : State) where
-  pub tells : (result : Result Bool Error) → IfOk result (Scans AreRead text old) → IfOk result (TellsRead ty AreFields old)
-  tells (Ok all) h = λ has.
-      let told = h desk_schema ty.table.tree shows order has means in (
+    (trees : Trees) where
+  pub tells : (all : Bool) → Scans AreRead text trees all → TellsRead ty AreFields trees all
+  tells all h =
+      let told = h ty.table.tree shows order means in (
         λ is. all_weaker (λ r. AreRead (shown_by shows [] r)) (IsReadRow ty AreFields) (λ r it. (read r).0 (subst AreRead (showing r) it))
-            (old.now.trees ty.table.tree) (told.0 is),
+            (trees ty.table.tree) (told.0 is),
         λ each. told.1 (all_weaker (IsReadRow ty AreFields) (λ r. AreRead (shown_by shows [] r))
-            (λ r it. subst AreRead (sym (showing r)) ((read r).1 it)) (old.now.trees ty.table.tree) each),
+            (λ r it. subst AreRead (sym (showing r)) ((read r).1 it)) (trees ty.table.tree) each),
       )
-  tells (Err e) h = h
 
 -- all holders were fetched
 pub all_fetched : (old : State) (found : List RawHolder) → Fetches fields_of_raw fields_from HOLDERS.now [] old found → AreAllHolders old found

@@ -3,12 +3,9 @@ use Rattle.std.specs.Prelude.{ℕ, ℤ, ◌<ℤ◌, List, [], ◌∷◌, Option,
 use Rattle.sqlite_value.specs.declared.keys.Key.{Key}
 use Rattle.sqlite_trees.specs.Tree.{Trees}
 use Rattle.sqlite_sql.specs.Term.{Term, col}
-use Rattle.sqlite_schema.specs.declared.schema.Schema.{Schema}
-use Rattle.sqlite.specs.State.{State}
 use Rattle.td_schema.specs.Tables.{desk_schema}
 use Rattle.td_sql.specs.Meanings.{MeansSelect}
 use Rattle.td_sql.specs.Rows.{HaveIds}
-use Rattle.td_sql.specs.Writing.{HasSchema}
 use Rattle.td_meta.specs.Cells.{meta_typing}
 use Rattle.td_holders.specs.Cells.{holder_typing}
 use Rattle.td_guarantees.specs.Cells.{guarantee_typing}
@@ -21,11 +18,10 @@ abbrev pub IsAbove : Option ℤ → ℤ → Type 0
 IsAbove None id = Unit {0}
 IsAbove (Some before) id = before <ℤ id
 
--- whatever table the text shows the rowids of, they are integers, and no two are the same
-abbrev pub ShowsIds : List ℕ → State → Type 0
-ShowsIds text state =
-    (s : Schema) (tree : ℕ) (order : List (Term × Key)) → HasSchema state s
-    → MeansSelect s text tree [] (col 1 0 ∷ []) order → HaveIds (state.now.trees tree)
+-- whatever table of a store the text shows the rowids of, they are integers, and no two are the same
+abbrev pub ShowsIds : List ℕ → Trees → Type 0
+ShowsIds text trees =
+    (tree : ℕ) (order : List (Term × Key)) → MeansSelect desk_schema text tree [] (col 1 0 ∷ []) order → HaveIds (trees tree)
 
 -- so are those of each table of a store
 pub record HaveAllIds (trees : Trees) : Type 0 where
@@ -35,7 +31,3 @@ pub record HaveAllIds (trees : Trees) : Type 0 where
   pub codes : HaveIds (trees code_typing.table.tree)
   pub movements : HaveIds (trees movement_typing.table.tree)
   pub lines : HaveIds (trees line_typing.table.tree)
-
--- where the file has a store's tables, its rowids are so
-abbrev pub HaveTheirIds : State → Type 0
-HaveTheirIds state = HasSchema state desk_schema → HaveAllIds state.now.trees

@@ -2,6 +2,7 @@ pub mod Kinds
 pub mod Kept
 pub mod Laws
 pub mod Ids
+pub mod Rising
 pub mod Holders
 pub mod Fields
 pub mod Scans

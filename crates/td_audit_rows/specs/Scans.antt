@@ -5,17 +5,21 @@ use Rattle.sqlite_value.specs.declared.keys.Key.{Key}
 use Rattle.sqlite_value.specs.declared.value.Value.TheVariants.{Text}
 use Rattle.sqlite_value.specs.Order.{Row, column}
 use Rattle.sqlite_sql.specs.Term.{Term}
-use Rattle.sqlite_schema.specs.declared.schema.Schema.{Schema}
-use Rattle.sqlite.specs.State.{State}
+use Rattle.td_schema.specs.Tables.{desk_schema}
 use Rattle.td_movement.specs.States.{state_name}
 use Rattle.td_movement.specs.declared.state.State.{State as MovementState}
-use Rattle.td_schema.specs.Tables.{desk_schema}
 use Rattle.td_sql.specs.Meanings.{MeansSelect}
 use Rattle.td_sql.specs.Reading.{shown_by}
 use Rattle.td_sql.specs.Typed.{IsTypedRow, Typing, row_of}
-use Rattle.td_sql.specs.Writing.{HasSchema}
 use Rattle.td_columns.specs.Fields.{amount_in, code_in, cover_in, day_in, grn_in, holder_in, lrn_in, mrn_in, office_in, optional_in, serial_in}
+use Rattle.sqlite_trees.specs.Tree.{Trees}
+use Rattle.td_codes.specs.Cells.{code_typing}
+use Rattle.td_guarantees.specs.Cells.{guarantee_typing}
+use Rattle.td_lines.specs.Cells.{line_typing}
+use Rattle.td_movements.specs.Cells.{movement_typing}
+use Rattle.td_audit_rows.specs.Fields.{AreCodeFields, AreGuaranteeFields, AreLineFields, AreMovementFields}
 use Rattle.td_audit_rows.specs.Kinds.{AllRows}
+use Rattle.td_audit_rows.specs.declared.tables.Readable.{Readable}
 
 -- the columns that a statement shows first of a row are a holder's number and a serial
 pub record AreKeyColumns (cells : Row) : Type 0 where
@@ -61,18 +65,23 @@ pub record AreLineColumns (cells : Row) : Type 0 where
   pub guarantee : IsSome (serial_in (column cells 3))
   pub cents : IsSome (amount_in (column cells 4))
 
--- whatever table the text shows, it is told whether the columns that are shown of each row are read
-abbrev pub Scans : (Row → Type 0) → List ℕ → State → Bool → Type 0
-Scans AreRead text state all =
-    (s : Schema) (tree : ℕ) (shows : List Term) (order : List (Term × Key)) → HasSchema state s
-    → MeansSelect s text tree [] shows order
-    → IsTrue all ↔ AllByRecursion (λ r. AreRead (shown_by shows [] r)) (state.now.trees tree)
+-- whatever table of a store the text shows, it is told whether the columns that are shown of each row are read
+abbrev pub Scans : (Row → Type 0) → List ℕ → Trees → Bool → Type 0
+Scans AreRead text trees all =
+    (tree : ℕ) (shows : List Term) (order : List (Term × Key)) → MeansSelect desk_schema text tree [] shows order
+    → IsTrue all ↔ AllByRecursion (λ r. AreRead (shown_by shows [] r)) (trees tree)
 
 -- the row is of its kinds, and its fields are in range
 abbrev pub IsReadRow : {R : Type 0} → Typing R → (R → Type 0) → Row → Type 0
 IsReadRow ty AreFields r = IsTypedRow ty r × AreFields (row_of ty r)
 
 -- it is told whether each row of the table is so
-abbrev pub TellsRead : {R : Type 0} → Typing R → (R → Type 0) → State → Bool → Type 0
-TellsRead ty AreFields state all =
-    HasSchema state desk_schema → IsTrue all ↔ AllRows ty (IsReadRow ty AreFields) state.now.trees
+abbrev pub TellsRead : {R : Type 0} → Typing R → (R → Type 0) → Trees → Bool → Type 0
+TellsRead ty AreFields trees all = IsTrue all ↔ AllRows ty (IsReadRow ty AreFields) trees
+
+-- so it is of each table that belongs to holders
+pub record TellReadable (readable : Readable) (trees : Trees) : Type 0 where
+  pub guarantees : TellsRead guarantee_typing AreGuaranteeFields trees readable.guarantees
+  pub codes : TellsRead code_typing AreCodeFields trees readable.codes
+  pub movements : TellsRead movement_typing AreMovementFields trees readable.movements
+  pub lines : TellsRead line_typing AreLineFields trees readable.lines

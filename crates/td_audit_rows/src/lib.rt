@@ -1,6 +1,5 @@
 //! What the audit of a store's file reads of it, whatever stands in its tables: the rowids of each table, all holders, and
-//! whether each row of the other tables is of its kinds and in range. Each function runs inside a transaction and changes
-//! nothing.
+//! whether each row of the other tables is of its kinds and in range. Each function changes nothing.
 #![tactic(auto)]
 
 mod holders;
@@ -11,11 +10,8 @@ mod tables;
 mod texts;
 
 pub use holders::{RawHolder, all_holders};
-pub use ids::{all_ids_rise, ids_rise};
 pub use laws::{
     content_keeps_rules, found_holders_tell, holder_fields_tell, kept_rules_are_read,
     kept_rules_mean_content,
 };
-pub use tables::{
-    all_codes_are_read, all_guarantees_are_read, all_lines_are_read, all_movements_are_read,
-};
+pub use tables::{Readable, readable_tables};

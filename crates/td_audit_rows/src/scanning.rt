@@ -1,13 +1,16 @@
 //! Whether each row that a statement shows is of its kinds and in range.
-ghost use Rattle.std.specs.Prelude.{◌≡◌, ◌↔◌, IsTrue, IfOk, OnOk};
-ghost use Rattle.std.specs.List.{AllByRecursion};
+ghost use Rattle.std.specs.Prelude.{◌≡◌, ◌↔◌, false, IsTrue, IfOk, OnOk};
+ghost use Rattle.sqlite.specs.Given.{IsPlain};
 ghost use Rattle.sqlite.specs.Held.{state};
-ghost use Rattle.sqlite.specs.State.{HasCleanDisk, KeepsCommit, Survives};
-ghost use Rattle.td_sql.specs.Reading.{OnlyReads};
+ghost use Rattle.sqlite.specs.Listing.{understood};
+ghost use Rattle.sqlite.specs.State.{HasCleanDisk, IsUnchanged, Survives};
+ghost use Rattle.td_schema.specs.Tables.{desk_schema};
+ghost use Rattle.td_walks.specs.Walked.{IsLeftAlone};
 ghost use Rattle.td_audit_rows.specs.Scans.{AreDeclaredColumns, AreKeyColumns, AreStatusColumns, Scans};
 
-use sqlite::{Error, Row, Transaction};
+use sqlite::{Connection, Error, Row};
 use sqlite_trees::store::Alter;
+use std::marker::PhantomData;
 use td_codes::StoredCode;
 use td_columns::{
     amount_at, code_at, cover_at, day_at, grn_at, holder_at, lrn_at, mrn_at, office_at,
@@ -16,7 +19,7 @@ use td_columns::{
 use td_guarantees::StoredGuarantee;
 use td_lines::StoredLine;
 use td_movements::StoredMovement;
-use td_sql::select;
+use td_walks::{Walker, walk};
 
 /// What is read from the columns of a row, where they are its fields.
 pub(crate) trait Scanned {
@@ -109,35 +112,45 @@ impl Scanned for StoredLine {
     }
 }
 
-// Whether the columns of each row are its fields.
-fn are_read<T: Scanned>(rows: &[Row]) -> bool
-    ensures { IsTrue result ↔ AllByRecursion T.AreRead rows.now }
-{
-    for row in rows {
-        if !T::is_read(row) {
-            return false;
-        }
+// Whether the columns of each row so far were its fields.
+#[derive(Drop)]
+struct TableScan<T> {
+    all: bool,
+    of: PhantomData<T>,
+}
+
+impl<T: Scanned> Walker for TableScan<T> {
+    ghost use Rattle.std.specs.Prelude.{◌↔◌, IsTrue};
+    ghost use Rattle.std.specs.List.{AllByRecursion};
+
+    ghost Knows = { λ rows scan. IsTrue scan.all ↔ AllByRecursion T.AreRead rows };
+
+    fn see(&mut self, row: &Row) {
+        self.all = self.all && T::is_read(row);
     }
-    true
 }
 
 /// Whether the columns that are shown of each row of a table are its fields. The text is a SELECT of them over the whole
-/// table. Any error is the database's own. It changes nothing.
+/// table. Any error is the database's own. It changes nothing, and keeps no row.
 pub(crate) fn scan<S: Alter, T: Scanned>(
-    tx: &mut Transaction<'_, S>,
+    conn: &mut Connection<S>,
     text: &str,
 ) -> Result<bool, Error>
-    requires { HasCleanDisk (state S.Store tx.old.conn.now) → IsTrue (state S.Store tx.old.conn.now).in_transaction }
-    ensures same_reference { tx.new.conn.ghost_name ≡ tx.old.conn.ghost_name }
-    ensures told { HasCleanDisk (state S.Store tx.new.conn.now)
-        → IfOk result (λ all. Scans T.AreRead text.now (state S.Store tx.old.conn.now) all) }
-    ensures still { HasCleanDisk (state S.Store tx.new.conn.now)
-        → OnOk result (OnlyReads text.now (state S.Store tx.old.conn.now) (state S.Store tx.new.conn.now)) }
-    ensures inside { HasCleanDisk (state S.Store tx.new.conn.now) → OnOk result (IsTrue (state S.Store tx.new.conn.now).in_transaction) }
-    ensures kept { HasCleanDisk (state S.Store tx.new.conn.now)
-        → KeepsCommit (state S.Store tx.old.conn.now) (state S.Store tx.new.conn.now) }
-    ensures survives { Survives (state S.Store tx.old.conn.now) (state S.Store tx.new.conn.now) (λ _. ⊥) }
+    requires outside { conn.old.in_transaction ≡ false }
+    requires tables { HasCleanDisk (state S.Store conn.old) → (state S.Store conn.old).now.schema ≡ desk_schema }
+    requires plain { IsPlain (understood desk_schema text.now) }
+    ensures ended { conn.new.in_transaction ≡ false }
+    ensures told { HasCleanDisk (state S.Store conn.new)
+        → IfOk result (λ all. Scans T.AreRead text.now (state S.Store conn.old).now.trees all) }
+    ensures still { HasCleanDisk (state S.Store conn.new)
+        → OnOk result (IsUnchanged (state S.Store conn.old) (state S.Store conn.new)) }
+    ensures left { HasCleanDisk (state S.Store conn.new) → IsLeftAlone (state S.Store conn.old) (state S.Store conn.new) }
+    ensures survives { Survives (state S.Store conn.old) (state S.Store conn.new) (λ _. ⊥) }
 {
-    let rows = select(tx, text, &[])?;
-    Ok(are_read::<T>(&rows))
+    let mut scan = TableScan::<T> {
+        all: true,
+        of: PhantomData,
+    };
+    walk(conn, text, &mut scan)?;
+    Ok(scan.all)
 }

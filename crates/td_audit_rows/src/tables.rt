@@ -1,86 +1,70 @@
-//! Scans of whole tables: whether each row is of its kinds and its fields are in the ranges that they are read in. Each function
-//! runs one statement and changes nothing. Any error is the database's own, or want of memory.
-ghost use Rattle.std.specs.Prelude.{◌≡◌, IsTrue, IfOk, OnOk};
+//! Which tables can be read row by row: whether each row is of its kinds and its fields are in the ranges that they are read in.
+ghost use Rattle.std.specs.Prelude.{◌≡◌, false, IfOk, OnOk};
 ghost use Rattle.sqlite.specs.Held.{state};
-ghost use Rattle.sqlite.specs.State.{HasCleanDisk, KeepsCommit, Survives};
+ghost use Rattle.sqlite.specs.State.{HasCleanDisk, IsUnchanged, Survives};
 ghost use Rattle.td_schema.specs.Tables.{desk_schema};
-ghost use Rattle.td_sql.specs.Reading.{LeavesAll};
-ghost use Rattle.td_codes.specs.Cells.{code_typing};
-ghost use Rattle.td_guarantees.specs.Cells.{guarantee_typing};
-ghost use Rattle.td_lines.specs.Cells.{line_typing};
-ghost use Rattle.td_movements.specs.Cells.{movement_typing};
-ghost use Rattle.td_audit_rows.specs.Fields.{AreCodeFields, AreGuaranteeFields, AreLineFields, AreMovementFields};
-ghost use Rattle.td_audit_rows.specs.Scans.{TellsRead};
+ghost use Rattle.td_walks.specs.Walked.{IsLeftAlone};
+ghost use Rattle.td_audit_rows.specs.Ids.{HaveAllIds};
+ghost use Rattle.td_audit_rows.specs.Scans.{TellReadable};
 
+use crate::ids::all_ids_rise;
 use crate::scanning::scan;
 use crate::texts::{CODES, GUARANTEES, LINES, MOVEMENTS};
-use sqlite::{Error, Transaction};
+use sqlite::{Connection, Error};
 use sqlite_trees::store::Alter;
 use td_codes::StoredCode;
 use td_guarantees::StoredGuarantee;
 use td_lines::StoredLine;
 use td_movements::StoredMovement;
 
-/// Whether each row of the table of guarantees can be read.
-pub fn all_guarantees_are_read<S: Alter>(tx: &mut Transaction<'_, S>) -> Result<bool, Error>
-    requires { HasCleanDisk (state S.Store tx.old.conn.now) → IsTrue (state S.Store tx.old.conn.now).in_transaction }
-    ensures same_reference { tx.new.conn.ghost_name ≡ tx.old.conn.ghost_name }
-    ensures told { HasCleanDisk (state S.Store tx.new.conn.now)
-        → IfOk result (TellsRead guarantee_typing AreGuaranteeFields (state S.Store tx.old.conn.now)) }
-    ensures still { HasCleanDisk (state S.Store tx.new.conn.now)
-        → OnOk result (LeavesAll desk_schema (state S.Store tx.old.conn.now) (state S.Store tx.new.conn.now)) }
-    ensures inside { HasCleanDisk (state S.Store tx.new.conn.now) → OnOk result (IsTrue (state S.Store tx.new.conn.now).in_transaction) }
-    ensures kept { HasCleanDisk (state S.Store tx.new.conn.now)
-        → KeepsCommit (state S.Store tx.old.conn.now) (state S.Store tx.new.conn.now) }
-    ensures survives { Survives (state S.Store tx.old.conn.now) (state S.Store tx.new.conn.now) (λ _. ⊥) }
-{
-    scan::<S, StoredGuarantee>(tx, GUARANTEES)
+/// Which of the tables that belong to holders can be read: of which each row is of its kinds and in range.
+#[derive(Clone, Copy, Debug, PartialEq, Eq)]
+pub struct Readable {
+    pub guarantees: bool,
+    pub codes: bool,
+    pub movements: bool,
+    pub lines: bool,
 }
 
-/// Whether each row of the table of codes can be read.
-pub fn all_codes_are_read<S: Alter>(tx: &mut Transaction<'_, S>) -> Result<bool, Error>
-    requires { HasCleanDisk (state S.Store tx.old.conn.now) → IsTrue (state S.Store tx.old.conn.now).in_transaction }
-    ensures same_reference { tx.new.conn.ghost_name ≡ tx.old.conn.ghost_name }
-    ensures told { HasCleanDisk (state S.Store tx.new.conn.now)
-        → IfOk result (TellsRead code_typing AreCodeFields (state S.Store tx.old.conn.now)) }
-    ensures still { HasCleanDisk (state S.Store tx.new.conn.now)
-        → OnOk result (LeavesAll desk_schema (state S.Store tx.old.conn.now) (state S.Store tx.new.conn.now)) }
-    ensures inside { HasCleanDisk (state S.Store tx.new.conn.now) → OnOk result (IsTrue (state S.Store tx.new.conn.now).in_transaction) }
-    ensures kept { HasCleanDisk (state S.Store tx.new.conn.now)
-        → KeepsCommit (state S.Store tx.old.conn.now) (state S.Store tx.new.conn.now) }
-    ensures survives { Survives (state S.Store tx.old.conn.now) (state S.Store tx.new.conn.now) (λ _. ⊥) }
+// The same, of tables whose rowids were seen to rise.
+fn scan_tables<S: Alter>(conn: &mut Connection<S>) -> Result<Readable, Error>
+    requires outside { conn.old.in_transaction ≡ false }
+    requires tables { HasCleanDisk (state S.Store conn.old) → (state S.Store conn.old).now.schema ≡ desk_schema }
+    ensures ended { conn.new.in_transaction ≡ false }
+    ensures told { HasCleanDisk (state S.Store conn.new)
+        → IfOk result (λ readable. TellReadable readable (state S.Store conn.old).now.trees) }
+    ensures still { HasCleanDisk (state S.Store conn.new)
+        → OnOk result (IsUnchanged (state S.Store conn.old) (state S.Store conn.new)) }
+    ensures left { HasCleanDisk (state S.Store conn.new) → IsLeftAlone (state S.Store conn.old) (state S.Store conn.new) }
+    ensures survives { Survives (state S.Store conn.old) (state S.Store conn.new) (λ _. ⊥) }
 {
-    scan::<S, StoredCode>(tx, CODES)
+    let guarantees = scan::<S, StoredGuarantee>(conn, GUARANTEES)?;
+    let codes = scan::<S, StoredCode>(conn, CODES)?;
+    let movements = scan::<S, StoredMovement>(conn, MOVEMENTS)?;
+    let lines = scan::<S, StoredLine>(conn, LINES)?;
+    Ok(Readable {
+        guarantees,
+        codes,
+        movements,
+        lines,
+    })
 }
 
-/// Whether each row of the table of movements can be read.
-pub fn all_movements_are_read<S: Alter>(tx: &mut Transaction<'_, S>) -> Result<bool, Error>
-    requires { HasCleanDisk (state S.Store tx.old.conn.now) → IsTrue (state S.Store tx.old.conn.now).in_transaction }
-    ensures same_reference { tx.new.conn.ghost_name ≡ tx.old.conn.ghost_name }
-    ensures told { HasCleanDisk (state S.Store tx.new.conn.now)
-        → IfOk result (TellsRead movement_typing AreMovementFields (state S.Store tx.old.conn.now)) }
-    ensures still { HasCleanDisk (state S.Store tx.new.conn.now)
-        → OnOk result (LeavesAll desk_schema (state S.Store tx.old.conn.now) (state S.Store tx.new.conn.now)) }
-    ensures inside { HasCleanDisk (state S.Store tx.new.conn.now) → OnOk result (IsTrue (state S.Store tx.new.conn.now).in_transaction) }
-    ensures kept { HasCleanDisk (state S.Store tx.new.conn.now)
-        → KeepsCommit (state S.Store tx.old.conn.now) (state S.Store tx.new.conn.now) }
-    ensures survives { Survives (state S.Store tx.old.conn.now) (state S.Store tx.new.conn.now) (λ _. ⊥) }
+/// Which tables of a store can be read row by row. It walks along all rows outside a transaction, keeps none, and changes
+/// nothing. `DatabaseCorrupt`: the rowids of a table aren't integers, or two are the same; any other error is the database's own, or
+/// want of memory.
+pub fn readable_tables<S: Alter>(conn: &mut Connection<S>) -> Result<Readable, Error>
+    requires outside { conn.old.in_transaction ≡ false }
+    requires tables { HasCleanDisk (state S.Store conn.old) → (state S.Store conn.old).now.schema ≡ desk_schema }
+    ensures ended { conn.new.in_transaction ≡ false }
+    ensures ids { HasCleanDisk (state S.Store conn.new) → OnOk result (HaveAllIds (state S.Store conn.old).now.trees) }
+    ensures told { HasCleanDisk (state S.Store conn.new)
+        → IfOk result (λ readable. TellReadable readable (state S.Store conn.old).now.trees) }
+    ensures still { HasCleanDisk (state S.Store conn.new)
+        → OnOk result (IsUnchanged (state S.Store conn.old) (state S.Store conn.new)) }
+    ensures left { HasCleanDisk (state S.Store conn.new) → IsLeftAlone (state S.Store conn.old) (state S.Store conn.new) }
+    ensures survives { Survives (state S.Store conn.old) (state S.Store conn.new) (λ _. ⊥) }
 {
-    scan::<S, StoredMovement>(tx, MOVEMENTS)
-}
-
-/// Whether each row of the table of lines can be read.
-pub fn all_lines_are_read<S: Alter>(tx: &mut Transaction<'_, S>) -> Result<bool, Error>
-    requires { HasCleanDisk (state S.Store tx.old.conn.now) → IsTrue (state S.Store tx.old.conn.now).in_transaction }
-    ensures same_reference { tx.new.conn.ghost_name ≡ tx.old.conn.ghost_name }
-    ensures told { HasCleanDisk (state S.Store tx.new.conn.now)
-        → IfOk result (TellsRead line_typing AreLineFields (state S.Store tx.old.conn.now)) }
-    ensures still { HasCleanDisk (state S.Store tx.new.conn.now)
-        → OnOk result (LeavesAll desk_schema (state S.Store tx.old.conn.now) (state S.Store tx.new.conn.now)) }
-    ensures inside { HasCleanDisk (state S.Store tx.new.conn.now) → OnOk result (IsTrue (state S.Store tx.new.conn.now).in_transaction) }
-    ensures kept { HasCleanDisk (state S.Store tx.new.conn.now)
-        → KeepsCommit (state S.Store tx.old.conn.now) (state S.Store tx.new.conn.now) }
-    ensures survives { Survives (state S.Store tx.old.conn.now) (state S.Store tx.new.conn.now) (λ _. ⊥) }
-{
-    scan::<S, StoredLine>(tx, LINES)
+    all_ids_rise(conn)?;
+    scan_tables(conn)
 }

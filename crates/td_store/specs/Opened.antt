@@ -1,5 +1,6 @@
 -- What is told of a store's file when a desk is to be opened over it.
-use Rattle.std.specs.Prelude.{◌≡◌, ◌≢◌, ◌⊎◌, ℕ, pos, List, [], ◌∷◌, Option, Some, None, codes}
+use Rattle.std.specs.Prelude.{◌≡◌, ◌≢◌, ◌⊎◌, ℕ, pos, List, [], ◌∷◌, Option, Some, None, codes, map, option_map}
+use Rattle.std.specs.Option.{option_to_list}
 use Rattle.sqlite_schema.specs.Names.{table_named}
 use Rattle.sqlite_schema.specs.declared.schema.Schema.{Schema}
 use Rattle.sqlite_trees.specs.Tree.{Trees}
@@ -8,9 +9,14 @@ use Rattle.td_tables.specs.declared.rule.Rule.{Rule}
 use Rattle.td_schema.specs.Tables.{desk_schema}
 use Rattle.td_sql.specs.Typed.{AreTyped, rows_in}
 use Rattle.td_meta.specs.Cells.{meta_row, meta_typing}
+use Rattle.td_meta.specs.Stored.{stored_of}
 use Rattle.td_meta.specs.declared.stored.StoredMeta.{StoredMeta}
 use Rattle.td_audit_rows.specs.Kinds.{IsFirstBrokenRaw}
-use Rattle.td_audit_rows.specs.Laws.{HoldSoundContent}
+use Rattle.td_audit_rows.specs.Ids.{HaveAllIds}
+use Rattle.td_audit_rows.specs.Laws.{AreKept, HoldSoundContent}
+use Rattle.td_audit_rows.specs.Scans.{TellReadable}
+use Rattle.td_audit_rows.specs.declared.tables.Readable.{Readable}
+use Rattle.td_audit.specs.Broken.{TellsBroken}
 use Rattle.td_store.specs.declared.refused.OpenFault.{OpenFault}
 use Rattle.td_store.specs.declared.refused.OpenFault.TheVariants.{UnknownVersion, NeedsMigration, OtherCountry, Damaged, Store, NoMemory}
 
@@ -67,3 +73,18 @@ TellsOffice country meta (Some UnknownVersion) = (m : StoredMeta) → meta ≡ S
 TellsOffice country meta (Some OtherCountry) =
     (m : StoredMeta) × (meta ≡ Some m) × (m.version ≡ pos 1) × (m.country ≢ Some country)
 TellsOffice country meta (Some _) = ⊥
+
+-- it is told of the office's own row as it stands in the tables
+abbrev pub TellsOfficeIn : List ℕ → Trees → Option OpenFault → Type 0
+TellsOfficeIn country trees fault =
+    (meta : Option StoredMeta) × (AreTyped meta_typing trees → map stored_of (rows_in meta_typing trees) ≡ option_to_list meta)
+    × TellsOffice country meta fault
+
+-- where the rowids are integers, no two the same, and these tables can be read, it is told what the rules say of the tables
+abbrev pub TellsRules : Readable → Trees → Option Rule → Type 0
+TellsRules readable trees broken =
+    HaveAllIds trees → TellReadable readable trees → AreKept trees × TellsBroken trees broken
+
+-- and what a fault, or none, then says of them: the first rule that they break
+abbrev pub TellsRows : Trees → Option OpenFault → Type 0
+TellsRows trees fault = (broken : Option Rule) × (fault ≡ option_map Damaged broken) × HaveAllIds trees × AreKept trees × TellsBroken trees broken

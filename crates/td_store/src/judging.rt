@@ -6,7 +6,7 @@ ghost use Rattle.td_schema.specs.Tables.{desk_schema};
 ghost use Rattle.td_sql.specs.Writing.{HasSchema};
 ghost use Rattle.td_store.specs.Kept.{LeavesTrees};
 ghost use Rattle.td_store.specs.declared.refused.OpenFault.TheVariants as fault;
-ghost use Rattle.td_store.specs.Opened.{LacksMeta, TellsDatabase, TellsTables};
+ghost use Rattle.td_store.specs.Opened.{LacksMeta, TellsDatabase, TellsOfficeIn, TellsRows, TellsRules, TellsTables};
 
 use crate::faults::open_fault_of;
 use crate::office::office_fault;
@@ -16,41 +16,112 @@ use sqlite::{Connection, Error};
 use sqlite_trees::store::Alter;
 use std::alloc::Global;
 use td_audit::{first_broken, kept};
-use td_audit_rows::kept_rules_mean_content;
+use td_audit_rows::{Readable, kept_rules_mean_content, readable_tables};
 use td_base::Country;
 use td_meta::find_meta;
 use td_tables::Rule;
 
-// What the tables of a store are refused for, at an office of that country, or none. They are read in one transaction. An error
-// is the database's own, or want of memory.
+// What the office's own row is refused for, at an office of that country, or none. It is read in a transaction. An error is the
+// database's own, or want of memory.
+fn fault_of_office<S: Alter>(
+    conn: &mut Connection<S>,
+    country: Country,
+) -> Result<Option<OpenFault>, Error>
+    requires outside { conn.old.in_transaction ≡ false }
+    requires tables { HasCleanDisk (state S.Store conn.old) → (state S.Store conn.old).now.schema ≡ desk_schema }
+    ensures ended { conn.new.in_transaction ≡ false }
+    ensures live { HasCleanDisk (state S.Store conn.new) → IsTrue (state S.Store conn.new).is_open → IsTrue (state S.Store conn.old).is_open }
+    ensures shown { HasCleanDisk (state S.Store conn.new)
+        → OnOk result (IsTrue (state S.Store conn.old).is_open × IsTrue (state S.Store conn.new).is_open) }
+    ensures told { HasCleanDisk (state S.Store conn.new)
+        → IfOk result (TellsOfficeIn country (state S.Store conn.old).now.trees) }
+    ensures same { HasCleanDisk (state S.Store conn.new) → IsTrue (state S.Store conn.new).is_open
+        → (state S.Store conn.new).now ≡ (state S.Store conn.old).now }
+    ensures crash { Survives (state S.Store conn.old) (state S.Store conn.new) (LeavesTrees (state S.Store conn.old)) }
+{
+    let _settled = conn.is_autocommit();
+    let mut tx = conn.transaction();
+    let meta = find_meta(&mut tx)?;
+    tx.commit()?;
+    Ok(office_fault(meta, country))
+}
+
+// The first rule that the tables of a store break, of which these can be read, or none. Their rows are read in one transaction.
+// An error is the database's own, or want of memory.
+fn broken_rule<S: Alter>(
+    alloc: Global,
+    conn: &mut Connection<S>,
+    readable: Readable,
+) -> Result<Option<Rule>, Error>
+    requires outside { conn.old.in_transaction ≡ false }
+    requires tables { HasCleanDisk (state S.Store conn.old) → (state S.Store conn.old).now.schema ≡ desk_schema }
+    ensures ended { conn.new.in_transaction ≡ false }
+    ensures live { HasCleanDisk (state S.Store conn.new) → IsTrue (state S.Store conn.new).is_open → IsTrue (state S.Store conn.old).is_open }
+    ensures shown { HasCleanDisk (state S.Store conn.new)
+        → OnOk result (IsTrue (state S.Store conn.old).is_open × IsTrue (state S.Store conn.new).is_open) }
+    ensures told { HasCleanDisk (state S.Store conn.new)
+        → IfOk result (TellsRules readable (state S.Store conn.old).now.trees) }
+    ensures same { HasCleanDisk (state S.Store conn.new) → IsTrue (state S.Store conn.new).is_open
+        → (state S.Store conn.new).now ≡ (state S.Store conn.old).now }
+    ensures crash { Survives (state S.Store conn.old) (state S.Store conn.new) (LeavesTrees (state S.Store conn.old)) }
+{
+    let _settled = conn.is_autocommit();
+    kept(conn);
+    let mut tx = conn.transaction();
+    let broken = first_broken(alloc, &mut tx, readable)?;
+    tx.commit()?;
+    Ok(broken)
+}
+
+// What the rules say of the tables of a store, of whose rows no one was looked at yet: `Damaged`, or none. An error is the
+// database's own, or want of memory.
+fn fault_of_rows<S: Alter>(
+    alloc: Global,
+    conn: &mut Connection<S>,
+) -> Result<Option<OpenFault>, Error>
+    requires outside { conn.old.in_transaction ≡ false }
+    requires tables { HasCleanDisk (state S.Store conn.old) → (state S.Store conn.old).now.schema ≡ desk_schema }
+    ensures ended { conn.new.in_transaction ≡ false }
+    ensures live { HasCleanDisk (state S.Store conn.new) → IsTrue (state S.Store conn.new).is_open → IsTrue (state S.Store conn.old).is_open }
+    ensures shown { HasCleanDisk (state S.Store conn.new)
+        → OnOk result (IsTrue (state S.Store conn.old).is_open × IsTrue (state S.Store conn.new).is_open) }
+    ensures told { HasCleanDisk (state S.Store conn.new)
+        → IfOk result (TellsRows (state S.Store conn.old).now.trees) }
+    ensures same { HasCleanDisk (state S.Store conn.new) → IsTrue (state S.Store conn.new).is_open
+        → (state S.Store conn.new).now ≡ (state S.Store conn.old).now }
+    ensures crash { Survives (state S.Store conn.old) (state S.Store conn.new) (LeavesTrees (state S.Store conn.old)) }
+{
+    let readable = readable_tables(conn)?;
+    let broken = broken_rule(alloc, conn, readable)?;
+    Ok(damage(broken))
+}
+
+// What the tables of a store are refused for, at an office of that country, or none. An error is the database's own, or want of
+// memory.
 fn fault_in<S: Alter>(
     alloc: Global,
     conn: &mut Connection<S>,
     country: Country,
 ) -> Result<Option<OpenFault>, Error>
-    requires { conn.old.in_transaction ≡ false }
+    requires outside { conn.old.in_transaction ≡ false }
+    requires tables { HasCleanDisk (state S.Store conn.old) → (state S.Store conn.old).now.schema ≡ desk_schema }
     ensures ended { conn.new.in_transaction ≡ false }
     ensures live { HasCleanDisk (state S.Store conn.new) → IsTrue (state S.Store conn.new).is_open → IsTrue (state S.Store conn.old).is_open }
-    ensures shown { HasCleanDisk (state S.Store conn.new) → IfOk result (λ fault. fault ≡ None
-        → IsTrue (state S.Store conn.old).is_open × IsTrue (state S.Store conn.new).is_open) }
-    ensures told { HasCleanDisk (state S.Store conn.new) → (state S.Store conn.old).now.schema ≡ desk_schema
+    ensures shown { HasCleanDisk (state S.Store conn.new)
+        → OnOk result (IsTrue (state S.Store conn.old).is_open × IsTrue (state S.Store conn.new).is_open) }
+    ensures told { HasCleanDisk (state S.Store conn.new)
         → IfOk result (TellsTables country (state S.Store conn.old).now.trees) }
     ensures same { HasCleanDisk (state S.Store conn.new) → IsTrue (state S.Store conn.new).is_open
-        → HasSchema (state S.Store conn.old) desk_schema → (state S.Store conn.new).now ≡ (state S.Store conn.old).now }
+        → (state S.Store conn.new).now ≡ (state S.Store conn.old).now }
     ensures crash { Survives (state S.Store conn.old) (state S.Store conn.new) (LeavesTrees (state S.Store conn.old)) }
 {
-    let _settled = conn.is_autocommit();
     let _letters = country.as_bytes();
     kept_rules_mean_content();
-    kept(conn);
-    let mut tx = conn.transaction();
-    let office = office_fault(find_meta(&mut tx)?, country);
+    let office = fault_of_office(conn, country)?;
     if office.is_some() {
         return Ok(office);
     }
-    let broken = first_broken(alloc, &mut tx)?;
-    tx.commit()?;
-    Ok(damage(broken))
+    fault_of_rows(alloc, conn)
 }
 
 // What tables that break this rule are refused for.

@@ -13,7 +13,7 @@ rules-preserved g c = (
   c.keeps_rule.ensures.same_reference ∙ c.rules.invariant.0,
   more,
   λ clean.
-      kept_on a b c.args.country c.args.holders.now c.rules.rule-index _ c.in_ok-keeps_rule.field-0 (number_at c.rules.rule-index _ (omega (arith, c.rules-test.true)))
+      kept_on a b c.args.country c.args.holders.now c.args.readable c.rules.rule-index _ c.in_ok-keeps_rule.field-0 (number_at c.rules.rule-index _ (omega (arith, c.rules-test.true)))
       (c.rules.invariant.1.still (clean_b clean)) (c.rules.invariant.2 (clean_b clean)) (c.in_ok-keeps_rule.ensures.told clean) c.if-not-branch.false,
 )
   where
@@ -35,7 +35,7 @@ rules-preserved g c = (
 -- this rule is broken
 pub returns-then-not-branch-clause-told : goal.returns-then-not-branch-clause-told
 returns-then-not-branch-clause-told g c clean =
-    broken_here (state g.S.Store c.args.tx.now.conn.now) b c.args.country c.args.holders.now c.rules.rule-index _ c.in_ok-keeps_rule.field-0
+    broken_here (state g.S.Store c.args.tx.now.conn.now) b c.args.country c.args.holders.now c.args.readable c.rules.rule-index _ c.in_ok-keeps_rule.field-0
     (number_at c.rules.rule-index _ (omega (arith, c.rules-test.true)))
     (c.rules.invariant.1.still clean_b) (c.rules.invariant.2 clean_b) (c.in_ok-keeps_rule.ensures.told clean) c.if-not-branch.true
   where

@@ -13,4 +13,4 @@ invariant-rules g l =
     (l.tx.conn.ghost_name ≡ l.initial.tx.conn.ghost_name)
     × HasRead (state g.S.Store l.initial.tx.conn.now) (state g.S.Store l.tx.conn.now)
     × (HasCleanDisk (state g.S.Store l.tx.conn.now)
-    → IsSoWhere (HasOffice l.country l.holders) (AreKeptBelow (l.rule-index + 2)) (state g.S.Store l.initial.tx.conn.now))
+    → IsSoWhere (HasOffice l.country l.holders l.readable) (AreKeptBelow (l.rule-index + 2)) (state g.S.Store l.initial.tx.conn.now))

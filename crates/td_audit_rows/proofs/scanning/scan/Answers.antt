@@ -1,11 +1,15 @@
-use Rattle.std.specs.Prelude.{[]}
+use Rattle.std.proofs.Common.{[], arith, refl}
 use Rattle.sqlite.specs.Held.{state}
+use Rattle.sqlite.specs.State.{HasCleanDisk}
+use Rattle.td_schema.specs.Tables.{desk_schema}
 use Rattle.td_sql.specs.Reading.{row_order, shown_by}
 use Rattle.td_audit_rows.proofs.Shown.{told_of_rows}
 use Rattle.td_audit_rows.proofs.scanning.scan.Goals as goal
 
 pub returns-clause-told : goal.returns-clause-told
-returns-clause-told g c clean s tree shows order has means =
-    told_of_rows ((state g.S.Store c.args.tx.now.conn.now).now.trees tree) c.in_ok-rows.rows.items [] (shown_by shows []) (row_order order [])
-    (c.in_ok-rows.ensures.selected clean s tree [] shows order has means) g.T.Scanned.AreRead c.are_read.result
-    (rw c.deref.ensures.value at c.are_read.ensures)
+returns-clause-told g c clean tree shows order means =
+    let old = state g.S.Store c.args.conn.now in
+    let early : HasCleanDisk old = omega (arith, clean, c.walk.ensures.survives.clean) in
+    let walked = c.in_ok-walk.ensures.seen clean (λ _. tt, λ _. refl) in
+    told_of_rows (old.now.trees tree) walked.0 [] (shown_by shows []) (row_order order [])
+    (walked.1 desk_schema tree [] shows order (λ _. c.requires.tables early) means) g.T.Scanned.AreRead c.walk.new.walker.all walked.2
