@@ -1,9 +1,10 @@
 -- What the office's own row and the rules tell of a store's tables.
-use Rattle.std.proofs.Common.{◌≡◌, ◌∙◌, ℕ, Bool, true, false, if◌then◌else◌, List, [], ◌∷◌, Option, Some, None, ap, length, map, refl, sym}
-use Rattle.std.specs.Prelude.{◌≢◌, pos, is_some, option_map}
+use Rattle.std.proofs.Common.{◌≡◌, ◌∙◌, ℕ, Bool, true, false, if◌then◌else◌, List, [], ◌∷◌, Option, Some, None, Err, Ok, Result, ap, length, map, refl, subst, sym}
+use Rattle.std.specs.Prelude.{◌≢◌, pos, is_some, option_map, IfOk}
 use Rattle.std.specs.Bool.{Decides}
 use Rattle.std.specs.Option.{option_to_list}
 use Rattle.std.proofs.lemmas.Bool.Decides.{Decides-and, Decides-eqb, Decides-like}
+use Rattle.sqlite.specs.declared.error.Error.{Error}
 use Rattle.sqlite_trees.specs.Tree.{Trees}
 use Rattle.td_base.specs.Country.{IsCountry, country_read, is_country}
 use Rattle.td_base.proofs.Decided.{capitals_decided, some_where}
@@ -18,7 +19,7 @@ use Rattle.td_audit_rows.specs.Laws.{AreKept, KeptRulesMeanContent}
 use Rattle.td_audit.specs.Broken.{TellsBroken}
 use Rattle.td_store.specs.declared.refused.OpenFault.{OpenFault}
 use Rattle.td_store.specs.declared.refused.OpenFault.TheVariants.{UnknownVersion, NeedsMigration, OtherCountry, Damaged, Store, NoMemory}
-use Rattle.td_store.specs.Opened.{HasOfficeRow, IsOfAnother, IsOfVersion, TellsOffice, TellsTables}
+use Rattle.td_store.specs.Opened.{HasOfficeRow, IsOfAnother, IsOfVersion, TellsOffice, TellsRows, TellsTables}
 
 country_decided : (text : List ℕ) → Decides (is_country text) (IsCountry text)
 country_decided text =
@@ -95,3 +96,10 @@ module _ (country : List ℕ) (trees : Trees) (office : Option StoredMeta)
   audited None said ids law kept all =
       record { content = law trees kept all; office = of_this said (record { ids = ids.meta; cells = (all S1).0.1 }) }
   audited (Some rule) said ids law kept first = record { first = first; office = of_this said }
+
+  -- and what is then told of the rows
+  pub rows_judged : TellsOffice country office None → KeptRulesMeanContent → (result : Result (Option OpenFault) Error)
+      → IfOk result (TellsRows trees) → IfOk result (TellsTables country trees)
+  rows_judged said law (Ok fault) rows =
+      subst (TellsTables country trees) (sym rows.1) (audited rows.0 said rows.2 law rows.3 rows.4)
+  rows_judged said law (Err error) rows = rows

@@ -1,5 +1,5 @@
 //! Whether a database is one that a desk was made in, and what it is refused for.
-ghost use Rattle.std.specs.Prelude.{◌≡◌, false, Some, None, option_map, IsTrue, IfOk};
+ghost use Rattle.std.specs.Prelude.{◌≡◌, false, Some, None, option_map, IsTrue, IfOk, OnOk};
 ghost use Rattle.sqlite.specs.Held.{state};
 ghost use Rattle.sqlite.specs.State.{HasCleanDisk, Survives};
 ghost use Rattle.td_schema.specs.Tables.{desk_schema};
