@@ -1,5 +1,6 @@
 //! Desks are made, opened, refused and closed, over a store in memory, and say what a plain desk says.
 mod alike;
+mod changes;
 mod commands;
 mod opening;
 mod words;
