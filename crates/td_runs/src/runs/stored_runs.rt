@@ -54,11 +54,7 @@ const CALLS: [Call; 3] = [
 ];
 
 // What the program leaves on these words, which were read, and this input; and what of the input wasn't read.
-fn done_by_program<'a>(
-    rt: &HostRuntime,
-    words: Vec<String>,
-    input: &'a [u8],
-) -> (Done, &'a [u8]) {
+fn done_by_program<'a>(rt: &HostRuntime, words: Vec<String>, input: &'a [u8]) -> (Done, &'a [u8]) {
     let mut file = DeskFile::new(Unknown);
     let mut input = Counted::new(input);
     let mut out = Counted::new(Vec::new(rt.alloc()));
