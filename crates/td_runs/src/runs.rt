@@ -26,6 +26,7 @@ mod releases;
 mod repeats;
 mod serving;
 mod states;
+mod stored_runs;
 mod strangers;
 mod streams;
 mod terms;

@@ -1,6 +1,8 @@
 //! Desks are made, opened, refused and closed, over a store in memory, and say what a plain desk says.
 mod alike;
+mod changes;
 mod commands;
+mod long_tables;
 mod opening;
 mod words;
 

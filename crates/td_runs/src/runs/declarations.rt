@@ -18,7 +18,8 @@ const A3_LODGED: &[u8] =
 const SHOWN_WITH_THREE: &[u8] =
     b"HTTP/1.1 200 OK\r\nContent-Type: application/json\r\nContent-Length: 67\r\n\r\n{\"eori\":\"CH1234567\",\"guarantees\":1,\"holder\":\"000001\",\"movements\":3}";
 
-const OTHER_SHOWN_WITH_ONE: &[u8] =
+/// The other holder with one guarantee and one movement.
+pub const OTHER_SHOWN_WITH_ONE: &[u8] =
     b"HTTP/1.1 200 OK\r\nContent-Type: application/json\r\nContent-Length: 67\r\n\r\n{\"eori\":\"DE7654321\",\"guarantees\":1,\"holder\":\"000002\",\"movements\":1}";
 
 const THREE_DECLARATIONS: &[Exchange] = &[

@@ -2,6 +2,7 @@
 //! which is gone after it.
 mod changed;
 mod desks;
+mod junk;
 mod refused;
 mod shared;
 

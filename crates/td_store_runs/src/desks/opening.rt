@@ -23,7 +23,7 @@ fn filled(alloc: Global) -> Result<SqlDesk<MemStore>, Fail> {
 }
 
 /// All that the desk shows of its holders.
-fn seen(alloc: Global, desk: &mut SqlDesk<MemStore>) -> Result<String, Fail> {
+pub fn seen(alloc: Global, desk: &mut SqlDesk<MemStore>) -> Result<String, Fail> {
     let mut words = String::new(alloc);
     for number in 1..4 {
         let holder = HolderNo::new(number).ok_or("a holder")?;
@@ -45,7 +45,7 @@ fn seen(alloc: Global, desk: &mut SqlDesk<MemStore>) -> Result<String, Fail> {
 }
 
 /// Why no desk of a Swiss office is opened over that database, after that statement.
-fn refused_after(
+pub fn refused_after(
     alloc: Global,
     mut conn: Connection<MemStore>,
     statement: &str,

@@ -30,7 +30,7 @@ struct Change {
 }
 
 /// The runs that find this wrong: a run that would make a desk only finds that there are tables.
-fn told(errors: &'static [u8]) -> [Run; 3] {
+pub fn told(errors: &'static [u8]) -> [Run; 3] {
     [
         Run {
             words: CHECK,
@@ -51,7 +51,7 @@ fn told(errors: &'static [u8]) -> [Run; 3] {
 }
 
 /// Changes the file by a statement, as another program does.
-fn run_statement(rt: &HostRuntime, path: &str, statement: &str) -> Result<(), Error> {
+pub fn run_statement(rt: &HostRuntime, path: &str, statement: &str) -> Result<(), Error> {
     let mut conn = Connection::open(rt, path)?;
     conn.execute(statement, &[])?;
     conn.close()
