@@ -1,3 +1,4 @@
+mod Acknowledged
 mod Holding
 mod Judged
 mod Refusing
