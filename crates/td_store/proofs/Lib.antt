@@ -1,4 +1,5 @@
 mod Acknowledged
+mod Calls
 mod Holding
 mod Judged
 mod Refusing

@@ -5,6 +5,7 @@ ghost use Rattle.sqlite.specs.State.{HasCleanDisk, Survives};
 ghost use Rattle.td_desk.specs.Content.{empty_content};
 ghost use Rattle.td_schema.specs.Making.{IsEmptyOf};
 ghost use Rattle.td_schema.specs.Tables.{no_schema};
+ghost use Rattle.td_store_tables.specs.Rows.{HoldsContent};
 ghost use Rattle.td_carrying.specs.Created.{AreOfEmptyDesk};
 ghost use Rattle.td_store.specs.declared.refused.OpenFault.TheVariants as fault;
 ghost use Rattle.td_store.specs.Kept.{LeavesItsTables, content_in};
@@ -37,6 +38,8 @@ impl<S: Alter> SqlDesk<S> {
             → IsTrue (state S.Store conn).is_open × IsTrue (state S.Store desk).is_open) }
         ensures empty { IfOk result (λ desk. HasCleanDisk (state S.Store desk)
             → content_in (state S.Store desk).now.trees ≡ empty_content country) }
+        ensures made { IfOk result (λ desk. HasCleanDisk (state S.Store desk)
+            → HoldsContent (content_in (state S.Store desk).now.trees) (state S.Store desk)) }
         ensures taken { ¬ IsEmptyOf no_schema (state S.Store conn).now
             → MatchResult result (λ _. ⊥) (λ refused. (refused.fault ≡ OpenFault.Store) × (refused.connection ≡ conn)) }
         ensures fault { IfErr result (λ refused. (refused.fault ≡ OpenFault.Store) ⊎ (refused.fault ≡ OpenFault.NoMemory)) }
