@@ -26,6 +26,10 @@ use Rattle.td_store.specs.Kept.{IsDeskOf, LeavesAsIs, LeavesTrees, MayLeaveAfter
 pub content_held : (c : Content) (s : State) → HoldsContent c s → content_in s.now.trees ≡ c
 content_held c s holds = content_is (tables_in s.now.trees) c holds.sound holds.tables
 
+-- which it holds then
+pub holds_shown : (c : Content) (s : State) → HoldsContent c s → HoldsContent (content_in s.now.trees) s
+holds_shown c s holds = subst (λ x. HoldsContent x s) (sym (content_held c s holds)) holds
+
 -- a change keeps the country
 after_row : (row : Option HolderRow) (change : Change) (c : Content) → (content_after_row row change c).country ≡ c.country
 after_row None change c = refl
@@ -43,7 +47,7 @@ pub holds_own : (country : List ℕ) (s : State) → IsDeskOf country s → HasC
     → HoldsContent (content_in s.now.trees) s
 holds_own country s desk clean is =
     let was : (c : Content) × HoldsContent c s × (c.country ≡ country) = desk clean is in
-    subst (λ x. HoldsContent x s) (sym (content_held was.0 s was.1)) was.1
+    holds_shown was.0 s was.1
 
 -- a desk that sees what another saw is a desk, too
 pub desk_still : (country : List ℕ) (a b : State) → IsDeskOf country a → (HasCleanDisk b → HasCleanDisk a)

@@ -1,3 +1,5 @@
+mod Acknowledged
+mod Calls
 mod Holding
 mod Judged
 mod Refusing

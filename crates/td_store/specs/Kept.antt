@@ -1,7 +1,7 @@
--- What a desk over a store's file keeps, and what a crash during one of its calls leaves.
-use Rattle.std.specs.Prelude.{◌≡◌, ◌⊎◌, ℕ, List, IsTrue}
+-- What a desk over a store's file keeps, and what a crash leaves during one of its calls and after it.
+use Rattle.std.specs.Prelude.{◌≡◌, ◌⊎◌, ◌↔◌, ℕ, List, IsTrue}
 use Rattle.sqlite_trees.specs.Tree.{Trees}
-use Rattle.sqlite.specs.State.{State, HasCleanDisk}
+use Rattle.sqlite.specs.State.{State, HasCleanDisk, Survives}
 use Rattle.td_acts.specs.declared.rows.Verdict.{Verdict}
 use Rattle.td_desk.specs.Content.{Content, content_after}
 use Rattle.td_desk.specs.Weighing.{IsDecision}
@@ -40,3 +40,17 @@ pub record AreAfterDecision (c : Content) (trees : Trees) : Type 0 where
 abbrev pub MayLeaveAfter : State → Trees → Type 0
 MayLeaveAfter s trees =
     IsTrue s.is_open → (trees ≡ s.now.trees) ⊎ AreAfterDecision (content_in s.now.trees) trees
+
+-- While no fault has shut the connection, a crash leaves exactly the trees that it shows. (Where its disk isn't clean, it shows
+-- as shut.)
+abbrev pub LeavesItsTables : State → Type 0
+LeavesItsTables s = IsTrue s.is_open → (trees : Trees) → s.may_leave trees ↔ (trees ≡ s.now.trees)
+
+-- a call of a desk took its connection from one state to the other
+pub record IsCalled (old new : State) : Type 0 where
+  -- no fault is forgotten; and what a crash during the call adds to what one could leave before
+  pub during : Survives old new (MayLeaveAfter old)
+  -- what a crash leaves after it
+  pub after : LeavesItsTables new
+  -- as far as the disk is clean and no fault has shut it, the connection has the tables of its content
+  pub holds : HasCleanDisk new → IsTrue new.is_open → HoldsContent (content_in new.now.trees) new

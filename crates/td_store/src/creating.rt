@@ -5,13 +5,15 @@ ghost use Rattle.sqlite.specs.State.{HasCleanDisk, Survives};
 ghost use Rattle.td_desk.specs.Content.{empty_content};
 ghost use Rattle.td_schema.specs.Making.{IsEmptyOf};
 ghost use Rattle.td_schema.specs.Tables.{no_schema};
+ghost use Rattle.td_store_tables.specs.Rows.{HoldsContent};
 ghost use Rattle.td_carrying.specs.Created.{AreOfEmptyDesk};
 ghost use Rattle.td_store.specs.declared.refused.OpenFault.TheVariants as fault;
-ghost use Rattle.td_store.specs.Kept.{content_in};
+ghost use Rattle.td_store.specs.Kept.{LeavesItsTables, content_in};
 
 use crate::desk::SqlDesk;
 use crate::faults::open_fault_of;
 use crate::refused::{OpenFault, Refused};
+use crate::settling::see_settled;
 use sqlite::Connection;
 use sqlite_trees::store::Alter;
 use td_base::Country;
@@ -29,13 +31,15 @@ impl<S: Alter> SqlDesk<S> {
     /// Makes a desk of an office of that country, which has no holders yet, in a database that has no table. `Store`: it has a
     /// table already, or the database answered an error other than want of memory; `NoMemory`: want of memory. With an error the
     /// connection is handed back, its database as it was. A crash during the call leaves what it could leave before, or the
-    /// tables of the empty desk.
+    /// tables of the empty desk; after it exactly what the connection shows.
     pub fn create(mut conn: Connection<S>, country: Country) -> Result<Self, Refused<S>>
         requires { conn.in_transaction ≡ false }
         ensures live { IfOk result (λ desk. HasCleanDisk (state S.Store desk)
             → IsTrue (state S.Store conn).is_open × IsTrue (state S.Store desk).is_open) }
         ensures empty { IfOk result (λ desk. HasCleanDisk (state S.Store desk)
             → content_in (state S.Store desk).now.trees ≡ empty_content country) }
+        ensures made { IfOk result (λ desk. HasCleanDisk (state S.Store desk)
+            → HoldsContent (content_in (state S.Store desk).now.trees) (state S.Store desk)) }
         ensures taken { ¬ IsEmptyOf no_schema (state S.Store conn).now
             → MatchResult result (λ _. ⊥) (λ refused. (refused.fault ≡ OpenFault.Store) × (refused.connection ≡ conn)) }
         ensures fault { IfErr result (λ refused. (refused.fault ≡ OpenFault.Store) ⊎ (refused.fault ≡ OpenFault.NoMemory)) }
@@ -44,19 +48,24 @@ impl<S: Alter> SqlDesk<S> {
         ensures ended { IfErr result (λ refused. refused.connection.in_transaction ≡ false) }
         ensures crash { MatchResult result (λ desk. Survives (state S.Store conn) (state S.Store desk) (AreOfEmptyDesk country))
             (λ refused. Survives (state S.Store conn) (state S.Store refused.connection) (AreOfEmptyDesk country)) }
+        ensures settled { MatchResult result (λ desk. LeavesItsTables (state S.Store desk))
+            (λ refused. LeavesItsTables (state S.Store refused.connection)) }
     {
         if !is_blank(&conn) {
+            see_settled(&conn);
             return Err(Refused {
                 fault: OpenFault::Store,
                 connection: conn,
             });
         }
         if let Err(error) = create_tables(&mut conn, country) {
+            see_settled(&conn);
             return Err(Refused {
                 fault: open_fault_of(&error),
                 connection: conn,
             });
         }
+        see_settled(&conn);
         Ok(SqlDesk::over(conn, country))
     }
 }

@@ -1,6 +1,7 @@
 //! The desk over a store's file.
 use crate::faults::fault_of;
 use crate::reading::read;
+use crate::settling::see_settled;
 use sqlite::Connection;
 use sqlite_trees::store::Alter;
 use std::alloc::Global;
@@ -37,7 +38,7 @@ impl<S: Alter> SqlDesk<S> {
     ghost use Rattle.sqlite.specs.Held.{state};
     ghost use Rattle.sqlite.specs.State.{HasCleanDisk};
     ghost use Rattle.td_store_tables.specs.Rows.{HoldsContent};
-    ghost use Rattle.td_store.specs.Kept.{IsDeskOf, content_in};
+    ghost use Rattle.td_store.specs.Kept.{IsDeskOf, LeavesItsTables, content_in};
 
     // The desk over a connection that holds a content of that country.
     pub(crate) fn over(conn: Connection<S>, country: Country) -> Self
@@ -49,14 +50,16 @@ impl<S: Alter> SqlDesk<S> {
     }
 
     /// Gives the connection back, outside a transaction. No row is changed: as far as the disk is clean and the connection
-    /// open, it holds the desk's content.
+    /// open, it holds the desk's content, and a crash leaves exactly that.
     pub fn close(self) -> Connection<S>
         ensures same { result ≡ self }
         ensures ended { result.in_transaction ≡ false }
         ensures holds { HasCleanDisk (state S.Store result) → IsTrue (state S.Store result).is_open
             → HoldsContent (content_in (state S.Store result).now.trees) (state S.Store result) }
+        ensures settled { LeavesItsTables (state S.Store result) }
     {
         let SqlDesk { country: _, conn } = self;
+        see_settled(&conn);
         conn
     }
 }
@@ -64,8 +67,8 @@ impl<S: Alter> SqlDesk<S> {
 impl<S: Alter> Store for SqlDesk<S> {
     ghost use Rattle.std.specs.Prelude.{IsTrue};
     ghost use Rattle.sqlite.specs.Held.{state};
-    ghost use Rattle.sqlite.specs.State.{HasCleanDisk, Survives};
-    ghost use Rattle.td_store.specs.Kept.{MayLeaveAfter, content_in};
+    ghost use Rattle.sqlite.specs.State.{HasCleanDisk};
+    ghost use Rattle.td_store.specs.Kept.{IsCalled, content_in};
 
     ghost rows = { λ d. content_in (state S.Store d).now.trees };
 
@@ -75,9 +78,9 @@ impl<S: Alter> Store for SqlDesk<S> {
 
     ghost may_fail = { Unit {0} };
 
-    // No fault is forgotten; and a crash during a call leaves what it could leave before, the tables as they were, or those
-    // after a decision on their content.
-    ghost asked = { λ old _ new. Survives (state S.Store old) (state S.Store new) (MayLeaveAfter (state S.Store old)) };
+    // No fault is forgotten; a crash during a call leaves what it could leave before, the tables as they were, or those after a
+    // decision on their content; and after it exactly the tables that the desk shows, if no fault has shut it.
+    ghost asked = { λ old _ new. IsCalled (state S.Store old) (state S.Store new) };
 
     fn office(&self) -> Country {
         self.country
@@ -90,15 +93,25 @@ impl<S: Alter> Store for SqlDesk<S> {
         needs: &Needs<'_>,
     ) -> Result<Loaded, Fault> {
         match read(alloc, &mut self.conn, self.country, owner, needs) {
-            Ok(loaded) => Ok(loaded),
-            Err(error) => Err(fault_of(&mut self.conn, &error)),
+            Ok(loaded) => {
+                see_settled(&self.conn);
+                Ok(loaded)
+            }
+            Err(error) => {
+                let fault = fault_of(&mut self.conn, &error);
+                see_settled(&self.conn);
+                Err(fault)
+            }
         }
     }
 
     fn write(&mut self, alloc: Global, change: Change) -> Result<(), Fault> {
         if let Err(error) = carry_change(&mut self.conn, self.country, &change) {
-            return Err(fault_of(&mut self.conn, &error));
+            let fault = fault_of(&mut self.conn, &error);
+            see_settled(&self.conn);
+            return Err(fault);
         }
+        see_settled(&self.conn);
         Ok(())
     }
 }

@@ -6,11 +6,14 @@ mod creating;
 mod desk;
 mod faults;
 mod judging;
+mod laws;
 mod office;
 mod opening;
 mod reading;
 mod refused;
 mod schema;
+mod settling;
 
 pub use desk::SqlDesk;
+pub use laws::acknowledged_decisions_are_kept;
 pub use refused::{OpenFault, Refused};

@@ -7,12 +7,13 @@ ghost use Rattle.td_tables.specs.declared.rule.Rule.{Rule};
 ghost use Rattle.td_schema.specs.Tables.{desk_schema};
 ghost use Rattle.td_store_tables.specs.Rows.{HoldsContent};
 ghost use Rattle.td_store.specs.declared.refused.OpenFault.TheVariants as fault;
-ghost use Rattle.td_store.specs.Kept.{LeavesTrees, content_in};
+ghost use Rattle.td_store.specs.Kept.{LeavesItsTables, LeavesTrees, content_in};
 ghost use Rattle.td_store.specs.Opened.{AreDamaged, HasOfficeRow, IsOfAnother, IsOfVersion, LacksMeta};
 
 use crate::desk::SqlDesk;
 use crate::judging::refusal;
 use crate::refused::Refused;
+use crate::settling::see_settled;
 use sqlite::Connection;
 use sqlite_trees::store::Alter;
 use std::alloc::Global;
@@ -24,7 +25,7 @@ impl<S: Alter> SqlDesk<S> {
     /// the refusal. `UnknownVersion`: there is no table `meta`. `Store`: the tables are others than a store's. `UnknownVersion`:
     /// the office's own row is missing, or its version isn't 1. `OtherCountry`: its country is another. `Damaged`: the tables
     /// break this rule, and none before it. An error of the database on the way is `Store`, want of memory `NoMemory`. With a
-    /// refusal the connection is handed back, its database as it was; nor does a crash during the call change it.
+    /// refusal the connection is handed back, its database as it was; nor does a crash change it, during the call or after it.
     pub fn open(
         alloc: Global,
         mut conn: Connection<S>,
@@ -60,14 +61,22 @@ impl<S: Alter> SqlDesk<S> {
         ensures ended { IfErr result (λ refused. refused.connection.in_transaction ≡ false) }
         ensures crash { MatchResult result (λ desk. Survives (state S.Store conn) (state S.Store desk) (LeavesTrees (state S.Store conn)))
             (λ refused. Survives (state S.Store conn) (state S.Store refused.connection) (LeavesTrees (state S.Store conn))) }
+        ensures settled { MatchResult result (λ desk. LeavesItsTables (state S.Store desk))
+            (λ refused. LeavesItsTables (state S.Store refused.connection)) }
     {
         content_keeps_rules();
         match refusal(alloc, &mut conn, country) {
-            None => Ok(SqlDesk::over(conn, country)),
-            Some(fault) => Err(Refused {
-                fault,
-                connection: conn,
-            }),
+            None => {
+                see_settled(&conn);
+                Ok(SqlDesk::over(conn, country))
+            }
+            Some(fault) => {
+                see_settled(&conn);
+                Err(Refused {
+                    fault,
+                    connection: conn,
+                })
+            }
         }
     }
 }
