@@ -13,8 +13,6 @@ use Rattle.td_tables.specs.Gathering.{guarantees_by, owner, part, place}
 use Rattle.td_tables.specs.Rules.{HasGuarantees, IsGuaranteeInRange}
 use Rattle.td_tables.specs.Tables.{Tables}
 use Rattle.td_tables.proofs.Rebuilt.{all_in_order}
-use Rattle.td_schema.specs.Tables.{desk_schema}
-use Rattle.td_sql.specs.Reading.{LeavesAll}
 use Rattle.td_sql.specs.Typed.{IsTypedRow, row_of}
 use Rattle.td_holders.specs.Cells.{holder_typing}
 use Rattle.td_guarantees.specs.Cells.{guarantee_typing}
@@ -29,7 +27,6 @@ use Rattle.td_audit_rows.specs.declared.holders.RawHolder.{RawHolder}
 use Rattle.td_audit.specs.Auditable.{IsAuditable, TellsRule}
 use Rattle.td_audit.specs.InFile.{AreTypedApart, HasGuaranteesInPlace, TellsWhere}
 use Rattle.td_audit.proofs.HoldersTold.{holders_tell, of_pairs, owners}
-use Rattle.td_audit.proofs.Reading.{one_read, so_before}
 
 abbrev AreAllRead : Trees → Type 0
 AreAllRead trees = AllRows guarantee_typing (IsReadRow guarantee_typing AreGuaranteeFields) trees

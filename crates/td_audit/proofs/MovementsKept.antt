@@ -13,8 +13,6 @@ use Rattle.td_tables.specs.Gathering.{movements_by, owner, part, place}
 use Rattle.td_tables.specs.Rules.{HasMovements, IsMovementInRange}
 use Rattle.td_tables.specs.Tables.{Tables}
 use Rattle.td_tables.proofs.Rebuilt.{all_in_order}
-use Rattle.td_schema.specs.Tables.{desk_schema}
-use Rattle.td_sql.specs.Reading.{LeavesAll}
 use Rattle.td_sql.specs.Typed.{IsTypedRow, row_of}
 use Rattle.td_holders.specs.Cells.{holder_typing}
 use Rattle.td_movements.specs.Cells.{movement_typing}
@@ -29,7 +27,6 @@ use Rattle.td_audit_rows.specs.declared.holders.RawHolder.{RawHolder}
 use Rattle.td_audit.specs.Auditable.{IsAuditable, TellsRule}
 use Rattle.td_audit.specs.InFile.{AreTypedApart, HasMovementsInPlace, TellsWhere}
 use Rattle.td_audit.proofs.HoldersTold.{holders_tell, of_pairs, owners}
-use Rattle.td_audit.proofs.Reading.{one_read, so_before}
 
 abbrev AreAllRead : Trees → Type 0
 AreAllRead trees = AllRows movement_typing (IsReadRow movement_typing AreMovementFields) trees

@@ -11,7 +11,6 @@ use Rattle.sqlite_value.proofs.OrderLemmas.{value_cmp-Int}
 use Rattle.sqlite_trees.specs.Tree.{IsAscending, has_rowid, rowid}
 use Rattle.sqlite_trees.proofs.ListLemmas.{all_weaker}
 use Rattle.sqlite_rules.specs.Edit.{id_in}
-use Rattle.td_sql.specs.Rows.{HaveIds}
 use Rattle.td_audit_rows.specs.Ids.{IsAbove}
 use Rattle.td_audit_rows.specs.Rising.{AreUpTo, HaveRisen}
 

@@ -37,7 +37,7 @@ is_kept_meanwhile g desk new c is_open holds leaves called clean trees left =
     elim (called.during.crash clean trees left) [
       | inl before ↦ inl (left_tables c s trees holds is_open leaves before)
       | inr added ↦ elim (added is_open) [
-          | inl same ↦ inl (same_tables c s trees holds same)
-          | inr decided ↦ inr (subst (λ x. AreAfterDecision x trees) (content_held c s holds) decided)
-        ]
+        | inl same ↦ inl (same_tables c s trees holds same)
+        | inr decided ↦ inr (subst (λ x. AreAfterDecision x trees) (content_held c s holds) decided)
+      ]
     ]

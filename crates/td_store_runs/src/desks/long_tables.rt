@@ -30,11 +30,7 @@ fn opening() -> Option<Command> {
     })
 }
 
-fn done(
-    alloc: Global,
-    desk: &mut SqlDesk<MemStore>,
-    command: Option<Command>,
-) -> Result<(), Fail> {
+fn done(alloc: Global, desk: &mut SqlDesk<MemStore>, command: Option<Command>) -> Result<(), Fail> {
     let stamped = Stamped {
         at: START,
         command: command.ok_or("a command")?,

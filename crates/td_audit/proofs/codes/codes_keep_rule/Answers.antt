@@ -1,10 +1,9 @@
-use Rattle.std.proofs.Common.{arith, subst, sym, ◌∙◌}
+use Rattle.std.proofs.Common.{sym, ◌∙◌}
 use Rattle.std.proofs.lemmas.Bool.{false≢true}
 use Rattle.std.specs.List.{AllByRecursion}
 use Rattle.std.specs.Prelude.{◌↔◌, IsTrue}
-use Rattle.sqlite.specs.Effect.{Database}
 use Rattle.sqlite.specs.Held.{state}
-use Rattle.sqlite.specs.State.{State, HasCleanDisk}
+use Rattle.sqlite.specs.State.{State}
 use Rattle.sqlite_trees.proofs.ListLemmas.{all_weaker}
 use Rattle.td_sql.proofs.Leaving.{if_both}
 use Rattle.td_sql.specs.Typed.{AreTyped, IsTypedRow}
@@ -12,7 +11,6 @@ use Rattle.td_codes.specs.Cells.{code_typing}
 use Rattle.td_audit_rows.specs.Fields.{AreCodeFields}
 use Rattle.td_audit_rows.specs.Scans.{IsReadRow}
 use Rattle.td_audit.specs.Premises.{HasCodesInPlace}
-use Rattle.td_audit.proofs.ReadingParts.{as_only, still_has}
 use Rattle.td_audit.proofs.Told.{codes_read, codes_rule}
 use Rattle.td_audit.proofs.codes.codes_keep_rule.Goals as goal
 

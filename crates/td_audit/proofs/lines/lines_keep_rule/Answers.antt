@@ -1,20 +1,16 @@
-use Rattle.std.proofs.Common.{ℕ, arith, subst, sym, ◌∙◌}
+use Rattle.std.proofs.Common.{sym, ◌∙◌}
 use Rattle.std.proofs.lemmas.Bool.{false≢true}
 use Rattle.std.specs.List.{AllByRecursion}
 use Rattle.std.specs.Prelude.{◌↔◌, IsTrue}
-use Rattle.sqlite.specs.Effect.{Database}
 use Rattle.sqlite.specs.Held.{state}
-use Rattle.sqlite.specs.State.{State, HasCleanDisk}
+use Rattle.sqlite.specs.State.{State}
 use Rattle.sqlite_trees.proofs.ListLemmas.{all_weaker}
 use Rattle.td_sql.proofs.Leaving.{if_both}
-use Rattle.td_sql.specs.Typed.{AreTyped, IsTypedRow, rows_in}
+use Rattle.td_sql.specs.Typed.{AreTyped, IsTypedRow}
 use Rattle.td_lines.specs.Cells.{line_typing}
 use Rattle.td_audit_rows.specs.Fields.{AreLineFields}
 use Rattle.td_audit_rows.specs.Scans.{IsReadRow}
-use Rattle.td_tables.specs.Gathering.{part}
-use Rattle.td_audit.specs.InPlace.{AreNumbersApart}
 use Rattle.td_audit.specs.Premises.{HasLinesInPlace}
-use Rattle.td_audit.proofs.ReadingParts.{as_only, still_has}
 use Rattle.td_audit.proofs.Told.{lines_read, lines_rule}
 use Rattle.td_audit.proofs.lines.lines_keep_rule.Goals as goal
 
