@@ -7,7 +7,6 @@ use Rattle.std.specs.Option.{option_map_or}
 use Rattle.std.specs.Str.{bytes_eq}
 use Rattle.std.proofs.lemmas.Bool.Decides.{nat_tests}
 use Rattle.std.proofs.lemmas.List.Sorted.{sum_by-IsPermutation}
-use Rattle.std.proofs.lemmas.List.Sums.{sum_by-append, sum_by-cons}
 use Rattle.std.proofs.lemmas.Slice.Eq.{bytes_eq-Decides}
 use Rattle.sqlite_trees.proofs.ListLemmas.{all_both, all_weaker}
 use Rattle.keyed_rows.specs.Rows.{row_at}
@@ -30,27 +29,7 @@ use Rattle.td_tables.proofs.Orders.{in_order_permutes}
 use Rattle.td_tables.proofs.Rebuilt.{all_in_order, numbered_within}
 use Rattle.td_tables.proofs.Ruled.{are_mine, lines_mine}
 use Rattle.td_movement.specs.declared.movement.Movement.{Movement}
-
--- a sum over lists put together
-sum_by-flat_map : {X Y : Type 0} (f : Y → ℕ) (g : X → List Y) (xs : List X) → sum_by f (flat_map g xs) ≡ sum_by (λ x. sum_by f (g x)) xs
-sum_by-flat_map f g [] = refl
-sum_by-flat_map f g (x ∷ xs) =
-    sum_by-append f (g x) (flat_map g xs) ∙ ap (λ n. sum_by f (g x) + n) (sum_by-flat_map f g xs) ∙ sym (sum_by-cons (λ x. sum_by f (g x)) x xs)
-
--- a sum over those that pass
-sum_by-passing : {X : Type 0} (f : X → ℕ) (p : X → Bool) (xs : List X) → sum_by f (filter p xs) ≡ sum_by (λ x. if p x then f x else 0) xs
-sum_by-passing f p [] = refl
-sum_by-passing {X} f p (x ∷ xs) = by_test (p x) (sum_by-passing f p xs) ∙ sym (sum_by-cons (λ x. if p x then f x else 0) x xs)
-  where
-    by_test : (b : Bool) → sum_by f (filter p xs) ≡ sum_by (λ x. if p x then f x else 0) xs
-        → sum_by f (cond b (x ∷ filter p xs) (filter p xs)) ≡ (if b then f x else 0) + sum_by (λ x. if p x then f x else 0) xs
-    by_test true later = sum_by-cons f x (filter p xs) ∙ ap (λ n. f x + n) later
-    by_test false later = later ∙ omega arith
-
--- sums of the same
-sum_by-same : {X : Type 0} (f g : X → ℕ) (xs : List X) → AllByRecursion (λ x. f x ≡ g x) xs → sum_by f xs ≡ sum_by g xs
-sum_by-same f g [] all = refl
-sum_by-same f g (x ∷ xs) all = sum_by-cons f x xs ∙ ap₂ ◌+◌ all.0 (sum_by-same f g xs all.1) ∙ sym (sum_by-cons g x xs)
+use Rattle.td_needs.proofs.Sums.{sum_by-flat_map, sum_by-passing, sum_by-same}
 
 -- numbered rows are found by their numbers
 pub found_by_own : {R : Type 0} (key : R → ℕ) (n : ℕ) (rows : List R) → IsNumbered key n rows → AllByRecursion (λ r. row_at key (key r) rows ≡ Some r) rows

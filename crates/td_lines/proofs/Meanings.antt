@@ -14,7 +14,7 @@ use Rattle.td_schema.proofs.Acting.{none_acts}
 use Rattle.td_schema.specs.Tables.{desk_schema}
 use Rattle.td_sql.specs.Meanings.{HasTable, MeansInsert, MeansSelect}
 use Rattle.td_lines.specs.Cells.{lines_table}
-use Rattle.td_lines.specs.declared.texts.TheConstants.{INSERT, OF_MOVEMENT}
+use Rattle.td_lines.specs.declared.texts.TheConstants.{INSERT, OF_MOVEMENT, ON_GUARANTEE}
 
 lines_there : HasTable desk_schema 5 lines_table
 lines_there = record { there = refl; free = none_acts 11 }
@@ -22,6 +22,10 @@ lines_there = record { there = refl; free = none_acts 11 }
 -- the holder and the serial are those that were given
 abbrev pub key_tests : List Term
 key_tests = op2 (Compare Eq Binary) (col 1 1) (col 0 0) ∷ op2 (Compare Eq Binary) (col 1 2) (col 0 1) ∷ []
+
+-- so are the holder and the guarantee
+abbrev pub guarantee_tests : List Term
+guarantee_tests = op2 (Compare Eq Binary) (col 1 1) (col 0 0) ∷ op2 (Compare Eq Binary) (col 1 4) (col 0 1) ∷ []
 
 -- the columns of a new row, and of one that is shown
 abbrev pub new_row : List Term
@@ -49,6 +53,15 @@ insert_means =
 pub of_movement_means : MeansSelect desk_schema OF_MOVEMENT.now 11 key_tests all_columns by_number
 unfolding understood everything
 of_movement_means = record {
+  names = codes "holder" ∷ codes "serial" ∷ codes "no" ∷ codes "guarantee" ∷ codes "cents" ∷ [];
+  command = refl;
+  plain = (refl, refl);
+  unlisted = refl;
+}
+
+pub on_guarantee_means : MeansSelect desk_schema ON_GUARANTEE.now 11 guarantee_tests all_columns []
+unfolding understood everything
+on_guarantee_means = record {
   names = codes "holder" ∷ codes "serial" ∷ codes "no" ∷ codes "guarantee" ∷ codes "cents" ∷ [];
   command = refl;
   plain = (refl, refl);

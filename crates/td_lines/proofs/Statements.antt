@@ -4,14 +4,14 @@ use Rattle.std.proofs.Common.{subst, IsPermutation, List, [], ap, map, nat_cmp, 
 use Rattle.std.specs.Prelude.{pos, ◌==◌}
 use Rattle.sqlite_typed.proofs.TestLemmas.{last_term, then_term, then_value}
 use Rattle.td_sql.proofs.Effects.{cast_int}
-use Rattle.td_lines.proofs.Meanings.{by_number, insert_means, key_tests, new_row}
+use Rattle.td_lines.proofs.Meanings.{by_number, guarantee_tests, insert_means, key_tests, new_row}
 use Rattle.sqlite_rules.specs.Cast.{cast_all}
 use Rattle.sqlite_sql.specs.Term.{eval_all}
 use Rattle.sqlite_value.specs.Order.{Row, column}
 use Rattle.td_sql.specs.Reading.{row_order}
 use Rattle.td_lines.specs.declared.stored.StoredLine.{StoredLine}
 use Rattle.td_lines.specs.Cells.{line_cells, line_from, line_typing, lines_table}
-use Rattle.td_lines.specs.Stored.{AreByNumber, AreLines, TurnsLines, is_line_of, lines_in, row_of_stored}
+use Rattle.td_lines.specs.Stored.{AreByNumber, AreLines, TurnsLines, is_line_of, is_line_on, lines_in, row_of_stored}
 use Rattle.td_lines.specs.declared.texts.TheConstants.{INSERT}
 use Rattle.td_schema.specs.Tables.{desk_schema}
 use Rattle.td_sql.proofs.Columns.{number_is}
@@ -51,6 +51,13 @@ pub key_passes : (H n : ℕ) (r : Row) → IsTypedRow line_typing r
 key_passes H n r is =
     then_term (number_is (column r 1) (row_of line_typing r).holder H (ap (λ l. column l 0) is))
     (last_term (number_is (column r 2) (row_of line_typing r).serial n (ap (λ l. column l 1) is)))
+
+-- a row passes where it is on the guarantee
+pub guarantee_passes : (H n : ℕ) (r : Row) → IsTypedRow line_typing r
+    → passes (number_value H ∷ number_value n ∷ []) guarantee_tests r ≡ is_line_on H n (row_of line_typing r)
+guarantee_passes H n r is =
+    then_term (number_is (column r 1) (row_of line_typing r).holder H (ap (λ l. column l 0) is))
+    (last_term (number_is (column r 4) (row_of line_typing r).row.guarantee n (ap (λ l. column l 3) is)))
 
 -- the lines of one movement are compared by their numbers
 pub compared : (H n : ℕ) (a b : Row) → Passes line_typing (is_line_of H n) a → Passes line_typing (is_line_of H n) b

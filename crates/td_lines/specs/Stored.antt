@@ -23,6 +23,10 @@ row_of_stored l = record {
 abbrev pub is_line_of : ℕ → ℕ → Keyed LineCells → Bool
 is_line_of H n l = l.holder == H && l.serial == n
 
+-- the lines of a holder's movements on the holder's guarantee with a serial
+abbrev pub is_line_on : ℕ → ℕ → Keyed LineCells → Bool
+is_line_on H n l = l.holder == H && l.row.guarantee == n
+
 -- the statement turned the lines into what f makes of them
 abbrev pub TurnsLines : (List (Keyed LineCells) → List (Keyed LineCells)) → State → State → Type 0
 TurnsLines f = Turns line_typing desk_schema f

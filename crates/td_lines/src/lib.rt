@@ -7,6 +7,6 @@ mod stored;
 mod texts;
 mod writing;
 
-pub use finding::lines_of;
+pub use finding::{lines_of, lines_on};
 pub use stored::StoredLine;
 pub use writing::insert_line;

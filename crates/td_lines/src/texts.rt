@@ -6,3 +6,7 @@ pub const INSERT: &str = "INSERT INTO lines1 VALUES (?1, ?2, ?3, ?4, ?5)";
 /// The rows of a movement, by their numbers.
 pub const OF_MOVEMENT: &str =
     "SELECT holder, serial, no, guarantee, cents FROM lines1 WHERE holder = ?1 AND serial = ?2 ORDER BY holder, serial, no";
+
+/// The rows of a holder's lines on a guarantee.
+pub const ON_GUARANTEE: &str =
+    "SELECT holder, serial, no, guarantee, cents FROM lines1 WHERE holder = ?1 AND guarantee = ?2";

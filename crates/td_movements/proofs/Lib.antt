@@ -1,3 +1,4 @@
 pub mod Meanings
 mod CellLemmas
 pub mod Statements
+pub mod Serials

@@ -14,7 +14,7 @@ use Rattle.td_schema.proofs.Acting.{none_acts}
 use Rattle.td_schema.specs.Tables.{desk_schema}
 use Rattle.td_sql.specs.Meanings.{HasTable, MeansInsert, MeansUpdate, MeansSelect}
 use Rattle.td_movements.specs.Cells.{movements_table}
-use Rattle.td_movements.specs.declared.texts.TheConstants.{INSERT, SET_STATUS, BY_MRN, BY_LRN, OF_HOLDER, COUNTING}
+use Rattle.td_movements.specs.declared.texts.TheConstants.{INSERT, SET_STATUS, BY_MRN, BY_LRN, OF_HOLDER, COUNTING_SERIALS}
 
 movements_there : HasTable desk_schema 3 movements_table
 movements_there = record { there = refl; free = none_acts 4 }
@@ -97,6 +97,10 @@ pub of_holder_means : MeansSelect desk_schema OF_HOLDER.now 4 holder_tests all_c
 unfolding understood everything
 of_holder_means = record { names = names; command = refl; plain = (refl, refl); unlisted = refl }
 
-pub counting_means : MeansSelect desk_schema COUNTING.now 4 counting_tests all_columns by_serial
+-- the serial alone
+abbrev pub serial_column : List Term
+serial_column = col 1 2 ∷ []
+
+pub counting_means : MeansSelect desk_schema COUNTING_SERIALS.now 4 counting_tests serial_column by_serial
 unfolding understood everything
-counting_means = record { names = names; command = refl; plain = (refl, refl); unlisted = refl }
+counting_means = record { names = codes "serial" ∷ []; command = refl; plain = (refl, refl); unlisted = refl }

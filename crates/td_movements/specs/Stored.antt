@@ -1,6 +1,8 @@
 -- What is asked of the movements in a store's file, and what is said anew of one.
 use Rattle.std.specs.Prelude.{◌≡◌, [], ◌∷◌, ℕ, ◌==◌, Bool, ◌&&◌, List, filter, map, Option}
+use Rattle.std.specs.List.Sorted.{IsPermutation, IsSorted}
 use Rattle.std.specs.Option.{option_to_list}
+use Rattle.std.specs.Ordering.{nat_cmp}
 use Rattle.std.specs.Str.{bytes_eq}
 use Rattle.td_movement.specs.States.{is_counting, state_name}
 use Rattle.td_movement.specs.declared.movement.Movement.{Movement}
@@ -17,6 +19,7 @@ use Rattle.sqlite_value.specs.declared.value.Value.TheVariants.{Text}
 use Rattle.sqlite_value.specs.Order.{Row}
 use Rattle.sqlite.specs.State.{State}
 use Rattle.td_movements.specs.Cells.{movement_typing}
+use Rattle.td_movements.specs.declared.stored.MovementSerial.{MovementSerial}
 use Rattle.td_movements.specs.declared.stored.StoredMovement.{StoredMovement}
 
 -- a movement that was found, as its row
@@ -55,6 +58,21 @@ AreBySerial p state found =
     HasSchema state desk_schema → AreTyped movement_typing state.now.trees
     → IsApart place (filter p (rows_in movement_typing state.now.trees))
     → map row_of_stored found ≡ in_order place (filter p (rows_in movement_typing state.now.trees))
+
+-- a serial that was found
+abbrev pub serial_of_stored : MovementSerial → ℕ
+serial_of_stored s = s.serial
+
+-- where the table's rows are typed, these are the serials of the movements that pass the test, each as often as a movement
+-- has it; and they don't fall
+abbrev pub AreSerialsOf : (Keyed Movement → Bool) → State → List MovementSerial → Type 0
+AreSerialsOf p state found =
+    HasSchema state desk_schema → AreTyped movement_typing state.now.trees
+    → IsPermutation (map place (filter p (rows_in movement_typing state.now.trees))) (map serial_of_stored found)
+
+abbrev pub AreSerialsInOrder : State → List MovementSerial → Type 0
+AreSerialsInOrder state found =
+    HasSchema state desk_schema → AreTyped movement_typing state.now.trees → IsSorted nat_cmp (map serial_of_stored found)
 
 -- this is the movement that passes the test, or there is none
 abbrev pub IsTheMovement : (Keyed Movement → Bool) → State → Option StoredMovement → Type 0

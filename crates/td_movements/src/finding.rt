@@ -8,10 +8,10 @@ ghost use Rattle.sqlite_value.specs.declared.value.Value.TheVariants.{Text};
 ghost use Rattle.td_sql.specs.Values.{number_value};
 ghost use Rattle.td_schema.specs.Tables.{desk_schema};
 ghost use Rattle.td_sql.specs.Reading.{LeavesAll};
-ghost use Rattle.td_movements.specs.Stored.{AreBySerial, AreMovements, IsTheMovement, has_lrn, has_mrn, is_of, counts_for};
+ghost use Rattle.td_movements.specs.Stored.{AreBySerial, AreMovements, AreSerialsInOrder, AreSerialsOf, IsTheMovement, has_lrn, has_mrn, is_of, counts_for};
 
-use crate::stored::StoredMovement;
-use crate::texts::{BY_LRN, BY_MRN, COUNTING, OF_HOLDER};
+use crate::stored::{MovementSerial, StoredMovement};
+use crate::texts::{BY_LRN, BY_MRN, COUNTING_SERIALS, OF_HOLDER};
 use sqlite::{Error, Transaction};
 use sqlite_trees::store::Alter;
 use sqlite_value::value::ValueRef;
@@ -100,18 +100,18 @@ pub fn movements_of<S: Alter>(
     td_sql::fetch(alloc, tx, OF_HOLDER, &holder_key(holder))
 }
 
-/// The movements of a holder that count against their guarantees, by their serials.
-pub fn counting_movements<S: Alter>(
+/// The serials of a holder's movements that count against their guarantees, in ascending order.
+pub fn counting_serials<S: Alter>(
     alloc: Global,
     tx: &mut Transaction<'_, S>,
     holder: HolderNo,
-) -> Result<Vec<StoredMovement>, Error>
+) -> Result<Vec<MovementSerial>, Error>
     requires { HasCleanDisk (state S.Store tx.old.conn.now) → IsTrue (state S.Store tx.old.conn.now).in_transaction }
     ensures same_reference { tx.new.conn.ghost_name ≡ tx.old.conn.ghost_name }
     ensures found { HasCleanDisk (state S.Store tx.new.conn.now)
-        → IfOk result (λ found. AreMovements (counts_for holder) (state S.Store tx.old.conn.now) found.items) }
+        → IfOk result (λ found. AreSerialsOf (counts_for holder) (state S.Store tx.old.conn.now) found.items) }
     ensures order { HasCleanDisk (state S.Store tx.new.conn.now)
-        → IfOk result (λ found. AreBySerial (counts_for holder) (state S.Store tx.old.conn.now) found.items) }
+        → IfOk result (λ found. AreSerialsInOrder (state S.Store tx.old.conn.now) found.items) }
     ensures still { HasCleanDisk (state S.Store tx.new.conn.now)
         → OnOk result (LeavesAll desk_schema (state S.Store tx.old.conn.now) (state S.Store tx.new.conn.now)) }
     ensures inside { HasCleanDisk (state S.Store tx.new.conn.now) → OnOk result (IsTrue (state S.Store tx.new.conn.now).in_transaction) }
@@ -119,5 +119,5 @@ pub fn counting_movements<S: Alter>(
         → KeepsCommit (state S.Store tx.old.conn.now) (state S.Store tx.new.conn.now) }
     ensures survives { Survives (state S.Store tx.old.conn.now) (state S.Store tx.new.conn.now) (λ _. ⊥) }
 {
-    td_sql::fetch(alloc, tx, COUNTING, &holder_key(holder))
+    td_sql::fetch(alloc, tx, COUNTING_SERIALS, &holder_key(holder))
 }

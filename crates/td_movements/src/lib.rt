@@ -7,6 +7,6 @@ mod stored;
 mod texts;
 mod writing;
 
-pub use finding::{counting_movements, find_by_lrn, find_by_mrn, movements_of};
-pub use stored::StoredMovement;
+pub use finding::{counting_serials, find_by_lrn, find_by_mrn, movements_of};
+pub use stored::{MovementSerial, StoredMovement};
 pub use writing::{insert_movement, set_status};

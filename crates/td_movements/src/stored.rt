@@ -1,4 +1,5 @@
 //! Movements as their rows have them, read from the columns that a statement shows.
+use keyed_rows::Keyed;
 use sqlite::Row;
 use std::alloc::Global;
 use td_base::HolderNo;
@@ -48,5 +49,41 @@ impl FromRow for StoredMovement {
             serial: serial_at(row, 1)?,
             movement,
         })
+    }
+}
+
+/// The serial of a movement among its holder's, read alone.
+#[derive(Clone, Copy, Debug, PartialEq, Eq)]
+pub struct MovementSerial {
+    pub serial: u32,
+}
+
+impl FromRow for MovementSerial {
+    ghost use Rattle.std.specs.Prelude.{ℕ};
+    ghost use Rattle.sqlite_value.specs.Order.{column};
+    ghost use Rattle.td_sql.specs.Values.{number_in};
+    ghost use Rattle.td_movements.specs.Stored.{serial_of_stored};
+
+    ghost Typed = { ℕ };
+
+    ghost typed = { serial_of_stored };
+
+    ghost from = { λ cells. number_in (column cells 0) };
+
+    // A row of one column.
+    fn from_row(alloc: Global, row: &Row) -> Option<Self> {
+        Some(MovementSerial {
+            serial: serial_at(row, 0)?,
+        })
+    }
+}
+
+impl Keyed for MovementSerial {
+    ghost use Rattle.td_movements.specs.Stored.{serial_of_stored};
+
+    ghost key_of = { serial_of_stored };
+
+    fn key(&self) -> u32 {
+        self.serial
     }
 }

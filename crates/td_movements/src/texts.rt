@@ -20,6 +20,6 @@ pub const BY_LRN: &str =
 pub const OF_HOLDER: &str =
     "SELECT holder, serial, mrn, lrn, departure, destination, accepted, state, limit_day, arrival, actual FROM movements WHERE holder = ?1 ORDER BY holder, serial";
 
-/// The rows of a holder whose movements count against their guarantees.
-pub const COUNTING: &str =
-    "SELECT holder, serial, mrn, lrn, departure, destination, accepted, state, limit_day, arrival, actual FROM movements WHERE holder = ?1 AND state IN ('released', 'enquired', 'arrived', 'discrepant', 'cleared') ORDER BY holder, serial";
+/// The serials of a holder's movements that count against their guarantees.
+pub const COUNTING_SERIALS: &str =
+    "SELECT serial FROM movements WHERE holder = ?1 AND state IN ('released', 'enquired', 'arrived', 'discrepant', 'cleared') ORDER BY holder, serial";

@@ -1,6 +1,5 @@
-mod Joined
-mod Meanings
-mod Statements
+pub mod Sums
+mod Counted
 mod Found
 mod Reading
 mod Whole

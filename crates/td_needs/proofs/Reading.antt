@@ -14,7 +14,7 @@ use Rattle.td_needs.specs.Loaded.{IsOfContent, IsOfTables, LeavesTables}
 use Rattle.td_store_tables.specs.Rows.{HoldsContent, tables_in}
 use Rattle.td_store_tables.proofs.Holding.{holds_still}
 
-still_has : (a b : State) → HasSchema a desk_schema → IsUnchanged a b → HasSchema b desk_schema
+pub still_has : (a b : State) → HasSchema a desk_schema → IsUnchanged a b → HasSchema b desk_schema
 still_has a b has one now = ap (λ (d : Database). d.schema) one.0.now_is ∙ has one.0.was_open
 
 -- a call that leaves all as it was after calls that left the tables

@@ -1,6 +1,7 @@
 -- The amount in use on a guarantee, in the tables of a store's file.
-use Rattle.std.specs.Prelude.{◌≡◌, ℕ, List, Option, SomeIff}
+use Rattle.std.specs.Prelude.{◌≡◌, ℕ, List, Option, SomeIff, is_some, if◌then◌else◌}
 use Rattle.std.specs.List.{sum_by}
+use Rattle.keyed_rows.specs.Rows.{row_at}
 use Rattle.sqlite.specs.State.{State}
 use Rattle.td_base.specs.Money.{IsCents}
 use Rattle.td_tables.specs.Looking.{cents_of, lines_in_use}
@@ -8,13 +9,19 @@ use Rattle.td_schema.specs.Tables.{desk_schema}
 use Rattle.td_sql.specs.Typed.{AreTyped}
 use Rattle.td_sql.specs.Writing.{HasSchema}
 use Rattle.td_movements.specs.Cells.{movement_typing}
+use Rattle.td_movements.specs.Stored.{serial_of_stored}
+use Rattle.td_movements.specs.declared.stored.MovementSerial.{MovementSerial}
 use Rattle.td_lines.specs.Cells.{line_typing}
 use Rattle.td_lines.specs.declared.stored.StoredLine.{StoredLine}
 use Rattle.td_store_tables.specs.Rows.{tables_in}
 
+-- what a line adds to the amount in use: its cents, where its movement's serial is one of these
+abbrev pub counted : List MovementSerial → StoredLine → ℕ
+counted serials l = if is_some (row_at serial_of_stored l.serial serials) then l.cents else 0
+
 -- what lines add up to
-abbrev pub total_of : List StoredLine → ℕ
-total_of lines = sum_by (λ (l : StoredLine). l.cents) lines
+abbrev pub total_of : List MovementSerial → List StoredLine → ℕ
+total_of serials lines = sum_by (counted serials) lines
 
 -- so many cents are in use on the holder's guarantee n: the lines on it add up to them, of those of the holder's
 -- movements that count

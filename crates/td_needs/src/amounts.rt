@@ -1,34 +1,55 @@
 //! What is in use on a guarantee. It changes nothing.
-ghost use Rattle.std.specs.Prelude.{◌≡◌, IsTrue, IfOk, OnOk, SomeIff};
+ghost use Rattle.std.specs.Prelude.{◌≡◌, ◌↔◌, IsTrue, IfOk, OnOk, SomeIff};
+ghost use Rattle.keyed_rows.specs.Rows.{Rises};
 ghost use Rattle.sqlite.specs.Held.{state};
 ghost use Rattle.sqlite.specs.State.{HasCleanDisk, KeepsCommit, Survives};
 ghost use Rattle.td_base.specs.Money.{IsCents};
 ghost use Rattle.td_schema.specs.Tables.{desk_schema};
 ghost use Rattle.td_sql.specs.Reading.{LeavesAll};
+ghost use Rattle.td_movements.specs.Stored.{serial_of_stored};
 ghost use Rattle.td_needs.specs.InUse.{IsInUse, IsInUseIfInRange, total_of};
 
-use crate::texts::LINES_IN_USE;
+use keyed_rows::find_row;
 use sqlite::{Error, ErrorCode, Transaction};
 use sqlite_trees::store::Alter;
 use std::alloc::Global;
 use td_base::{Cents, HolderNo};
-use td_columns::serial_key;
-use td_lines::StoredLine;
+use td_lines::{StoredLine, lines_on};
+use td_movements::{MovementSerial, counting_serials};
 
-// What lines add up to. `None` above 10^15 cents.
-fn total(lines: &[StoredLine]) -> Option<Cents>
-    ensures { SomeIff result (IsCents (total_of lines.now)) (total_of lines.now) }
+// Whether serials stand in ascending order, no two alike.
+fn rise(serials: &[MovementSerial]) -> bool
+    ensures { IsTrue result ↔ Rises serial_of_stored 0 serials.now }
+{
+    let mut least = 0u64;
+    for row in serials {
+        let serial = u64::from(row.serial);
+        if serial < least {
+            return false;
+        }
+        least = serial + 1;
+    }
+    true
+}
+
+// What lines add up to, those alone of the movements with these serials. `None` above 10^15 cents.
+fn total(lines: &[StoredLine], serials: &[MovementSerial]) -> Option<Cents>
+    requires { Rises serial_of_stored 0 serials.now }
+    ensures { SomeIff result (IsCents (total_of serials.now lines.now)) (total_of serials.now lines.now) }
 {
     let mut sum = Cents::new(0)?;
     for line in lines {
-        sum = sum.plus(line.cents)?;
+        if find_row(serials, line.serial).is_some() {
+            sum = sum.plus(line.cents)?;
+        }
     }
     Some(sum)
 }
 
 /// The amount in use on a holder's guarantee with a serial, in cents: what the lines on it add up to, of those of the
 /// holder's movements that count. `None`: they add up to more than 10^15 cents, which no amount is. `DatabaseCorrupt`: a row is
-/// no line's; `OutOfMemory`: want of memory; any other error is the database's own.
+/// no line's or no movement's, or two movements that count have one serial; `OutOfMemory`: want of memory; any other error is
+/// the database's own.
 pub fn amount_if_in_range<S: Alter>(
     alloc: Global,
     tx: &mut Transaction<'_, S>,
@@ -46,13 +67,16 @@ pub fn amount_if_in_range<S: Alter>(
         → KeepsCommit (state S.Store tx.old.conn.now) (state S.Store tx.new.conn.now) }
     ensures survives { Survives (state S.Store tx.old.conn.now) (state S.Store tx.new.conn.now) (λ _. ⊥) }
 {
-    let rows = td_sql::select(tx, LINES_IN_USE, &serial_key(holder, guarantee))?;
-    let lines: Vec<StoredLine> = td_sql::read_rows(alloc, &rows)?;
-    Ok(total(&lines))
+    let serials = counting_serials(alloc, tx, holder)?;
+    if !rise(&serials) {
+        return Err(Error::SqliteFailure(ErrorCode::DatabaseCorrupt));
+    }
+    let lines = lines_on(alloc, tx, holder, guarantee)?;
+    Ok(total(&lines, &serials))
 }
 
-/// That amount, where they add up to one. `DatabaseCorrupt`: a row is no line's, or they add up to more than 10^15 cents;
-/// `OutOfMemory`: want of memory; any other error is the database's own.
+/// That amount, where they add up to one. `DatabaseCorrupt`: a row is no line's or no movement's, two movements that count have
+/// one serial, or they add up to more than 10^15 cents; `OutOfMemory`: want of memory; any other error is the database's own.
 pub fn amount_in_use<S: Alter>(
     alloc: Global,
     tx: &mut Transaction<'_, S>,

@@ -1,5 +1,5 @@
 //! What a verdict needs, loaded out of the tables of a store's file: guarantees with their codes, movements with their lines, the
-//! amount in use by one statement over movements and lines, and what is asked for of the rows of a command's owner. Each
+//! amount in use by the serials of the movements that count and the lines on the guarantee, and what is asked for of the rows of a command's owner. Each
 //! function runs its statements inside a transaction and changes nothing.
 #![tactic(auto)]
 
@@ -8,7 +8,6 @@ mod entries;
 mod guarantees;
 mod movements;
 mod needs;
-mod texts;
 
 pub use amounts::{amount_if_in_range, amount_in_use};
 pub use needs::load;

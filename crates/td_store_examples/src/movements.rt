@@ -6,7 +6,7 @@ use td_acts::NewStatus;
 use td_base::{Day, HolderNo, Lrn, Mrn, OfficeNo};
 use td_movement::{Movement, MovementLines, State};
 use td_movements::{
-    counting_movements, find_by_lrn, find_by_mrn, insert_movement, movements_of, set_status,
+    counting_serials, find_by_lrn, find_by_mrn, insert_movement, movements_of, set_status,
 };
 use td_schema::make_tables;
 
@@ -106,11 +106,12 @@ fn a_movement_that_is_released_counts(rt: HostRuntime) -> Result<(), Fail> {
     release_one(&mut conn, holder)?;
     assert!(rt; conn.is_autocommit());
     let mut tx = conn.transaction();
-    let counting = counting_movements(alloc, &mut tx, holder)?;
+    let counting = counting_serials(alloc, &mut tx, holder)?;
     assert!(rt; counting.len() == 1);
-    assert!(rt; counting[0].movement.limit == Day::new(20156));
+    assert!(rt; counting[0].serial == 1);
     let all = movements_of(alloc, &mut tx, holder)?;
     assert!(rt; all.len() == 1);
+    assert!(rt; all[0].movement.limit == Day::new(20156));
     assert!(rt; all[0].movement.state == State::Released);
     Ok(())
 }
@@ -123,6 +124,6 @@ fn a_movement_that_is_accepted_does_not_count(rt: HostRuntime) -> Result<(), Fai
     write_one(alloc, &mut conn, holder)?;
     assert!(rt; conn.is_autocommit());
     let mut tx = conn.transaction();
-    assert!(rt; counting_movements(alloc, &mut tx, holder)?.is_empty());
+    assert!(rt; counting_serials(alloc, &mut tx, holder)?.is_empty());
     Ok(())
 }

@@ -1,29 +1,49 @@
-use Rattle.std.proofs.Common.{◌≡◌, ◌∙◌, ap, map, subst}
-use Rattle.std.specs.Prelude.{SomeIff}
+use Rattle.std.proofs.Common.{◌∙◌, ap₂, arith, map, subst, sym, IsPermutation}
+use Rattle.std.specs.Prelude.{SomeIff, filter}
+use Rattle.keyed_rows.specs.Rows.{Rises}
+use Rattle.sqlite.specs.Effect.{Database}
 use Rattle.sqlite.specs.Held.{state}
-use Rattle.sqlite.specs.State.{State}
+use Rattle.sqlite.specs.State.{State, HasCleanDisk, IsUnchanged}
 use Rattle.td_base.specs.Money.{IsCents}
-use Rattle.td_schema.specs.Tables.{desk_schema}
-use Rattle.td_sql.proofs.Leaving.{stays}
-use Rattle.td_lines.specs.Cells.{line_from}
-use Rattle.td_lines.specs.Stored.{row_of_stored}
-use Rattle.td_needs.specs.declared.texts.TheConstants.{LINES_IN_USE}
-use Rattle.td_needs.proofs.Meanings.{lines_in_use_means}
-use Rattle.td_needs.proofs.Statements.{in_use}
+use Rattle.td_sql.specs.Typed.{AreTyped, rows_in}
+use Rattle.td_movements.specs.Stored.{serial_of_stored}
+use Rattle.td_lines.specs.Cells.{line_typing}
+use Rattle.td_lines.specs.Stored.{is_line_on, row_of_stored}
+use Rattle.td_store_tables.specs.Rows.{tables_in}
+use Rattle.td_needs.specs.InUse.{total_of}
+use Rattle.td_needs.proofs.Counted.{in_use_is}
+use Rattle.td_needs.proofs.Reading.{as_tables, still_has, then_left}
 use Rattle.td_needs.proofs.amounts.amount_if_in_range.Goals as goal
 
 pub returns-clause-found : goal.returns-clause-found
 returns-clause-found g c clean has movements lines =
-    let read : map row_of_stored c.deref-2.result.now ≡ map line_from c.in_ok-rows.rows.items =
-    ap (map row_of_stored) c.deref-2.ensures.value ∙ c.in_ok-lines.ensures ∙ ap (map line_from) c.deref.ensures.value in
     subst (λ cents. SomeIff c.total.result (IsCents cents) cents)
-    (in_use c.args.holder c.args.guarantee _ c.serial_key.ensures old c.in_ok-rows.rows.items c.deref-2.result.now
-    (c.in_ok-rows.ensures.joined clean) read has movements lines) c.total.ensures
+    (ap₂ total_of c.deref-3.ensures.value c.deref-2.ensures.value
+    ∙ in_use_is c.args.holder c.args.guarantee (tables_in a.now.trees) c.in_ok-serials.serials.items rises (c.in_ok-serials.ensures.found clean_b has movements) c.in_ok-lines.lines.items found)
+    c.total.ensures
   where
-    old : State
-    old = state g.S.Store c.args.tx.now.conn.now
+    a : State
+    a = state g.S.Store c.args.tx.now.conn.now
+
+    b : State
+    b = state g.S.Store c.counting_serials.new.tx.conn.now
+
+    clean_b : HasCleanDisk b
+    clean_b = omega (arith, clean, c.lines_on.ensures.survives.clean)
+
+    rises : Rises serial_of_stored 0 c.in_ok-serials.serials.items
+    rises = subst (Rises serial_of_stored 0) c.deref.ensures.value (c.rise.ensures.0 c.if-not-rise.false)
+
+    one : IsUnchanged a b
+    one = c.in_ok-serials.ensures.still clean_b has
+
+    found : IsPermutation (filter (is_line_on c.args.holder c.args.guarantee) (rows_in line_typing a.now.trees)) (map row_of_stored c.in_ok-lines.lines.items)
+    found =
+        subst (λ (k : Database). IsPermutation (filter (is_line_on c.args.holder c.args.guarantee) (rows_in line_typing k.trees)) (map row_of_stored c.in_ok-lines.lines.items)) one.0.now_is
+        (c.in_ok-lines.ensures.found clean (still_has a b has one) (subst (λ (k : Database). AreTyped line_typing k.trees) (sym one.0.now_is) lines))
 
 pub returns-clause-still : goal.returns-clause-still
 returns-clause-still g c clean =
-    stays desk_schema LINES_IN_USE.now lines_in_use_means.plain (state g.S.Store c.args.tx.now.conn.now)
-    (state g.S.Store c.select.new.tx.conn.now) (c.in_ok-rows.ensures.still clean)
+    then_left (state g.S.Store c.args.tx.now.conn.now) (state g.S.Store c.counting_serials.new.tx.conn.now) (state g.S.Store c.lines_on.new.tx.conn.now)
+    (c.in_ok-serials.ensures.still (omega (arith, clean, c.lines_on.ensures.survives.clean)))
+    (as_tables (state g.S.Store c.counting_serials.new.tx.conn.now) (state g.S.Store c.lines_on.new.tx.conn.now) (c.in_ok-lines.ensures.still clean))

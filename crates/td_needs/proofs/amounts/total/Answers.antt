@@ -5,6 +5,6 @@ use Rattle.td_needs.proofs.amounts.total.Goals as goal
 
 pub returns : goal.returns
 returns c =
-    let none = ap total_of (drop_all c.loop-line.line-index c.args.lines.now c.loop-line-test.false) in
-    let all : c.loop-line.sum ≡ total_of c.args.lines.now = omega (arith, none, c.loop-line.invariant.all) in
+    let none = ap (total_of c.args.serials.now) (drop_all c.loop-line.line-index c.args.lines.now c.loop-line-test.false) in
+    let all : c.loop-line.sum ≡ total_of c.args.serials.now c.args.lines.now = omega (arith, none, c.loop-line.invariant.all) in
     (rw (sym all) c.loop-line.invariant.range, all)

@@ -7,5 +7,5 @@ use Rattle.td_needs.proofs.amounts.total.Given as goal
 abbrev pub invariant-loop-line : goal.invariant-loop-line
 invariant-loop-line l = record {
   range : IsCents l.sum;
-  all : l.sum + total_of (drop l.line-index l.lines) ≡ total_of l.lines;
+  all : l.sum + total_of l.serials (drop l.line-index l.lines) ≡ total_of l.serials l.lines;
 }
