@@ -1,11 +1,11 @@
 //! A declaration that its holder cancels (IE014).
-use super::WORDS;
-use super::exchanges::{
-    A1, A1_LODGED, A2, A2_LODGED, CLOCK_BACK, Exchange, ExchangeAt, NO_HOLDER, OPEN, OPENED,
-    OTHER_REGISTER, OTHER_SHOWN, SHOWN_LODGED, assert_replies, assert_replies_at,
-};
-use super::first_requests::{REGISTER, SEE, SHOWN};
 use std::test::Fail;
+use td_run_helpers::WORDS;
+use td_run_helpers::exchanges::{
+    A1, A1_LODGED, A2, A2_LODGED, CLOCK_BACK, Exchange, ExchangeAt, NO_HOLDER, OPEN, OPENED,
+    OTHER_REGISTER, OTHER_SHOWN, REGISTER, SEE, SHOWN, SHOWN_LODGED, assert_replies,
+    assert_replies_at,
+};
 
 const CANCEL_A1: &[u8] =
     b"POST /holders/000001/movements/25CH00000100000013/ie014 HTTP/1.1\r\n\r\n";

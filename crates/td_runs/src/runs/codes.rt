@@ -1,9 +1,10 @@
 //! Access codes that a holder adds and removes.
-use super::WORDS;
-use super::acts::{BAD_CODE, SEE_G1};
-use super::exchanges::{A1, A1_LODGED, Exchange, OPEN, OPENED, assert_replies};
-use super::first_requests::{REGISTER, SHOWN};
 use std::test::Fail;
+use td_run_helpers::WORDS;
+use td_run_helpers::acts::{BAD_CODE, SEE_G1};
+use td_run_helpers::exchanges::{
+    A1, A1_LODGED, Exchange, OPEN, OPENED, REGISTER, SHOWN, assert_replies,
+};
 
 const ADD_ZZ99: &[u8] =
     b"POST /holders/000001/guarantees/25CH0000010000014/codes/add HTTP/1.1\r\nContent-Length: 15\r\n\r\n{\"code\":\"ZZ99\"}";

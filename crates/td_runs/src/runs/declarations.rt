@@ -1,13 +1,12 @@
 //! Declarations lodged (IE015), and the MRN allocated to each (IE028).
-use super::WORDS;
-use super::acts::SECOND_OPENED;
-use super::exchanges::{
+use std::test::Fail;
+use td_run_helpers::WORDS;
+use td_run_helpers::acts::SECOND_OPENED;
+use td_run_helpers::exchanges::{
     A1, A1_LODGED, A2, A2_LODGED, Exchange, NO_GUARANTEE, NO_HOLDER, OPEN, OPENED, OTHER_A1,
     OTHER_A1_LODGED, OTHER_OPEN, OTHER_OPENED, OTHER_REGISTER, OTHER_SEE, OTHER_SHOWN,
-    SHOWN_OPENED, assert_replies,
+    OTHER_SHOWN_WITH_ONE, REGISTER, SEE, SHOWN, SHOWN_OPENED, assert_replies,
 };
-use super::first_requests::{REGISTER, SEE, SHOWN};
-use std::test::Fail;
 
 const A3: &[u8] =
     b"POST /holders/000001/movements HTTP/1.1\r\nContent-Length: 127\r\n\r\n{\"lrn\":\"A3\",\"departure\":\"CH001251\",\"destination\":\"DE005600\",\"lines\":[{\"grn\":\"25CH0000010000014\",\"code\":\"AB12\",\"cents\":500000}]}";
@@ -17,10 +16,6 @@ const A3_LODGED: &[u8] =
 
 const SHOWN_WITH_THREE: &[u8] =
     b"HTTP/1.1 200 OK\r\nContent-Type: application/json\r\nContent-Length: 67\r\n\r\n{\"eori\":\"CH1234567\",\"guarantees\":1,\"holder\":\"000001\",\"movements\":3}";
-
-/// The other holder with one guarantee and one movement.
-pub const OTHER_SHOWN_WITH_ONE: &[u8] =
-    b"HTTP/1.1 200 OK\r\nContent-Type: application/json\r\nContent-Length: 67\r\n\r\n{\"eori\":\"DE7654321\",\"guarantees\":1,\"holder\":\"000002\",\"movements\":1}";
 
 const THREE_DECLARATIONS: &[Exchange] = &[
     (REGISTER, SHOWN),

@@ -1,12 +1,11 @@
 //! Lists of all movements and of all guarantees of a holder.
-use super::WORDS;
-use super::acts::{RELEASE_A2, RELEASED_A2, SECOND_OPENED};
-use super::exchanges::{
-    A1, A1_LODGED, A2, A2_LODGED, Exchange, NO_HOLDER, OPEN, OPENED, OTHER_A1, OTHER_A1_LODGED,
-    OTHER_OPEN, OTHER_OPENED, OTHER_REGISTER, OTHER_SHOWN, assert_replies,
-};
-use super::first_requests::{REGISTER, SHOWN};
 use std::test::Fail;
+use td_run_helpers::WORDS;
+use td_run_helpers::acts::{RELEASE_A2, RELEASED_A2, SECOND_OPENED};
+use td_run_helpers::exchanges::{
+    A1, A1_LODGED, A2, A2_LODGED, Exchange, NO_HOLDER, OPEN, OPENED, OTHER_A1, OTHER_A1_LODGED,
+    OTHER_OPEN, OTHER_OPENED, OTHER_REGISTER, OTHER_SHOWN, REGISTER, SHOWN, assert_replies,
+};
 
 const LIST_MOVEMENTS: &[u8] = b"GET /holders/000001/movements HTTP/1.1\r\n\r\n";
 

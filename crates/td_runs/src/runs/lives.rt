@@ -1,13 +1,14 @@
 //! Movements from their release to their write-off.
-use super::acts::{
+use std::test::Fail;
+use td_run_helpers::acts::{
     ADVISED_A1, ADVISED_A1_LATE, ARRIVE_A1, CLEAR_A1, CLEARED_A1, DISCREPANT_A1, ENQUIRE_A1,
     ENQUIRED_A1, FIND_A1_DISCREPANT, G1_FREE, G1_HALF, RELEASE_A1, RELEASED_A1, SEE_G1,
     WRITE_OFF_A1, WRITE_OFF_A1_BY_PROOF, WRITTEN_OFF_A1, WRONG_CLEARED, WRONG_ENQUIRED,
     WRONG_WRITTEN_OFF,
 };
-use super::exchanges::{A1, A1_LODGED, ExchangeAt, OPEN, OPENED, assert_replies_at};
-use super::first_requests::{REGISTER, SHOWN};
-use std::test::Fail;
+use td_run_helpers::exchanges::{
+    A1, A1_LODGED, ExchangeAt, OPEN, OPENED, REGISTER, SHOWN, assert_replies_at,
+};
 
 /// 2025-03-01T09:00:00Z, the moment of the worked rows.
 const AT: i64 = 1_740_819_600;

@@ -1,12 +1,12 @@
 //! The moment of a request: its year, the clock's range, and the holder's own last change.
-use super::exchanges::{
+use std::test::Fail;
+use td_run_helpers::exchanges::{
     A1, A1_LODGED, A2, A2_LODGED, BAD_HOLDER, CLOCK_BACK, CLOCK_RANGE, Exchange, ExchangeAt,
     NO_HOLDER, OPEN, OPENED, OTHER_A1, OTHER_A1_LODGED, OTHER_OPEN, OTHER_OPENED, OTHER_REGISTER,
-    OTHER_SHOWN, SHOWN_LODGED, SHOWN_OPENED, assert_replies, assert_replies_at,
+    OTHER_SHOWN, REGISTER, SEE, SHOWN, SHOWN_LODGED, SHOWN_OPENED, assert_replies,
+    assert_replies_at,
 };
-use super::first_requests::{REGISTER, SEE, SHOWN};
-use super::words_at;
-use std::test::Fail;
+use td_run_helpers::words_at;
 
 // 2025-03-01, 9 o'clock.
 const NINE: i64 = 1_740_819_600;

@@ -1,10 +1,11 @@
 //! A movement of nine lines, each of the greatest amount: the longest reply about one thing, and a release on nine
 //! guarantees.
-use super::WORDS;
-use super::acts::{RELEASE_A1, RELEASED_A1, SECOND_OPENED, THIRD_OPENED};
-use super::exchanges::{A1_LODGED, Exchange, OPEN, OPENED, assert_replies};
-use super::first_requests::{REGISTER, SHOWN};
 use std::test::Fail;
+use td_run_helpers::WORDS;
+use td_run_helpers::acts::{RELEASE_A1, RELEASED_A1, SECOND_OPENED, THIRD_OPENED};
+use td_run_helpers::exchanges::{
+    A1_LODGED, Exchange, OPEN, OPENED, REGISTER, SHOWN, assert_replies,
+};
 
 // The other guarantees of the holder, as they are opened, behind the third.
 const FOURTH_OPENED: &[u8] =

@@ -1,13 +1,12 @@
 //! Guarantees opened, and their references.
 
-use super::acts::{SECOND_OPENED, THIRD_OPENED};
-use super::exchanges::{
-    A1, A1_LODGED, Exchange, NO_HOLDER, OPEN, OPENED, OTHER_OPEN, OTHER_OPENED, OTHER_REGISTER,
-    OTHER_SEE, OTHER_SHOWN, assert_replies,
-};
-use super::first_requests::{REGISTER, SEE, SHOWN};
-use super::{WORDS, words_at};
 use std::test::Fail;
+use td_run_helpers::acts::{SECOND_OPENED, THIRD_OPENED};
+use td_run_helpers::exchanges::{
+    A1, A1_LODGED, Exchange, NO_HOLDER, OPEN, OPENED, OTHER_OPEN, OTHER_OPENED, OTHER_REGISTER,
+    OTHER_SEE, OTHER_SHOWN, REGISTER, SEE, SHOWN, assert_replies,
+};
+use td_run_helpers::{WORDS, words_at};
 
 const SHOWN_WITH_THREE: &[u8] =
     b"HTTP/1.1 200 OK\r\nContent-Type: application/json\r\nContent-Length: 67\r\n\r\n{\"eori\":\"CH1234567\",\"guarantees\":3,\"holder\":\"000001\",\"movements\":0}";

@@ -1,14 +1,13 @@
 //! What others do isn't seen: their guarantees, numbers that begin alike, and many holders at one desk.
-use super::WORDS;
-use super::exchanges::{
-    A1, A1_LODGED, Exchange, ExchangeAt, NO_GUARANTEE, OPEN, OPENED, OTHER_A1, OTHER_A1_LODGED,
-    OTHER_OPEN, OTHER_OPENED, OTHER_REGISTER, OTHER_SEE, OTHER_SHOWN, SHOWN_LODGED, assert_replies,
-    assert_replies_at,
-};
-use super::first_requests::{REGISTER, SEE, SHOWN};
-use super::texts::{Script, assert_script};
 use std::alloc::{AllocError, Global};
 use std::test::Fail;
+use td_run_helpers::WORDS;
+use td_run_helpers::exchanges::{
+    A1, A1_LODGED, Exchange, ExchangeAt, NO_GUARANTEE, OPEN, OPENED, OTHER_A1, OTHER_A1_LODGED,
+    OTHER_OPEN, OTHER_OPENED, OTHER_REGISTER, OTHER_SEE, OTHER_SHOWN, REGISTER, SEE, SHOWN,
+    SHOWN_LODGED, assert_replies, assert_replies_at,
+};
+use td_run_helpers::texts::{Script, assert_script};
 
 // The other holder lodges on the first guarantee of holder 000001: with its code, with another one, and behind a good line.
 const ON_A_STRANGERS: &[u8] =

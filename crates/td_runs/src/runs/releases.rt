@@ -1,12 +1,13 @@
 //! Releases for transit (IE029): the amounts in use, and the limit.
-use super::WORDS;
-use super::acts::{
+use std::test::Fail;
+use td_run_helpers::WORDS;
+use td_run_helpers::acts::{
     G1_FREE, G1_HALF, G1_WHOLE, LIMIT_DATE, NO_MOVEMENT, RELEASE_A1, RELEASE_A2, RELEASED_A1,
     RELEASED_A2, SECOND_OPENED, SEE_G1, THIRD_OPENED, WRONG_RELEASED,
 };
-use super::exchanges::{A1, A1_LODGED, A2, A2_LODGED, Exchange, OPEN, OPENED, assert_replies};
-use super::first_requests::{REGISTER, SHOWN};
-use std::test::Fail;
+use td_run_helpers::exchanges::{
+    A1, A1_LODGED, A2, A2_LODGED, Exchange, OPEN, OPENED, REGISTER, SHOWN, assert_replies,
+};
 
 /// A third declaration, of one cent.
 const A3_OF_A_CENT: &[u8] =

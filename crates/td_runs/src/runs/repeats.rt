@@ -1,11 +1,11 @@
 //! A declaration lodged again under its LRN.
-use super::WORDS;
-use super::acts::SECOND_OPENED;
-use super::exchanges::{
-    A1, A1_LODGED, A2, A2_LODGED, Exchange, OPEN, OPENED, SHOWN_LODGED, assert_replies,
-};
-use super::first_requests::{REGISTER, SEE, SHOWN};
 use std::test::Fail;
+use td_run_helpers::WORDS;
+use td_run_helpers::acts::SECOND_OPENED;
+use td_run_helpers::exchanges::{
+    A1, A1_LODGED, A2, A2_LODGED, Exchange, OPEN, OPENED, REGISTER, SEE, SHOWN, SHOWN_LODGED,
+    assert_replies,
+};
 
 const LRN_USED: &[u8] =
     b"HTTP/1.1 409 Conflict\r\nContent-Type: application/json\r\nContent-Length: 20\r\n\r\n{\"error\":\"lrn-used\"}";

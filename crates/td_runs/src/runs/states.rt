@@ -1,14 +1,15 @@
 //! Every move of a movement in each of its states.
-use super::acts::{
+use std::test::Fail;
+use td_run_helpers::acts::{
     ADVISED_A1, ADVISED_A1_LATE, ARRIVE_A1, CANCEL_A1, CANCELLED_A1, CLEAR_A1,
     CLEAR_A1_AS_CONSIDERED, CLEARED_A1, DISCREPANT_A1, ENQUIRE_A1, ENQUIRED_A1, FIND_A1_DISCREPANT,
     G1_FREE, G1_HALF, RELEASE_A1, RELEASED_A1, SEE_G1, WRITE_OFF_A1, WRITE_OFF_A1_BY_PROOF,
     WRITTEN_OFF_A1, WRONG_ACCEPTED, WRONG_ARRIVED, WRONG_CANCELLED, WRONG_CLEARED,
     WRONG_DISCREPANT, WRONG_ENQUIRED, WRONG_RELEASED, WRONG_WRITTEN_OFF,
 };
-use super::exchanges::{A1, A1_LODGED, ExchangeAt, OPEN, OPENED, assert_replies_at};
-use super::first_requests::{REGISTER, SHOWN};
-use std::test::Fail;
+use td_run_helpers::exchanges::{
+    A1, A1_LODGED, ExchangeAt, OPEN, OPENED, REGISTER, SHOWN, assert_replies_at,
+};
 
 const AT: i64 = 1_740_819_600;
 

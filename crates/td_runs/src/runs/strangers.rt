@@ -1,15 +1,15 @@
 //! A reference of somebody else is told like one that nobody has.
-use super::WORDS;
-use super::acts::{
+use std::test::Fail;
+use td_run_helpers::WORDS;
+use td_run_helpers::acts::{
     ARRIVE_A1, CANCEL_A1, CANCELLED_A1, CLEAR_A1, ENQUIRE_A1, G1_FREE, NO_MOVEMENT, RELEASE_A1,
     RELEASED_A1, SEE_G1, WRITE_OFF_A1, WRONG_ACCEPTED,
 };
-use super::exchanges::{
+use td_run_helpers::exchanges::{
     A1, A1_LODGED, CLOCK_BACK, Exchange, ExchangeAt, NO_GUARANTEE, NO_HOLDER, OPEN, OPENED,
-    OTHER_OPEN, OTHER_OPENED, OTHER_REGISTER, OTHER_SHOWN, assert_replies, assert_replies_at,
+    OTHER_OPEN, OTHER_OPENED, OTHER_REGISTER, OTHER_SHOWN, REGISTER, SHOWN, assert_replies,
+    assert_replies_at,
 };
-use super::first_requests::{REGISTER, SHOWN};
-use std::test::Fail;
 
 /// What holder 000002 asks of a movement or a guarantee of holder 000001, and of one that nobody has.
 const CANCEL_OF_ANOTHER: &[u8] =

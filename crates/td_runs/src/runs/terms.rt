@@ -1,14 +1,13 @@
 //! Guarantees amended and revoked.
-use super::WORDS;
-use super::acts::{
+use std::test::Fail;
+use td_run_helpers::WORDS;
+use td_run_helpers::acts::{
     G1_WHOLE, GUARANTEE_ENDED, RELEASE_A1, RELEASE_A2, RELEASED_A1, RELEASED_A2, SEE_G1,
 };
-use super::exchanges::{
-    A1, A1_LODGED, A2, A2_LODGED, Exchange, ExchangeAt, OPEN, OPENED, assert_replies,
-    assert_replies_at,
+use td_run_helpers::exchanges::{
+    A1, A1_LODGED, A2, A2_LODGED, Exchange, ExchangeAt, OPEN, OPENED, REGISTER, SHOWN,
+    assert_replies, assert_replies_at,
 };
-use super::first_requests::{REGISTER, SHOWN};
-use std::test::Fail;
 
 /// Amendments to a reference amount of a cent less than what is in use, and of as much.
 const AMEND_BELOW_USE: &[u8] =

@@ -1,12 +1,11 @@
 //! Views of movements and guarantees.
-use super::exchanges::{
-    A1, A1_LODGED, A2_LODGED, CLOCK_RANGE, Exchange, NO_GUARANTEE, NO_HOLDER, OPEN, OPENED,
-    OTHER_A1, OTHER_A1_LODGED, OTHER_OPEN, OTHER_OPENED, OTHER_REGISTER, OTHER_SHOWN,
-    assert_replies,
-};
-use super::first_requests::{REGISTER, SHOWN};
-use super::{WORDS, words_at};
 use std::test::Fail;
+use td_run_helpers::exchanges::{
+    A1, A1_LODGED, A2_LODGED, CLOCK_RANGE, Exchange, NO_GUARANTEE, NO_HOLDER, OPEN, OPENED,
+    OTHER_A1, OTHER_A1_LODGED, OTHER_OPEN, OTHER_OPENED, OTHER_REGISTER, OTHER_SHOWN, REGISTER,
+    SHOWN, assert_replies,
+};
+use td_run_helpers::{WORDS, words_at};
 
 /// The movement that was declared under the LRN A1.
 const SEE_A1: &[u8] = b"GET /holders/000001/movements/25CH00000100000013 HTTP/1.1\r\n\r\n";

@@ -1,17 +1,15 @@
 //! Files beside other things of the machine that a job needs: another program that has the file, a port that is in use, and
 //! an output that can't be written.
-use super::super::devices::Narrow;
-use super::super::first_requests::{REGISTER, SEE, SHOWN};
-use super::super::serving::{listener, serve_words};
-use super::super::{Done, Due, Machine, assert_due, assert_job, words_of};
 use super::{
     CHECK, IS_SOUND, PIPE, PIPE_NEW, Run, STORE, assert_each, assert_run, remove, words_over,
 };
+use crate::runs::serving::{listener, serve_words};
 use sqlite::{Connection, Unknown};
-use std::process::Abort;
 use std::test::Fail;
 use td_base::Counted;
-use td_cli::{DeskFile, perform};
+use td_run_helpers::devices::Narrow;
+use td_run_helpers::exchanges::{REGISTER, SEE, SHOWN};
+use td_run_helpers::{DeskFile, Done, Due, assert_due, assert_job, perform, words_of};
 
 const MADE: Run = Run {
     words: PIPE_NEW,
@@ -44,8 +42,8 @@ const TAKEN: &[Run] = &[
     },
 ];
 
-fn assert_taken(rt: &(impl Machine + Abort), path: &str) -> Result<(), Fail> {
-    let taken = Connection::open(rt.host(), path)?;
+fn assert_taken(rt: &HostRuntime, path: &str) -> Result<(), Fail> {
+    let taken = Connection::open(rt, path)?;
     assert_each(rt, path, TAKEN)?;
     taken.close()?;
     Ok(())
@@ -61,8 +59,8 @@ fn one_program_has_a_file(rt: HostRuntime) -> Result<(), Fail> {
 }
 
 /// `serve --new` at this port ends with a fault of the socket.
-fn assert_no_socket(rt: &(impl Machine + Abort), path: &str, port: &str) -> Result<(), Fail> {
-    let mut words = words_over(rt.host().alloc(), &serve_words(port), path)?;
+fn assert_no_socket(rt: &HostRuntime, path: &str, port: &str) -> Result<(), Fail> {
+    let mut words = words_over(rt.alloc(), &serve_words(port), path)?;
     words.push("--new")?;
     let due = Due {
         status: 1,
@@ -102,15 +100,15 @@ fn done_narrow(rt: &HostRuntime, words: &[String]) -> Done {
     }
 }
 
-fn assert_narrow(rt: &(impl Machine + Abort), path: &str) -> Result<(), Fail> {
-    let words = words_over(rt.host().alloc(), CHECK, path)?;
-    let done = done_narrow(rt.host(), &words_of(rt.host().alloc(), &words)?);
+fn assert_narrow(rt: &HostRuntime, path: &str) -> Result<(), Fail> {
+    let words = words_over(rt.alloc(), CHECK, path)?;
+    let done = done_narrow(rt, &words_of(rt.alloc(), &words)?);
     let due = Due {
         status: 1,
         out: b"soun",
         errors: b"transit-desk: write\n",
     };
-    assert_due(rt, &done, due)
+    assert_due(&done, due)
 }
 
 #[test]

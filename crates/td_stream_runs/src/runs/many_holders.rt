@@ -1,7 +1,7 @@
 //! Many holders at one desk: there is no limit over all of them.
-use super::texts::{Script, assert_script};
 use std::alloc::{AllocError, Global};
 use std::test::Fail;
+use td_run_helpers::texts::{Script, assert_script};
 
 // A holder, and the holder's first guarantee and first movement.
 type Holder = (&'static str, &'static str, &'static str);

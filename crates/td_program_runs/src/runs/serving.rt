@@ -1,15 +1,14 @@
 //! The job `serve` where it comes to no connection: a port that is in use, and a first line that can't be written, which
 //! shows that the port is listened on at 127.0.0.1 alone. (One process can't both wait in it and connect to it: what it
 //! does with connections is shown by td_connections' tests.)
-use super::devices::Narrow;
-use super::{Due, assert_job, assert_text, words_of};
 use sqlite::Unknown;
 use std::alloc::{AllocError, Global};
 use std::io;
 use std::net::{Ipv4Addr, Net, SocketAddr, TcpListener, TcpStream};
 use std::test::Fail;
 use td_base::Counted;
-use td_cli::{DeskFile, perform};
+use td_run_helpers::devices::Narrow;
+use td_run_helpers::{DeskFile, Due, assert_equal, assert_job, assert_text, perform, words_of};
 
 /// A listener at a port that the machine chooses.
 pub fn listener<N: Net<Listener = TcpListener, Stream = TcpStream>>(
@@ -74,7 +73,7 @@ fn a_first_line_that_cannot_be_written_is_a_fault(rt: HostRuntime) -> Result<(),
     let mut out = narrow(rt.alloc());
     let mut errors = Counted::new(Vec::new(rt.alloc()));
     let status = perform(&rt, &words, &mut file, &mut input, &mut out, &mut errors);
-    assert_eq!(rt; status, 1);
-    assert_text(&rt, &out.into_inner().taken, b"listening ")?;
-    assert_text(&rt, &errors.into_inner(), b"transit-desk: write\n")
+    assert_equal(&status, &1)?;
+    assert_text(&out.into_inner().taken, b"listening ")?;
+    assert_text(&errors.into_inner(), b"transit-desk: write\n")
 }

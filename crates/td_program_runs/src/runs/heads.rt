@@ -1,12 +1,11 @@
 //! HEAD requests, two streams after one another at one service: what the first one looked up is there for the second.
-use super::assert_text;
-use super::exchanges::service_of_ch;
-use std::process::Abort;
+use std::alloc::Global;
 use std::test::Fail;
 use td_base::Counted;
-use td_cli::FixedClock;
 use td_desk::PlainDesk;
 use td_http::{Service, StreamEnd, serve_stream};
+use td_run_helpers::exchanges::service_of_ch;
+use td_run_helpers::{FixedClock, assert_equal, assert_text};
 
 // A target's HEAD, and the reply.
 const HEADS: [(&[u8], &[u8]); 6] = [
@@ -36,31 +35,20 @@ const HEADS: [(&[u8], &[u8]); 6] = [
     ),
 ];
 
-fn assert_refused(rt: &impl Abort, end: StreamEnd) {
-    assert_eq!(rt; end, StreamEnd::Refused);
-}
-
 // What is written for a stream that is refused.
-fn told(
-    rt: &(impl AllocGlobal + Abort),
-    service: &mut Service<PlainDesk>,
-    input: &[u8],
-) -> Vec<u8> {
+fn told(alloc: Global, service: &mut Service<PlainDesk>, input: &[u8]) -> Result<Vec<u8>, Fail> {
     let mut reader = Counted::new(input);
-    let mut writer = Counted::new(Vec::new(rt.alloc()));
+    let mut writer = Counted::new(Vec::new(alloc));
     let mut clock = FixedClock { at: 1_740_819_600 };
-    let end = serve_stream(rt.alloc(), &mut reader, &mut writer, &mut clock, service);
-    assert_refused(rt, end);
-    writer.into_inner()
+    let end = serve_stream(alloc, &mut reader, &mut writer, &mut clock, service);
+    assert_equal(&end, &StreamEnd::Refused)?;
+    Ok(writer.into_inner())
 }
 
-fn assert_each_told(
-    rt: &(impl AllocGlobal + Abort),
-    service: &mut Service<PlainDesk>,
-) -> Result<(), Fail> {
+fn assert_each_told(alloc: Global, service: &mut Service<PlainDesk>) -> Result<(), Fail> {
     for (input, reply) in &HEADS {
-        assert_text(rt, &told(rt, service, input), reply)?;
-        assert_text(rt, &told(rt, service, input), reply)?;
+        assert_text(&told(alloc, service, input)?, reply)?;
+        assert_text(&told(alloc, service, input)?, reply)?;
     }
     Ok(())
 }
@@ -68,5 +56,5 @@ fn assert_each_told(
 #[test]
 fn heads_are_told_again(rt: HostRuntime) -> Result<(), Fail> {
     let mut service = service_of_ch(rt.alloc())?;
-    assert_each_told(&rt, &mut service)
+    assert_each_told(rt.alloc(), &mut service)
 }

@@ -6,12 +6,11 @@ mod junk;
 mod refused;
 mod shared;
 
-use super::exchanges::{Exchange, assert_told, done_on};
-use super::{Machine, WORDS, assert_ended};
 use std::alloc::{AllocError, Global};
 use std::fs;
-use std::process::Abort;
 use std::test::Fail;
+use td_run_helpers::exchanges::{Exchange, assert_told, done_on};
+use td_run_helpers::{WORDS, assert_ended};
 
 /// A run of the program on the file of a test: the words but for its path, each request and the reply that is due to it, and
 /// the line that is due on standard error. The status is 0 where that is none, and else 1.
@@ -75,15 +74,15 @@ fn remove(rt: &HostRuntime, path: &str) -> Result<(), Fail> {
 }
 
 /// The run on the file leaves what is due.
-fn assert_run(rt: &(impl Machine + Abort), path: &str, run: &Run) -> Result<(), Fail> {
-    let words = words_over(rt.host().alloc(), run.words, path)?;
-    let done = done_on(rt.host(), &words, run.exchanges)?;
-    assert_ended(rt, &done, u8::from(!run.errors.is_empty()), run.errors)?;
-    assert_told(rt, &done.out, run.exchanges)
+fn assert_run(rt: &HostRuntime, path: &str, run: &Run) -> Result<(), Fail> {
+    let words = words_over(rt.alloc(), run.words, path)?;
+    let done = done_on(rt, &words, run.exchanges)?;
+    assert_ended(&done, u8::from(!run.errors.is_empty()), run.errors)?;
+    assert_told(&done.out, run.exchanges)
 }
 
 /// Each run on the file leaves what is due, one after the other.
-fn assert_each(rt: &(impl Machine + Abort), path: &str, runs: &[Run]) -> Result<(), Fail> {
+fn assert_each(rt: &HostRuntime, path: &str, runs: &[Run]) -> Result<(), Fail> {
     for run in runs {
         assert_run(rt, path, run)?;
     }
@@ -91,8 +90,8 @@ fn assert_each(rt: &(impl Machine + Abort), path: &str, runs: &[Run]) -> Result<
 }
 
 /// The same, on a file that isn't there before the first run.
-fn assert_runs(rt: &(impl Machine + Abort), path: &str, runs: &[Run]) -> Result<(), Fail> {
-    remove(rt.host(), path)?;
+fn assert_runs(rt: &HostRuntime, path: &str, runs: &[Run]) -> Result<(), Fail> {
+    remove(rt, path)?;
     assert_each(rt, path, runs)?;
-    remove(rt.host(), path)
+    remove(rt, path)
 }

@@ -1,21 +1,11 @@
 //! A holder registered and shown.
-use super::devices::Drip;
-use super::exchanges::{BAD_HOLDER, CLOCK_RANGE, Exchange, assert_replies};
-use super::texts::many;
-use super::{Due, Machine, WORDS, assert_job, words_at};
-use std::process::Abort;
 use std::test::Fail;
-
-/// Registers holder 000001.
-pub const REGISTER: &[u8] =
-    b"PUT /office/holders/000001 HTTP/1.1\r\nContent-Length: 20\r\n\r\n{\"eori\":\"CH1234567\"}";
-
-/// Asks to see holder 000001.
-pub const SEE: &[u8] = b"GET /holders/000001 HTTP/1.1\r\n\r\n";
-
-/// Holder 000001 without guarantees and movements.
-pub const SHOWN: &[u8] =
-    b"HTTP/1.1 200 OK\r\nContent-Type: application/json\r\nContent-Length: 67\r\n\r\n{\"eori\":\"CH1234567\",\"guarantees\":0,\"holder\":\"000001\",\"movements\":0}";
+use td_run_helpers::devices::Drip;
+use td_run_helpers::exchanges::{
+    BAD_HOLDER, CLOCK_RANGE, Exchange, REGISTER, SEE, SHOWN, assert_replies,
+};
+use td_run_helpers::texts::many;
+use td_run_helpers::{Due, WORDS, assert_job, words_at};
 
 #[test]
 fn empty_input_has_no_reply(rt: HostRuntime) -> Result<(), Fail> {
@@ -27,12 +17,7 @@ const READ_FAULT: &[u8] = b"transit-desk: stream read-fault\n";
 const CUT: &[u8] = b"transit-desk: stream cut\n";
 
 // A prefix of a stream that ends there, or fails there, in one piece and byte by byte: these replies come, and this message where it ends.
-fn assert_ends(
-    rt: &(impl Machine + Abort),
-    prefix: &[u8],
-    out: &[u8],
-    errors: &[u8],
-) -> Result<(), Fail> {
+fn assert_ends(rt: &HostRuntime, prefix: &[u8], out: &[u8], errors: &[u8]) -> Result<(), Fail> {
     let due = Due {
         status: u8::from(!errors.is_empty()),
         out,
@@ -58,14 +43,14 @@ fn message_at(end: usize) -> &'static [u8] {
 }
 
 // A prefix of the two requests has the replies to its whole requests, and nothing is done for the rest.
-fn assert_prefix(rt: &(impl Machine + Abort), prefix: &[u8]) -> Result<(), Fail> {
+fn assert_prefix(rt: &HostRuntime, prefix: &[u8]) -> Result<(), Fail> {
     let end = prefix.len();
     let whole = usize::from(end >= REGISTER.len()) + usize::from(end == REGISTER.len() + SEE.len());
-    let replies = many(rt.host().alloc(), b"", SHOWN, whole, b"")?;
+    let replies = many(rt.alloc(), b"", SHOWN, whole, b"")?;
     assert_ends(rt, prefix, &replies, message_at(end))
 }
 
-fn assert_prefixes(rt: &(impl Machine + Abort), input: &[u8]) -> Result<(), Fail> {
+fn assert_prefixes(rt: &HostRuntime, input: &[u8]) -> Result<(), Fail> {
     for end in 0..=input.len() {
         assert_prefix(rt, &input[..end])?;
     }
@@ -163,7 +148,7 @@ const ROUTED: &[Exchange] = &[
 ];
 
 // Holder 000001 is registered, and then the request of one of these comes on the same stream.
-fn assert_each_routed(rt: &(impl Machine + Abort), rows: &[Exchange]) -> Result<(), Fail> {
+fn assert_each_routed(rt: &HostRuntime, rows: &[Exchange]) -> Result<(), Fail> {
     for row in rows {
         assert_replies(rt, &WORDS, &[(REGISTER, SHOWN), *row])?;
     }

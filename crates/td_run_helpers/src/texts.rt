@@ -1,7 +1,6 @@
 //! Requests and replies made of their parts.
-use super::{Due, Machine, WORDS, assert_job};
+use crate::jobs::{Due, WORDS, assert_job};
 use std::alloc::{AllocError, Global};
-use std::process::Abort;
 use std::test::Fail;
 
 /// A front, a unit so many times, and a back.
@@ -180,7 +179,7 @@ impl Script {
 }
 
 /// These requests on one stream have these replies, and the program is done.
-pub fn assert_script(rt: &(impl Machine + Abort), script: &Script) -> Result<(), Fail> {
+pub fn assert_script(rt: &HostRuntime, script: &Script) -> Result<(), Fail> {
     let due = Due::replies(script.replies.as_bytes());
     assert_job(rt, &WORDS, script.input.as_bytes(), due)
 }

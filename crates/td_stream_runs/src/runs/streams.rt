@@ -1,16 +1,17 @@
 //! The framing of a stream and each way in which it ends, through the program.
-use super::devices::{Drip, Endless, Narrow};
-use super::exchanges::{assert_closed, service_of_ch};
-use super::texts::many;
-use super::{Done, Due, Machine, WORDS, assert_due, assert_job, words_of};
 use sqlite::Unknown;
-use std::alloc::{AllocError, Global};
-use std::process::Abort;
+use std::alloc::Global;
 use std::test::Fail;
 use td_base::Counted;
-use td_cli::{DeskFile, FixedClock, perform};
 use td_desk::PlainDesk;
 use td_http::{Service, StreamEnd, serve_stream};
+use td_run_helpers::devices::{Drip, Endless, Narrow};
+use td_run_helpers::exchanges::service_of_ch;
+use td_run_helpers::texts::many;
+use td_run_helpers::{
+    DeskFile, Done, Due, FixedClock, WORDS, assert_due, assert_equal, assert_job, assert_that,
+    perform, words_of,
+};
 
 const SEE: &[u8] = b"GET /holders/000002 HTTP/1.1\r\n\r\n";
 
@@ -238,8 +239,8 @@ const LAST_REQUESTS: [Row; 7] = [
     },
 ];
 
-fn assert_framed(rt: &(impl Machine + Abort), row: &Row) -> Result<(), Fail> {
-    let input = many(rt.host().alloc(), row.front, row.unit, row.times, row.back)?;
+fn assert_framed(rt: &HostRuntime, row: &Row) -> Result<(), Fail> {
+    let input = many(rt.alloc(), row.front, row.unit, row.times, row.back)?;
     let due = Due {
         status: u8::from(!row.message.is_empty()),
         out: row.reply,
@@ -248,7 +249,7 @@ fn assert_framed(rt: &(impl Machine + Abort), row: &Row) -> Result<(), Fail> {
     assert_job(rt, &WORDS, input.as_slice(), due)
 }
 
-fn assert_each_framed(rt: &(impl Machine + Abort), rows: &[Row]) -> Result<(), Fail> {
+fn assert_each_framed(rt: &HostRuntime, rows: &[Row]) -> Result<(), Fail> {
     for row in rows {
         assert_framed(rt, row)?;
     }
@@ -281,12 +282,8 @@ fn a_thousand_requests_are_served(rt: HostRuntime) -> Result<(), Fail> {
 const READS_SPENT: &[u8] = b"transit-desk: stream reads-spent\n";
 
 // These bytes, again and again, have these replies.
-fn assert_reads_spent(
-    rt: &(impl Machine + Abort),
-    bytes: &[u8],
-    replies: &[u8],
-) -> Result<(), Fail> {
-    assert!(rt; bytes.len() == 125);
+fn assert_reads_spent(rt: &HostRuntime, bytes: &[u8], replies: &[u8]) -> Result<(), Fail> {
+    assert_equal(&bytes.len(), &125)?;
     let due = Due {
         status: 1,
         out: replies,
@@ -322,28 +319,28 @@ const WRITE_FAULT: &[u8] = b"transit-desk: stream write-fault\n";
 
 // A writer that fails or takes nothing after these replies.
 fn assert_narrow(
-    rt: &(impl Machine + Abort),
+    rt: &HostRuntime,
     words: &[String],
     input: &[u8],
     replies: &[u8],
     fails: bool,
 ) -> Result<(), Fail> {
     let writer = Narrow {
-        taken: Vec::new(rt.host().alloc()),
+        taken: Vec::new(rt.alloc()),
         left: replies.len(),
         fails,
     };
-    let done = done_narrow(rt.host(), words, input, writer);
+    let done = done_narrow(rt, words, input, writer);
     let due = Due {
         status: 1,
         out: replies,
         errors: WRITE_FAULT,
     };
-    assert_due(rt, &done, due)
+    assert_due(&done, due)
 }
 
 fn assert_narrow_at_each_byte(
-    rt: &(impl Machine + Abort),
+    rt: &HostRuntime,
     words: &[String],
     input: &[u8],
     replies: &[u8],
@@ -355,9 +352,9 @@ fn assert_narrow_at_each_byte(
     Ok(())
 }
 
-fn assert_narrow_writers(rt: &(impl Machine + Abort), words: &[String]) -> Result<(), Fail> {
-    let input = many(rt.host().alloc(), b"", SEE, 2, b"")?;
-    let replies = many(rt.host().alloc(), b"", NO_HOLDER, 2, b"")?;
+fn assert_narrow_writers(rt: &HostRuntime, words: &[String]) -> Result<(), Fail> {
+    let input = many(rt.alloc(), b"", SEE, 2, b"")?;
+    let replies = many(rt.alloc(), b"", NO_HOLDER, 2, b"")?;
     assert_narrow_at_each_byte(rt, words, &input, &replies)
 }
 
@@ -424,26 +421,28 @@ fn serve_again(
 
 // What is written for this input, one byte a read.
 fn told_of_drip(
-    rt: &(impl AllocGlobal + Abort),
+    alloc: Global,
     service: &mut Service<PlainDesk>,
     input: &[u8],
-) -> Result<Vec<u8>, AllocError> {
-    let mut writer = Counted::new(Vec::with_capacity(rt.alloc(), 1024)?);
+) -> Result<Vec<u8>, Fail> {
+    let mut writer = Counted::new(Vec::with_capacity(alloc, 1024)?);
     let mut reader = Counted::new(Drip::ending(input));
-    let end = serve_again(rt.alloc(), &mut reader, &mut writer, service);
-    assert_closed(rt, end);
+    let end = serve_again(alloc, &mut reader, &mut writer, service);
+    assert_equal(&end, &StreamEnd::Closed)?;
     Ok(writer.into_inner())
 }
 
-fn told_at_new_desk(rt: &(impl AllocGlobal + Abort), input: &[u8]) -> Result<Vec<u8>, Fail> {
-    let mut service = service_of_ch(rt.alloc())?;
-    Ok(told_of_drip(rt, &mut service, input)?)
+fn told_at_new_desk(alloc: Global, input: &[u8]) -> Result<Vec<u8>, Fail> {
+    let mut service = service_of_ch(alloc)?;
+    told_of_drip(alloc, &mut service, input)
 }
 
-fn assert_served_after_faults(rt: &(impl AllocGlobal + Abort), input: &[u8]) -> Result<(), Fail> {
-    let out = told_at_new_desk(rt, input)?;
-    assert!(rt; is_due_after_faults(&out));
-    Ok(())
+fn assert_served_after_faults(alloc: Global, input: &[u8]) -> Result<(), Fail> {
+    let out = told_at_new_desk(alloc, input)?;
+    assert_that(
+        is_due_after_faults(&out),
+        "the replies are one of the eight rows",
+    )
 }
 
 // After a fault the rest of the input is served as the next stream, at the same desk. To be run with each allocation refused in turn, where
@@ -451,5 +450,5 @@ fn assert_served_after_faults(rt: &(impl AllocGlobal + Abort), input: &[u8]) -> 
 #[test]
 fn the_rest_is_served_after_a_fault(rt: HostRuntime) -> Result<(), Fail> {
     let input = many(rt.alloc(), REGISTER, SEE, 2, b"")?;
-    assert_served_after_faults(&rt, &input)
+    assert_served_after_faults(rt.alloc(), &input)
 }

@@ -1,18 +1,29 @@
 //! Requests and the replies that are due to them, byte for byte.
-use super::devices::Moments;
-use super::{Done, Machine, assert_ended, assert_text, perform_over};
+use crate::comparing::{assert_equal, assert_text};
+use crate::devices::Moments;
+use crate::jobs::{Done, assert_ended, perform_over};
 use std::alloc::{AllocError, Global};
-use std::process::Abort;
 use std::test::Fail;
 use td_base::{Counted, Country};
 use td_desk::PlainDesk;
-use td_http::{Service, StreamEnd, serve_stream};
+use td_http::{Clock, Service, StreamEnd, serve_stream};
 
 /// A request, and the reply that is due to it.
 pub type Exchange = (&'static [u8], &'static [u8]);
 
 /// The same at its own moment.
 pub type ExchangeAt = (i64, &'static [u8], &'static [u8]);
+
+/// Registers holder 000001.
+pub const REGISTER: &[u8] =
+    b"PUT /office/holders/000001 HTTP/1.1\r\nContent-Length: 20\r\n\r\n{\"eori\":\"CH1234567\"}";
+
+/// Asks to see holder 000001.
+pub const SEE: &[u8] = b"GET /holders/000001 HTTP/1.1\r\n\r\n";
+
+/// Holder 000001 without guarantees and movements.
+pub const SHOWN: &[u8] =
+    b"HTTP/1.1 200 OK\r\nContent-Type: application/json\r\nContent-Length: 67\r\n\r\n{\"eori\":\"CH1234567\",\"guarantees\":0,\"holder\":\"000001\",\"movements\":0}";
 
 /// Registers another holder than the first, 000002.
 pub const OTHER_REGISTER: &[u8] =
@@ -22,6 +33,11 @@ pub const OTHER_REGISTER: &[u8] =
 pub const OTHER_SHOWN: &[u8] =
     b"HTTP/1.1 200 OK\r\nContent-Type: application/json\r\nContent-Length: 67\r\n\r\n{\"eori\":\"DE7654321\",\"guarantees\":0,\"holder\":\"000002\",\"movements\":0}";
 
+/// The other holder with one guarantee and one movement.
+pub const OTHER_SHOWN_WITH_ONE: &[u8] =
+    b"HTTP/1.1 200 OK\r\nContent-Type: application/json\r\nContent-Length: 67\r\n\r\n{\"eori\":\"DE7654321\",\"guarantees\":1,\"holder\":\"000002\",\"movements\":1}";
+
+/// Asks to see the other holder.
 pub const OTHER_SEE: &[u8] = b"GET /holders/000002 HTTP/1.1\r\n\r\n";
 
 /// Opens a guarantee for holder 000001: a reference amount of 1000000 cents, cover 50, code AB12.
@@ -85,19 +101,19 @@ pub const BAD_HOLDER: &[u8] =
     b"HTTP/1.1 400 Bad Request\r\nContent-Type: application/json\r\nContent-Length: 22\r\n\r\n{\"error\":\"bad-holder\"}";
 
 // What is left of the replies behind this one, which has to stand at their front.
-fn take_reply<'a>(rt: &impl Abort, replies: &'a [u8], reply: &[u8]) -> Result<&'a [u8], Fail> {
+fn take_reply<'a>(replies: &'a [u8], reply: &[u8]) -> Result<&'a [u8], Fail> {
     let (told, rest) = replies.split_at(reply.len().min(replies.len()));
-    assert_text(rt, told, reply)?;
+    assert_text(told, reply)?;
     Ok(rest)
 }
 
 /// The replies are these, and nothing else.
-pub fn assert_told(rt: &impl Abort, replies: &[u8], exchanges: &[Exchange]) -> Result<(), Fail> {
+pub fn assert_told(replies: &[u8], exchanges: &[Exchange]) -> Result<(), Fail> {
     let mut left = replies;
     for (_, reply) in exchanges {
-        left = take_reply(rt, left, reply)?;
+        left = take_reply(left, reply)?;
     }
-    assert_text(rt, left, b"")
+    assert_text(left, b"")
 }
 
 fn requests_of(alloc: Global, exchanges: &[Exchange]) -> Result<Vec<u8>, AllocError> {
@@ -109,20 +125,24 @@ fn requests_of(alloc: Global, exchanges: &[Exchange]) -> Result<Vec<u8>, AllocEr
 }
 
 /// What the program with these words leaves on a stream of these requests.
-pub fn done_on(rt: &HostRuntime, words: &[&str], exchanges: &[Exchange]) -> Result<Done, Fail> {
+pub fn done_on(
+    rt: &HostRuntime,
+    words: &[&str],
+    exchanges: &[Exchange],
+) -> Result<Done, AllocError> {
     let input = requests_of(rt.alloc(), exchanges)?;
     perform_over(rt, words, input.as_slice())
 }
 
 /// The program with these words has each reply to these requests on one stream, and nothing else, and is done.
 pub fn assert_replies(
-    rt: &(impl Machine + Abort),
+    rt: &HostRuntime,
     words: &[&str],
     exchanges: &[Exchange],
 ) -> Result<(), Fail> {
-    let done = done_on(rt.host(), words, exchanges)?;
-    assert_ended(rt, &done, 0, b"")?;
-    assert_told(rt, &done.out, exchanges)
+    let done = done_on(rt, words, exchanges)?;
+    assert_ended(&done, 0, b"")?;
+    assert_told(&done.out, exchanges)
 }
 
 /// An empty desk of CH.
@@ -131,25 +151,21 @@ pub fn service_of_ch(alloc: Global) -> Result<Service<PlainDesk>, Fail> {
     Ok(Service::new(PlainDesk::new(alloc, country)?))
 }
 
-pub fn assert_closed(rt: &impl Abort, end: StreamEnd) {
-    assert_eq!(rt; end, StreamEnd::Closed);
-}
-
 /// What is written for a stream that is served to its end.
-pub fn served<C: td_http::Clock>(
-    rt: &(impl AllocGlobal + Abort),
+pub fn served<C: Clock>(
+    alloc: Global,
     service: &mut Service<PlainDesk>,
     mut clock: C,
     input: &[u8],
-) -> Vec<u8>
+) -> Result<Vec<u8>, Fail>
 where
     C: Drop,
 {
     let mut reader = Counted::new(input);
-    let mut writer = Counted::new(Vec::new(rt.alloc()));
-    let end = serve_stream(rt.alloc(), &mut reader, &mut writer, &mut clock, service);
-    assert_closed(rt, end);
-    writer.into_inner()
+    let mut writer = Counted::new(Vec::new(alloc));
+    let end = serve_stream(alloc, &mut reader, &mut writer, &mut clock, service);
+    assert_equal(&end, &StreamEnd::Closed)?;
+    Ok(writer.into_inner())
 }
 
 fn moments_of(alloc: Global, exchanges: &[ExchangeAt]) -> Result<Vec<i64>, AllocError> {
@@ -168,34 +184,27 @@ fn requests_at(alloc: Global, exchanges: &[ExchangeAt]) -> Result<Vec<u8>, Alloc
     Ok(input)
 }
 
-fn served_at(
-    rt: &(impl AllocGlobal + Abort),
-    moments: &[i64],
-    input: &[u8],
-) -> Result<Vec<u8>, Fail> {
-    let mut service = service_of_ch(rt.alloc())?;
-    Ok(served(rt, &mut service, Moments { left: moments }, input))
+fn served_at(alloc: Global, moments: &[i64], input: &[u8]) -> Result<Vec<u8>, Fail> {
+    let mut service = service_of_ch(alloc)?;
+    served(alloc, &mut service, Moments { left: moments }, input)
 }
 
-fn replies_at(rt: &(impl AllocGlobal + Abort), exchanges: &[ExchangeAt]) -> Result<Vec<u8>, Fail> {
-    let moments = moments_of(rt.alloc(), exchanges)?;
-    let input = requests_at(rt.alloc(), exchanges)?;
-    served_at(rt, &moments, &input)
+fn replies_at(alloc: Global, exchanges: &[ExchangeAt]) -> Result<Vec<u8>, Fail> {
+    let moments = moments_of(alloc, exchanges)?;
+    let input = requests_at(alloc, exchanges)?;
+    served_at(alloc, &moments, &input)
 }
 
-fn assert_told_at(rt: &impl Abort, replies: &[u8], exchanges: &[ExchangeAt]) -> Result<(), Fail> {
+fn assert_told_at(replies: &[u8], exchanges: &[ExchangeAt]) -> Result<(), Fail> {
     let mut left = replies;
     for (_, _, reply) in exchanges {
-        left = take_reply(rt, left, reply)?;
+        left = take_reply(left, reply)?;
     }
-    assert_text(rt, left, b"")
+    assert_text(left, b"")
 }
 
 /// A stream at an empty desk of CH has each reply to these requests, each of which comes at its own moment.
-pub fn assert_replies_at(
-    rt: &(impl AllocGlobal + Abort),
-    exchanges: &[ExchangeAt],
-) -> Result<(), Fail> {
-    let replies = replies_at(rt, exchanges)?;
-    assert_told_at(rt, &replies, exchanges)
+pub fn assert_replies_at(rt: &impl AllocGlobal, exchanges: &[ExchangeAt]) -> Result<(), Fail> {
+    let replies = replies_at(rt.alloc(), exchanges)?;
+    assert_told_at(&replies, exchanges)
 }

@@ -1,15 +1,14 @@
 //! Desks in a file: one run makes the desk, and the next ones find there what the runs before them left.
-use super::super::acts::{
+use super::{IS_SOUND, PIPE, PIPE_NEW, Run, STORE, assert_runs};
+use std::test::Fail;
+use td_run_helpers::acts::{
     ADVISED_A1, ARRIVE_A1, CLEAR_A1, CLEARED_A1, G1_FREE, G1_HALF, RELEASE_A1, RELEASED_A1, SEE_G1,
     WRITE_OFF_A1, WRITTEN_OFF_A1, WRONG_RELEASED,
 };
-use super::super::exchanges::{
+use td_run_helpers::exchanges::{
     A1, A1_LODGED, CLOCK_BACK, NO_HOLDER, OPEN, OPENED, OTHER_REGISTER, OTHER_SEE, OTHER_SHOWN,
-    SHOWN_LODGED,
+    REGISTER, SEE, SHOWN, SHOWN_LODGED,
 };
-use super::super::first_requests::{REGISTER, SEE, SHOWN};
-use super::{IS_SOUND, PIPE, PIPE_NEW, Run, STORE, assert_runs};
-use std::test::Fail;
 
 const FIRST_PATH: &[Run] = &[
     Run {

@@ -1,12 +1,13 @@
 //! The call that each `main` makes, on the inputs that the gate's one run of the program hasn't got: wrong words, a stream that is
 //! cut, and no input.
-use super::exchanges::NO_HOLDER;
-use super::{Done, Due, WORDS, WORDS_WITHOUT_MOMENT, assert_due, assert_text, words_of};
 use sqlite::Unknown;
-use std::process::Abort;
 use std::test::Fail;
 use td_base::Counted;
-use td_cli::{DeskFile, run_program};
+use td_run_helpers::exchanges::NO_HOLDER;
+use td_run_helpers::{
+    DeskFile, Done, Due, WORDS, WORDS_WITHOUT_MOMENT, assert_due, assert_text, run_program,
+    words_of,
+};
 
 /// The words, the input, what has to be left of it unread, and what is due.
 type Call = (
@@ -73,8 +74,8 @@ fn done_by_program<'a>(rt: &HostRuntime, words: Vec<String>, input: &'a [u8]) ->
 fn stored_runs_have_their_statuses(rt: HostRuntime) -> Result<(), Fail> {
     for (words, input, unread, due) in CALLS {
         let (done, left) = done_by_program(&rt, words_of(rt.alloc(), words)?, input);
-        assert_due(&rt, &done, due)?;
-        assert_text(&rt, left, unread)?;
+        assert_due(&done, due)?;
+        assert_text(left, unread)?;
     }
     Ok(())
 }

@@ -1,16 +1,14 @@
 //! Many declarations at one desk: a few as a test, and so many as the environment says where their time is measured.
-use super::assert_text;
-use super::exchanges::{served, service_of_ch};
-use super::texts::{lodge, open, register, see, shown};
 use std::alloc::{AllocError, Global};
 use std::env;
 use std::env::VarError;
-use std::process::Abort;
 use std::test::Fail;
 use td_base::{Country, Grn, HolderNo};
-use td_cli::FixedClock;
 use td_desk::PlainDesk;
 use td_http::Service;
+use td_run_helpers::exchanges::{served, service_of_ch};
+use td_run_helpers::texts::{lodge, open, register, see, shown};
+use td_run_helpers::{FixedClock, assert_text};
 
 /// A holder's number and the holder's first guarantee.
 #[derive(Drop)]
@@ -95,72 +93,68 @@ fn all_shown(alloc: Global, holders: &[Holder], movements: u32) -> Result<String
 
 // What is written for the stream of this step.
 fn told(
-    rt: &(impl AllocGlobal + Abort),
+    alloc: Global,
     service: &mut Service<PlainDesk>,
     holders: &[Holder],
     step: Step,
-) -> Result<Vec<u8>, AllocError> {
-    let input = requests(rt.alloc(), holders, step)?;
+) -> Result<Vec<u8>, Fail> {
+    let input = requests(alloc, holders, step)?;
     let clock = FixedClock { at: 1_740_819_600 };
-    Ok(served(rt, service, clock, input.as_bytes()))
+    served(alloc, service, clock, input.as_bytes())
 }
 
 // The step is done, whatever is told.
 fn serve(
-    rt: &(impl AllocGlobal + Abort),
+    alloc: Global,
     service: &mut Service<PlainDesk>,
     holders: &[Holder],
     step: Step,
-) -> Result<(), AllocError> {
-    let _told = told(rt, service, holders, step)?;
+) -> Result<(), Fail> {
+    let _told = told(alloc, service, holders, step)?;
     Ok(())
 }
 
 // The holders register, have a guarantee opened each, and then lodge in turn, a stream for each turn.
 fn lodge_in_turn(
-    rt: &(impl AllocGlobal + Abort),
+    alloc: Global,
     service: &mut Service<PlainDesk>,
     holders: &[Holder],
     each: u32,
-) -> Result<(), AllocError> {
-    serve(rt, service, holders, Step::Register)?;
-    serve(rt, service, holders, Step::Open)?;
+) -> Result<(), Fail> {
+    serve(alloc, service, holders, Step::Register)?;
+    serve(alloc, service, holders, Step::Open)?;
     for turn in 0..each {
-        serve(rt, service, holders, Step::Lodge(turn))?;
+        serve(alloc, service, holders, Step::Lodge(turn))?;
     }
     Ok(())
 }
 
 // Each of the holders is shown with one guarantee and so many movements.
 fn assert_shown(
-    rt: &(impl AllocGlobal + Abort),
+    alloc: Global,
     service: &mut Service<PlainDesk>,
     holders: &[Holder],
     movements: u32,
 ) -> Result<(), Fail> {
-    let wanted = all_shown(rt.alloc(), holders, movements)?;
-    let told = told(rt, service, holders, Step::See)?;
-    assert_text(rt, &told, wanted.as_bytes())
+    let wanted = all_shown(alloc, holders, movements)?;
+    let told = told(alloc, service, holders, Step::See)?;
+    assert_text(&told, wanted.as_bytes())
 }
 
 fn assert_lodged_in_turn(
-    rt: &(impl AllocGlobal + Abort),
+    alloc: Global,
     service: &mut Service<PlainDesk>,
     holders: &[Holder],
     each: u32,
 ) -> Result<(), Fail> {
-    lodge_in_turn(rt, service, holders, each)?;
-    assert_shown(rt, service, holders, each)
+    lodge_in_turn(alloc, service, holders, each)?;
+    assert_shown(alloc, service, holders, each)
 }
 
 // Each lodges so many at one desk.
-fn assert_lodged(
-    rt: &(impl AllocGlobal + Abort),
-    holders: &[Holder],
-    each: u32,
-) -> Result<(), Fail> {
-    let mut service = service_of_ch(rt.alloc())?;
-    assert_lodged_in_turn(rt, &mut service, holders, each)
+fn assert_lodged(alloc: Global, holders: &[Holder], each: u32) -> Result<(), Fail> {
+    let mut service = service_of_ch(alloc)?;
+    assert_lodged_in_turn(alloc, &mut service, holders, each)
 }
 
 // In the end each of 100 holders has as many movements as declarations: 10 where the environment says no
@@ -169,5 +163,5 @@ fn assert_lodged(
 fn holders_lodge_in_turn(rt: HostRuntime) -> Result<(), Fail> {
     let each = number_or(&rt, "DECLARATIONS_EACH", 10)?;
     let holders = holders_of(rt.alloc(), 100)?;
-    assert_lodged(&rt, &holders, each)
+    assert_lodged(rt.alloc(), &holders, each)
 }

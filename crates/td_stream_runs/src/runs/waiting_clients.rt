@@ -1,6 +1,4 @@
 //! A client that waits for the replies to what it sent before it sends more.
-use super::first_requests::{REGISTER, SEE, SHOWN};
-use super::{Done, Due, WORDS, assert_due, words_of};
 use sqlite::Unknown;
 use std::alloc::{AllocError, Global};
 use std::cell::Cell;
@@ -8,7 +6,8 @@ use std::io;
 use std::io::{Read, Write};
 use std::test::Fail;
 use td_base::Counted;
-use td_cli::{DeskFile, perform};
+use td_run_helpers::exchanges::{REGISTER, SEE, SHOWN};
+use td_run_helpers::{DeskFile, Done, Due, WORDS, assert_due, perform, words_of};
 
 /// What the client sends at once, and the replies that it then waits for.
 type Turn = (&'static [u8], &'static [u8]);
@@ -106,5 +105,5 @@ fn no_reply_waits_for_a_read(rt: HostRuntime) -> Result<(), Fail> {
     let words = words_of(rt.alloc(), &WORDS)?;
     let done = done_for(&rt, &words, &TURNS);
     let replies = replies_to(rt.alloc(), &TURNS)?;
-    assert_due(&rt, &done, Due::replies(&replies))
+    assert_due(&done, Due::replies(&replies))
 }

@@ -1,17 +1,17 @@
 //! Many releases and arrivals at one desk: a few as a test, and so many as the environment says where their time
 //! is measured.
-use super::assert_text;
-use super::exchanges::{served, service_of_ch};
-use super::many_declarations::{Holder, holders_of, number_or};
-use super::texts::{advised, arrive, lodge, lodged, open_greatest, register, release, released};
+use crate::runs::many_declarations::{Holder, holders_of, number_or};
 use std::alloc::{AllocError, Global};
 use std::ops::RangeInclusive;
-use std::process::Abort;
 use std::test::Fail;
 use td_base::{Country, HolderNo, Mrn};
-use td_cli::FixedClock;
 use td_desk::PlainDesk;
 use td_http::Service;
+use td_run_helpers::exchanges::{served, service_of_ch};
+use td_run_helpers::texts::{
+    advised, arrive, lodge, lodged, open_greatest, register, release, released,
+};
+use td_run_helpers::{FixedClock, assert_text};
 
 /// What all movements are brought to, one after another.
 #[derive(Clone, Copy)]
@@ -143,58 +143,52 @@ fn beginnings(alloc: Global, holders: &[Holder]) -> Result<String, AllocError> {
 }
 
 // What is written for a stream of 2025-03-01.
-fn told(rt: &(impl AllocGlobal + Abort), service: &mut Service<PlainDesk>, input: &str) -> Vec<u8> {
+fn told(alloc: Global, service: &mut Service<PlainDesk>, input: &str) -> Result<Vec<u8>, Fail> {
     let clock = FixedClock { at: 1_740_819_600 };
-    served(rt, service, clock, input.as_bytes())
+    served(alloc, service, clock, input.as_bytes())
 }
 
 // The streams of an act before the last.
 fn bring_on(
-    rt: &(impl AllocGlobal + Abort),
+    alloc: Global,
     service: &mut Service<PlainDesk>,
     holders: &[Holder],
     act: Act,
     size: Size,
 ) -> Result<(), Fail> {
     for stream in 1..size.streams {
-        let _told = told(
-            rt,
-            service,
-            &requests(rt.alloc(), holders, act, size, stream)?,
-        );
+        let input = requests(alloc, holders, act, size, stream)?;
+        let _told = told(alloc, service, &input)?;
     }
     Ok(())
 }
 
 // The last stream of an act, in which each movement is brought on.
 fn assert_brought_on(
-    rt: &(impl AllocGlobal + Abort),
+    alloc: Global,
     service: &mut Service<PlainDesk>,
     holders: &[Holder],
     act: Act,
     size: Size,
 ) -> Result<(), Fail> {
-    let told = told(
-        rt,
-        service,
-        &requests(rt.alloc(), holders, act, size, size.streams)?,
-    );
-    let due = replies(rt.alloc(), holders, act, size, size.streams)?;
-    assert_text(rt, &told, due.as_bytes())
+    let input = requests(alloc, holders, act, size, size.streams)?;
+    let told = told(alloc, service, &input)?;
+    let due = replies(alloc, holders, act, size, size.streams)?;
+    assert_text(&told, due.as_bytes())
 }
 
 // All movements are brought to so many acts.
 fn assert_acts(
-    rt: &(impl AllocGlobal + Abort),
+    alloc: Global,
     service: &mut Service<PlainDesk>,
     holders: &[Holder],
     size: Size,
     acts: u32,
 ) -> Result<(), Fail> {
-    let _told = told(rt, service, &beginnings(rt.alloc(), holders)?);
+    let _told = told(alloc, service, &beginnings(alloc, holders)?)?;
     for act in ACTS.iter().take(acts as usize) {
-        bring_on(rt, service, holders, *act, size)?;
-        assert_brought_on(rt, service, holders, *act, size)?;
+        bring_on(alloc, service, holders, *act, size)?;
+        assert_brought_on(alloc, service, holders, *act, size)?;
     }
     Ok(())
 }
@@ -213,5 +207,5 @@ fn movements_are_released_and_arrive(rt: HostRuntime) -> Result<(), Fail> {
     let acts = number_or(&rt, "RELEASES_ACTS", 3)?;
     let holders = holders_of(rt.alloc(), number_or(&rt, "RELEASES_HOLDERS", 5)?)?;
     let mut service = service_of_ch(rt.alloc())?;
-    assert_acts(&rt, &mut service, &holders, size, acts)
+    assert_acts(rt.alloc(), &mut service, &holders, size, acts)
 }

@@ -1,12 +1,10 @@
 //! Files whose rows another program changed between two runs: no job has a desk over them, and none changes a row.
-use super::super::Machine;
-use super::super::acts::{RELEASE_A1, RELEASED_A1};
-use super::super::exchanges::{A1, A1_LODGED, OPEN, OPENED};
-use super::super::first_requests::{REGISTER, SEE, SHOWN};
 use super::{CHECK, PIPE, PIPE_NEW, Run, STORE, UNKNOWN_VERSION, assert_each, assert_run, remove};
 use sqlite::{Connection, Error};
-use std::process::Abort;
 use std::test::Fail;
+use td_run_helpers::acts::{RELEASE_A1, RELEASED_A1};
+use td_run_helpers::assert_equal;
+use td_run_helpers::exchanges::{A1, A1_LODGED, OPEN, OPENED, REGISTER, SEE, SHOWN};
 
 /// A desk with one movement of 500000 cents in use, of a reference amount of 1000000.
 const RELEASED: Run = Run {
@@ -63,24 +61,18 @@ fn number(rt: &HostRuntime, path: &str, query: &str) -> Result<i64, Error> {
     conn.query_row(query, &[])?.get(0)
 }
 
-fn assert_number(
-    rt: &(impl Machine + Abort),
-    path: &str,
-    query: &str,
-    due: i64,
-) -> Result<(), Fail> {
-    assert_eq!(rt; number(rt.host(), path, query)?, due);
-    Ok(())
+fn assert_number(rt: &HostRuntime, path: &str, query: &str, due: i64) -> Result<(), Fail> {
+    assert_equal(&number(rt, path, query)?, &due)
 }
 
 // The change is told to each job, and the row is as the change left it.
-fn assert_change(rt: &(impl Machine + Abort), path: &str, row: &Change) -> Result<(), Fail> {
-    remove(rt.host(), path)?;
+fn assert_change(rt: &HostRuntime, path: &str, row: &Change) -> Result<(), Fail> {
+    remove(rt, path)?;
     assert_run(rt, path, &RELEASED)?;
-    run_statement(rt.host(), path, row.statement)?;
+    run_statement(rt, path, row.statement)?;
     assert_each(rt, path, &told(row.errors))?;
     assert_number(rt, path, row.query, row.number)?;
-    remove(rt.host(), path)
+    remove(rt, path)
 }
 
 #[test]

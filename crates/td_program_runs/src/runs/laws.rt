@@ -1,8 +1,8 @@
 //! The laws at the types of the program and of the tests: there is nothing to run.
-use super::devices::{Drip, Moments, Narrow};
-use td_cli::{FixedClock, agreeing_jobs_tell_the_same, agreeing_servings_tell_the_same};
 use td_desk::PlainDesk;
 use td_http::{agreeing_streams_tell_the_same, equal_requests_are_told_the_same};
+use td_run_helpers::devices::{Drip, Moments, Narrow};
+use td_run_helpers::{FixedClock, agreeing_jobs_tell_the_same, agreeing_servings_tell_the_same};
 
 #[test]
 fn laws_hold_at_concrete_types() {

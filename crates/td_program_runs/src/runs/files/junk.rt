@@ -1,17 +1,14 @@
 //! Junk in a file beside the rows of two holders: no job has a desk over it, and where the junk is taken away again, both
 //! holders have what they had.
-use super::super::Machine;
-use super::super::acts::{G1_HALF, RELEASE_A1, RELEASED_A1, SEE_G1};
-use super::super::declarations::OTHER_SHOWN_WITH_ONE;
-use super::super::exchanges::{
-    A1, A1_LODGED, OPEN, OPENED, OTHER_A1, OTHER_A1_LODGED, OTHER_OPEN, OTHER_OPENED,
-    OTHER_REGISTER, OTHER_SEE, OTHER_SHOWN, SHOWN_LODGED,
-};
-use super::super::first_requests::{REGISTER, SEE, SHOWN};
 use super::changed::{run_statement, told};
 use super::{PIPE, PIPE_NEW, Run, assert_each, assert_run, remove};
-use std::process::Abort;
 use std::test::Fail;
+use td_run_helpers::acts::{G1_HALF, RELEASE_A1, RELEASED_A1, SEE_G1};
+use td_run_helpers::exchanges::{
+    A1, A1_LODGED, OPEN, OPENED, OTHER_A1, OTHER_A1_LODGED, OTHER_OPEN, OTHER_OPENED,
+    OTHER_REGISTER, OTHER_SEE, OTHER_SHOWN, OTHER_SHOWN_WITH_ONE, REGISTER, SEE, SHOWN,
+    SHOWN_LODGED,
+};
 
 const TWO_HOLDERS: Run = Run {
     words: PIPE_NEW,
@@ -59,10 +56,10 @@ const JUNK: [Junk; 3] = [
 ];
 
 // Each job refuses the file with the junk, and without it both holders are seen as before.
-fn assert_junk(rt: &(impl Machine + Abort), path: &str, junk: &Junk) -> Result<(), Fail> {
-    run_statement(rt.host(), path, junk.0)?;
+fn assert_junk(rt: &HostRuntime, path: &str, junk: &Junk) -> Result<(), Fail> {
+    run_statement(rt, path, junk.0)?;
     assert_each(rt, path, &told(junk.1))?;
-    run_statement(rt.host(), path, junk.2)?;
+    run_statement(rt, path, junk.2)?;
     assert_run(rt, path, &BOTH_SEEN)
 }
 

@@ -1,6 +1,6 @@
 //! Words that ask for no job, as the program answers them: nothing is done. (td_words' tests have all the texts.)
-use super::{Due, assert_job};
 use std::test::Fail;
+use td_run_helpers::{Due, assert_job};
 
 /// Such words, and the status and the texts that are due.
 const ANSWERED: [(&[&str], Due<'static>); 5] = [

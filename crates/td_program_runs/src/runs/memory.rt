@@ -1,14 +1,14 @@
 //! Want of memory, as the program tells it.
-use super::first_requests::{REGISTER, SHOWN};
-use super::{Done, Due, WORDS, assert_due, words_of};
 use sqlite::Unknown;
 use std::alloc::{AllocError, Global};
 use std::io;
 use std::io::ErrorKind;
-use std::process::Abort;
 use std::test::Fail;
 use td_base::Counted;
-use td_cli::{DeskFile, perform, run_program};
+use td_run_helpers::exchanges::{REGISTER, SHOWN};
+use td_run_helpers::{
+    DeskFile, Done, Due, WORDS, assert_due, assert_that, perform, run_program, words_of,
+};
 
 // What the program leaves where its words couldn't be read for this cause.
 fn done_unread(rt: &HostRuntime, kind: ErrorKind) -> Done {
@@ -42,7 +42,7 @@ fn unread_words_are_told(rt: HostRuntime) -> Result<(), Fail> {
             out: b"",
             errors,
         };
-        assert_due(&rt, &done_unread(&rt, kind), due)?;
+        assert_due(&done_unread(&rt, kind), due)?;
     }
     Ok(())
 }
@@ -90,6 +90,5 @@ fn want_of_memory_is_told(rt: HostRuntime) -> Result<(), Fail> {
     let words = words_of(rt.alloc(), &WORDS)?;
     let room = room(rt.alloc())?;
     let done = done_with_room(&rt, &words, room);
-    assert!(rt; is_told(&done));
-    Ok(())
+    assert_that(is_told(&done), "what is told is one of the three")
 }

@@ -1,15 +1,14 @@
 //! Files over which there is no desk: each job says so, reads no request, and leaves the file as it was.
-use super::super::first_requests::{REGISTER, SHOWN};
-use super::super::texts::many;
-use super::super::{Machine, assert_text};
 use super::{
     CHECK, IS_SOUND, NO_DESK, PIPE, PIPE_NEW, Run, UNKNOWN_VERSION, assert_each, assert_runs,
     remove,
 };
 use std::alloc::{AllocError, Global};
 use std::fs;
-use std::process::Abort;
 use std::test::Fail;
+use td_run_helpers::exchanges::{REGISTER, SHOWN};
+use td_run_helpers::texts::many;
+use td_run_helpers::{assert_text, assert_that};
 
 /// `serve`, which needs its desk before it listens.
 const SERVE: &[&str] = &[
@@ -42,9 +41,8 @@ const UNMADE: &[Run] = &[
     },
 ];
 
-fn assert_absent(rt: &(impl Machine + Abort), path: &str) -> Result<(), Fail> {
-    assert!(rt; !fs::exists(rt.host(), path)?);
-    Ok(())
+fn assert_absent(rt: &HostRuntime, path: &str) -> Result<(), Fail> {
+    assert_that(!fs::exists(rt, path)?, "no file is there")
 }
 
 #[test]
@@ -95,15 +93,11 @@ fn text(alloc: Global, lines: usize) -> Result<Vec<u8>, AllocError> {
     many(alloc, b"", b"text\n", lines, b"")
 }
 
-fn assert_text_is_no_desk(
-    rt: &(impl Machine + Abort),
-    path: &str,
-    text: &[u8],
-) -> Result<(), Fail> {
-    fs::write(rt.host(), path, text)?;
+fn assert_text_is_no_desk(rt: &HostRuntime, path: &str, text: &[u8]) -> Result<(), Fail> {
+    fs::write(rt, path, text)?;
     assert_each(rt, path, NOT_A_DATABASE)?;
-    let left = fs::read(rt.host(), path)?;
-    assert_text(rt, &left, text)
+    let left = fs::read(rt, path)?;
+    assert_text(&left, text)
 }
 
 // Texts of 100 bytes and of 5000: as long as the head of a database, and longer than its first page.

@@ -1,13 +1,10 @@
 //! The machine's clock.
-use super::WORDS_WITHOUT_MOMENT;
-use super::exchanges::assert_replies;
-use super::first_requests::{REGISTER, SEE, SHOWN};
-use std::process::Abort;
 use std::rt::Clock;
 use std::test::Fail;
 use std::time::{SystemTime, UNIX_EPOCH};
-use td_cli::MachineClock;
 use td_http::Clock as _;
+use td_run_helpers::exchanges::{REGISTER, SEE, SHOWN, assert_replies};
+use td_run_helpers::{MachineClock, WORDS_WITHOUT_MOMENT, assert_that};
 
 // The seconds since 1970, by a reading of the test's own.
 fn seconds(rt: &impl Clock) -> Result<i64, Fail> {
@@ -16,13 +13,14 @@ fn seconds(rt: &impl Clock) -> Result<i64, Fail> {
 }
 
 // The machine's clock shows these one after the other.
-fn assert_in_order(rt: &impl Abort, moments: &[i64]) {
-    assert!(rt; moments.is_sorted());
+fn assert_in_order(moments: &[i64]) -> Result<(), Fail> {
+    assert_that(moments.is_sorted(), "the moments come in order")
 }
 
 // From 2000 to 2099.
-fn assert_in_range(rt: &impl Abort, at: i64) {
-    assert!(rt; (946_684_800..4_102_444_800).contains(&at));
+fn assert_in_range(at: i64) -> Result<(), Fail> {
+    let range = 946_684_800..4_102_444_800;
+    assert_that(range.contains(&at), "the moment is from 2000 to 2099")
 }
 
 #[test]
@@ -32,12 +30,8 @@ fn the_machines_clock_shows_the_time(rt: HostRuntime) -> Result<(), Fail> {
     let first = clock.seconds();
     let second = clock.seconds();
     let after = seconds(&rt)?;
-    assert_in_order(
-        &rt,
-        &[before, first, second, after, before.saturating_add(2)],
-    );
-    assert_in_range(&rt, first);
-    Ok(())
+    assert_in_order(&[before, first, second, after, before.saturating_add(2)])?;
+    assert_in_range(first)
 }
 
 // Without a moment of its own the program asks the machine's clock, whose moment is in range.
