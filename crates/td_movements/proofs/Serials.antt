@@ -66,7 +66,7 @@ module _ (H : ℕ) where
         (sym (h.2 ∙ same (old.now.trees 4) h.0 a))
         (IsPermutation-map place _ _
         (selected_typed movement_typing desk_schema (passes values counting_tests) movement_columns (counts_for H) (row_order by_serial values) old.now.trees
-        (map movement_columns a.found) (λ r is. counting_passes r is H [] []) (λ r. refl) (whole (old.now.trees 4) h.0 a) typed))
+        (map movement_columns a.found) (λ r is. counting_passes r is H) (λ r. refl) (whole (old.now.trees 4) h.0 a) typed))
 
     order_is : (found : List MovementSerial) → Read found → AreSerialsInOrder old found
     order_is found h has typed =
@@ -74,7 +74,7 @@ module _ (H : ℕ) where
         subst (IsSorted nat_cmp) (sym (h.2 ∙ same (old.now.trees 4) h.0 a))
         (IsSorted-map nat_cmp place (map movement_from (map movement_columns a.found))
         (selected_sorted movement_typing (counts_for H) (passes values counting_tests) movement_columns (row_order by_serial values)
-        (λ x y. nat_cmp (place x) (place y)) old.now.trees (map movement_columns a.found) (λ r is. counting_passes r is H [] []) (λ r. refl)
+        (λ x y. nat_cmp (place x) (place y)) old.now.trees (map movement_columns a.found) (λ r is. counting_passes r is H) (λ r. refl)
         (compared H (counts_for H) (λ m passing. (both_pass (m.holder == H) (is_counting m.row.state) passing).0)) (whole (old.now.trees 4) h.0 a) typed))
 
     pub serials_fetched : (r : Result (Vec MovementSerial Global) Error) → IfOk r (λ found. Read found.items)

@@ -14,8 +14,7 @@ use Rattle.sqlite.specs.State.{State}
 use Rattle.td_movements.proofs.CellLemmas.{counting_names, back, bare, cells_stored}
 use Rattle.sqlite_rules.specs.Cast.{cast_all}
 use Rattle.sqlite_sql.specs.Ops.{binary}
-use Rattle.sqlite_sql.specs.Term.{eval_all, holds}
-use Rattle.std.specs.List.{list_all}
+use Rattle.sqlite_sql.specs.Term.{eval_all}
 use Rattle.sqlite_sql.specs.declared.ops.BinaryOp.TheVariants.{Coalesce, Compare}
 use Rattle.sqlite_sql.specs.declared.ops.CompareOp.TheVariants.{Eq}
 use Rattle.sqlite_trees.specs.Tree.{rowid}
@@ -71,10 +70,8 @@ module _ (r : Row) (is : IsTypedRow movement_typing r) where
       ≡ bytes_eq (state_name m.row.state) name
   state_is name = text_is (column r 8) (state_name m.row.state) name (ap (λ l. column l 7) is)
 
-  -- also where more values were given, or the row is the first of a join
-  pub counting_passes : (H : ℕ) (more : Row) (joined : List Row)
-      → list_all (holds ((number_value H ∷ more) ∷ r ∷ joined)) counting_tests ≡ counts_for H m
-  counting_passes H more joined = then_term (holder_is H) (last_term (
+  pub counting_passes : (H : ℕ) → passes (number_value H ∷ []) counting_tests r ≡ counts_for H m
+  counting_passes H = then_term (holder_is H) (last_term (
       at_or false _ _ (at_or false _ _ (state_is (codes "released")) (state_is (codes "enquired")))
       (at_or false _ _ (state_is (codes "arrived"))
       (at_or false _ _ (state_is (codes "discrepant")) (state_is (codes "cleared"))))

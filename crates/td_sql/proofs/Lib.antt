@@ -9,4 +9,3 @@ pub mod TypedRows
 pub mod Ordered
 pub mod Fetched
 pub mod Columns
-pub mod Joined

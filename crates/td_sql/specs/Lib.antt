@@ -4,4 +4,3 @@ pub mod Writing
 pub mod Reading
 pub mod Typed
 pub mod Values
-pub mod Joins

@@ -4,7 +4,6 @@ ghost use Rattle.std.specs.Prelude.{◌≡◌, true, Ok, IsTrue, IfOk, OnOk};
 ghost use Rattle.sqlite.specs.Held.{state};
 ghost use Rattle.sqlite.specs.State.{Executes, HasCleanDisk, KeepsCommit, Shows, Survives};
 ghost use Rattle.sqlite.specs.Values.{bound};
-ghost use Rattle.td_sql.specs.Joins.{SelectsPairs};
 ghost use Rattle.td_sql.specs.Reading.{OnlyReads, Selects};
 ghost use Rattle.td_sql.specs.Writing.{Deletes, Inserts, Updates};
 
@@ -96,8 +95,7 @@ pub fn delete<S: Alter>(
     change_one(tx, text, values)
 }
 
-/// The rows that a text shows, which is a SELECT over one table, or over two that are joined, whose `?1`, `?2` .. are
-/// the values. It changes nothing.
+/// The rows that a text shows, which is a SELECT over one table, whose `?1`, `?2` .. are the values. It changes nothing.
 pub fn select<S: Alter>(
     tx: &mut Transaction<'_, S>,
     text: &str,
@@ -107,8 +105,6 @@ pub fn select<S: Alter>(
     ensures same_reference { tx.new.conn.ghost_name ≡ tx.old.conn.ghost_name }
     ensures selected { HasCleanDisk (state S.Store tx.new.conn.now)
         → IfOk result (λ rows. Selects text.now (bound values.now) (state S.Store tx.old.conn.now) rows.items) }
-    ensures joined { HasCleanDisk (state S.Store tx.new.conn.now)
-        → IfOk result (λ rows. SelectsPairs text.now (bound values.now) (state S.Store tx.old.conn.now) rows.items) }
     ensures still { HasCleanDisk (state S.Store tx.new.conn.now)
         → OnOk result (OnlyReads text.now (state S.Store tx.old.conn.now) (state S.Store tx.new.conn.now)) }
     ensures inside { HasCleanDisk (state S.Store tx.new.conn.now) → OnOk result (IsTrue (state S.Store tx.new.conn.now).in_transaction) }

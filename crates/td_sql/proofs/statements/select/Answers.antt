@@ -8,8 +8,6 @@ use Rattle.sqlite.specs.Held.{state}
 use Rattle.sqlite.specs.Values.{bound}
 use Rattle.td_sql.proofs.Answering.{failed_keeps, late_keeps, shown_inside, shown_keeps, reads_only, selected_as}
 use Rattle.td_sql.specs.Reading.{OnlyReads, Selects}
-use Rattle.td_sql.proofs.Joined.{selected_pairs}
-use Rattle.td_sql.specs.Joins.{SelectsPairs}
 use Rattle.td_sql.proofs.statements.select.Goals as goal
 
 pub returns-clause-selected : goal.returns-clause-selected
@@ -25,21 +23,6 @@ returns-clause-selected g c clean = by_result c.query_all.result (c.query_all.en
         → IfOk r (λ rows. Shown c.args.text.now (bound c.args.values.now) old new rows.items)
         → IfOk r (λ rows. Selects c.args.text.now (bound c.args.values.now) old rows.items)
     by_result (Ok rows) shown = selected_as c.args.text.now (bound c.args.values.now) old new rows.items shown
-    by_result (Err e) shown = shown
-
-pub returns-clause-joined : goal.returns-clause-joined
-returns-clause-joined g c clean = by_result c.query_all.result (c.query_all.ensures.ok clean)
-  where
-    old : State
-    old = state g.S.Store c.args.tx.now.conn.now
-
-    new : State
-    new = state g.S.Store c.query_all.new.self.conn.now
-
-    by_result : (r : Result (Vec (List Value) Global) Error)
-        → IfOk r (λ rows. Shown c.args.text.now (bound c.args.values.now) old new rows.items)
-        → IfOk r (λ rows. SelectsPairs c.args.text.now (bound c.args.values.now) old rows.items)
-    by_result (Ok rows) shown = selected_pairs c.args.text.now (bound c.args.values.now) old new rows.items shown
     by_result (Err e) shown = shown
 
 pub returns-clause-still : goal.returns-clause-still
