@@ -113,6 +113,11 @@ same_guarantee account grn entry is = ap (option_map (λ (e : Guarantee × ℕ).
 pub same_use : (account : Account) (grn : List ℕ) (entry : Option (Guarantee × ℕ)) (g : Guarantee) (used : ℕ) → entry ≡ entry_in account grn → entry ≡ Some (g, used) → used ≡ used_on g.grn account.movements
 same_use account grn entry g used is has = second_of (λ g. used_on g.grn account.movements) (guarantee_by_grn grn account.guarantees) g used (sym is ∙ has)
 
+-- what a view shows of what was loaded is what it shows of the same in the account
+pub told_view : (loaded kept : Option HolderRow) (shown told : HolderRow → Said) (v : Verdict) → loaded ≡ kept → shown ≡ told
+    → v.said ≡ or_refuse NoHolder loaded shown → v.change ≡ Nothing → v ≡ verdict_of (or_refuse NoHolder kept told) Nothing
+told_view loaded kept shown told v same_holder same said change = ap₂ verdict_of (said ∙ ap₂ (or_refuse NoHolder) same_holder same) change
+
 -- a guarantee and the amount in use on it, as a view shows them
 abbrev pub shown_entry : Option HolderRow → Option (Guarantee × ℕ) → Said
 shown_entry holder found = or_refuse NoHolder holder (λ row. or_refuse NoGuarantee found (λ e. Answered (answer.Guarantee e.0 e.1)))

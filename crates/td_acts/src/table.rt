@@ -62,20 +62,21 @@ fn decide_at(
 ) -> Result<Verdict, AllocError>
     ensures { IfOk result (IsVerdictAt loaded.old at command.now) }
 {
-    match command {
-        Command::Register { holder, eori } => Ok(register(loaded, at, *holder, *eori)),
+    // Those that can't fail share one place for their verdict: each `Ok(..)` of its own would have one, set to zero first.
+    let verdict = match command {
+        Command::Register { holder, eori } => register(loaded, at, *holder, *eori),
         Command::OpenGuarantee {
             holder,
             reference,
             cover,
             code,
-        } => Ok(open(alloc, loaded, at, *holder, *reference, *cover, *code)),
+        } => open(alloc, loaded, at, *holder, *reference, *cover, *code),
         Command::Amend {
             grn,
             reference,
             cover,
-        } => amend(alloc, loaded, at, grn, *reference, *cover),
-        Command::Revoke { grn } => Ok(revoke(loaded, at, grn)),
+        } => return amend(alloc, loaded, at, grn, *reference, *cover),
+        Command::Revoke { grn } => revoke(loaded, at, grn),
         Command::Ie015 {
             holder,
             lrn,
@@ -90,41 +91,42 @@ fn decide_at(
                 destination: *destination,
                 lines,
             };
-            lodge(alloc, loaded, at, &declaration)
+            return lodge(alloc, loaded, at, &declaration);
         }
-        Command::Ie014 { holder, mrn } => Ok(cancel(loaded, at, *holder, mrn)),
+        Command::Ie014 { holder, mrn } => cancel(loaded, at, *holder, mrn),
         Command::AddCode { holder, grn, code } => {
-            add_code(alloc, loaded, at, *holder, grn, *code)
+            return add_code(alloc, loaded, at, *holder, grn, *code);
         }
         Command::RemoveCode { holder, grn, code } => {
-            remove_code(alloc, loaded, at, *holder, grn, *code)
+            return remove_code(alloc, loaded, at, *holder, grn, *code);
         }
-        Command::Ie029 { mrn, limit } => Ok(release(loaded, at, mrn, *limit)),
-        Command::Ie007 { mrn, office } => Ok(arrive(loaded, at, mrn, *office)),
+        Command::Ie029 { mrn, limit } => release(loaded, at, mrn, *limit),
+        Command::Ie007 { mrn, office } => arrive(loaded, at, mrn, *office),
         Command::Ie018 {
             mrn,
             result: control,
-        } => Ok(judge(loaded, at, mrn, *control)),
-        Command::Ie045 { mrn, ground } => Ok(write_off(loaded, at, mrn, *ground)),
-        Command::Ie140 { mrn } => Ok(enquire(loaded, at, mrn)),
-        Command::SeeHolder { .. } => Ok(see_holder(loaded.holder)),
+        } => judge(loaded, at, mrn, *control),
+        Command::Ie045 { mrn, ground } => write_off(loaded, at, mrn, *ground),
+        Command::Ie140 { mrn } => enquire(loaded, at, mrn),
+        Command::SeeHolder { .. } => see_holder(loaded.holder),
         Command::SeeMovement { mrn, .. } => {
             let found = take_movement(&mut loaded.movements, mrn);
-            Ok(see_movement(loaded.holder, found))
+            see_movement(loaded.holder, found)
         }
         Command::SeeMovements { .. } => {
             let items = list_movements(alloc, &loaded.movements)?;
-            Ok(see_movements(loaded.holder, items))
+            see_movements(loaded.holder, items)
         }
         Command::SeeGuarantee { grn, .. } => {
             let found = take_entry(&mut loaded.guarantees, grn);
-            Ok(see_guarantee(loaded.holder, found))
+            see_guarantee(loaded.holder, found)
         }
         Command::SeeGuarantees { .. } => {
             let entries = replace(&mut loaded.guarantees, Vec::new(alloc));
-            Ok(see_guarantees(loaded.holder, entries))
+            see_guarantees(loaded.holder, entries)
         }
-    }
+    };
+    Ok(verdict)
 }
 
 fn register(loaded: &Loaded, at: Moment, holder: HolderNo, eori: Eori) -> Verdict
