@@ -9,13 +9,13 @@ use Rattle.sqlite_value.specs.Keys.{ascending}
 use Rattle.sqlite_sql.specs.Term.{Term, col}
 use Rattle.td_schema.specs.Tables.{desk_schema}
 use Rattle.td_sql.specs.Meanings.{MeansSelect}
-use Rattle.td_audit_rows.specs.declared.texts.TheConstants.{CODES, CODE_IDS, GUARANTEES, GUARANTEE_IDS, HOLDERS, HOLDER_IDS, LINES, LINE_IDS, META_IDS, MOVEMENTS, MOVEMENT_IDS}
+use Rattle.td_audit_rows.specs.declared.texts.TheConstants.{CODES, GUARANTEES, HOLDERS, HOLDER_IDS, LINES, META_IDS, MOVEMENTS}
 
 -- by the rowid
 abbrev pub by_rowid : List (Term × Key)
 by_rowid = (col 1 0, ascending Binary) ∷ []
 
--- the columns that are shown
+-- the columns that are shown, of the last four after the rowid
 abbrev pub rowid_alone : List Term
 rowid_alone = col 1 0 ∷ []
 
@@ -43,22 +43,6 @@ pub holder_ids_mean : MeansSelect desk_schema HOLDER_IDS.now 1 [] rowid_alone by
 unfolding understood everything
 holder_ids_mean = record { names = codes "holder" ∷ []; command = refl; plain = (refl, refl); unlisted = refl }
 
-pub guarantee_ids_mean : MeansSelect desk_schema GUARANTEE_IDS.now 8 [] rowid_alone by_rowid
-unfolding understood everything
-guarantee_ids_mean = record { names = codes "rowid" ∷ []; command = refl; plain = (refl, refl); unlisted = refl }
-
-pub code_ids_mean : MeansSelect desk_schema CODE_IDS.now 2 [] rowid_alone by_rowid
-unfolding understood everything
-code_ids_mean = record { names = codes "rowid" ∷ []; command = refl; plain = (refl, refl); unlisted = refl }
-
-pub movement_ids_mean : MeansSelect desk_schema MOVEMENT_IDS.now 4 [] rowid_alone by_rowid
-unfolding understood everything
-movement_ids_mean = record { names = codes "rowid" ∷ []; command = refl; plain = (refl, refl); unlisted = refl }
-
-pub line_ids_mean : MeansSelect desk_schema LINE_IDS.now 11 [] rowid_alone by_rowid
-unfolding understood everything
-line_ids_mean = record { names = codes "rowid" ∷ []; command = refl; plain = (refl, refl); unlisted = refl }
-
 pub holders_mean : MeansSelect desk_schema HOLDERS.now 1 [] holder_terms by_rowid
 unfolding understood everything
 holders_mean = record {
@@ -68,38 +52,38 @@ holders_mean = record {
   unlisted = refl;
 }
 
-pub guarantees_mean : MeansSelect desk_schema GUARANTEES.now 8 [] guarantee_terms []
+pub guarantees_mean : MeansSelect desk_schema GUARANTEES.now 8 [] (col 1 0 ∷ guarantee_terms) by_rowid
 unfolding understood everything
 guarantees_mean = record {
-  names = codes "holder" ∷ codes "serial" ∷ codes "grn" ∷ codes "reference" ∷ codes "cover" ∷ codes "ends" ∷ [];
+  names = codes "rowid" ∷ codes "holder" ∷ codes "serial" ∷ codes "grn" ∷ codes "reference" ∷ codes "cover" ∷ codes "ends" ∷ [];
   command = refl;
   plain = (refl, refl);
   unlisted = refl;
 }
 
-pub codes_mean : MeansSelect desk_schema CODES.now 2 [] code_terms []
+pub codes_mean : MeansSelect desk_schema CODES.now 2 [] (col 1 0 ∷ code_terms) by_rowid
 unfolding understood everything
 codes_mean = record {
-  names = codes "holder" ∷ codes "serial" ∷ codes "code" ∷ [];
+  names = codes "rowid" ∷ codes "holder" ∷ codes "serial" ∷ codes "code" ∷ [];
   command = refl;
   plain = (refl, refl);
   unlisted = refl;
 }
 
-pub movements_mean : MeansSelect desk_schema MOVEMENTS.now 4 [] movement_terms []
+pub movements_mean : MeansSelect desk_schema MOVEMENTS.now 4 [] (col 1 0 ∷ movement_terms) by_rowid
 unfolding understood everything
 movements_mean = record {
-  names = codes "holder" ∷ codes "serial" ∷ codes "mrn" ∷ codes "lrn" ∷ codes "departure" ∷ codes "destination"
+  names = codes "rowid" ∷ codes "holder" ∷ codes "serial" ∷ codes "mrn" ∷ codes "lrn" ∷ codes "departure" ∷ codes "destination"
       ∷ codes "accepted" ∷ codes "state" ∷ codes "limit_day" ∷ codes "arrival" ∷ codes "actual" ∷ [];
   command = refl;
   plain = (refl, refl);
   unlisted = refl;
 }
 
-pub lines_mean : MeansSelect desk_schema LINES.now 11 [] line_terms []
+pub lines_mean : MeansSelect desk_schema LINES.now 11 [] (col 1 0 ∷ line_terms) by_rowid
 unfolding understood everything
 lines_mean = record {
-  names = codes "holder" ∷ codes "serial" ∷ codes "no" ∷ codes "guarantee" ∷ codes "cents" ∷ [];
+  names = codes "rowid" ∷ codes "holder" ∷ codes "serial" ∷ codes "no" ∷ codes "guarantee" ∷ codes "cents" ∷ [];
   command = refl;
   plain = (refl, refl);
   unlisted = refl;

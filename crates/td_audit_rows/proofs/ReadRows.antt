@@ -1,10 +1,11 @@
--- The columns that are shown of a row are its fields exactly where the row is of its kinds and in range.
-use Rattle.std.proofs.Common.{◌≡◌, ◌∙◌, refl, sym, ap}
+-- The columns that are shown of a row, after its rowid, are its fields exactly where the row is of its kinds and in range.
+use Rattle.std.proofs.Common.{◌≡◌, ◌∙◌, ◌∷◌, refl, sym, ap}
 use Rattle.std.specs.Prelude.{◌↔◌}
 use Rattle.sqlite_typed.proofs.TestLemmas.{then_value}
 use Rattle.sqlite_value.specs.declared.value.Value.{Value}
 use Rattle.sqlite_value.specs.declared.value.Value.TheVariants.{Text}
 use Rattle.sqlite_value.specs.Order.{Row, column}
+use Rattle.sqlite_trees.specs.Tree.{rowid}
 use Rattle.td_movement.specs.States.{state_name}
 use Rattle.td_movement.specs.declared.state.State.{State}
 use Rattle.td_movement.specs.declared.state.State.TheVariants.{Accepted, Arrived, Cancelled, Cleared, Discrepant, Enquired, Released, WrittenOff}
@@ -17,7 +18,7 @@ use Rattle.td_audit_rows.specs.Fields.{AreCodeFields, AreGuaranteeFields, AreLin
 use Rattle.td_audit_rows.specs.Scans.{AreCodeColumns, AreGuaranteeColumns, AreLineColumns, AreMovementColumns, IsReadRow}
 use Rattle.td_audit_rows.proofs.Fields.{amount_field, code_field, cover_field, day_field, day_if_field, grn_field, holder_field, lrn_field, mrn_field, office_field, office_if_field, serial_field}
 
-pub guarantee_read : (r : Row) → AreGuaranteeColumns (guarantee_columns r) ↔ IsReadRow guarantee_typing AreGuaranteeFields r
+pub guarantee_read : (r : Row) → AreGuaranteeColumns (rowid r ∷ guarantee_columns r) ↔ IsReadRow guarantee_typing AreGuaranteeFields r
 guarantee_read r = (
   λ h.
       let holder = (holder_field (column r 1)).0 h.key.holder in
@@ -41,7 +42,7 @@ guarantee_read r = (
   },
 )
 
-pub code_read : (r : Row) → AreCodeColumns (code_columns r) ↔ IsReadRow code_typing AreCodeFields r
+pub code_read : (r : Row) → AreCodeColumns (rowid r ∷ code_columns r) ↔ IsReadRow code_typing AreCodeFields r
 code_read r = (
   λ h.
       let holder = (holder_field (column r 1)).0 h.key.holder in
@@ -73,7 +74,7 @@ state_back WrittenOff = refl
 state_field : (v : Value) (s : State) → v ≡ Text (state_name s) → v ≡ Text (state_name (state_in (text_in v)))
 state_field v s is = is ∙ ap (λ t. Text (state_name t)) (sym (ap (λ w. state_in (text_in w)) is ∙ state_back s))
 
-pub movement_read : (r : Row) → AreMovementColumns (movement_columns r) ↔ IsReadRow movement_typing AreMovementFields r
+pub movement_read : (r : Row) → AreMovementColumns (rowid r ∷ movement_columns r) ↔ IsReadRow movement_typing AreMovementFields r
 movement_read r = (
   λ h.
       let holder = (holder_field (column r 1)).0 h.key.holder in
@@ -122,7 +123,7 @@ movement_read r = (
   },
 )
 
-pub line_read : (r : Row) → AreLineColumns (line_columns r) ↔ IsReadRow line_typing AreLineFields r
+pub line_read : (r : Row) → AreLineColumns (rowid r ∷ line_columns r) ↔ IsReadRow line_typing AreLineFields r
 line_read r = (
   λ h.
       let holder = (holder_field (column r 1)).0 h.key.holder in

@@ -9,7 +9,7 @@ use Rattle.sqlite_value.specs.Order.{Row}
 use Rattle.sqlite_trees.specs.Tree.{has_rowid, rowid}
 use Rattle.sqlite_trees.proofs.ListLemmas.{IsPermutation-filter, all-map, all-permutation, all_from_map}
 use Rattle.sqlite_rules.specs.Edit.{id_in}
-use Rattle.sqlite_sql.specs.Term.{col}
+use Rattle.sqlite_sql.specs.Term.{Term, col}
 use Rattle.td_sql.specs.Reading.{IsAnswerOf, shown_by}
 use Rattle.td_sql.specs.Rows.{HaveIds}
 use Rattle.td_sql.specs.Writing.{passes}
@@ -39,24 +39,25 @@ ids_permuted xs ys same have = record {
   apart = λ id. omega (arith, have.apart id, length_permutation _ _ (IsPermutation-filter (has_rowid id) xs ys same));
 }
 
--- a row that shows its rowid
-abbrev pub show_id : Row → Row
-show_id = shown_by (col 1 0 ∷ []) []
+module _ (shows : List Term) where
+  -- a row that shows its rowid, and more after it
+  abbrev pub show_id : Row → Row
+  show_id = shown_by (col 1 0 ∷ shows) []
 
-count_shown : (id : ℤ) (rows : List Row) → length (filter (has_rowid id) (map show_id rows)) ≡ length (filter (has_rowid id) rows)
-count_shown id [] = refl
-count_shown id (r ∷ rows) =
-    elim (has_rowid id r) as (λ b. length (cond b (show_id r ∷ filter (has_rowid id) (map show_id rows)) (filter (has_rowid id) (map show_id rows)))
-    ≡ length (cond b (r ∷ filter (has_rowid id) rows) (filter (has_rowid id) rows)))
-    [ true ↦ omega (arith, count_shown id rows) | false ↦ count_shown id rows ]
+  count_shown : (id : ℤ) (rows : List Row) → length (filter (has_rowid id) (map show_id rows)) ≡ length (filter (has_rowid id) rows)
+  count_shown id [] = refl
+  count_shown id (r ∷ rows) =
+      elim (has_rowid id r) as (λ b. length (cond b (show_id r ∷ filter (has_rowid id) (map show_id rows)) (filter (has_rowid id) (map show_id rows)))
+      ≡ length (cond b (r ∷ filter (has_rowid id) rows) (filter (has_rowid id) rows)))
+      [ true ↦ omega (arith, count_shown id rows) | false ↦ count_shown id rows ]
 
--- so rowids that are shown apart are apart
-pub ids_of_rows : (rows answer : List Row) (order : Row → Row → Ordering) → IsAnswerOf rows (passes [] []) show_id order answer
-    → HaveIds answer → HaveIds rows
-ids_of_rows rows answer order a have =
-    let shown : HaveIds (map show_id a.found) = subst HaveIds a.shown have in
-    ids_permuted a.found rows (IsPermutation-sym rows a.found (found_all rows answer [] show_id order a))
-    (record {
-      ints = all_from_map (λ r. rowid r ≡ Int (id_in (rowid r))) show_id a.found shown.ints;
-      apart = λ id. omega (arith, shown.apart id, count_shown id a.found);
-    })
+  -- so rowids that are shown apart are apart
+  pub ids_of_rows : (rows answer : List Row) (order : Row → Row → Ordering) → IsAnswerOf rows (passes [] []) show_id order answer
+      → HaveIds answer → HaveIds rows
+  ids_of_rows rows answer order a have =
+      let shown : HaveIds (map show_id a.found) = subst HaveIds a.shown have in
+      ids_permuted a.found rows (IsPermutation-sym rows a.found (found_all rows answer [] show_id order a))
+      (record {
+        ints = all_from_map (λ r. rowid r ≡ Int (id_in (rowid r))) show_id a.found shown.ints;
+        apart = λ id. omega (arith, shown.apart id, count_shown id a.found);
+      })

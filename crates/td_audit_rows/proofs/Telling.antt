@@ -1,10 +1,10 @@
 -- What a statement over a whole table tells, where the tables are those of a store.
-use Rattle.std.proofs.Common.{◌≡◌, ◌∙◌, Bool, List, [], IsPermutation, ap, map, subst, sym}
+use Rattle.std.proofs.Common.{◌≡◌, ◌∙◌, Bool, List, [], ◌∷◌, IsPermutation, ap, map, subst, sym}
 use Rattle.std.specs.Prelude.{◌↔◌}
 use Rattle.std.proofs.lemmas.List.Sorted.{IsPermutation-map}
 use Rattle.sqlite.specs.State.{State}
 use Rattle.sqlite_sql.specs.Term.{Term}
-use Rattle.sqlite_trees.specs.Tree.{Trees}
+use Rattle.sqlite_trees.specs.Tree.{Trees, rowid}
 use Rattle.sqlite_trees.proofs.ListLemmas.{all_weaker, map-map}
 use Rattle.sqlite_value.specs.declared.keys.Key.{Key}
 use Rattle.sqlite_value.specs.Order.{Row}
@@ -23,7 +23,7 @@ use Rattle.td_audit_rows.proofs.Shown.{found_all}
 -- a scan of the columns tells of each row whether it is of its kinds and in range
 module _ {R : Type 0} (ty : Typing R) (AreFields : R → Type 0) (AreRead : Row → Type 0) (text : List _) (shows : List Term)
     (order : List (Term × Key)) (means : MeansSelect desk_schema text ty.table.tree [] shows order)
-    (showing : (r : Row) → shown_by shows [] r ≡ ty.columns r) (read : (r : Row) → AreRead (ty.columns r) ↔ IsReadRow ty AreFields r)
+    (showing : (r : Row) → shown_by shows [] r ≡ rowid r ∷ ty.columns r) (read : (r : Row) → AreRead (rowid r ∷ ty.columns r) ↔ IsReadRow ty AreFields r)
     (trees : Trees) where
   pub tells : (all : Bool) → Scans AreRead text trees all → TellsRead ty AreFields trees all
   tells all h =

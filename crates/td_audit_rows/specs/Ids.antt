@@ -18,12 +18,20 @@ abbrev pub IsAbove : Option ℤ → ℤ → Type 0
 IsAbove None id = Unit {0}
 IsAbove (Some before) id = before <ℤ id
 
--- whatever table of a store the text shows the rowids of, they are integers, and no two are the same
+-- whatever table of a store the text shows the rowids of, and whatever after them, they are integers, and no two are the same
 abbrev pub ShowsIds : List ℕ → Trees → Type 0
 ShowsIds text trees =
-    (tree : ℕ) (order : List (Term × Key)) → MeansSelect desk_schema text tree [] (col 1 0 ∷ []) order → HaveIds (trees tree)
+    (tree : ℕ) (shows : List Term) (order : List (Term × Key)) → MeansSelect desk_schema text tree [] (col 1 0 ∷ shows) order
+    → HaveIds (trees tree)
 
--- so are those of each table of a store
+-- so are those of each table of a store that belongs to holders
+pub record HavePartIds (trees : Trees) : Type 0 where
+  pub guarantees : HaveIds (trees guarantee_typing.table.tree)
+  pub codes : HaveIds (trees code_typing.table.tree)
+  pub movements : HaveIds (trees movement_typing.table.tree)
+  pub lines : HaveIds (trees line_typing.table.tree)
+
+-- and of each table
 pub record HaveAllIds (trees : Trees) : Type 0 where
   pub meta : HaveIds (trees meta_typing.table.tree)
   pub holders : HaveIds (trees holder_typing.table.tree)

@@ -21,37 +21,37 @@ use Rattle.td_audit_rows.specs.Fields.{AreCodeFields, AreGuaranteeFields, AreLin
 use Rattle.td_audit_rows.specs.Kinds.{AllRows}
 use Rattle.td_audit_rows.specs.declared.tables.Readable.{Readable}
 
--- the columns that a statement shows first of a row are a holder's number and a serial
+-- the columns that a statement shows of a row first, after its rowid, are a holder's number and a serial
 pub record AreKeyColumns (cells : Row) : Type 0 where
-  pub holder : IsSome (holder_in (column cells 0))
-  pub serial : IsSome (serial_in (column cells 1))
+  pub holder : IsSome (holder_in (column cells 1))
+  pub serial : IsSome (serial_in (column cells 2))
 
 -- those of a guarantee's row are its fields
 pub record AreGuaranteeColumns (cells : Row) : Type 0 where
   pub key : AreKeyColumns cells
-  pub grn : IsSome (grn_in (column cells 2))
-  pub reference : IsSome (amount_in (column cells 3))
-  pub cover : IsSome (cover_in (column cells 4))
-  pub ends : IsSome (optional_in day_in (column cells 5))
+  pub grn : IsSome (grn_in (column cells 3))
+  pub reference : IsSome (amount_in (column cells 4))
+  pub cover : IsSome (cover_in (column cells 5))
+  pub ends : IsSome (optional_in day_in (column cells 6))
 
 -- of a code's row
 pub record AreCodeColumns (cells : Row) : Type 0 where
   pub key : AreKeyColumns cells
-  pub code : IsSome (code_in (column cells 2))
+  pub code : IsSome (code_in (column cells 3))
 
 -- of a movement's row: what was declared, and what its state is
 pub record AreDeclaredColumns (cells : Row) : Type 0 where
-  pub mrn : IsSome (mrn_in (column cells 2))
-  pub lrn : IsSome (lrn_in (column cells 3))
-  pub departure : IsSome (office_in (column cells 4))
-  pub destination : IsSome (office_in (column cells 5))
-  pub accepted : IsSome (day_in (column cells 6))
+  pub mrn : IsSome (mrn_in (column cells 3))
+  pub lrn : IsSome (lrn_in (column cells 4))
+  pub departure : IsSome (office_in (column cells 5))
+  pub destination : IsSome (office_in (column cells 6))
+  pub accepted : IsSome (day_in (column cells 7))
 
 pub record AreStatusColumns (cells : Row) : Type 0 where
-  pub state : (s : MovementState) × (column cells 7 ≡ Text (state_name s))
-  pub limit : IsSome (optional_in day_in (column cells 8))
-  pub arrival : IsSome (optional_in day_in (column cells 9))
-  pub actual : IsSome (optional_in office_in (column cells 10))
+  pub state : (s : MovementState) × (column cells 8 ≡ Text (state_name s))
+  pub limit : IsSome (optional_in day_in (column cells 9))
+  pub arrival : IsSome (optional_in day_in (column cells 10))
+  pub actual : IsSome (optional_in office_in (column cells 11))
 
 pub record AreMovementColumns (cells : Row) : Type 0 where
   pub key : AreKeyColumns cells
@@ -61,9 +61,9 @@ pub record AreMovementColumns (cells : Row) : Type 0 where
 -- of a line's row
 pub record AreLineColumns (cells : Row) : Type 0 where
   pub key : AreKeyColumns cells
-  pub no : IsSome (serial_in (column cells 2))
-  pub guarantee : IsSome (serial_in (column cells 3))
-  pub cents : IsSome (amount_in (column cells 4))
+  pub no : IsSome (serial_in (column cells 3))
+  pub guarantee : IsSome (serial_in (column cells 4))
+  pub cents : IsSome (amount_in (column cells 5))
 
 -- whatever table of a store the text shows, it is told whether the columns that are shown of each row are read
 abbrev pub Scans : (Row → Type 0) → List ℕ → Trees → Bool → Type 0

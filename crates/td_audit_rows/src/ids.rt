@@ -1,5 +1,5 @@
 //! The rowids of the tables: a statement that writes goes by them.
-ghost use Rattle.std.specs.Prelude.{◌≡◌, false, IfSome, IsTrue, OnOk};
+ghost use Rattle.std.specs.Prelude.{◌≡◌, [], false, IfSome, IsTrue, OnOk};
 ghost use Rattle.sqlite_value.specs.Order.{column};
 ghost use Rattle.sqlite_value.specs.declared.value.Value.TheVariants.{Int};
 ghost use Rattle.sqlite.specs.Given.{IsPlain};
@@ -8,9 +8,9 @@ ghost use Rattle.sqlite.specs.Listing.{understood};
 ghost use Rattle.sqlite.specs.State.{HasCleanDisk, IsUnchanged, Survives};
 ghost use Rattle.td_schema.specs.Tables.{desk_schema};
 ghost use Rattle.td_walks.specs.Walked.{IsLeftAlone};
-ghost use Rattle.td_audit_rows.specs.Ids.{HaveAllIds, IsAbove, ShowsIds};
+ghost use Rattle.td_audit_rows.specs.Ids.{IsAbove, ShowsIds};
+ghost use Rattle.td_audit_rows.specs.Rising.{HaveRisen};
 
-use crate::texts::{CODE_IDS, GUARANTEE_IDS, HOLDER_IDS, LINE_IDS, META_IDS, MOVEMENT_IDS};
 use sqlite::{Connection, Error, ErrorCode, Row};
 use sqlite_trees::store::Alter;
 use td_sql::integer_at;
@@ -36,9 +36,21 @@ fn next_id(last: Option<i64>, row: &Row) -> Option<i64>
 
 // Whether all rows so far showed integers that rise, and the last of them.
 #[derive(Drop)]
-struct RisingIds {
+pub(crate) struct RisingIds {
     last: Option<i64>,
-    rise: bool,
+    pub(crate) rise: bool,
+}
+
+impl RisingIds {
+    // Of no row yet.
+    pub(crate) fn none_yet() -> RisingIds
+        ensures { HaveRisen result.last [] }
+    {
+        RisingIds {
+            last: None,
+            rise: true,
+        }
+    }
 }
 
 impl Walker for RisingIds {
@@ -53,9 +65,9 @@ impl Walker for RisingIds {
     }
 }
 
-// Sees that the rowids of a table are integers, and no two the same. The text is a SELECT of them. `DatabaseCorrupt`: they
-// aren't, or weren't shown rising; any other error is the database's own. It changes nothing.
-fn ids_rise<S: Alter>(conn: &mut Connection<S>, text: &str) -> Result<(), Error>
+/// Sees that the rowids of a table are integers, and no two the same. The text is a SELECT of them. `DatabaseCorrupt`: they
+/// aren't, or weren't shown rising; any other error is the database's own. It changes nothing, and keeps no row.
+pub(crate) fn ids_rise<S: Alter>(conn: &mut Connection<S>, text: &str) -> Result<(), Error>
     requires outside { conn.old.in_transaction ≡ false }
     requires tables { HasCleanDisk (state S.Store conn.old) → (state S.Store conn.old).now.schema ≡ desk_schema }
     requires plain { IsPlain (understood desk_schema text.now) }
@@ -66,33 +78,10 @@ fn ids_rise<S: Alter>(conn: &mut Connection<S>, text: &str) -> Result<(), Error>
     ensures left { HasCleanDisk (state S.Store conn.new) → IsLeftAlone (state S.Store conn.old) (state S.Store conn.new) }
     ensures survives { Survives (state S.Store conn.old) (state S.Store conn.new) (λ _. ⊥) }
 {
-    let mut ids = RisingIds {
-        last: None,
-        rise: true,
-    };
+    let mut ids = RisingIds::none_yet();
     walk(conn, text, &mut ids)?;
     if !ids.rise {
         return Err(Error::SqliteFailure(ErrorCode::DatabaseCorrupt));
     }
     Ok(())
-}
-
-/// Sees that the rowids of each table of a store are integers, and no two of a table the same. `DatabaseCorrupt`: they
-/// aren't; any other error is the database's own. It changes nothing, and keeps no row.
-pub(crate) fn all_ids_rise<S: Alter>(conn: &mut Connection<S>) -> Result<(), Error>
-    requires outside { conn.old.in_transaction ≡ false }
-    requires tables { HasCleanDisk (state S.Store conn.old) → (state S.Store conn.old).now.schema ≡ desk_schema }
-    ensures ended { conn.new.in_transaction ≡ false }
-    ensures ids { HasCleanDisk (state S.Store conn.new) → OnOk result (HaveAllIds (state S.Store conn.old).now.trees) }
-    ensures still { HasCleanDisk (state S.Store conn.new)
-        → OnOk result (IsUnchanged (state S.Store conn.old) (state S.Store conn.new)) }
-    ensures left { HasCleanDisk (state S.Store conn.new) → IsLeftAlone (state S.Store conn.old) (state S.Store conn.new) }
-    ensures survives { Survives (state S.Store conn.old) (state S.Store conn.new) (λ _. ⊥) }
-{
-    ids_rise(conn, META_IDS)?;
-    ids_rise(conn, HOLDER_IDS)?;
-    ids_rise(conn, GUARANTEE_IDS)?;
-    ids_rise(conn, CODE_IDS)?;
-    ids_rise(conn, MOVEMENT_IDS)?;
-    ids_rise(conn, LINE_IDS)
 }

@@ -6,9 +6,11 @@ ghost use Rattle.sqlite.specs.Listing.{understood};
 ghost use Rattle.sqlite.specs.State.{HasCleanDisk, IsUnchanged, Survives};
 ghost use Rattle.td_schema.specs.Tables.{desk_schema};
 ghost use Rattle.td_walks.specs.Walked.{IsLeftAlone};
+ghost use Rattle.td_audit_rows.specs.Ids.{ShowsIds};
 ghost use Rattle.td_audit_rows.specs.Scans.{AreDeclaredColumns, AreKeyColumns, AreStatusColumns, Scans};
 
-use sqlite::{Connection, Error, Row};
+use crate::ids::RisingIds;
+use sqlite::{Connection, Error, ErrorCode, Row};
 use sqlite_trees::store::Alter;
 use std::marker::PhantomData;
 use td_codes::StoredCode;
@@ -33,32 +35,32 @@ pub(crate) trait Scanned {
         ensures { IsTrue result ↔ AreRead row.now };
 }
 
-// Whether the first two columns are a holder's number and a serial.
+// Whether the first two columns after the rowid are a holder's number and a serial.
 fn has_key(row: &Row) -> bool
     ensures { IsTrue result ↔ AreKeyColumns row.now }
 {
-    holder_at(row, 0).is_some() && serial_at(row, 1).is_some()
+    holder_at(row, 1).is_some() && serial_at(row, 2).is_some()
 }
 
 // Whether the columns of a movement's row are what was declared.
 fn has_declared(row: &Row) -> bool
     ensures { IsTrue result ↔ AreDeclaredColumns row.now }
 {
-    mrn_at(row, 2).is_some()
-        && lrn_at(row, 3).is_some()
-        && office_at(row, 4).is_some()
+    mrn_at(row, 3).is_some()
+        && lrn_at(row, 4).is_some()
         && office_at(row, 5).is_some()
-        && day_at(row, 6).is_some()
+        && office_at(row, 6).is_some()
+        && day_at(row, 7).is_some()
 }
 
 // Whether they are the movement's state, its days and the office where it arrived.
 fn has_status(row: &Row) -> bool
     ensures { IsTrue result ↔ AreStatusColumns row.now }
 {
-    state_at(row, 7).is_some()
-        && optional_day_at(row, 8).is_some()
+    state_at(row, 8).is_some()
         && optional_day_at(row, 9).is_some()
-        && optional_office_at(row, 10).is_some()
+        && optional_day_at(row, 10).is_some()
+        && optional_office_at(row, 11).is_some()
 }
 
 impl Scanned for StoredGuarantee {
@@ -66,13 +68,13 @@ impl Scanned for StoredGuarantee {
 
     ghost AreRead = { AreGuaranteeColumns };
 
-    // A row of six columns.
+    // A rowid and six columns.
     fn is_read(row: &Row) -> bool {
         has_key(row)
-            && grn_at(row, 2).is_some()
-            && amount_at(row, 3).is_some()
-            && cover_at(row, 4).is_some()
-            && optional_day_at(row, 5).is_some()
+            && grn_at(row, 3).is_some()
+            && amount_at(row, 4).is_some()
+            && cover_at(row, 5).is_some()
+            && optional_day_at(row, 6).is_some()
     }
 }
 
@@ -81,9 +83,9 @@ impl Scanned for StoredCode {
 
     ghost AreRead = { AreCodeColumns };
 
-    // A row of three columns.
+    // A rowid and three columns.
     fn is_read(row: &Row) -> bool {
-        has_key(row) && code_at(row, 2).is_some()
+        has_key(row) && code_at(row, 3).is_some()
     }
 }
 
@@ -92,7 +94,7 @@ impl Scanned for StoredMovement {
 
     ghost AreRead = { AreMovementColumns };
 
-    // A row of eleven columns.
+    // A rowid and eleven columns.
     fn is_read(row: &Row) -> bool {
         has_key(row) && has_declared(row) && has_status(row)
     }
@@ -103,18 +105,19 @@ impl Scanned for StoredLine {
 
     ghost AreRead = { AreLineColumns };
 
-    // A row of five columns.
+    // A rowid and five columns.
     fn is_read(row: &Row) -> bool {
         has_key(row)
-            && serial_at(row, 2).is_some()
             && serial_at(row, 3).is_some()
-            && amount_at(row, 4).is_some()
+            && serial_at(row, 4).is_some()
+            && amount_at(row, 5).is_some()
     }
 }
 
-// Whether the columns of each row so far were its fields.
+// What was seen of the rows so far: whether their rowids rise, and whether the columns of each were its fields.
 #[derive(Drop)]
 struct TableScan<T> {
+    ids: RisingIds,
     all: bool,
     of: PhantomData<T>,
 }
@@ -122,16 +125,19 @@ struct TableScan<T> {
 impl<T: Scanned> Walker for TableScan<T> {
     ghost use Rattle.std.specs.Prelude.{◌↔◌, IsTrue};
     ghost use Rattle.std.specs.List.{AllByRecursion};
+    ghost use Rattle.td_audit_rows.specs.Rising.{HaveRisen};
 
-    ghost Knows = { λ rows scan. IsTrue scan.all ↔ AllByRecursion T.AreRead rows };
+    ghost Knows = { λ rows scan. (IsTrue scan.ids.rise → HaveRisen scan.ids.last rows) × (IsTrue scan.all ↔ AllByRecursion T.AreRead rows) };
 
     fn see(&mut self, row: &Row) {
+        self.ids.see(row);
         self.all = self.all && T::is_read(row);
     }
 }
 
-/// Whether the columns that are shown of each row of a table are its fields. The text is a SELECT of them over the whole
-/// table. Any error is the database's own. It changes nothing, and keeps no row.
+/// Whether the columns that are shown of each row of a table are its fields, where its rowids are integers, no two the same. The
+/// text is a SELECT of the rowid and of the columns over the whole table. `DatabaseCorrupt`: the rowids aren't so, or weren't
+/// shown rising; any other error is the database's own. It changes nothing, and keeps no row.
 pub(crate) fn scan<S: Alter, T: Scanned>(
     conn: &mut Connection<S>,
     text: &str,
@@ -140,6 +146,7 @@ pub(crate) fn scan<S: Alter, T: Scanned>(
     requires tables { HasCleanDisk (state S.Store conn.old) → (state S.Store conn.old).now.schema ≡ desk_schema }
     requires plain { IsPlain (understood desk_schema text.now) }
     ensures ended { conn.new.in_transaction ≡ false }
+    ensures ids { HasCleanDisk (state S.Store conn.new) → OnOk result (ShowsIds text.now (state S.Store conn.old).now.trees) }
     ensures told { HasCleanDisk (state S.Store conn.new)
         → IfOk result (λ all. Scans T.AreRead text.now (state S.Store conn.old).now.trees all) }
     ensures still { HasCleanDisk (state S.Store conn.new)
@@ -148,9 +155,13 @@ pub(crate) fn scan<S: Alter, T: Scanned>(
     ensures survives { Survives (state S.Store conn.old) (state S.Store conn.new) (λ _. ⊥) }
 {
     let mut scan = TableScan::<T> {
+        ids: RisingIds::none_yet(),
         all: true,
         of: PhantomData,
     };
     walk(conn, text, &mut scan)?;
+    if !scan.ids.rise {
+        return Err(Error::SqliteFailure(ErrorCode::DatabaseCorrupt));
+    }
     Ok(scan.all)
 }

@@ -4,12 +4,12 @@ ghost use Rattle.sqlite.specs.Held.{state};
 ghost use Rattle.sqlite.specs.State.{HasCleanDisk, IsUnchanged, Survives};
 ghost use Rattle.td_schema.specs.Tables.{desk_schema};
 ghost use Rattle.td_walks.specs.Walked.{IsLeftAlone};
-ghost use Rattle.td_audit_rows.specs.Ids.{HaveAllIds};
+ghost use Rattle.td_audit_rows.specs.Ids.{HaveAllIds, HavePartIds};
 ghost use Rattle.td_audit_rows.specs.Scans.{TellReadable};
 
-use crate::ids::all_ids_rise;
+use crate::ids::ids_rise;
 use crate::scanning::scan;
-use crate::texts::{CODES, GUARANTEES, LINES, MOVEMENTS};
+use crate::texts::{CODES, GUARANTEES, HOLDER_IDS, LINES, META_IDS, MOVEMENTS};
 use sqlite::{Connection, Error};
 use sqlite_trees::store::Alter;
 use td_codes::StoredCode;
@@ -26,11 +26,13 @@ pub struct Readable {
     pub lines: bool,
 }
 
-// The same, of tables whose rowids were seen to rise.
+// The same, where the rowids of each of them are integers, no two the same. `DatabaseCorrupt`: they aren't; any other error is
+// the database's own.
 fn scan_tables<S: Alter>(conn: &mut Connection<S>) -> Result<Readable, Error>
     requires outside { conn.old.in_transaction ≡ false }
     requires tables { HasCleanDisk (state S.Store conn.old) → (state S.Store conn.old).now.schema ≡ desk_schema }
     ensures ended { conn.new.in_transaction ≡ false }
+    ensures ids { HasCleanDisk (state S.Store conn.new) → OnOk result (HavePartIds (state S.Store conn.old).now.trees) }
     ensures told { HasCleanDisk (state S.Store conn.new)
         → IfOk result (λ readable. TellReadable readable (state S.Store conn.old).now.trees) }
     ensures still { HasCleanDisk (state S.Store conn.new)
@@ -50,7 +52,7 @@ fn scan_tables<S: Alter>(conn: &mut Connection<S>) -> Result<Readable, Error>
     })
 }
 
-/// Which tables of a store can be read row by row. It walks along all rows outside a transaction, keeps none, and changes
+/// Which tables of a store can be read row by row. It walks along all rows outside a transaction, each once, keeps none, and changes
 /// nothing. `DatabaseCorrupt`: the rowids of a table aren't integers, or two are the same; any other error is the database's own, or
 /// want of memory.
 pub fn readable_tables<S: Alter>(conn: &mut Connection<S>) -> Result<Readable, Error>
@@ -65,6 +67,7 @@ pub fn readable_tables<S: Alter>(conn: &mut Connection<S>) -> Result<Readable, E
     ensures left { HasCleanDisk (state S.Store conn.new) → IsLeftAlone (state S.Store conn.old) (state S.Store conn.new) }
     ensures survives { Survives (state S.Store conn.old) (state S.Store conn.new) (λ _. ⊥) }
 {
-    all_ids_rise(conn)?;
+    ids_rise(conn, META_IDS)?;
+    ids_rise(conn, HOLDER_IDS)?;
     scan_tables(conn)
 }
