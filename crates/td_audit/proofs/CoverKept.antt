@@ -1,6 +1,6 @@
 -- Where the rules before it are kept, S8 is kept exactly where the lines on each guarantee add up to its reference amount at most.
 use Rattle.std.proofs.Common.{◌≡◌, ◌∙◌, ℕ, Bool, List, [], map, sum_by, Some, IsSome, Option, Ok, Err, Result, refl, sym, ap, subst, arith}
-use Rattle.std.specs.Prelude.{◌↔◌, IfOk, IsTrue}
+use Rattle.std.specs.Prelude.{◌↔◌, IfOk}
 use Rattle.std.specs.List.{AllByRecursion}
 use Rattle.std.specs.Option.{option_map_or}
 use Rattle.sqlite_trees.specs.Tree.{Trees}

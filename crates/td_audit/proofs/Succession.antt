@@ -1,9 +1,8 @@
 -- The rules asked one after another: what each is asked by, and which is the first that is broken.
-use Rattle.std.proofs.Common.{◌≡◌, true, false, nat_eq, ℕ, ◌+◌, ◌<◌, ◌≤◌, Bool, List, map, zero, suc, refl, sym, ap, subst, arith, ◌∙◌}
+use Rattle.std.proofs.Common.{◌≡◌, true, false, nat_eq, ℕ, ◌+◌, ◌<◌, ◌≤◌, Bool, List, zero, suc, refl, sym, ap, subst, arith, ◌∙◌}
 use Rattle.std.proofs.lemmas.Bool.{false≢true}
 use Rattle.std.proofs.lemmas.Bool.Decides.{nat_tests}
 use Rattle.std.specs.Prelude.{◌↔◌, IsTrue}
-use Rattle.std.specs.List.{AllByRecursion}
 use Rattle.sqlite_trees.specs.Tree.{Trees}
 use Rattle.sqlite.specs.State.{State}
 use Rattle.td_schema.specs.Tables.{desk_schema}
@@ -18,7 +17,7 @@ use Rattle.td_audit_rows.specs.Fields.{AreCodeFields, AreLineFields}
 use Rattle.td_audit_rows.specs.Scans.{TellsRead}
 use Rattle.td_audit_rows.specs.declared.holders.RawHolder.{RawHolder}
 use Rattle.td_audit_rows.specs.declared.tables.Readable.{Readable}
-use Rattle.td_audit.specs.Auditable.{KeepsBefore, TellsRule, TellsS2}
+use Rattle.td_audit.specs.Auditable.{TellsRule, TellsS2}
 use Rattle.td_audit.specs.Broken.{HasOffice, IsNextRule}
 use Rattle.td_audit.specs.InFile.{IsSoWhere, ReadsStore, TellsWhere}
 use Rattle.td_audit.specs.Premises.{AreCodesAuditable, AreHoldersAuditable, AreLinesAuditable}

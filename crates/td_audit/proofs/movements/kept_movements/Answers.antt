@@ -1,4 +1,4 @@
-use Rattle.std.proofs.Common.{◌≡◌, ◌∙◌, List, map, ap, subst}
+use Rattle.std.proofs.Common.{◌∙◌, List, map, ap, subst}
 use Rattle.td_tables.specs.Apart.{IsNumbered}
 use Rattle.td_tables.specs.Gathering.{place}
 use Rattle.td_movements.specs.Stored.{row_of_stored}
