@@ -1,6 +1,6 @@
 -- Where the rules before it are kept, S8 is kept exactly where the lines on each guarantee add up to its reference amount at most.
 use Rattle.std.proofs.Common.{◌≡◌, ◌∙◌, ℕ, Bool, List, [], map, sum_by, Some, IsSome, Option, Ok, Err, Result, refl, sym, ap, subst, arith}
-use Rattle.std.specs.Prelude.{◌↔◌, IfOk, IsTrue}
+use Rattle.std.specs.Prelude.{◌↔◌, IfOk}
 use Rattle.std.specs.List.{AllByRecursion}
 use Rattle.std.specs.Option.{option_map_or}
 use Rattle.sqlite_trees.specs.Tree.{Trees}
@@ -20,25 +20,23 @@ use Rattle.td_tables.specs.Looking.{cents_of, lines_in_use}
 use Rattle.td_tables.specs.Rules.{HasGuarantees, HasLines, IsHolderCovered}
 use Rattle.td_tables.specs.Tables.{Keyed, Tables}
 use Rattle.td_tables.proofs.Ruled.{are_mine}
-use Rattle.td_schema.specs.Tables.{desk_schema}
-use Rattle.td_sql.specs.Reading.{LeavesAll}
-use Rattle.td_guarantees.specs.Stored.{AreBySerial, is_of, row_of_stored}
-use Rattle.td_guarantees.specs.declared.stored.StoredGuarantee.{StoredGuarantee}
+use Rattle.td_sql.specs.Typed.{AreTyped}
+use Rattle.td_guarantees.specs.Cells.{guarantee_typing}
+use Rattle.td_movements.specs.Cells.{movement_typing}
+use Rattle.td_lines.specs.Cells.{line_typing}
 use Rattle.td_store_tables.specs.Rows.{tables_in}
 use Rattle.td_audit_rows.specs.Found.{FoundHoldersTell}
 use Rattle.td_audit_rows.specs.Kinds.{KeepsRaw}
 use Rattle.td_audit_rows.specs.declared.holders.RawHolder.{RawHolder}
-use Rattle.td_audit.specs.Auditable.{IsAuditable, KeepsBefore, TellsRule}
-use Rattle.td_audit.specs.InFile.{AreAmountsTyped, IsHolderCoveredInFile, IsRowCovered, TellsWhere}
+use Rattle.td_audit.specs.Auditable.{IsAuditable, KeepsBefore}
+use Rattle.td_audit.specs.Handed.{AreCounting, AreItsLines, IsCoverAuditable, IsHandedOn, holder_in, movements_in}
+use Rattle.td_audit.specs.InFile.{AreTypedApart, IsHolderCoveredInFile, IsRowCovered, TellsWhere}
+use Rattle.td_audit.specs.declared.handed.HolderParts.{HolderParts}
 use Rattle.td_audit.proofs.HoldersTold.{holders_tell, of_pairs}
-use Rattle.td_audit.proofs.Reading.{one_read, so_before}
 use Rattle.td_audit.proofs.InUse.{found_by_own, used_is}
 
-module _ (law : FoundHoldersTell) (trees : Trees) (country : List ℕ) (holders : List RawHolder) (known : IsAuditable trees country holders)
-    (before : KeepsBefore trees S8) where
-  abbrev t : Tables
-  t = tables_in trees
-
+-- the tables are typed, where the rules before S8 are kept
+module _ (trees : Trees) (country : List ℕ) (holders : List RawHolder) (known : IsAuditable trees country holders) (before : KeepsBefore trees S8) where
   guarantees_kept : KeepsRaw trees S3
   guarantees_kept = before S3 (omega arith)
 
@@ -48,15 +46,25 @@ module _ (law : FoundHoldersTell) (trees : Trees) (country : List ℕ) (holders 
   lines_kept : KeepsRaw trees S6
   lines_kept = before S6 (omega arith)
 
-  pub typed : AreAmountsTyped trees
-  typed = record {
-    guarantees = record {
-      typed = record { ids = known.kept.ids.guarantees; cells = guarantees_kept.0.1 };
-      apart = (known.kept.guarantees guarantees_kept.0.1).apart;
-    };
-    movements = record { ids = known.kept.ids.movements; cells = movements_kept.0.1 };
-    lines = record { ids = known.kept.ids.lines; cells = lines_kept.0 };
+  pub guarantees_typed : AreTypedApart guarantee_typing trees
+  guarantees_typed = record {
+    typed = record { ids = known.kept.ids.guarantees; cells = guarantees_kept.0.1 };
+    apart = (known.kept.guarantees guarantees_kept.0.1).apart;
   }
+
+  pub movements_typed : AreTypedApart movement_typing trees
+  movements_typed = record {
+    typed = record { ids = known.kept.ids.movements; cells = movements_kept.0.1 };
+    apart = (known.kept.movements movements_kept.0.1).apart;
+  }
+
+  pub lines_typed : AreTyped line_typing trees
+  lines_typed = record { ids = known.kept.ids.lines; cells = lines_kept.0 }
+
+module _ (law : FoundHoldersTell) (trees : Trees) (country : List ℕ) (holders : List RawHolder) (known : IsAuditable trees country holders)
+    (before : KeepsBefore trees S8) where
+  abbrev t : Tables
+  t = tables_in trees
 
   -- what is known of a holder's row
   record IsKnown (row : HolderRow) : Type 0 where
@@ -68,7 +76,7 @@ module _ (law : FoundHoldersTell) (trees : Trees) (country : List ℕ) (holders 
   all_known =
       all_both (λ row. HasGuarantees t row × HasLines t row) (λ (row : HolderRow). IsHolderNumber row.holder) IsKnown
       (λ row has number. record { number = number; guarantees = has.0; lines = has.1 }) t.holders
-      (all_both (HasGuarantees t) (HasLines t) (λ row. HasGuarantees t row × HasLines t row) (λ row a b. (a, b)) t.holders guarantees_kept.1 lines_kept.1)
+      (all_both (HasGuarantees t) (HasLines t) (λ row. HasGuarantees t row × HasLines t row) (λ row a b. (a, b)) t.holders (before S3 (omega arith)).1 (before S6 (omega arith)).1)
       (holders_tell law trees country holders known).numbers
 
   module _ (row : HolderRow) (is : IsKnown row) where
@@ -84,7 +92,7 @@ module _ (law : FoundHoldersTell) (trees : Trees) (country : List ℕ) (holders 
     same g own found =
         ap (λ h. sum_by cents_of (lines_in_use h g.serial t)) own
         ∙ used_is t (before S1 (omega arith)).1 row is.number is.guarantees g.serial (subst IsSome (sym found) refl)
-        ((known.kept.movements movements_kept.0.1).apart H) ((known.kept.lines lines_kept.0).apart H) is.lines
+        ((known.kept.movements (before S5 (omega arith)).0.1).apart H) ((known.kept.lines (before S6 (omega arith)).0).apart H) is.lines
         ∙ ap (λ (o : Option (Keyed Guarantee)). used_on (option_map_or (λ (r : Keyed Guarantee). r.row.grn) o []) movements) found
 
     all_same : AllByRecursion (λ (g : Keyed Guarantee). sum_by cents_of (lines_in_use g.holder g.serial t) ≡ used_on g.row.grn movements) (guarantees_by H t)
@@ -116,27 +124,26 @@ module _ (law : FoundHoldersTell) (trees : Trees) (country : List ℕ) (holders 
         λ each. (tt, all_both IsKnown (λ row. AreCovered (holder_no row)) (IsHolderCovered t) kept t.holders all_known (pairs.1 each)),
       )
 
--- so it is told
-pub told_cover : (a : State) (holders : List RawHolder) → FoundHoldersTell → (result : Result Bool Error)
-    → IfOk result (TellsWhere AreAmountsTyped (λ trees. AllByRecursion (IsHolderCoveredInFile trees) holders) a)
-    → IfOk result (λ keeps. (country : List ℕ) → TellsRule S8 country holders a keeps)
-told_cover a holders law (Err e) each = each
-told_cover a holders law (Ok told) each = λ country has known before.
-    let trees = a.now.trees in
-    let whole = each has (typed law trees country holders known before) in
-    let rule = kept_each law trees country holders known before in
-    (λ t. rule.1 (whole.0 t), λ keeps. whole.1 (rule.0 keeps))
+-- what was handed on of each holder is so
+all_handed_on : (trees : Trees) (country : List ℕ) (handed : List HolderParts) → IsCoverAuditable country handed trees → AllByRecursion (IsHandedOn trees) handed
+all_handed_on trees country handed is =
+    all_both (λ h. AreCounting trees (movements_in h)) (AreItsLines trees) (IsHandedOn trees)
+    (λ h counting lines. record {
+      guarantees = guarantees_typed trees country (map holder_in handed) is.known is.before;
+      apart = (movements_typed trees country (map holder_in handed) is.known is.before).apart h.movements.raw.holder;
+      counting = counting;
+      lines = lines;
+    }) handed is.counting is.lines
 
--- a holder's rows tell whether the holder is covered
-pub told_by_rows : (a b : State) (H : ℕ) (rows : List StoredGuarantee) → AreBySerial (is_of H) a rows → LeavesAll desk_schema a b
-    → (result : Result Bool Error)
-    → IfOk result (TellsWhere AreAmountsTyped (λ trees. AllByRecursion (λ row. IsRowCovered trees (row_of_stored row)) rows) b)
-    → IfOk result (TellsWhere AreAmountsTyped (λ trees. AllByRecursion (IsRowCovered trees) (guarantees_by H (tables_in trees))) a)
-told_by_rows a b H rows order left (Err e) each = each
-told_by_rows a b H rows order left (Ok told) each = λ has so.
+-- so it is told
+pub told_cover : (a : State) (handed : List HolderParts) → FoundHoldersTell → (result : Result Bool Error)
+    → IfOk result (TellsWhere (λ trees. AllByRecursion (IsHandedOn trees) handed) (λ trees. AllByRecursion (λ h. IsHolderCoveredInFile trees (holder_in h)) handed) a)
+    → IfOk result (λ keeps. (country : List ℕ) → TellsWhere (IsCoverAuditable country handed) (λ trees. KeepsRaw trees S8) a keeps)
+told_cover a handed law (Err e) each = each
+told_cover a handed law (Ok told) each = λ country has is.
     let trees = a.now.trees in
-    let whole = so_before AreAmountsTyped (λ trees. IsTrue told ↔ AllByRecursion (λ row. IsRowCovered trees (row_of_stored row)) rows) a b (one_read a b left) each has so in
-    let found : map row_of_stored rows ≡ guarantees_by H (tables_in trees) = order has so.guarantees.typed (so.guarantees.apart H) in (
-      λ t. subst (AllByRecursion (IsRowCovered trees)) found (all-map (IsRowCovered trees) row_of_stored rows (whole.0 t)),
-      λ all. whole.1 (all_from_map (IsRowCovered trees) row_of_stored rows (subst (AllByRecursion (IsRowCovered trees)) (sym found) all)),
+    let whole = each has (all_handed_on trees country handed is) in
+    let rule = kept_each law trees country (map holder_in handed) is.known is.before in (
+      λ t. rule.1 (all-map (IsHolderCoveredInFile trees) holder_in handed (whole.0 t)),
+      λ keeps. whole.1 (all_from_map (IsHolderCoveredInFile trees) holder_in handed (rule.0 keeps)),
     )

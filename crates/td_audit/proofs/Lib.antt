@@ -14,6 +14,8 @@ mod MovementsKept
 mod Walking
 mod InUse
 mod CoverKept
+mod Serials
+mod HandedOn
 mod Runs
 mod Tells
 mod Meanings
@@ -24,4 +26,6 @@ mod PartsOfHolders
 mod Told
 mod OfficeRow
 mod Succession
+mod Asked
+mod Threaded
 mod FromFile

@@ -1,7 +1,7 @@
 -- S5 is kept exactly where each row of movements is read, and each holder's are in their places.
-use Rattle.std.proofs.Common.{◌≡◌, ◌∙◌, ◌<◌, ◌^◌, ℕ, Bool, false, List, Ok, Err, Result, subst, sym, arith}
+use Rattle.std.proofs.Common.{◌≡◌, ◌∙◌, ◌<◌, ◌^◌, ℕ, Bool, false, List, Option, Ok, Err, Result, subst, sym, arith}
 use Rattle.std.proofs.lemmas.Bool.{false≢true}
-use Rattle.std.specs.Prelude.{◌↔◌, ◌==◌, IfOk, IsTrue}
+use Rattle.std.specs.Prelude.{◌↔◌, ◌==◌, IfOk, IsTrue, is_some}
 use Rattle.std.specs.List.{AllByRecursion}
 use Rattle.sqlite_trees.specs.Tree.{Trees}
 use Rattle.sqlite_trees.proofs.ListLemmas.{all-filter, all-map, all_both, all_from_map, all_weaker}
@@ -132,11 +132,11 @@ told_unread scanned a country holders law read tells unread has known before = (
 
 -- and by the holders' own, where each row is
 pub told_each : (scanned : Bool) (a : State) (country : List ℕ) (holders : List RawHolder) → FoundHoldersTell
-    → IsTrue scanned → (result : Result Bool Error)
-    → IfOk result (TellsWhere (AreTypedApart movement_typing) (λ trees. AllByRecursion (HasMovementsInPlace country trees) holders) a)
-    → IfOk result (λ keeps. TellsRead movement_typing AreMovementFields a.now.trees scanned → TellsRule S5 country holders a keeps)
+    → IsTrue scanned → {X : Type 0} (result : Result (Option X) Error)
+    → IfOk result (λ found. TellsWhere (AreTypedApart movement_typing) (λ trees. AllByRecursion (HasMovementsInPlace country trees) holders) a (is_some found))
+    → IfOk result (λ found. TellsRead movement_typing AreMovementFields a.now.trees scanned → TellsRule S5 country holders a (is_some found))
 told_each scanned a country holders law is (Err e) each = each
-told_each scanned a country holders law is (Ok told) each = λ tells has known before.
+told_each scanned a country holders law is (Ok found) each = λ tells has known before.
     let trees = a.now.trees in
     let read = tells.0 is in
     let whole = each has (typed_apart law trees country holders known read) in

@@ -12,9 +12,6 @@ use Rattle.td_schema.specs.Tables.{desk_schema}
 use Rattle.td_sql.specs.Reading.{HasOnlyRead}
 use Rattle.td_sql.specs.Typed.{AreTyped, Typing, rows_in}
 use Rattle.td_sql.specs.Writing.{HasSchema}
-use Rattle.td_guarantees.specs.Cells.{guarantee_typing}
-use Rattle.td_lines.specs.Cells.{line_typing}
-use Rattle.td_movements.specs.Cells.{movement_typing}
 use Rattle.td_store_tables.specs.Rows.{tables_in}
 use Rattle.td_rules.specs.InPlace.{AreGuaranteesInPlace, AreMovementsInPlace}
 use Rattle.td_audit_rows.specs.Found.{HasGrns, HasMrns}
@@ -42,12 +39,6 @@ IsRowCovered trees g = sum_by cents_of (lines_in_use g.holder g.serial (tables_i
 -- so it is on each of the holder's
 abbrev pub IsHolderCoveredInFile : Trees → RawHolder → Type 0
 IsHolderCoveredInFile trees h = AllByRecursion (IsRowCovered trees) (guarantees_by h.holder (tables_in trees))
-
--- the tables are typed from which guarantees and what is in use on them are read
-pub record AreAmountsTyped (trees : Trees) : Type 0 where
-  pub guarantees : AreTypedApart guarantee_typing trees
-  pub movements : AreTyped movement_typing trees
-  pub lines : AreTyped line_typing trees
 
 -- where the first is so of the file's tables, so is the second; and it is told whether it is
 abbrev pub IsSoWhere : (Trees → Type 0) → (Trees → Type 0) → State → Type 0

@@ -11,6 +11,7 @@ mod connection;
 mod cover;
 mod finding;
 mod guarantees;
+mod handed;
 mod holders;
 mod laws;
 mod lines;
@@ -22,7 +23,6 @@ mod texts;
 pub use audit::first_broken;
 pub use codes::codes_keep_rule;
 pub use connection::kept;
-pub use cover::cover_keeps_rule;
 pub use finding::{codes_of_holder, lines_of_holder};
 pub use guarantees::guarantees_keep_rule;
 pub use holders::holders_keep_rule;
@@ -30,5 +30,3 @@ pub use laws::{
     schema_keeps_codes, schema_keeps_guarantees, schema_keeps_holders, schema_keeps_lines,
     schema_keeps_movements, schema_keeps_tables,
 };
-pub use lines::lines_keep_rule;
-pub use movements::movements_keep_rule;

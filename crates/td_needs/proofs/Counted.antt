@@ -1,23 +1,24 @@
 -- The lines on a guarantee, of the movements whose serials count, add up to what a join of the two tables would.
-use Rattle.std.proofs.Common.{sum_by, ◌≡◌, ◌∙◌, ◌+◌, ◌<◌, ℕ, Bool, true, false, cond, List, [], ◌∷◌, map, flat_map, Some, refl, sym, ap, ap₂, arith, IsPermutation}
+use Rattle.std.proofs.Common.{sum_by, ◌≡◌, ◌∙◌, ◌+◌, ◌<◌, ℕ, Bool, true, false, cond, List, [], ◌∷◌, map, flat_map, Some, refl, sym, ap, ap₂, subst, arith, IsPermutation}
 use Rattle.std.specs.Prelude.{◌==◌, ◌&&◌, filter, is_some, if◌then◌else◌}
 use Rattle.std.specs.List.{AllByRecursion}
 use Rattle.std.proofs.lemmas.Bool.Decides.{nat_tests}
 use Rattle.std.proofs.lemmas.List.Sorted.{sum_by-IsPermutation}
 use Rattle.std.proofs.lemmas.List.Sums.{sum_by-append, sum_by-cons}
+use Rattle.sqlite_trees.proofs.ListLemmas.{IsPermutation-filter}
 use Rattle.keyed_rows.specs.Rows.{Rises, row_at}
 use Rattle.td_movement.specs.States.{is_counting}
 use Rattle.td_movement.specs.declared.movement.Movement.{Movement}
-use Rattle.td_tables.specs.Gathering.{owner, place}
+use Rattle.td_tables.specs.Gathering.{owner, part, place}
 use Rattle.td_tables.specs.Looking.{cents_of, counting_rows, lines_in_use, lines_of_row}
 use Rattle.td_tables.specs.Tables.{Keyed, LineCells, Tables}
-use Rattle.td_tables.proofs.Counting.{sum_by-map}
+use Rattle.td_tables.proofs.Counting.{filter_both, sum_by-map}
 use Rattle.td_sql.proofs.Ordered.{both_pass}
 use Rattle.td_movements.specs.Stored.{counts_for, serial_of_stored}
 use Rattle.td_movements.specs.declared.stored.MovementSerial.{MovementSerial}
 use Rattle.td_lines.specs.Stored.{is_line_on, row_of_stored}
 use Rattle.td_lines.specs.declared.stored.StoredLine.{StoredLine}
-use Rattle.td_needs.specs.InUse.{counted, total_of}
+use Rattle.td_needs.specs.InUse.{counted, total_on}
 use Rattle.td_needs.proofs.Sums.{sum_by-both, sum_by-nothing, sum_by-passing}
 
 -- Of serials that rise one at most is k.
@@ -49,6 +50,26 @@ module _ (k x : ℕ) where
           let same : serial_of_stored s ≡ k = grind (arith, nat_tests, is) in
           omega (arith, none_above (serial_of_stored s + 1) serials rises.1 (omega (arith, same)))
       by_test false is rest = omega arith ∙ rest
+
+-- what passes of what is made of elements is made of those that pass
+filter_map : {X Y : Type 0} (f : X → Y) (p : Y → Bool) (xs : List X) → filter p (map f xs) ≡ map f (filter (λ x. p (f x)) xs)
+filter_map f p [] = refl
+filter_map {X} f p (x ∷ xs) = by_test (p (f x)) (filter_map f p xs)
+  where
+    by_test : (b : Bool) → filter p (map f xs) ≡ map f (filter (λ x. p (f x)) xs)
+        → cond b (f x ∷ filter p (map f xs)) (filter p (map f xs)) ≡ map f (cond b (x ∷ filter (λ x. p (f x)) xs) (filter (λ x. p (f x)) xs))
+    by_test true later = ap (λ l. f x ∷ l) later
+    by_test false later = later
+
+-- what passes passes again
+filter_again : {X : Type 0} (p : X → Bool) (xs : List X) → filter p (filter p xs) ≡ filter p xs
+filter_again p [] = refl
+filter_again {X} p (x ∷ xs) = by_test (p x) refl (filter_again p xs)
+  where
+    by_test : (b : Bool) → p x ≡ b → filter p (filter p xs) ≡ filter p xs
+        → filter p (cond b (x ∷ filter p xs) (filter p xs)) ≡ cond b (x ∷ filter p xs) (filter p xs)
+    by_test true is later = rw is (ap (λ l. x ∷ l) later)
+    by_test false is later = later
 
 -- two numbers are compared alike in either order
 either_way : (a b : ℕ) → (a == b) ≡ (b == a)
@@ -132,11 +153,39 @@ module _ (H n : ℕ) (t : Tables) where
         sym (sum_by-map take place (counting_rows H t)) ∙ sym (sum_by-IsPermutation take _ _ those)
         ∙ sum_by-map take serial_of_stored serials ∙ once l.serial l.cents 0 serials rises
 
-    pub in_use_is : (lines : List StoredLine) → IsPermutation (filter is_on t.lines) (map row_of_stored lines)
-        → total_of serials lines ≡ sum_by cents_of (lines_in_use H n t)
+    in_use_is : (lines : List StoredLine) → IsPermutation (filter is_on t.lines) (map row_of_stored lines)
+        → sum_by (counted serials) lines ≡ sum_by cents_of (lines_in_use H n t)
     in_use_is lines found =
         sym (λ i. sum_by (λ l. part_is l i) lines)
         ∙ sym (sum_by-map (part_of (counting_rows H t)) row_of_stored lines)
         ∙ sum_by-IsPermutation (part_of (counting_rows H t)) _ _ found
         ∙ sum_by-passing (part_of (counting_rows H t)) is_on t.lines
         ∙ sym (by_all (counting_rows H t) (all_own t.movements))
+
+    abbrev is_here : StoredLine → Bool
+    is_here l = l.guarantee == n
+
+    abbrev names_it : Keyed LineCells → Bool
+    names_it l = l.row.guarantee == n
+
+    -- of lines on any guarantee those on this one
+    of_any : (rows : List (Keyed LineCells)) (lines : List StoredLine) → filter is_on t.lines ≡ filter names_it rows → IsPermutation rows (map row_of_stored lines)
+        → total_on n serials lines ≡ sum_by cents_of (lines_in_use H n t)
+    of_any rows lines same found =
+        sym (sum_by-passing (counted serials) is_here lines)
+        ∙ in_use_is (filter is_here lines)
+        (subst (λ xs. IsPermutation xs (map row_of_stored (filter is_here lines))) (sym same)
+        (subst (IsPermutation (filter names_it rows)) (filter_map row_of_stored names_it lines) (IsPermutation-filter names_it rows (map row_of_stored lines) found)))
+
+    -- of all lines of the holder
+    pub of_holder : (lines : List StoredLine) → IsPermutation (part H t.lines) (map row_of_stored lines)
+        → total_on n serials lines ≡ sum_by cents_of (lines_in_use H n t)
+    of_holder lines found = of_any (part H t.lines) lines (filter_both names_it (λ l. owner l == H) t.lines) found
+
+    -- of those on the guarantee
+    pub of_guarantee : (lines : List StoredLine) → IsPermutation (filter is_on t.lines) (map row_of_stored lines)
+        → total_on n serials lines ≡ sum_by cents_of (lines_in_use H n t)
+    of_guarantee lines found =
+        of_any (filter is_on t.lines) lines
+        (filter_both names_it (λ l. owner l == H) t.lines ∙ sym (filter_again names_it (part H t.lines))
+        ∙ sym (ap (filter names_it) (filter_both names_it (λ l. owner l == H) t.lines))) found

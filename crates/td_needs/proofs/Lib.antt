@@ -1,5 +1,5 @@
 pub mod Sums
-mod Counted
+pub mod Counted
 mod Found
 mod Reading
 mod Whole

@@ -1,5 +1,5 @@
 -- The amount in use on a guarantee, in the tables of a store's file.
-use Rattle.std.specs.Prelude.{◌≡◌, ℕ, List, Option, SomeIff, is_some, if◌then◌else◌}
+use Rattle.std.specs.Prelude.{◌≡◌, ℕ, ◌==◌, List, Option, SomeIff, is_some, if◌then◌else◌}
 use Rattle.std.specs.List.{sum_by}
 use Rattle.keyed_rows.specs.Rows.{row_at}
 use Rattle.sqlite.specs.State.{State}
@@ -19,9 +19,9 @@ use Rattle.td_store_tables.specs.Rows.{tables_in}
 abbrev pub counted : List MovementSerial → StoredLine → ℕ
 counted serials l = if is_some (row_at serial_of_stored l.serial serials) then l.cents else 0
 
--- what lines add up to
-abbrev pub total_of : List MovementSerial → List StoredLine → ℕ
-total_of serials lines = sum_by (counted serials) lines
+-- what those lines add up to that are on guarantee n
+abbrev pub total_on : ℕ → List MovementSerial → List StoredLine → ℕ
+total_on n serials lines = sum_by (λ l. if l.guarantee == n then counted serials l else 0) lines
 
 -- so many cents are in use on the holder's guarantee n: the lines on it add up to them, of those of the holder's
 -- movements that count

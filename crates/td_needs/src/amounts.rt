@@ -7,7 +7,7 @@ ghost use Rattle.td_base.specs.Money.{IsCents};
 ghost use Rattle.td_schema.specs.Tables.{desk_schema};
 ghost use Rattle.td_sql.specs.Reading.{LeavesAll};
 ghost use Rattle.td_movements.specs.Stored.{serial_of_stored};
-ghost use Rattle.td_needs.specs.InUse.{IsInUse, IsInUseIfInRange, total_of};
+ghost use Rattle.td_needs.specs.InUse.{IsInUse, IsInUseIfInRange, total_on};
 
 use keyed_rows::find_row;
 use sqlite::{Error, ErrorCode, Transaction};
@@ -32,25 +32,26 @@ fn rise(serials: &[MovementSerial]) -> bool
     true
 }
 
-// What lines add up to, those alone of the movements with these serials. `None` above 10^15 cents.
-fn total(lines: &[StoredLine], serials: &[MovementSerial]) -> Option<Cents>
+/// What the lines on a guarantee add up to, of lines on any: those alone of the movements with these serials. `None`: above 10^15
+/// cents.
+pub fn total_on(guarantee: u32, lines: &[StoredLine], serials: &[MovementSerial]) -> Option<Cents>
     requires { Rises serial_of_stored 0 serials.now }
-    ensures { SomeIff result (IsCents (total_of serials.now lines.now)) (total_of serials.now lines.now) }
+    ensures { let cents = total_on guarantee serials.now lines.now in SomeIff result (IsCents cents) cents }
 {
     let mut sum = Cents::new(0)?;
     for line in lines {
-        if find_row(serials, line.serial).is_some() {
+        if line.guarantee == guarantee && find_row(serials, line.serial).is_some() {
             sum = sum.plus(line.cents)?;
         }
     }
     Some(sum)
 }
 
-/// The amount in use on a holder's guarantee with a serial, in cents: what the lines on it add up to, of those of the
-/// holder's movements that count. `None`: they add up to more than 10^15 cents, which no amount is. `DatabaseCorrupt`: a row is
-/// no line's or no movement's, or two movements that count have one serial; `OutOfMemory`: want of memory; any other error is
-/// the database's own.
-pub fn amount_if_in_range<S: Alter>(
+// The amount in use on a holder's guarantee with a serial, in cents: what the lines on it add up to, of those of the
+// holder's movements that count. `None`: they add up to more than 10^15 cents, which no amount is. `DatabaseCorrupt`: a row is
+// no line's or no movement's, or two movements that count have one serial; `OutOfMemory`: want of memory; any other error is
+// the database's own.
+fn amount_if_in_range<S: Alter>(
     alloc: Global,
     tx: &mut Transaction<'_, S>,
     holder: HolderNo,
@@ -72,7 +73,7 @@ pub fn amount_if_in_range<S: Alter>(
         return Err(Error::SqliteFailure(ErrorCode::DatabaseCorrupt));
     }
     let lines = lines_on(alloc, tx, holder, guarantee)?;
-    Ok(total(&lines, &serials))
+    Ok(total_on(guarantee, &lines, &serials))
 }
 
 /// That amount, where they add up to one. `DatabaseCorrupt`: a row is no line's or no movement's, two movements that count have

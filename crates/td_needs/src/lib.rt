@@ -9,5 +9,5 @@ mod guarantees;
 mod movements;
 mod needs;
 
-pub use amounts::{amount_if_in_range, amount_in_use};
+pub use amounts::{amount_in_use, total_on};
 pub use needs::load;

@@ -2,7 +2,8 @@ use Rattle.std.proofs.Common.{◌≡◌, take}
 use Rattle.std.specs.List.{AllByRecursion}
 use Rattle.sqlite.specs.Held.{state}
 use Rattle.sqlite.specs.State.{HasCleanDisk}
-use Rattle.td_audit.specs.InFile.{AreAmountsTyped, IsHolderCoveredInFile, IsSoWhere}
+use Rattle.td_audit.specs.Handed.{IsHandedOn, holder_in}
+use Rattle.td_audit.specs.InFile.{IsHolderCoveredInFile, IsSoWhere}
 use Rattle.td_audit.proofs.Reading.{HasRead}
 use Rattle.td_audit.proofs.cover.all_holders_covered.Given as goal
 
@@ -12,5 +13,5 @@ invariant-holders g l =
     (l.tx.conn.ghost_name ≡ l.initial.tx.conn.ghost_name)
     × HasRead (state g.S.Store l.initial.tx.conn.now) (state g.S.Store l.tx.conn.now)
     × (HasCleanDisk (state g.S.Store l.tx.conn.now)
-    → IsSoWhere AreAmountsTyped (λ trees. AllByRecursion (IsHolderCoveredInFile trees) (take l.raw-index l.holders))
+    → IsSoWhere (λ trees. AllByRecursion (IsHandedOn trees) l.handed) (λ trees. AllByRecursion (λ h. IsHolderCoveredInFile trees (holder_in h)) (take l.parts-index l.handed))
     (state g.S.Store l.initial.tx.conn.now))

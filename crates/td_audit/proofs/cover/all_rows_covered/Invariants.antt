@@ -1,17 +1,8 @@
-use Rattle.std.proofs.Common.{◌≡◌, take}
+use Rattle.std.proofs.Common.{take}
 use Rattle.std.specs.List.{AllByRecursion}
-use Rattle.sqlite.specs.Held.{state}
-use Rattle.sqlite.specs.State.{HasCleanDisk}
-use Rattle.td_guarantees.specs.Stored.{row_of_stored}
-use Rattle.td_audit.specs.InFile.{AreAmountsTyped, IsRowCovered, IsSoWhere}
-use Rattle.td_audit.proofs.Reading.{HasRead}
+use Rattle.td_audit.specs.Handed.{IsCoveredBy}
 use Rattle.td_audit.proofs.cover.all_rows_covered.Given as goal
 
--- nothing is changed, and those before are covered
+-- those before are covered
 abbrev pub invariant-rows : goal.invariant-rows
-invariant-rows g l =
-    (l.tx.conn.ghost_name ≡ l.initial.tx.conn.ghost_name)
-    × HasRead (state g.S.Store l.initial.tx.conn.now) (state g.S.Store l.tx.conn.now)
-    × (HasCleanDisk (state g.S.Store l.tx.conn.now)
-    → IsSoWhere AreAmountsTyped (λ trees. AllByRecursion (λ row. IsRowCovered trees (row_of_stored row)) (take l.row-index l.rows))
-    (state g.S.Store l.initial.tx.conn.now))
+invariant-rows l = AllByRecursion (IsCoveredBy l.parts) (take l.row-index l.rows)

@@ -10,4 +10,4 @@ returns-then-not-are_read-clause-told g c clean tells =
 pub returns-clause-told : goal.returns-clause-told
 returns-clause-told g c clean =
     told_each c.args.are_read (state g.S.Store c.args.tx.now.conn.now) c.args.country c.args.holders.now
-    c.found_holders_tell.ensures c.if-not-are_read.false c.all_have_movements.result (c.all_have_movements.ensures.told clean)
+    c.found_holders_tell.ensures c.if-not-are_read.false c.all_kept_movements.result (c.all_kept_movements.ensures.told clean)

@@ -10,17 +10,17 @@ use Rattle.td_movements.specs.Stored.{serial_of_stored}
 use Rattle.td_lines.specs.Cells.{line_typing}
 use Rattle.td_lines.specs.Stored.{is_line_on, row_of_stored}
 use Rattle.td_store_tables.specs.Rows.{tables_in}
-use Rattle.td_needs.specs.InUse.{total_of}
-use Rattle.td_needs.proofs.Counted.{in_use_is}
+use Rattle.td_needs.specs.InUse.{total_on}
+use Rattle.td_needs.proofs.Counted.{of_guarantee}
 use Rattle.td_needs.proofs.Reading.{as_tables, still_has, then_left}
 use Rattle.td_needs.proofs.amounts.amount_if_in_range.Goals as goal
 
 pub returns-clause-found : goal.returns-clause-found
 returns-clause-found g c clean has movements lines =
-    subst (λ cents. SomeIff c.total.result (IsCents cents) cents)
-    (ap₂ total_of c.deref-3.ensures.value c.deref-2.ensures.value
-    ∙ in_use_is c.args.holder c.args.guarantee (tables_in a.now.trees) c.in_ok-serials.serials.items rises (c.in_ok-serials.ensures.found clean_b has movements) c.in_ok-lines.lines.items found)
-    c.total.ensures
+    subst (λ cents. SomeIff c.total_on.result (IsCents cents) cents)
+    (ap₂ (total_on c.args.guarantee) c.deref-3.ensures.value c.deref-2.ensures.value
+    ∙ of_guarantee c.args.holder c.args.guarantee (tables_in a.now.trees) c.in_ok-serials.serials.items rises (c.in_ok-serials.ensures.found clean_b has movements) c.in_ok-lines.lines.items found)
+    c.total_on.ensures
   where
     a : State
     a = state g.S.Store c.args.tx.now.conn.now

@@ -1,4 +1,4 @@
-use Rattle.std.proofs.Common.{◌≡◌, ℕ, take}
+use Rattle.std.proofs.Common.{◌≡◌, ℕ, length, map, take}
 use Rattle.std.specs.List.{AllByRecursion}
 use Rattle.sqlite.specs.Held.{state}
 use Rattle.sqlite.specs.State.{HasCleanDisk}
@@ -7,12 +7,13 @@ use Rattle.td_sql.specs.Typed.{AreTyped, rows_in}
 use Rattle.td_sql.specs.Writing.{HasSchema}
 use Rattle.td_lines.specs.Cells.{line_typing}
 use Rattle.td_tables.specs.Gathering.{part}
+use Rattle.td_audit.specs.Handed.{AreAllLines, movements_in, raw_of}
 use Rattle.td_audit.specs.InPlace.{AreNumbersApart}
 use Rattle.td_audit.specs.Premises.{HasLinesInPlace}
 use Rattle.td_audit.proofs.ReadingParts.{HasRead}
-use Rattle.td_audit.proofs.lines.all_have_lines.Given as goal
+use Rattle.td_audit.proofs.lines.all_kept_lines.Given as goal
 
--- the holders before have theirs in place
+-- the holders before have theirs in place, and what was handed on of them is theirs
 abbrev pub invariant-holders : goal.invariant-holders
 invariant-holders g l =
     (l.tx.conn.ghost_name ≡ l.initial.tx.conn.ghost_name)
@@ -20,4 +21,6 @@ invariant-holders g l =
     × (HasCleanDisk (state g.S.Store l.tx.conn.now) → HasSchema (state g.S.Store l.initial.tx.conn.now) desk_schema
     → AreTyped line_typing (state g.S.Store l.initial.tx.conn.now).now.trees
     → ((H : ℕ) → AreNumbersApart (part H (rows_in line_typing (state g.S.Store l.initial.tx.conn.now).now.trees)))
-    → AllByRecursion (HasLinesInPlace (state g.S.Store l.initial.tx.conn.now).now.trees) (take l.raw-index l.holders))
+    → AllByRecursion (λ h. HasLinesInPlace (state g.S.Store l.initial.tx.conn.now).now.trees (raw_of h)) (take (length l.yielded) l.fn.counting.items))
+    × (map movements_in l.handed.items ≡ take (length l.yielded) l.fn.counting.items)
+    × (HasCleanDisk (state g.S.Store l.tx.conn.now) → AreAllLines (state g.S.Store l.initial.tx.conn.now) l.handed.items)

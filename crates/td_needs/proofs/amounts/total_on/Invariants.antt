@@ -1,11 +1,11 @@
 use Rattle.std.proofs.Common.{◌≡◌, ◌+◌, drop}
 use Rattle.td_base.specs.Money.{IsCents}
-use Rattle.td_needs.specs.InUse.{total_of}
-use Rattle.td_needs.proofs.amounts.total.Given as goal
+use Rattle.td_needs.specs.InUse.{total_on}
+use Rattle.td_needs.proofs.amounts.total_on.Given as goal
 
 -- the sum so far, and what the lines to come add to it, is the sum of all
 abbrev pub invariant-loop-line : goal.invariant-loop-line
 invariant-loop-line l = record {
   range : IsCents l.sum;
-  all : l.sum + total_of l.serials (drop l.line-index l.lines) ≡ total_of l.serials l.lines;
+  all : l.sum + total_on l.guarantee l.serials (drop l.line-index l.lines) ≡ total_on l.guarantee l.serials l.lines;
 }
