@@ -1,5 +1,4 @@
-//! A movement of nine lines, each of the greatest amount: the longest reply about one thing, and a release on nine
-//! guarantees.
+//! A movement of nine lines of the greatest amount: the longest reply about one thing, and a release on nine guarantees.
 use crate::runner::assert_transcript;
 use std::test::Fail;
 
