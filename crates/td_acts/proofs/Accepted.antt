@@ -10,7 +10,7 @@ use Rattle.td_base.specs.Days.{IsDay, day_of_moment}
 use Rattle.td_base.specs.Moment.{IsMoment}
 use Rattle.td_movement.specs.declared.line.Line.{Line}
 use Rattle.td_movement.specs.declared.state.State.TheVariants.{Accepted}
-use Rattle.td_acts.specs.declared.rows.HolderRow.{HolderRow}
+use Rattle.td_model.specs.declared.holder_row.HolderRow.{HolderRow}
 use Rattle.td_guarantee.specs.declared.guarantee.Guarantee.{Guarantee}
 use Rattle.td_movement.specs.declared.movement.Movement.{Movement}
 use Rattle.td_acts.specs.declared.rows.Change.{Change}
@@ -25,17 +25,17 @@ use Rattle.td_movement.specs.Moves.{state_after}
 use Rattle.td_acts.specs.declared.rows.NewStatus.{NewStatus}
 use Rattle.td_movement.specs.declared.state.State.{State}
 use Rattle.td_movement.specs.Status.{IsStatus}
-use Rattle.td_acts.specs.Account.{Account, ReferencesDiffer, coded, uncoded, guarantee_by_grn, movement_by_lrn, movement_by_mrn}
+use Rattle.td_model.specs.Account.{Account, ReferencesDiffer, coded, uncoded, guarantee_by_grn, movement_by_lrn, movement_by_mrn}
 use Rattle.td_acts.specs.Changes.{with_status, with_terms, moved}
-use Rattle.td_acts.specs.Acceptance.{is_answer}
-use Rattle.td_acts.specs.Declaring.{first_refusal, line_refusal, guarantee_refusal, refusal_or}
+use Rattle.td_model.specs.Acceptance.{is_answer}
+use Rattle.td_model.specs.Declaring.{first_refusal, line_refusal, guarantee_refusal, refusal_or}
 use Rattle.td_commands.specs.Lines.{line_of, IsLines, IsLineAmount}
-use Rattle.td_acts.specs.Table.{or_refuse, refuse_if, is_back, if_lrn_new, if_not_refused, on_guarantee, on_movement, stands}
+use Rattle.td_model.specs.Table.{or_refuse, refuse_if, is_back, if_lrn_new, if_not_refused, on_guarantee, on_movement, stands}
 use Rattle.td_guarantee.specs.Codes.{with_code, without_code}
 use Rattle.td_guarantee.proofs.Ascending.{one_ascends}
 use Rattle.td_guarantee.proofs.Coded.{all_with, all_without, ascending_with, ascending_without, length_with, length_without}
-use Rattle.td_acts.specs.Effects.{end_after}
-use Rattle.td_acts.specs.Sound.{IsHolderRow, AreCodes, IsGuaranteeRow, AreMovementLines, IsMovementRow, IsCovered}
+use Rattle.td_model.specs.Effects.{end_after}
+use Rattle.td_model.specs.Sound.{IsHolderRow, AreCodes, IsGuaranteeRow, AreMovementLines, IsMovementRow, IsCovered}
 use Rattle.td_acts.proofs.Joined.{All-map, AllPairs-map, AllByRecursion-map}
 
 -- a new holder's row, where there was none

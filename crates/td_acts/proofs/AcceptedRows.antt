@@ -5,11 +5,11 @@ use Rattle.std.proofs.lemmas.Bool.Decides.{nat_tests}
 use Rattle.td_base.specs.Moment.{IsMoment, moment_of}
 use Rattle.td_guarantee.specs.declared.guarantee.Guarantee.{Guarantee}
 use Rattle.td_movement.specs.declared.movement.Movement.{Movement}
-use Rattle.td_acts.specs.declared.rows.HolderRow.{HolderRow}
+use Rattle.td_model.specs.declared.holder_row.HolderRow.{HolderRow}
 use Rattle.td_acts.specs.declared.rows.Change.TheVariants as change
 use Rattle.td_commands.specs.declared.command.Command.{Command}
-use Rattle.td_acts.specs.Account.{Account, empty_account}
-use Rattle.td_acts.specs.Acceptance.{is_accepted_at}
+use Rattle.td_model.specs.Account.{Account, empty_account}
+use Rattle.td_model.specs.Acceptance.{is_accepted_at}
 use Rattle.td_commands.specs.Commands.{owner_of, IsProper}
 use Rattle.td_acts.specs.Deciding.{change_at, change_in}
 use Rattle.td_acts.specs.Deciding.{change_of}

@@ -15,9 +15,9 @@ use Rattle.td_movement.specs.declared.state.State.TheVariants.{Accepted}
 use Rattle.td_movement.specs.States.{is_counting}
 use Rattle.td_guarantee.specs.declared.guarantee.Guarantee.{Guarantee}
 use Rattle.td_guarantee.specs.Usage.{cents_on, lines_on, movement_on, used_on}
-use Rattle.td_acts.specs.Account.{guarantee_by_grn}
-use Rattle.td_acts.specs.Account.{HolderRows}
-use Rattle.td_acts.specs.Sound.{AllNumbered, IsGuaranteeRow, IsMovementRow, IsCovered, AreHolderRows}
+use Rattle.td_model.specs.Account.{guarantee_by_grn}
+use Rattle.td_model.specs.Account.{HolderRows}
+use Rattle.td_model.specs.Sound.{AllNumbered, IsGuaranteeRow, IsMovementRow, IsCovered, AreHolderRows}
 
 -- what holds of each holds of all with one more
 pub AllByRecursion-append : {X : Type 0} (P : X → Type 0) (xs : List X) (y : X) → AllByRecursion P xs → P y → AllByRecursion P (xs ++ y ∷ [])

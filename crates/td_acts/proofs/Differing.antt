@@ -7,8 +7,8 @@ use Rattle.td_base.specs.Holder.{IsHolderNumber}
 use Rattle.td_base.proofs.MadeReferences.{made_apart}
 use Rattle.td_guarantee.specs.declared.guarantee.Guarantee.{Guarantee}
 use Rattle.td_movement.specs.declared.movement.Movement.{Movement}
-use Rattle.td_acts.specs.Account.{HolderRows, account_with, ReferencesDiffer}
-use Rattle.td_acts.specs.Sound.{AllNumbered, IsGuaranteeRow, IsMovementRow, AreHolderRows}
+use Rattle.td_model.specs.Account.{HolderRows, account_with, ReferencesDiffer}
+use Rattle.td_model.specs.Sound.{AllNumbered, IsGuaranteeRow, IsMovementRow, AreHolderRows}
 
 -- the row at a place has the number of the place
 numbered_at : {R : Type 0} (P : ℕ → R → Type 0) (n : ℕ) (rows : List R) (k : ℕ) (d : R) → k < length rows → AllNumbered P n rows → P (n + k + 1) (get_or rows k d)

@@ -9,12 +9,12 @@ use Rattle.td_base.specs.Country.{IsCountry}
 use Rattle.td_base.specs.Moment.{IsMoment, moment_of}
 use Rattle.td_movement.specs.declared.state.State.TheVariants.{Accepted}
 use Rattle.td_movement.specs.declared.line.Line.{Line}
-use Rattle.td_acts.specs.declared.rows.HolderRow.{HolderRow}
+use Rattle.td_model.specs.declared.holder_row.HolderRow.{HolderRow}
 use Rattle.td_guarantee.specs.declared.guarantee.Guarantee.{Guarantee}
 use Rattle.td_movement.specs.declared.movement.Movement.{Movement}
 use Rattle.td_acts.specs.declared.rows.Change.{Change}
 use Rattle.td_acts.specs.declared.rows.Change.TheVariants as change
-use Rattle.td_acts.specs.Account.{HolderRows, account_with, at_grn, coded, uncoded, guarantee_by_grn, movement_by_lrn, movement_by_mrn}
+use Rattle.td_model.specs.Account.{HolderRows, account_with, at_grn, coded, uncoded, guarantee_by_grn, movement_by_lrn, movement_by_mrn}
 use Rattle.td_acts.specs.declared.rows.NewStatus.{NewStatus}
 use Rattle.td_movement.specs.Status.{IsStatus}
 use Rattle.td_acts.specs.Changes.{account_after, row_in, rows_after, rows_or_new, with_status, with_terms, moved}
@@ -22,7 +22,7 @@ use Rattle.td_acts.proofs.Differing.{differ_with}
 use Rattle.td_acts.proofs.ByKey.{only_found, number_found}
 use Rattle.td_acts.proofs.SaidAnew.{found_anew, each_anew, numbered_anew}
 use Rattle.td_acts.proofs.Steps.{rows_moved, lrn_moved}
-use Rattle.td_acts.specs.Sound.{IsGuaranteeRow, AreMovementLines, IsMovementRow, IsCovered, AreHolderRows}
+use Rattle.td_model.specs.Sound.{IsGuaranteeRow, AreMovementLines, IsMovementRow, IsCovered, AreHolderRows}
 use Rattle.td_acts.specs.Deciding.{decision_on}
 use Rattle.td_acts.specs.Laws.{KeepsRowsSound}
 use Rattle.td_acts.proofs.Accepted.{IsFor, IsSaidOf}

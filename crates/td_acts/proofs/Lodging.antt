@@ -7,7 +7,7 @@ use Rattle.std.specs.Str.{bytes_eq}
 use Rattle.td_base.specs.Days.{day_of_moment}
 use Rattle.td_base.specs.References.{mrn_text}
 use Rattle.td_movement.specs.declared.line.Line.{Line}
-use Rattle.td_acts.specs.declared.rows.HolderRow.{HolderRow}
+use Rattle.td_model.specs.declared.holder_row.HolderRow.{HolderRow}
 use Rattle.td_guarantee.specs.declared.guarantee.Guarantee.{Guarantee}
 use Rattle.td_movement.specs.declared.movement.Movement.{Movement}
 use Rattle.td_movement.specs.declared.state.State.TheVariants.{Accepted}
@@ -17,12 +17,12 @@ use Rattle.td_commands.specs.declared.command.Command.TheVariants.{Ie015}
 use Rattle.td_commands.specs.declared.said.Answer.TheVariants as answer
 use Rattle.td_commands.specs.declared.said.Refusal.{Refusal}
 use Rattle.td_commands.specs.declared.said.Said.TheVariants.{Answered, Refused}
-use Rattle.td_acts.specs.Account.{guarantee_by_grn, movement_by_lrn}
-use Rattle.td_acts.specs.Effects.{year2_at}
-use Rattle.td_acts.specs.Declaring.{first_refusal, guarantee_refusal, refusal_or}
+use Rattle.td_model.specs.Account.{guarantee_by_grn, movement_by_lrn}
+use Rattle.td_model.specs.Effects.{year2_at}
+use Rattle.td_model.specs.Declaring.{first_refusal, guarantee_refusal, refusal_or}
 use Rattle.td_acts.specs.Deciding.{decision_at, entry_by_grn}
 use Rattle.td_commands.specs.Lines.{line_of}
-use Rattle.td_acts.specs.Serials.{next_serial}
+use Rattle.td_model.specs.Serials.{next_serial}
 
 -- a guarantee is found as its entry is
 pub named_entry : (grn : List ℕ) (es : List (Guarantee × ℕ)) → guarantee_by_grn grn (map (λ e. e.0) es) ≡ option_map (λ e. e.0) (entry_by_grn grn es)

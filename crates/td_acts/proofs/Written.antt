@@ -4,8 +4,8 @@ use Rattle.std.specs.Prelude.{if◌then◌else◌}
 use Rattle.td_base.specs.Moment.{moment_of}
 use Rattle.td_acts.specs.declared.rows.Change.TheVariants as change
 use Rattle.td_commands.specs.declared.command.Command.{Command}
-use Rattle.td_acts.specs.Account.{Account}
-use Rattle.td_acts.specs.Acceptance.{is_accepted_at, is_accepted_in, is_accepted}
+use Rattle.td_model.specs.Account.{Account}
+use Rattle.td_model.specs.Acceptance.{is_accepted_at, is_accepted_in, is_accepted}
 use Rattle.td_acts.specs.Changes.{is_change}
 use Rattle.td_acts.specs.Deciding.{decision_on, change_at, change_in}
 use Rattle.td_acts.specs.Deciding.{change_of}

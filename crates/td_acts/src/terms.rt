@@ -4,16 +4,17 @@ ghost use Rattle.td_guarantee.specs.declared.guarantee.Guarantee.{Guarantee};
 ghost use Rattle.td_commands.specs.declared.said.Said.{Said};
 ghost use Rattle.td_commands.specs.declared.said.Said.TheVariants.{Refused};
 ghost use Rattle.td_acts.specs.Deciding.{IsVerdictAt, entry_by_grn, touched};
-ghost use Rattle.td_acts.specs.Effects.{end_after};
-ghost use Rattle.td_acts.specs.Table.{on_guarantee};
+ghost use Rattle.td_model.specs.Effects.{end_after};
+ghost use Rattle.td_model.specs.Table.{on_guarantee};
 ghost use Rattle.td_base.specs.Days.{day_of_moment};
 
 use crate::finding::find_entry;
-use crate::rows::{Change, HolderRow, Loaded, NewTerms, Verdict};
+use crate::rows::{Change, Loaded, NewTerms, Verdict};
 use std::alloc::{AllocError, Global};
 use td_base::{AccessCode, Cents, Cover, Day, Grn, HolderNo, Moment, Reference};
 use td_commands::{Answer, Command, Refusal, Said};
 use td_guarantee::Guarantee;
+use td_model::HolderRow;
 
 /// The most access codes of a guarantee.
 const MAX_CODES: usize = 20;

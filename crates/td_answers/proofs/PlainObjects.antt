@@ -7,10 +7,10 @@ use Rattle.std.specs.Prelude.{codes, decimal}
 use Rattle.serde_json.specs.Data.{Data, number, unsigned, string, object, member, no_members}
 use Rattle.serde_json.specs.Written.{compact_text}
 use Rattle.serde_json.proofs.OnLiterals.{serde_json_on_literals}
-use Rattle.json_text.specs.Shown.{array_of}
-use Rattle.json_text.specs.Unescaped.{in_quotes}
-use Rattle.json_text.proofs.Arrays.{written_array}
-use Rattle.json_text.proofs.Texts.{written_class, written_text}
+use Rattle.td_answers.specs.Shown.{array_of}
+use Rattle.td_answers.specs.Unescaped.{in_quotes}
+use Rattle.td_answers.proofs.Arrays.{written_array}
+use Rattle.td_answers.proofs.Texts.{written_class, written_text}
 use Rattle.td_base.specs.Codes.{IsAccessCode, IsLrn, IsOfficeNo}
 use Rattle.td_base.specs.Days.{day_text, year_of, month_of, day_of}
 use Rattle.td_base.specs.Digits.{fixed_decimal}

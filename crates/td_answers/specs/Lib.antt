@@ -1,3 +1,5 @@
 pub mod Objects
 pub mod Refusals
 pub mod Answers
+pub mod Shown
+pub mod Unescaped

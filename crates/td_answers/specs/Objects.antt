@@ -1,8 +1,8 @@
 -- The JSON objects that show movements and guarantees, one and many, and their texts.
 -- Keys stand in ascending order of bytes.
 use Rattle.std.specs.Prelude.{◌≡◌, ℕ, ◌-◌, Bool, true, false, List, ◌++◌, map, codes, decimal, Option, None, Some}
-use Rattle.json_text.specs.Shown.{array_of, or_null}
-use Rattle.json_text.specs.Unescaped.{in_brackets, in_quotes}
+use Rattle.td_answers.specs.Shown.{array_of, or_null}
+use Rattle.td_answers.specs.Unescaped.{in_brackets, in_quotes}
 use Rattle.serde_json.specs.Data.{Data, number, unsigned, string, object, member, no_members}
 use Rattle.serde_json.specs.Written.{compact_text}
 use Rattle.td_base.specs.Days.{day_text}

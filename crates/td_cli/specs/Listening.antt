@@ -12,8 +12,8 @@ use Rattle.td_files.specs.Found.{FileState, IsToldOf, IsUnmade}
 use Rattle.td_files.specs.declared.desks.DeskFault.{DeskFault}
 use Rattle.td_files.specs.declared.desks.DeskFault.TheVariants.{Refused}
 use Rattle.td_files.specs.Faults as fault
-use Rattle.td_connections.specs.Private.{IsServedOver}
-use Rattle.td_connections.specs.Sockets.{ServesSockets}
+use Rattle.td_http.specs.Private.{IsServedOver}
+use Rattle.td_http.specs.Sockets.{ServesSockets}
 use Rattle.td_cli.specs.Desks.{Sight, in_memory, over_file, BeginsEmpty, BeginsKept, BeginsMade, IsHandledAt, IsHeadHandledAt, fresh_books}
 use Rattle.td_cli.specs.Piped.{IsMoment}
 use Rattle.td_words.specs.declared.words.Listening.{Listening}

@@ -12,8 +12,8 @@ use Rattle.td_cli.specs.declared.serving.ServingEnd.{ServingEnd}
 use Rattle.td_cli.specs.declared.serving.ServingEnd.TheVariants as serving
 use Rattle.td_words.specs.declared.words.NoJob.{NoJob}
 use Rattle.td_words.specs.declared.words.NoJob.TheVariants.{Help, Wrong, NoMemory}
-use Rattle.td_wire.specs.declared.stream.StreamEnd.{StreamEnd}
-use Rattle.td_wire.specs.declared.stream.StreamEnd.TheVariants.{Closed, Asked, Served, Refused, Cut, ReadsSpent, ReadFault, WriteFault, Failed}
+use Rattle.http_wire.specs.declared.stream.StreamEnd.{StreamEnd}
+use Rattle.http_wire.specs.declared.stream.StreamEnd.TheVariants.{Closed, Asked, Served, Refused, Cut, ReadsSpent, ReadFault, WriteFault, Failed}
 
 -- 0 where the stream ended at the end of the input, by a request to close, or after its last request, and 1
 -- where it ended otherwise

@@ -15,10 +15,9 @@ use std::alloc::{AllocError, Global};
 use std::io::Write;
 use std::net::{Ipv4Addr, SocketAddr, TcpListener};
 use td_base::{Counted, Country, write_whole};
-use td_connections::serve_on;
 use td_desk::{Desk, PlainDesk};
 use td_files::{DeskFault, DeskFile, FileDesk, OpenFault};
-use td_http::{Clock, Service};
+use td_http::{Clock, Service, serve_on};
 use td_words::{Listening, Records};
 
 /// How a serving ended.

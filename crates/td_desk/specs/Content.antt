@@ -1,13 +1,13 @@
 -- What a desk contains: the desk's country, and the rows of each registered holder, in ascending order of
 -- the holders' numbers.
 use Rattle.std.specs.Prelude.{ℕ, List, [], Option, Some, None}
-use Rattle.td_acts.specs.declared.rows.HolderRow.{HolderRow}
+use Rattle.td_model.specs.declared.holder_row.HolderRow.{HolderRow}
 use Rattle.td_acts.specs.declared.rows.Change.{Change}
-use Rattle.td_acts.specs.Account.{Account, HolderRows, account_with}
-use Rattle.td_acts.specs.Book.{Book, fresh_book}
+use Rattle.td_model.specs.Account.{Account, HolderRows, account_with}
+use Rattle.td_model.specs.Book.{Book, fresh_book}
 use Rattle.td_acts.specs.Changes.{row_in, rows_after, rows_or_new}
 use Rattle.keyed_rows.specs.Rows.{row_at, put_row}
-use Rattle.td_holder_file.specs.Key.{holder_key}
+use Rattle.td_holder_memory.specs.Key.{holder_key}
 
 pub record Content : Type 0 where
   pub country : List ℕ

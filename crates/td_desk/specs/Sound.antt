@@ -1,9 +1,9 @@
 -- The rules that a desk's rows keep.
 use Rattle.std.specs.List.{AllByRecursion}
 use Rattle.td_base.specs.Country.{IsCountry}
-use Rattle.td_acts.specs.Sound.{AreHolderRows}
+use Rattle.td_model.specs.Sound.{AreHolderRows}
 use Rattle.keyed_rows.specs.Rows.{Rises}
-use Rattle.td_holder_file.specs.Key.{holder_key}
+use Rattle.td_holder_memory.specs.Key.{holder_key}
 use Rattle.td_desk.specs.Content.{Content}
 
 -- the rows keep their rules

@@ -2,7 +2,7 @@
 ghost use Rattle.std.specs.Prelude.{◌≡◌, ◌≢◌, Some, IfOk, OnOk, OnErr};
 ghost use Rattle.td_acts.specs.Changes.{row_in, rows_after, rows_or_new};
 ghost use Rattle.keyed_rows.specs.Rows.{Rises, Rises-prop, row_at, put_row};
-ghost use Rattle.td_holder_file.specs.Key.{holder_key};
+ghost use Rattle.td_holder_memory.specs.Key.{holder_key};
 ghost use Rattle.td_desk.specs.Content.{empty_content};
 ghost use Rattle.td_desk.specs.Sound.{IsSound};
 
@@ -12,7 +12,7 @@ use keyed_rows::{find_row, rows_below};
 use std::alloc::{AllocError, Global};
 use td_acts::{Change, HolderRow, Loaded, Needs};
 use td_base::{Country, HolderNo};
-use td_holder_file::HolderFile;
+use td_holder_memory::HolderFile;
 
 /// A desk in memory.
 #[derive(Drop)]

@@ -9,9 +9,9 @@ use Rattle.sqlite.specs.Files.{AreFoundIn}
 use Rattle.sqlite.specs.State.{State, HasCleanDisk, Opens, Survives}
 use Rattle.sqlite_trees.specs.Tree.{Trees}
 use Rattle.td_desk.specs.Content.{Content}
-use Rattle.td_tables.specs.declared.rule.Rule.{Rule}
+use Rattle.td_table_model.specs.declared.rule.Rule.{Rule}
 use Rattle.td_schema.specs.Tables.{desk_schema}
-use Rattle.td_store_tables.specs.Rows.{HoldsContent}
+use Rattle.td_store_rows.specs.StoreTables.{HoldsContent}
 use Rattle.td_store.specs.Kept.{content_in}
 use Rattle.td_store.specs.Opened.{AreDamaged, HasOfficeRow, IsOfAnother, IsOfVersion, LacksMeta, TellsDatabase}
 use Rattle.td_store.specs.declared.refused.OpenFault.{OpenFault}

@@ -1,18 +1,18 @@
 -- A desk's service as a handler of requests, and what a stream at a desk tells each holder.
 use Rattle.std.specs.Prelude.{◌≡◌, ◌⊎◌, ℕ, ℤ, true, List, option_and_then, option_map}
-use Rattle.td_acts.specs.Book.{Book}
+use Rattle.td_model.specs.Book.{Book}
 use Rattle.td_desk.specs.Content.{Content}
 use Rattle.td_desk.specs.Sound.{IsSound}
 use Rattle.td_desk.specs.Runs.{IsTied}
-use Rattle.td_wire.specs.declared.reply.Reply.{Reply}
-use Rattle.td_wire.specs.declared.reply.Reply.TheVariants.{NoMemory}
+use Rattle.http_wire.specs.declared.reply.Reply.{Reply}
+use Rattle.http_wire.specs.declared.reply.Reply.TheVariants.{NoMemory}
 use Rattle.td_http.specs.declared.service.Service.{Service}
 use Rattle.td_fields.specs.Faults.{allowed_text}
-use Rattle.td_wire.specs.Request.{Asked}
-use Rattle.td_wire.specs.ReplyText.{head_text, bytes_of, is_made}
+use Rattle.http_wire.specs.Request.{Asked}
+use Rattle.http_wire.specs.ReplyText.{head_text, bytes_of, is_made}
 use Rattle.td_routes.specs.Routes.{methods_of, path_of}
 use Rattle.td_http.specs.Serving.{IsHandled, IsServed, IsServedAlone}
-use Rattle.td_wire.specs.Stream.{Exchange}
+use Rattle.http_wire.specs.Stream.{Exchange}
 
 -- the desk behind a service
 abbrev pub desk_of : {D : Type 0} → Service D → D

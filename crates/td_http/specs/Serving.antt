@@ -2,11 +2,11 @@
 use Rattle.std.specs.Prelude.{◌≡◌, ℕ, ℤ, ◌+◌, ◌⊎◌, Bool, true, false, if◌then◌else◌, List, [], ◌∷◌, ◌++◌, map, None, Option, Result, Ok, Err}
 use Rattle.td_commands.specs.declared.command.Command.{Command}
 use Rattle.td_commands.specs.declared.command.Stamped.{Stamped}
-use Rattle.td_acts.specs.Account.{empty_account}
-use Rattle.td_acts.specs.Book.{Book}
+use Rattle.td_model.specs.Account.{empty_account}
+use Rattle.td_model.specs.Book.{Book}
 use Rattle.td_commands.specs.Commands.{owner_of}
-use Rattle.td_acts.specs.Machine.{verdict, book_after, machine_book}
-use Rattle.td_acts.specs.Table.{said}
+use Rattle.td_model.specs.Machine.{verdict, book_after, machine_book}
+use Rattle.td_model.specs.Table.{said}
 use Rattle.td_commands.specs.declared.said.Said.{Said}
 use Rattle.td_desk.specs.declared.fault.Fault.{Fault}
 use Rattle.td_desk.specs.declared.fault.Fault.TheVariants as fault
@@ -16,13 +16,13 @@ use Rattle.td_desk.specs.Content.{Content}
 use Rattle.td_desk.specs.Sound.{IsSound}
 use Rattle.td_desk.specs.Runs.{IsOutcomeOf, IsStep, IsTied, is_holder}
 use Rattle.td_fields.specs.declared.fault.WebFault.{WebFault}
-use Rattle.td_wire.specs.declared.reply.Reply.{Reply}
-use Rattle.td_wire.specs.declared.reply.Reply.TheVariants.{Made, NoMemory, Store}
-use Rattle.td_wire.specs.Request.{Asked}
-use Rattle.td_wire.specs.ReplyText.{bytes_of, is_made}
+use Rattle.http_wire.specs.declared.reply.Reply.{Reply}
+use Rattle.http_wire.specs.declared.reply.Reply.TheVariants.{Made, NoMemory, Store}
+use Rattle.http_wire.specs.Request.{Asked}
+use Rattle.http_wire.specs.ReplyText.{bytes_of, is_made}
 use Rattle.td_answers.specs.Answers.{said_reply, fault_reply}
 use Rattle.td_routes.specs.Bodies.{command_of}
-use Rattle.td_wire.specs.Stream.{Exchange, question}
+use Rattle.http_wire.specs.Stream.{Exchange, question}
 
 -- what a request asks: a command, or why it can't be read
 abbrev pub command_in : Asked → Result Command WebFault

@@ -1,14 +1,14 @@
 //! Streams of requests served by a desk.
 ghost use Rattle.std.specs.Prelude.{◌≡◌};
 ghost use Rattle.td_http.specs.Served.{IsHandledBy, IsHeadHandledBy, IsPrivate};
-ghost use Rattle.td_wire.specs.Stream.{Serves};
+ghost use Rattle.http_wire.specs.Stream.{Serves};
 
 use crate::service::Service;
+use http_wire::{Clock, Handler, Reply, Request, StreamEnd, serve_requests};
 use std::alloc::Global;
 use std::io::{Read, Write};
 use td_base::Counted;
 use td_desk::Desk;
-use td_wire::{Clock, Handler, Reply, Request, StreamEnd, serve_requests};
 
 impl<D: Desk + Drop> Handler for Service<D> {
     ghost use Rattle.td_http.specs.Served.{IsHandledBy, IsHeadHandledBy};

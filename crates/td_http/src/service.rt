@@ -1,22 +1,22 @@
 //! The desk as a service: a request is read, weighed, its reply is built, and only then it is carried.
 ghost use Rattle.std.specs.Prelude.{◌≡◌, ◌≢◌, ◌⊎◌, None, Bool, true, MatchResult, option_map};
 ghost use Rattle.td_fields.specs.Faults.{allowed_text};
-ghost use Rattle.td_wire.specs.ReplyText.{head_text, is_made, bytes_of};
+ghost use Rattle.http_wire.specs.ReplyText.{head_text, is_made, bytes_of};
 ghost use Rattle.td_commands.specs.declared.command.Stamped.{Stamped};
 ghost use Rattle.td_commands.specs.declared.said.Said.{Said};
 ghost use Rattle.td_desk.specs.declared.fault.Fault.TheVariants as fault;
 ghost use Rattle.td_desk.specs.declared.running.Outcome.TheVariants as outcome;
 ghost use Rattle.td_desk.specs.Runs.{IsOutcomeOf, IsStep};
-ghost use Rattle.td_wire.specs.Request.{asked};
+ghost use Rattle.http_wire.specs.Request.{asked};
 ghost use Rattle.td_http.specs.Serving.{fixed_reply, IsCausedBy, IsReplyTo, IsFaultReply, HandledAs};
 ghost use Rattle.td_answers.specs.Answers.{said_reply};
 
+use http_wire::{Reply, Request, head_reply};
 use std::alloc::Global;
 use td_acts::Command;
 use td_answers::{fault_bytes, reply_bytes};
 use td_desk::{Desk, Fault};
 use td_routes::{Allowed, Routes, WebFault, path, read_command_by};
-use td_wire::{Reply, Request, head_reply};
 
 /// A desk that answers HTTP requests.
 #[derive(Drop)]

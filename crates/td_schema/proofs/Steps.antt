@@ -13,7 +13,7 @@ use Rattle.sqlite.specs.Effect.{Database}
 use Rattle.sqlite.specs.Listing.{understood}
 use Rattle.sqlite.specs.State.{State, Writes, ExecutesInside}
 use Rattle.sqlite.proofs.Callers.{statement_of, runs_as}
-use Rattle.td_sql.proofs.Steps.{command_is, same_value, went}
+use Rattle.typed_sql.proofs.Steps.{command_is, same_value, went}
 use Rattle.td_schema.specs.Making.{own_text, MakesOne, IsEmptyOf}
 
 -- the own text, in the words of the kit

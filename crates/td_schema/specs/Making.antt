@@ -13,7 +13,7 @@ use Rattle.sqlite.specs.Effect.{Database}
 use Rattle.sqlite.specs.Given.{IsPlain}
 use Rattle.sqlite.specs.Listing.{understood}
 use Rattle.sqlite.specs.State.{text_of}
-use Rattle.td_sql.specs.Meanings.{command_in}
+use Rattle.typed_sql.specs.Meanings.{command_in}
 
 -- the own text of a statement that is understood
 abbrev pub own_text : List ℕ → Result Compiled CompileError → List ℕ

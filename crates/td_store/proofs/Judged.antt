@@ -8,15 +8,15 @@ use Rattle.sqlite.specs.declared.error.Error.{Error}
 use Rattle.sqlite_trees.specs.Tree.{Trees}
 use Rattle.td_base.specs.Country.{IsCountry, country_read, is_country}
 use Rattle.td_base.proofs.Decided.{capitals_decided, some_where}
-use Rattle.td_tables.specs.declared.rule.Rule.{Rule}
-use Rattle.td_tables.specs.declared.rule.Rule.TheVariants.{S1}
-use Rattle.td_sql.specs.Typed.{AreTyped, rows_in}
-use Rattle.td_meta.specs.Cells.{MetaRow, meta_row, meta_typing}
-use Rattle.td_meta.specs.Stored.{stored_of}
-use Rattle.td_meta.specs.declared.stored.StoredMeta.{StoredMeta}
-use Rattle.td_audit_rows.specs.Ids.{HaveAllIds}
-use Rattle.td_audit_rows.specs.Laws.{AreKept, KeptRulesMeanContent}
-use Rattle.td_audit.specs.Broken.{TellsBroken}
+use Rattle.td_table_model.specs.declared.rule.Rule.{Rule}
+use Rattle.td_table_model.specs.declared.rule.Rule.TheVariants.{S1}
+use Rattle.typed_sql.specs.Typed.{AreTyped, rows_in}
+use Rattle.td_store_rows.specs.MetaColumns.{MetaRow, meta_row, meta_typing}
+use Rattle.td_store_rows.specs.MetaTable.{stored_of}
+use Rattle.td_store_rows.specs.declared.meta.stored.StoredMeta.{StoredMeta}
+use Rattle.td_store_audit_rows.specs.Ids.{HaveAllIds}
+use Rattle.td_store_audit_rows.specs.Laws.{AreKept, KeptRulesMeanContent}
+use Rattle.td_store_audit.specs.Broken.{TellsBroken}
 use Rattle.td_store.specs.declared.refused.OpenFault.{OpenFault}
 use Rattle.td_store.specs.declared.refused.OpenFault.TheVariants.{UnknownVersion, NeedsMigration, OtherCountry, Damaged, Store, NoMemory}
 use Rattle.td_store.specs.Opened.{HasOfficeRow, IsOfAnother, IsOfVersion, TellsOffice, TellsRows, TellsTables}

@@ -9,10 +9,10 @@ use Rattle.sqlite.specs.Effect.{Database}
 use Rattle.sqlite.specs.State.{State}
 use Rattle.td_desk.specs.Content.{Content}
 use Rattle.td_schema.specs.Tables.{desk_schema}
-use Rattle.td_sql.specs.Typed.{row_of, rows_in}
-use Rattle.td_meta.specs.Cells.{meta_typing}
-use Rattle.td_store_tables.specs.Rows.{HoldsContent, country_in}
-use Rattle.td_audit_rows.specs.Laws.{ContentKeepsRules}
+use Rattle.typed_sql.specs.Typed.{row_of, rows_in}
+use Rattle.td_store_rows.specs.MetaColumns.{meta_typing}
+use Rattle.td_store_rows.specs.StoreTables.{HoldsContent, country_in}
+use Rattle.td_store_audit_rows.specs.Laws.{ContentKeepsRules}
 use Rattle.td_store.specs.declared.refused.OpenFault.{OpenFault}
 use Rattle.td_store.specs.declared.refused.OpenFault.TheVariants.{UnknownVersion, NeedsMigration, OtherCountry, Damaged, Store, NoMemory}
 use Rattle.td_store.specs.Kept.{content_in}

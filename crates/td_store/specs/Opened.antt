@@ -5,18 +5,18 @@ use Rattle.sqlite_schema.specs.Names.{table_named}
 use Rattle.sqlite_schema.specs.declared.schema.Schema.{Schema}
 use Rattle.sqlite_trees.specs.Tree.{Trees}
 use Rattle.sqlite.specs.Effect.{Database}
-use Rattle.td_tables.specs.declared.rule.Rule.{Rule}
+use Rattle.td_table_model.specs.declared.rule.Rule.{Rule}
 use Rattle.td_schema.specs.Tables.{desk_schema}
-use Rattle.td_sql.specs.Typed.{AreTyped, rows_in}
-use Rattle.td_meta.specs.Cells.{meta_row, meta_typing}
-use Rattle.td_meta.specs.Stored.{stored_of}
-use Rattle.td_meta.specs.declared.stored.StoredMeta.{StoredMeta}
-use Rattle.td_audit_rows.specs.Kinds.{IsFirstBrokenRaw}
-use Rattle.td_audit_rows.specs.Ids.{HaveAllIds}
-use Rattle.td_audit_rows.specs.Laws.{AreKept, HoldSoundContent}
-use Rattle.td_audit_rows.specs.Scans.{TellReadable}
-use Rattle.td_audit_rows.specs.declared.tables.Readable.{Readable}
-use Rattle.td_audit.specs.Broken.{TellsBroken}
+use Rattle.typed_sql.specs.Typed.{AreTyped, rows_in}
+use Rattle.td_store_rows.specs.MetaColumns.{meta_row, meta_typing}
+use Rattle.td_store_rows.specs.MetaTable.{stored_of}
+use Rattle.td_store_rows.specs.declared.meta.stored.StoredMeta.{StoredMeta}
+use Rattle.td_store_audit_rows.specs.Kinds.{IsFirstBrokenRaw}
+use Rattle.td_store_audit_rows.specs.Ids.{HaveAllIds}
+use Rattle.td_store_audit_rows.specs.Laws.{AreKept, HoldSoundContent}
+use Rattle.td_store_audit_rows.specs.Scans.{TellReadable}
+use Rattle.td_store_audit_rows.specs.declared.tables.Readable.{Readable}
+use Rattle.td_store_audit.specs.Broken.{TellsBroken}
 use Rattle.td_store.specs.declared.refused.OpenFault.{OpenFault}
 use Rattle.td_store.specs.declared.refused.OpenFault.TheVariants.{UnknownVersion, NeedsMigration, OtherCountry, Damaged, Store, NoMemory}
 

@@ -3,7 +3,7 @@ ghost use Rattle.td_store.specs.Opened.{TellsOffice};
 
 use crate::refused::OpenFault;
 use td_base::Country;
-use td_meta::StoredMeta;
+use td_store_rows::StoredMeta;
 
 // The version of the tables, and there is none above it yet.
 const VERSION: i64 = 1;

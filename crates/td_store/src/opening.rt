@@ -3,9 +3,9 @@ ghost use Rattle.std.specs.Prelude.{◌≡◌, ◌≢◌, ◌⊎◌, ℕ, false,
 ghost use Rattle.sqlite.specs.Held.{state};
 ghost use Rattle.sqlite.specs.State.{HasCleanDisk, Survives};
 ghost use Rattle.td_desk.specs.Content.{Content};
-ghost use Rattle.td_tables.specs.declared.rule.Rule.{Rule};
+ghost use Rattle.td_table_model.specs.declared.rule.Rule.{Rule};
 ghost use Rattle.td_schema.specs.Tables.{desk_schema};
-ghost use Rattle.td_store_tables.specs.Rows.{HoldsContent};
+ghost use Rattle.td_store_rows.specs.StoreTables.{HoldsContent};
 ghost use Rattle.td_store.specs.declared.refused.OpenFault.TheVariants as fault;
 ghost use Rattle.td_store.specs.Kept.{LeavesItsTables, LeavesTrees, content_in};
 ghost use Rattle.td_store.specs.Opened.{AreDamaged, HasOfficeRow, IsOfAnother, IsOfVersion, LacksMeta};
@@ -17,8 +17,8 @@ use crate::settling::see_settled;
 use sqlite::Connection;
 use sqlite_trees::store::Alter;
 use std::alloc::Global;
-use td_audit_rows::content_keeps_rules;
 use td_base::Country;
+use td_store_audit_rows::content_keeps_rules;
 
 impl<S: Alter> SqlDesk<S> {
     /// Opens the desk of an office of that country over a database that one was made in before. The first of these that holds is

@@ -6,15 +6,10 @@ use td_acts::{Change, HolderRow, NewStatus, NewTerms};
 use td_base::{
     AccessCode, Cents, Country, Cover, Day, Eori, Grn, HolderNo, Lrn, Moment, Mrn, OfficeNo,
 };
-use td_carrying::{carry_change, create_tables};
-use td_codes::codes_of;
 use td_guarantee::{Codes, Guarantee};
-use td_guarantees::find_by_grn;
-use td_holders::find_holder;
-use td_lines::lines_of;
-use td_meta::find_meta;
 use td_movement::{Line, Movement, MovementLines, State};
-use td_movements::find_by_mrn;
+use td_store_rows::{codes_of, find_by_grn, find_by_mrn, find_holder, find_meta, lines_of};
+use td_store_write::{carry_change, create_tables};
 
 const GRN: &[u8] = b"25CH0000010000014";
 

@@ -3,8 +3,8 @@ use sqlite::{Connection, Error, MemStore};
 use std::alloc::Global;
 use std::test::Fail;
 use td_base::{AccessCode, HolderNo};
-use td_codes::{StoredCode, codes_of, delete_code, insert_code};
 use td_schema::make_tables;
+use td_store_rows::{StoredCode, codes_of, delete_code, insert_code};
 
 /// A store in memory with the tables and holder 1.
 fn with_holder(alloc: Global) -> Result<Connection<MemStore>, Error> {

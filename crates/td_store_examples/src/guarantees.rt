@@ -5,9 +5,11 @@ use std::test::Fail;
 use td_acts::NewTerms;
 use td_base::{AccessCode, Cents, Country, Cover, Day, Grn, HolderNo};
 use td_guarantee::{Codes, Guarantee};
-use td_guarantees::{find_by_grn, find_by_serial, guarantees_of, insert_guarantee, set_terms};
-use td_meta::{StoredMeta, find_meta, insert_meta};
 use td_schema::make_tables;
+use td_store_rows::{
+    StoredMeta, find_by_grn, find_by_serial, find_meta, guarantees_of, insert_guarantee,
+    insert_meta, set_terms,
+};
 
 const FIRST: &[u8] = b"25CH0000010000014";
 

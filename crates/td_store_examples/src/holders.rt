@@ -5,14 +5,13 @@ use std::alloc::Global;
 use std::test::Fail;
 use td_acts::HolderRow;
 use td_base::{AccessCode, Cents, Cover, Day, Eori, Grn, HolderNo, Lrn, Moment, Mrn, OfficeNo};
-use td_columns::{
-    amount_at, amount_or_null, code_at, cover_at, cover_or_null, day_at, day_or_null, eori_at,
-    grn_at, holder_at, lrn_at, moment_at, mrn_at, number_of, office_at, office_or_null,
-    optional_day_at, optional_office_at, serial_at, state_at,
-};
-use td_holders::{find_holder, insert_holder, set_holder};
 use td_movement::State;
-use td_schema::make_tables;
+use td_schema::{
+    amount_at, amount_or_null, code_at, cover_at, cover_or_null, day_at, day_or_null, eori_at,
+    grn_at, holder_at, lrn_at, make_tables, moment_at, mrn_at, number_of, office_at,
+    office_or_null, optional_day_at, optional_office_at, serial_at, state_at,
+};
+use td_store_rows::{find_holder, insert_holder, set_holder};
 
 /// A store in memory with the tables.
 fn with_tables(alloc: Global) -> Result<Connection<MemStore>, Error> {
@@ -120,7 +119,7 @@ fn shown(alloc: Global, text: &str, values: &[ValueRef<'_>]) -> Result<Vec<Row>,
         return Ok(Vec::new(alloc));
     }
     let mut tx = conn.transaction();
-    td_sql::select(&mut tx, text, values)
+    typed_sql::select(&mut tx, text, values)
 }
 
 #[test]

@@ -3,8 +3,8 @@ use sqlite::{Connection, Error, MemStore};
 use std::alloc::Global;
 use std::test::Fail;
 use td_base::{Cents, HolderNo};
-use td_lines::{StoredLine, insert_line, lines_of};
 use td_schema::make_tables;
+use td_store_rows::{StoredLine, insert_line, lines_of};
 
 const ROWS: [&str; 3] = [
     "INSERT INTO holders VALUES (1, 'CH1234567', 1740819600, 0, 2)",

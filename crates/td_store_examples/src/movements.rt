@@ -5,10 +5,10 @@ use std::test::Fail;
 use td_acts::NewStatus;
 use td_base::{Day, HolderNo, Lrn, Mrn, OfficeNo};
 use td_movement::{Movement, MovementLines, State};
-use td_movements::{
+use td_schema::make_tables;
+use td_store_rows::{
     counting_serials, find_by_lrn, find_by_mrn, insert_movement, movements_of, set_status,
 };
-use td_schema::make_tables;
 
 const MRN: &[u8] = b"25CH00000100000013";
 

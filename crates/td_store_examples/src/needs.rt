@@ -5,8 +5,8 @@ use std::test::Fail;
 use td_acts::{Lines, Loaded, Needs};
 use td_base::{AccessCode, Cents, Country, Grn, HolderNo, Lrn, Mrn};
 use td_movement::Line;
-use td_needs::{amount_in_use, load};
 use td_schema::make_tables;
+use td_store_load::{amount_in_use, load};
 
 const GRN: &[u8] = b"25CH0000010000014";
 

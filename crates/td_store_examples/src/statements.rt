@@ -3,7 +3,7 @@ use sqlite::{Connection, Error, ErrorCode, MemStore, Row};
 use sqlite_value::value::ValueRef;
 use std::alloc::Global;
 use std::test::Fail;
-use td_sql::{
+use typed_sql::{
     FromRow, delete, fetch, fetch_one, insert, integer_at, is_null_at, number_at, select, text_at,
     update,
 };
@@ -177,7 +177,7 @@ struct Ranked {
 impl FromRow for Ranked {
     ghost use Rattle.std.specs.Prelude.{ℕ};
     ghost use Rattle.sqlite_value.specs.Order.{column};
-    ghost use Rattle.td_sql.specs.Values.{number_in};
+    ghost use Rattle.typed_sql.specs.Values.{number_in};
 
     ghost Typed = { ℕ };
 

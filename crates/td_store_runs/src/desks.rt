@@ -11,9 +11,9 @@ use std::alloc::Global;
 use std::test::Fail;
 use td_base::Country;
 use td_desk::Store;
-use td_meta::find_meta;
 use td_store::{OpenFault, SqlDesk};
-use td_tables::Rule;
+use td_store_rows::find_meta;
+use td_table_model::Rule;
 
 /// The desk of a Swiss office, without holders.
 fn made(alloc: Global) -> Result<SqlDesk<MemStore>, Fail> {

@@ -4,7 +4,7 @@ use std::alloc::{AllocError, Global};
 use std::test::Fail;
 use td_acts::{Loaded, Needs};
 use td_base::{Grn, Mrn};
-use td_holder_file::HolderFile;
+use td_holder_memory::HolderFile;
 use td_movement::State;
 
 // The references of what was loaded, and the amounts in use.

@@ -7,7 +7,7 @@ use td_base::{
     AccessCode, Cents, Country, Cover, Day, Eori, Grn, HolderNo, Lrn, Moment, Mrn, OfficeNo,
 };
 use td_guarantee::{Codes, Guarantee};
-use td_holder_file::HolderFile;
+use td_holder_memory::HolderFile;
 use td_movement::{Line, Movement, MovementLines, State};
 
 pub const FIRST: &[u8] = b"25CH0000010000014";

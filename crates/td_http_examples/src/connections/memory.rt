@@ -5,8 +5,8 @@ use std::io;
 use std::io::ErrorKind;
 use std::process::Abort;
 use std::test::Fail;
-use td_connections::{Connections, agreeing_connections_tell_the_same, serve_connections};
 use td_desk::PlainDesk;
+use td_http::{Connections, agreeing_connections_tell_the_same, serve_connections};
 
 /// Gives these connections and then fails, and keeps what was written to each.
 #[derive(Drop)]

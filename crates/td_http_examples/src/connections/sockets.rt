@@ -5,7 +5,7 @@ use std::io::{Read, Write};
 use std::net::{Ipv4Addr, Net, Shutdown, SocketAddr, TcpListener, TcpStream};
 use std::process::Abort;
 use std::test::Fail;
-use td_connections::serve_on;
+use td_http::serve_on;
 
 /// A peer that has written this and writes no more.
 fn peer_of<N: Net<Stream = TcpStream>>(

@@ -3,14 +3,14 @@ ghost use Rattle.std.specs.Prelude.{◌≡◌, ⊤, drop, Some};
 
 use counted_io::Counted;
 use http::StatusCode;
+use http_wire::{
+    Clock, FramingError, Handler, Next, Reply, Request, StreamEnd, error_body, head_reply,
+    json_reply, next_request, one_reading, serve_requests,
+};
 use std::alloc::{AllocError, Global};
 use std::io;
 use std::io::{ErrorKind, Read};
 use std::test::Fail;
-use td_wire::{
-    Clock, FramingError, Handler, Next, Reply, Request, StreamEnd, error_body, head_reply,
-    json_reply, next_request, one_reading, serve_requests,
-};
 
 /// A clock that stands still.
 #[derive(Drop)]

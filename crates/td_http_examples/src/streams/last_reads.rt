@@ -1,10 +1,10 @@
 //! Streams that come byte by byte and end at the very last of the 100,000 reads.
 use super::ends::{OK, Same, Still};
 use counted_io::Counted;
+use http_wire::{StreamEnd, serve_requests};
 use std::alloc::Global;
 use std::io;
 use std::io::{ErrorKind, Read};
-use td_wire::{StreamEnd, serve_requests};
 
 /// What a reader does at its last call.
 #[derive(Clone, Copy, PartialEq, Eq)]

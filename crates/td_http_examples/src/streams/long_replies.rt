@@ -4,9 +4,9 @@ ghost use Rattle.std.specs.Prelude.{⊤};
 use super::ends::Still;
 use counted_io::Counted;
 use http::StatusCode;
+use http_wire::{Handler, Reply, Request, StreamEnd, head_reply, json_reply, serve_requests};
 use std::alloc::{AllocError, Global};
 use std::test::Fail;
-use td_wire::{Handler, Reply, Request, StreamEnd, head_reply, json_reply, serve_requests};
 
 /// Answers each request with its own body.
 #[derive(Drop)]

@@ -5,11 +5,11 @@ ghost use Rattle.std.specs.Prelude.{⊤};
 use super::ends::{Drip, OK, Same, Still};
 use counted_io::Counted;
 use http::StatusCode;
+use http_wire::{Handler, Reply, Request, StreamEnd, json_reply, serve_requests};
 use std::alloc::{AllocError, Global};
 use std::io;
 use std::io::{ErrorKind, Write};
 use std::test::Fail;
-use td_wire::{Handler, Reply, Request, StreamEnd, json_reply, serve_requests};
 
 const REQUEST: &[u8] = b"GET / HTTP/1.1\r\n\r\n";
 

@@ -15,7 +15,7 @@ use std::process::Abort;
 use std::test::Fail;
 use td_base::Country;
 use td_store::{OpenFault, Refused, SqlDesk};
-use td_tables::Rule;
+use td_table_model::Rule;
 
 /// What becomes of a change.
 #[derive(Clone, Copy, Debug, PartialEq, Eq)]

@@ -7,7 +7,7 @@ use std::test::Fail;
 use td_base::{AccessCode, Country, Cover, Eori, HolderNo, Reference};
 use td_desk::{Command, Stamped, perform};
 use td_store::{OpenFault, SqlDesk};
-use td_tables::Rule;
+use td_table_model::Rule;
 
 const START: i64 = 1_740_819_600;
 

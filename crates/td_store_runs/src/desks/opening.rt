@@ -8,7 +8,7 @@ use std::test::Fail;
 use td_base::{Country, HolderNo};
 use td_desk::{Command, Stamped, Store, perform};
 use td_store::{OpenFault, SqlDesk};
-use td_tables::Rule;
+use td_table_model::Rule;
 
 /// A desk of a Swiss office, after some commands.
 fn filled(alloc: Global) -> Result<SqlDesk<MemStore>, Fail> {

@@ -7,7 +7,7 @@ use std::alloc::Global;
 use std::process::Abort;
 use std::test::Fail;
 use td_store::{OpenFault, Refused};
-use td_tables::Rule;
+use td_table_model::Rule;
 
 /// A row that is put in, the rule that it breaks, and the statement that takes it away again.
 type Junk = (&'static str, Rule, &'static str);

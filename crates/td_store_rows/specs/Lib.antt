@@ -1,0 +1,13 @@
+pub mod MetaColumns
+pub mod MetaTable
+pub mod HolderColumns
+pub mod HolderTable
+pub mod GuaranteeColumns
+pub mod GuaranteeTable
+pub mod CodeColumns
+pub mod CodeTable
+pub mod MovementColumns
+pub mod MovementTable
+pub mod LineColumns
+pub mod LineTable
+pub mod StoreTables

@@ -1,0 +1,7 @@
+pub mod Rows
+pub mod Meanings
+pub mod Writing
+pub mod Reading
+pub mod Typed
+pub mod Values
+pub mod Walked
