@@ -31,12 +31,13 @@ use Rattle.td_model.specs.Acceptance.{is_answer}
 use Rattle.td_model.specs.Declaring.{first_refusal, line_refusal, guarantee_refusal, refusal_or}
 use Rattle.td_commands.specs.Lines.{line_of, IsLines, IsLineAmount}
 use Rattle.td_model.specs.Table.{or_refuse, refuse_if, is_back, if_lrn_new, if_not_refused, on_guarantee, on_movement, stands}
-use Rattle.td_guarantee.specs.Codes.{with_code, without_code}
+use Rattle.td_guarantee.specs.Codes.{with_code, without_code, most_codes}
 use Rattle.td_guarantee.proofs.Ascending.{one_ascends}
 use Rattle.td_guarantee.proofs.Coded.{all_with, all_without, ascending_with, ascending_without, length_with, length_without}
 use Rattle.td_model.specs.Effects.{end_after}
 use Rattle.td_model.specs.Sound.{IsHolderRow, AreCodes, IsGuaranteeRow, AreMovementLines, IsMovementRow, IsCovered}
 use Rattle.td_acts.proofs.Joined.{All-map, AllPairs-map, AllByRecursion-map}
+use Rattle.td_model.specs.Serials.{greatest_grn_given, greatest_mrn_given}
 
 -- a new holder's row, where there was none
 pub record IsRegistered (H : ℕ) (before : Option HolderRow) (row : HolderRow) : Type 0 where
@@ -52,7 +53,7 @@ pub record IsOpened (country : List ℕ) (H : ℕ) (before : Option HolderRow) (
   pub known : before ≡ Some old
   pub moment : IsMoment row.last_at
   pub next : row ≡ record old { last_at = row.last_at; grn_count = old.grn_count + 1 }
-  pub left : old.grn_count < 999999
+  pub left : old.grn_count < greatest_grn_given
   pub guarantee : IsGuaranteeRow country H (old.grn_count + 1) g
 
 -- the holder's row with a moment and the next serial of a movement, and that movement, of a new LRN
@@ -61,7 +62,7 @@ pub record IsDeclared (country : List ℕ) (H : ℕ) (account : Account) (row : 
   pub known : account.holder ≡ Some old
   pub moment : IsMoment row.last_at
   pub next : row ≡ record old { last_at = row.last_at; mrn_count = old.mrn_count + 1 }
-  pub left : old.mrn_count < 9999999
+  pub left : old.mrn_count < greatest_mrn_given
   pub movement : IsMovementRow country H account.guarantees (old.mrn_count + 1) m
   pub fresh : movement_by_lrn m.lrn account.movements ≡ None
   pub accepted : m.state ≡ Accepted
@@ -205,10 +206,10 @@ pub end_is : (t : ℕ) → IsMoment t → IsDay (end_after (day_of_moment t))
 end_is t moment = (omega (arith, moment.0, moment.1), omega (arith, moment.0, moment.1))
 
 -- a new code beside others that leave room for it
-pub codes_with : (code : List ℕ) (codes : List (List ℕ)) → stands code codes ≡ false → nat_le 20 (length codes) ≡ false → IsAccessCode code → AreCodes codes → AreCodes (with_code code codes)
+pub codes_with : (code : List ℕ) (codes : List (List ℕ)) → stands code codes ≡ false → nat_le most_codes (length codes) ≡ false → IsAccessCode code → AreCodes codes → AreCodes (with_code code codes)
 codes_with code codes new room form are = record {
   some = omega (arith, length_with code codes new);
-  most = (let left : length codes < 20 = grind (arith, nat_tests, room) in omega (arith, length_with code codes new, left));
+  most = (let left : length codes < most_codes = grind (arith, nat_tests, room) in omega (arith, length_with code codes new, left));
   form = all_with IsAccessCode code codes are.form form;
   order = ascending_with code codes are.order;
 }

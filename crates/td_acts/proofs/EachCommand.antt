@@ -37,6 +37,8 @@ use Rattle.td_model.specs.Table.{stands}
 use Rattle.td_acts.proofs.Covering.{covered_when_released}
 use Rattle.td_acts.proofs.EachMove.{cancelled_from, released_from, arrived_from, judged_from, written_off_from, enquired_from}
 use Rattle.td_acts.proofs.Steps.{map-id, no_more_moved}
+use Rattle.td_model.specs.Serials.{greatest_grn_given, greatest_mrn_given}
+use Rattle.td_guarantee.specs.Codes.{most_codes}
 
 -- where nobody is registered, only a registration is accepted
 pub accepted_unregistered : (country : List ℕ) (gs : List Guarantee) (ms : List Movement) (t : ℕ) (command : Command)
@@ -158,7 +160,7 @@ rows_are_for H country None gs ms t (Register h eori) own proper moment accepted
 rows_are_for H country (Some row) gs ms t (Register h eori) own proper moment accepted = cc
 rows_are_for H country None gs ms t (OpenGuarantee h reference cover code) own proper moment accepted = cc
 rows_are_for H country (Some row) gs ms t (OpenGuarantee h reference cover code) own proper moment accepted =
-    let facts = opened_facts (nat_lt t row.last_at) (nat_le 999999 row.grn_count) _ accepted in
+    let facts = opened_facts (nat_lt t row.last_at) (nat_le greatest_grn_given row.grn_count) _ accepted in
     let same : h ≡ H = cc in
     record {
       old = row;
@@ -201,7 +203,7 @@ rows_are_for H country (Some row) gs ms t (Revoke grn) own proper moment accepte
     }
 rows_are_for H country None gs ms t (Ie015 h lrn departure destination lines) own proper moment accepted = cc
 rows_are_for H country (Some row) gs ms t (Ie015 h lrn departure destination lines) own proper moment accepted =
-    let facts = lodged_facts (nat_lt t row.last_at) (movement_by_lrn lrn ms) (has_contents departure destination (map line_of lines)) (nat_le 9999999 row.mrn_count) (first_refusal (day_of_moment t) gs lines) _ accepted in
+    let facts = lodged_facts (nat_lt t row.last_at) (movement_by_lrn lrn ms) (has_contents departure destination (map line_of lines)) (nat_le greatest_mrn_given row.mrn_count) (first_refusal (day_of_moment t) gs lines) _ accepted in
     let same : h ≡ H = cc in
     record {
       old = row;
@@ -233,7 +235,7 @@ rows_are_for H country (Some row) gs ms t (AddCode h grn code) own proper moment
     let facts = named_facts NoHolder row t (guarantee_by_grn grn gs) _ accepted in
     let g = facts.0 in
     let known = passed CodeKnown (stands code g.codes) _ facts.2 in
-    let full = passed CodesFull (nat_le 20 (length g.codes)) _ known.1 in
+    let full = passed CodesFull (nat_le most_codes (length g.codes)) _ known.1 in
     record {
       old = row;
       known = refl;

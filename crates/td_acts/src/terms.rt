@@ -13,11 +13,8 @@ use crate::rows::{Change, Loaded, NewTerms, Verdict};
 use std::alloc::{AllocError, Global};
 use td_base::{AccessCode, Cents, Cover, Day, Grn, HolderNo, Moment, Reference};
 use td_commands::{Answer, Command, Refusal, Said};
-use td_guarantee::Guarantee;
+use td_guarantee::{Guarantee, MOST_CODES};
 use td_model::HolderRow;
-
-/// The most access codes of a guarantee.
-const MAX_CODES: usize = 20;
 
 /// How many days after its revocation a guarantee ends.
 const DAYS_TO_END: u32 = 16;
@@ -144,7 +141,7 @@ pub fn add_code(
     if named.guarantee.codes.has(&code) {
         return Ok(Verdict::refused(Refusal::CodeKnown));
     }
-    if named.guarantee.codes.len() >= MAX_CODES {
+    if named.guarantee.codes.len() >= MOST_CODES {
         return Ok(Verdict::refused(Refusal::CodesFull));
     }
     let mut guarantee = named.guarantee.copy(alloc)?;

@@ -141,13 +141,21 @@ abbrev pub mrn_text : ℕ → List ℕ → ℕ → ℕ → List ℕ
 mrn_text year country holder serial =
     reference_text year country (fixed_decimal 6 holder ++ fixed_decimal 7 serial)
 
--- the serials of guarantees: a GRN has six digits for them
-abbrev pub IsGrnSerial : ℕ → Type 0
-IsGrnSerial serial = (1 ≤ serial) × (serial ≤ 999999)
+-- the greatest serial of a guarantee: a GRN has six digits for it
+abbrev pub greatest_grn_serial : ℕ
+greatest_grn_serial = 999999
 
--- the serials of movements: an MRN has seven digits for them
+-- the greatest serial of a movement: an MRN has seven digits for it
+abbrev pub greatest_mrn_serial : ℕ
+greatest_mrn_serial = 9999999
+
+-- the serials of guarantees
+abbrev pub IsGrnSerial : ℕ → Type 0
+IsGrnSerial serial = (1 ≤ serial) × (serial ≤ greatest_grn_serial)
+
+-- the serials of movements
 abbrev pub IsMrnSerial : ℕ → Type 0
-IsMrnSerial serial = (1 ≤ serial) × (serial ≤ 9999999)
+IsMrnSerial serial = (1 ≤ serial) × (serial ≤ greatest_mrn_serial)
 
 -- references that are made for different holders, or of different serials, differ
 abbrev pub TellsApart : (ℕ → List ℕ → ℕ → ℕ → List ℕ) → (ℕ → Type 0) → Type 0

@@ -7,6 +7,10 @@ use Rattle.std.specs.List.Sorted.{IsStrictlySortedBy}
 use Rattle.td_guarantee.specs.declared.codes.Items.{Items}
 use Rattle.td_guarantee.specs.declared.codes.Items.TheVariants.{One, Many}
 
+-- the most access codes of a guarantee
+abbrev pub most_codes : ℕ
+most_codes = 20
+
 -- they stand in ascending order of their characters, no two alike
 abbrev pub AreAscending : List (List ℕ) → Type 0
 AreAscending codes = IsStrictlySortedBy (slice_cmp nat_cmp) codes

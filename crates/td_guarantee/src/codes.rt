@@ -7,6 +7,9 @@ use std::alloc::{AllocError, Global};
 use std::marker::Model;
 use td_base::AccessCode;
 
+/// The most access codes of a guarantee.
+pub const MOST_CODES: usize = 20;
+
 /// The access codes of a guarantee, in ascending order of their characters.
 #[derive(Debug, Drop)]
 pub struct Codes {

@@ -8,7 +8,7 @@ mod known;
 mod terms;
 mod usage;
 
-pub use codes::Codes;
+pub use codes::{Codes, MOST_CODES};
 pub use guarantee::Guarantee;
 pub use known::{known_amount, make_lines_known, put_on, take_off};
 pub use terms::{ended, fits, guaranteed};

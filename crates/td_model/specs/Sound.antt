@@ -7,16 +7,17 @@ use Rattle.td_base.specs.Eori.{IsEori}
 use Rattle.td_base.specs.Holder.{IsHolderNumber}
 use Rattle.td_base.specs.Moment.{IsMoment}
 use Rattle.td_base.specs.Money.{IsReference, IsCover}
-use Rattle.td_base.specs.References.{grn_text, mrn_text}
+use Rattle.td_base.specs.References.{grn_text, mrn_text, greatest_grn_serial, greatest_mrn_serial}
 use Rattle.td_movement.specs.declared.line.Line.{Line}
 use Rattle.td_movement.specs.Status.{IsStatus}
-use Rattle.td_guarantee.specs.Codes.{AreAscending}
+use Rattle.td_guarantee.specs.Codes.{AreAscending, most_codes}
 use Rattle.td_guarantee.specs.Usage.{used_on}
 use Rattle.td_model.specs.declared.holder_row.HolderRow.{HolderRow}
 use Rattle.td_guarantee.specs.declared.guarantee.Guarantee.{Guarantee}
 use Rattle.td_movement.specs.declared.movement.Movement.{Movement}
 use Rattle.td_model.specs.Account.{HolderRows, guarantee_by_grn}
 use Rattle.td_commands.specs.Lines.{IsLineAmount}
+use Rattle.td_movement.specs.Lines.{most_lines}
 
 -- the columns of a holder's row are in their ranges
 pub record IsHolderRow (row : HolderRow) : Type 0 where
@@ -27,13 +28,21 @@ pub record IsHolderRow (row : HolderRow) : Type 0 where
 -- a guarantee has 1 to 20 access codes, in ascending order of their characters and no two alike
 pub record AreCodes (codes : List (List ℕ)) : Type 0 where
   pub some : 1 ≤ length codes
-  pub most : length codes ≤ 20
+  pub most : length codes ≤ most_codes
   pub form : All IsAccessCode codes
   pub order : AreAscending codes
 
--- guarantee n of a holder: its GRN was made of the desk's country, the holder and this serial, in some year
+-- the GRN of guarantee n of a holder: it was made of the desk's country, the holder and this serial, in some year
+abbrev pub IsGrnOf : List ℕ → ℕ → ℕ → Guarantee → Type 0
+IsGrnOf country H n g = (year : ℕ) × (year ≤ 99) × (g.grn ≡ grn_text year country H n)
+
+-- the MRN of movement n of a holder: it was made of the year of its acceptance, the desk's country, the holder and this serial
+abbrev pub IsMrnOf : List ℕ → ℕ → ℕ → Movement → Type 0
+IsMrnOf country H n m = m.mrn ≡ mrn_text (year_of m.accepted % 100) country H n
+
+-- guarantee n of a holder
 pub record IsGuaranteeRow (country : List ℕ) (H n : ℕ) (g : Guarantee) : Type 0 where
-  pub grn : (year : ℕ) × (year ≤ 99) × (g.grn ≡ grn_text year country H n)
+  pub grn : IsGrnOf country H n g
   pub reference : IsReference g.reference
   pub cover : IsCover g.cover
   pub ends : IfSome g.ends IsDay
@@ -43,16 +52,15 @@ pub record IsGuaranteeRow (country : List ℕ) (H n : ℕ) (g : Guarantee) : Typ
 -- range
 pub record AreMovementLines (guarantees : List Guarantee) (lines : List Line) : Type 0 where
   pub some : 1 ≤ length lines
-  pub most : length lines ≤ 9
+  pub most : length lines ≤ most_lines
   pub amounts : All (λ l. IsLineAmount l.cents) lines
   pub distinct : AllPairs (λ l m. l.grn ≢ m.grn) lines
   pub own : AllByRecursion (λ l. IsSome (guarantee_by_grn l.grn guarantees)) lines
 
--- movement n of a holder: its MRN was made of the year of its acceptance, the desk's country, the holder
--- and this serial, and it has the days and offices of its state
+-- movement n of a holder: it has the days and offices of its state
 pub record IsMovementRow (country : List ℕ) (H : ℕ) (guarantees : List Guarantee) (n : ℕ)
     (m : Movement) : Type 0 where
-  pub mrn : m.mrn ≡ mrn_text (year_of m.accepted % 100) country H n
+  pub mrn : IsMrnOf country H n m
   pub lrn : IsLrn m.lrn
   pub departure : IsOfficeNo m.departure
   pub destination : IsOfficeNo m.destination
@@ -75,9 +83,9 @@ pub record AreHolderRows (country : List ℕ) (h : HolderRows) : Type 0 where
   pub row : IsHolderRow h.row
   pub guarantees : AllNumbered (IsGuaranteeRow country h.row.holder) 0 h.guarantees
   pub grn_count : h.row.grn_count ≡ length h.guarantees
-  pub grn_most : h.row.grn_count ≤ 999999
+  pub grn_most : h.row.grn_count ≤ greatest_grn_serial
   pub movements : AllNumbered (IsMovementRow country h.row.holder h.guarantees) 0 h.movements
   pub mrn_count : h.row.mrn_count ≡ length h.movements
-  pub mrn_most : h.row.mrn_count ≤ 9999999
+  pub mrn_most : h.row.mrn_count ≤ greatest_mrn_serial
   pub lrns : AllPairs (λ a b. a.lrn ≢ b.lrn) h.movements
   pub cover : AllByRecursion (IsCovered h.movements) h.guarantees

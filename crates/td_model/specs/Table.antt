@@ -32,6 +32,8 @@ use Rattle.td_model.specs.Effects.{year2_at, amended, end_after, judged}
 use Rattle.td_commands.specs.Lines.{line_of}
 use Rattle.td_model.specs.Declaring.{has_contents, first_refusal}
 use Rattle.td_model.specs.Releasing.{is_limit, first_uncovered}
+use Rattle.td_model.specs.Serials.{greatest_grn_given, greatest_mrn_given}
+use Rattle.td_guarantee.specs.Codes.{most_codes}
 
 -- refused for this where there is nothing, else what is said of the thing that is there
 abbrev pub or_refuse : {X : Type 0} → Refusal → Option X → (X → Said) → Said
@@ -110,7 +112,7 @@ abbrev pub said_on_open : Account → ℕ → ℕ → Said
 said_on_open account t holder =
     or_refuse NoHolder account.holder (λ row.
     refuse_if ClockBack (is_back t row)
-    (refuse_if SerialsSpent (is_spent 999999 row.grn_count)
+    (refuse_if SerialsSpent (is_spent greatest_grn_given row.grn_count)
     (Answered (answer.Opened (grn_text (year2_at t) account.country holder (row.grn_count + 1))))))
 
 -- The amendment of a guarantee (an act of the office): never below what is in use.
@@ -134,7 +136,7 @@ said_on_ie015 account t holder lrn departure destination lines =
     or_refuse NoHolder account.holder (λ row.
     refuse_if ClockBack (is_back t row)
     (if_lrn_new (movement_by_lrn lrn account.movements) (has_contents departure destination (map line_of lines))
-    (refuse_if SerialsSpent (is_spent 9999999 row.mrn_count)
+    (refuse_if SerialsSpent (is_spent greatest_mrn_given row.mrn_count)
     (if_not_refused (first_refusal (day_of_moment t) account.guarantees lines)
     (Answered (answer.Ie028 lrn (mrn_text (year2_at t) account.country holder (row.mrn_count + 1))))))))
 
@@ -149,7 +151,7 @@ abbrev pub said_on_add_code : Account → ℕ → List ℕ → List ℕ → Said
 said_on_add_code account t grn code =
     on_guarantee NoHolder account.holder t (guarantee_by_grn grn account.guarantees) (λ g.
     refuse_if CodeKnown (stands code g.codes)
-    (refuse_if CodesFull (nat_le 20 (length g.codes))
+    (refuse_if CodesFull (nat_le most_codes (length g.codes))
     (Answered (answer.Guarantee (coded code g) (used_on g.grn account.movements)))))
 
 -- An access code that a holder takes from a guarantee: one of its codes, and not the only one.

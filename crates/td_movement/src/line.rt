@@ -5,6 +5,12 @@ use std::alloc::{AllocError, Global};
 use std::marker::Model;
 use td_base::{Cents, Grn};
 
+/// The most lines of a movement.
+pub const MOST_LINES: usize = 9;
+
+/// The greatest amount of a line, in cents.
+pub const MOST_LINE_CENTS: u64 = 1_000_000_000_000;
+
 /// A line: a guarantee, and the amount in cents for which it is used.
 #[derive(Clone, Copy, Debug, PartialEq, Eq)]
 pub struct Line {

@@ -10,7 +10,7 @@ use Rattle.sqlite.specs.State.{State}
 use Rattle.td_desk.specs.Content.{Content}
 use Rattle.td_schema.specs.Tables.{desk_schema}
 use Rattle.typed_sql.specs.Typed.{row_of, rows_in}
-use Rattle.td_store_rows.specs.MetaColumns.{meta_typing}
+use Rattle.td_store_rows.specs.MetaColumns.{meta_typing, newest_version}
 use Rattle.td_store_rows.specs.StoreTables.{HoldsContent, country_in}
 use Rattle.td_store_audit_rows.specs.Laws.{ContentKeepsRules}
 use Rattle.td_store.specs.declared.refused.OpenFault.{OpenFault}
@@ -65,14 +65,14 @@ meta_there = refl
 none_lacks : (s : Schema) → s ≡ desk_schema → ¬ LacksMeta s
 none_lacks s is lacks = let e = sym meta_there ∙ ap (λ t. table_named t (codes "meta")) (sym is) ∙ lacks in absurd cc
 
-one_row : (country : List ℕ) (trees : Trees) → HasOfficeRow 1 country trees → length (trees meta_typing.table.tree) ≤ 1
+one_row : (country : List ℕ) (trees : Trees) → HasOfficeRow newest_version country trees → length (trees meta_typing.table.tree) ≤ 1
 one_row country trees row =
     let one : length (rows_in meta_typing trees) ≡ 1 = ap length row in
     let all = length-map (trees meta_typing.table.tree) (row_of meta_typing) in
     omega (arith, one, all)
 
 module _ (country : List ℕ) (s : State) (is_open : IsTrue s.is_open) (c : Content) (has : HoldsContent c s)
-    (row : HasOfficeRow 1 country s.now.trees) (keeps : ContentKeepsRules) where
+    (row : HasOfficeRow newest_version country s.now.trees) (keeps : ContentKeepsRules) where
   sound_tables : (fault : OpenFault) → ¬ TellsTables country s.now.trees (Some fault)
   sound_tables UnknownVersion told = told (record { typed = has.typed.meta; country = country; row = row })
   sound_tables (NeedsMigration version) told = told

@@ -9,6 +9,7 @@ ghost use Rattle.td_store_rows.specs.StoreTables.{HoldsContent};
 ghost use Rattle.td_store.specs.declared.refused.OpenFault.TheVariants as fault;
 ghost use Rattle.td_store.specs.Kept.{LeavesItsTables, LeavesTrees, content_in};
 ghost use Rattle.td_store.specs.Opened.{AreDamaged, HasOfficeRow, IsOfAnother, IsOfVersion, LacksMeta};
+ghost use Rattle.td_store_rows.specs.MetaColumns.{newest_version};
 
 use crate::desk::SqlDesk;
 use crate::judging::refusal;
@@ -39,13 +40,13 @@ impl<S: Alter> SqlDesk<S> {
         ensures country { IfOk result (λ desk. HasCleanDisk (state S.Store desk)
             → (content_in (state S.Store desk).now.trees).country ≡ country) }
         ensures version { IfOk result (λ desk. HasCleanDisk (state S.Store desk)
-            → HasOfficeRow 1 country (state S.Store desk).now.trees) }
+            → HasOfficeRow newest_version country (state S.Store desk).now.trees) }
         ensures same { IfOk result (λ desk. HasCleanDisk (state S.Store desk) → (state S.Store desk).now ≡ (state S.Store conn).now) }
         ensures absent { LacksMeta (state S.Store conn).now.schema
             → MatchResult result (λ _. ⊥) (λ refused. (refused.fault ≡ fault.UnknownVersion) × (refused.connection ≡ conn)) }
         ensures unknown { IfErr result (λ refused. HasCleanDisk (state S.Store refused.connection) → refused.fault ≡ fault.UnknownVersion
             → LacksMeta (state S.Store conn).now.schema
-            ⊎ (((state S.Store conn).now.schema ≡ desk_schema) × (¬ IsOfVersion 1 (state S.Store conn).now.trees))) }
+            ⊎ (((state S.Store conn).now.schema ≡ desk_schema) × (¬ IsOfVersion newest_version (state S.Store conn).now.trees))) }
         ensures newest { IfErr result (λ refused. HasCleanDisk (state S.Store refused.connection)
             → (version : ℕ) → refused.fault ≢ fault.NeedsMigration version) }
         ensures other { IfErr result (λ refused. HasCleanDisk (state S.Store refused.connection) → refused.fault ≡ fault.OtherCountry
@@ -54,7 +55,7 @@ impl<S: Alter> SqlDesk<S> {
             → refused.fault ≡ fault.Damaged rule
             → ((state S.Store conn).now.schema ≡ desk_schema) × AreDamaged country rule (state S.Store conn).now.trees) }
         ensures sound { IfErr result (λ refused. HasCleanDisk (state S.Store refused.connection) → IsTrue (state S.Store conn).is_open
-            → (c : Content) → HoldsContent c (state S.Store conn) → HasOfficeRow 1 country (state S.Store conn).now.trees
+            → (c : Content) → HoldsContent c (state S.Store conn) → HasOfficeRow newest_version country (state S.Store conn).now.trees
             → (refused.fault ≡ fault.Store) ⊎ (refused.fault ≡ fault.NoMemory)) }
         ensures handed { IfErr result (λ refused. HasCleanDisk (state S.Store refused.connection)
             → IsTrue (state S.Store refused.connection).is_open → (state S.Store refused.connection).now ≡ (state S.Store conn).now) }

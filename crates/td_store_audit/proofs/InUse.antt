@@ -13,7 +13,7 @@ use Rattle.keyed_rows.specs.Rows.{row_at}
 use Rattle.keyed_rows.proofs.Putting.{All-row_at, row_at_has}
 use Rattle.td_base.specs.Country.{IsCountry}
 use Rattle.td_base.specs.Holder.{IsHolderNumber}
-use Rattle.td_base.specs.References.{serial_of}
+use Rattle.td_base.specs.References.{serial_of, greatest_grn_serial}
 use Rattle.td_base.proofs.MadeReferences.{made_serial_is}
 use Rattle.td_guarantee.specs.declared.guarantee.Guarantee.{Guarantee}
 use Rattle.td_guarantee.specs.Usage.{cents_on, movement_on, used_on}
@@ -54,18 +54,18 @@ module _ (t : Tables) (form : IsCountry t.country) (row : HolderRow) (number : I
   H = row.holder
 
   -- the serial in a GRN of the holder's is the guarantee's
-  serial_told : (g : Keyed Guarantee) → owner g ≡ H → g.serial ≤ 999999 → IsGuaranteeInRange t.country g → serial_of t.country g.row.grn ≡ Some g.serial
+  serial_told : (g : Keyed Guarantee) → owner g ≡ H → g.serial ≤ greatest_grn_serial → IsGuaranteeInRange t.country g → serial_of t.country g.row.grn ≡ Some g.serial
   serial_told g own most is =
       ap (serial_of t.country) is.grn.2
       ∙ made_serial_is 6 is.grn.0 t.country g.holder g.serial form (subst IsHolderNumber (sym own) number) (omega (arith, most))
 
   all_told : AllByRecursion (λ (g : Keyed Guarantee). serial_of t.country g.row.grn ≡ Some g.serial) (guarantees_by H t)
   all_told =
-      all_both (λ (g : Keyed Guarantee). owner g ≡ H) (λ (g : Keyed Guarantee). (g.serial ≤ 999999) × IsGuaranteeInRange t.country g)
+      all_both (λ (g : Keyed Guarantee). owner g ≡ H) (λ (g : Keyed Guarantee). (g.serial ≤ greatest_grn_serial) × IsGuaranteeInRange t.country g)
       (λ (g : Keyed Guarantee). serial_of t.country g.row.grn ≡ Some g.serial) (λ g own is. serial_told g own is.0 is.1)
       (guarantees_by H t) (are_mine H t.guarantees)
       (all_both (λ (g : Keyed Guarantee). (0 < g.serial) × (g.serial ≤ 0 + length (guarantees_by H t))) (IsGuaranteeInRange t.country)
-      (λ (g : Keyed Guarantee). (g.serial ≤ 999999) × IsGuaranteeInRange t.country g)
+      (λ (g : Keyed Guarantee). (g.serial ≤ greatest_grn_serial) × IsGuaranteeInRange t.country g)
       (λ g within is. (omega (arith, within.1, has.count, has.most), is)) (guarantees_by H t) (numbered_within place 0 (guarantees_by H t) has.serials) has.columns)
 
   -- so a guarantee's GRN leads back to the serial

@@ -17,6 +17,8 @@ use Rattle.td_table_model.specs.Rules.{AreLinesInRange, HasCodes, HasGuarantees,
 use Rattle.td_table_model.specs.Tables.{Keyed, LineCells, Tables}
 use Rattle.td_table_model.proofs.Rebuilt.{numbered_within}
 use Rattle.td_store_audit.specs.InPlace.{AreAllLinesInPlace, AreCodesInPlace, AreOneToTwenty}
+use Rattle.td_guarantee.specs.Codes.{most_codes}
+use Rattle.td_movement.specs.Lines.{most_lines}
 
 module _ {R : Type 0} (key : R → ℕ) where
   -- the numbers that numbered rows have
@@ -96,7 +98,7 @@ module _ (t : Tables) (row : HolderRow) (has : HasGuarantees t row) (mine : AllB
       form = form;
       some = each_row guarantees H row.grn_count has.serials has.count mine (λ n. AreOneToTwenty (of_key place n codes)) (λ g. 1 ≤ count_of_codes t g)
           (λ g own are. omega (arith, count_is g own, are.some)) are.each;
-      most = each_row guarantees H row.grn_count has.serials has.count mine (λ n. AreOneToTwenty (of_key place n codes)) (λ g. count_of_codes t g ≤ 20)
+      most = each_row guarantees H row.grn_count has.serials has.count mine (λ n. AreOneToTwenty (of_key place n codes)) (λ g. count_of_codes t g ≤ most_codes)
           (λ g own are. omega (arith, count_is g own, are.most)) are.each;
     },
     λ keeps. record {
@@ -104,7 +106,7 @@ module _ (t : Tables) (row : HolderRow) (has : HasGuarantees t row) (mine : AllB
       each = λ n low high. record {
         some = each_number guarantees H row.grn_count has.serials has.count mine (λ k. 1 ≤ length (of_key place k codes)) (λ g. 1 ≤ count_of_codes t g)
             (λ g own some. omega (arith, count_is g own, some)) keeps.some n low high;
-        most = each_number guarantees H row.grn_count has.serials has.count mine (λ k. length (of_key place k codes) ≤ 20) (λ g. count_of_codes t g ≤ 20)
+        most = each_number guarantees H row.grn_count has.serials has.count mine (λ k. length (of_key place k codes) ≤ most_codes) (λ g. count_of_codes t g ≤ most_codes)
             (λ g own most. omega (arith, count_is g own, most)) keeps.most n low high;
       };
     },
@@ -114,7 +116,7 @@ module _ (t : Tables) (row : HolderRow) (has : HasGuarantees t row) (mine : AllB
   record AreInRange (k n : ℕ) : Type 0 where
     numbers : IsNumbered no_of 0 (lines_by k n t)
     some : 1 ≤ length (lines_by k n t)
-    most : length (lines_by k n t) ≤ 9
+    most : length (lines_by k n t) ≤ most_lines
     name : AllByRecursion (λ l. IsSome (row_at place (named_by l) (guarantees_by k t))) (lines_by k n t)
     apart : IsApart named_by (lines_by k n t)
     amounts : AllByRecursion (λ (l : Keyed LineCells). IsLineAmount l.row.cents) (lines_by k n t)

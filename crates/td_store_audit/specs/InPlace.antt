@@ -5,6 +5,7 @@ use Rattle.td_table_model.specs.Apart.{IsApart}
 use Rattle.td_table_model.specs.Gathering.{in_order, no_of, of_key, place}
 use Rattle.td_table_model.specs.Tables.{Keyed, LineCells}
 use Rattle.td_store_audit_rows.specs.InPlace.{AreLinesInPlace, BelongTo}
+use Rattle.td_guarantee.specs.Codes.{most_codes}
 
 -- the serials of rows don't fall; nor do, among lines of one serial, their numbers
 abbrev pub IsBySerial : {R : Type 0} → List (Keyed R) → Type 0
@@ -20,7 +21,7 @@ AreNumbersApart rows = (n : ℕ) → IsApart no_of (of_key place n rows)
 -- 1 to 20 rows
 pub record AreOneToTwenty {R : Type 0} (rows : List R) : Type 0 where
   pub some : 1 ≤ length rows
-  pub most : length rows ≤ 20
+  pub most : length rows ≤ most_codes
 
 -- the codes of a holder who has so many guarantees: each is of one of them, and each of them has 1 to 20
 pub record AreCodesInPlace (guarantees : ℕ) (rows : List (Keyed (List ℕ))) : Type 0 where

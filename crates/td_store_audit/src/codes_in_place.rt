@@ -4,11 +4,9 @@ ghost use Rattle.td_store_rows.specs.CodeTable.{row_of_stored};
 ghost use Rattle.td_store_audit.specs.InPlace.{AreCodesInPlace, IsBySerial, IsEndOfRun};
 ghost use Rattle.td_store_audit.specs.Found.{serial_of_code};
 
+use td_guarantee::MOST_CODES;
 use td_store_audit_rows::codes_belong;
 use td_store_rows::StoredCode;
-
-/// The most codes of a guarantee.
-const MOST: usize = 20;
 
 /// Whether these are the codes, by the serials of their guarantees, of a holder who has so many guarantees: each is of one of
 /// them, and each of them has 1 to 20.
@@ -22,7 +20,7 @@ pub(crate) fn codes_are_in_place(guarantees: u32, rows: &[StoredCode]) -> bool
     let mut start = 0;
     for before in 0..guarantees {
         let end = end_of_run(rows, start, before + 1);
-        if end == start || end - start > MOST {
+        if end == start || end - start > MOST_CODES {
             return false;
         }
         start = end;

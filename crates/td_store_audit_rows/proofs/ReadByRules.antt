@@ -10,7 +10,7 @@ use Rattle.keyed_rows.specs.Rows.{row_at}
 use Rattle.keyed_rows.proofs.Putting.{All-row_at, row_at_has}
 use Rattle.td_base.specs.Codes.{IsAccessCode}
 use Rattle.td_base.specs.Holder.{IsHolderNumber}
-use Rattle.td_base.specs.References.{IsGrn, IsMrn}
+use Rattle.td_base.specs.References.{IsGrn, IsMrn, greatest_grn_serial, greatest_mrn_serial}
 use Rattle.td_base.proofs.MadeReferences.{made_is_reference}
 use Rattle.td_time.specs.Days.{year_of}
 use Rattle.td_movement.specs.declared.movement.Movement.{Movement}
@@ -34,6 +34,7 @@ use Rattle.td_store_rows.specs.StoreTables.{tables_in}
 use Rattle.td_store_audit_rows.specs.Fields.{AreCodeFields, AreGuaranteeFields, AreLineFields, AreMovementFields}
 use Rattle.td_store_audit_rows.specs.Scans.{IsReadRow}
 use Rattle.td_store_audit_rows.specs.Told.{CodesAreRead, GuaranteesAreRead, HaveOwners, LinesAreRead, MovementsAreRead}
+use Rattle.td_movement.specs.Lines.{most_lines}
 
 -- what holds of the rows of each key that is there holds of all rows
 keys_all : {R : Type 0} (key : R → ℕ) (Q : ℕ → Type 0) (P : R → Type 0) (rows : List R) → ((k : ℕ) → Q k → AllByRecursion P (of_key key k rows))
@@ -85,16 +86,16 @@ module _ (t : Tables) (owners : HaveOwners t) where
     abbrev H : ℕ
     H = row.holder
 
-    guarantees_placed : HasGuarantees t row → AllByRecursion (λ g. (owner g ≡ H) × (place g ≤ 999999)) (guarantees_by H t)
+    guarantees_placed : HasGuarantees t row → AllByRecursion (λ g. (owner g ≡ H) × (place g ≤ greatest_grn_serial)) (guarantees_by H t)
     guarantees_placed has =
-        all_both (λ g. owner g ≡ H) (λ g. (0 < place g) × (place g ≤ 0 + length (guarantees_by H t))) (λ g. (owner g ≡ H) × (place g ≤ 999999))
+        all_both (λ g. owner g ≡ H) (λ g. (0 < place g) × (place g ≤ 0 + length (guarantees_by H t))) (λ g. (owner g ≡ H) × (place g ≤ greatest_grn_serial))
         (λ g own within. (own, omega (arith, within.1, has.count, has.most))) (guarantees_by H t) (are_mine H t.guarantees)
         (numbered_within place 0 (guarantees_by H t) has.serials)
 
     guarantee_fields : IsApart place (part H t.guarantees) → HasGuarantees t row → AllByRecursion AreGuaranteeFields (part H t.guarantees)
     guarantee_fields apart has =
         all_brought place AreGuaranteeFields (part H t.guarantees) apart
-        (all_both (IsGuaranteeInRange t.country) (λ g. (owner g ≡ H) × (place g ≤ 999999)) AreGuaranteeFields
+        (all_both (IsGuaranteeInRange t.country) (λ g. (owner g ≡ H) × (place g ≤ greatest_grn_serial)) AreGuaranteeFields
         (λ g is low. record {
           key = record { holder = subst IsHolderNumber (sym low.0) number; serial = omega (arith, low.1) };
           grn = subst IsGrn (sym is.grn.2) (made_is_reference 6 is.grn.0 t.country g.holder g.serial owners.country);
@@ -104,29 +105,29 @@ module _ (t : Tables) (owners : HaveOwners t) where
         }) (guarantees_by H t) has.columns (guarantees_placed has))
 
     -- the serial of a guarantee that is named
-    named_low : HasGuarantees t row → (n : ℕ) → IsSome (row_at place n (guarantees_by H t)) → n ≤ 999999
+    named_low : HasGuarantees t row → (n : ℕ) → IsSome (row_at place n (guarantees_by H t)) → n ≤ greatest_grn_serial
     named_low has n some =
-        let it = found_has place (λ g. (owner g ≡ H) × (place g ≤ 999999)) n (guarantees_by H t) (guarantees_placed has) some in
+        let it = found_has place (λ g. (owner g ≡ H) × (place g ≤ greatest_grn_serial)) n (guarantees_by H t) (guarantees_placed has) some in
         omega (arith, it.1.1, it.2)
 
     code_fields : HasGuarantees t row → HasCodes t row → AllByRecursion AreCodeFields (part H t.codes)
     code_fields has codes =
-        all_both (λ (c : Keyed (List ℕ)). IsAccessCode c.row) (λ c. (owner c ≡ H) × (place c ≤ 999999)) AreCodeFields
+        all_both (λ (c : Keyed (List ℕ)). IsAccessCode c.row) (λ c. (owner c ≡ H) × (place c ≤ greatest_grn_serial)) AreCodeFields
         (λ c form low. record { key = record { holder = subst IsHolderNumber (sym low.0) number; serial = omega (arith, low.1) }; code = form })
         (part H t.codes) codes.form
-        (all_both (λ c. owner c ≡ H) (λ c. IsSome (row_at place (place c) (guarantees_by H t))) (λ c. (owner c ≡ H) × (place c ≤ 999999))
+        (all_both (λ c. owner c ≡ H) (λ c. IsSome (row_at place (place c) (guarantees_by H t))) (λ c. (owner c ≡ H) × (place c ≤ greatest_grn_serial))
         (λ c own some. (own, named_low has (place c) some)) (part H t.codes) (of_key_has owner H t.codes) codes.name)
 
-    movements_placed : HasMovements t row → AllByRecursion (λ m. (owner m ≡ H) × (place m ≤ 9999999)) (movements_by H t)
+    movements_placed : HasMovements t row → AllByRecursion (λ m. (owner m ≡ H) × (place m ≤ greatest_mrn_serial)) (movements_by H t)
     movements_placed has =
-        all_both (λ m. owner m ≡ H) (λ m. (0 < place m) × (place m ≤ 0 + length (movements_by H t))) (λ m. (owner m ≡ H) × (place m ≤ 9999999))
+        all_both (λ m. owner m ≡ H) (λ m. (0 < place m) × (place m ≤ 0 + length (movements_by H t))) (λ m. (owner m ≡ H) × (place m ≤ greatest_mrn_serial))
         (λ m own within. (own, omega (arith, within.1, has.count, has.most))) (movements_by H t) (are_mine H t.movements)
         (numbered_within place 0 (movements_by H t) has.serials)
 
     movement_fields : IsApart place (part H t.movements) → HasMovements t row → AllByRecursion AreMovementFields (part H t.movements)
     movement_fields apart has =
         all_brought place AreMovementFields (part H t.movements) apart
-        (all_both (IsMovementInRange t.country) (λ m. (owner m ≡ H) × (place m ≤ 9999999)) AreMovementFields
+        (all_both (IsMovementInRange t.country) (λ m. (owner m ≡ H) × (place m ≤ greatest_mrn_serial)) AreMovementFields
         (λ m is low. record {
           key = record { holder = subst IsHolderNumber (sym low.0) number; serial = omega (arith, low.1) };
           mrn = subst IsMrn (sym is.mrn) (made_is_reference 7 (year_of m.row.accepted % 100) t.country m.holder m.serial owners.country);
@@ -140,30 +141,30 @@ module _ (t : Tables) (owners : HaveOwners t) where
         }) (movements_by H t) has.columns (movements_placed has))
 
     -- the lines of one movement
-    lines_on : HasGuarantees t row → (m : Keyed Movement) → owner m ≡ H → place m ≤ 9999999 → AreLinesInRange t m
+    lines_on : HasGuarantees t row → (m : Keyed Movement) → owner m ≡ H → place m ≤ greatest_mrn_serial → AreLinesInRange t m
         → AllByRecursion AreLineFields (lines_by H (place m) t)
     lines_on has m own low is =
         let rows = lines_by H (place m) t in
         let same : lines_by m.holder m.serial t ≡ rows = ap (λ k. lines_by k (place m) t) own in
-        let within : AllByRecursion (λ l. (0 < no_of l) × (no_of l ≤ 9)) rows =
-        subst (AllByRecursion (λ l. (0 < no_of l) × (no_of l ≤ 9))) same
-        (all_weaker (λ l. (0 < no_of l) × (no_of l ≤ 0 + length (lines_by m.holder m.serial t))) (λ l. (0 < no_of l) × (no_of l ≤ 9))
+        let within : AllByRecursion (λ l. (0 < no_of l) × (no_of l ≤ most_lines)) rows =
+        subst (AllByRecursion (λ l. (0 < no_of l) × (no_of l ≤ most_lines))) same
+        (all_weaker (λ l. (0 < no_of l) × (no_of l ≤ 0 + length (lines_by m.holder m.serial t))) (λ l. (0 < no_of l) × (no_of l ≤ most_lines))
         (λ l w. (w.0, omega (arith, w.1, is.most))) (lines_by m.holder m.serial t) (numbered_within no_of 0 (lines_by m.holder m.serial t) is.numbers)) in
-        let names : AllByRecursion (λ l. named_by l ≤ 999999) rows =
-        all_weaker (λ l. IsSome (row_at place (named_by l) (guarantees_by H t))) (λ l. named_by l ≤ 999999) (λ l some. named_low has (named_by l) some) rows
+        let names : AllByRecursion (λ l. named_by l ≤ greatest_grn_serial) rows =
+        all_weaker (λ l. IsSome (row_at place (named_by l) (guarantees_by H t))) (λ l. named_by l ≤ greatest_grn_serial) (λ l some. named_low has (named_by l) some) rows
         (subst (λ k. AllByRecursion (λ l. IsSome (row_at place (named_by l) (guarantees_by k t))) (lines_by k (place m) t)) own is.name) in
         let amounts : AllByRecursion (λ (l : Keyed LineCells). IsLineAmount l.row.cents) rows =
         subst (AllByRecursion (λ (l : Keyed LineCells). IsLineAmount l.row.cents)) same is.amounts in
         let keys : AllByRecursion (λ l. (owner l ≡ H) × (place l ≡ place m)) rows =
         all_in_order no_of (λ l. (owner l ≡ H) × (place l ≡ place m)) (of_key place (place m) (part H t.lines)) (lines_mine H (place m) t.lines) in
-        all_both (λ l. ((0 < no_of l) × (no_of l ≤ 9)) × (named_by l ≤ 999999)) (λ (l : Keyed LineCells). IsLineAmount l.row.cents × ((owner l ≡ H) × (place l ≡ place m))) AreLineFields
+        all_both (λ l. ((0 < no_of l) × (no_of l ≤ most_lines)) × (named_by l ≤ greatest_grn_serial)) (λ (l : Keyed LineCells). IsLineAmount l.row.cents × ((owner l ≡ H) × (place l ≡ place m))) AreLineFields
         (λ l a b. record {
           key = record { holder = subst IsHolderNumber (sym b.1.0) number; serial = omega (arith, b.1.1, low) };
           no = omega (arith, a.0.1);
           guarantee = omega (arith, a.1);
           cents = omega (arith, b.0.1);
         }) rows
-        (all_both (λ l. (0 < no_of l) × (no_of l ≤ 9)) (λ l. named_by l ≤ 999999) (λ l. ((0 < no_of l) × (no_of l ≤ 9)) × (named_by l ≤ 999999)) (λ l w n. (w, n)) rows within names)
+        (all_both (λ l. (0 < no_of l) × (no_of l ≤ most_lines)) (λ l. named_by l ≤ greatest_grn_serial) (λ l. ((0 < no_of l) × (no_of l ≤ most_lines)) × (named_by l ≤ greatest_grn_serial)) (λ l w n. (w, n)) rows within names)
         (all_both (λ (l : Keyed LineCells). IsLineAmount l.row.cents) (λ l. (owner l ≡ H) × (place l ≡ place m))
         (λ (l : Keyed LineCells). IsLineAmount l.row.cents × ((owner l ≡ H) × (place l ≡ place m))) (λ l w k. (w, k)) rows amounts keys)
 
@@ -172,8 +173,8 @@ module _ (t : Tables) (owners : HaveOwners t) where
     line_fields apart guarantees movements has =
         keys_all place (λ n. IsSome (row_at place n (movements_by H t))) AreLineFields (part H t.lines)
         (λ n some.
-        let it = found_has place (λ m. ((owner m ≡ H) × (place m ≤ 9999999)) × AreLinesInRange t m) n (movements_by H t)
-        (all_both (λ m. (owner m ≡ H) × (place m ≤ 9999999)) (AreLinesInRange t) (λ m. ((owner m ≡ H) × (place m ≤ 9999999)) × AreLinesInRange t m)
+        let it = found_has place (λ m. ((owner m ≡ H) × (place m ≤ greatest_mrn_serial)) × AreLinesInRange t m) n (movements_by H t)
+        (all_both (λ m. (owner m ≡ H) × (place m ≤ greatest_mrn_serial)) (AreLinesInRange t) (λ m. ((owner m ≡ H) × (place m ≤ greatest_mrn_serial)) × AreLinesInRange t m)
         (λ m low is. (low, is)) (movements_by H t) (movements_placed movements) has.columns) some in
         all_brought no_of AreLineFields (of_key place n (part H t.lines)) (apart n)
         (subst (λ k. AllByRecursion AreLineFields (lines_by H k t)) it.2 (lines_on guarantees it.0 it.1.0.0 it.1.0.1 it.1.1)))

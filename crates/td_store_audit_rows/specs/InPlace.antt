@@ -3,7 +3,7 @@
 use Rattle.std.specs.Prelude.{◌≡◌, ℕ, ◌%◌, ◌≤◌, List, length}
 use Rattle.std.specs.List.{AllByRecursion}
 use Rattle.td_base.specs.Days.{year_of}
-use Rattle.td_base.specs.References.{grn_text, mrn_text}
+use Rattle.td_base.specs.References.{grn_text, mrn_text, greatest_grn_serial, greatest_mrn_serial}
 use Rattle.td_guarantee.specs.declared.guarantee.Guarantee.{Guarantee}
 use Rattle.td_movement.specs.declared.movement.Movement.{Movement}
 use Rattle.td_movement.specs.Status.{HasDaysOf}
@@ -12,16 +12,18 @@ use Rattle.td_table_model.specs.Apart.{IsApart, IsNumbered}
 use Rattle.td_table_model.specs.Gathering.{no_of, place}
 use Rattle.td_table_model.specs.Rules.{named_by}
 use Rattle.td_table_model.specs.Tables.{Keyed, LineCells}
+use Rattle.td_movement.specs.Lines.{most_lines}
+use Rattle.td_model.specs.Sound.{IsMrnOf, IsGrnOf}
 
 -- a guarantee has a GRN of the country, its holder and its serial, and a reference amount above nothing
 pub record IsGuaranteeInPlace (country : List ℕ) (g : Keyed Guarantee) : Type 0 where
-  pub grn : (year : ℕ) × (year ≤ 99) × (g.row.grn ≡ grn_text year country g.holder g.serial)
+  pub grn : IsGrnOf country g.holder g.serial g.row
   pub reference : 1 ≤ g.row.reference
 
 -- a movement has the MRN of the year of its acceptance, the country, its holder and its serial, and the days and the
 -- office of its state
 pub record IsMovementInPlace (country : List ℕ) (m : Keyed Movement) : Type 0 where
-  pub mrn : m.row.mrn ≡ mrn_text (year_of m.row.accepted % 100) country m.holder m.serial
+  pub mrn : IsMrnOf country m.holder m.serial m.row
   pub days : HasDaysOf m.row.state m.row
 
 -- a line is on one of so many guarantees, and its amount is in range
@@ -34,21 +36,21 @@ pub record IsLineInPlace (guarantees : ℕ) (l : Keyed LineCells) : Type 0 where
 pub record AreGuaranteesInPlace (country : List ℕ) (counted : ℕ) (rows : List (Keyed Guarantee)) : Type 0 where
   pub serials : IsNumbered place 0 rows
   pub count : counted ≡ length rows
-  pub most : counted ≤ 999999
+  pub most : counted ≤ greatest_grn_serial
   pub each : AllByRecursion (IsGuaranteeInPlace country) rows
 
 -- a holder's movements, likewise
 pub record AreMovementsInPlace (country : List ℕ) (counted : ℕ) (rows : List (Keyed Movement)) : Type 0 where
   pub serials : IsNumbered place 0 rows
   pub count : counted ≡ length rows
-  pub most : counted ≤ 9999999
+  pub most : counted ≤ greatest_mrn_serial
   pub each : AllByRecursion (IsMovementInPlace country) rows
 
 -- the lines of a movement of a holder who has so many guarantees: 1 to 9, no two on one guarantee
 pub record AreLinesInPlace (guarantees : ℕ) (rows : List (Keyed LineCells)) : Type 0 where
   pub numbers : IsNumbered no_of 0 rows
   pub some : 1 ≤ length rows
-  pub most : length rows ≤ 9
+  pub most : length rows ≤ most_lines
   pub each : AllByRecursion (IsLineInPlace guarantees) rows
   pub apart : IsApart named_by rows
 

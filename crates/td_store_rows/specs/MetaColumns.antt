@@ -7,6 +7,10 @@ use Rattle.td_schema.specs.Tables.{meta}
 use Rattle.typed_sql.specs.Typed.{Typing}
 use Rattle.typed_sql.specs.Values.{as_integer, text_in}
 
+-- the newest version of the tables
+abbrev pub newest_version : ℕ
+newest_version = 1
+
 -- the version of the tables and the country, as a file has them: any integer, and any text
 pub record MetaRow : Type 0 where
   pub version : ℤ

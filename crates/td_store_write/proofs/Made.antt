@@ -12,7 +12,7 @@ use Rattle.td_schema.specs.Tables.{desk_schema}
 use Rattle.typed_sql.specs.Rows.{HaveIds}
 use Rattle.typed_sql.specs.Writing.{HasSchema}
 use Rattle.typed_sql.specs.Typed.{AreTyped, HasNow, IsTypedRow, Typing, row_of, rows_in}
-use Rattle.td_store_rows.specs.MetaColumns.{meta_row, meta_typing}
+use Rattle.td_store_rows.specs.MetaColumns.{meta_row, meta_typing, newest_version}
 use Rattle.td_store_rows.specs.MetaTable.{TurnsMeta}
 use Rattle.td_store_rows.specs.HolderColumns.{holder_typing}
 use Rattle.td_store_rows.specs.GuaranteeColumns.{guarantee_typing}
@@ -34,7 +34,7 @@ none_there ty trees none = subst (IsPermutation []) (ap (map (row_of ty)) (sym n
 
 -- the trees of the empty desk: the office's row, and no other
 pub of_empty_desk : (country : List ℕ) (old new : State) → IsEmptyOf desk_schema old.now
-    → TurnsMeta (λ rows. meta_row 1 country ∷ rows) old new → AreOfEmptyDesk country new.now.trees
+    → TurnsMeta (λ rows. meta_row newest_version country ∷ rows) old new → AreOfEmptyDesk country new.now.trees
 of_empty_desk country old new was turns = record {
   meta = meta;
   typed = record {
@@ -61,12 +61,12 @@ of_empty_desk country old new was turns = record {
     b : Trees
     b = new.now.trees
 
-    now : HasNow meta_typing desk_schema (meta_row 1 country ∷ rows_in meta_typing a) old.now new.now
+    now : HasNow meta_typing desk_schema (meta_row newest_version country ∷ rows_in meta_typing a) old.now new.now
     now = turns (λ is_open. was.schema) (none_typed meta_typing a was.empty.0)
 
-    meta : rows_in meta_typing b ≡ meta_row 1 country ∷ []
-    meta = one_permutation (meta_row 1 country) (rows_in meta_typing b)
-        (subst (λ rows. IsPermutation (meta_row 1 country ∷ map (row_of meta_typing) rows) (rows_in meta_typing b)) was.empty.0 now.same)
+    meta : rows_in meta_typing b ≡ meta_row newest_version country ∷ []
+    meta = one_permutation (meta_row newest_version country) (rows_in meta_typing b)
+        (subst (λ rows. IsPermutation (meta_row newest_version country ∷ map (row_of meta_typing) rows) (rows_in meta_typing b)) was.empty.0 now.same)
 
     holders : b 1 ≡ []
     holders = now.others.1.0 (λ e. cc) ∙ was.empty.1.0
@@ -85,7 +85,7 @@ of_empty_desk country old new was turns = record {
 
 -- under the tables' schema
 pub schema_there : (country : List ℕ) (old new : State) → IsEmptyOf desk_schema old.now
-    → TurnsMeta (λ rows. meta_row 1 country ∷ rows) old new → new.now.schema ≡ desk_schema
+    → TurnsMeta (λ rows. meta_row newest_version country ∷ rows) old new → new.now.schema ≡ desk_schema
 schema_there country old new was turns =
     (turns (λ is_open. was.schema) (none_typed meta_typing old.now.trees was.empty.0)).schema
 

@@ -8,10 +8,7 @@ use sqlite::{Connection, Error};
 use sqlite_trees::store::Alter;
 use td_base::Country;
 use td_schema::make_tables;
-use td_store_rows::insert_meta;
-
-// The version of the tables that this crate makes.
-const VERSION: u32 = 1;
+use td_store_rows::{NEWEST_VERSION, insert_meta};
 
 /// Makes the tables of an office of that country, which has no holders yet, in a database that has no table; all of it or,
 /// where it answers `Err`, nothing. An error is the database's own. A crash during the call leaves what it could leave
@@ -32,6 +29,6 @@ pub fn create_tables<S: Alter>(conn: &mut Connection<S>, country: Country) -> Re
     let _letters = country.as_bytes();
     let mut tx = conn.transaction();
     make_tables(&mut tx)?;
-    insert_meta(&mut tx, VERSION, country)?;
+    insert_meta(&mut tx, NEWEST_VERSION, country)?;
     tx.commit()
 }

@@ -31,6 +31,7 @@ use Rattle.td_table_model.proofs.Owned.{owned_guarantees, owned_codes, owned_mov
 use Rattle.td_table_model.proofs.Following.{same_tables, rows_put, rows_stay, rows_set, rows_left}
 use Rattle.td_table_model.proofs.OwnRows.{one_more, some_more, moved_rows, moved_lines, terms_rows, codes_stay, guarantees_stay, codes_with, codes_without}
 use Rattle.td_table_model.proofs.Gathered.{content_is}
+use Rattle.td_base.specs.References.{greatest_grn_serial}
 
 -- a holder's row of a content's rows
 abbrev row_of : HolderRows → HolderRow
@@ -178,7 +179,7 @@ module _ (old : Tables) (c : Content) (sound : IsSound c) (are : AreTablesOf old
   own_guarantees : AllNumbered (IsGuaranteeRow c.country row.holder) 0 h.guarantees
   own_guarantees = subst (λ H. AllNumbered (IsGuaranteeRow c.country H) 0 h.guarantees) number own.guarantees
 
-  own_most : 0 + length h.guarantees ≤ 999999
+  own_most : 0 + length h.guarantees ≤ greatest_grn_serial
   own_most = omega (arith, own.grn_count, own.grn_most)
 
   -- a code is added

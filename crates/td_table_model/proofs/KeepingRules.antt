@@ -31,6 +31,8 @@ use Rattle.td_table_model.proofs.Gathered.{HasParts, have_parts, guarantees_are,
 use Rattle.td_table_model.proofs.Pairs.{pairs_with, pairs_first, pairs_behind, pairs_apart}
 use Rattle.td_table_model.proofs.RuledSound.{status_with}
 use Rattle.td_table_model.proofs.Keeping.{are_stored}
+use Rattle.td_base.specs.References.{greatest_grn_serial}
+use Rattle.td_guarantee.specs.Codes.{most_codes}
 
 -- pairs of elements are pairs of them with their numbers
 pairs_numbered : {X : Type 0} (R : X → X → Type 0) (n : ℕ) (xs : List X) → AllPairs R xs → AllPairs (λ (p q : ℕ × X). R p.1 q.1) (numbered n xs)
@@ -90,8 +92,8 @@ module _ (country : List ℕ) (t : Tables) (same : t.country ≡ country) (h : H
     some = rw guarantees_stand (all-map (λ g. 1 ≤ count_of_codes t g) (guarantee_row H) (numbered 0 h.guarantees)
         (all_both (λ (p : ℕ × Guarantee). IsGuaranteeRow country H p.0 p.1) (λ (p : ℕ × Guarantee). IsPermutation (code_rows H p) (of_key place p.0 (part H t.codes))) (λ p. 1 ≤ count_of_codes t (guarantee_row H p))
         (λ p is moved. omega (arith, count_is p moved, is.codes.some)) (numbered 0 h.guarantees) guarantee_rows code_parts));
-    most = rw guarantees_stand (all-map (λ g. count_of_codes t g ≤ 20) (guarantee_row H) (numbered 0 h.guarantees)
-        (all_both (λ (p : ℕ × Guarantee). IsGuaranteeRow country H p.0 p.1) (λ (p : ℕ × Guarantee). IsPermutation (code_rows H p) (of_key place p.0 (part H t.codes))) (λ p. count_of_codes t (guarantee_row H p) ≤ 20)
+    most = rw guarantees_stand (all-map (λ g. count_of_codes t g ≤ most_codes) (guarantee_row H) (numbered 0 h.guarantees)
+        (all_both (λ (p : ℕ × Guarantee). IsGuaranteeRow country H p.0 p.1) (λ (p : ℕ × Guarantee). IsPermutation (code_rows H p) (of_key place p.0 (part H t.codes))) (λ p. count_of_codes t (guarantee_row H p) ≤ most_codes)
         (λ p is moved. omega (arith, count_is p moved, is.codes.most)) (numbered 0 h.guarantees) guarantee_rows code_parts));
   }
 
@@ -110,7 +112,7 @@ module _ (country : List ℕ) (t : Tables) (same : t.country ≡ country) (h : H
   }
 
   -- of a movement's lines
-  own_most : length h.guarantees ≤ 999999
+  own_most : length h.guarantees ≤ greatest_grn_serial
   own_most = omega (arith, sound.grn_count, sound.grn_most)
 
   lines_named : (n k : ℕ) (lines : List Line) → AllByRecursion (λ l. IsSome (guarantee_by_grn l.grn h.guarantees)) lines → AllByRecursion (λ l. IsSome (row_at place (named_by l) (guarantees_by H t))) (map (line_row country H n) (numbered k lines))

@@ -11,7 +11,7 @@ use Rattle.sqlite_trees.proofs.ListLemmas.{filter-map, all_of, all-map, filter_a
 use Rattle.std.specs.Option.{is_some}
 use Rattle.td_base.specs.Country.{IsCountry}
 use Rattle.td_base.specs.Holder.{IsHolderNumber}
-use Rattle.td_base.specs.References.{serial_of}
+use Rattle.td_base.specs.References.{serial_of, greatest_grn_serial}
 use Rattle.td_guarantee.specs.declared.guarantee.Guarantee.{Guarantee}
 use Rattle.td_guarantee.specs.Codes.{with_code, without_code}
 use Rattle.td_movement.specs.declared.movement.Movement.{Movement}
@@ -98,7 +98,7 @@ guarantees_stay H grn codes n (g ∷ gs) = ap₂ ◌∷◌ (here (bytes_eq g.grn
 
 module _ (country : List ℕ) (H : ℕ) (form : IsCountry country) (number : IsHolderNumber H) (grn : List ℕ) where
   -- a GRN of a serial that has gone by is nobody's further on
-  others : (made : Guarantee → Guarantee) (m n : ℕ) (gs : List Guarantee) → serial_of country grn ≡ Some m → m ≤ n → n + length gs ≤ 999999 → AllNumbered (IsGuaranteeRow country H) n gs → map (at_grn grn made) gs ≡ gs
+  others : (made : Guarantee → Guarantee) (m n : ℕ) (gs : List Guarantee) → serial_of country grn ≡ Some m → m ≤ n → n + length gs ≤ greatest_grn_serial → AllNumbered (IsGuaranteeRow country H) n gs → map (at_grn grn made) gs ≡ gs
   others made m n [] is gone most all = refl
   others made m n (g ∷ gs) is gone most all = ap₂ ◌∷◌ (here (bytes_eq g.grn grn) refl) (others made m (n + 1) gs is (omega (arith, gone)) (omega (arith, most)) all.1)
     where
@@ -110,7 +110,7 @@ module _ (country : List ℕ) (H : ℕ) (form : IsCountry country) (number : IsH
       here false other = refl
 
   -- a code that the guarantee with the GRN hasn't got is put to its codes
-  pub codes_with : (code : List ℕ) (n : ℕ) (gs : List Guarantee) (found : Guarantee) → guarantee_by_grn grn gs ≡ Some found → stands code found.codes ≡ false → n + length gs ≤ 999999 → AllNumbered (IsGuaranteeRow country H) n gs
+  pub codes_with : (code : List ℕ) (n : ℕ) (gs : List Guarantee) (found : Guarantee) → guarantee_by_grn grn gs ≡ Some found → stands code found.codes ≡ false → n + length gs ≤ greatest_grn_serial → AllNumbered (IsGuaranteeRow country H) n gs
       → IsPermutation (code_row H (guarantee_no country grn) code ∷ flat_map (code_rows H) (numbered n gs)) (flat_map (code_rows H) (numbered n (map (at_grn grn (coded code)) gs)))
   codes_with code n [] found is new most all = cc
   codes_with code n (g ∷ gs) found is new most all = by_test (bytes_eq g.grn grn) refl is (λ is. codes_with code (n + 1) gs found is new (omega (arith, most)) all.1)
@@ -164,7 +164,7 @@ module _ (country : List ℕ) (H : ℕ) (form : IsCountry country) (number : IsH
       ∙ ap₂ ◌++◌ (kept_rows m code (n + 1) g.codes (λ e. omega (arith, e, gone))) (kept_behind m code (n + 1) gs (omega (arith, gone)))
 
   -- a code is taken from the guarantee with the GRN
-  pub codes_without : (code : List ℕ) (n : ℕ) (gs : List Guarantee) (found : Guarantee) → guarantee_by_grn grn gs ≡ Some found → n + length gs ≤ 999999 → AllNumbered (IsGuaranteeRow country H) n gs
+  pub codes_without : (code : List ℕ) (n : ℕ) (gs : List Guarantee) (found : Guarantee) → guarantee_by_grn grn gs ≡ Some found → n + length gs ≤ greatest_grn_serial → AllNumbered (IsGuaranteeRow country H) n gs
       → filter (λ r. not (is_code_of H (guarantee_no country grn) code r)) (flat_map (code_rows H) (numbered n gs)) ≡ flat_map (code_rows H) (numbered n (map (at_grn grn (uncoded code)) gs))
   codes_without code n [] found is most all = cc
   codes_without code n (g ∷ gs) found is most all =

@@ -8,7 +8,7 @@ use Rattle.std.proofs.lemmas.Slice.Eq.{bytes_eq-Decides}
 use Rattle.keyed_rows.specs.Rows.{row_at}
 use Rattle.td_base.specs.Country.{IsCountry}
 use Rattle.td_base.specs.Holder.{IsHolderNumber}
-use Rattle.td_base.specs.References.{serial_of}
+use Rattle.td_base.specs.References.{serial_of, greatest_grn_serial}
 use Rattle.td_base.proofs.MadeReferences.{made_serial_is}
 use Rattle.td_guarantee.specs.declared.guarantee.Guarantee.{Guarantee}
 use Rattle.td_model.specs.Account.{guarantee_by_grn}
@@ -21,7 +21,7 @@ abbrev pub grn_at : ℕ → List (Keyed Guarantee) → List ℕ
 grn_at n rows = option_map_or (λ (r : Keyed Guarantee). r.row.grn) (row_at place n rows) []
 
 -- the serial of a guarantee's GRN is its own
-pub serial_of_row : (country : List ℕ) (H n : ℕ) (g : Guarantee) → IsCountry country → IsHolderNumber H → n ≤ 999999 → IsGuaranteeRow country H n g → serial_of country g.grn ≡ Some n
+pub serial_of_row : (country : List ℕ) (H n : ℕ) (g : Guarantee) → IsCountry country → IsHolderNumber H → n ≤ greatest_grn_serial → IsGuaranteeRow country H n g → serial_of country g.grn ≡ Some n
 serial_of_row country H n g form number most is = ap (serial_of country) is.grn.2 ∙ made_serial_is 6 is.grn.0 country H n form number (omega (arith, most))
 
 -- a GRN that is found, among guarantees before which n stand, has the serial under which its row stands
@@ -32,7 +32,7 @@ pub record IsPlaceOf (country : List ℕ) (H n : ℕ) (gs : List Guarantee) (grn
   pub there : grn_at serial (map (guarantee_row H) (numbered n gs)) ≡ grn
   pub some : IsSome (row_at place serial (map (guarantee_row H) (numbered n gs)))
 
-pub place_of : (country : List ℕ) (H n : ℕ) (gs : List Guarantee) (grn : List ℕ) → IsCountry country → IsHolderNumber H → n + length gs ≤ 999999 → AllNumbered (IsGuaranteeRow country H) n gs
+pub place_of : (country : List ℕ) (H n : ℕ) (gs : List Guarantee) (grn : List ℕ) → IsCountry country → IsHolderNumber H → n + length gs ≤ greatest_grn_serial → AllNumbered (IsGuaranteeRow country H) n gs
     → IsSome (guarantee_by_grn grn gs) → IsPlaceOf country H n gs grn
 place_of country H n [] grn form number most all some = cc
 place_of country H n (g ∷ gs) grn form number most all some =
@@ -75,14 +75,14 @@ place_of country H n (g ∷ gs) grn form number most all some =
         }
 
 -- so the serial of a line's GRN leads back to the GRN
-pub grn_back : (country : List ℕ) (H : ℕ) (gs : List Guarantee) (grn : List ℕ) → IsCountry country → IsHolderNumber H → length gs ≤ 999999 → AllNumbered (IsGuaranteeRow country H) 0 gs
+pub grn_back : (country : List ℕ) (H : ℕ) (gs : List Guarantee) (grn : List ℕ) → IsCountry country → IsHolderNumber H → length gs ≤ greatest_grn_serial → AllNumbered (IsGuaranteeRow country H) 0 gs
     → IsSome (guarantee_by_grn grn gs) → grn_at (guarantee_no country grn) (map (guarantee_row H) (numbered 0 gs)) ≡ grn
 grn_back country H gs grn form number most all some =
     let p = place_of country H 0 gs grn form number (omega (arith, most)) all some in
     ap (λ o. grn_at (unwrap_or o 0) (map (guarantee_row H) (numbered 0 gs))) p.is ∙ p.there
 
 -- and to its row
-pub row_of_grn : (country : List ℕ) (H : ℕ) (gs : List Guarantee) (grn : List ℕ) → IsCountry country → IsHolderNumber H → length gs ≤ 999999 → AllNumbered (IsGuaranteeRow country H) 0 gs
+pub row_of_grn : (country : List ℕ) (H : ℕ) (gs : List Guarantee) (grn : List ℕ) → IsCountry country → IsHolderNumber H → length gs ≤ greatest_grn_serial → AllNumbered (IsGuaranteeRow country H) 0 gs
     → IsSome (guarantee_by_grn grn gs) → IsSome (row_at place (guarantee_no country grn) (map (guarantee_row H) (numbered 0 gs)))
 row_of_grn country H gs grn form number most all some =
     let p = place_of country H 0 gs grn form number (omega (arith, most)) all some in

@@ -10,7 +10,7 @@ use Rattle.keyed_rows.proofs.Putting.{row_at_has, All-row_at}
 use Rattle.td_table_model.specs.Apart.{IsApart, IsNumbered}
 use Rattle.td_base.specs.Country.{IsCountry}
 use Rattle.td_base.specs.Holder.{IsHolderNumber}
-use Rattle.td_base.specs.References.{serial_of}
+use Rattle.td_base.specs.References.{serial_of, greatest_grn_serial}
 use Rattle.td_base.specs.Codes.{IsAccessCode}
 use Rattle.td_base.proofs.MadeReferences.{made_serial_is}
 use Rattle.td_guarantee.specs.declared.guarantee.Guarantee.{Guarantee}
@@ -88,14 +88,14 @@ module _ (t : Tables) (stored : AreStored t) (form : IsCountry t.country) (row :
       (IsPermutation-trans _ _ _ each (together place place 0 (guarantees_by H t) (in_order_rises place (part H t.guarantees)) (part H t.codes) keeps.codes.name))
 
   -- the serial of a guarantee's GRN is the guarantee's
-  serial_of_grn : (g : Keyed Guarantee) → owner g ≡ H → g.serial ≤ 999999 → IsGuaranteeInRange t.country g → serial_of t.country g.row.grn ≡ Some g.serial
+  serial_of_grn : (g : Keyed Guarantee) → owner g ≡ H → g.serial ≤ greatest_grn_serial → IsGuaranteeInRange t.country g → serial_of t.country g.row.grn ≡ Some g.serial
   serial_of_grn g own most is = ap (serial_of t.country) is.grn.2 ∙ made_serial_is 6 is.grn.0 t.country g.holder g.serial form (subst IsHolderNumber (sym own) number) (omega (arith, most))
 
   pub all_serials : AllByRecursion (λ (g : Keyed Guarantee). serial_of t.country g.row.grn ≡ Some g.serial) (guarantees_by H t)
   all_serials =
-      all_both (λ (g : Keyed Guarantee). owner g ≡ H) (λ (g : Keyed Guarantee). (g.serial ≤ 999999) × IsGuaranteeInRange t.country g) (λ (g : Keyed Guarantee). serial_of t.country g.row.grn ≡ Some g.serial) (λ g own is. serial_of_grn g own is.0 is.1)
+      all_both (λ (g : Keyed Guarantee). owner g ≡ H) (λ (g : Keyed Guarantee). (g.serial ≤ greatest_grn_serial) × IsGuaranteeInRange t.country g) (λ (g : Keyed Guarantee). serial_of t.country g.row.grn ≡ Some g.serial) (λ g own is. serial_of_grn g own is.0 is.1)
       (guarantees_by H t) (are_mine H t.guarantees)
-      (all_both (λ (g : Keyed Guarantee). (0 < g.serial) × (g.serial ≤ 0 + length (guarantees_by H t))) (IsGuaranteeInRange t.country) (λ (g : Keyed Guarantee). (g.serial ≤ 999999) × IsGuaranteeInRange t.country g)
+      (all_both (λ (g : Keyed Guarantee). (0 < g.serial) × (g.serial ≤ 0 + length (guarantees_by H t))) (IsGuaranteeInRange t.country) (λ (g : Keyed Guarantee). (g.serial ≤ greatest_grn_serial) × IsGuaranteeInRange t.country g)
       (λ g within is. (omega (arith, within.1, keeps.guarantees.count, keeps.guarantees.most), is)) (guarantees_by H t) (numbered_within place 0 (guarantees_by H t) keeps.guarantees.serials) keeps.guarantees.columns)
 
   -- a guarantee's GRN leads back to the serial that named it

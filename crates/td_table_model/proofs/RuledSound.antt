@@ -39,6 +39,7 @@ use Rattle.td_table_model.proofs.Grouped.{of_key_has}
 use Rattle.td_table_model.proofs.Rebuilt.{all_renumbered, all_in_order}
 use Rattle.td_table_model.proofs.Pairs.{apart_pairs, text_apart_pairs, text_apart_permuted}
 use Rattle.td_table_model.proofs.Ruled.{are_mine, codes_apart, serial_back, each_keeps}
+use Rattle.td_guarantee.specs.Codes.{most_codes}
 
 -- the days and offices of a state don't speak of lines
 days_with : (s : State) (m : Movement) (lines : List Line) → HasDaysOf s m → HasDaysOf s (record m { lines = lines })
@@ -77,7 +78,7 @@ module _ (t : Tables) (stored : AreStored t) (form : IsCountry t.country) (row :
   H = row.holder
 
   -- the codes of a guarantee
-  codes_are_sound : (n : ℕ) → 1 ≤ length (of_key place n (part H t.codes)) → length (of_key place n (part H t.codes)) ≤ 20 → AreCodes (map (λ (c : Keyed (List ℕ)). c.row) (codes_by H n t))
+  codes_are_sound : (n : ℕ) → 1 ≤ length (of_key place n (part H t.codes)) → length (of_key place n (part H t.codes)) ≤ most_codes → AreCodes (map (λ (c : Keyed (List ℕ)). c.row) (codes_by H n t))
   codes_are_sound n some most =
       let long : length (codes_by H n t) ≡ length (of_key place n (part H t.codes)) = length_permutation _ _ (in_order_permutes code_rank (of_key place n (part H t.codes)) (codes_apart t stored form row number keeps n)) in
       let same : length (map (λ (c : Keyed (List ℕ)). c.row) (codes_by H n t)) ≡ length (codes_by H n t) = length-map (codes_by H n t) (λ (c : Keyed (List ℕ)). c.row) in
@@ -90,22 +91,22 @@ module _ (t : Tables) (stored : AreStored t) (form : IsCountry t.country) (row :
         order = ranks_ascend 0 (map (λ (c : Keyed (List ℕ)). c.row) (codes_by H n t)) forms (rises-map (λ (c : Keyed (List ℕ)). c.row) text_rank 0 (codes_by H n t) (in_order_rises code_rank (of_key place n (part H t.codes))));
       }
 
-  guarantee_is_sound : (g : Keyed Guarantee) → owner g ≡ H → IsGuaranteeInRange t.country g → (1 ≤ count_of_codes t g) × (count_of_codes t g ≤ 20) → IsGuaranteeRow t.country H g.serial (with_codes t g)
+  guarantee_is_sound : (g : Keyed Guarantee) → owner g ≡ H → IsGuaranteeInRange t.country g → (1 ≤ count_of_codes t g) × (count_of_codes t g ≤ most_codes) → IsGuaranteeRow t.country H g.serial (with_codes t g)
   guarantee_is_sound g own is codes = record {
     grn = (is.grn.0, is.grn.1, is.grn.2 ∙ ap (λ h. grn_text is.grn.0 t.country h g.serial) own);
     reference = is.reference;
     cover = is.cover;
     ends = is.ends;
     codes = subst (λ h. AreCodes (map (λ (c : Keyed (List ℕ)). c.row) (codes_by h g.serial t))) (sym own)
-        (codes_are_sound g.serial (subst (λ h. 1 ≤ length (of_key place g.serial (part h t.codes))) own codes.0) (subst (λ h. length (of_key place g.serial (part h t.codes)) ≤ 20) own codes.1));
+        (codes_are_sound g.serial (subst (λ h. 1 ≤ length (of_key place g.serial (part h t.codes))) own codes.0) (subst (λ h. length (of_key place g.serial (part h t.codes)) ≤ most_codes) own codes.1));
   }
 
   guarantees_are_sound : AllByRecursion (λ (g : Keyed Guarantee). IsGuaranteeRow t.country H (place g) (with_codes t g)) (guarantees_by H t)
   guarantees_are_sound =
-      all_both (λ (g : Keyed Guarantee). owner g ≡ H) (λ (g : Keyed Guarantee). IsGuaranteeInRange t.country g × (1 ≤ count_of_codes t g) × (count_of_codes t g ≤ 20)) (λ (g : Keyed Guarantee). IsGuaranteeRow t.country H (place g) (with_codes t g))
+      all_both (λ (g : Keyed Guarantee). owner g ≡ H) (λ (g : Keyed Guarantee). IsGuaranteeInRange t.country g × (1 ≤ count_of_codes t g) × (count_of_codes t g ≤ most_codes)) (λ (g : Keyed Guarantee). IsGuaranteeRow t.country H (place g) (with_codes t g))
       (λ g own is. guarantee_is_sound g own is.0 (is.1, is.2)) (guarantees_by H t) (are_mine H t.guarantees)
-      (all_both (IsGuaranteeInRange t.country) (λ g. (1 ≤ count_of_codes t g) × (count_of_codes t g ≤ 20)) (λ (g : Keyed Guarantee). IsGuaranteeInRange t.country g × (1 ≤ count_of_codes t g) × (count_of_codes t g ≤ 20)) (λ g is codes. (is, codes.0, codes.1)) (guarantees_by H t)
-      keeps.guarantees.columns (all_both (λ g. 1 ≤ count_of_codes t g) (λ g. count_of_codes t g ≤ 20) (λ g. (1 ≤ count_of_codes t g) × (count_of_codes t g ≤ 20)) (λ g a b. (a, b)) (guarantees_by H t) keeps.codes.some keeps.codes.most))
+      (all_both (IsGuaranteeInRange t.country) (λ g. (1 ≤ count_of_codes t g) × (count_of_codes t g ≤ most_codes)) (λ (g : Keyed Guarantee). IsGuaranteeInRange t.country g × (1 ≤ count_of_codes t g) × (count_of_codes t g ≤ most_codes)) (λ g is codes. (is, codes.0, codes.1)) (guarantees_by H t)
+      keeps.guarantees.columns (all_both (λ g. 1 ≤ count_of_codes t g) (λ g. count_of_codes t g ≤ most_codes) (λ g. (1 ≤ count_of_codes t g) × (count_of_codes t g ≤ most_codes)) (λ g a b. (a, b)) (guarantees_by H t) keeps.codes.some keeps.codes.most))
 
   -- lines on different guarantees have different GRNs
   lines_differ : (rows : List (Keyed LineCells)) → AllByRecursion (λ l. owner l ≡ H) rows → AllByRecursion (λ l. IsSome (row_at place (named_by l) (guarantees_by H t))) rows → IsApart named_by rows → AllPairs (λ (l m : Line). l.grn ≢ m.grn) (map (line_from t) rows)

@@ -9,17 +9,19 @@ use Rattle.td_base.specs.Days.{IsDay, year_of}
 use Rattle.td_base.specs.Eori.{IsEori}
 use Rattle.td_base.specs.Moment.{IsMoment}
 use Rattle.td_base.specs.Money.{IsReference, IsCover}
-use Rattle.td_base.specs.References.{grn_text, mrn_text}
+use Rattle.td_base.specs.References.{grn_text, mrn_text, greatest_grn_serial, greatest_mrn_serial}
 use Rattle.td_guarantee.specs.declared.guarantee.Guarantee.{Guarantee}
 use Rattle.td_movement.specs.declared.movement.Movement.{Movement}
 use Rattle.td_movement.specs.Status.{IsStatus}
 use Rattle.td_commands.specs.Lines.{IsLineAmount}
 use Rattle.td_model.specs.declared.holder_row.HolderRow.{HolderRow}
-use Rattle.td_model.specs.Sound.{IsCovered}
+use Rattle.td_model.specs.Sound.{IsCovered, IsMrnOf, IsGrnOf}
 use Rattle.td_table_model.specs.Tables.{Keyed, LineCells, Tables}
 use Rattle.td_table_model.specs.Gathering.{of_key, part, place, no_of, guarantees_by, movements_by, lines_by, gathered}
 use Rattle.td_table_model.specs.Apart.{IsApart, IsNumbered}
 use Rattle.td_table_model.specs.Stored.{AreStored}
+use Rattle.td_guarantee.specs.Codes.{most_codes}
+use Rattle.td_movement.specs.Lines.{most_lines}
 
 -- S1: the country is two capital letters
 abbrev pub HasCountry : Tables → Type 0
@@ -30,9 +32,9 @@ pub record IsHolderInRange (row : HolderRow) : Type 0 where
   pub eori : IsEori row.eori
   pub last_at : IsMoment row.last_at
 
--- the columns of a guarantee: a GRN made of the desk's country, the holder and this serial, and the rest in range
+-- the columns of a guarantee: the GRN of this guarantee of the holder, and the rest in range
 pub record IsGuaranteeInRange (country : List ℕ) (g : Keyed Guarantee) : Type 0 where
-  pub grn : (year : ℕ) × (year ≤ 99) × (g.row.grn ≡ grn_text year country g.holder g.serial)
+  pub grn : IsGrnOf country g.holder g.serial g.row
   pub reference : IsReference g.row.reference
   pub cover : IsCover g.row.cover
   pub ends : IfSome g.row.ends IsDay
@@ -42,7 +44,7 @@ pub record IsGuaranteeInRange (country : List ℕ) (g : Keyed Guarantee) : Type 
 pub record HasGuarantees (t : Tables) (row : HolderRow) : Type 0 where
   pub serials : IsNumbered place 0 (guarantees_by row.holder t)
   pub count : row.grn_count ≡ length (guarantees_by row.holder t)
-  pub most : row.grn_count ≤ 999999
+  pub most : row.grn_count ≤ greatest_grn_serial
   pub columns : AllByRecursion (IsGuaranteeInRange t.country) (guarantees_by row.holder t)
 
 -- how many codes a guarantee has
@@ -55,12 +57,11 @@ pub record HasCodes (t : Tables) (row : HolderRow) : Type 0 where
       (part row.holder t.codes)
   pub form : AllByRecursion (λ (c : Keyed (List ℕ)). IsAccessCode c.row) (part row.holder t.codes)
   pub some : AllByRecursion (λ g. 1 ≤ count_of_codes t g) (guarantees_by row.holder t)
-  pub most : AllByRecursion (λ g. count_of_codes t g ≤ 20) (guarantees_by row.holder t)
+  pub most : AllByRecursion (λ g. count_of_codes t g ≤ most_codes) (guarantees_by row.holder t)
 
--- the columns of a movement: the MRN that is made of the year of its acceptance, the desk's country, the holder
--- and this serial, the rest in range, and the days and offices of its state
+-- the columns of a movement: the MRN of this movement of the holder, the rest in range, and the days and offices of its state
 pub record IsMovementInRange (country : List ℕ) (m : Keyed Movement) : Type 0 where
-  pub mrn : m.row.mrn ≡ mrn_text (year_of m.row.accepted % 100) country m.holder m.serial
+  pub mrn : IsMrnOf country m.holder m.serial m.row
   pub lrn : IsLrn m.row.lrn
   pub departure : IsOfficeNo m.row.departure
   pub destination : IsOfficeNo m.row.destination
@@ -72,7 +73,7 @@ pub record IsMovementInRange (country : List ℕ) (m : Keyed Movement) : Type 0 
 pub record HasMovements (t : Tables) (row : HolderRow) : Type 0 where
   pub serials : IsNumbered place 0 (movements_by row.holder t)
   pub count : row.mrn_count ≡ length (movements_by row.holder t)
-  pub most : row.mrn_count ≤ 9999999
+  pub most : row.mrn_count ≤ greatest_mrn_serial
   pub columns : AllByRecursion (IsMovementInRange t.country) (movements_by row.holder t)
 
 -- the serial of the guarantee that a line names
@@ -84,7 +85,7 @@ named_by l = l.row.guarantee
 pub record AreLinesInRange (t : Tables) (m : Keyed Movement) : Type 0 where
   pub numbers : IsNumbered no_of 0 (lines_by m.holder m.serial t)
   pub some : 1 ≤ length (lines_by m.holder m.serial t)
-  pub most : length (lines_by m.holder m.serial t) ≤ 9
+  pub most : length (lines_by m.holder m.serial t) ≤ most_lines
   pub name : AllByRecursion (λ l. IsSome (row_at place (named_by l) (guarantees_by m.holder t)))
       (lines_by m.holder m.serial t)
   pub apart : IsApart named_by (lines_by m.holder m.serial t)

@@ -5,18 +5,15 @@ ghost use Rattle.td_store_rows.specs.GuaranteeTable.{row_of_stored};
 ghost use Rattle.td_store_audit_rows.specs.InPlace.{AreGuaranteesInPlace, IsGuaranteeInPlace};
 
 use ascii_text::read_digits;
-use td_base::{Country, Grn};
+use td_base::{Country, GREATEST_GRN_SERIAL, Grn};
 use td_store_rows::StoredGuarantee;
-
-/// The most guarantees of a holder: the serial in a GRN has six digits.
-const MOST: u32 = 999_999;
 
 /// Whether these are all of a holder's guarantees, by their serials, of which the holder's row counts so many: none is left out, and
 /// each has a GRN of the country, the holder and its serial, and a reference amount above nothing.
 pub fn guarantees_are_in_place(country: Country, count: u32, rows: &[StoredGuarantee]) -> bool
     ensures { IsTrue result ↔ AreGuaranteesInPlace country count (map row_of_stored rows.now) }
 {
-    if count as usize != rows.len() || count > MOST {
+    if count as usize != rows.len() || count > GREATEST_GRN_SERIAL {
         return false;
     }
     for i in 0..rows.len() {

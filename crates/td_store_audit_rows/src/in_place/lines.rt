@@ -6,20 +6,15 @@ ghost use Rattle.td_store_rows.specs.LineTable.{row_of_stored};
 ghost use Rattle.td_store_audit_rows.specs.InPlace.{AreLinesInPlace};
 
 use td_base::Cents;
+use td_movement::{MOST_LINE_CENTS, MOST_LINES};
 use td_store_rows::StoredLine;
-
-/// The most lines of a movement.
-const MOST: usize = 9;
-
-/// The greatest amount of a line, in cents.
-const MOST_CENTS: u64 = 1_000_000_000_000;
 
 /// Whether these are the lines of a movement, by their numbers, of a holder who has so many guarantees: they are numbered from 1 to at
 /// most 9, each is on one of those guarantees, no two on one, and each has an amount in range.
 pub fn lines_are_in_place(guarantees: u32, rows: &[StoredLine]) -> bool
     ensures { IsTrue result ↔ AreLinesInPlace guarantees (map row_of_stored rows.now) }
 {
-    if rows.is_empty() || rows.len() > MOST {
+    if rows.is_empty() || rows.len() > MOST_LINES {
         return false;
     }
     for i in 0..rows.len() {
@@ -40,7 +35,7 @@ pub fn lines_are_in_place(guarantees: u32, rows: &[StoredLine]) -> bool
 fn is_amount(cents: Cents) -> bool
     ensures { IsTrue result ↔ IsLineAmount cents }
 {
-    cents.get() >= 1 && cents.get() <= MOST_CENTS
+    cents.get() >= 1 && cents.get() <= MOST_LINE_CENTS
 }
 
 // Whether one of the rows names the guarantee.

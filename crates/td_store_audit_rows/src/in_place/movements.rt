@@ -5,12 +5,9 @@ ghost use Rattle.td_movement.specs.Status.{HasDaysOf};
 ghost use Rattle.td_store_rows.specs.MovementTable.{row_of_stored};
 ghost use Rattle.td_store_audit_rows.specs.InPlace.{AreMovementsInPlace, IsMovementInPlace};
 
-use td_base::{Country, Mrn};
+use td_base::{Country, GREATEST_MRN_SERIAL, Mrn};
 use td_movement::{Movement, State};
 use td_store_rows::StoredMovement;
-
-/// The most movements of a holder: the serial in an MRN has seven digits.
-const MOST: u32 = 9_999_999;
 
 /// Whether these are all of a holder's movements, by their serials, of which the holder's row counts so many: none is left out, and
 /// each has the MRN of the year of its acceptance, the country, the holder and its serial, and the days and the office of
@@ -18,7 +15,7 @@ const MOST: u32 = 9_999_999;
 pub fn movements_are_in_place(country: Country, count: u32, rows: &[StoredMovement]) -> bool
     ensures { IsTrue result ↔ AreMovementsInPlace country count (map row_of_stored rows.now) }
 {
-    if count as usize != rows.len() || count > MOST {
+    if count as usize != rows.len() || count > GREATEST_MRN_SERIAL {
         return false;
     }
     for i in 0..rows.len() {

@@ -12,7 +12,7 @@ use Rattle.td_store_audit.specs.Found.{serial_of_code}
 use Rattle.td_store_audit.specs.InPlace.{AreOneToTwenty, IsBySerial}
 use Rattle.td_store_audit.proofs.Runs.{IsSplit, next_split, run_length}
 use Rattle.td_store_audit.proofs.codes_in_place.codes_are_in_place.Goals as goal
-use Rattle.td_store_audit.proofs.codes_in_place.codes_are_in_place.Goals.{then-end-start-via-then-end-start, then-end-start-via-else-end-start+then-end-start-gt-MOST}
+use Rattle.td_store_audit.proofs.codes_in_place.codes_are_in_place.Goals.{then-end-start-via-then-end-start, then-end-start-via-else-end-start+then-end-start-gt-MOST_CODES}
 
 pub loop-before-init : goal.loop-before-init
 loop-before-init c =
@@ -43,7 +43,7 @@ returns-then-end-start c = λ sorted. (
       let is = kept.each (n + 1) (omega arith) (omega (arith, c.loop-before-test.true)) in
       elim c.then-end-start.branch [
         | then-end-start-via-then-end-start w ↦ absurd (omega (arith, w.if-end-start.true, is.some, long))
-        | then-end-start-via-else-end-start+then-end-start-gt-MOST w ↦ absurd (omega (arith, w.if-end-start-gt-MOST.true, is.most, long))
+        | then-end-start-via-else-end-start+then-end-start-gt-MOST_CODES w ↦ absurd (omega (arith, w.if-end-start-gt-MOST_CODES.true, is.most, long))
       ],
 )
 
@@ -80,7 +80,7 @@ loop-before-preserved c = (c.end_of_run-end.ensures.last, next)
         here : AreOneToTwenty (of_key place (n + 1) (map row_of_stored rows))
         here = record {
           some = let other = c.if-end-start.false in omega (arith, long, other, c.end_of_run-end.ensures.first);
-          most = omega (arith, long, c.if-end-start-gt-MOST.false);
+          most = omega (arith, long, c.if-end-start-gt-MOST_CODES.false);
         }
 
         go : (k : ℕ) → 1 ≤ k → k ≤ n + 1 → (b : Bool) → nat_lt k (n + 1) ≡ b → AreOneToTwenty (of_key place k (map row_of_stored rows))

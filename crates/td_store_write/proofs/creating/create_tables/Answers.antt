@@ -7,7 +7,7 @@ use Rattle.sqlite.proofs.Callers.{survives_begin}
 use Rattle.sqlite.proofs.StateLemmas.{survives_then}
 use Rattle.td_schema.specs.Making.{IsEmptyOf}
 use Rattle.td_schema.specs.Tables.{no_schema, desk_schema}
-use Rattle.td_store_rows.specs.MetaColumns.{meta_row}
+use Rattle.td_store_rows.specs.MetaColumns.{meta_row, newest_version}
 use Rattle.td_store_rows.specs.MetaTable.{TurnsMeta}
 use Rattle.typed_sql.proofs.Leaving.{on_ok}
 use Rattle.td_store_write.specs.Created.{AreOfEmptyDesk, MayLeaveEmpty}
@@ -26,7 +26,7 @@ returns-clause-created g c clean =
     let clean_b : HasCleanDisk b = omega (arith, clean_d, c.insert_meta.ensures.survives.clean) in
     let made : IsEmptyOf no_schema a.now → IsEmptyOf desk_schema b.now =
     rw c.transaction-tx.ensures.begun at (c.in_ok-make_tables.ensures.made clean_b) in
-    let put : TurnsMeta (λ rows. meta_row 1 c.args.country ∷ rows) b d = c.in_ok-insert_meta.ensures.inserted clean_d in
+    let put : TurnsMeta (λ rows. meta_row newest_version c.args.country ∷ rows) b d = c.in_ok-insert_meta.ensures.inserted clean_d in
     let committed : OnOk c.commit.result (IsTrue d.in_transaction × Shows d e d.now d.now false × KeepsCounts d e × (e.marks ≡ [])) = search rules in
     on_ok c.commit.result (λ done none.
     let there = of_empty_desk c.args.country b d (made none) put in

@@ -22,7 +22,7 @@ returns-then-rows-i c =
         | then-rows-i-via-else-rows-i+then-not-is_in_place w ↦
             let d = w.index-rows-i-else-rows-i.result in
             let fact = subst (λ (x : StoredGuarantee). (x.serial ≡ 0 + (i + 1)) × IsGuaranteeInPlace c.args.country (row_of_stored x)) (sym w.index-rows-i-else-rows-i.is) (keeps kept d) in
-            let serial : IsGrnSerial d.serial = (omega (arith, fact.0), omega (arith, fact.0, c.loop-i-test.true, c.if-count-rows.false, c.if-count-gt-MOST.false)) in
+            let serial : IsGrnSerial d.serial = (omega (arith, fact.0), omega (arith, fact.0, c.loop-i-test.true, c.if-count-rows.false, c.if-count-gt-GREATEST_GRN_SERIAL.false)) in
             absurd (false≢true (sym w.if-not-is_in_place.true ∙ (w.is_in_place.ensures serial).1 fact.1))
       ],
     )
@@ -34,7 +34,7 @@ returns c =
       λ t. record {
         serials = all.0;
         count = c.if-count-rows.false ∙ sym (length-map c.args.rows.now row_of_stored);
-        most = c.if-count-gt-MOST.false;
+        most = c.if-count-gt-GREATEST_GRN_SERIAL.false;
         each = all.1;
       },
       λ kept. refl,
@@ -46,5 +46,5 @@ loop-i-preserved c =
     let i = c.loop-i.i in
     let x = c.index-rows-i-else-rows-i.result in
     let serial : x.serial ≡ i + 1 = ap (λ (r : StoredGuarantee). r.serial) (c.index-rows-i-else-rows-i.is ∙ get_or_default c.args.rows.now i x c.index-rows-i.result c.loop-i-test.true) ∙ c.if-rows-i.false in
-    let in_range : IsGrnSerial x.serial = (omega (arith, serial), omega (arith, serial, c.loop-i-test.true, c.if-count-rows.false, c.if-count-gt-MOST.false)) in
+    let in_range : IsGrnSerial x.serial = (omega (arith, serial), omega (arith, serial, c.loop-i-test.true, c.if-count-rows.false, c.if-count-gt-GREATEST_GRN_SERIAL.false)) in
     one_more row_of_stored place (IsGuaranteeInPlace c.args.country) c.args.rows.now i x c.loop-i.invariant c.loop-i-test.true c.index-rows-i-else-rows-i.is serial ((c.is_in_place.ensures in_range).0 c.if-not-is_in_place.false)

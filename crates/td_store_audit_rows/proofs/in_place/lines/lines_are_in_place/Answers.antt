@@ -64,7 +64,7 @@ returns c =
       λ t. record {
         numbers = all.0;
         some = omega (arith, long, some);
-        most = omega (arith, long, c.if-rows-gt-MOST.false);
+        most = omega (arith, long, c.if-rows-gt-MOST_LINES.false);
         each = all.1;
         apart = apart_read row_of_stored named_by rows (pairs_apart (λ (s : StoredLine). s.guarantee) rows pairs);
       },

@@ -22,7 +22,7 @@ returns-then-rows-i c =
         | then-rows-i-via-else-rows-i+then-not-is_in_place w ↦
             let d = w.index-rows-i-else-rows-i.result in
             let fact = subst (λ (x : StoredMovement). (x.serial ≡ 0 + (i + 1)) × IsMovementInPlace c.args.country (row_of_stored x)) (sym w.index-rows-i-else-rows-i.is) (keeps kept d) in
-            let serial : IsMrnSerial d.serial = (omega (arith, fact.0), omega (arith, fact.0, c.loop-i-test.true, c.if-count-rows.false, c.if-count-gt-MOST.false)) in
+            let serial : IsMrnSerial d.serial = (omega (arith, fact.0), omega (arith, fact.0, c.loop-i-test.true, c.if-count-rows.false, c.if-count-gt-GREATEST_MRN_SERIAL.false)) in
             absurd (false≢true (sym w.if-not-is_in_place.true ∙ (w.is_in_place.ensures serial).1 fact.1))
       ],
     )
@@ -34,7 +34,7 @@ returns c =
       λ t. record {
         serials = all.0;
         count = c.if-count-rows.false ∙ sym (length-map c.args.rows.now row_of_stored);
-        most = c.if-count-gt-MOST.false;
+        most = c.if-count-gt-GREATEST_MRN_SERIAL.false;
         each = all.1;
       },
       λ kept. refl,
