@@ -10,6 +10,7 @@ mod moving;
 mod releasing;
 mod rows;
 mod serials;
+// `verdict` isn't handed on here: a function and a type whose names differ only in case may not stand in one module.
 pub mod table;
 mod terms;
 mod views;

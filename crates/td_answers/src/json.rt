@@ -12,7 +12,8 @@ use std::fmt;
 use td_base::{AccessCode, Cents, Cover, Day, Eori, Grn, HolderNo, Lrn, Mrn, OfficeNo};
 use td_movement::State;
 
-/// What JSON shows of a value, and its text.
+/// What JSON shows of a value, and its text. It stands in this crate, since another crate's trait can't be implemented here for the
+/// types of td_base.
 pub(crate) trait ToJson {
     ghost shown: { Self → Data };
 

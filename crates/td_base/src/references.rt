@@ -1,4 +1,5 @@
-//! References: what prints, owns and numbers them. The texts of MRN and GRN differ in their length alone.
+//! References: what prints, owns and numbers them. The texts of MRN and GRN differ in their length alone: `Grn` and
+//! `Mrn` add that, and their greatest serial.
 ghost use Rattle.std.specs.Prelude.{◌≡◌, ◌+◌, ◌-◌, ◌≤◌, ◌++◌, length, IsTrue, ◌↔◌, Some, SomeIff, IfSome, OkIff, IfErr};
 ghost use Rattle.ascii_text.specs.Digits.{fixed_decimal};
 ghost use Rattle.td_base.specs.Country.{IsCountry};

@@ -95,6 +95,7 @@ impl<S: Store> Desk for S {
     }
 
     fn weigh(&mut self, alloc: Global, at: i64, command: &Command) -> Result<Decision, Fault> {
+        // For its clause: the parts of the command are in the ranges of their types.
         let _known = known(command);
         let owner = owner(self.office(), command);
         let mut loaded = self.load(alloc, owner, &command.needs())?;

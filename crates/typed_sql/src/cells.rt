@@ -45,6 +45,7 @@ pub fn is_null_at(row: &Row, at: usize) -> bool
     ensures value { result ≡ is_null (column row.now at) }
     ensures stored { IsTrue result → column row.now at ≡ Null }
 {
+    // A column that isn't there is NULL in the definition of a row's columns too, so that this is one equation over `column`.
     match row.get_ref(at) {
         Ok(ValueRef::Null) | Err(_) => true,
         Ok(_) => false,
