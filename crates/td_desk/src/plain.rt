@@ -23,12 +23,12 @@ pub struct PlainDesk {
 }
 
 impl PlainDesk {
-    ghost use Rattle.td_desk.specs.Plain.{rows_in};
+    ghost use Rattle.td_desk.specs.Plain.{plain_content};
 
     /// A desk of that country with no holders. `AllocError`: want of memory.
     pub fn new(alloc: Global, country: Country) -> Result<PlainDesk, AllocError>
-        ensures empty { IfOk result (λ desk. rows_in desk ≡ empty_content country) }
-        ensures sound { IfOk result (λ desk. IsSound (rows_in desk)) }
+        ensures empty { IfOk result (λ desk. plain_content desk ≡ empty_content country) }
+        ensures sound { IfOk result (λ desk. IsSound (plain_content desk)) }
     {
         let _letters = country.as_bytes();
         Ok(PlainDesk {
@@ -40,9 +40,9 @@ impl PlainDesk {
 
 impl Store for PlainDesk {
     ghost use Rattle.td_desk.specs.declared.fault.Fault.TheVariants as fault;
-    ghost use Rattle.td_desk.specs.Plain.{rows_in};
+    ghost use Rattle.td_desk.specs.Plain.{plain_content};
 
-    ghost rows = { rows_in };
+    ghost rows = { plain_content };
 
     ghost is_kept = { λ _. Unit {0} };
 

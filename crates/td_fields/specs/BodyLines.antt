@@ -18,11 +18,11 @@ line_in value =
     (option_and_then cents_of (number_at (codes "cents") value))
 
 -- the lines that the elements of an array say, in order, where each says one
-abbrev pub lines_in : Items → Option (List (Line × List ℕ))
-lines_in no_items = Some []
-lines_in (item value values) =
-    option_and_then (λ line. option_map (λ lines. line ∷ lines) (lines_in values)) (line_in value)
+abbrev pub lines_of_body : Items → Option (List (Line × List ℕ))
+lines_of_body no_items = Some []
+lines_of_body (item value values) =
+    option_and_then (λ line. option_map (λ lines. line ∷ lines) (lines_of_body values)) (line_in value)
 
 -- the lines of a key
 abbrev pub lines_at : List ℕ → Data → Option (List (Line × List ℕ))
-lines_at key value = option_and_then lines_of (option_and_then lines_in (array_at key value))
+lines_at key value = option_and_then lines_of (option_and_then lines_of_body (array_at key value))

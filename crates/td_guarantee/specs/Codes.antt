@@ -28,6 +28,6 @@ abbrev pub without_code : List ℕ → List (List ℕ) → List (List ℕ)
 without_code code codes = filter (λ c. not (bytes_eq c code)) codes
 
 -- the codes as they are kept: one that stands alone, or those of a list
-abbrev pub codes_in : Items → List (List ℕ)
-codes_in (One code) = code ∷ []
-codes_in (Many codes) = codes.items
+abbrev pub codes_kept : Items → List (List ℕ)
+codes_kept (One code) = code ∷ []
+codes_kept (Many codes) = codes.items

@@ -18,11 +18,11 @@ impl<D: Desk + Drop> Handler for Service<D> {
     ghost handles_head = { IsHeadHandledBy };
 
     fn handle(&mut self, alloc: Global, at: i64, request: &Request) -> Reply {
-        self.handle(alloc, at, request)
+        Service::handle(self, alloc, at, request)
     }
 
     fn head(&mut self, alloc: Global, target: &[u8]) -> Reply {
-        self.head(alloc, target)
+        Service::head(self, alloc, target)
     }
 }
 

@@ -78,7 +78,13 @@ fn reply_to_fault(fault: Fault) -> Reply
 }
 
 // The reply to a command.
-fn reply_to<D: Desk>(alloc: Global, desk: &mut D, at: i64, command: &Command, close: bool) -> Reply
+fn reply_to_command<D: Desk>(
+    alloc: Global,
+    desk: &mut D,
+    at: i64,
+    command: &Command,
+    close: bool,
+) -> Reply
     ensures clean { D.is_clean desk.new → D.is_clean desk.old }
     ensures live { D.is_clean desk.new → D.is_live desk.new → D.is_live desk.old }
     ensures handled { D.is_clean desk.new
@@ -138,7 +144,7 @@ impl<D: Desk + Drop> Service<D> {
         ensures alone { IsPrivateAlone D.content D.is_clean D.is_live self.old at (asked request.now) result self.new }
     {
         match read_command_by(alloc, &mut self.routes, request) {
-            Ok(command) => reply_to(alloc, &mut self.desk, at, &command, request.close),
+            Ok(command) => reply_to_command(alloc, &mut self.desk, at, &command, request.close),
             Err(fault) => reply_to_unread(alloc, &fault, request.close),
         }
     }

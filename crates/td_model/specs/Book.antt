@@ -40,11 +40,11 @@ serial_in uses n (a ∷ acts) = serial_in uses (n + uses a.command) acts
 
 -- The rows after all acts, where n serials are used before: each act says anew what it says of the rows before it,
 -- and what it makes stands behind them.
-abbrev pub rows_in : {R : Type 0} → (ℕ → Command → R → R) → (ℕ → ℕ → Command → List R) → (Command → ℕ)
+abbrev pub rows_after_acts : {R : Type 0} → (ℕ → Command → R → R) → (ℕ → ℕ → Command → List R) → (Command → ℕ)
     → ℕ → List R → List Act → List R
-rows_in said made uses n rows [] = rows
-rows_in said made uses n rows (a ∷ acts) =
-    rows_in said made uses (n + uses a.command) (map (said a.at a.command) rows ++ made n a.at a.command) acts
+rows_after_acts said made uses n rows [] = rows
+rows_after_acts said made uses n rows (a ∷ acts) =
+    rows_after_acts said made uses (n + uses a.command) (map (said a.at a.command) rows ++ made n a.at a.command) acts
 
 abbrev pub eori_of : Book → Option (List ℕ)
 eori_of book = eori_in (option_map (λ (r : HolderRow). r.eori) book.opening.holder) book.acts
@@ -71,13 +71,13 @@ mrn_count_of book = serial_in declarations (mrn_count_before book) book.acts
 -- guarantee n: that of the start, else the n-th opening
 abbrev pub guarantees_of : ℕ → Book → List Guarantee
 guarantees_of H book =
-    rows_in guarantee_said (opened_by book.opening.country H) openings
+    rows_after_acts guarantee_said (opened_by book.opening.country H) openings
     (grn_count_before book) book.opening.guarantees book.acts
 
 -- movement n: that of the start, else the n-th declaration, in the state that the last act naming it says
 abbrev pub movements_of : ℕ → Book → List Movement
 movements_of H book =
-    rows_in movement_said (declared_by book.opening.country H) declarations
+    rows_after_acts movement_said (declared_by book.opening.country H) declarations
     (mrn_count_before book) book.opening.movements book.acts
 
 -- the account of these parts

@@ -13,6 +13,6 @@ abbrev pub most_line_cents : ℕ
 most_line_cents = 10 ^ 12
 
 -- the lines: one that stands alone, or those of a list
-abbrev pub lines_in : Items → List Line
-lines_in (One lines) = lines
-lines_in (Many lines) = lines.items
+abbrev pub lines_kept : Items → List Line
+lines_kept (One lines) = lines
+lines_kept (Many lines) = lines.items

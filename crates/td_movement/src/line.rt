@@ -34,11 +34,11 @@ enum Items {
 impl Model for MovementLines {
     ghost use Rattle.std.specs.Prelude.{List};
     ghost use Rattle.td_movement.specs.declared.line.Line.{Line};
-    ghost use Rattle.td_movement.specs.Lines.{lines_in};
+    ghost use Rattle.td_movement.specs.Lines.{lines_kept};
 
     ghost Value = { List Line };
 
-    ghost view = { λ l. lines_in l.items };
+    ghost view = { λ l. lines_kept l.items };
 }
 
 impl MovementLines {

@@ -10,7 +10,7 @@ use Rattle.td_base.specs.Country.{IsCountry, country_read, is_country}
 use Rattle.td_base.proofs.Decided.{capitals_decided, some_where}
 use Rattle.td_table_model.specs.declared.rule.Rule.{Rule}
 use Rattle.td_table_model.specs.declared.rule.Rule.TheVariants.{S1}
-use Rattle.typed_sql.specs.Typed.{AreTyped, rows_in}
+use Rattle.typed_sql.specs.Typed.{AreTyped, typed_rows}
 use Rattle.td_store_rows.specs.MetaColumns.{MetaRow, meta_row, meta_typing, newest_version}
 use Rattle.td_store_rows.specs.MetaTable.{stored_of}
 use Rattle.td_store_rows.specs.declared.meta.stored.StoredMeta.{StoredMeta}
@@ -54,7 +54,7 @@ made_of row country version text =
     ap (λ v. record { version = v; country = row.country }) version ∙ ap (meta_row newest_version) text
 
 module _ (country : List ℕ) (trees : Trees) (office : Option StoredMeta)
-    (found : AreTyped meta_typing trees → map stored_of (rows_in meta_typing trees) ≡ option_to_list office) where
+    (found : AreTyped meta_typing trees → map stored_of (typed_rows meta_typing trees) ≡ option_to_list office) where
   not_of_version : ((m : StoredMeta) → office ≡ Some m → m.version ≢ pos newest_version) → ¬ IsOfVersion newest_version trees
   not_of_version none is =
       let one : stored_of (meta_row newest_version is.country) ∷ [] ≡ option_to_list office =
@@ -62,8 +62,8 @@ module _ (country : List ℕ) (trees : Trees) (office : Option StoredMeta)
       none (stored_of (meta_row newest_version is.country)) (only_one _ office one) refl
 
   row_there : (m : StoredMeta) → office ≡ Some m → AreTyped meta_typing trees
-      → (row : MetaRow) × (rows_in meta_typing trees ≡ row ∷ []) × (stored_of row ≡ m)
-  row_there m is typed = one_row (rows_in meta_typing trees) m (found typed ∙ ap option_to_list is)
+      → (row : MetaRow) × (typed_rows meta_typing trees ≡ row ∷ []) × (stored_of row ≡ m)
+  row_there m is typed = one_row (typed_rows meta_typing trees) m (found typed ∙ ap option_to_list is)
 
   of_this : TellsOffice country office None → AreTyped meta_typing trees → HasOfficeRow newest_version country trees
   of_this is typed =

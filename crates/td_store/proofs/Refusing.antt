@@ -9,7 +9,7 @@ use Rattle.sqlite.specs.Effect.{Database}
 use Rattle.sqlite.specs.State.{State}
 use Rattle.td_desk.specs.Content.{Content}
 use Rattle.td_schema.specs.Tables.{desk_schema}
-use Rattle.typed_sql.specs.Typed.{row_of, rows_in}
+use Rattle.typed_sql.specs.Typed.{row_of, typed_rows}
 use Rattle.td_store_rows.specs.MetaColumns.{meta_typing, newest_version}
 use Rattle.td_store_rows.specs.StoreTables.{HoldsContent, country_in}
 use Rattle.td_store_audit_rows.specs.Laws.{ContentKeepsRules}
@@ -67,7 +67,7 @@ none_lacks s is lacks = let e = sym meta_there ∙ ap (λ t. table_named t (code
 
 one_row : (country : List ℕ) (trees : Trees) → HasOfficeRow newest_version country trees → length (trees meta_typing.table.tree) ≤ 1
 one_row country trees row =
-    let one : length (rows_in meta_typing trees) ≡ 1 = ap length row in
+    let one : length (typed_rows meta_typing trees) ≡ 1 = ap length row in
     let all = length-map (trees meta_typing.table.tree) (row_of meta_typing) in
     omega (arith, one, all)
 

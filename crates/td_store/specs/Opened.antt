@@ -7,7 +7,7 @@ use Rattle.sqlite_trees.specs.Tree.{Trees}
 use Rattle.sqlite.specs.Effect.{Database}
 use Rattle.td_table_model.specs.declared.rule.Rule.{Rule}
 use Rattle.td_schema.specs.Tables.{desk_schema}
-use Rattle.typed_sql.specs.Typed.{AreTyped, rows_in}
+use Rattle.typed_sql.specs.Typed.{AreTyped, typed_rows}
 use Rattle.td_store_rows.specs.MetaColumns.{meta_row, meta_typing, newest_version}
 use Rattle.td_store_rows.specs.MetaTable.{stored_of}
 use Rattle.td_store_rows.specs.declared.meta.stored.StoredMeta.{StoredMeta}
@@ -26,7 +26,7 @@ LacksMeta s = table_named s (codes "meta") ≡ None
 
 -- the office's own row, which is there once, says this version and this country
 abbrev pub HasOfficeRow : ℕ → List ℕ → Trees → Type 0
-HasOfficeRow version country trees = rows_in meta_typing trees ≡ meta_row version country ∷ []
+HasOfficeRow version country trees = typed_rows meta_typing trees ≡ meta_row version country ∷ []
 
 -- it is typed, and says this version
 pub record IsOfVersion (version : ℕ) (trees : Trees) : Type 0 where
@@ -77,7 +77,7 @@ TellsOffice country meta (Some _) = ⊥
 -- it is told of the office's own row as it stands in the tables
 abbrev pub TellsOfficeIn : List ℕ → Trees → Option OpenFault → Type 0
 TellsOfficeIn country trees fault =
-    (meta : Option StoredMeta) × (AreTyped meta_typing trees → map stored_of (rows_in meta_typing trees) ≡ option_to_list meta)
+    (meta : Option StoredMeta) × (AreTyped meta_typing trees → map stored_of (typed_rows meta_typing trees) ≡ option_to_list meta)
     × TellsOffice country meta fault
 
 -- where the rowids are integers, no two the same, and these tables can be read, it is told what the rules say of the tables

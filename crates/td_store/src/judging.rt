@@ -16,7 +16,7 @@ use sqlite::{Connection, Error};
 use sqlite_trees::store::Alter;
 use std::alloc::Global;
 use td_base::Country;
-use td_store_audit::{first_broken, kept};
+use td_store_audit::{database_keeps, first_broken};
 use td_store_audit_rows::{Readable, kept_rules_mean_content, readable_tables};
 use td_store_rows::find_meta;
 use td_table_model::Rule;
@@ -66,7 +66,7 @@ fn broken_rule<S: Alter>(
     ensures crash { Survives (state S.Store conn.old) (state S.Store conn.new) (LeavesTrees (state S.Store conn.old)) }
 {
     let _settled = conn.is_autocommit();
-    kept(conn);
+    database_keeps(conn);
     let mut tx = conn.transaction();
     let broken = first_broken(alloc, &mut tx, readable)?;
     tx.commit()?;

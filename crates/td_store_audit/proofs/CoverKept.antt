@@ -29,7 +29,7 @@ use Rattle.td_store_audit_rows.specs.Found.{FoundHoldersTell}
 use Rattle.td_store_audit_rows.specs.Kinds.{KeepsRaw}
 use Rattle.td_store_audit_rows.specs.declared.holders.RawHolder.{RawHolder}
 use Rattle.td_store_audit.specs.Auditable.{IsAuditable, KeepsBefore}
-use Rattle.td_store_audit.specs.Handed.{AreCounting, AreItsLines, IsCoverAuditable, IsHandedOn, holder_in, movements_in}
+use Rattle.td_store_audit.specs.Handed.{AreCounting, AreItsLines, IsCoverAuditable, IsHandedOn, raw_holder_of, movements_in}
 use Rattle.td_store_audit.specs.InFile.{AreTypedApart, IsHolderCoveredInFile, IsRowCovered, TellsWhere}
 use Rattle.td_store_audit.specs.declared.handed.HolderParts.{HolderParts}
 use Rattle.td_store_audit.proofs.HoldersTold.{holders_tell, of_pairs}
@@ -129,21 +129,21 @@ all_handed_on : (trees : Trees) (country : List ℕ) (handed : List HolderParts)
 all_handed_on trees country handed is =
     all_both (λ h. AreCounting trees (movements_in h)) (AreItsLines trees) (IsHandedOn trees)
     (λ h counting lines. record {
-      guarantees = guarantees_typed trees country (map holder_in handed) is.known is.before;
-      apart = (movements_typed trees country (map holder_in handed) is.known is.before).apart h.movements.raw.holder;
+      guarantees = guarantees_typed trees country (map raw_holder_of handed) is.known is.before;
+      apart = (movements_typed trees country (map raw_holder_of handed) is.known is.before).apart h.movements.raw.holder;
       counting = counting;
       lines = lines;
     }) handed is.counting is.lines
 
 -- so it is told
 pub told_cover : (a : State) (handed : List HolderParts) → FoundHoldersTell → (result : Result Bool Error)
-    → IfOk result (TellsWhere (λ trees. AllByRecursion (IsHandedOn trees) handed) (λ trees. AllByRecursion (λ h. IsHolderCoveredInFile trees (holder_in h)) handed) a)
+    → IfOk result (TellsWhere (λ trees. AllByRecursion (IsHandedOn trees) handed) (λ trees. AllByRecursion (λ h. IsHolderCoveredInFile trees (raw_holder_of h)) handed) a)
     → IfOk result (λ keeps. (country : List ℕ) → TellsWhere (IsCoverAuditable country handed) (λ trees. KeepsRaw trees S8) a keeps)
 told_cover a handed law (Err e) each = each
 told_cover a handed law (Ok told) each = λ country has is.
     let trees = a.now.trees in
     let whole = each has (all_handed_on trees country handed is) in
-    let rule = kept_each law trees country (map holder_in handed) is.known is.before in (
-      λ t. rule.1 (all-map (IsHolderCoveredInFile trees) holder_in handed (whole.0 t)),
-      λ keeps. whole.1 (all_from_map (IsHolderCoveredInFile trees) holder_in handed (rule.0 keeps)),
+    let rule = kept_each law trees country (map raw_holder_of handed) is.known is.before in (
+      λ t. rule.1 (all-map (IsHolderCoveredInFile trees) raw_holder_of handed (whole.0 t)),
+      λ keeps. whole.1 (all_from_map (IsHolderCoveredInFile trees) raw_holder_of handed (rule.0 keeps)),
     )

@@ -12,7 +12,7 @@ use Rattle.td_table_model.specs.Tables.{Keyed, Tables}
 use Rattle.td_table_model.proofs.Counting.{filter_both}
 use Rattle.td_table_model.proofs.Orders.{in_order_permutes}
 use Rattle.td_table_model.proofs.Ruled.{are_mine}
-use Rattle.td_store_rows.specs.GuaranteeTable.{row_of_stored}
+use Rattle.td_store_rows.specs.GuaranteeTable.{guarantee_row_of}
 use Rattle.td_store_rows.specs.declared.guarantees.stored.StoredGuarantee.{StoredGuarantee}
 use Rattle.td_store_rows.specs.MovementTable.{serial_of_stored}
 use Rattle.td_store_rows.specs.declared.movements.stored.MovementSerial.{MovementSerial}
@@ -58,11 +58,11 @@ module _ (trees : Trees) (h : HolderParts) (is : IsHandedOn trees h) where
   row_is : (g : Keyed Guarantee) → owner g ≡ H → IsRowCovered trees g → Is g
   row_is g own low = omega (arith, in_use g.serial, ap (λ k. sum_by cents_of (lines_in_use k g.serial t)) own, low)
 
-  pub rows_tell : (rows : List StoredGuarantee) → map row_of_stored rows ≡ guarantees_by H t
+  pub rows_tell : (rows : List StoredGuarantee) → map guarantee_row_of rows ≡ guarantees_by H t
       → AllByRecursion (IsCoveredBy h) rows ↔ AllByRecursion (IsRowCovered trees) (guarantees_by H t)
   rows_tell rows found = (
     λ all. all_both (λ g. owner g ≡ H) Is (IsRowCovered trees) row_covered (guarantees_by H t) (are_mine H t.guarantees)
-        (subst (AllByRecursion Is) found (all-map Is row_of_stored rows all)),
-    λ all. all_from_map Is row_of_stored rows
+        (subst (AllByRecursion Is) found (all-map Is guarantee_row_of rows all)),
+    λ all. all_from_map Is guarantee_row_of rows
         (subst (AllByRecursion Is) (sym found) (all_both (λ g. owner g ≡ H) (IsRowCovered trees) Is row_is (guarantees_by H t) (are_mine H t.guarantees) all)),
   )

@@ -17,7 +17,7 @@ use Rattle.td_schema.specs.Tables.{desk_schema}
 use Rattle.td_table_model.specs.Apart.{IsApart}
 use Rattle.td_table_model.specs.Gathering.{holder_no}
 use Rattle.typed_sql.specs.Rows.{HaveIds}
-use Rattle.typed_sql.specs.Typed.{row_of, rows_in}
+use Rattle.typed_sql.specs.Typed.{row_of, typed_rows}
 use Rattle.typed_sql.specs.Values.{number_in, number_value}
 use Rattle.typed_sql.proofs.Ids.{has_own}
 use Rattle.td_store_rows.specs.HolderColumns.{holder_typing}
@@ -32,23 +32,23 @@ use Rattle.td_store_audit.proofs.Unique.{few, length_mapped}
 
 module _ (trees : Trees) (ids : HaveIds (trees 1)) where
   -- what is named by a holder's rowid is there
-  found : (H : ℕ) → AllByRecursion (λ p. rowid p ≡ number_value H → IsSome (row_at holder_no H (rows_in holder_typing trees))) (trees 1)
+  found : (H : ℕ) → AllByRecursion (λ p. rowid p ≡ number_value H → IsSome (row_at holder_no H (typed_rows holder_typing trees))) (trees 1)
   found H =
-      all_weaker (λ p. (holder_no (row_of holder_typing p) == H) ≡ true → IsSome (row_at holder_no H (rows_in holder_typing trees)))
-      (λ p. rowid p ≡ number_value H → IsSome (row_at holder_no H (rows_in holder_typing trees)))
+      all_weaker (λ p. (holder_no (row_of holder_typing p) == H) ≡ true → IsSome (row_at holder_no H (typed_rows holder_typing trees)))
+      (λ p. rowid p ≡ number_value H → IsSome (row_at holder_no H (typed_rows holder_typing trees)))
       (λ p so is. so (let own : number_in (rowid p) ≡ H = ap number_in is in grind (arith, nat_tests, own))) (trees 1)
       (each_found (λ h. holder_no h == H) (row_of holder_typing) (trees 1))
 
   pub owned : (row : Row) (H : ℕ) → column row 1 ≡ number_value H → HasParent trees (1 ∷ []) 1 (0 ∷ []) row
-      → IsSome (row_at holder_no H (rows_in holder_typing trees))
+      → IsSome (row_at holder_no H (typed_rows holder_typing trees))
   owned row H is has =
-      named_holder trees (IsSome (row_at holder_no H (rows_in holder_typing trees))) H ids (found H) row (number_ties (column row 1) H is) has
+      named_holder trees (IsSome (row_at holder_no H (typed_rows holder_typing trees))) H ids (found H) row (number_ties (column row 1) H is) has
 
   module _ (obeys : Obeys desk_schema trees) where
     pub owned_through : (row : Row) (H n : ℕ) → column row 1 ≡ number_value H → column row 2 ≡ number_value n
-        → HasParent trees (1 ∷ 2 ∷ []) 4 (1 ∷ 2 ∷ []) row → IsSome (row_at holder_no H (rows_in holder_typing trees))
+        → HasParent trees (1 ∷ 2 ∷ []) 4 (1 ∷ 2 ∷ []) row → IsSome (row_at holder_no H (typed_rows holder_typing trees))
     owned_through row H n =
-        named_movement trees (IsSome (row_at holder_no H (rows_in holder_typing trees))) H n ids (found H) (movements_named trees obeys) row
+        named_movement trees (IsSome (row_at holder_no H (typed_rows holder_typing trees))) H n ids (found H) (movements_named trees obeys) row
 
     -- each rowid is a holder's number
     numbered : AllByRecursion IsNumbered (trees 1)
@@ -56,7 +56,7 @@ module _ (trees : Trees) (ids : HaveIds (trees 1)) where
         all_both (λ r. rowid r ≡ Int (id_in (rowid r))) (λ r. passes Check desk_schema trees holders_there r ≡ true) IsNumbered
         (λ r is passed. checked trees r (id_in (rowid r)) is passed) (trees 1) ids.ints (obeys.rules Check).1.0
 
-    apart : IsApart holder_no (rows_in holder_typing trees)
+    apart : IsApart holder_no (typed_rows holder_typing trees)
     apart k =
         let less = few (λ r. number_in (rowid r) == k) (pos k) (trees 1) (all_weaker IsNumbered (λ r. (number_in (rowid r) == k) ≡ true → has_rowid (pos k) r ≡ true) same (trees 1) numbered) in
         let size = length_mapped (row_of holder_typing) (filter (λ r. number_in (rowid r) == k) (trees 1)) in

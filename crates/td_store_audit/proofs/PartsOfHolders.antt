@@ -13,7 +13,7 @@ use Rattle.td_table_model.specs.Gathering.{part}
 use Rattle.td_table_model.specs.Rules.{HasCodes, HasGuarantees, HasLines, HasMovements}
 use Rattle.td_table_model.specs.Tables.{Keyed, Tables}
 use Rattle.td_table_model.proofs.Ruled.{are_mine}
-use Rattle.typed_sql.specs.Typed.{row_of, rows_in}
+use Rattle.typed_sql.specs.Typed.{row_of, typed_rows}
 use Rattle.td_store_rows.specs.HolderColumns.{holder_typing}
 use Rattle.td_store_rows.specs.StoreTables.{tables_in}
 use Rattle.td_store_audit_rows.specs.Holders.{AreHoldersIn, HolderFields, fields_of, fields_of_raw}
@@ -46,7 +46,7 @@ module _ (trees : Trees) (found : List RawHolder) (all : AreHoldersIn trees foun
   numbered : AllByRecursion (λ r. IsSome (fields_of r).holder) rows
   numbered = to_rows (λ f. IsSome f.holder) (all_of (λ (h : RawHolder). IsSome (fields_of_raw h).holder) (λ h. refl) found)
 
-  pub numbers : AllByRecursion (λ (row : HolderRow). IsHolderNumber row.holder) (rows_in holder_typing trees)
+  pub numbers : AllByRecursion (λ (row : HolderRow). IsHolderNumber row.holder) (typed_rows holder_typing trees)
   numbers =
       all-map (λ (row : HolderRow). IsHolderNumber row.holder) (row_of holder_typing) rows
       (all_weaker (λ r. IsSome (fields_of r).holder) (λ r. IsHolderNumber (row_of holder_typing r).holder) (λ r some. ((tell r).0.holder.0 some).1) rows numbered)
@@ -57,7 +57,7 @@ module _ (trees : Trees) (found : List RawHolder) (all : AreHoldersIn trees foun
   -- a test of the fields that says of each row what another says of the row of the holder
   pub told : (P : HolderFields → Type 0) (K : Row → Type 0) (Q : HolderRow → Type 0)
       → ((r : Row) → IsSome (fields_of r).holder → K r → P (fields_of r) ↔ Q (row_of holder_typing r)) → AllByRecursion K rows
-      → AllByRecursion (λ h. P (fields_of_raw h)) found ↔ AllByRecursion Q (rows_in holder_typing trees)
+      → AllByRecursion (λ h. P (fields_of_raw h)) found ↔ AllByRecursion Q (typed_rows holder_typing trees)
   told P K Q says known = (
     λ each. all-map Q (row_of holder_typing) rows
         (all_both (λ r. IsSome (fields_of r).holder × K r) (λ r. P (fields_of r)) (λ r. Q (row_of holder_typing r)) (λ r k p. (says r k.0 k.1).0 p) rows both (to_rows P each)),

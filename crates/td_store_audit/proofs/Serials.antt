@@ -9,23 +9,23 @@ use Rattle.td_table_model.specs.Apart.{IsNumbered}
 use Rattle.td_table_model.specs.Gathering.{place}
 use Rattle.td_table_model.specs.Tables.{Keyed}
 use Rattle.td_table_model.proofs.Orders.{rises-map, rises_from_map, rises_lower}
-use Rattle.td_store_rows.specs.MovementTable.{row_of_stored, serial_of_stored}
+use Rattle.td_store_rows.specs.MovementTable.{movement_row_of, serial_of_stored}
 use Rattle.td_store_rows.specs.declared.movements.stored.MovementSerial.{MovementSerial}
 use Rattle.td_store_rows.specs.declared.movements.stored.StoredMovement.{StoredMovement}
 use Rattle.td_store_audit.specs.Handed.{is_counting_row}
 
 -- those in rows
 abbrev pub serials_in : List StoredMovement → List ℕ
-serials_in rows = map place (filter is_counting_row (map row_of_stored rows))
+serials_in rows = map place (filter is_counting_row (map movement_row_of rows))
 
 -- one row more
 pub serials_more : (rows : List StoredMovement) (i : ℕ) (row : StoredMovement) → i < length rows → row ≡ get_or rows i row
     → serials_in (take (i + 1) rows) ≡ serials_in (take i rows) ++ serials_in (row ∷ [])
 serials_more rows i row within is =
     ap serials_in (take_more rows i row within ∙ ap (λ r. take i rows ++ r ∷ []) (sym is))
-    ∙ ap (λ l. map place (filter is_counting_row l)) (map-append row_of_stored (take i rows) (row ∷ []))
-    ∙ ap (map place) (filter-append is_counting_row (map row_of_stored (take i rows)) (row_of_stored row ∷ []))
-    ∙ map-append place (filter is_counting_row (map row_of_stored (take i rows))) (filter is_counting_row (row_of_stored row ∷ []))
+    ∙ ap (λ l. map place (filter is_counting_row l)) (map-append movement_row_of (take i rows) (row ∷ []))
+    ∙ ap (map place) (filter-append is_counting_row (map movement_row_of (take i rows)) (movement_row_of row ∷ []))
+    ∙ map-append place (filter is_counting_row (map movement_row_of (take i rows))) (filter is_counting_row (movement_row_of row ∷ []))
 
 module _ {R : Type 0} (key : R → ℕ) where
   -- numbered rows rise

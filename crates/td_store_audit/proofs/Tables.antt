@@ -13,7 +13,7 @@ use Rattle.td_schema.specs.Tables.{desk_schema}
 use Rattle.td_table_model.specs.Gathering.{holder_no, no_of, owner, place}
 use Rattle.td_table_model.specs.Stored.{AreOfHolders}
 use Rattle.td_table_model.specs.Tables.{Keyed}
-use Rattle.typed_sql.specs.Typed.{IsTypedRow, Typing, row_of, rows_in}
+use Rattle.typed_sql.specs.Typed.{IsTypedRow, Typing, row_of, typed_rows}
 use Rattle.typed_sql.specs.Values.{number_value}
 use Rattle.td_store_rows.specs.HolderColumns.{holder_typing}
 use Rattle.td_store_rows.specs.GuaranteeColumns.{guarantee_typing}
@@ -33,10 +33,10 @@ module _ (trees : Trees) (obeys : Obeys desk_schema trees) (ids : HaveAllIds tre
   -- rows that name a holder in their first column are of holders that are there
   owned_rows : {X : Type 0} (ty : Typing (Keyed X)) → ((r : Row) → IsTypedRow ty r → column r 1 ≡ number_value (owner (row_of ty r)))
       → AllByRecursion (HasParent trees (1 ∷ []) 1 (0 ∷ [])) (trees ty.table.tree) → AllRows ty (IsTypedRow ty) trees
-      → AreOfHolders (rows_in holder_typing trees) (rows_in ty trees)
+      → AreOfHolders (typed_rows holder_typing trees) (typed_rows ty trees)
   owned_rows ty first named typed =
-      all-map (λ k. IsSome (row_at holder_no (owner k) (rows_in holder_typing trees))) (row_of ty) (trees ty.table.tree)
-      (all_both (IsTypedRow ty) (HasParent trees (1 ∷ []) 1 (0 ∷ [])) (λ r. IsSome (row_at holder_no (owner (row_of ty r)) (rows_in holder_typing trees)))
+      all-map (λ k. IsSome (row_at holder_no (owner k) (typed_rows holder_typing trees))) (row_of ty) (trees ty.table.tree)
+      (all_both (IsTypedRow ty) (HasParent trees (1 ∷ []) 1 (0 ∷ [])) (λ r. IsSome (row_at holder_no (owner (row_of ty r)) (typed_rows holder_typing trees)))
       (λ r is has. owned trees ids.holders r (owner (row_of ty r)) (first r is) has) (trees ty.table.tree) typed named)
 
   -- rows of one holder's number and one serial have their first two columns the same
@@ -53,7 +53,7 @@ module _ (trees : Trees) (obeys : Obeys desk_schema trees) (ids : HaveAllIds tre
 
   pub guarantees_kept : AllRows guarantee_typing (IsTypedRow guarantee_typing) trees → AreGuaranteesKept (tables_in trees)
   guarantees_kept typed = record {
-    apart = λ H k. of_two (λ g. place g == k) (λ g. owner g == H) (rows_in guarantee_typing trees)
+    apart = λ H k. of_two (λ g. place g == k) (λ g. owner g == H) (typed_rows guarantee_typing trees)
         (one_typed guarantee_typing trees (1 ∷ 2 ∷ []) ids.guarantees (guarantee_keys trees obeys) typed (λ g. (owner g == H) && (place g == k))
         (same_keys guarantee_typing (λ r is. ap (λ l. column l 0) is) (λ r is. ap (λ l. column l 1) is) H k));
     owned = owned_rows guarantee_typing (λ r is. ap (λ l. column l 0) is) (guarantees_named trees obeys) typed;
@@ -63,7 +63,7 @@ module _ (trees : Trees) (obeys : Obeys desk_schema trees) (ids : HaveAllIds tre
 
   pub codes_kept : AllRows code_typing (IsTypedRow code_typing) trees → AreCodesKept (tables_in trees)
   codes_kept typed = record {
-    apart = λ H n k. of_three (λ (c : Keyed (List ℕ)). bytes_eq c.row k) (λ c. place c == n) (λ c. owner c == H) (rows_in code_typing trees)
+    apart = λ H n k. of_three (λ (c : Keyed (List ℕ)). bytes_eq c.row k) (λ c. place c == n) (λ c. owner c == H) (typed_rows code_typing trees)
         (one_typed code_typing trees (1 ∷ 2 ∷ 3 ∷ []) ids.codes (code_keys trees obeys) typed (λ c. (owner c == H) && ((place c == n) && bytes_eq c.row k)) (same H n k));
     owned = owned_rows code_typing (λ r is. ap (λ l. column l 0) is) (codes_named trees obeys) typed;
   }
@@ -86,10 +86,10 @@ module _ (trees : Trees) (obeys : Obeys desk_schema trees) (ids : HaveAllIds tre
 
   pub movements_kept : AllRows movement_typing (IsTypedRow movement_typing) trees → AreMovementsKept (tables_in trees)
   movements_kept typed = record {
-    apart = λ H k. of_two (λ m. place m == k) (λ m. owner m == H) (rows_in movement_typing trees)
+    apart = λ H k. of_two (λ m. place m == k) (λ m. owner m == H) (typed_rows movement_typing trees)
         (one_typed movement_typing trees (1 ∷ 2 ∷ []) ids.movements (movement_keys trees obeys) typed (λ m. (owner m == H) && (place m == k))
         (same_keys movement_typing (λ r is. ap (λ l. column l 0) is) (λ r is. ap (λ l. column l 1) is) H k));
-    lrns = λ H k. of_two (λ (m : Keyed Movement). bytes_eq m.row.lrn k) (λ m. owner m == H) (rows_in movement_typing trees)
+    lrns = λ H k. of_two (λ (m : Keyed Movement). bytes_eq m.row.lrn k) (λ m. owner m == H) (typed_rows movement_typing trees)
         (one_typed movement_typing trees (1 ∷ 4 ∷ []) ids.movements (lrn_keys trees obeys) typed (λ m. (owner m == H) && bytes_eq m.row.lrn k) (same H k));
     owned = owned_rows movement_typing (λ r is. ap (λ l. column l 0) is) (movements_named trees obeys) typed;
     without_lines = all-map (λ (m : Keyed Movement). m.row.lines ≡ []) (row_of movement_typing) (trees 4)
@@ -111,11 +111,11 @@ module _ (trees : Trees) (obeys : Obeys desk_schema trees) (ids : HaveAllIds tre
 
   pub lines_kept : AllRows line_typing (IsTypedRow line_typing) trees → AreLinesKept (tables_in trees)
   lines_kept typed = record {
-    apart = λ H n k. of_three (λ l. no_of l == k) (λ l. place l == n) (λ l. owner l == H) (rows_in line_typing trees)
+    apart = λ H n k. of_three (λ l. no_of l == k) (λ l. place l == n) (λ l. owner l == H) (typed_rows line_typing trees)
         (one_typed line_typing trees (1 ∷ 2 ∷ 3 ∷ []) ids.lines (line_keys trees obeys) typed (λ l. (owner l == H) && ((place l == n) && (no_of l == k))) (same H n k));
-    owned = all-map (λ l. IsSome (row_at holder_no (owner l) (rows_in holder_typing trees))) (row_of line_typing) (trees 11)
+    owned = all-map (λ l. IsSome (row_at holder_no (owner l) (typed_rows holder_typing trees))) (row_of line_typing) (trees 11)
         (all_both (IsTypedRow line_typing) (HasParent trees (1 ∷ 2 ∷ []) 4 (1 ∷ 2 ∷ []))
-        (λ r. IsSome (row_at holder_no (owner (row_of line_typing r)) (rows_in holder_typing trees)))
+        (λ r. IsSome (row_at holder_no (owner (row_of line_typing r)) (typed_rows holder_typing trees)))
         (λ r is has. owned_through trees ids.holders obeys r (owner (row_of line_typing r)) (place (row_of line_typing r))
         (ap (λ l. column l 0) is) (ap (λ l. column l 1) is) has) (trees 11) typed (lines_named trees obeys));
   }

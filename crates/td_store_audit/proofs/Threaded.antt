@@ -17,7 +17,7 @@ use Rattle.td_store_audit_rows.specs.declared.holders.RawHolder.{RawHolder}
 use Rattle.td_store_audit_rows.specs.declared.tables.Readable.{Readable}
 use Rattle.td_store_audit.specs.Auditable.{IsAuditable, TellsRule}
 use Rattle.td_store_audit.specs.Broken.{IsNextRule, TellsBroken}
-use Rattle.td_store_audit.specs.Handed.{AreAllCounting, AreAllLines, AreCounting, AreItsLines, IsCoverAuditable, holder_in, movements_in, raw_of}
+use Rattle.td_store_audit.specs.Handed.{AreAllCounting, AreAllLines, AreCounting, AreItsLines, IsCoverAuditable, raw_holder_of, movements_in, raw_of}
 use Rattle.td_store_audit.specs.InFile.{IsSoWhere, ReadsStore, TellsWhere}
 use Rattle.td_store_audit.specs.Premises.{AreLinesAuditable}
 use Rattle.td_store_audit.specs.declared.handed.HolderMovements.{HolderMovements}
@@ -75,7 +75,7 @@ module _ (country : List ℕ) (holders : List RawHolder) (readable : Readable) (
       after_amounts : IsSoWhere Q (IsNextRule S8 country holders readable) a
       after_amounts = kept_on country holders readable Q a S7 after_lines true amounts_told refl S8 refl
 
-      same_holders : holders ≡ map holder_in handed
+      same_holders : holders ≡ map raw_holder_of handed
       same_holders = sym of_holders ∙ ap (map raw_of) (sym of_counting) ∙ map-map raw_of movements_in handed
 
       known : IsSoWhere Q (IsCoverAuditable country handed) a

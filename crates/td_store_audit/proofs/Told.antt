@@ -8,7 +8,7 @@ use Rattle.sqlite_trees.specs.Tree.{Trees}
 use Rattle.sqlite_trees.proofs.ListLemmas.{all-filter, all-map, all_weaker}
 use Rattle.sqlite.specs.State.{State}
 use Rattle.td_base.specs.Codes.{IsAccessCode}
-use Rattle.typed_sql.specs.Typed.{IsTypedRow, row_of, rows_in}
+use Rattle.typed_sql.specs.Typed.{IsTypedRow, row_of, typed_rows}
 use Rattle.td_table_model.specs.declared.rule.Rule.TheVariants.{S4, S6}
 use Rattle.td_table_model.specs.Gathering.{owner, part}
 use Rattle.td_table_model.specs.Tables.{Keyed, LineCells}
@@ -29,11 +29,11 @@ use Rattle.td_store_audit.proofs.Permuted.{apart_still, codes_permuted, lines_pe
 
 -- one holder's codes, found in order
 pub holder_told : (raw : RawHolder) (trees : Trees) (count : ℕ) (rows : List (Keyed (List ℕ))) (b : Bool) → raw.grn_count ≡ Some count
-    → IsPermutation (part raw.holder (rows_in code_typing trees)) rows → IsSorted code_order rows
+    → IsPermutation (part raw.holder (typed_rows code_typing trees)) rows → IsSorted code_order rows
     → (IsBySerial rows → IsTrue b ↔ AreCodesInPlace count rows) → IsTrue b ↔ HasCodesInPlace trees raw
 holder_told raw trees count rows b is same sorted tells =
     let it = tells (codes_by_serial rows sorted) in
-    let mine : List (Keyed (List ℕ)) = part raw.holder (rows_in code_typing trees) in (
+    let mine : List (Keyed (List ℕ)) = part raw.holder (typed_rows code_typing trees) in (
       λ t. subst (λ o. IsSome o × AreCodesInPlace (unwrap_or o 0) mine) (sym is) (refl, codes_permuted count rows mine (IsPermutation-sym mine rows same) (it.0 t)),
       λ has. it.1 (codes_permuted count mine rows same (subst (λ o. IsSome o × AreCodesInPlace (unwrap_or o 0) mine) is has).1),
     )
@@ -52,11 +52,11 @@ module _ (tell : HolderFieldsTell) (state : State) (found : List RawHolder) wher
   codes_rule auditable read =
       let trees = state.now.trees in
       let rows = trees code_typing.table.tree in
-      let forms : AllByRecursion (λ (c : Keyed (List ℕ)). IsAccessCode c.row) (rows_in code_typing trees) =
+      let forms : AllByRecursion (λ (c : Keyed (List ℕ)). IsAccessCode c.row) (typed_rows code_typing trees) =
       all-map (λ (c : Keyed (List ℕ)). IsAccessCode c.row) (row_of code_typing) rows
       (all_weaker (IsReadRow code_typing AreCodeFields) (λ r. IsAccessCode (row_of code_typing r).row) (λ r is. is.1.code) rows read) in
       let told = codes_told trees found auditable.common.holders tell auditable.common.guarantees.0.0 auditable.common.guarantees.1
-      (λ H. all-filter (λ (c : Keyed (List ℕ)). IsAccessCode c.row) (λ c. owner c == H) (rows_in code_typing trees) forms) in (
+      (λ H. all-filter (λ (c : Keyed (List ℕ)). IsAccessCode c.row) (λ c. owner c == H) (typed_rows code_typing trees) forms) in (
         λ each. (all_weaker (IsReadRow code_typing AreCodeFields) (IsTypedRow code_typing) (λ r is. is.0) rows read, told.0 each),
         λ keeps. told.1 keeps.1,
       )
@@ -76,11 +76,11 @@ module _ (tell : HolderFieldsTell) (state : State) (found : List RawHolder) wher
 
 -- one holder's lines, found in order
 pub lines_of_told : (raw : RawHolder) (trees : Trees) (guarantees movements : ℕ) (rows : List (Keyed LineCells)) (b : Bool) → raw.grn_count ≡ Some guarantees
-    → raw.mrn_count ≡ Some movements → IsPermutation (part raw.holder (rows_in line_typing trees)) rows → IsSorted line_order rows
-    → AreNumbersApart (part raw.holder (rows_in line_typing trees))
+    → raw.mrn_count ≡ Some movements → IsPermutation (part raw.holder (typed_rows line_typing trees)) rows → IsSorted line_order rows
+    → AreNumbersApart (part raw.holder (typed_rows line_typing trees))
     → (IsBySerial rows → IsByNumber rows → AreNumbersApart rows → IsTrue b ↔ AreAllLinesInPlace guarantees movements rows) → IsTrue b ↔ HasLinesInPlace trees raw
 lines_of_told raw trees guarantees movements rows b grns mrns same sorted apart tells =
-    let mine : List (Keyed LineCells) = part raw.holder (rows_in line_typing trees) in
+    let mine : List (Keyed LineCells) = part raw.holder (typed_rows line_typing trees) in
     let still = apart_still mine rows same apart in
     let it = tells (lines_by_serial rows sorted) (lines_by_number rows sorted) still in (
       λ t. rw (grns, mrns) ((refl, refl), lines_permuted guarantees movements rows mine (IsPermutation-sym mine rows same) still (it.0 t)),

@@ -11,7 +11,7 @@ use Rattle.sqlite_trees.proofs.ListLemmas.{all_both, filter-map}
 use Rattle.sqlite_rules.specs.Edit.{id_in}
 use Rattle.sqlite_schema.specs.Rules.{agree, clashes, differ, equal}
 use Rattle.typed_sql.specs.Rows.{HaveIds}
-use Rattle.typed_sql.specs.Typed.{IsTypedRow, Typing, row_of, rows_in}
+use Rattle.typed_sql.specs.Typed.{IsTypedRow, Typing, row_of, typed_rows}
 use Rattle.typed_sql.proofs.Ids.{has_own}
 use Rattle.td_store_audit.proofs.Equal.{not_differ}
 
@@ -107,7 +107,7 @@ length_mapped f (x ∷ xs) = omega (arith, length_mapped f xs)
 module _ {R : Type 0} (ty : Typing R) (trees : Trees) (places : List ℕ) (ids : HaveIds (trees ty.table.tree)) (key : HaveKey places (trees ty.table.tree))
     (typed : AllByRecursion (IsTypedRow ty) (trees ty.table.tree)) (test : R → Bool)
     (same : (a b : Row) → IsTypedRow ty a → IsTypedRow ty b → test (row_of ty a) ≡ true → test (row_of ty b) ≡ true → HaveSame places a b) where
-  pub one_typed : length (filter test (rows_in ty trees)) ≤ 1
+  pub one_typed : length (filter test (typed_rows ty trees)) ≤ 1
   one_typed =
       rw (filter-map test (row_of ty) (trees ty.table.tree)) (subst (λ n. n ≤ 1) (sym (length_mapped (row_of ty) (filter (λ r. test (row_of ty r)) (trees ty.table.tree))))
       (one_passes places (trees ty.table.tree) ids key (IsTypedRow ty) typed (λ r. test (row_of ty r)) same))

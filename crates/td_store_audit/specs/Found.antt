@@ -11,10 +11,10 @@ use Rattle.typed_sql.specs.Writing.{HasSchema}
 use Rattle.td_table_model.specs.Gathering.{no_of, owner, place}
 use Rattle.td_table_model.specs.Tables.{Keyed, LineCells}
 use Rattle.td_store_rows.specs.CodeColumns.{code_typing}
-use Rattle.td_store_rows.specs.CodeTable.{row_of_stored as row_of_code}
+use Rattle.td_store_rows.specs.CodeTable.{code_row_of as row_of_code}
 use Rattle.td_store_rows.specs.declared.codes.stored.StoredCode.{StoredCode}
 use Rattle.td_store_rows.specs.LineColumns.{line_typing}
-use Rattle.td_store_rows.specs.LineTable.{row_of_stored as row_of_line}
+use Rattle.td_store_rows.specs.LineTable.{line_row_of as row_of_line}
 use Rattle.td_store_rows.specs.declared.lines.stored.StoredLine.{StoredLine}
 
 -- the rows of a holder

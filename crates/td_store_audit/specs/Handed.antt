@@ -14,7 +14,7 @@ use Rattle.typed_sql.specs.Typed.{AreTyped}
 use Rattle.td_store_rows.specs.GuaranteeColumns.{guarantee_typing}
 use Rattle.td_store_rows.specs.declared.guarantees.stored.StoredGuarantee.{StoredGuarantee}
 use Rattle.td_store_rows.specs.LineColumns.{line_typing}
-use Rattle.td_store_rows.specs.LineTable.{row_of_stored}
+use Rattle.td_store_rows.specs.LineTable.{line_row_of}
 use Rattle.td_store_rows.specs.MovementColumns.{movement_typing}
 use Rattle.td_store_rows.specs.MovementTable.{serial_of_stored}
 use Rattle.td_store_rows.specs.StoreTables.{tables_in}
@@ -32,8 +32,8 @@ raw_of h = h.raw
 abbrev pub movements_in : HolderParts → HolderMovements
 movements_in h = h.movements
 
-abbrev pub holder_in : HolderParts → RawHolder
-holder_in h = h.movements.raw
+abbrev pub raw_holder_of : HolderParts → RawHolder
+raw_holder_of h = h.movements.raw
 
 -- whether the movement in a row counts against its guarantees
 abbrev pub is_counting_row : Keyed Movement → Bool
@@ -45,7 +45,7 @@ AreCounting trees h = map serial_of_stored h.serials.items ≡ map place (filter
 
 -- these are the holder's lines
 abbrev pub AreItsLines : Trees → HolderParts → Type 0
-AreItsLines trees h = IsPermutation (part h.movements.raw.holder (tables_in trees).lines) (map row_of_stored h.lines.items)
+AreItsLines trees h = IsPermutation (part h.movements.raw.holder (tables_in trees).lines) (map line_row_of h.lines.items)
 
 -- so they are of each holder, where the tables that they are of are typed
 abbrev pub AreAllCounting : State → List HolderMovements → Type 0
@@ -67,7 +67,7 @@ IsCoveredBy h g = total_on g.serial h.movements.serials.items h.lines.items ≤ 
 
 -- the rules before S8 are kept, and what was handed on of each holder is so
 pub record IsCoverAuditable (country : List ℕ) (handed : List HolderParts) (trees : Trees) : Type 0 where
-  pub known : IsAuditable trees country (map holder_in handed)
+  pub known : IsAuditable trees country (map raw_holder_of handed)
   pub before : KeepsBefore trees S8
   pub counting : AllByRecursion (λ h. AreCounting trees (movements_in h)) handed
   pub lines : AllByRecursion (AreItsLines trees) handed

@@ -10,7 +10,7 @@ use Rattle.td_table_model.specs.Looking.{cents_of, lines_in_use}
 use Rattle.td_table_model.specs.Tables.{Keyed}
 use Rattle.td_schema.specs.Tables.{desk_schema}
 use Rattle.typed_sql.specs.Reading.{HasOnlyRead}
-use Rattle.typed_sql.specs.Typed.{AreTyped, Typing, rows_in}
+use Rattle.typed_sql.specs.Typed.{AreTyped, Typing, typed_rows}
 use Rattle.typed_sql.specs.Writing.{HasSchema}
 use Rattle.td_store_rows.specs.StoreTables.{tables_in}
 use Rattle.td_store_audit_rows.specs.InPlace.{AreGuaranteesInPlace, AreMovementsInPlace}
@@ -30,7 +30,7 @@ HasMovementsInPlace country trees h =
 -- a table's rows are typed, and no two of one holder have one serial
 pub record AreTypedApart {X : Type 0} (ty : Typing (Keyed X)) (trees : Trees) : Type 0 where
   pub typed : AreTyped ty trees
-  pub apart : (H : ℕ) → IsApart place (part H (rows_in ty trees))
+  pub apart : (H : ℕ) → IsApart place (part H (typed_rows ty trees))
 
 -- what is in use on the guarantee in a row is at most its reference amount
 abbrev pub IsRowCovered : Trees → Keyed Guarantee → Type 0

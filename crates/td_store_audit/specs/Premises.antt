@@ -5,7 +5,7 @@ use Rattle.sqlite.specs.State.{State}
 use Rattle.sqlite_trees.specs.Tree.{Trees}
 use Rattle.td_schema.specs.Tables.{desk_schema}
 use Rattle.typed_sql.specs.Rows.{HaveIds}
-use Rattle.typed_sql.specs.Typed.{IsTypedRow, rows_in}
+use Rattle.typed_sql.specs.Typed.{IsTypedRow, typed_rows}
 use Rattle.typed_sql.specs.Writing.{HasSchema}
 use Rattle.td_table_model.specs.declared.rule.Rule.TheVariants.{S3, S5}
 use Rattle.td_table_model.specs.Gathering.{part}
@@ -48,10 +48,10 @@ pub record AreLinesAuditable (state : State) (found : List RawHolder) : Type 0 w
 -- The holder's count of guarantees can be read, and the holder's codes are in their places by it.
 abbrev pub HasCodesInPlace : Trees → RawHolder → Type 0
 HasCodesInPlace trees raw =
-    IsSome raw.grn_count × AreCodesInPlace (unwrap_or raw.grn_count 0) (part raw.holder (rows_in code_typing trees))
+    IsSome raw.grn_count × AreCodesInPlace (unwrap_or raw.grn_count 0) (part raw.holder (typed_rows code_typing trees))
 
 -- Both counts can be read, and the holder's lines are in their places by them.
 abbrev pub HasLinesInPlace : Trees → RawHolder → Type 0
 HasLinesInPlace trees raw =
     (IsSome raw.grn_count × IsSome raw.mrn_count)
-    × AreAllLinesInPlace (unwrap_or raw.grn_count 0) (unwrap_or raw.mrn_count 0) (part raw.holder (rows_in line_typing trees))
+    × AreAllLinesInPlace (unwrap_or raw.grn_count 0) (unwrap_or raw.mrn_count 0) (part raw.holder (typed_rows line_typing trees))

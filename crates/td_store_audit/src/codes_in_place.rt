@@ -1,6 +1,6 @@
 //! Whether a holder's codes are in their places: it knows no statement.
 ghost use Rattle.std.specs.Prelude.{◌↔◌, ◌≤◌, length, map, IsTrue};
-ghost use Rattle.td_store_rows.specs.CodeTable.{row_of_stored};
+ghost use Rattle.td_store_rows.specs.CodeTable.{code_row_of};
 ghost use Rattle.td_store_audit.specs.InPlace.{AreCodesInPlace, IsBySerial, IsEndOfRun};
 ghost use Rattle.td_store_audit.specs.Found.{serial_of_code};
 
@@ -11,8 +11,8 @@ use td_store_rows::StoredCode;
 /// Whether these are the codes, by the serials of their guarantees, of a holder who has so many guarantees: each is of one of
 /// them, and each of them has 1 to 20.
 pub(crate) fn codes_are_in_place(guarantees: u32, rows: &[StoredCode]) -> bool
-    ensures { IsBySerial (map row_of_stored rows.now)
-        → IsTrue result ↔ AreCodesInPlace guarantees (map row_of_stored rows.now) }
+    ensures { IsBySerial (map code_row_of rows.now)
+        → IsTrue result ↔ AreCodesInPlace guarantees (map code_row_of rows.now) }
 {
     if !codes_belong(guarantees, rows) {
         return false;

@@ -6,7 +6,7 @@ use sqlite::Connection;
 use sqlite_trees::store::Alter;
 
 /// Tells what the database keeps of the tables that a connection shows, if it is open and they are a store's. It reads no row.
-pub fn kept<S: Alter>(conn: &Connection<S>)
+pub fn database_keeps<S: Alter>(conn: &Connection<S>)
     ensures { KeepsTables (state S.Store conn.now) }
 {
     let _ = conn.schema();

@@ -5,7 +5,7 @@ ghost use Rattle.sqlite.specs.Held.{state};
 ghost use Rattle.sqlite.specs.State.{HasCleanDisk, KeepsCommit, Survives};
 ghost use Rattle.td_table_model.specs.declared.rule.Rule.TheVariants.{S8};
 ghost use Rattle.td_store_audit_rows.specs.Kinds.{KeepsRaw};
-ghost use Rattle.td_store_audit.specs.Handed.{IsCoverAuditable, IsCoveredBy, IsHandedOn, holder_in};
+ghost use Rattle.td_store_audit.specs.Handed.{IsCoverAuditable, IsCoveredBy, IsHandedOn, raw_holder_of};
 ghost use Rattle.td_store_audit.specs.InFile.{IsHolderCoveredInFile, ReadsStore, TellsWhere};
 
 use crate::handed::HolderParts;
@@ -50,7 +50,7 @@ fn all_holders_covered<S: Alter>(
     ensures same_reference { tx.new.conn.ghost_name ≡ tx.old.conn.ghost_name }
     ensures told { HasCleanDisk (state S.Store tx.new.conn.now)
         → IfOk result (TellsWhere (λ trees. AllByRecursion (IsHandedOn trees) handed.now)
-        (λ trees. AllByRecursion (λ h. IsHolderCoveredInFile trees (holder_in h)) handed.now) (state S.Store tx.old.conn.now)) }
+        (λ trees. AllByRecursion (λ h. IsHolderCoveredInFile trees (raw_holder_of h)) handed.now) (state S.Store tx.old.conn.now)) }
     ensures still { HasCleanDisk (state S.Store tx.new.conn.now)
         → OnOk result (ReadsStore (state S.Store tx.old.conn.now) (state S.Store tx.new.conn.now)) }
     ensures inside { HasCleanDisk (state S.Store tx.new.conn.now) → OnOk result (IsTrue (state S.Store tx.new.conn.now).in_transaction) }
@@ -75,7 +75,7 @@ fn is_holder_covered<S: Alter>(
     requires { HasCleanDisk (state S.Store tx.old.conn.now) → IsTrue (state S.Store tx.old.conn.now).in_transaction }
     ensures same_reference { tx.new.conn.ghost_name ≡ tx.old.conn.ghost_name }
     ensures told { HasCleanDisk (state S.Store tx.new.conn.now)
-        → IfOk result (TellsWhere (λ trees. IsHandedOn trees parts.now) (λ trees. IsHolderCoveredInFile trees (holder_in parts.now)) (state S.Store tx.old.conn.now)) }
+        → IfOk result (TellsWhere (λ trees. IsHandedOn trees parts.now) (λ trees. IsHolderCoveredInFile trees (raw_holder_of parts.now)) (state S.Store tx.old.conn.now)) }
     ensures still { HasCleanDisk (state S.Store tx.new.conn.now)
         → OnOk result (ReadsStore (state S.Store tx.old.conn.now) (state S.Store tx.new.conn.now)) }
     ensures inside { HasCleanDisk (state S.Store tx.new.conn.now) → OnOk result (IsTrue (state S.Store tx.new.conn.now).in_transaction) }

@@ -22,7 +22,7 @@ mod texts;
 
 pub use audit::first_broken;
 pub use codes::codes_keep_rule;
-pub use connection::kept;
+pub use connection::database_keeps;
 pub use finding::{codes_of_holder, lines_of_holder};
 pub use guarantees::guarantees_keep_rule;
 pub use holders::holders_keep_rule;

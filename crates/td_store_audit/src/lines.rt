@@ -5,7 +5,7 @@ ghost use Rattle.sqlite.specs.Held.{state};
 ghost use Rattle.sqlite.specs.State.{HasCleanDisk, KeepsCommit, Survives};
 ghost use Rattle.td_schema.specs.Tables.{desk_schema};
 ghost use Rattle.typed_sql.specs.Reading.{LeavesAll};
-ghost use Rattle.typed_sql.specs.Typed.{AreTyped, rows_in};
+ghost use Rattle.typed_sql.specs.Typed.{AreTyped, typed_rows};
 ghost use Rattle.typed_sql.specs.Writing.{HasSchema};
 ghost use Rattle.td_store_rows.specs.LineColumns.{line_typing};
 ghost use Rattle.td_store_rows.specs.LineTable.{AreLines};
@@ -40,7 +40,7 @@ fn kept_lines<S: Alter>(
     ensures told { HasCleanDisk (state S.Store tx.new.conn.now)
         → IfOk result (λ found. HasSchema (state S.Store tx.old.conn.now) desk_schema
         → AreTyped line_typing (state S.Store tx.old.conn.now).now.trees
-        → AreNumbersApart (part raw.now.holder (rows_in line_typing (state S.Store tx.old.conn.now).now.trees))
+        → AreNumbersApart (part raw.now.holder (typed_rows line_typing (state S.Store tx.old.conn.now).now.trees))
         → IsTrue (is_some found) ↔ HasLinesInPlace (state S.Store tx.old.conn.now).now.trees raw.now) }
     ensures handed { HasCleanDisk (state S.Store tx.new.conn.now)
         → IfOk result (λ found. IfSome found (λ lines. AreLines (is_of_holder raw.now.holder) (state S.Store tx.old.conn.now) lines.items)) }
@@ -75,7 +75,7 @@ fn all_kept_lines<S: Alter>(
     ensures told { HasCleanDisk (state S.Store tx.new.conn.now)
         → IfOk result (λ found. HasSchema (state S.Store tx.old.conn.now) desk_schema
         → AreTyped line_typing (state S.Store tx.old.conn.now).now.trees
-        → ((H : ℕ) → AreNumbersApart (part H (rows_in line_typing (state S.Store tx.old.conn.now).now.trees)))
+        → ((H : ℕ) → AreNumbersApart (part H (typed_rows line_typing (state S.Store tx.old.conn.now).now.trees)))
         → IsTrue (is_some found) ↔ AllByRecursion (HasLinesInPlace (state S.Store tx.old.conn.now).now.trees) (map raw_of counting.items)) }
     ensures movements { IfOk result (λ found. IfSome found (λ each. map movements_in each.items ≡ counting.items)) }
     ensures handed { HasCleanDisk (state S.Store tx.new.conn.now)

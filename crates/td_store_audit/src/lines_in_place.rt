@@ -1,6 +1,6 @@
 //! Whether a holder's lines are in their places: it knows no statement.
 ghost use Rattle.std.specs.Prelude.{◌↔◌, ◌≤◌, length, map, IsTrue};
-ghost use Rattle.td_store_rows.specs.LineTable.{row_of_stored};
+ghost use Rattle.td_store_rows.specs.LineTable.{line_row_of};
 ghost use Rattle.td_store_audit.specs.InPlace.{AreAllLinesInPlace, AreNumbersApart, IsByNumber, IsBySerial, IsEndOfRun};
 ghost use Rattle.td_store_audit.specs.Found.{serial_of_line};
 
@@ -10,9 +10,9 @@ use td_store_rows::StoredLine;
 /// Whether these are the lines, by the serials of their movements and by their numbers, of a holder who has so many guarantees and
 /// movements: each is of one of the movements, and the lines of each of them are in their places.
 pub(crate) fn all_lines_are_in_place(guarantees: u32, movements: u32, rows: &[StoredLine]) -> bool
-    ensures { IsBySerial (map row_of_stored rows.now) → IsByNumber (map row_of_stored rows.now)
-        → AreNumbersApart (map row_of_stored rows.now)
-        → IsTrue result ↔ AreAllLinesInPlace guarantees movements (map row_of_stored rows.now) }
+    ensures { IsBySerial (map line_row_of rows.now) → IsByNumber (map line_row_of rows.now)
+        → AreNumbersApart (map line_row_of rows.now)
+        → IsTrue result ↔ AreAllLinesInPlace guarantees movements (map line_row_of rows.now) }
 {
     if !lines_belong(movements, rows) {
         return false;

@@ -4,7 +4,7 @@ ghost use Rattle.std.specs.List.{AllByRecursion};
 ghost use Rattle.sqlite.specs.Held.{state};
 ghost use Rattle.sqlite.specs.State.{HasCleanDisk, KeepsCommit, Survives};
 ghost use Rattle.td_store_rows.specs.MovementColumns.{movement_typing};
-ghost use Rattle.td_store_rows.specs.MovementTable.{row_of_stored, serial_of_stored};
+ghost use Rattle.td_store_rows.specs.MovementTable.{movement_row_of, serial_of_stored};
 ghost use Rattle.td_table_model.specs.Gathering.{place};
 ghost use Rattle.td_table_model.specs.declared.rule.Rule.TheVariants.{S5};
 ghost use Rattle.td_store_audit_rows.specs.Fields.{AreMovementFields};
@@ -124,7 +124,7 @@ fn kept_movements<S: Alter>(
 
 // The serials of the movements in rows that count, in their order. `AllocError`: want of memory.
 fn counting_in(alloc: Global, rows: &[StoredMovement]) -> Result<Vec<MovementSerial>, AllocError>
-    ensures { IfOk result (λ serials. map serial_of_stored serials.items ≡ map place (filter is_counting_row (map row_of_stored rows.now))) }
+    ensures { IfOk result (λ serials. map serial_of_stored serials.items ≡ map place (filter is_counting_row (map movement_row_of rows.now))) }
 {
     let mut serials = Vec::new(alloc);
     'rows: for row in rows {

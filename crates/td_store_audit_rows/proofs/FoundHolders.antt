@@ -13,7 +13,7 @@ use Rattle.td_table_model.specs.Apart.{IsApart}
 use Rattle.td_table_model.specs.Gathering.{holder_no, of_key}
 use Rattle.td_table_model.proofs.Numbered.{map_same}
 use Rattle.td_table_model.proofs.Orders.{apart_permuted, rises_apart}
-use Rattle.typed_sql.specs.Typed.{row_of, rows_in}
+use Rattle.typed_sql.specs.Typed.{row_of, typed_rows}
 use Rattle.td_store_rows.specs.HolderColumns.{holder_typing}
 use Rattle.td_store_audit_rows.specs.Found.{FoundHoldersTell, HasGrns, HasMrns, grn_pair, mrn_pair, raw_grn_pair, raw_mrn_pair}
 use Rattle.td_store_audit_rows.specs.Holders.{AreHoldersIn, HolderFields, NumbersRise, fields_of, fields_of_raw}
@@ -74,7 +74,7 @@ module _ (trees : Trees) (found : List RawHolder) (all : AreHoldersIn trees foun
 
   -- what is made of the fields is made of the typed rows, where it is so row by row
   made_same : {X : Type 0} (make : HolderFields → X) (of : HolderRow → X) → AllByRecursion (λ r. make (fields_of r) ≡ of (row_of holder_typing r)) rows
-      → IsPermutation (map of (rows_in holder_typing trees)) (map (λ h. make (fields_of_raw h)) found)
+      → IsPermutation (map of (typed_rows holder_typing trees)) (map (λ h. make (fields_of_raw h)) found)
   made_same make of each =
       subst₂ IsPermutation
       (map-map make fields_of rows ∙ map_same (λ r. make (fields_of r)) (λ r. of (row_of holder_typing r)) rows each ∙ sym (map-map of (row_of holder_typing) rows))
@@ -83,12 +83,12 @@ module _ (trees : Trees) (found : List RawHolder) (all : AreHoldersIn trees foun
   number_at : (r : Row) → IsSome (fields_of r).holder → unwrap_or (fields_of r).holder 0 ≡ (row_of holder_typing r).holder
   number_at r some = value_is (fields_of r).holder (row_of holder_typing r).holder 0 some (fields_tell r).1.holder
 
-  pub same_numbers : IsPermutation (map holder_no (rows_in holder_typing trees)) (map (λ (h : RawHolder). h.holder) found)
+  pub same_numbers : IsPermutation (map holder_no (typed_rows holder_typing trees)) (map (λ (h : RawHolder). h.holder) found)
   same_numbers =
       made_same (λ f. unwrap_or f.holder 0) holder_no
       (all_weaker (λ r. IsSome (fields_of r).holder) (λ r. unwrap_or (fields_of r).holder 0 ≡ (row_of holder_typing r).holder) number_at rows there)
 
-  pub same_grns : AllByRecursion HasGrns found → IsPermutation (map grn_pair (rows_in holder_typing trees)) (map raw_grn_pair found)
+  pub same_grns : AllByRecursion HasGrns found → IsPermutation (map grn_pair (typed_rows holder_typing trees)) (map raw_grn_pair found)
   same_grns has =
       made_same (λ f. (unwrap_or f.holder 0, unwrap_or f.grn_count 0)) grn_pair
       (all_both (λ r. IsSome (fields_of r).holder) (λ r. IsSome (fields_of r).grn_count)
@@ -96,7 +96,7 @@ module _ (trees : Trees) (found : List RawHolder) (all : AreHoldersIn trees foun
       (λ r some counted i. (number_at r some i, value_is (fields_of r).grn_count (row_of holder_typing r).grn_count 0 counted (fields_tell r).1.grn_count i))
       rows there (to_rows (λ f. IsSome f.grn_count) has))
 
-  pub same_mrns : AllByRecursion HasMrns found → IsPermutation (map mrn_pair (rows_in holder_typing trees)) (map raw_mrn_pair found)
+  pub same_mrns : AllByRecursion HasMrns found → IsPermutation (map mrn_pair (typed_rows holder_typing trees)) (map raw_mrn_pair found)
   same_mrns has =
       made_same (λ f. (unwrap_or f.holder 0, unwrap_or f.mrn_count 0)) mrn_pair
       (all_both (λ r. IsSome (fields_of r).holder) (λ r. IsSome (fields_of r).mrn_count)
@@ -107,16 +107,16 @@ module _ (trees : Trees) (found : List RawHolder) (all : AreHoldersIn trees foun
   pub kinds_there : AllByRecursion HasNumber rows
   kinds_there = all_weaker (λ r. IsSome (fields_of r).holder) HasNumber (λ r some. ((fields_tell r).0.holder.0 some).0) rows there
 
-  pub numbers_there : AllByRecursion (λ (row : HolderRow). IsHolderNumber row.holder) (rows_in holder_typing trees)
+  pub numbers_there : AllByRecursion (λ (row : HolderRow). IsHolderNumber row.holder) (typed_rows holder_typing trees)
   numbers_there =
       all-map (λ (row : HolderRow). IsHolderNumber row.holder) (row_of holder_typing) rows
       (all_weaker (λ r. IsSome (fields_of r).holder) (λ r. IsHolderNumber (row_of holder_typing r).holder) (λ r some. ((fields_tell r).0.holder.0 some).1) rows there)
 
-  pub numbers_apart : NumbersRise found → IsApart holder_no (rows_in holder_typing trees)
+  pub numbers_apart : NumbersRise found → IsApart holder_no (typed_rows holder_typing trees)
   numbers_apart ascend =
-      apart_mapped holder_no (rows_in holder_typing trees)
-      (apart_permuted (λ (n : ℕ). n) (map (λ (h : RawHolder). h.holder) found) (map holder_no (rows_in holder_typing trees))
-      (IsPermutation-sym (map holder_no (rows_in holder_typing trees)) (map (λ (h : RawHolder). h.holder) found) same_numbers)
+      apart_mapped holder_no (typed_rows holder_typing trees)
+      (apart_permuted (λ (n : ℕ). n) (map (λ (h : RawHolder). h.holder) found) (map holder_no (typed_rows holder_typing trees))
+      (IsPermutation-sym (map holder_no (typed_rows holder_typing trees)) (map (λ (h : RawHolder). h.holder) found) same_numbers)
       (mapped_apart (λ (h : RawHolder). h.holder) found (rises_apart (λ (h : RawHolder). h.holder) 0 found (rises 0 found ascend (from_zero found)))))
 
   -- a fact of the rows that their fields tell

@@ -8,7 +8,7 @@ use Rattle.td_base.specs.Holder.{IsHolderNumber}
 use Rattle.td_table_model.specs.declared.rule.Rule.TheVariants.{S2}
 use Rattle.td_table_model.specs.Apart.{IsApart}
 use Rattle.td_table_model.specs.Gathering.{holder_no}
-use Rattle.typed_sql.specs.Typed.{row_of, rows_in}
+use Rattle.typed_sql.specs.Typed.{row_of, typed_rows}
 use Rattle.td_store_rows.specs.HolderColumns.{holder_typing}
 use Rattle.td_store_audit_rows.specs.Holders.{AreHoldersIn, NumbersRise}
 use Rattle.td_store_audit_rows.specs.Kinds.{AllRows, HasGrnCount, HasMrnCount, HasNumber, KeepsRaw}
@@ -41,18 +41,18 @@ HasMrns h = IsSome h.mrn_count
 -- and each count is of its kind, in 32 bits, exactly where it is there; then the counts are those of the rows.
 pub record TellOfHolders (trees : Trees) (found : List RawHolder) : Type 0 where
   pub kinds : AllRows holder_typing HasNumber trees
-  pub numbers : AllByRecursion (λ (row : HolderRow). IsHolderNumber row.holder) (rows_in holder_typing trees)
-  pub apart : IsApart holder_no (rows_in holder_typing trees)
-  pub same : IsPermutation (map holder_no (rows_in holder_typing trees)) (map (λ (h : RawHolder). h.holder) found)
+  pub numbers : AllByRecursion (λ (row : HolderRow). IsHolderNumber row.holder) (typed_rows holder_typing trees)
+  pub apart : IsApart holder_no (typed_rows holder_typing trees)
+  pub same : IsPermutation (map holder_no (typed_rows holder_typing trees)) (map (λ (h : RawHolder). h.holder) found)
   pub identity : KeepsRaw trees S2 ↔ AllByRecursion HasFieldsOfS2 found
   pub grn_kinds : AllRows holder_typing (λ r. HasGrnCount r × ((row_of holder_typing r).grn_count < 2 ^ 32)) trees
       ↔ AllByRecursion HasGrns found
   pub mrn_kinds : AllRows holder_typing (λ r. HasMrnCount r × ((row_of holder_typing r).mrn_count < 2 ^ 32)) trees
       ↔ AllByRecursion HasMrns found
   pub grn_counts : AllByRecursion HasGrns found
-      → IsPermutation (map grn_pair (rows_in holder_typing trees)) (map raw_grn_pair found)
+      → IsPermutation (map grn_pair (typed_rows holder_typing trees)) (map raw_grn_pair found)
   pub mrn_counts : AllByRecursion HasMrns found
-      → IsPermutation (map mrn_pair (rows_in holder_typing trees)) (map raw_mrn_pair found)
+      → IsPermutation (map mrn_pair (typed_rows holder_typing trees)) (map raw_mrn_pair found)
 
 abbrev pub FoundHoldersTell : Type 0
 FoundHoldersTell = (trees : Trees) (found : List RawHolder) → AreHoldersIn trees found → NumbersRise found → TellOfHolders trees found

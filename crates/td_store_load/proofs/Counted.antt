@@ -16,7 +16,7 @@ use Rattle.td_table_model.proofs.Counting.{filter_both, sum_by-map}
 use Rattle.typed_sql.proofs.Ordered.{both_pass}
 use Rattle.td_store_rows.specs.MovementTable.{counts_for, serial_of_stored}
 use Rattle.td_store_rows.specs.declared.movements.stored.MovementSerial.{MovementSerial}
-use Rattle.td_store_rows.specs.LineTable.{is_line_on, row_of_stored}
+use Rattle.td_store_rows.specs.LineTable.{is_line_on, line_row_of}
 use Rattle.td_store_rows.specs.declared.lines.stored.StoredLine.{StoredLine}
 use Rattle.td_store_load.specs.InUse.{counted, total_on}
 use Rattle.td_store_load.proofs.Sums.{sum_by-both, sum_by-nothing, sum_by-passing}
@@ -147,17 +147,17 @@ module _ (H n : ℕ) (t : Tables) where
   module _ (serials : List MovementSerial) (rises : Rises serial_of_stored 0 serials)
       (those : IsPermutation (map place (counting_rows H t)) (map serial_of_stored serials)) where
     -- a line takes up its cents where its serial is one of those that count
-    part_is : (l : StoredLine) → part_of (counting_rows H t) (row_of_stored l) ≡ counted serials l
+    part_is : (l : StoredLine) → part_of (counting_rows H t) (line_row_of l) ≡ counted serials l
     part_is l =
         let take : ℕ → ℕ = λ k. if k == l.serial then l.cents else 0 in
         sym (sum_by-map take place (counting_rows H t)) ∙ sym (sum_by-IsPermutation take _ _ those)
         ∙ sum_by-map take serial_of_stored serials ∙ once l.serial l.cents 0 serials rises
 
-    in_use_is : (lines : List StoredLine) → IsPermutation (filter is_on t.lines) (map row_of_stored lines)
+    in_use_is : (lines : List StoredLine) → IsPermutation (filter is_on t.lines) (map line_row_of lines)
         → sum_by (counted serials) lines ≡ sum_by cents_of (lines_in_use H n t)
     in_use_is lines found =
         sym (λ i. sum_by (λ l. part_is l i) lines)
-        ∙ sym (sum_by-map (part_of (counting_rows H t)) row_of_stored lines)
+        ∙ sym (sum_by-map (part_of (counting_rows H t)) line_row_of lines)
         ∙ sum_by-IsPermutation (part_of (counting_rows H t)) _ _ found
         ∙ sum_by-passing (part_of (counting_rows H t)) is_on t.lines
         ∙ sym (by_all (counting_rows H t) (all_own t.movements))
@@ -169,21 +169,21 @@ module _ (H n : ℕ) (t : Tables) where
     names_it l = l.row.guarantee == n
 
     -- of lines on any guarantee those on this one
-    of_any : (rows : List (Keyed LineCells)) (lines : List StoredLine) → filter is_on t.lines ≡ filter names_it rows → IsPermutation rows (map row_of_stored lines)
+    of_any : (rows : List (Keyed LineCells)) (lines : List StoredLine) → filter is_on t.lines ≡ filter names_it rows → IsPermutation rows (map line_row_of lines)
         → total_on n serials lines ≡ sum_by cents_of (lines_in_use H n t)
     of_any rows lines same found =
         sym (sum_by-passing (counted serials) is_here lines)
         ∙ in_use_is (filter is_here lines)
-        (subst (λ xs. IsPermutation xs (map row_of_stored (filter is_here lines))) (sym same)
-        (subst (IsPermutation (filter names_it rows)) (filter_map row_of_stored names_it lines) (IsPermutation-filter names_it rows (map row_of_stored lines) found)))
+        (subst (λ xs. IsPermutation xs (map line_row_of (filter is_here lines))) (sym same)
+        (subst (IsPermutation (filter names_it rows)) (filter_map line_row_of names_it lines) (IsPermutation-filter names_it rows (map line_row_of lines) found)))
 
     -- of all lines of the holder
-    pub of_holder : (lines : List StoredLine) → IsPermutation (part H t.lines) (map row_of_stored lines)
+    pub of_holder : (lines : List StoredLine) → IsPermutation (part H t.lines) (map line_row_of lines)
         → total_on n serials lines ≡ sum_by cents_of (lines_in_use H n t)
     of_holder lines found = of_any (part H t.lines) lines (filter_both names_it (λ l. owner l == H) t.lines) found
 
     -- of those on the guarantee
-    pub of_guarantee : (lines : List StoredLine) → IsPermutation (filter is_on t.lines) (map row_of_stored lines)
+    pub of_guarantee : (lines : List StoredLine) → IsPermutation (filter is_on t.lines) (map line_row_of lines)
         → total_on n serials lines ≡ sum_by cents_of (lines_in_use H n t)
     of_guarantee lines found =
         of_any (filter is_on t.lines) lines

@@ -23,13 +23,13 @@ use Rattle.td_table_model.proofs.Looked.{account_is, are_found}
 use Rattle.td_table_model.proofs.Told.{references_tell}
 use Rattle.td_schema.specs.Tables.{desk_schema}
 use Rattle.typed_sql.specs.Reading.{LeavesAll}
-use Rattle.td_store_rows.specs.CodeTable.{AreByCode, row_of_stored as row_of_code}
+use Rattle.td_store_rows.specs.CodeTable.{AreByCode, code_row_of as row_of_code}
 use Rattle.td_store_rows.specs.declared.codes.stored.StoredCode.{StoredCode}
-use Rattle.td_store_rows.specs.GuaranteeTable.{IsTheGuarantee, has_grn, has_serial, row_of_stored as row_of_guarantee}
+use Rattle.td_store_rows.specs.GuaranteeTable.{IsTheGuarantee, has_grn, has_serial, guarantee_row_of as row_of_guarantee}
 use Rattle.td_store_rows.specs.declared.guarantees.stored.StoredGuarantee.{StoredGuarantee}
-use Rattle.td_store_rows.specs.LineTable.{AreByNumber, row_of_stored as row_of_line}
+use Rattle.td_store_rows.specs.LineTable.{AreByNumber, line_row_of as row_of_line}
 use Rattle.td_store_rows.specs.declared.lines.stored.StoredLine.{StoredLine}
-use Rattle.td_store_rows.specs.MovementTable.{AreBySerial, IsTheMovement, has_lrn, has_mrn, is_of, row_of_stored as row_of_movement}
+use Rattle.td_store_rows.specs.MovementTable.{AreBySerial, IsTheMovement, has_lrn, has_mrn, is_of, movement_row_of as row_of_movement}
 use Rattle.td_store_rows.specs.declared.movements.stored.StoredMovement.{StoredMovement}
 use Rattle.td_store_rows.specs.StoreTables.{HoldsContent, tables_in}
 use Rattle.td_store_load.specs.Loaded.{IsOfTables, LeavesTables, code_of}

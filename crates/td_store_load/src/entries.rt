@@ -8,7 +8,7 @@ ghost use Rattle.td_model.specs.Account.{entry_in};
 ghost use Rattle.td_desk.specs.Content.{Content, account_in};
 ghost use Rattle.td_schema.specs.Tables.{desk_schema};
 ghost use Rattle.typed_sql.specs.Reading.{LeavesAll};
-ghost use Rattle.td_store_rows.specs.GuaranteeTable.{row_of_stored};
+ghost use Rattle.td_store_rows.specs.GuaranteeTable.{guarantee_row_of};
 ghost use Rattle.td_store_rows.specs.StoreTables.{HoldsContent};
 ghost use Rattle.td_store_load.specs.Loaded.{IsOfContent, IsOfTables, LeavesTables};
 ghost use Rattle.td_store_load.specs.Needed.{entry_from, with_use};
@@ -89,7 +89,7 @@ fn entry_in_row<S: Alter>(
     requires { HasCleanDisk (state S.Store tx.old.conn.now) → IsTrue (state S.Store tx.old.conn.now).in_transaction }
     ensures same_reference { tx.new.conn.ghost_name ≡ tx.old.conn.ghost_name }
     ensures entry { HasCleanDisk (state S.Store tx.new.conn.now)
-        → IfOk result (IsOfTables (λ t. entry_from t (row_of_stored row.now)) (state S.Store tx.old.conn.now)) }
+        → IfOk result (IsOfTables (λ t. entry_from t (guarantee_row_of row.now)) (state S.Store tx.old.conn.now)) }
     ensures still { HasCleanDisk (state S.Store tx.new.conn.now)
         → OnOk result (LeavesAll desk_schema (state S.Store tx.old.conn.now) (state S.Store tx.new.conn.now)) }
     ensures inside { HasCleanDisk (state S.Store tx.new.conn.now) → OnOk result (IsTrue (state S.Store tx.new.conn.now).in_transaction) }
@@ -116,7 +116,7 @@ fn entries_in_rows<S: Alter>(
     requires { HasCleanDisk (state S.Store tx.old.conn.now) → IsTrue (state S.Store tx.old.conn.now).in_transaction }
     ensures same_reference { tx.new.conn.ghost_name ≡ tx.old.conn.ghost_name }
     ensures entries { HasCleanDisk (state S.Store tx.new.conn.now)
-        → IfOk result (λ entries. IsOfTables (λ t. map (λ r. entry_from t (row_of_stored r)) rows.now)
+        → IfOk result (λ entries. IsOfTables (λ t. map (λ r. entry_from t (guarantee_row_of r)) rows.now)
         (state S.Store tx.old.conn.now) entries.items) }
     ensures still { HasCleanDisk (state S.Store tx.new.conn.now)
         → OnOk result (LeavesTables (state S.Store tx.old.conn.now) (state S.Store tx.new.conn.now)) }

@@ -9,7 +9,7 @@ ghost use Rattle.td_desk.specs.Content.{account_in};
 ghost use Rattle.td_schema.specs.Tables.{desk_schema};
 ghost use Rattle.td_table_model.specs.Gathering.{with_codes};
 ghost use Rattle.typed_sql.specs.Reading.{LeavesAll};
-ghost use Rattle.td_store_rows.specs.GuaranteeTable.{row_of_stored};
+ghost use Rattle.td_store_rows.specs.GuaranteeTable.{guarantee_row_of};
 ghost use Rattle.td_store_load.specs.Loaded.{IsOfContent, IsOfTables, LeavesTables, code_of};
 
 use sqlite::{Error, Transaction};
@@ -40,7 +40,7 @@ pub fn guarantee_with_codes<S: Alter>(
     requires { HasCleanDisk (state S.Store tx.old.conn.now) → IsTrue (state S.Store tx.old.conn.now).in_transaction }
     ensures same_reference { tx.new.conn.ghost_name ≡ tx.old.conn.ghost_name }
     ensures whole { HasCleanDisk (state S.Store tx.new.conn.now)
-        → IfOk result (IsOfTables (λ t. with_codes t (row_of_stored stored)) (state S.Store tx.old.conn.now)) }
+        → IfOk result (IsOfTables (λ t. with_codes t (guarantee_row_of stored)) (state S.Store tx.old.conn.now)) }
     ensures still { HasCleanDisk (state S.Store tx.new.conn.now)
         → OnOk result (LeavesAll desk_schema (state S.Store tx.old.conn.now) (state S.Store tx.new.conn.now)) }
     ensures inside { HasCleanDisk (state S.Store tx.new.conn.now) → OnOk result (IsTrue (state S.Store tx.new.conn.now).in_transaction) }

@@ -8,8 +8,8 @@ ghost use Rattle.td_desk.specs.Content.{Content, account_in};
 ghost use Rattle.td_schema.specs.Tables.{desk_schema};
 ghost use Rattle.td_table_model.specs.Gathering.{line_from, with_lines};
 ghost use Rattle.typed_sql.specs.Reading.{LeavesAll};
-ghost use Rattle.td_store_rows.specs.LineTable.{row_of_stored as row_of_line};
-ghost use Rattle.td_store_rows.specs.MovementTable.{row_of_stored};
+ghost use Rattle.td_store_rows.specs.LineTable.{line_row_of as row_of_line};
+ghost use Rattle.td_store_rows.specs.MovementTable.{movement_row_of};
 ghost use Rattle.td_store_load.specs.Loaded.{IsOfContent, IsOfTables, LeavesTables};
 ghost use Rattle.td_store_rows.specs.StoreTables.{HoldsContent};
 
@@ -84,7 +84,7 @@ pub fn movement_with_lines<S: Alter>(
     requires { HasCleanDisk (state S.Store tx.old.conn.now) → IsTrue (state S.Store tx.old.conn.now).in_transaction }
     ensures same_reference { tx.new.conn.ghost_name ≡ tx.old.conn.ghost_name }
     ensures whole { HasCleanDisk (state S.Store tx.new.conn.now)
-        → IfOk result (IsOfTables (λ t. with_lines t (row_of_stored stored)) (state S.Store tx.old.conn.now)) }
+        → IfOk result (IsOfTables (λ t. with_lines t (movement_row_of stored)) (state S.Store tx.old.conn.now)) }
     ensures still { HasCleanDisk (state S.Store tx.new.conn.now)
         → OnOk result (LeavesAll desk_schema (state S.Store tx.old.conn.now) (state S.Store tx.new.conn.now)) }
     ensures inside { HasCleanDisk (state S.Store tx.new.conn.now) → OnOk result (IsTrue (state S.Store tx.new.conn.now).in_transaction) }
@@ -182,7 +182,7 @@ fn all_with_lines<S: Alter>(
     requires { HasCleanDisk (state S.Store tx.old.conn.now) → IsTrue (state S.Store tx.old.conn.now).in_transaction }
     ensures same_reference { tx.new.conn.ghost_name ≡ tx.old.conn.ghost_name }
     ensures whole { HasCleanDisk (state S.Store tx.new.conn.now)
-        → IfOk result (λ found. IsOfTables (λ t. map (λ m. with_lines t (row_of_stored m)) rows.now)
+        → IfOk result (λ found. IsOfTables (λ t. map (λ m. with_lines t (movement_row_of m)) rows.now)
         (state S.Store tx.old.conn.now) found.items) }
     ensures still { HasCleanDisk (state S.Store tx.new.conn.now)
         → OnOk result (LeavesTables (state S.Store tx.old.conn.now) (state S.Store tx.new.conn.now)) }

@@ -9,13 +9,13 @@ use Rattle.sqlite_typed.proofs.TestLemmas.{then_value, then_term, last_term}
 use Rattle.td_base.specs.Codes.{IsAccessCode}
 use Rattle.typed_sql.proofs.Ordered.{Passes, both_pass, by_third, sorted_alike, texts_compared}
 use Rattle.typed_sql.specs.Reading.{row_order}
-use Rattle.typed_sql.specs.Typed.{AreInOrder, rows_in, IsTypedRow, row_of}
+use Rattle.typed_sql.specs.Typed.{AreInOrder, typed_rows, IsTypedRow, row_of}
 use Rattle.td_table_model.proofs.Counting.{filter_both}
 use Rattle.td_table_model.proofs.Orders.{sorted_is_order}
 use Rattle.td_table_model.proofs.Ranks.{ranks_apart, ranks_compare}
 use Rattle.td_table_model.specs.Gathering.{code_rank, place}
 use Rattle.td_store_rows.proofs.CodeMeanings.{by_code, code_tests, delete_means, insert_means, key_tests, new_row}
-use Rattle.td_store_rows.specs.CodeTable.{AreByCode, AreCodes, codes_in, row_of_stored, TurnsCodes, is_code_of_guarantee}
+use Rattle.td_store_rows.specs.CodeTable.{AreByCode, AreCodes, code_rows_in, code_row_of, TurnsCodes, is_code_of_guarantee}
 use Rattle.td_store_rows.specs.declared.codes.stored.StoredCode.{StoredCode}
 use Rattle.td_table_model.specs.Changes.{is_code_of}
 use Rattle.td_store_rows.specs.declared.codes.texts.TheConstants.{DELETE, INSERT}
@@ -91,17 +91,17 @@ compared H n =
 
 -- so those that were fetched are they in ascending order
 pub by_codes : (H n : ℕ) (old : State) (found : List StoredCode) → AreCodes (is_code_of_guarantee H n) old found
-    → AreInOrder code_typing desk_schema code_cmp old (map row_of_stored found)
+    → AreInOrder code_typing desk_schema code_cmp old (map code_row_of found)
     → AreByCode H n old found
 by_codes H n old found those sorted has typed form apart =
-    let rows : List (Keyed (List ℕ)) = map row_of_stored found in
-    let same : IsPermutation (codes_in H n old.now.trees) rows =
+    let rows : List (Keyed (List ℕ)) = map code_row_of found in
+    let same : IsPermutation (code_rows_in H n old.now.trees) rows =
     subst (λ l. IsPermutation l rows)
-    (filter_both (λ c. place c == n) (λ c. c.holder == H) (rows_in code_typing old.now.trees)) (those has typed) in
+    (filter_both (λ c. place c == n) (λ c. c.holder == H) (typed_rows code_typing old.now.trees)) (those has typed) in
     let ranked : IsSorted (λ a b. nat_cmp (code_rank a) (code_rank b)) rows =
     sorted_alike (λ (c : Keyed (List ℕ)). IsAccessCode c.row) code_cmp (λ a b. nat_cmp (code_rank a) (code_rank b))
     (λ a b is other. ranks_compare a.row b.row is other) rows
-    (all-permutation (λ (c : Keyed (List ℕ)). IsAccessCode c.row) (codes_in H n old.now.trees) rows same form)
+    (all-permutation (λ (c : Keyed (List ℕ)). IsAccessCode c.row) (code_rows_in H n old.now.trees) rows same form)
     (sorted has typed) in
-    sorted_is_order code_rank rows (codes_in H n old.now.trees) same ranked
-    (ranks_apart (codes_in H n old.now.trees) form apart)
+    sorted_is_order code_rank rows (code_rows_in H n old.now.trees) same ranked
+    (ranks_apart (code_rows_in H n old.now.trees) form apart)

@@ -17,12 +17,12 @@ use Rattle.td_guarantee.specs.declared.guarantee.Guarantee.{Guarantee}
 use Rattle.td_store_rows.proofs.GuaranteeCells.{back, bare, cells_stored, given_else}
 use Rattle.td_store_rows.proofs.GuaranteeMeanings.{grn_tests, holder_tests, insert_means, new_row, serial_tests, set_columns, set_means, by_serial}
 use Rattle.td_store_rows.specs.GuaranteeColumns.{guarantee_cells, guarantee_columns, guarantee_typing, guarantees_table}
-use Rattle.td_store_rows.specs.GuaranteeTable.{TurnsGuarantees, has_grn, has_serial, is_of, terms_values, with_new_terms, AreBySerial, AreGuarantees, row_of_stored}
+use Rattle.td_store_rows.specs.GuaranteeTable.{TurnsGuarantees, has_grn, has_serial, is_of, terms_values, with_new_terms, AreBySerial, AreGuarantees, guarantee_row_of}
 use Rattle.td_store_rows.specs.declared.guarantees.texts.TheConstants.{INSERT, SET_TERMS}
 use Rattle.td_schema.specs.Tables.{desk_schema}
 use Rattle.typed_sql.proofs.Columns.{given_or, number_is, text_is}
 use Rattle.typed_sql.proofs.TypedRows.{inserted_typed, updated_typed}
-use Rattle.typed_sql.specs.Typed.{IsTypedRow, row_of, AreInOrder, rows_in}
+use Rattle.typed_sql.specs.Typed.{IsTypedRow, row_of, AreInOrder, typed_rows}
 use Rattle.typed_sql.specs.Values.{number_or_null, number_value}
 use Rattle.typed_sql.specs.Writing.{Inserts, IsInserted, Updates, columns_set, passes}
 use Rattle.typed_sql.proofs.Ordered.{Passes, by_second}
@@ -106,8 +106,8 @@ compared H =
 
 -- so those that were fetched are they by their serials
 pub by_serials : (p : Keyed Guarantee → Bool) (old : State) (found : List StoredGuarantee) → AreGuarantees p old found
-    → AreInOrder guarantee_typing desk_schema (λ a b. nat_cmp (place a) (place b)) old (map row_of_stored found)
+    → AreInOrder guarantee_typing desk_schema (λ a b. nat_cmp (place a) (place b)) old (map guarantee_row_of found)
     → AreBySerial p old found
 by_serials p old found those sorted has typed apart =
-    sorted_is_order place (map row_of_stored found) (filter p (rows_in guarantee_typing old.now.trees))
+    sorted_is_order place (map guarantee_row_of found) (filter p (typed_rows guarantee_typing old.now.trees))
     (those has typed) (sorted has typed) apart

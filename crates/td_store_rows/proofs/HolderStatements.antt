@@ -10,7 +10,7 @@ use Rattle.sqlite.specs.State.{State}
 use Rattle.td_model.specs.declared.holder_row.HolderRow.{HolderRow}
 use Rattle.td_table_model.specs.Changes.{with_row}
 use Rattle.td_schema.specs.Tables.{desk_schema}
-use Rattle.typed_sql.specs.Typed.{HasNow, IsTypedRow, row_of, rows_in}
+use Rattle.typed_sql.specs.Typed.{HasNow, IsTypedRow, row_of, typed_rows}
 use Rattle.typed_sql.specs.Values.{number_value}
 use Rattle.typed_sql.specs.Writing.{Inserts, Updates, columns_put, columns_set, passes}
 use Rattle.typed_sql.proofs.Columns.{cast_null, number_is}
@@ -60,7 +60,7 @@ set_is row x = by_test (x.holder == row.holder) refl
 
 pub set_anew : (row : HolderRow) (old new : State) → Updates SET.now (holder_cells row) old new → TurnsHolders (map (with_row row)) old new
 set_anew row old new did has typed =
-    subst (λ rows. HasNow holder_typing desk_schema rows old.now new.now) (λ i. map (λ x. set_is row x i) (rows_in holder_typing old.now.trees))
+    subst (λ rows. HasNow holder_typing desk_schema rows old.now new.now) (λ i. map (λ x. set_is row x i) (typed_rows holder_typing old.now.trees))
     (updated_typed holder_typing desk_schema (passes (holder_cells row) number_tests) (columns_set holders_table set_columns (holder_cells row)) (λ h. h.holder == row.holder) (anew row) old.now new.now
     (λ r is. passes_number row.holder (Text row.eori ∷ number_value row.last_at ∷ number_value row.grn_count ∷ number_value row.mrn_count ∷ []) r is)
     (λ r is. ap (λ l. holder_columns (rowid r ∷ l)) (put_columns row) ∙ ap (λ v. v ∷ Text row.eori ∷ number_value row.last_at ∷ number_value row.grn_count ∷ number_value row.mrn_count ∷ []) (ap (λ l. column l 0) is))

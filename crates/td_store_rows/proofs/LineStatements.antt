@@ -11,7 +11,7 @@ use Rattle.sqlite_value.specs.Order.{Row, column}
 use Rattle.typed_sql.specs.Reading.{row_order}
 use Rattle.td_store_rows.specs.declared.lines.stored.StoredLine.{StoredLine}
 use Rattle.td_store_rows.specs.LineColumns.{line_cells, line_from, line_typing, lines_table}
-use Rattle.td_store_rows.specs.LineTable.{AreByNumber, AreLines, TurnsLines, is_line_of, is_line_on, lines_in, row_of_stored}
+use Rattle.td_store_rows.specs.LineTable.{AreByNumber, AreLines, TurnsLines, is_line_of, is_line_on, line_rows_in, line_row_of}
 use Rattle.td_store_rows.specs.declared.lines.texts.TheConstants.{INSERT}
 use Rattle.td_schema.specs.Tables.{desk_schema}
 use Rattle.typed_sql.proofs.Columns.{number_is}
@@ -20,7 +20,7 @@ use Rattle.td_table_model.proofs.Counting.{filter_both}
 use Rattle.td_table_model.proofs.Orders.{sorted_is_order}
 use Rattle.td_table_model.specs.Gathering.{no_of, place}
 use Rattle.typed_sql.proofs.TypedRows.{inserted_typed}
-use Rattle.typed_sql.specs.Typed.{AreInOrder, IsTypedRow, row_of, rows_in}
+use Rattle.typed_sql.specs.Typed.{AreInOrder, IsTypedRow, row_of, typed_rows}
 use Rattle.typed_sql.specs.Values.{number_value}
 use Rattle.typed_sql.specs.Writing.{Inserts, IsInserted, passes}
 use Rattle.td_table_model.specs.Tables.{Keyed, LineCells}
@@ -73,10 +73,10 @@ compared H n =
 
 -- so those that were fetched are they by their numbers
 pub by_numbers : (H n : ℕ) (old : State) (found : List StoredLine) → AreLines (is_line_of H n) old found
-    → AreInOrder line_typing desk_schema (λ a b. nat_cmp (no_of a) (no_of b)) old (map row_of_stored found)
+    → AreInOrder line_typing desk_schema (λ a b. nat_cmp (no_of a) (no_of b)) old (map line_row_of found)
     → AreByNumber H n old found
 by_numbers H n old found those sorted has typed apart =
-    sorted_is_order no_of (map row_of_stored found) (lines_in H n old.now.trees)
-    (subst (λ l. IsPermutation l (map row_of_stored found))
-    (filter_both (λ l. place l == n) (λ l. l.holder == H) (rows_in line_typing old.now.trees)) (those has typed))
+    sorted_is_order no_of (map line_row_of found) (line_rows_in H n old.now.trees)
+    (subst (λ l. IsPermutation l (map line_row_of found))
+    (filter_both (λ l. place l == n) (λ l. l.holder == H) (typed_rows line_typing old.now.trees)) (those has typed))
     (sorted has typed) apart

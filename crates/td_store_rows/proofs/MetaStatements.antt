@@ -13,7 +13,7 @@ use Rattle.typed_sql.proofs.Columns.{cast_null}
 use Rattle.typed_sql.proofs.Effects.{cast_int}
 use Rattle.typed_sql.proofs.TypedRows.{inserted_typed, selected_typed}
 use Rattle.typed_sql.specs.Reading.{Selects, row_order, shown_by}
-use Rattle.typed_sql.specs.Typed.{rows_in}
+use Rattle.typed_sql.specs.Typed.{typed_rows}
 use Rattle.typed_sql.specs.Values.{number_value}
 use Rattle.typed_sql.specs.Writing.{Inserts, columns_put, passes}
 use Rattle.sqlite_typed.proofs.TestLemmas.{then_value}
@@ -56,8 +56,8 @@ pub found_meta : (old : State) (one : Option StoredMeta) (rows : List Row) → S
     → option_to_list one ≡ map stored_of (map meta_from rows) → IsTheMeta old one
 found_meta old one rows shows is has typed =
     let answer = shows desk_schema 0 [] all_columns [] has find_means in
-    let those : IsPermutation (filter (λ m. true) (rows_in meta_typing old.now.trees)) (map meta_from rows) =
+    let those : IsPermutation (filter (λ m. true) (typed_rows meta_typing old.now.trees)) (map meta_from rows) =
     selected_typed meta_typing desk_schema (passes [] []) (shown_by all_columns []) (λ m. true) (row_order [] [])
     old.now.trees rows (λ r typed_row. refl) (λ r. refl) answer typed in
-    few_are_same _ one (subst₂ IsPermutation (ap (map stored_of) (all_kept (rows_in meta_typing old.now.trees)))
+    few_are_same _ one (subst₂ IsPermutation (ap (map stored_of) (all_kept (typed_rows meta_typing old.now.trees)))
     (sym is) (IsPermutation-map stored_of _ _ those))

@@ -17,7 +17,7 @@ use Rattle.td_schema.specs.Tables.{desk_schema}
 use Rattle.typed_sql.proofs.Ordered.{both_pass, selected_sorted}
 use Rattle.typed_sql.proofs.TypedRows.{selected_typed}
 use Rattle.typed_sql.specs.Reading.{Fetches, IsAnswerOf, Selects, row_order, shown_by}
-use Rattle.typed_sql.specs.Typed.{AreTyped, row_of, rows_in}
+use Rattle.typed_sql.specs.Typed.{AreTyped, row_of, typed_rows}
 use Rattle.typed_sql.specs.Values.{number_in, number_value}
 use Rattle.typed_sql.specs.Writing.{HasSchema, passes}
 use Rattle.td_store_rows.specs.MovementColumns.{movement_columns, movement_from, movement_typing}
@@ -62,7 +62,7 @@ module _ (H : ℕ) where
     found_is : (found : List MovementSerial) → Read found → AreSerialsOf (counts_for H) old found
     found_is found h has typed =
         let a = answer_of found h has in
-        subst (IsPermutation (map place (filter (counts_for H) (rows_in movement_typing old.now.trees))))
+        subst (IsPermutation (map place (filter (counts_for H) (typed_rows movement_typing old.now.trees))))
         (sym (h.2 ∙ same (old.now.trees 4) h.0 a))
         (IsPermutation-map place _ _
         (selected_typed movement_typing desk_schema (passes values counting_tests) movement_columns (counts_for H) (row_order by_serial values) old.now.trees

@@ -4,11 +4,11 @@ use Rattle.std.specs.Prelude.{filter, codes, if◌then◌else◌, ◌==◌}
 use Rattle.sqlite_typed.proofs.TestLemmas.{at_or, last_term, then_term, truth_or, then_value}
 use Rattle.typed_sql.proofs.Ordered.{Passes, by_second}
 use Rattle.typed_sql.specs.Reading.{row_order}
-use Rattle.typed_sql.specs.Typed.{AreInOrder, rows_in, IsTypedRow, row_of}
+use Rattle.typed_sql.specs.Typed.{AreInOrder, typed_rows, IsTypedRow, row_of}
 use Rattle.td_table_model.proofs.Orders.{sorted_is_order}
 use Rattle.td_table_model.specs.Gathering.{place}
 use Rattle.td_store_rows.proofs.MovementMeanings.{by_serial, counting_tests, holder_tests, insert_means, key_tests, lrn_tests, new_row, set_columns, set_means}
-use Rattle.td_store_rows.specs.MovementTable.{AreBySerial, AreMovements, row_of_stored, TurnsMovements, counts_for, has_lrn, has_mrn, is_of, status_values, with_new_status}
+use Rattle.td_store_rows.specs.MovementTable.{AreBySerial, AreMovements, movement_row_of, TurnsMovements, counts_for, has_lrn, has_mrn, is_of, status_values, with_new_status}
 use Rattle.td_store_rows.specs.declared.movements.stored.StoredMovement.{StoredMovement}
 use Rattle.sqlite.specs.State.{State}
 use Rattle.td_store_rows.proofs.MovementCells.{counting_names, back, bare, cells_stored}
@@ -123,8 +123,8 @@ module _ (H : ℕ) (p : Keyed Movement → Bool)
 
 -- so those that were fetched are they by their serials
 pub by_serials : (p : Keyed Movement → Bool) (old : State) (found : List StoredMovement) → AreMovements p old found
-    → AreInOrder movement_typing desk_schema (λ a b. nat_cmp (place a) (place b)) old (map row_of_stored found)
+    → AreInOrder movement_typing desk_schema (λ a b. nat_cmp (place a) (place b)) old (map movement_row_of found)
     → AreBySerial p old found
 by_serials p old found those sorted has typed apart =
-    sorted_is_order place (map row_of_stored found) (filter p (rows_in movement_typing old.now.trees))
+    sorted_is_order place (map movement_row_of found) (filter p (typed_rows movement_typing old.now.trees))
     (those has typed) (sorted has typed) apart

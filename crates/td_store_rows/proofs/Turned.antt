@@ -11,7 +11,7 @@ use Rattle.td_table_model.specs.Tables.{Keyed, LineCells, Tables}
 use Rattle.td_schema.specs.Tables.{desk_schema}
 use Rattle.typed_sql.specs.Rows.{AreOthersKept, HaveIds}
 use Rattle.typed_sql.specs.Writing.{HasSchema}
-use Rattle.typed_sql.specs.Typed.{Typing, AreTyped, IsTypedRow, Turns, row_of, rows_in}
+use Rattle.typed_sql.specs.Typed.{Typing, AreTyped, IsTypedRow, Turns, row_of, typed_rows}
 use Rattle.td_store_rows.specs.MetaColumns.{meta_typing}
 use Rattle.td_store_rows.specs.HolderColumns.{holder_typing}
 use Rattle.td_store_rows.specs.GuaranteeColumns.{guarantee_typing}
@@ -22,7 +22,7 @@ use Rattle.td_store_rows.specs.StoreTables.{AreAllTyped, HasTables, tables_in, c
 
 -- a table whose tree is as it was has the same rows, typed as before
 rows_still : {R : Type 0} (ty : Typing R) (old new : Trees) → new ty.table.tree ≡ old ty.table.tree
-    → IsPermutation (rows_in ty old) (rows_in ty new)
+    → IsPermutation (typed_rows ty old) (typed_rows ty new)
 rows_still ty old new is = IsPermutation-same _ _ (ap (map (row_of ty)) (sym is))
 
 typed_still : {R : Type 0} (ty : Typing R) (old new : Trees) → new ty.table.tree ≡ old ty.table.tree
@@ -34,7 +34,7 @@ typed_still ty old new is typed = record {
 
 -- the office's row is as it was where its tree is
 country_still : (old new : Trees) → new 0 ≡ old 0
-    → country_in (rows_in meta_typing new) ≡ country_in (rows_in meta_typing old)
+    → country_in (typed_rows meta_typing new) ≡ country_in (typed_rows meta_typing old)
 country_still old new is = ap (λ rows. country_in (map (row_of meta_typing) rows)) is
 
 -- which trees are not this one, and so are as they were
@@ -58,16 +58,16 @@ kept tree old new others = record {
 
 -- a table has these rows now, in any order, and they are typed
 record Now {R : Type 0} (ty : Typing R) (rows : List R) (trees : Trees) : Type 0 where
-  same : IsPermutation rows (rows_in ty trees)
+  same : IsPermutation rows (typed_rows ty trees)
   typed : AreTyped ty trees
 
 still : {R : Type 0} (ty : Typing R) (old new : Trees) → AreTyped ty old → new ty.table.tree ≡ old ty.table.tree
-    → Now ty (rows_in ty old) new
+    → Now ty (typed_rows ty old) new
 still ty old new typed is = record { same = rows_still ty old new is; typed = typed_still ty old new is typed }
 
 -- all of them, each as it is now
 assembled : (f : Tables → Tables) (old new : State)
-    → country_in (rows_in meta_typing new.now.trees) ≡ (f (tables_in old.now.trees)).country → AreTyped meta_typing new.now.trees
+    → country_in (typed_rows meta_typing new.now.trees) ≡ (f (tables_in old.now.trees)).country → AreTyped meta_typing new.now.trees
     → Now holder_typing (f (tables_in old.now.trees)).holders new.now.trees
     → Now guarantee_typing (f (tables_in old.now.trees)).guarantees new.now.trees
     → Now code_typing (f (tables_in old.now.trees)).codes new.now.trees

@@ -9,7 +9,7 @@ use Rattle.td_table_model.specs.Apart.{IsApart}
 use Rattle.td_table_model.specs.Gathering.{in_order, place}
 use Rattle.td_table_model.specs.Tables.{Keyed}
 use Rattle.td_schema.specs.Tables.{desk_schema}
-use Rattle.typed_sql.specs.Typed.{AreThose, AreTyped, Turns, rows_in}
+use Rattle.typed_sql.specs.Typed.{AreThose, AreTyped, Turns, typed_rows}
 use Rattle.typed_sql.specs.Values.{number_value, number_or_null}
 use Rattle.typed_sql.specs.Writing.{HasSchema}
 use Rattle.sqlite_value.specs.declared.value.Value.TheVariants.{Text}
@@ -19,8 +19,8 @@ use Rattle.td_store_rows.specs.GuaranteeColumns.{guarantee_typing}
 use Rattle.td_store_rows.specs.declared.guarantees.stored.StoredGuarantee.{StoredGuarantee}
 
 -- a guarantee that was found, as its row
-abbrev pub row_of_stored : StoredGuarantee → Keyed Guarantee
-row_of_stored g = record { holder = g.holder; serial = g.serial; row = g.guarantee }
+abbrev pub guarantee_row_of : StoredGuarantee → Keyed Guarantee
+guarantee_row_of g = record { holder = g.holder; serial = g.serial; row = g.guarantee }
 
 -- the guarantee of a holder with a serial and a GRN; with a serial; each of the holder
 abbrev pub has_grn : ℕ → ℕ → List ℕ → Keyed Guarantee → Bool
@@ -42,14 +42,14 @@ TurnsGuarantees f = Turns guarantee_typing desk_schema f
 
 -- these are the guarantees that pass the test
 abbrev pub AreGuarantees : (Keyed Guarantee → Bool) → State → List StoredGuarantee → Type 0
-AreGuarantees p state found = AreThose guarantee_typing desk_schema p state (map row_of_stored found)
+AreGuarantees p state found = AreThose guarantee_typing desk_schema p state (map guarantee_row_of found)
 
 -- where no two of them have one serial, these are they by their serials
 abbrev pub AreBySerial : (Keyed Guarantee → Bool) → State → List StoredGuarantee → Type 0
 AreBySerial p state found =
     HasSchema state desk_schema → AreTyped guarantee_typing state.now.trees
-    → IsApart place (filter p (rows_in guarantee_typing state.now.trees))
-    → map row_of_stored found ≡ in_order place (filter p (rows_in guarantee_typing state.now.trees))
+    → IsApart place (filter p (typed_rows guarantee_typing state.now.trees))
+    → map guarantee_row_of found ≡ in_order place (filter p (typed_rows guarantee_typing state.now.trees))
 
 -- this is the guarantee that passes the test, or there is none
 abbrev pub IsTheGuarantee : (Keyed Guarantee → Bool) → State → Option StoredGuarantee → Type 0

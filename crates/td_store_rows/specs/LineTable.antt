@@ -6,14 +6,14 @@ use Rattle.td_table_model.specs.Apart.{IsApart}
 use Rattle.td_table_model.specs.Gathering.{in_order, no_of, of_key, part, place}
 use Rattle.td_table_model.specs.Tables.{Keyed, LineCells}
 use Rattle.td_schema.specs.Tables.{desk_schema}
-use Rattle.typed_sql.specs.Typed.{AreThose, AreTyped, Turns, rows_in}
+use Rattle.typed_sql.specs.Typed.{AreThose, AreTyped, Turns, typed_rows}
 use Rattle.typed_sql.specs.Writing.{HasSchema}
 use Rattle.td_store_rows.specs.LineColumns.{line_typing}
 use Rattle.td_store_rows.specs.declared.lines.stored.StoredLine.{StoredLine}
 
 -- a line of a holder's movement, as its row
-abbrev pub row_of_stored : StoredLine → Keyed LineCells
-row_of_stored l = record {
+abbrev pub line_row_of : StoredLine → Keyed LineCells
+line_row_of l = record {
   holder = l.holder;
   serial = l.serial;
   row = record { no = l.no; guarantee = l.guarantee; cents = l.cents };
@@ -33,14 +33,14 @@ TurnsLines f = Turns line_typing desk_schema f
 
 -- these are the lines that pass the test
 abbrev pub AreLines : (Keyed LineCells → Bool) → State → List StoredLine → Type 0
-AreLines p state found = AreThose line_typing desk_schema p state (map row_of_stored found)
+AreLines p state found = AreThose line_typing desk_schema p state (map line_row_of found)
 
 -- the lines of a holder's movement in a store's file, in no order
-abbrev pub lines_in : ℕ → ℕ → Trees → List (Keyed LineCells)
-lines_in H n trees = of_key place n (part H (rows_in line_typing trees))
+abbrev pub line_rows_in : ℕ → ℕ → Trees → List (Keyed LineCells)
+line_rows_in H n trees = of_key place n (part H (typed_rows line_typing trees))
 
 -- where no two of them have one number, these are they by their numbers
 abbrev pub AreByNumber : ℕ → ℕ → State → List StoredLine → Type 0
 AreByNumber H n state found =
-    HasSchema state desk_schema → AreTyped line_typing state.now.trees → IsApart no_of (lines_in H n state.now.trees)
-    → map row_of_stored found ≡ in_order no_of (lines_in H n state.now.trees)
+    HasSchema state desk_schema → AreTyped line_typing state.now.trees → IsApart no_of (line_rows_in H n state.now.trees)
+    → map line_row_of found ≡ in_order no_of (line_rows_in H n state.now.trees)

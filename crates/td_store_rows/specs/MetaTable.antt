@@ -4,7 +4,7 @@ use Rattle.std.specs.Option.{option_to_list}
 use Rattle.sqlite.specs.State.{State}
 use Rattle.td_base.specs.Country.{country_read}
 use Rattle.td_schema.specs.Tables.{desk_schema}
-use Rattle.typed_sql.specs.Typed.{AreTyped, Turns, rows_in}
+use Rattle.typed_sql.specs.Typed.{AreTyped, Turns, typed_rows}
 use Rattle.typed_sql.specs.Writing.{HasSchema}
 use Rattle.td_store_rows.specs.MetaColumns.{MetaRow, meta_typing}
 use Rattle.td_store_rows.specs.declared.meta.stored.StoredMeta.{StoredMeta}
@@ -20,4 +20,4 @@ TurnsMeta f = Turns meta_typing desk_schema f
 -- the table has just the row that was found, or none where none was found
 abbrev pub IsTheMeta : State → Option StoredMeta → Type 0
 IsTheMeta state found = HasSchema state desk_schema → AreTyped meta_typing state.now.trees
-    → map stored_of (rows_in meta_typing state.now.trees) ≡ option_to_list found
+    → map stored_of (typed_rows meta_typing state.now.trees) ≡ option_to_list found

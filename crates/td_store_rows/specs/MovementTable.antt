@@ -10,7 +10,7 @@ use Rattle.td_acts.specs.Changes.{with_status}
 use Rattle.td_acts.specs.declared.rows.NewStatus.{NewStatus}
 use Rattle.td_table_model.specs.Tables.{Keyed}
 use Rattle.td_schema.specs.Tables.{desk_schema}
-use Rattle.typed_sql.specs.Typed.{AreThose, AreTyped, Turns, rows_in}
+use Rattle.typed_sql.specs.Typed.{AreThose, AreTyped, Turns, typed_rows}
 use Rattle.typed_sql.specs.Writing.{HasSchema}
 use Rattle.td_table_model.specs.Apart.{IsApart}
 use Rattle.td_table_model.specs.Gathering.{in_order, place}
@@ -23,8 +23,8 @@ use Rattle.td_store_rows.specs.declared.movements.stored.MovementSerial.{Movemen
 use Rattle.td_store_rows.specs.declared.movements.stored.StoredMovement.{StoredMovement}
 
 -- a movement that was found, as its row
-abbrev pub row_of_stored : StoredMovement → Keyed Movement
-row_of_stored m = record { holder = m.holder; serial = m.serial; row = m.movement }
+abbrev pub movement_row_of : StoredMovement → Keyed Movement
+movement_row_of m = record { holder = m.holder; serial = m.serial; row = m.movement }
 
 -- the movement of a holder with a serial and an MRN; with an LRN; each of the holder; each of the holder that
 -- counts
@@ -50,14 +50,14 @@ TurnsMovements f = Turns movement_typing desk_schema f
 
 -- these are the movements that pass the test
 abbrev pub AreMovements : (Keyed Movement → Bool) → State → List StoredMovement → Type 0
-AreMovements p state found = AreThose movement_typing desk_schema p state (map row_of_stored found)
+AreMovements p state found = AreThose movement_typing desk_schema p state (map movement_row_of found)
 
 -- where no two of them have one serial, these are they by their serials
 abbrev pub AreBySerial : (Keyed Movement → Bool) → State → List StoredMovement → Type 0
 AreBySerial p state found =
     HasSchema state desk_schema → AreTyped movement_typing state.now.trees
-    → IsApart place (filter p (rows_in movement_typing state.now.trees))
-    → map row_of_stored found ≡ in_order place (filter p (rows_in movement_typing state.now.trees))
+    → IsApart place (filter p (typed_rows movement_typing state.now.trees))
+    → map movement_row_of found ≡ in_order place (filter p (typed_rows movement_typing state.now.trees))
 
 -- a serial that was found
 abbrev pub serial_of_stored : MovementSerial → ℕ
@@ -68,7 +68,7 @@ serial_of_stored s = s.serial
 abbrev pub AreSerialsOf : (Keyed Movement → Bool) → State → List MovementSerial → Type 0
 AreSerialsOf p state found =
     HasSchema state desk_schema → AreTyped movement_typing state.now.trees
-    → IsPermutation (map place (filter p (rows_in movement_typing state.now.trees))) (map serial_of_stored found)
+    → IsPermutation (map place (filter p (typed_rows movement_typing state.now.trees))) (map serial_of_stored found)
 
 abbrev pub AreSerialsInOrder : State → List MovementSerial → Type 0
 AreSerialsInOrder state found =

@@ -7,7 +7,7 @@ use Rattle.td_desk.specs.Sound.{IsSound}
 use Rattle.td_table_model.specs.Tables.{Tables, AreTablesOf}
 use Rattle.td_table_model.specs.Changes.{HaveSameRows}
 use Rattle.td_schema.specs.Tables.{desk_schema}
-use Rattle.typed_sql.specs.Typed.{AreTyped, rows_in}
+use Rattle.typed_sql.specs.Typed.{AreTyped, typed_rows}
 use Rattle.typed_sql.specs.Writing.{HasSchema}
 use Rattle.td_store_rows.specs.MetaColumns.{MetaRow, meta_typing}
 use Rattle.td_store_rows.specs.HolderColumns.{holder_typing}
@@ -24,12 +24,12 @@ country_in (row ∷ rows) = row.country
 -- the tables that stand in the trees
 abbrev pub tables_in : Trees → Tables
 tables_in trees = record {
-  country = country_in (rows_in meta_typing trees);
-  holders = rows_in holder_typing trees;
-  guarantees = rows_in guarantee_typing trees;
-  codes = rows_in code_typing trees;
-  movements = rows_in movement_typing trees;
-  lines = rows_in line_typing trees;
+  country = country_in (typed_rows meta_typing trees);
+  holders = typed_rows holder_typing trees;
+  guarantees = typed_rows guarantee_typing trees;
+  codes = typed_rows code_typing trees;
+  movements = typed_rows movement_typing trees;
+  lines = typed_rows line_typing trees;
 }
 
 -- the rows of every table are typed

@@ -11,7 +11,7 @@ use Rattle.td_schema.specs.Making.{IsEmptyOf}
 use Rattle.td_schema.specs.Tables.{desk_schema}
 use Rattle.typed_sql.specs.Rows.{HaveIds}
 use Rattle.typed_sql.specs.Writing.{HasSchema}
-use Rattle.typed_sql.specs.Typed.{AreTyped, HasNow, IsTypedRow, Typing, row_of, rows_in}
+use Rattle.typed_sql.specs.Typed.{AreTyped, HasNow, IsTypedRow, Typing, row_of, typed_rows}
 use Rattle.td_store_rows.specs.MetaColumns.{meta_row, meta_typing, newest_version}
 use Rattle.td_store_rows.specs.MetaTable.{TurnsMeta}
 use Rattle.td_store_rows.specs.HolderColumns.{holder_typing}
@@ -29,7 +29,7 @@ none_typed ty trees none = record {
   cells = subst (AllByRecursion (IsTypedRow ty)) (sym none) tt;
 }
 
-none_there : {R : Type 0} (ty : Typing R) (trees : Trees) → trees ty.table.tree ≡ [] → IsPermutation [] (rows_in ty trees)
+none_there : {R : Type 0} (ty : Typing R) (trees : Trees) → trees ty.table.tree ≡ [] → IsPermutation [] (typed_rows ty trees)
 none_there ty trees none = subst (IsPermutation []) (ap (map (row_of ty)) (sym none)) (IsPermutation-refl [])
 
 -- the trees of the empty desk: the office's row, and no other
@@ -61,12 +61,12 @@ of_empty_desk country old new was turns = record {
     b : Trees
     b = new.now.trees
 
-    now : HasNow meta_typing desk_schema (meta_row newest_version country ∷ rows_in meta_typing a) old.now new.now
+    now : HasNow meta_typing desk_schema (meta_row newest_version country ∷ typed_rows meta_typing a) old.now new.now
     now = turns (λ is_open. was.schema) (none_typed meta_typing a was.empty.0)
 
-    meta : rows_in meta_typing b ≡ meta_row newest_version country ∷ []
-    meta = one_permutation (meta_row newest_version country) (rows_in meta_typing b)
-        (subst (λ rows. IsPermutation (meta_row newest_version country ∷ map (row_of meta_typing) rows) (rows_in meta_typing b)) was.empty.0 now.same)
+    meta : typed_rows meta_typing b ≡ meta_row newest_version country ∷ []
+    meta = one_permutation (meta_row newest_version country) (typed_rows meta_typing b)
+        (subst (λ rows. IsPermutation (meta_row newest_version country ∷ map (row_of meta_typing) rows) (typed_rows meta_typing b)) was.empty.0 now.same)
 
     holders : b 1 ≡ []
     holders = now.others.1.0 (λ e. cc) ∙ was.empty.1.0

@@ -5,14 +5,14 @@ use Rattle.sqlite.specs.State.{State}
 use Rattle.td_desk.specs.Content.{empty_content}
 use Rattle.td_schema.specs.Making.{IsEmptyOf}
 use Rattle.td_schema.specs.Tables.{no_schema}
-use Rattle.typed_sql.specs.Typed.{rows_in}
+use Rattle.typed_sql.specs.Typed.{typed_rows}
 use Rattle.td_store_rows.specs.MetaColumns.{meta_row, meta_typing, newest_version}
 use Rattle.td_table_model.specs.Tables.{AreTablesOf}
 use Rattle.td_store_rows.specs.StoreTables.{AreAllTyped, HoldsContent, tables_in}
 
 -- the tables of a desk without holders, of version 1
 pub record AreOfEmptyDesk (country : List ℕ) (trees : Trees) : Type 0 where
-  pub meta : rows_in meta_typing trees ≡ meta_row newest_version country ∷ []
+  pub meta : typed_rows meta_typing trees ≡ meta_row newest_version country ∷ []
   pub typed : AreAllTyped trees
   pub tables : AreTablesOf (tables_in trees) (empty_content country)
 

@@ -7,7 +7,7 @@ ghost use Rattle.td_acts.specs.declared.rows.Change.TheVariants as change;
 ghost use Rattle.td_table_model.specs.Tables.{Tables, code_row, guarantee_no, guarantee_row, line_rows, movement_row};
 ghost use Rattle.td_table_model.specs.Changes.{is_code_of, tables_after, with_row};
 ghost use Rattle.td_table_model.specs.Looking.{movement_no};
-ghost use Rattle.td_store_rows.specs.CodeTable.{row_of_stored};
+ghost use Rattle.td_store_rows.specs.CodeTable.{code_row_of};
 ghost use Rattle.td_store_rows.specs.StoreTables.{TurnsTables};
 ghost use Rattle.td_store_write.specs.Written.{WritesChange, status_by_key, terms_by_key};
 
@@ -205,7 +205,7 @@ fn remove_code<S: Alter>(
 
 // The row of a code of a holder's guarantee.
 fn code_of(country: Country, row: &HolderRow, grn: &Grn, code: AccessCode) -> StoredCode
-    ensures { row_of_stored result ≡ code_row row.now.holder (guarantee_no country grn.now) code }
+    ensures { code_row_of result ≡ code_row row.now.holder (guarantee_no country grn.now) code }
 {
     StoredCode {
         holder: row.holder,

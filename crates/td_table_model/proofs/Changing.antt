@@ -24,7 +24,7 @@ use Rattle.td_model.specs.Table.{stands}
 use Rattle.td_holder_memory.specs.Key.{holder_key}
 use Rattle.td_desk.specs.Content.{Content, rows_of, content_after, content_after_row}
 use Rattle.td_desk.specs.Sound.{IsSound}
-use Rattle.td_table_model.specs.Tables.{Keyed, Tables, AreTablesOf, numbered, guarantee_row, guarantee_no, code_row, code_rows, movement_row, line_rows, guarantees_in, codes_in, movements_in, lines_in}
+use Rattle.td_table_model.specs.Tables.{Keyed, Tables, AreTablesOf, numbered, guarantee_row, guarantee_no, code_row, code_rows, movement_row, line_rows, guarantees_in, code_rows_of, movements_in, line_rows_of}
 use Rattle.td_table_model.specs.Gathering.{owner, holder_no, content_of}
 use Rattle.td_table_model.specs.Changes.{with_row, with_status_of, with_terms_of, is_code_of, tables_after, HaveSameRows, HasGuarantee, CanBeWritten}
 use Rattle.td_table_model.proofs.Owned.{owned_guarantees, owned_codes, owned_movements, owned_lines}
@@ -98,14 +98,14 @@ module _ (old : Tables) (c : Content) (sound : IsSound c) (are : AreTablesOf old
     pub guarantees_kept : map (guarantee_row row.holder) (numbered 0 h.guarantees) ≡ map (guarantee_row row.holder) (numbered 0 gs) → IsPermutation (flat_map guarantees_in put) old.guarantees
     guarantees_kept same = rows_stay owner guarantees_in owned_guarantees c.holders sound.order row.holder (Some h) found new_rows refl old.guarantees are.guarantees (ap (λ H. map (guarantee_row H) (numbered 0 h.guarantees)) number ∙ same)
 
-    pub codes_kept : flat_map (code_rows row.holder) (numbered 0 h.guarantees) ≡ flat_map (code_rows row.holder) (numbered 0 gs) → IsPermutation (flat_map codes_in put) old.codes
-    codes_kept same = rows_stay owner codes_in owned_codes c.holders sound.order row.holder (Some h) found new_rows refl old.codes are.codes (ap (λ H. flat_map (code_rows H) (numbered 0 h.guarantees)) number ∙ same)
+    pub codes_kept : flat_map (code_rows row.holder) (numbered 0 h.guarantees) ≡ flat_map (code_rows row.holder) (numbered 0 gs) → IsPermutation (flat_map code_rows_of put) old.codes
+    codes_kept same = rows_stay owner code_rows_of owned_codes c.holders sound.order row.holder (Some h) found new_rows refl old.codes are.codes (ap (λ H. flat_map (code_rows H) (numbered 0 h.guarantees)) number ∙ same)
 
     pub movements_kept : map (movement_row row.holder) (numbered 0 h.movements) ≡ map (movement_row row.holder) (numbered 0 ms) → IsPermutation (flat_map movements_in put) old.movements
     movements_kept same = rows_stay owner movements_in owned_movements c.holders sound.order row.holder (Some h) found new_rows refl old.movements are.movements (ap (λ H. map (movement_row H) (numbered 0 h.movements)) number ∙ same)
 
-    pub lines_kept : flat_map (line_rows c.country row.holder) (numbered 0 h.movements) ≡ flat_map (line_rows c.country row.holder) (numbered 0 ms) → IsPermutation (flat_map (lines_in c.country) put) old.lines
-    lines_kept same = rows_stay owner (lines_in c.country) (owned_lines c.country) c.holders sound.order row.holder (Some h) found new_rows refl old.lines are.lines (ap (λ H. flat_map (line_rows c.country H) (numbered 0 h.movements)) number ∙ same)
+    pub lines_kept : flat_map (line_rows c.country row.holder) (numbered 0 h.movements) ≡ flat_map (line_rows c.country row.holder) (numbered 0 ms) → IsPermutation (flat_map (line_rows_of c.country) put) old.lines
+    lines_kept same = rows_stay owner (line_rows_of c.country) (owned_lines c.country) c.holders sound.order row.holder (Some h) found new_rows refl old.lines are.lines (ap (λ H. flat_map (line_rows c.country H) (numbered 0 h.movements)) number ∙ same)
 
     -- the rules of the new rows, from those of the content with them
     pub own_after : IsSound (record c { holders = put }) → AreHolderRows c.country new_rows
@@ -121,7 +121,7 @@ module _ (old : Tables) (c : Content) (sound : IsSound c) (are : AreTablesOf old
         holders = holders_set gs h.movements;
         guarantees = rows_put owner guarantees_in owned_guarantees c.holders sound.order row.holder (Some h) found (new_rows gs h.movements) refl old.guarantees are.guarantees (guarantee_row row.holder (row.grn_count, g) ∷ [])
             (subst (λ H. IsPermutation (guarantee_row row.holder (row.grn_count, g) ∷ map (guarantee_row H) (numbered 0 h.guarantees)) (map (guarantee_row row.holder) (numbered 0 gs))) (sym number) (one_more (guarantee_row row.holder) h.guarantees g row.grn_count count));
-        codes = rows_put owner codes_in owned_codes c.holders sound.order row.holder (Some h) found (new_rows gs h.movements) refl old.codes are.codes (code_rows row.holder (row.grn_count, g))
+        codes = rows_put owner code_rows_of owned_codes c.holders sound.order row.holder (Some h) found (new_rows gs h.movements) refl old.codes are.codes (code_rows row.holder (row.grn_count, g))
             (subst (λ H. IsPermutation (code_rows row.holder (row.grn_count, g) ++ flat_map (code_rows H) (numbered 0 h.guarantees)) (flat_map (code_rows row.holder) (numbered 0 gs))) (sym number) (some_more (code_rows row.holder) h.guarantees g row.grn_count count));
         movements = movements_kept gs h.movements refl;
         lines = lines_kept gs h.movements refl;
@@ -139,8 +139,8 @@ module _ (old : Tables) (c : Content) (sound : IsSound c) (are : AreTablesOf old
         codes = codes_kept h.guarantees ms refl;
         movements = rows_put owner movements_in owned_movements c.holders sound.order row.holder (Some h) found (new_rows h.guarantees ms) refl old.movements are.movements (movement_row row.holder (row.mrn_count, m) ∷ [])
             (subst (λ H. IsPermutation (movement_row row.holder (row.mrn_count, m) ∷ map (movement_row H) (numbered 0 h.movements)) (map (movement_row row.holder) (numbered 0 ms))) (sym number) (one_more (movement_row row.holder) h.movements m row.mrn_count count));
-        lines = subst (λ country. IsPermutation (flat_map (lines_in c.country) (put h.guarantees ms)) (line_rows country row.holder (row.mrn_count, m) ++ old.lines)) (sym are.country)
-            (rows_put owner (lines_in c.country) (owned_lines c.country) c.holders sound.order row.holder (Some h) found (new_rows h.guarantees ms) refl old.lines are.lines (line_rows c.country row.holder (row.mrn_count, m))
+        lines = subst (λ country. IsPermutation (flat_map (line_rows_of c.country) (put h.guarantees ms)) (line_rows country row.holder (row.mrn_count, m) ++ old.lines)) (sym are.country)
+            (rows_put owner (line_rows_of c.country) (owned_lines c.country) c.holders sound.order row.holder (Some h) found (new_rows h.guarantees ms) refl old.lines are.lines (line_rows c.country row.holder (row.mrn_count, m))
             (subst (λ H. IsPermutation (line_rows c.country row.holder (row.mrn_count, m) ++ flat_map (line_rows c.country H) (numbered 0 h.movements)) (flat_map (line_rows c.country row.holder) (numbered 0 ms))) (sym number) (some_more (line_rows c.country row.holder) h.movements m row.mrn_count count)));
       }
 
@@ -191,8 +191,8 @@ module _ (old : Tables) (c : Content) (sound : IsSound c) (are : AreTablesOf old
         country = are.country;
         holders = holders_set gs h.movements;
         guarantees = guarantees_kept gs h.movements (guarantees_stay row.holder grn (λ g. (coded code g).codes) 0 h.guarantees);
-        codes = subst (λ country. IsPermutation (flat_map codes_in (put gs h.movements)) (code_row row.holder (guarantee_no country grn) code ∷ old.codes)) (sym are.country)
-            (rows_put owner codes_in owned_codes c.holders sound.order row.holder (Some h) found (new_rows gs h.movements) refl old.codes are.codes (code_row row.holder (guarantee_no c.country grn) code ∷ [])
+        codes = subst (λ country. IsPermutation (flat_map code_rows_of (put gs h.movements)) (code_row row.holder (guarantee_no country grn) code ∷ old.codes)) (sym are.country)
+            (rows_put owner code_rows_of owned_codes c.holders sound.order row.holder (Some h) found (new_rows gs h.movements) refl old.codes are.codes (code_row row.holder (guarantee_no c.country grn) code ∷ [])
             (subst (λ H. IsPermutation (code_row row.holder (guarantee_no c.country grn) code ∷ flat_map (code_rows H) (numbered 0 h.guarantees)) (flat_map (code_rows row.holder) (numbered 0 gs))) (sym number) (codes_with c.country row.holder sound.country own_number grn code 0 h.guarantees g there new own_most own_guarantees)));
         movements = movements_kept gs h.movements refl;
         lines = lines_kept gs h.movements refl;
@@ -207,8 +207,8 @@ module _ (old : Tables) (c : Content) (sound : IsSound c) (are : AreTablesOf old
         country = are.country;
         holders = holders_set gs h.movements;
         guarantees = guarantees_kept gs h.movements (guarantees_stay row.holder grn (λ g. (uncoded code g).codes) 0 h.guarantees);
-        codes = subst (λ country. IsPermutation (flat_map codes_in (put gs h.movements)) (filter (λ r. not (is_code_of row.holder (guarantee_no country grn) code r)) old.codes)) (sym are.country)
-            (rows_left owner codes_in owned_codes c.holders sound.order row.holder (Some h) found (new_rows gs h.movements) refl old.codes are.codes (λ r. not (is_code_of row.holder (guarantee_no c.country grn) code r)) (λ x other. other_code row.holder (guarantee_no c.country grn) code x other)
+        codes = subst (λ country. IsPermutation (flat_map code_rows_of (put gs h.movements)) (filter (λ r. not (is_code_of row.holder (guarantee_no country grn) code r)) old.codes)) (sym are.country)
+            (rows_left owner code_rows_of owned_codes c.holders sound.order row.holder (Some h) found (new_rows gs h.movements) refl old.codes are.codes (λ r. not (is_code_of row.holder (guarantee_no c.country grn) code r)) (λ x other. other_code row.holder (guarantee_no c.country grn) code x other)
             (ap (λ H. filter (λ r. not (is_code_of row.holder (guarantee_no c.country grn) code r)) (flat_map (code_rows H) (numbered 0 h.guarantees))) number ∙ codes_without c.country row.holder sound.country own_number grn code 0 h.guarantees g there own_most own_guarantees));
         movements = movements_kept gs h.movements refl;
         lines = lines_kept gs h.movements refl;
@@ -226,9 +226,9 @@ registered old c sound are row none =
       country = are.country;
       holders = rw (flat_map_single row_of (put_row holder_key w c.holders)) at go;
       guarantees = rows_stay owner guarantees_in owned_guarantees c.holders sound.order row.holder None none w refl old.guarantees are.guarantees refl;
-      codes = rows_stay owner codes_in owned_codes c.holders sound.order row.holder None none w refl old.codes are.codes refl;
+      codes = rows_stay owner code_rows_of owned_codes c.holders sound.order row.holder None none w refl old.codes are.codes refl;
       movements = rows_stay owner movements_in owned_movements c.holders sound.order row.holder None none w refl old.movements are.movements refl;
-      lines = rows_stay owner (lines_in c.country) (owned_lines c.country) c.holders sound.order row.holder None none w refl old.lines are.lines refl;
+      lines = rows_stay owner (line_rows_of c.country) (owned_lines c.country) c.holders sound.order row.holder None none w refl old.lines are.lines refl;
     }
 
 -- the content after a change, by what stood there

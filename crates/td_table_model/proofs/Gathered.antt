@@ -13,7 +13,7 @@ use Rattle.td_model.specs.Sound.{AreHolderRows, IsGuaranteeRow, IsMovementRow}
 use Rattle.td_holder_memory.specs.Key.{holder_key}
 use Rattle.td_desk.specs.Content.{Content}
 use Rattle.td_desk.specs.Sound.{IsSound}
-use Rattle.td_table_model.specs.Tables.{Keyed, Tables, AreTablesOf, numbered, guarantee_row, code_row, code_rows, movement_row, line_row, line_rows, guarantees_in, codes_in, movements_in, lines_in}
+use Rattle.td_table_model.specs.Tables.{Keyed, Tables, AreTablesOf, numbered, guarantee_row, code_row, code_rows, movement_row, line_row, line_rows, guarantees_in, code_rows_of, movements_in, line_rows_of}
 use Rattle.td_table_model.specs.Gathering.{in_order, of_key, owner, place, no_of, code_rank, holder_no, part, guarantees_by, codes_by, movements_by, lines_by, with_codes, with_lines, line_from, gathered, content_of}
 use Rattle.td_table_model.proofs.Orders.{brought_to_order, rises-map}
 use Rattle.td_table_model.proofs.Grouped.{flat_each}
@@ -25,9 +25,9 @@ use Rattle.td_table_model.proofs.References.{grn_back, grn_at}
 -- a holder's part of each table has just this holder's rows
 pub record HasParts (country : List ℕ) (t : Tables) (h : HolderRows) : Type 0 where
   pub guarantees : IsPermutation (guarantees_in h) (part h.row.holder t.guarantees)
-  pub codes : IsPermutation (codes_in h) (part h.row.holder t.codes)
+  pub codes : IsPermutation (code_rows_of h) (part h.row.holder t.codes)
   pub movements : IsPermutation (movements_in h) (part h.row.holder t.movements)
-  pub lines : IsPermutation (lines_in country h) (part h.row.holder t.lines)
+  pub lines : IsPermutation (line_rows_of country h) (part h.row.holder t.lines)
 
 -- the part of a holder of a table that has just the rows of holders in order
 parts_in : {X : Type 0} (f : HolderRows → List (Keyed X)) → ((h : HolderRows) → AllByRecursion (λ x. owner x ≡ holder_key h) (f h))
@@ -39,11 +39,11 @@ parts_in f owned hs rows rise same =
 
 pub have_parts : (t : Tables) (c : Content) → IsSound c → AreTablesOf t c → AllByRecursion (HasParts c.country t) c.holders
 have_parts t c sound are =
-    join c.holders (parts_in guarantees_in owned_guarantees c.holders t.guarantees sound.order are.guarantees) (parts_in codes_in owned_codes c.holders t.codes sound.order are.codes)
-    (parts_in movements_in owned_movements c.holders t.movements sound.order are.movements) (parts_in (lines_in c.country) (owned_lines c.country) c.holders t.lines sound.order are.lines)
+    join c.holders (parts_in guarantees_in owned_guarantees c.holders t.guarantees sound.order are.guarantees) (parts_in code_rows_of owned_codes c.holders t.codes sound.order are.codes)
+    (parts_in movements_in owned_movements c.holders t.movements sound.order are.movements) (parts_in (line_rows_of c.country) (owned_lines c.country) c.holders t.lines sound.order are.lines)
   where
-    join : (hs : List HolderRows) → AllByRecursion (λ (h : HolderRows). IsPermutation (guarantees_in h) (part h.row.holder t.guarantees)) hs → AllByRecursion (λ (h : HolderRows). IsPermutation (codes_in h) (part h.row.holder t.codes)) hs
-        → AllByRecursion (λ (h : HolderRows). IsPermutation (movements_in h) (part h.row.holder t.movements)) hs → AllByRecursion (λ (h : HolderRows). IsPermutation (lines_in c.country h) (part h.row.holder t.lines)) hs
+    join : (hs : List HolderRows) → AllByRecursion (λ (h : HolderRows). IsPermutation (guarantees_in h) (part h.row.holder t.guarantees)) hs → AllByRecursion (λ (h : HolderRows). IsPermutation (code_rows_of h) (part h.row.holder t.codes)) hs
+        → AllByRecursion (λ (h : HolderRows). IsPermutation (movements_in h) (part h.row.holder t.movements)) hs → AllByRecursion (λ (h : HolderRows). IsPermutation (line_rows_of c.country h) (part h.row.holder t.lines)) hs
         → AllByRecursion (HasParts c.country t) hs
     join [] gs cs ms ls = tt
     join (h ∷ hs) gs cs ms ls = (record { guarantees = gs.0; codes = cs.0; movements = ms.0; lines = ls.0 }, join hs gs.1 cs.1 ms.1 ls.1)
@@ -58,17 +58,17 @@ module _ (country : List ℕ) (t : Tables) (h : HolderRows) (form : IsCountry co
 
   pub codes_are : AllByRecursion (λ (p : ℕ × Guarantee). codes_by h.row.holder p.0 t ≡ code_rows h.row.holder p) (numbered 0 h.guarantees)
   codes_are =
-      all_both (λ (p : ℕ × Guarantee). of_key place p.0 (codes_in h) ≡ code_rows h.row.holder p) (λ (p : ℕ × Guarantee). IsGuaranteeRow country h.row.holder p.0 p.1) (λ (p : ℕ × Guarantee). codes_by h.row.holder p.0 t ≡ code_rows h.row.holder p)
+      all_both (λ (p : ℕ × Guarantee). of_key place p.0 (code_rows_of h) ≡ code_rows h.row.holder p) (λ (p : ℕ × Guarantee). IsGuaranteeRow country h.row.holder p.0 p.1) (λ (p : ℕ × Guarantee). codes_by h.row.holder p.0 t ≡ code_rows h.row.holder p)
       (λ p has is. brought_to_order code_rank 0 (code_rows h.row.holder p) (of_key place p.0 (part h.row.holder t.codes)) (codes_rise h.row.holder p.0 p.1.codes is.codes)
-      (subst (λ l. IsPermutation l (of_key place p.0 (part h.row.holder t.codes))) has (IsPermutation-filter (λ r. place r == p.0) (codes_in h) (part h.row.holder t.codes) parts.codes)))
+      (subst (λ l. IsPermutation l (of_key place p.0 (part h.row.holder t.codes))) has (IsPermutation-filter (λ r. place r == p.0) (code_rows_of h) (part h.row.holder t.codes) parts.codes)))
       (numbered 0 h.guarantees) (flat_each number place (code_rows h.row.holder) (placed_codes h.row.holder) 0 (numbered 0 h.guarantees) (numbered_rises_low 0 h.guarantees))
       (all_numbered (IsGuaranteeRow country h.row.holder) 0 h.guarantees sound.guarantees)
 
   pub lines_are : AllByRecursion (λ (p : ℕ × Movement). lines_by h.row.holder p.0 t ≡ line_rows country h.row.holder p) (numbered 0 h.movements)
   lines_are =
-      all_weaker (λ (p : ℕ × Movement). of_key place p.0 (lines_in country h) ≡ line_rows country h.row.holder p) (λ (p : ℕ × Movement). lines_by h.row.holder p.0 t ≡ line_rows country h.row.holder p)
+      all_weaker (λ (p : ℕ × Movement). of_key place p.0 (line_rows_of country h) ≡ line_rows country h.row.holder p) (λ (p : ℕ × Movement). lines_by h.row.holder p.0 t ≡ line_rows country h.row.holder p)
       (λ p has. brought_to_order no_of 0 (line_rows country h.row.holder p) (of_key place p.0 (part h.row.holder t.lines)) (lines_rise country h.row.holder p)
-      (subst (λ l. IsPermutation l (of_key place p.0 (part h.row.holder t.lines))) has (IsPermutation-filter (λ r. place r == p.0) (lines_in country h) (part h.row.holder t.lines) parts.lines)))
+      (subst (λ l. IsPermutation l (of_key place p.0 (part h.row.holder t.lines))) has (IsPermutation-filter (λ r. place r == p.0) (line_rows_of country h) (part h.row.holder t.lines) parts.lines)))
       (numbered 0 h.movements) (flat_each number place (line_rows country h.row.holder) (placed_lines country h.row.holder) 0 (numbered 0 h.movements) (numbered_rises_low 0 h.movements))
 
   -- each guarantee has its codes back

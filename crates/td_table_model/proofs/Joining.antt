@@ -20,7 +20,7 @@ use Rattle.td_model.specs.Sound.{AreHolderRows, IsMovementRow}
 use Rattle.td_holder_memory.specs.Key.{holder_key}
 use Rattle.td_desk.specs.Content.{Content, account_in, rows_of}
 use Rattle.td_desk.specs.Sound.{IsSound}
-use Rattle.td_table_model.specs.Tables.{Keyed, LineCells, Tables, AreTablesOf, numbered, guarantee_row, guarantee_no, movement_row, line_row, line_rows, movements_in, lines_in}
+use Rattle.td_table_model.specs.Tables.{Keyed, LineCells, Tables, AreTablesOf, numbered, guarantee_row, guarantee_no, movement_row, line_row, line_rows, movements_in, line_rows_of}
 use Rattle.td_table_model.specs.Gathering.{of_key, owner, place, part}
 use Rattle.td_table_model.specs.Looking.{counting_rows, lines_of_row, lines_in_use, cents_of}
 use Rattle.td_table_model.proofs.Counting.{sum_by-map, filter_both}
@@ -84,14 +84,14 @@ module _ (t : Tables) (country : List ℕ) (h : HolderRows) (form : IsCountry co
       ∙ sym (sum_by-cons (cents_on grn) l lines)
 
   -- the lines of the table on it of a movement
-  row_on : (p : ℕ × Movement) → of_key place p.0 (lines_in country h) ≡ line_rows country h.row.holder p → IsMovementRow country h.row.holder h.guarantees p.0 p.1
+  row_on : (p : ℕ × Movement) → of_key place p.0 (line_rows_of country h) ≡ line_rows country h.row.holder p → IsMovementRow country h.row.holder h.guarantees p.0 p.1
       → sum_by cents_of (lines_of_row n t (movement_row h.row.holder p)) ≡ lines_on grn p.1.lines
   row_on p has row =
       ap (sum_by cents_of) (filter_both (λ l. l.serial == p.0 && l.row.guarantee == n) (λ l. owner l == h.row.holder) t.lines
       ∙ filter_both (λ l. l.row.guarantee == n) (λ l. place l == p.0) (part h.row.holder t.lines))
       ∙ sum_by-passing cents_of (λ l. l.row.guarantee == n) (of_key place p.0 (part h.row.holder t.lines))
       ∙ sum_by-IsPermutation taken (line_rows country h.row.holder p) (of_key place p.0 (part h.row.holder t.lines))
-      (subst (λ l. IsPermutation l (of_key place p.0 (part h.row.holder t.lines))) has (IsPermutation-filter (λ r. place r == p.0) (lines_in country h) (part h.row.holder t.lines) parts.lines))
+      (subst (λ l. IsPermutation l (of_key place p.0 (part h.row.holder t.lines))) has (IsPermutation-filter (λ r. place r == p.0) (line_rows_of country h) (part h.row.holder t.lines) parts.lines))
       ∙ rows_on p.0 0 p.1.lines row.lines.own
 
   -- what a row of a movement has in use on it
@@ -99,7 +99,7 @@ module _ (t : Tables) (country : List ℕ) (h : HolderRows) (form : IsCountry co
   used_by m = if is_counting m.row.state then sum_by cents_of (lines_of_row n t m) else 0
 
   each : AllByRecursion (λ (p : ℕ × Movement). used_by (movement_row h.row.holder p) ≡ movement_on grn p.1) (numbered 0 h.movements)
-  each = all_both (λ (p : ℕ × Movement). of_key place p.0 (lines_in country h) ≡ line_rows country h.row.holder p) (λ (p : ℕ × Movement). IsMovementRow country h.row.holder h.guarantees p.0 p.1) (λ p. used_by (movement_row h.row.holder p) ≡ movement_on grn p.1)
+  each = all_both (λ (p : ℕ × Movement). of_key place p.0 (line_rows_of country h) ≡ line_rows country h.row.holder p) (λ (p : ℕ × Movement). IsMovementRow country h.row.holder h.guarantees p.0 p.1) (λ p. used_by (movement_row h.row.holder p) ≡ movement_on grn p.1)
       (λ p has row. ap (λ k. if is_counting p.1.state then k else 0) (row_on p has row))
       (numbered 0 h.movements) (flat_each number place (line_rows country h.row.holder) (placed_lines country h.row.holder) 0 (numbered 0 h.movements) (numbered_rises_low 0 h.movements))
       (all_numbered (IsMovementRow country h.row.holder h.guarantees) 0 h.movements is.movements)

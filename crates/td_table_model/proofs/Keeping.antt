@@ -24,7 +24,7 @@ use Rattle.td_model.specs.Sound.{AreHolderRows, IsGuaranteeRow}
 use Rattle.td_holder_memory.specs.Key.{holder_key}
 use Rattle.td_desk.specs.Content.{Content}
 use Rattle.td_desk.specs.Sound.{IsSound}
-use Rattle.td_table_model.specs.Tables.{Keyed, Tables, AreTablesOf, numbered, guarantee_row, code_row, code_rows, movement_row, line_rows, guarantees_in, codes_in, movements_in, lines_in}
+use Rattle.td_table_model.specs.Tables.{Keyed, Tables, AreTablesOf, numbered, guarantee_row, code_row, code_rows, movement_row, line_rows, guarantees_in, code_rows_of, movements_in, line_rows_of}
 use Rattle.td_table_model.specs.Gathering.{of_key, owner, place, no_of, holder_no, part}
 use Rattle.td_table_model.specs.Stored.{AreStored, AreOfHolders}
 use Rattle.td_table_model.proofs.Orders.{apart_permuted, rises_apart, rises-map, each_found, found_in_order}
@@ -84,9 +84,9 @@ module _ (t : Tables) (c : Content) (sound : IsSound c) (are : AreTablesOf t c) 
   -- the codes of a serial
   codes_apart : (H n : ℕ) → IsTextApart (λ (c : Keyed (List ℕ)). c.row) (of_key place n (part H t.codes))
   codes_apart H n =
-      text_apart_permuted (λ (c : Keyed (List ℕ)). c.row) (of_key place n (option_map_or codes_in (row_at holder_key H c.holders) [])) (of_key place n (part H t.codes))
-      (IsPermutation-filter (λ r. place r == n) _ (part H t.codes) (part_of codes_in owned_codes t.codes are.codes H))
-      (in_part codes_in (λ rows. IsTextApart (λ (c : Keyed (List ℕ)). c.row) (of_key place n rows)) (λ k. omega arith)
+      text_apart_permuted (λ (c : Keyed (List ℕ)). c.row) (of_key place n (option_map_or code_rows_of (row_at holder_key H c.holders) [])) (of_key place n (part H t.codes))
+      (IsPermutation-filter (λ r. place r == n) _ (part H t.codes) (part_of code_rows_of owned_codes t.codes are.codes H))
+      (in_part code_rows_of (λ rows. IsTextApart (λ (c : Keyed (List ℕ)). c.row) (of_key place n rows)) (λ k. omega arith)
       (λ h is. subst (IsTextApart (λ (c : Keyed (List ℕ)). c.row)) (sym (flat_of number place (code_rows h.row.holder) (placed_codes h.row.holder) n 0 (numbered 0 h.guarantees) (numbered_rises_low 0 h.guarantees)))
       (of_guarantee h.row.holder (row_at number n (numbered 0 h.guarantees)) (All-row_at number (λ p. IsGuaranteeRow c.country h.row.holder p.0 p.1) n (numbered 0 h.guarantees) (all_numbered (IsGuaranteeRow c.country h.row.holder) 0 h.guarantees is.guarantees)))) H)
     where
@@ -97,9 +97,9 @@ module _ (t : Tables) (c : Content) (sound : IsSound c) (are : AreTablesOf t c) 
   -- the lines of a serial
   lines_apart : (H n : ℕ) → IsApart no_of (of_key place n (part H t.lines))
   lines_apart H n =
-      apart_permuted no_of (of_key place n (option_map_or (lines_in c.country) (row_at holder_key H c.holders) [])) (of_key place n (part H t.lines))
-      (IsPermutation-filter (λ r. place r == n) _ (part H t.lines) (part_of (lines_in c.country) (owned_lines c.country) t.lines are.lines H))
-      (in_part (lines_in c.country) (λ rows. IsApart no_of (of_key place n rows)) (λ k. omega arith)
+      apart_permuted no_of (of_key place n (option_map_or (line_rows_of c.country) (row_at holder_key H c.holders) [])) (of_key place n (part H t.lines))
+      (IsPermutation-filter (λ r. place r == n) _ (part H t.lines) (part_of (line_rows_of c.country) (owned_lines c.country) t.lines are.lines H))
+      (in_part (line_rows_of c.country) (λ rows. IsApart no_of (of_key place n rows)) (λ k. omega arith)
       (λ h is. subst (IsApart no_of) (sym (flat_of number place (line_rows c.country h.row.holder) (placed_lines c.country h.row.holder) n 0 (numbered 0 h.movements) (numbered_rises_low 0 h.movements)))
       (of_movement h.row.holder (row_at number n (numbered 0 h.movements)))) H)
     where
@@ -132,9 +132,9 @@ module _ (t : Tables) (c : Content) (sound : IsSound c) (are : AreTablesOf t c) 
     lrns = lrns_apart;
     lines = lines_apart;
     guarantees_owned = rows_owned guarantees_in owned_guarantees t.guarantees are.guarantees;
-    codes_owned = rows_owned codes_in owned_codes t.codes are.codes;
+    codes_owned = rows_owned code_rows_of owned_codes t.codes are.codes;
     movements_owned = rows_owned movements_in owned_movements t.movements are.movements;
-    lines_owned = rows_owned (lines_in c.country) (owned_lines c.country) t.lines are.lines;
+    lines_owned = rows_owned (line_rows_of c.country) (owned_lines c.country) t.lines are.lines;
     without_codes = all-permutation (λ (g : Keyed Guarantee). g.row.codes ≡ []) (flat_map guarantees_in c.holders) t.guarantees are.guarantees
         (all-flat_map (λ (g : Keyed Guarantee). g.row.codes ≡ []) guarantees_in c.holders (all_of (λ h. AllByRecursion (λ (g : Keyed Guarantee). g.row.codes ≡ []) (guarantees_in h))
         (λ h. all-map (λ (g : Keyed Guarantee). g.row.codes ≡ []) (guarantee_row h.row.holder) (numbered 0 h.guarantees) (all_of (λ p. (guarantee_row h.row.holder p).row.codes ≡ []) (λ p. refl) (numbered 0 h.guarantees))) c.holders));

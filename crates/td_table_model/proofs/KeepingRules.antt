@@ -19,7 +19,7 @@ use Rattle.td_model.specs.Sound.{AreHolderRows, IsGuaranteeRow, IsMovementRow, I
 use Rattle.td_acts.proofs.Joined.{AllPairs-map}
 use Rattle.td_desk.specs.Content.{Content}
 use Rattle.td_desk.specs.Sound.{IsSound}
-use Rattle.td_table_model.specs.Tables.{Keyed, LineCells, Tables, AreTablesOf, numbered, guarantee_row, guarantee_no, code_row, code_rows, movement_row, line_row, line_rows, guarantees_in, codes_in, movements_in, lines_in}
+use Rattle.td_table_model.specs.Tables.{Keyed, LineCells, Tables, AreTablesOf, numbered, guarantee_row, guarantee_no, code_row, code_rows, movement_row, line_row, line_rows, guarantees_in, code_rows_of, movements_in, line_rows_of}
 use Rattle.td_table_model.specs.Gathering.{of_key, place, no_of, part, guarantees_by, movements_by, lines_by}
 use Rattle.td_table_model.specs.Rules.{IsGuaranteeInRange, HasGuarantees, HasCodes, IsMovementInRange, HasMovements, AreLinesInRange, HasLines, KeepsRules, KeepRules, count_of_codes, named_by}
 use Rattle.td_table_model.proofs.Orders.{each_found}
@@ -67,8 +67,8 @@ module _ (country : List ℕ) (t : Tables) (same : t.country ≡ country) (h : H
   -- of their codes
   code_parts : AllByRecursion (λ (p : ℕ × Guarantee). IsPermutation (code_rows H p) (of_key place p.0 (part H t.codes))) (numbered 0 h.guarantees)
   code_parts =
-      all_weaker (λ (p : ℕ × Guarantee). of_key place p.0 (codes_in h) ≡ code_rows H p) (λ (p : ℕ × Guarantee). IsPermutation (code_rows H p) (of_key place p.0 (part H t.codes)))
-      (λ p has. subst (λ l. IsPermutation l (of_key place p.0 (part H t.codes))) has (IsPermutation-filter (λ r. place r == p.0) (codes_in h) (part H t.codes) parts.codes))
+      all_weaker (λ (p : ℕ × Guarantee). of_key place p.0 (code_rows_of h) ≡ code_rows H p) (λ (p : ℕ × Guarantee). IsPermutation (code_rows H p) (of_key place p.0 (part H t.codes)))
+      (λ p has. subst (λ l. IsPermutation l (of_key place p.0 (part H t.codes))) has (IsPermutation-filter (λ r. place r == p.0) (code_rows_of h) (part H t.codes) parts.codes))
       (numbered 0 h.guarantees) (flat_each number place (code_rows H) (placed_codes H) 0 (numbered 0 h.guarantees) (numbered_rises_low 0 h.guarantees))
 
   count_is : (p : ℕ × Guarantee) → IsPermutation (code_rows H p) (of_key place p.0 (part H t.codes)) → count_of_codes t (guarantee_row H p) ≡ length p.1.codes
@@ -81,11 +81,11 @@ module _ (country : List ℕ) (t : Tables) (same : t.country ≡ country) (h : H
 
   has_codes : HasCodes t h.row
   has_codes = record {
-    name = all-permutation (λ c. IsSome (row_at place (place c) (guarantees_by H t))) (codes_in h) (part H t.codes) parts.codes
+    name = all-permutation (λ c. IsSome (row_at place (place c) (guarantees_by H t))) (code_rows_of h) (part H t.codes) parts.codes
         (all-flat_map (λ c. IsSome (row_at place (place c) (guarantees_by H t))) (code_rows H) (numbered 0 h.guarantees)
         (all_weaker (λ (p : ℕ × Guarantee). IsSome (row_at place p.0 (guarantees_by H t))) (λ p. AllByRecursion (λ c. IsSome (row_at place (place c) (guarantees_by H t))) (code_rows H p))
         (λ p some. all-map (λ c. IsSome (row_at place (place c) (guarantees_by H t))) (code_row H p.0) p.1.codes (all_of (λ c. IsSome (row_at place p.0 (guarantees_by H t))) (λ c. some) p.1.codes)) (numbered 0 h.guarantees) serials_there));
-    form = all-permutation (λ (c : Keyed (List ℕ)). IsAccessCode c.row) (codes_in h) (part H t.codes) parts.codes
+    form = all-permutation (λ (c : Keyed (List ℕ)). IsAccessCode c.row) (code_rows_of h) (part H t.codes) parts.codes
         (all-flat_map (λ (c : Keyed (List ℕ)). IsAccessCode c.row) (code_rows H) (numbered 0 h.guarantees)
         (all_weaker (λ (p : ℕ × Guarantee). IsGuaranteeRow country H p.0 p.1) (λ p. AllByRecursion (λ (c : Keyed (List ℕ)). IsAccessCode c.row) (code_rows H p))
         (λ p is. all-map (λ (c : Keyed (List ℕ)). IsAccessCode c.row) (code_row H p.0) p.1.codes (recursion_from_All IsAccessCode p.1.codes is.codes.form)) (numbered 0 h.guarantees) guarantee_rows));
@@ -151,7 +151,7 @@ module _ (country : List ℕ) (t : Tables) (same : t.country ≡ country) (h : H
   has_lines = record {
     columns = rw movements_stand (all-map (AreLinesInRange t) (movement_row H) (numbered 0 h.movements)
         (all_both (λ (p : ℕ × Movement). lines_by H p.0 t ≡ line_rows country H p) (λ (p : ℕ × Movement). IsMovementRow country H h.guarantees p.0 p.1) (λ p. AreLinesInRange t (movement_row H p)) lines_in_range (numbered 0 h.movements) (lines_are country t h form sound parts) movement_rows));
-    belong = all-permutation (λ l. IsSome (row_at place (place l) (movements_by H t))) (lines_in country h) (part H t.lines) parts.lines
+    belong = all-permutation (λ l. IsSome (row_at place (place l) (movements_by H t))) (line_rows_of country h) (part H t.lines) parts.lines
         (all-flat_map (λ l. IsSome (row_at place (place l) (movements_by H t))) (line_rows country H) (numbered 0 h.movements)
         (all_weaker (λ (p : ℕ × Movement). IsSome (row_at place p.0 (movements_by H t))) (λ p. AllByRecursion (λ l. IsSome (row_at place (place l) (movements_by H t))) (line_rows country H p))
         (λ p some. all-map (λ l. IsSome (row_at place (place l) (movements_by H t))) (line_row country H p.0) (numbered 0 p.1.lines) (all_of (λ q. IsSome (row_at place p.0 (movements_by H t))) (λ q. some) (numbered 0 p.1.lines))) (numbered 0 h.movements) movements_there));

@@ -7,7 +7,7 @@ use Rattle.td_guarantee.specs.declared.guarantee.Guarantee.{Guarantee}
 use Rattle.td_movement.specs.declared.movement.Movement.{Movement}
 use Rattle.td_model.specs.Account.{HolderRows}
 use Rattle.td_holder_memory.specs.Key.{holder_key}
-use Rattle.td_table_model.specs.Tables.{numbered, guarantee_row, code_row, code_rows, movement_row, line_row, line_rows, guarantees_in, codes_in, movements_in, lines_in}
+use Rattle.td_table_model.specs.Tables.{numbered, guarantee_row, code_row, code_rows, movement_row, line_row, line_rows, guarantees_in, code_rows_of, movements_in, line_rows_of}
 use Rattle.td_model.specs.Sound.{AreCodes}
 use Rattle.td_base.specs.Codes.{IsAccessCode}
 use Rattle.std.proofs.lemmas.List.Elements.{recursion_from_All}
@@ -29,10 +29,10 @@ made P f each xs = all-map P f xs (all_of (λ x. P (f x)) each xs)
 gathered_of : {X Y : Type 0} (P : Y → Type 0) (f : X → List Y) → ((x : X) → AllByRecursion P (f x)) → (xs : List X) → AllByRecursion P (flat_map f xs)
 gathered_of P f each xs = all-flat_map P f xs (all_of (λ x. AllByRecursion P (f x)) each xs)
 
-pub owned_codes : (h : HolderRows) → AllByRecursion (λ x. owner x ≡ holder_key h) (codes_in h)
+pub owned_codes : (h : HolderRows) → AllByRecursion (λ x. owner x ≡ holder_key h) (code_rows_of h)
 owned_codes h = gathered_of (λ x. owner x ≡ holder_key h) (code_rows h.row.holder) (λ p. made (λ x. owner x ≡ holder_key h) (code_row h.row.holder p.0) (λ c. refl) p.1.codes) (numbered 0 h.guarantees)
 
-pub owned_lines : (country : List ℕ) (h : HolderRows) → AllByRecursion (λ x. owner x ≡ holder_key h) (lines_in country h)
+pub owned_lines : (country : List ℕ) (h : HolderRows) → AllByRecursion (λ x. owner x ≡ holder_key h) (line_rows_of country h)
 owned_lines country h = gathered_of (λ x. owner x ≡ holder_key h) (line_rows country h.row.holder) (λ p. made (λ x. owner x ≡ holder_key h) (line_row country h.row.holder p.0) (λ l. refl) (numbered 0 p.1.lines)) (numbered 0 h.movements)
 
 -- the codes of a guarantee and the lines of a movement have its serial

@@ -17,7 +17,7 @@ use Rattle.td_guarantee.specs.declared.guarantee.Guarantee.{Guarantee}
 use Rattle.td_movement.specs.declared.movement.Movement.{Movement}
 use Rattle.td_model.specs.declared.holder_row.HolderRow.{HolderRow}
 use Rattle.td_model.specs.Account.{HolderRows}
-use Rattle.td_table_model.specs.Tables.{Keyed, LineCells, Tables, AreTablesOf, numbered, guarantee_row, guarantee_no, code_row, code_rows, movement_row, line_row, line_rows, guarantees_in, codes_in, movements_in, lines_in}
+use Rattle.td_table_model.specs.Tables.{Keyed, LineCells, Tables, AreTablesOf, numbered, guarantee_row, guarantee_no, code_row, code_rows, movement_row, line_row, line_rows, guarantees_in, code_rows_of, movements_in, line_rows_of}
 use Rattle.td_table_model.specs.Gathering.{in_order, of_key, owner, place, no_of, code_rank, holder_no, part, guarantees_by, codes_by, movements_by, lines_by, grn_by, with_codes, with_lines, line_from, gathered, content_of}
 use Rattle.td_table_model.specs.Stored.{AreStored, AreOfHolders}
 use Rattle.td_table_model.specs.Rules.{KeepsRules, KeepRules, IsGuaranteeInRange, AreLinesInRange}
@@ -77,7 +77,7 @@ module _ (t : Tables) (stored : AreStored t) (form : IsCountry t.country) (row :
       rw (code_again n (codes_by H n t) (all_in_order code_rank (λ r. (owner r ≡ H) × (place r ≡ n)) (of_key place n (part H t.codes)) (codes_mine H n t.codes)))
       (IsPermutation-sym _ _ (in_order_permutes code_rank (of_key place n (part H t.codes)) (codes_apart n)))
 
-  pub codes_permuted : IsPermutation (codes_in (gathered t row)) (part H t.codes)
+  pub codes_permuted : IsPermutation (code_rows_of (gathered t row)) (part H t.codes)
   codes_permuted =
       let each : IsPermutation (flat_map (λ (g : Keyed Guarantee). code_rows H (place g, with_codes t g)) (guarantees_by H t)) (grouped place place (part H t.codes) (guarantees_by H t)) =
       permuted_each (λ (g : Keyed Guarantee). code_rows H (place g, with_codes t g)) (λ g. of_key place (place g) (part H t.codes)) (guarantees_by H t)
@@ -123,7 +123,7 @@ module _ (t : Tables) (stored : AreStored t) (form : IsCountry t.country) (row :
       subst (λ h. IsPermutation (map (line_row t.country H m.serial) (numbered 0 (map (line_from t) (lines_by h m.serial t)))) (of_key place m.serial (part H t.lines))) (sym own)
       (rw same (IsPermutation-sym _ _ (in_order_permutes no_of (of_key place m.serial (part H t.lines)) (stored.lines H m.serial))))
 
-  pub lines_permuted : IsPermutation (lines_in t.country (gathered t row)) (part H t.lines)
+  pub lines_permuted : IsPermutation (line_rows_of t.country (gathered t row)) (part H t.lines)
   lines_permuted =
       let each : IsPermutation (flat_map (λ (m : Keyed Movement). line_rows t.country H (place m, with_lines t m)) (movements_by H t)) (grouped place place (part H t.lines) (movements_by H t)) =
       permuted_each (λ (m : Keyed Movement). line_rows t.country H (place m, with_lines t m)) (λ m. of_key place (place m) (part H t.lines)) (movements_by H t)
@@ -160,7 +160,7 @@ module _ (t : Tables) (keep : KeepRules t) where
     country = refl;
     holders = rw rows_of_holders (IsPermutation-sym _ _ (in_order_permutes holder_no t.holders keep.stored.holders));
     guarantees = whole guarantees_in t.guarantees keep.stored.guarantees_owned (λ row is. guarantees_permuted t keep.stored keep.country row is.0 is.1);
-    codes = whole codes_in t.codes keep.stored.codes_owned (λ row is. codes_permuted t keep.stored keep.country row is.0 is.1);
+    codes = whole code_rows_of t.codes keep.stored.codes_owned (λ row is. codes_permuted t keep.stored keep.country row is.0 is.1);
     movements = whole movements_in t.movements keep.stored.movements_owned (λ row is. movements_permuted t keep.stored keep.country row is.0 is.1);
-    lines = whole (lines_in t.country) t.lines keep.stored.lines_owned (λ row is. lines_permuted t keep.stored keep.country row is.0 is.1);
+    lines = whole (line_rows_of t.country) t.lines keep.stored.lines_owned (λ row is. lines_permuted t keep.stored keep.country row is.0 is.1);
   }

@@ -74,20 +74,20 @@ line_rows country H p = map (line_row country H p.0) (numbered 0 p.1.lines)
 abbrev pub guarantees_in : HolderRows → List (Keyed Guarantee)
 guarantees_in h = map (guarantee_row h.row.holder) (numbered 0 h.guarantees)
 
-abbrev pub codes_in : HolderRows → List (Keyed (List ℕ))
-codes_in h = flat_map (code_rows h.row.holder) (numbered 0 h.guarantees)
+abbrev pub code_rows_of : HolderRows → List (Keyed (List ℕ))
+code_rows_of h = flat_map (code_rows h.row.holder) (numbered 0 h.guarantees)
 
 abbrev pub movements_in : HolderRows → List (Keyed Movement)
 movements_in h = map (movement_row h.row.holder) (numbered 0 h.movements)
 
-abbrev pub lines_in : List ℕ → HolderRows → List (Keyed LineCells)
-lines_in country h = flat_map (line_rows country h.row.holder) (numbered 0 h.movements)
+abbrev pub line_rows_of : List ℕ → HolderRows → List (Keyed LineCells)
+line_rows_of country h = flat_map (line_rows country h.row.holder) (numbered 0 h.movements)
 
 -- the tables have just the rows of this content, in any order
 pub record AreTablesOf (t : Tables) (c : Content) : Type 0 where
   pub country : t.country ≡ c.country
   pub holders : IsPermutation (map (λ (h : HolderRows). h.row) c.holders) t.holders
   pub guarantees : IsPermutation (flat_map guarantees_in c.holders) t.guarantees
-  pub codes : IsPermutation (flat_map codes_in c.holders) t.codes
+  pub codes : IsPermutation (flat_map code_rows_of c.holders) t.codes
   pub movements : IsPermutation (flat_map movements_in c.holders) t.movements
-  pub lines : IsPermutation (flat_map (lines_in c.country) c.holders) t.lines
+  pub lines : IsPermutation (flat_map (line_rows_of c.country) c.holders) t.lines

@@ -15,7 +15,7 @@ use Rattle.typed_sql.proofs.Ordered.{Passes, selected_sorted}
 use Rattle.typed_sql.proofs.TypedRows.{selected_typed}
 use Rattle.typed_sql.specs.Meanings.{MeansSelect}
 use Rattle.typed_sql.specs.Reading.{Fetches, Selects, row_order, shown_by}
-use Rattle.typed_sql.specs.Typed.{AreInOrder, AreThose, IsTypedRow, Typing, row_of, rows_in}
+use Rattle.typed_sql.specs.Typed.{AreInOrder, AreThose, IsTypedRow, Typing, row_of, typed_rows}
 use Rattle.typed_sql.specs.Writing.{passes}
 
 -- The text shows the columns of the rows that pass, in some order, where the values are those that it was given.
@@ -26,11 +26,11 @@ module _ {T R : Type 0} (ty : Typing R) (s : Schema) (typed : T → R) (text : L
     (showing : (r : Row) → shown_by shows values r ≡ ty.columns r) (old : State) where
   -- so what was fetched is those that pass
   those : (found : List T) → Fetches typed ty.from text given old found → AreThose ty s p old (map typed found)
-  those found h has typed_rows =
+  those found h has typed_h =
       let did : Selects text values old h.0 = subst (λ v. Selects text v old h.0) same h.1 in
-      subst (IsPermutation (filter p (rows_in ty old.now.trees))) (sym h.2)
+      subst (IsPermutation (filter p (typed_rows ty old.now.trees))) (sym h.2)
       (selected_typed ty s (passes values tests) (shown_by shows values) p (row_order order values) old.now.trees h.0
-      passing showing (did s ty.table.tree tests shows order has means) typed_rows)
+      passing showing (did s ty.table.tree tests shows order has means) typed_h)
 
   pub those_fetched : (r : Result (Vec T Global) Error)
       → IfOk r (λ found. Fetches typed ty.from text given old found.items)
@@ -49,11 +49,11 @@ module _ {T R : Type 0} (ty : Typing R) (s : Schema) (typed : T → R) (text : L
       (compares : (a b : Row) → Passes ty p a → Passes ty p b
       → row_order order values a b ≡ cmp (row_of ty a) (row_of ty b)) where
     in_order : (found : List T) → Fetches typed ty.from text given old found → AreInOrder ty s cmp old (map typed found)
-    in_order found h has typed_rows =
+    in_order found h has typed_h =
         let did : Selects text values old h.0 = subst (λ v. Selects text v old h.0) same h.1 in
         subst (IsSorted cmp) (sym h.2)
         (selected_sorted ty p (passes values tests) (shown_by shows values) (row_order order values) cmp old.now.trees
-        h.0 passing showing compares (did s ty.table.tree tests shows order has means) typed_rows)
+        h.0 passing showing compares (did s ty.table.tree tests shows order has means) typed_h)
 
     pub in_order_fetched : (r : Result (Vec T Global) Error)
         → IfOk r (λ found. Fetches typed ty.from text given old found.items)

@@ -11,7 +11,7 @@ use Rattle.std.specs.List.{AllByRecursion}
 use Rattle.std.specs.Prelude.{filter, if◌then◌else◌, not, ℤ}
 use Rattle.std.specs.declared.cmp.Ordering.{Ordering}
 use Rattle.typed_sql.specs.Reading.{IsAnswerOf}
-use Rattle.typed_sql.specs.Typed.{AreTyped, HasNow, IsTypedRow, Typing, row_of, rows_in}
+use Rattle.typed_sql.specs.Typed.{AreTyped, HasNow, IsTypedRow, Typing, row_of, typed_rows}
 use Rattle.typed_sql.specs.Writing.{IsDeleted, IsInserted, IsUpdated}
 
 -- what a test leaves of rows, and of typed rows
@@ -49,12 +49,12 @@ all_set P test set (r ∷ rows) each = (
 module _ {R : Type 0} (ty : Typing R) (s : Schema) where
   -- one typed row more, under the rowid that it got
   pub inserted_typed_under : (source columns : Row) (x : R) (old new : Database) (h : IsInserted s ty.table source columns old new)
-      → ty.columns (Int h.id ∷ columns) ≡ ty.cells x → ty.from (ty.cells x) ≡ x → AreTyped ty old.trees → HasNow ty s (x ∷ rows_in ty old.trees) old new
+      → ty.columns (Int h.id ∷ columns) ≡ ty.cells x → ty.from (ty.cells x) ≡ x → AreTyped ty old.trees → HasNow ty s (x ∷ typed_rows ty old.trees) old new
   inserted_typed_under source columns x old new h shows back typed =
       let head : row_of ty (Int h.id ∷ columns) ≡ x = ap ty.from shows ∙ back in
       let first : IsTypedRow ty (Int h.id ∷ columns) = shows ∙ sym (ap ty.cells head) in
       record {
-        same = subst (λ y. IsPermutation (y ∷ rows_in ty old.trees) (rows_in ty new.trees)) head (IsPermutation-map (row_of ty) _ _ h.rows);
+        same = subst (λ y. IsPermutation (y ∷ typed_rows ty old.trees) (typed_rows ty new.trees)) head (IsPermutation-map (row_of ty) _ _ h.rows);
         typed = record { ids = h.ids typed.ids; cells = all-permutation (IsTypedRow ty) _ _ h.rows (first, typed.cells) };
         others = h.others;
         schema = h.schema;
@@ -64,7 +64,7 @@ module _ {R : Type 0} (ty : Typing R) (s : Schema) where
   pub inserted_typed : (source columns : Row) (x : R) (old new : Database)
       → ((id : ℤ) → ty.columns (Int id ∷ columns) ≡ ty.cells x) → ty.from (ty.cells x) ≡ x
       → IsInserted s ty.table source columns old new → AreTyped ty old.trees
-      → HasNow ty s (x ∷ rows_in ty old.trees) old new
+      → HasNow ty s (x ∷ typed_rows ty old.trees) old new
   inserted_typed source columns x old new shows back h typed =
       inserted_typed_under source columns x old new h (shows h.id) back typed
 
@@ -74,7 +74,7 @@ module _ {R : Type 0} (ty : Typing R) (s : Schema) where
       → ((r : Row) → IsTypedRow ty r → ty.columns (rowid r ∷ columns r) ≡ ty.cells (f (row_of ty r)))
       → ((r : Row) → ty.from (ty.cells (f (row_of ty r))) ≡ f (row_of ty r))
       → IsUpdated s ty.table test columns old new → AreTyped ty old.trees
-      → HasNow ty s (map (λ x. if p x then f x else x) (rows_in ty old.trees)) old new
+      → HasNow ty s (map (λ x. if p x then f x else x) (typed_rows ty old.trees)) old new
   updated_typed test columns p f old new tests shows back h typed =
       let set = λ (r : Row). rowid r ∷ columns r in
       let anew : (r : Row) → IsTypedRow ty r → row_of ty (set r) ≡ f (row_of ty r) =
@@ -83,7 +83,7 @@ module _ {R : Type 0} (ty : Typing R) (s : Schema) where
       ∙ sym (ap ty.cells (anew r is)) in
       let rows = old.trees ty.table.tree in
       record {
-        same = subst (λ l. IsPermutation l (rows_in ty new.trees))
+        same = subst (λ l. IsPermutation l (typed_rows ty new.trees))
             (set_typed (row_of ty) p f test set rows
             (all_weaker (IsTypedRow ty) (λ r. (test r ≡ p (row_of ty r))
             × (row_of ty (set r) ≡ f (row_of ty r))) (λ r is. (tests r is, anew r is)) rows typed.cells))
@@ -103,10 +103,10 @@ module _ {R : Type 0} (ty : Typing R) (s : Schema) where
   pub deleted_typed : (test : Row → Bool) (p : R → Bool) (old new : Database)
       → ((r : Row) → IsTypedRow ty r → test r ≡ p (row_of ty r))
       → IsDeleted s ty.table test old new → AreTyped ty old.trees
-      → HasNow ty s (filter (λ x. not (p x)) (rows_in ty old.trees)) old new
+      → HasNow ty s (filter (λ x. not (p x)) (typed_rows ty old.trees)) old new
   deleted_typed test p old new tests h typed =
       let rows = old.trees ty.table.tree in
-      let left : rows_in ty new.trees ≡ filter (λ x. not (p x)) (rows_in ty old.trees) =
+      let left : typed_rows ty new.trees ≡ filter (λ x. not (p x)) (typed_rows ty old.trees) =
       ap (map (row_of ty)) h.rows
       ∙ kept_typed (row_of ty) (λ x. not (p x)) (λ r. not (test r)) rows
       (all_weaker (IsTypedRow ty) (λ r. not (test r) ≡ not (p (row_of ty r)))
@@ -127,7 +127,7 @@ module _ {R : Type 0} (ty : Typing R) (s : Schema) where
       → Ordering) (trees : Trees) (answer : List Row)
       → ((r : Row) → IsTypedRow ty r → test r ≡ p (row_of ty r)) → ((r : Row) → show r ≡ ty.columns r)
       → IsAnswerOf (trees ty.table.tree) test show order answer → AreTyped ty trees
-      → IsPermutation (filter p (rows_in ty trees)) (map ty.from answer)
+      → IsPermutation (filter p (typed_rows ty trees)) (map ty.from answer)
   selected_typed test show p order trees answer tests shows a typed =
       let rows = trees ty.table.tree in
       let read : map ty.from answer ≡ map (row_of ty) a.found = ap (map ty.from) a.shown

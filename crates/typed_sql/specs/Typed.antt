@@ -24,8 +24,8 @@ pub record Typing (R : Type 0) : Type 0 where
 abbrev pub row_of : {R : Type 0} → Typing R → Row → R
 row_of ty r = ty.from (ty.columns r)
 
-abbrev pub rows_in : {R : Type 0} → Typing R → Trees → List R
-rows_in ty trees = map (row_of ty) (trees ty.table.tree)
+abbrev pub typed_rows : {R : Type 0} → Typing R → Trees → List R
+typed_rows ty trees = map (row_of ty) (trees ty.table.tree)
 
 -- the row has the columns of the typed row that it is read as
 abbrev pub IsTypedRow : {R : Type 0} → Typing R → Row → Type 0
@@ -38,7 +38,7 @@ pub record AreTyped {R : Type 0} (ty : Typing R) (trees : Trees) : Type 0 where
 
 -- the table has these rows now, in any order, and the others are as they were
 pub record HasNow {R : Type 0} (ty : Typing R) (s : Schema) (rows : List R) (old new : Database) : Type 0 where
-  pub same : IsPermutation rows (rows_in ty new.trees)
+  pub same : IsPermutation rows (typed_rows ty new.trees)
   pub typed : AreTyped ty new.trees
   pub others : AreOthersKept s ty.table.tree old.trees new.trees
   pub schema : new.schema ≡ s
@@ -46,12 +46,12 @@ pub record HasNow {R : Type 0} (ty : Typing R) (s : Schema) (rows : List R) (old
 -- where the table's rows were typed, they are now what f makes of them, and no other table is touched
 abbrev pub Turns : {R : Type 0} → Typing R → Schema → (List R → List R) → State → State → Type 0
 Turns ty s f old new = HasSchema old s → AreTyped ty old.now.trees
-    → HasNow ty s (f (rows_in ty old.now.trees)) old.now new.now
+    → HasNow ty s (f (typed_rows ty old.now.trees)) old.now new.now
 
 -- where the table's rows are typed, these are those that pass the test, each once
 abbrev pub AreThose : {R : Type 0} → Typing R → Schema → (R → Bool) → State → List R → Type 0
 AreThose ty s p state found = HasSchema state s → AreTyped ty state.now.trees
-    → IsPermutation (filter p (rows_in ty state.now.trees)) found
+    → IsPermutation (filter p (typed_rows ty state.now.trees)) found
 
 -- where the table's rows are typed, these are in this order
 abbrev pub AreInOrder : {R : Type 0} → Typing R → Schema → (R → R → Ordering) → State → List R → Type 0

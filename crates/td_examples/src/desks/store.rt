@@ -58,14 +58,14 @@ impl FaultyStore {
 
 impl Store for FaultyStore {
     ghost use Rattle.std.specs.Prelude.{IsTrue, false, Some};
-    ghost use Rattle.td_desk.specs.Plain.{rows_in};
+    ghost use Rattle.td_desk.specs.Plain.{plain_content};
     ghost use Rattle.td_desk.specs.declared.fault.Fault.TheVariants as fault;
 
     ghost is_kept = { λ _. Unit {0} };
 
     ghost is_open = { λ s. IsTrue s.serving };
 
-    ghost rows = { λ s. rows_in s.rows };
+    ghost rows = { λ s. plain_content s.rows };
 
     ghost may_fail = { Unit {0} };
 

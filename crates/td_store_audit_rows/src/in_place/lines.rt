@@ -2,7 +2,7 @@
 ghost use Rattle.std.specs.Prelude.{◌≡◌, ◌==◌, ◌↔◌, map, IsTrue};
 ghost use Rattle.std.specs.List.{list_any};
 ghost use Rattle.td_commands.specs.Lines.{IsLineAmount};
-ghost use Rattle.td_store_rows.specs.LineTable.{row_of_stored};
+ghost use Rattle.td_store_rows.specs.LineTable.{line_row_of};
 ghost use Rattle.td_store_audit_rows.specs.InPlace.{AreLinesInPlace};
 
 use td_base::Cents;
@@ -12,7 +12,7 @@ use td_store_rows::StoredLine;
 /// Whether these are the lines of a movement, by their numbers, of a holder who has so many guarantees: they are numbered from 1 to at
 /// most 9, each is on one of those guarantees, no two on one, and each has an amount in range.
 pub fn lines_are_in_place(guarantees: u32, rows: &[StoredLine]) -> bool
-    ensures { IsTrue result ↔ AreLinesInPlace guarantees (map row_of_stored rows.now) }
+    ensures { IsTrue result ↔ AreLinesInPlace guarantees (map line_row_of rows.now) }
 {
     if rows.is_empty() || rows.len() > MOST_LINES {
         return false;

@@ -2,7 +2,7 @@
 ghost use Rattle.std.specs.Prelude.{◌↔◌, map, IsTrue};
 ghost use Rattle.td_base.specs.References.{IsMrnSerial};
 ghost use Rattle.td_movement.specs.Status.{HasDaysOf};
-ghost use Rattle.td_store_rows.specs.MovementTable.{row_of_stored};
+ghost use Rattle.td_store_rows.specs.MovementTable.{movement_row_of};
 ghost use Rattle.td_store_audit_rows.specs.InPlace.{AreMovementsInPlace, IsMovementInPlace};
 
 use td_base::{Country, GREATEST_MRN_SERIAL, Mrn};
@@ -13,7 +13,7 @@ use td_store_rows::StoredMovement;
 /// each has the MRN of the year of its acceptance, the country, the holder and its serial, and the days and the office of
 /// its state.
 pub fn movements_are_in_place(country: Country, count: u32, rows: &[StoredMovement]) -> bool
-    ensures { IsTrue result ↔ AreMovementsInPlace country count (map row_of_stored rows.now) }
+    ensures { IsTrue result ↔ AreMovementsInPlace country count (map movement_row_of rows.now) }
 {
     if count as usize != rows.len() || count > GREATEST_MRN_SERIAL {
         return false;
@@ -28,7 +28,7 @@ pub fn movements_are_in_place(country: Country, count: u32, rows: &[StoredMoveme
 
 // Whether a movement with such a serial is in its place.
 fn is_in_place(country: Country, row: &StoredMovement) -> bool
-    ensures { IsMrnSerial row.now.serial → (IsTrue result ↔ IsMovementInPlace country (row_of_stored row.now)) }
+    ensures { IsMrnSerial row.now.serial → (IsTrue result ↔ IsMovementInPlace country (movement_row_of row.now)) }
 {
     let movement = &row.movement;
     let made = Mrn::make(movement.accepted.year2(), country, row.holder, row.serial);

@@ -1,8 +1,8 @@
 //! Rows that belong to a holder's guarantees and movements.
 ghost use Rattle.std.specs.Prelude.{◌≡◌, ◌↔◌, nat_le, ◌&&◌, map, IsTrue};
 ghost use Rattle.std.specs.List.{list_all};
-ghost use Rattle.td_store_rows.specs.CodeTable.{row_of_stored as row_of_code};
-ghost use Rattle.td_store_rows.specs.LineTable.{row_of_stored as row_of_line};
+ghost use Rattle.td_store_rows.specs.CodeTable.{code_row_of as row_of_code};
+ghost use Rattle.td_store_rows.specs.LineTable.{line_row_of as row_of_line};
 ghost use Rattle.td_store_audit_rows.specs.InPlace.{BelongTo};
 
 use td_store_rows::{StoredCode, StoredLine};

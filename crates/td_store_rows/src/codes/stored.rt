@@ -17,11 +17,11 @@ impl FromRow for StoredCode {
     ghost use Rattle.std.specs.Prelude.{List, ℕ};
     ghost use Rattle.td_table_model.specs.Tables.{Keyed};
     ghost use Rattle.td_store_rows.specs.CodeColumns.{code_from};
-    ghost use Rattle.td_store_rows.specs.CodeTable.{row_of_stored};
+    ghost use Rattle.td_store_rows.specs.CodeTable.{code_row_of};
 
     ghost Typed = { Keyed (List ℕ) };
 
-    ghost typed = { row_of_stored };
+    ghost typed = { code_row_of };
 
     ghost from = { code_from };
 

@@ -5,7 +5,7 @@ ghost use Rattle.sqlite.specs.State.{HasCleanDisk, KeepsCommit, Shows, Survives}
 ghost use Rattle.sqlite.specs.Values.{bound};
 ghost use Rattle.td_table_model.specs.Changes.{is_code_of};
 ghost use Rattle.td_store_rows.specs.CodeColumns.{code_cells};
-ghost use Rattle.td_store_rows.specs.CodeTable.{TurnsCodes, row_of_stored};
+ghost use Rattle.td_store_rows.specs.CodeTable.{TurnsCodes, code_row_of};
 
 use crate::codes::stored::StoredCode;
 use crate::codes::texts::{DELETE, INSERT};
@@ -16,7 +16,7 @@ use td_schema::number_of;
 
 // The columns of a code's row.
 fn columns(code: &StoredCode) -> [ValueRef<'_>; 3]
-    ensures { bound result ≡ code_cells (row_of_stored code.now) }
+    ensures { bound result ≡ code_cells (code_row_of code.now) }
 {
     [
         number_of(code.holder.number()),
@@ -30,7 +30,7 @@ pub fn insert_code<S: Alter>(tx: &mut Transaction<'_, S>, code: &StoredCode) -> 
     requires { HasCleanDisk (state S.Store tx.old.conn.now) → IsTrue (state S.Store tx.old.conn.now).in_transaction }
     ensures same_reference { tx.new.conn.ghost_name ≡ tx.old.conn.ghost_name }
     ensures inserted { HasCleanDisk (state S.Store tx.new.conn.now)
-        → OnOk result (TurnsCodes (λ rows. row_of_stored code.now ∷ rows)
+        → OnOk result (TurnsCodes (λ rows. code_row_of code.now ∷ rows)
         (state S.Store tx.old.conn.now) (state S.Store tx.new.conn.now)) }
     ensures inside { HasCleanDisk (state S.Store tx.new.conn.now) → OnOk result (Shows (state S.Store tx.old.conn.now)
         (state S.Store tx.new.conn.now) (state S.Store tx.new.conn.now).now (state S.Store tx.old.conn.now).committed true) }

@@ -1,7 +1,7 @@
 //! Guarantees as their rows have them, read from the columns that a statement shows.
 ghost use Rattle.std.specs.Prelude.{◌≡◌, IfSome};
 ghost use Rattle.td_store_rows.specs.GuaranteeColumns.{guarantee_from};
-ghost use Rattle.td_store_rows.specs.GuaranteeTable.{row_of_stored};
+ghost use Rattle.td_store_rows.specs.GuaranteeTable.{guarantee_row_of};
 
 use sqlite::Row;
 use std::alloc::Global;
@@ -24,7 +24,7 @@ impl FromRow for StoredGuarantee {
 
     ghost Typed = { Keyed Guarantee };
 
-    ghost typed = { row_of_stored };
+    ghost typed = { guarantee_row_of };
 
     ghost from = { guarantee_from };
 

@@ -19,11 +19,11 @@ pub struct StoredLine {
 impl FromRow for StoredLine {
     ghost use Rattle.td_table_model.specs.Tables.{Keyed, LineCells};
     ghost use Rattle.td_store_rows.specs.LineColumns.{line_from};
-    ghost use Rattle.td_store_rows.specs.LineTable.{row_of_stored};
+    ghost use Rattle.td_store_rows.specs.LineTable.{line_row_of};
 
     ghost Typed = { Keyed LineCells };
 
-    ghost typed = { row_of_stored };
+    ghost typed = { line_row_of };
 
     ghost from = { line_from };
 

@@ -4,7 +4,7 @@ ghost use Rattle.sqlite.specs.Held.{state};
 ghost use Rattle.sqlite.specs.State.{HasCleanDisk, KeepsCommit, Shows, Survives};
 ghost use Rattle.sqlite.specs.Values.{bound};
 ghost use Rattle.td_store_rows.specs.LineColumns.{line_cells};
-ghost use Rattle.td_store_rows.specs.LineTable.{TurnsLines, row_of_stored};
+ghost use Rattle.td_store_rows.specs.LineTable.{TurnsLines, line_row_of};
 
 use crate::lines::stored::StoredLine;
 use crate::lines::texts::INSERT;
@@ -15,7 +15,7 @@ use td_schema::{amount_of, number_of};
 
 // The columns of a line's row.
 fn columns(line: &StoredLine) -> [ValueRef<'static>; 5]
-    ensures { bound result ≡ line_cells (row_of_stored line.now) }
+    ensures { bound result ≡ line_cells (line_row_of line.now) }
 {
     [
         number_of(line.holder.number()),
@@ -31,7 +31,7 @@ pub fn insert_line<S: Alter>(tx: &mut Transaction<'_, S>, line: &StoredLine) -> 
     requires { HasCleanDisk (state S.Store tx.old.conn.now) → IsTrue (state S.Store tx.old.conn.now).in_transaction }
     ensures same_reference { tx.new.conn.ghost_name ≡ tx.old.conn.ghost_name }
     ensures inserted { HasCleanDisk (state S.Store tx.new.conn.now)
-        → OnOk result (TurnsLines (λ rows. row_of_stored line.now ∷ rows)
+        → OnOk result (TurnsLines (λ rows. line_row_of line.now ∷ rows)
         (state S.Store tx.old.conn.now) (state S.Store tx.new.conn.now)) }
     ensures inside { HasCleanDisk (state S.Store tx.new.conn.now) → OnOk result (Shows (state S.Store tx.old.conn.now)
         (state S.Store tx.new.conn.now) (state S.Store tx.new.conn.now).now (state S.Store tx.old.conn.now).committed true) }

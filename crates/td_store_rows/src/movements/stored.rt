@@ -22,11 +22,11 @@ impl FromRow for StoredMovement {
     ghost use Rattle.td_table_model.specs.Tables.{Keyed};
     ghost use Rattle.td_movement.specs.declared.movement.Movement.{Movement};
     ghost use Rattle.td_store_rows.specs.MovementColumns.{movement_from};
-    ghost use Rattle.td_store_rows.specs.MovementTable.{row_of_stored};
+    ghost use Rattle.td_store_rows.specs.MovementTable.{movement_row_of};
 
     ghost Typed = { Keyed Movement };
 
-    ghost typed = { row_of_stored };
+    ghost typed = { movement_row_of };
 
     ghost from = { movement_from };
 

@@ -6,7 +6,7 @@ use sqlite::MemStore;
 use std::alloc::Global;
 use std::test::Fail;
 use td_base::Country;
-use td_desk::{PlainDesk, Stamped, perform};
+use td_desk::{PlainDesk, Stamped, do_one};
 use td_store::SqlDesk;
 
 /// How a command ends at both desks.
@@ -23,8 +23,8 @@ fn end_at_both(
     stored: &mut SqlDesk<MemStore>,
     stamped: &Stamped,
 ) -> Result<Ended, Fail> {
-    let plain = words_of(alloc, &perform(alloc, plain, stamped))?;
-    let outcome = perform(alloc, stored, stamped);
+    let plain = words_of(alloc, &do_one(alloc, plain, stamped))?;
+    let outcome = do_one(alloc, stored, stamped);
     let stored = words_of(alloc, &outcome)?;
     let name = end_name(&stamped.command, &outcome);
     Ok(Ended {

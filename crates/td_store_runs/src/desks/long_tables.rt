@@ -5,7 +5,7 @@ use sqlite::MemStore;
 use std::alloc::Global;
 use std::test::Fail;
 use td_base::{AccessCode, Country, Cover, Eori, HolderNo, Reference};
-use td_desk::{Command, Stamped, perform};
+use td_desk::{Command, Stamped, do_one};
 use td_store::{OpenFault, SqlDesk};
 use td_table_model::Rule;
 
@@ -35,7 +35,7 @@ fn done(alloc: Global, desk: &mut SqlDesk<MemStore>, command: Option<Command>) -
         at: START,
         command: command.ok_or("a command")?,
     };
-    let _outcome = perform(alloc, desk, &stamped);
+    let _outcome = do_one(alloc, desk, &stamped);
     Ok(())
 }
 

@@ -6,7 +6,7 @@ use sqlite::{Connection, MemStore};
 use std::alloc::Global;
 use std::test::Fail;
 use td_base::{Country, HolderNo};
-use td_desk::{Command, Stamped, Store, perform};
+use td_desk::{Command, Stamped, Store, do_one};
 use td_store::{OpenFault, SqlDesk};
 use td_table_model::Rule;
 
@@ -17,7 +17,7 @@ fn filled(alloc: Global) -> Result<SqlDesk<MemStore>, Fail> {
     let mut dice = Dice::new(12);
     for before in 0..120 {
         let stamped = drawn(alloc, &mut dice, country, before).ok_or("a command")?;
-        let _outcome = perform(alloc, &mut desk, &stamped);
+        let _outcome = do_one(alloc, &mut desk, &stamped);
     }
     Ok(desk)
 }
@@ -37,7 +37,7 @@ pub fn seen(alloc: Global, desk: &mut SqlDesk<MemStore>) -> Result<String, Fail>
                 at: 1_790_000_000,
                 command,
             };
-            let own = words_of(alloc, &perform(alloc, desk, &stamped))?;
+            let own = words_of(alloc, &do_one(alloc, desk, &stamped))?;
             words = format!(in alloc; "{words}{own}\n")?;
         }
     }

@@ -5,7 +5,7 @@ use Rattle.std.specs.Prelude.{◌↔◌, IsTrue}
 use Rattle.std.specs.List.{AllByRecursion}
 use Rattle.sqlite.specs.Held.{state}
 use Rattle.sqlite.specs.State.{State, HasCleanDisk}
-use Rattle.td_store_audit.specs.Handed.{IsHandedOn, holder_in}
+use Rattle.td_store_audit.specs.Handed.{IsHandedOn, raw_holder_of}
 use Rattle.td_store_audit.specs.InFile.{IsHolderCoveredInFile, TellsWhere}
 use Rattle.td_store_audit.proofs.Reading.{HasRead, read_then, so_before}
 use Rattle.td_store_audit.proofs.Walking.{one_more, one_of_all}
@@ -16,7 +16,7 @@ holders-preserved g c = (
   c.is_holder_covered.ensures.same_reference ∙ c.holders.invariant.0,
   more,
   λ clean has so.
-      one_more (λ h. IsHolderCoveredInFile a.now.trees (holder_in h)) c.args.handed.now c.holders.parts-index c.parts-item.result c.holders-test.true c.parts-item.is
+      one_more (λ h. IsHolderCoveredInFile a.now.trees (raw_holder_of h)) c.args.handed.now c.holders.parts-index c.parts-item.result c.holders-test.true c.parts-item.is
       (c.holders.invariant.2 (clean_b clean) has so) ((told clean has so).0 c.if-not-branch.false),
 )
   where
@@ -35,9 +35,9 @@ holders-preserved g c = (
     clean_b : HasCleanDisk d → HasCleanDisk b
     clean_b clean = omega (arith, clean, c.is_holder_covered.ensures.survives.clean)
 
-    told : HasCleanDisk d → TellsWhere (λ trees. AllByRecursion (IsHandedOn trees) c.args.handed.now) (λ trees. IsHolderCoveredInFile trees (holder_in c.parts-item.result)) a c.in_ok-is_holder_covered.field-0
+    told : HasCleanDisk d → TellsWhere (λ trees. AllByRecursion (IsHandedOn trees) c.args.handed.now) (λ trees. IsHolderCoveredInFile trees (raw_holder_of c.parts-item.result)) a c.in_ok-is_holder_covered.field-0
     told clean has so =
-        so_before (λ trees. IsHandedOn trees c.parts-item.result) (λ trees. IsTrue c.in_ok-is_holder_covered.field-0 ↔ IsHolderCoveredInFile trees (holder_in c.parts-item.result)) a b
+        so_before (λ trees. IsHandedOn trees c.parts-item.result) (λ trees. IsTrue c.in_ok-is_holder_covered.field-0 ↔ IsHolderCoveredInFile trees (raw_holder_of c.parts-item.result)) a b
         (c.holders.invariant.1.still (clean_b clean)) (c.in_ok-is_holder_covered.ensures.told clean) has
         (one_of_all (IsHandedOn a.now.trees) c.args.handed.now c.holders.parts-index c.parts-item.result c.holders-test.true c.parts-item.is so)
 
@@ -46,7 +46,7 @@ pub returns-then-not-branch-clause-told : goal.returns-then-not-branch-clause-to
 returns-then-not-branch-clause-told g c clean has so = (
   λ t. absurd (false≢true t),
   λ all.
-      let here = one_of_all (λ h. IsHolderCoveredInFile a.now.trees (holder_in h)) c.args.handed.now c.holders.parts-index c.parts-item.result c.holders-test.true c.parts-item.is all in
+      let here = one_of_all (λ h. IsHolderCoveredInFile a.now.trees (raw_holder_of h)) c.args.handed.now c.holders.parts-index c.parts-item.result c.holders-test.true c.parts-item.is all in
       absurd (false≢true (sym c.if-not-branch.true ∙ (told has so).1 here)),
 )
   where
@@ -59,15 +59,15 @@ returns-then-not-branch-clause-told g c clean has so = (
     clean_b : HasCleanDisk b
     clean_b = omega (arith, clean, c.is_holder_covered.ensures.survives.clean)
 
-    told : TellsWhere (λ trees. AllByRecursion (IsHandedOn trees) c.args.handed.now) (λ trees. IsHolderCoveredInFile trees (holder_in c.parts-item.result)) a c.in_ok-is_holder_covered.field-0
+    told : TellsWhere (λ trees. AllByRecursion (IsHandedOn trees) c.args.handed.now) (λ trees. IsHolderCoveredInFile trees (raw_holder_of c.parts-item.result)) a c.in_ok-is_holder_covered.field-0
     told has so =
-        so_before (λ trees. IsHandedOn trees c.parts-item.result) (λ trees. IsTrue c.in_ok-is_holder_covered.field-0 ↔ IsHolderCoveredInFile trees (holder_in c.parts-item.result)) a b
+        so_before (λ trees. IsHandedOn trees c.parts-item.result) (λ trees. IsTrue c.in_ok-is_holder_covered.field-0 ↔ IsHolderCoveredInFile trees (raw_holder_of c.parts-item.result)) a b
         (c.holders.invariant.1.still clean_b) (c.in_ok-is_holder_covered.ensures.told clean) has
         (one_of_all (IsHandedOn a.now.trees) c.args.handed.now c.holders.parts-index c.parts-item.result c.holders-test.true c.parts-item.is so)
 
 pub returns-clause-told : goal.returns-clause-told
 returns-clause-told g c clean has so = (
-  λ t. subst (AllByRecursion (λ h. IsHolderCoveredInFile (state g.S.Store c.args.tx.now.conn.now).now.trees (holder_in h)))
+  λ t. subst (AllByRecursion (λ h. IsHolderCoveredInFile (state g.S.Store c.args.tx.now.conn.now).now.trees (raw_holder_of h)))
       (take_all c.holders.parts-index c.args.handed.now c.holders-test.false) (c.holders.invariant.2 clean has so),
   λ all. refl,
 )

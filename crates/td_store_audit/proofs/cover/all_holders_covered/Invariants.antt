@@ -2,7 +2,7 @@ use Rattle.std.proofs.Common.{◌≡◌, take}
 use Rattle.std.specs.List.{AllByRecursion}
 use Rattle.sqlite.specs.Held.{state}
 use Rattle.sqlite.specs.State.{HasCleanDisk}
-use Rattle.td_store_audit.specs.Handed.{IsHandedOn, holder_in}
+use Rattle.td_store_audit.specs.Handed.{IsHandedOn, raw_holder_of}
 use Rattle.td_store_audit.specs.InFile.{IsHolderCoveredInFile, IsSoWhere}
 use Rattle.td_store_audit.proofs.Reading.{HasRead}
 use Rattle.td_store_audit.proofs.cover.all_holders_covered.Given as goal
@@ -13,5 +13,5 @@ invariant-holders g l =
     (l.tx.conn.ghost_name ≡ l.initial.tx.conn.ghost_name)
     × HasRead (state g.S.Store l.initial.tx.conn.now) (state g.S.Store l.tx.conn.now)
     × (HasCleanDisk (state g.S.Store l.tx.conn.now)
-    → IsSoWhere (λ trees. AllByRecursion (IsHandedOn trees) l.handed) (λ trees. AllByRecursion (λ h. IsHolderCoveredInFile trees (holder_in h)) (take l.parts-index l.handed))
+    → IsSoWhere (λ trees. AllByRecursion (IsHandedOn trees) l.handed) (λ trees. AllByRecursion (λ h. IsHolderCoveredInFile trees (raw_holder_of h)) (take l.parts-index l.handed))
     (state g.S.Store l.initial.tx.conn.now))

@@ -6,7 +6,7 @@ use Rattle.typed_sql.proofs.Fetched.{in_order_fetched, those_fetched}
 use Rattle.typed_sql.proofs.Leaving.{stays_ok}
 use Rattle.typed_sql.specs.Values.{number_value}
 use Rattle.td_store_rows.specs.LineColumns.{line_typing}
-use Rattle.td_store_rows.specs.LineTable.{row_of_stored}
+use Rattle.td_store_rows.specs.LineTable.{line_row_of}
 use Rattle.td_store_audit.proofs.Meanings.{by_three, line_terms, lines_mean, holder_tests}
 use Rattle.td_store_audit.proofs.Ordering.{line_passes, lines_compared}
 use Rattle.td_store_audit.specs.Found.{line_order, is_of_holder}
@@ -15,13 +15,13 @@ use Rattle.td_store_audit.proofs.finding.lines_of_holder.Goals as goal
 
 pub returns-clause-found : goal.returns-clause-found
 returns-clause-found g c clean =
-    those_fetched line_typing desk_schema row_of_stored LINES_OF_HOLDER.now holder_tests line_terms by_three
+    those_fetched line_typing desk_schema line_row_of LINES_OF_HOLDER.now holder_tests line_terms by_three
     (is_of_holder c.args.holder) (number_value c.args.holder ∷ []) _ c.holder_key.ensures lines_mean (line_passes c.args.holder) (λ r. refl)
     (state g.S.Store c.args.tx.now.conn.now) c.fetch.result (c.fetch.ensures.found clean)
 
 pub returns-clause-order : goal.returns-clause-order
 returns-clause-order g c clean =
-    in_order_fetched line_typing desk_schema row_of_stored LINES_OF_HOLDER.now holder_tests line_terms by_three
+    in_order_fetched line_typing desk_schema line_row_of LINES_OF_HOLDER.now holder_tests line_terms by_three
     (is_of_holder c.args.holder) (number_value c.args.holder ∷ []) _ c.holder_key.ensures lines_mean (line_passes c.args.holder) (λ r. refl)
     (state g.S.Store c.args.tx.now.conn.now) line_order (lines_compared c.args.holder) c.fetch.result (c.fetch.ensures.found clean)
 

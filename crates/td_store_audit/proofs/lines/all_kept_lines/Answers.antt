@@ -10,7 +10,7 @@ use Rattle.sqlite.specs.Held.{state}
 use Rattle.sqlite.specs.State.{State, HasCleanDisk}
 use Rattle.sqlite_trees.proofs.ListLemmas.{all-map, all_from_map}
 use Rattle.td_schema.specs.Tables.{desk_schema}
-use Rattle.typed_sql.specs.Typed.{AreTyped, rows_in}
+use Rattle.typed_sql.specs.Typed.{AreTyped, typed_rows}
 use Rattle.typed_sql.specs.Writing.{HasSchema}
 use Rattle.td_store_rows.specs.LineColumns.{line_typing}
 use Rattle.td_table_model.specs.Gathering.{part}
@@ -62,12 +62,12 @@ holders-preserved g c = (
     turn = YieldsList-turn (YieldsList-from_vec {s = c.into_iter-movements-iterator.result} items c.into_iter-movements-iterator.ensures.into_iter_gives.0 (c.into_iter-movements-iterator.ensures.into_iter_gives.1 ∙ c.args.counting.ok.0)) c.holders.yielded c.holders.movements-iterator c.holders.yielded_by c.next.result c.next.new.self x c.in-Some.is c.next.ensures.steps
 
     told : HasCleanDisk d → HasSchema a desk_schema → AreTyped line_typing a.now.trees
-        → ((H : ℕ) → AreNumbersApart (part H (rows_in line_typing a.now.trees))) → IsTrue (is_some c.in_ok-lines.field-0) ↔ HasLinesInPlace a.now.trees x.raw
+        → ((H : ℕ) → AreNumbersApart (part H (typed_rows line_typing a.now.trees))) → IsTrue (is_some c.in_ok-lines.field-0) ↔ HasLinesInPlace a.now.trees x.raw
     told clean has typed apart =
         let read = c.holders.invariant.1.still (clean_b clean) has in
         subst (λ (e : Database). IsTrue (is_some c.in_ok-lines.field-0) ↔ HasLinesInPlace e.trees x.raw) read.now_is
         (c.in_ok-lines.ensures.told clean (still_has a b has read) (subst (λ (e : Database). AreTyped line_typing e.trees) (sym read.now_is) typed)
-        (subst (λ (e : Database). AreNumbersApart (part x.raw.holder (rows_in line_typing e.trees))) (sym read.now_is) (apart x.raw.holder)))
+        (subst (λ (e : Database). AreNumbersApart (part x.raw.holder (typed_rows line_typing e.trees))) (sym read.now_is) (apart x.raw.holder)))
 
     its : HasCleanDisk d → HasSchema a desk_schema → AreTyped line_typing a.now.trees → AreItsLines a.now.trees parts
     its clean has typed =
@@ -110,7 +110,7 @@ returns-in_default-clause-told g c clean has typed apart = (
         let read = c.holders.invariant.1.still clean_b has in
         subst (λ (e : Database). IsTrue (is_some c.in_ok-lines.field-0) ↔ HasLinesInPlace e.trees x.raw) read.now_is
         (c.in_ok-lines.ensures.told clean (still_has a b has read) (subst (λ (e : Database). AreTyped line_typing e.trees) (sym read.now_is) typed)
-        (subst (λ (e : Database). AreNumbersApart (part x.raw.holder (rows_in line_typing e.trees))) (sym read.now_is) (apart x.raw.holder)))
+        (subst (λ (e : Database). AreNumbersApart (part x.raw.holder (typed_rows line_typing e.trees))) (sym read.now_is) (apart x.raw.holder)))
 
 pub returns-clause-told : goal.returns-clause-told
 returns-clause-told g c clean has typed apart = (

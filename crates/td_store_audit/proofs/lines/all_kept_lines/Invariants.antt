@@ -3,7 +3,7 @@ use Rattle.std.specs.List.{AllByRecursion}
 use Rattle.sqlite.specs.Held.{state}
 use Rattle.sqlite.specs.State.{HasCleanDisk}
 use Rattle.td_schema.specs.Tables.{desk_schema}
-use Rattle.typed_sql.specs.Typed.{AreTyped, rows_in}
+use Rattle.typed_sql.specs.Typed.{AreTyped, typed_rows}
 use Rattle.typed_sql.specs.Writing.{HasSchema}
 use Rattle.td_store_rows.specs.LineColumns.{line_typing}
 use Rattle.td_table_model.specs.Gathering.{part}
@@ -20,7 +20,7 @@ invariant-holders g l =
     × HasRead (state g.S.Store l.initial.tx.conn.now) (state g.S.Store l.tx.conn.now)
     × (HasCleanDisk (state g.S.Store l.tx.conn.now) → HasSchema (state g.S.Store l.initial.tx.conn.now) desk_schema
     → AreTyped line_typing (state g.S.Store l.initial.tx.conn.now).now.trees
-    → ((H : ℕ) → AreNumbersApart (part H (rows_in line_typing (state g.S.Store l.initial.tx.conn.now).now.trees)))
+    → ((H : ℕ) → AreNumbersApart (part H (typed_rows line_typing (state g.S.Store l.initial.tx.conn.now).now.trees)))
     → AllByRecursion (λ h. HasLinesInPlace (state g.S.Store l.initial.tx.conn.now).now.trees (raw_of h)) (take (length l.yielded) l.fn.counting.items))
     × (map movements_in l.handed.items ≡ take (length l.yielded) l.fn.counting.items)
     × (HasCleanDisk (state g.S.Store l.tx.conn.now) → AreAllLines (state g.S.Store l.initial.tx.conn.now) l.handed.items)

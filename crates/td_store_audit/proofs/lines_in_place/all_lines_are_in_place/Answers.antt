@@ -3,7 +3,7 @@ use Rattle.std.proofs.lemmas.Bool.{false≢true}
 use Rattle.std.proofs.lemmas.Bool.Decides.{nat_tests}
 use Rattle.std.specs.Prelude.{◌==◌}
 use Rattle.sqlite_trees.proofs.ListLemmas.{all-get_or, all_from_map, ascending_from_map, filter-map}
-use Rattle.td_store_rows.specs.LineTable.{row_of_stored}
+use Rattle.td_store_rows.specs.LineTable.{line_row_of}
 use Rattle.td_store_rows.specs.declared.lines.stored.StoredLine.{StoredLine}
 use Rattle.td_store_audit_rows.specs.InPlace.{AreLinesInPlace}
 use Rattle.td_table_model.specs.Gathering.{in_order, no_of, of_key, place}
@@ -17,7 +17,7 @@ pub loop-before-init : goal.loop-before-init
 loop-before-init c =
     let rows = c.args.rows.now in
     let belong = c.lines_belong.ensures.0 c.if-not-lines_belong.false in
-    let each = all_from_map (λ r. (1 ≤ place r) × (place r ≤ c.args.movements)) row_of_stored rows belong in (
+    let each = all_from_map (λ r. (1 ≤ place r) × (place r ≤ c.args.movements)) line_row_of rows belong in (
       omega arith,
       λ sorted rising apart. (
         record {
@@ -29,13 +29,13 @@ loop-before-init c =
     )
 
 -- the lines of the next movement are the run
-next_lines : (rows : List StoredLine) (n start end : ℕ) → IsBySerial (map row_of_stored rows) → IsByNumber (map row_of_stored rows) → AreNumbersApart (map row_of_stored rows)
+next_lines : (rows : List StoredLine) (n start end : ℕ) → IsBySerial (map line_row_of rows) → IsByNumber (map line_row_of rows) → AreNumbersApart (map line_row_of rows)
     → IsSplit serial_of_line n start rows → IsEndOfRun serial_of_line (n + 1) start rows end
-    → in_order no_of (of_key place (n + 1) (map row_of_stored rows)) ≡ map row_of_stored (take (end - start) (drop start rows))
+    → in_order no_of (of_key place (n + 1) (map line_row_of rows)) ≡ map line_row_of (take (end - start) (drop start rows))
 next_lines rows n start end sorted rising apart split run =
-    sym (ordered (n + 1) (map row_of_stored rows) rising apart)
-    ∙ filter-map (λ r. place r == n + 1) row_of_stored rows
-    ∙ ap (map row_of_stored) (run_is serial_of_line n start end rows (ascending_from_map (λ a b. place a ≤ place b) row_of_stored rows sorted) split run)
+    sym (ordered (n + 1) (map line_row_of rows) rising apart)
+    ∙ filter-map (λ r. place r == n + 1) line_row_of rows
+    ∙ ap (map line_row_of) (run_is serial_of_line n start end rows (ascending_from_map (λ a b. place a ≤ place b) line_row_of rows sorted) split run)
 
 pub returns-then-not-lines_are_in_place : goal.returns-then-not-lines_are_in_place
 returns-then-not-lines_are_in_place c = λ sorted rising apart. (
@@ -59,23 +59,23 @@ loop-before-preserved c = (c.end_of_run-end.ensures.last, next)
     end : ℕ
     end = c.end_of_run-end.result
 
-    next : IsBySerial (map row_of_stored rows) → IsByNumber (map row_of_stored rows) → AreNumbersApart (map row_of_stored rows)
+    next : IsBySerial (map line_row_of rows) → IsByNumber (map line_row_of rows) → AreNumbersApart (map line_row_of rows)
         → IsSplit serial_of_line (n + 1) end rows
-        × ((k : ℕ) → 1 ≤ k → k ≤ n + 1 → AreLinesInPlace c.args.guarantees (in_order no_of (of_key place k (map row_of_stored rows))))
+        × ((k : ℕ) → 1 ≤ k → k ≤ n + 1 → AreLinesInPlace c.args.guarantees (in_order no_of (of_key place k (map line_row_of rows))))
     next sorted rising apart = (
-      next_split serial_of_line n c.loop-before.start end rows (ascending_from_map (λ a b. place a ≤ place b) row_of_stored rows sorted) split c.end_of_run-end.ensures,
+      next_split serial_of_line n c.loop-before.start end rows (ascending_from_map (λ a b. place a ≤ place b) line_row_of rows sorted) split c.end_of_run-end.ensures,
       λ k low high. go k low high (nat_lt k (n + 1)) refl,
     )
       where
         split : IsSplit serial_of_line n c.loop-before.start rows
         split = (c.loop-before.invariant.1 sorted rising apart).0
 
-        here : AreLinesInPlace c.args.guarantees (in_order no_of (of_key place (n + 1) (map row_of_stored rows)))
+        here : AreLinesInPlace c.args.guarantees (in_order no_of (of_key place (n + 1) (map line_row_of rows)))
         here = subst (AreLinesInPlace c.args.guarantees) (sym (next_lines rows n c.loop-before.start end sorted rising apart split c.end_of_run-end.ensures))
             (c.lines_are_in_place.ensures.0 c.if-not-lines_are_in_place.false)
 
-        go : (k : ℕ) → 1 ≤ k → k ≤ n + 1 → (b : Bool) → nat_lt k (n + 1) ≡ b → AreLinesInPlace c.args.guarantees (in_order no_of (of_key place k (map row_of_stored rows)))
+        go : (k : ℕ) → 1 ≤ k → k ≤ n + 1 → (b : Bool) → nat_lt k (n + 1) ≡ b → AreLinesInPlace c.args.guarantees (in_order no_of (of_key place k (map line_row_of rows)))
         go k low high true is = (c.loop-before.invariant.1 sorted rising apart).1 k low (grind (arith, nat_tests, is))
         go k low high false is =
             let same : n + 1 ≡ k = grind (arith, nat_tests, is, high) in
-            subst (λ m. AreLinesInPlace c.args.guarantees (in_order no_of (of_key place m (map row_of_stored rows)))) same here
+            subst (λ m. AreLinesInPlace c.args.guarantees (in_order no_of (of_key place m (map line_row_of rows)))) same here

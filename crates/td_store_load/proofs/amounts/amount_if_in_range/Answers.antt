@@ -5,10 +5,10 @@ use Rattle.sqlite.specs.Effect.{Database}
 use Rattle.sqlite.specs.Held.{state}
 use Rattle.sqlite.specs.State.{State, HasCleanDisk, IsUnchanged}
 use Rattle.td_base.specs.Money.{IsCents}
-use Rattle.typed_sql.specs.Typed.{AreTyped, rows_in}
+use Rattle.typed_sql.specs.Typed.{AreTyped, typed_rows}
 use Rattle.td_store_rows.specs.MovementTable.{serial_of_stored}
 use Rattle.td_store_rows.specs.LineColumns.{line_typing}
-use Rattle.td_store_rows.specs.LineTable.{is_line_on, row_of_stored}
+use Rattle.td_store_rows.specs.LineTable.{is_line_on, line_row_of}
 use Rattle.td_store_rows.specs.StoreTables.{tables_in}
 use Rattle.td_store_load.specs.InUse.{total_on}
 use Rattle.td_store_load.proofs.Counted.{of_guarantee}
@@ -37,9 +37,9 @@ returns-clause-found g c clean has movements lines =
     one : IsUnchanged a b
     one = c.in_ok-serials.ensures.still clean_b has
 
-    found : IsPermutation (filter (is_line_on c.args.holder c.args.guarantee) (rows_in line_typing a.now.trees)) (map row_of_stored c.in_ok-lines.lines.items)
+    found : IsPermutation (filter (is_line_on c.args.holder c.args.guarantee) (typed_rows line_typing a.now.trees)) (map line_row_of c.in_ok-lines.lines.items)
     found =
-        subst (λ (k : Database). IsPermutation (filter (is_line_on c.args.holder c.args.guarantee) (rows_in line_typing k.trees)) (map row_of_stored c.in_ok-lines.lines.items)) one.0.now_is
+        subst (λ (k : Database). IsPermutation (filter (is_line_on c.args.holder c.args.guarantee) (typed_rows line_typing k.trees)) (map line_row_of c.in_ok-lines.lines.items)) one.0.now_is
         (c.in_ok-lines.ensures.found clean (still_has a b has one) (subst (λ (k : Database). AreTyped line_typing k.trees) (sym one.0.now_is) lines))
 
 pub returns-clause-still : goal.returns-clause-still

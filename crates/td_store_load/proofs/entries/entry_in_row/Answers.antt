@@ -2,7 +2,7 @@ use Rattle.std.proofs.Common.{ap, ap₂, arith, subst}
 use Rattle.sqlite.specs.Held.{state}
 use Rattle.sqlite.specs.State.{State, HasCleanDisk}
 use Rattle.td_guarantee.specs.declared.guarantee.Guarantee.{Guarantee}
-use Rattle.td_store_rows.specs.GuaranteeTable.{row_of_stored}
+use Rattle.td_store_rows.specs.GuaranteeTable.{guarantee_row_of}
 use Rattle.td_store_rows.specs.declared.guarantees.stored.StoredGuarantee.{StoredGuarantee}
 use Rattle.td_table_model.specs.Gathering.{with_codes}
 use Rattle.td_store_load.specs.Loaded.{IsOfTables}
@@ -11,7 +11,7 @@ use Rattle.td_store_load.proofs.entries.entry_in_row.Goals as goal
 
 pub returns-clause-entry : goal.returns-clause-entry
 returns-clause-entry g c clean content holds =
-    ap₂ (λ guarantee cents. (guarantee, cents)) (said_before (λ t. with_codes t (row_of_stored c.args.row.now)) a b _ (as_tables a b (c.in_ok-used.ensures.still clean_b)) whole content holds)
+    ap₂ (λ guarantee cents. (guarantee, cents)) (said_before (λ t. with_codes t (guarantee_row_of c.args.row.now)) a b _ (as_tables a b (c.in_ok-used.ensures.still clean_b)) whole content holds)
     (c.in_ok-used.ensures.found clean_b holds.schema holds.typed.movements holds.typed.lines)
   where
     a : State
@@ -23,8 +23,8 @@ returns-clause-entry g c clean content holds =
     clean_b : HasCleanDisk b
     clean_b = omega (arith, clean, c.guarantee_with_codes.ensures.survives.clean)
 
-    whole : IsOfTables (λ t. with_codes t (row_of_stored c.args.row.now)) b c.in_ok-guarantee.guarantee
-    whole = subst (λ (r : StoredGuarantee). IsOfTables (λ t. with_codes t (row_of_stored r)) b c.in_ok-guarantee.guarantee)
+    whole : IsOfTables (λ t. with_codes t (guarantee_row_of c.args.row.now)) b c.in_ok-guarantee.guarantee
+    whole = subst (λ (r : StoredGuarantee). IsOfTables (λ t. with_codes t (guarantee_row_of r)) b c.in_ok-guarantee.guarantee)
         (ap (λ (copy : Guarantee). record c.args.row.now { guarantee = copy }) c.in_ok-copy.ensures) (c.in_ok-guarantee.ensures.whole clean)
 
 pub returns-clause-still : goal.returns-clause-still

@@ -1,7 +1,7 @@
 use Rattle.std.proofs.Common.{List, arith, map, subst}
 use Rattle.sqlite.specs.Held.{state}
 use Rattle.sqlite.specs.State.{State, HasCleanDisk}
-use Rattle.td_store_rows.specs.GuaranteeTable.{row_of_stored}
+use Rattle.td_store_rows.specs.GuaranteeTable.{guarantee_row_of}
 use Rattle.td_store_rows.specs.declared.guarantees.stored.StoredGuarantee.{StoredGuarantee}
 use Rattle.typed_sql.proofs.Leaving.{if_both, on_ok}
 use Rattle.td_store_load.specs.Loaded.{IsOfTables}
@@ -14,7 +14,7 @@ pub returns-clause-found : goal.returns-clause-found
 returns-clause-found g c clean =
     if_both c.entries_in_rows.result
     (λ found each same content holds. all_entries a c.args.holder content holds b c.in_ok-rows.rows.items found.items (c.in_ok-rows.ensures.order clean_b) (c.in_ok-rows.ensures.still clean_b)
-    (subst (λ (rows : List StoredGuarantee). IsOfTables (λ t. map (λ r. entry_from t (row_of_stored r)) rows) b found.items) c.deref.ensures.value each))
+    (subst (λ (rows : List StoredGuarantee). IsOfTables (λ t. map (λ r. entry_from t (guarantee_row_of r)) rows) b found.items) c.deref.ensures.value each))
     (c.entries_in_rows.ensures.entries clean) (c.entries_in_rows.ensures.entries clean)
   where
     a : State

@@ -3,7 +3,7 @@ use Rattle.td_movement.specs.declared.movement.Movement.{Movement}
 use Rattle.td_store_rows.specs.declared.movements.stored.StoredMovement.{StoredMovement}
 use Rattle.sqlite.specs.Held.{state}
 use Rattle.sqlite.specs.State.{State, HasCleanDisk}
-use Rattle.td_store_rows.specs.MovementTable.{row_of_stored}
+use Rattle.td_store_rows.specs.MovementTable.{movement_row_of}
 use Rattle.td_table_model.specs.Gathering.{with_lines}
 use Rattle.td_store_load.specs.Loaded.{IsOfTables}
 use Rattle.td_store_load.proofs.Found.{next_of}
@@ -16,7 +16,7 @@ rows-preserved g c = (
   more,
   λ clean content holds.
       c.in_ok-push.ensures.items
-      ∙ next_of (λ t r. with_lines t (row_of_stored r)) a b c.args.rows.now c.rows.row-index _ c.row-item.result c.rows.movements.items c.in_ok-movement.movement c.rows-test.true c.row-item.is
+      ∙ next_of (λ t r. with_lines t (movement_row_of r)) a b c.args.rows.now c.rows.row-index _ c.row-item.result c.rows.movements.items c.in_ok-movement.movement c.rows-test.true c.row-item.is
       (c.rows.invariant.1.still (clean_b clean)) (c.rows.invariant.2 (clean_b clean)) (of_row (c.in_ok-movement.ensures.whole clean)) content holds,
 )
   where
@@ -39,5 +39,5 @@ rows-preserved g c = (
     clean_b clean = omega (arith, clean, c.movement_with_lines.ensures.survives.clean)
 
     -- what is loaded by a copy of the row is what the row says
-    of_row : {m : Movement} → IsOfTables (λ t. with_lines t (row_of_stored stored)) b m → IsOfTables (λ t. with_lines t (row_of_stored c.row-item.result)) b m
-    of_row {m} = subst (λ (r : StoredMovement). IsOfTables (λ t. with_lines t (row_of_stored r)) b m) (ap (λ (m : Movement). record c.row-item.result { movement = m }) c.in_ok-copy.ensures)
+    of_row : {m : Movement} → IsOfTables (λ t. with_lines t (movement_row_of stored)) b m → IsOfTables (λ t. with_lines t (movement_row_of c.row-item.result)) b m
+    of_row {m} = subst (λ (r : StoredMovement). IsOfTables (λ t. with_lines t (movement_row_of r)) b m) (ap (λ (m : Movement). record c.row-item.result { movement = m }) c.in_ok-copy.ensures)

@@ -1,7 +1,7 @@
 use Rattle.std.proofs.Common.{◌∙◌, arith}
 use Rattle.sqlite.specs.Held.{state}
 use Rattle.sqlite.specs.State.{State, HasCleanDisk}
-use Rattle.td_store_rows.specs.LineTable.{row_of_stored}
+use Rattle.td_store_rows.specs.LineTable.{line_row_of}
 use Rattle.td_table_model.specs.Gathering.{line_from}
 use Rattle.td_store_load.proofs.Found.{next_of}
 use Rattle.td_store_load.proofs.Reading.{HasRead, read_then}
@@ -13,7 +13,7 @@ rows-preserved g c = (
   more,
   λ clean content holds.
       c.in_ok-push.ensures.items
-      ∙ next_of (λ t r. line_from t (row_of_stored r)) a b c.args.rows.now c.rows.row-index _ c.row-item.result c.rows.lines.items c.in_ok-line.line c.rows-test.true c.row-item.is
+      ∙ next_of (λ t r. line_from t (line_row_of r)) a b c.args.rows.now c.rows.row-index _ c.row-item.result c.rows.lines.items c.in_ok-line.line c.rows-test.true c.row-item.is
       (c.rows.invariant.1.still (clean_b clean)) (c.rows.invariant.2 (clean_b clean)) (c.in_ok-line.ensures.line clean) content holds,
 )
   where

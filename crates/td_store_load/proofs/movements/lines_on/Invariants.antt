@@ -2,7 +2,7 @@ use Rattle.std.proofs.Common.{◌≡◌, map, take}
 use Rattle.sqlite.specs.Held.{state}
 use Rattle.sqlite.specs.State.{HasCleanDisk}
 use Rattle.td_table_model.specs.Gathering.{line_from}
-use Rattle.td_store_rows.specs.LineTable.{row_of_stored}
+use Rattle.td_store_rows.specs.LineTable.{line_row_of}
 use Rattle.td_store_load.specs.Loaded.{IsOfTables}
 use Rattle.td_store_load.proofs.Reading.{HasRead}
 use Rattle.td_store_load.proofs.movements.lines_on.Given as goal
@@ -12,4 +12,4 @@ invariant-rows g l =
     (l.tx.conn.ghost_name ≡ l.initial.tx.conn.ghost_name)
     × HasRead (state g.S.Store l.initial.tx.conn.now) (state g.S.Store l.tx.conn.now)
     × (HasCleanDisk (state g.S.Store l.tx.conn.now)
-    → IsOfTables (λ t. map (λ r. line_from t (row_of_stored r)) (take l.row-index l.rows)) (state g.S.Store l.initial.tx.conn.now) l.lines.items)
+    → IsOfTables (λ t. map (λ r. line_from t (line_row_of r)) (take l.row-index l.rows)) (state g.S.Store l.initial.tx.conn.now) l.lines.items)

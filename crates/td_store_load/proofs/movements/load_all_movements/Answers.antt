@@ -1,7 +1,7 @@
 use Rattle.std.proofs.Common.{List, arith, map, subst}
 use Rattle.sqlite.specs.Held.{state}
 use Rattle.sqlite.specs.State.{State, HasCleanDisk}
-use Rattle.td_store_rows.specs.MovementTable.{row_of_stored}
+use Rattle.td_store_rows.specs.MovementTable.{movement_row_of}
 use Rattle.td_store_rows.specs.declared.movements.stored.StoredMovement.{StoredMovement}
 use Rattle.typed_sql.proofs.Leaving.{if_both, on_ok}
 use Rattle.td_table_model.specs.Gathering.{with_lines}
@@ -14,7 +14,7 @@ pub returns-clause-found : goal.returns-clause-found
 returns-clause-found g c clean =
     if_both c.all_with_lines.result
     (λ found each same. all_movements a b c.args.holder c.in_ok-rows.rows.items found.items (c.in_ok-rows.ensures.order clean_b) (c.in_ok-rows.ensures.still clean_b)
-    (subst (λ (rows : List StoredMovement). IsOfTables (λ t. map (λ r. with_lines t (row_of_stored r)) rows) b found.items) c.deref.ensures.value each))
+    (subst (λ (rows : List StoredMovement). IsOfTables (λ t. map (λ r. with_lines t (movement_row_of r)) rows) b found.items) c.deref.ensures.value each))
     (c.all_with_lines.ensures.whole clean) (c.all_with_lines.ensures.whole clean)
   where
     a : State

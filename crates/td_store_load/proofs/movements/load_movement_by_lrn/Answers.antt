@@ -1,7 +1,7 @@
 use Rattle.std.proofs.Common.{◌∙◌, None, Some, Option, ap, arith, subst, sym}
 use Rattle.sqlite.specs.Held.{state}
 use Rattle.sqlite.specs.State.{State, HasCleanDisk}
-use Rattle.td_store_rows.specs.MovementTable.{IsTheMovement, has_lrn, row_of_stored}
+use Rattle.td_store_rows.specs.MovementTable.{IsTheMovement, has_lrn, movement_row_of}
 use Rattle.td_store_rows.specs.declared.movements.stored.StoredMovement.{StoredMovement}
 use Rattle.td_table_model.specs.Gathering.{with_lines}
 use Rattle.td_store_load.proofs.Found.{by_lrn}
@@ -20,7 +20,7 @@ returns-in_default-clause-found g c clean content holds = sym (by_lrn a c.args.h
 
 pub returns-clause-found : goal.returns-clause-found
 returns-clause-found g c clean content holds =
-    ap Some (said_before (λ t. with_lines t (row_of_stored c.in-Some.stored)) a b _ (as_tables a b (c.in_ok-stored.ensures.still clean_b)) (c.in_ok-movement_with_lines.ensures.whole clean) content holds)
+    ap Some (said_before (λ t. with_lines t (movement_row_of c.in-Some.stored)) a b _ (as_tables a b (c.in_ok-stored.ensures.still clean_b)) (c.in_ok-movement_with_lines.ensures.whole clean) content holds)
     ∙ sym (by_lrn a c.args.holder content holds c.args.lrn.now (Some c.in-Some.stored) found)
   where
     a : State

@@ -1,7 +1,7 @@
 use Rattle.std.proofs.Common.{◌∙◌, None, Some, Option, ap, arith, subst, sym}
 use Rattle.sqlite.specs.Held.{state}
 use Rattle.sqlite.specs.State.{State, HasCleanDisk}
-use Rattle.td_store_rows.specs.MovementTable.{IsTheMovement, has_mrn, row_of_stored}
+use Rattle.td_store_rows.specs.MovementTable.{IsTheMovement, has_mrn, movement_row_of}
 use Rattle.td_store_rows.specs.declared.movements.stored.StoredMovement.{StoredMovement}
 use Rattle.td_table_model.specs.Gathering.{with_lines}
 use Rattle.td_table_model.specs.Looking.{movement_no}
@@ -21,7 +21,7 @@ returns-in_default-clause-found g c clean content holds at = sym (by_mrn a c.arg
 
 pub returns-clause-found : goal.returns-clause-found
 returns-clause-found g c clean content holds at =
-    ap Some (said_before (λ t. with_lines t (row_of_stored c.in-Some.stored)) a b _ (as_tables a b (c.in_ok-stored.ensures.still clean_b)) (c.in_ok-movement_with_lines.ensures.whole clean) content holds)
+    ap Some (said_before (λ t. with_lines t (movement_row_of c.in-Some.stored)) a b _ (as_tables a b (c.in_ok-stored.ensures.still clean_b)) (c.in_ok-movement_with_lines.ensures.whole clean) content holds)
     ∙ sym (by_mrn a c.args.holder content holds c.args.country c.args.mrn.now at (Some c.in-Some.stored) found)
   where
     a : State

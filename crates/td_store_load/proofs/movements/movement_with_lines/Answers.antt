@@ -1,10 +1,10 @@
 use Rattle.std.proofs.Common.{List, arith, map, subst, sym}
 use Rattle.sqlite.specs.Held.{state}
 use Rattle.sqlite.specs.State.{State, HasCleanDisk}
-use Rattle.td_store_rows.specs.LineTable.{row_of_stored as row_of_line}
+use Rattle.td_store_rows.specs.LineTable.{line_row_of as row_of_line}
 use Rattle.td_store_rows.specs.declared.lines.stored.StoredLine.{StoredLine}
 use Rattle.td_movement.specs.declared.line.Line.{Line}
-use Rattle.td_store_rows.specs.MovementTable.{row_of_stored}
+use Rattle.td_store_rows.specs.MovementTable.{movement_row_of}
 use Rattle.td_table_model.specs.Gathering.{line_from, with_lines}
 use Rattle.td_store_load.specs.Loaded.{IsOfTables}
 use Rattle.td_store_load.proofs.Found.{whole_movement}
@@ -13,7 +13,7 @@ use Rattle.td_store_load.proofs.movements.movement_with_lines.Goals as goal
 
 pub returns-clause-whole : goal.returns-clause-whole
 returns-clause-whole g c clean =
-    subst (λ (l : List Line). IsOfTables (λ t. with_lines t (row_of_stored c.args.stored)) a (record c.args.stored.movement { lines = l })) (sym c.new.ensures)
+    subst (λ (l : List Line). IsOfTables (λ t. with_lines t (movement_row_of c.args.stored)) a (record c.args.stored.movement { lines = l })) (sym c.new.ensures)
     (whole_movement a b c.args.stored c.in_ok-rows.rows.items c.in_ok-lines.lines.items (c.in_ok-rows.ensures.order clean_b) (c.in_ok-rows.ensures.still clean_b)
     (subst (λ (rows : List StoredLine). IsOfTables (λ t. map (λ r. line_from t (row_of_line r)) rows) b c.in_ok-lines.lines.items) c.deref.ensures.value (c.in_ok-lines.ensures.lines clean)))
   where

@@ -8,13 +8,13 @@ use Rattle.typed_sql.specs.Values.{number_value}
 use Rattle.td_store_rows.proofs.CodeMeanings.{all_columns, by_code, key_tests, of_guarantee_means}
 use Rattle.td_store_rows.proofs.CodeStatements.{by_codes, code_cmp, compared, key_passes}
 use Rattle.td_store_rows.specs.CodeColumns.{code_typing}
-use Rattle.td_store_rows.specs.CodeTable.{is_code_of_guarantee, row_of_stored}
+use Rattle.td_store_rows.specs.CodeTable.{is_code_of_guarantee, code_row_of}
 use Rattle.td_store_rows.specs.declared.codes.texts.TheConstants.{OF_GUARANTEE}
 use Rattle.td_store_rows.proofs.codes.finding.codes_of.Goals as goal
 
 pub returns-clause-found : goal.returns-clause-found
 returns-clause-found g c clean =
-    those_fetched code_typing desk_schema row_of_stored OF_GUARANTEE.now key_tests all_columns by_code
+    those_fetched code_typing desk_schema code_row_of OF_GUARANTEE.now key_tests all_columns by_code
     (is_code_of_guarantee c.args.holder c.args.serial) (number_value c.args.holder ∷ number_value c.args.serial ∷ [])
     _ c.serial_key.ensures of_guarantee_means (key_passes c.args.holder c.args.serial) (λ r. refl)
     (state g.S.Store c.args.tx.now.conn.now) c.fetch.result (c.fetch.ensures.found clean)
@@ -24,7 +24,7 @@ returns-clause-order g c clean =
     if_both c.fetch.result
     (λ found. by_codes c.args.holder c.args.serial (state g.S.Store c.args.tx.now.conn.now) found.items)
     (returns-clause-found g c clean)
-    (in_order_fetched code_typing desk_schema row_of_stored OF_GUARANTEE.now key_tests all_columns by_code
+    (in_order_fetched code_typing desk_schema code_row_of OF_GUARANTEE.now key_tests all_columns by_code
     (is_code_of_guarantee c.args.holder c.args.serial) (number_value c.args.holder ∷ number_value c.args.serial ∷ [])
     _ c.serial_key.ensures of_guarantee_means (key_passes c.args.holder c.args.serial) (λ r. refl)
     (state g.S.Store c.args.tx.now.conn.now) code_cmp (compared c.args.holder c.args.serial) c.fetch.result

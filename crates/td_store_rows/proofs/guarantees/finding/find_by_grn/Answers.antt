@@ -7,7 +7,7 @@ use Rattle.typed_sql.proofs.Fetched.{one_fetched}
 use Rattle.typed_sql.proofs.Leaving.{stays_ok}
 use Rattle.typed_sql.specs.Values.{number_value}
 use Rattle.td_store_rows.specs.GuaranteeColumns.{guarantee_typing}
-use Rattle.td_store_rows.specs.GuaranteeTable.{has_grn, row_of_stored}
+use Rattle.td_store_rows.specs.GuaranteeTable.{has_grn, guarantee_row_of}
 use Rattle.td_store_rows.specs.declared.guarantees.texts.TheConstants.{BY_GRN}
 use Rattle.td_store_rows.proofs.GuaranteeMeanings.{all_columns, by_grn_means, grn_tests}
 use Rattle.td_store_rows.proofs.GuaranteeStatements.{grn_passes}
@@ -15,7 +15,7 @@ use Rattle.td_store_rows.proofs.guarantees.finding.find_by_grn.Goals as goal
 
 pub returns-clause-found : goal.returns-clause-found
 returns-clause-found g c clean =
-    one_fetched guarantee_typing desk_schema row_of_stored BY_GRN.now grn_tests all_columns []
+    one_fetched guarantee_typing desk_schema guarantee_row_of BY_GRN.now grn_tests all_columns []
     (has_grn c.args.holder c.args.serial c.args.grn.now) (number_value c.args.holder ∷ number_value c.args.serial ∷ Text c.args.grn.now ∷ [])
     _ c.grn_values.ensures by_grn_means (λ r is. grn_passes r is c.args.holder c.args.serial c.args.grn.now []) (λ r. refl)
     (state g.S.Store c.args.tx.now.conn.now) c.fetch_one.result (c.fetch_one.ensures.found clean)

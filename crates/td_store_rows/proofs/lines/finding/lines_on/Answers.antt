@@ -8,13 +8,13 @@ use Rattle.typed_sql.specs.Values.{number_value}
 use Rattle.td_store_rows.proofs.LineMeanings.{all_columns, guarantee_tests, on_guarantee_means}
 use Rattle.td_store_rows.proofs.LineStatements.{guarantee_passes}
 use Rattle.td_store_rows.specs.LineColumns.{line_typing}
-use Rattle.td_store_rows.specs.LineTable.{is_line_on, row_of_stored}
+use Rattle.td_store_rows.specs.LineTable.{is_line_on, line_row_of}
 use Rattle.td_store_rows.specs.declared.lines.texts.TheConstants.{ON_GUARANTEE}
 use Rattle.td_store_rows.proofs.lines.finding.lines_on.Goals as goal
 
 pub returns-clause-found : goal.returns-clause-found
 returns-clause-found g c clean =
-    those_fetched line_typing desk_schema row_of_stored ON_GUARANTEE.now guarantee_tests all_columns []
+    those_fetched line_typing desk_schema line_row_of ON_GUARANTEE.now guarantee_tests all_columns []
     (is_line_on c.args.holder c.args.guarantee) (number_value c.args.holder ∷ number_value c.args.guarantee ∷ []) _
     c.serial_key.ensures on_guarantee_means (guarantee_passes c.args.holder c.args.guarantee) (λ r. refl)
     (state g.S.Store c.args.tx.now.conn.now) c.fetch.result (c.fetch.ensures.found clean)

@@ -9,13 +9,13 @@ use Rattle.typed_sql.specs.Values.{number_value}
 use Rattle.td_store_rows.proofs.MovementMeanings.{all_columns, by_lrn_means, lrn_tests}
 use Rattle.td_store_rows.proofs.MovementStatements.{lrn_passes}
 use Rattle.td_store_rows.specs.MovementColumns.{movement_typing}
-use Rattle.td_store_rows.specs.MovementTable.{has_lrn, row_of_stored}
+use Rattle.td_store_rows.specs.MovementTable.{has_lrn, movement_row_of}
 use Rattle.td_store_rows.specs.declared.movements.texts.TheConstants.{BY_LRN}
 use Rattle.td_store_rows.proofs.movements.finding.find_by_lrn.Goals as goal
 
 pub returns-clause-found : goal.returns-clause-found
 returns-clause-found g c clean =
-    one_fetched movement_typing desk_schema row_of_stored BY_LRN.now lrn_tests all_columns []
+    one_fetched movement_typing desk_schema movement_row_of BY_LRN.now lrn_tests all_columns []
     (has_lrn c.args.holder c.args.lrn.now) (number_value c.args.holder ∷ Text c.args.lrn.now ∷ []) _
     c.lrn_values.ensures by_lrn_means (λ r is. lrn_passes r is c.args.holder c.args.lrn.now) (λ r. refl)
     (state g.S.Store c.args.tx.now.conn.now) c.fetch_one.result (c.fetch_one.ensures.found clean)

@@ -9,13 +9,13 @@ use Rattle.typed_sql.specs.Values.{number_value}
 use Rattle.td_store_rows.proofs.MovementMeanings.{all_columns, by_mrn_means, key_tests}
 use Rattle.td_store_rows.proofs.MovementStatements.{key_passes}
 use Rattle.td_store_rows.specs.MovementColumns.{movement_typing}
-use Rattle.td_store_rows.specs.MovementTable.{has_mrn, row_of_stored}
+use Rattle.td_store_rows.specs.MovementTable.{has_mrn, movement_row_of}
 use Rattle.td_store_rows.specs.declared.movements.texts.TheConstants.{BY_MRN}
 use Rattle.td_store_rows.proofs.movements.finding.find_by_mrn.Goals as goal
 
 pub returns-clause-found : goal.returns-clause-found
 returns-clause-found g c clean =
-    one_fetched movement_typing desk_schema row_of_stored BY_MRN.now key_tests all_columns []
+    one_fetched movement_typing desk_schema movement_row_of BY_MRN.now key_tests all_columns []
     (has_mrn c.args.holder c.args.serial c.args.mrn.now) (number_value c.args.holder ∷ number_value c.args.serial ∷ Text c.args.mrn.now ∷ []) _
     c.mrn_values.ensures by_mrn_means (λ r is. key_passes r is c.args.holder c.args.serial c.args.mrn.now []) (λ r. refl)
     (state g.S.Store c.args.tx.now.conn.now) c.fetch_one.result (c.fetch_one.ensures.found clean)

@@ -9,13 +9,13 @@ use Rattle.td_store_rows.proofs.MovementMeanings.{all_columns, by_serial, holder
 use Rattle.td_store_rows.proofs.MovementStatements.{by_serials, compared, holder_passes}
 use Rattle.td_table_model.specs.Gathering.{place}
 use Rattle.td_store_rows.specs.MovementColumns.{movement_typing}
-use Rattle.td_store_rows.specs.MovementTable.{is_of, row_of_stored}
+use Rattle.td_store_rows.specs.MovementTable.{is_of, movement_row_of}
 use Rattle.td_store_rows.specs.declared.movements.texts.TheConstants.{OF_HOLDER}
 use Rattle.td_store_rows.proofs.movements.finding.movements_of.Goals as goal
 
 pub returns-clause-found : goal.returns-clause-found
 returns-clause-found g c clean =
-    those_fetched movement_typing desk_schema row_of_stored OF_HOLDER.now holder_tests all_columns by_serial
+    those_fetched movement_typing desk_schema movement_row_of OF_HOLDER.now holder_tests all_columns by_serial
     (is_of c.args.holder) (number_value c.args.holder ∷ []) _
     c.holder_key.ensures of_holder_means (λ r is. holder_passes r is c.args.holder) (λ r. refl)
     (state g.S.Store c.args.tx.now.conn.now) c.fetch.result (c.fetch.ensures.found clean)
@@ -25,7 +25,7 @@ returns-clause-order g c clean =
     if_both c.fetch.result
     (λ found. by_serials (is_of c.args.holder) (state g.S.Store c.args.tx.now.conn.now) found.items)
     (returns-clause-found g c clean)
-    (in_order_fetched movement_typing desk_schema row_of_stored OF_HOLDER.now holder_tests all_columns by_serial
+    (in_order_fetched movement_typing desk_schema movement_row_of OF_HOLDER.now holder_tests all_columns by_serial
     (is_of c.args.holder) (number_value c.args.holder ∷ []) _ c.holder_key.ensures of_holder_means
     (λ r is. holder_passes r is c.args.holder) (λ r. refl) (state g.S.Store c.args.tx.now.conn.now)
     (λ a b. nat_cmp (place a) (place b)) (compared c.args.holder (is_of c.args.holder) (λ m is. is))

@@ -1,7 +1,7 @@
 use Rattle.std.proofs.Common.{ap, refl, Err, w64}
 use Rattle.std.proofs.lemmas.Int.{to_z-of_z}
 use Rattle.td_desk.specs.declared.running.Outcome.TheVariants as outcome
-use Rattle.td_http.proofs.service.reply_to.Goals as goal
+use Rattle.td_http.proofs.service.reply_to_command.Goals as goal
 
 pub returns-in-Ok-clause-handled : goal.returns-in-Ok-clause-handled
 returns-in-Ok-clause-handled g c = λ clean.
