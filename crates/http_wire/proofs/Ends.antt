@@ -4,8 +4,7 @@ use Rattle.std.proofs.lemmas.List.{length-map, length-append}
 use Rattle.std.proofs.lemmas.List.Elements.{All-head, All-tail, All-cons, All-nil}
 use Rattle.std.specs.List.{flat_map}
 use Rattle.counted_io.specs.declared.counted.Counted.{Counted}
-use Rattle.counted_io.specs.Chains.{Wrote}
-use Rattle.counted_io.specs.Writing.{IsCutShort}
+use Rattle.counted_io.specs.Chains.{Wrote, IsCutShort}
 use Rattle.counted_io.proofs.Chaining.{wrote_on, wrote_appends}
 use Rattle.http_wire.specs.declared.reply.Reply.{Reply}
 use Rattle.http_wire.specs.declared.stream.StreamEnd.{StreamEnd}

@@ -2,8 +2,7 @@
 use Rattle.std.proofs.Common.{◌≡◌, ◌≢◌, ℕ, ◌+◌, ◌-◌, ◌<◌, Bool, true, false, List, [], ◌++◌, ◌⊎◌, Option, arith, refl, ap, inl, inr, subst, sym, ◌∙◌}
 use Rattle.std.proofs.lemmas.Bool.{cases_lt}
 use Rattle.counted_io.specs.declared.counted.Counted.{Counted}
-use Rattle.counted_io.specs.Chains.{Wrote}
-use Rattle.counted_io.specs.Writing.{IsCutShort}
+use Rattle.counted_io.specs.Chains.{Wrote, IsCutShort}
 use Rattle.counted_io.proofs.Chaining.{wrote_nothing, wrote_on, wrote_appends}
 use Rattle.http_wire.specs.declared.input.TheConstants.{MOST}
 use Rattle.http_wire.specs.declared.reading.Stop.{Stop}

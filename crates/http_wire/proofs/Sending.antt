@@ -9,8 +9,7 @@ use Rattle.std.proofs.lemmas.Grind.{flat_map-append}
 use Rattle.std.specs.Io.KnownBytes.{Appends}
 use Rattle.counted_io.specs.declared.counted.Counted.{Counted}
 use Rattle.counted_io.specs.Counted.{calls_of, known_bytes, HasMade}
-use Rattle.counted_io.specs.Chains.{TakesSome, Wrote}
-use Rattle.counted_io.specs.Writing.{IsCutShort, MadeWrites}
+use Rattle.counted_io.specs.Chains.{TakesSome, Wrote, IsCutShort, MadeWrites}
 use Rattle.counted_io.proofs.Calls.{made_none, made_more, made_on}
 use Rattle.counted_io.proofs.Chaining.{wrote_on, wrote_appends}
 use Rattle.http_wire.specs.declared.reading.Stop.{Stop}

@@ -1,8 +1,7 @@
 -- What is written where no further request is taken.
 use Rattle.std.specs.Prelude.{◌≡◌, ◌⊎◌, ℕ, true, false, if◌then◌else◌, List, Option}
 use Rattle.counted_io.specs.declared.counted.Counted.{Counted}
-use Rattle.counted_io.specs.Chains.{Wrote}
-use Rattle.counted_io.specs.Writing.{IsCutShort, MadeWrites}
+use Rattle.counted_io.specs.Chains.{Wrote, IsCutShort, MadeWrites}
 use Rattle.http_wire.specs.declared.reading.Stop.{Stop}
 use Rattle.http_wire.specs.declared.reading.Stop.TheVariants as stop
 use Rattle.http_wire.specs.declared.reply.Reply.{Reply}

@@ -1,8 +1,7 @@
 -- The replies that wait, what a further one does, and what the next request asks of them.
 use Rattle.std.specs.Prelude.{◌≡◌, ◌⊎◌, ℕ, ◌<◌, ◌≤◌, true, List, [], ◌++◌, length, Option, vec_capacity}
 use Rattle.counted_io.specs.declared.counted.Counted.{Counted}
-use Rattle.counted_io.specs.Chains.{Wrote}
-use Rattle.counted_io.specs.Writing.{IsCutShort}
+use Rattle.counted_io.specs.Chains.{Wrote, IsCutShort}
 use Rattle.http_wire.specs.declared.reading.Stop.{Stop}
 use Rattle.http_wire.specs.declared.reading.Stop.TheVariants.{Closed, Cut, ReadsSpent, ReadFault, NoMemory, Refused, Head, WriteFault}
 use Rattle.http_wire.specs.declared.replies.Replies.{Replies}

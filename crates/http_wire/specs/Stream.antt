@@ -4,8 +4,7 @@ use Rattle.std.specs.List.{concat, flat_map}
 use Rattle.std.specs.Io.KnownBytes.{Consumes, Appends, IsAtEnd}
 use Rattle.counted_io.specs.declared.counted.Counted.{Counted}
 use Rattle.counted_io.specs.Counted.{calls_of, has_failed, known_bytes, HasMade}
-use Rattle.counted_io.specs.Chains.{Wrote}
-use Rattle.counted_io.specs.Writing.{MadeWrites}
+use Rattle.counted_io.specs.Chains.{Wrote, MadeWrites}
 use Rattle.http_wire.specs.declared.framing.FramingError.{FramingError}
 use Rattle.http_wire.specs.declared.reply.Reply.{Reply}
 use Rattle.http_wire.specs.declared.stream.StreamEnd.{StreamEnd}

@@ -17,7 +17,7 @@ pub struct Replies {
 
 impl Replies {
     ghost use Rattle.counted_io.specs.Chains.{Wrote};
-    ghost use Rattle.counted_io.specs.Writing.{IsCutShort};
+    ghost use Rattle.counted_io.specs.Chains.{IsCutShort};
     ghost use Rattle.http_wire.specs.declared.replies.TheConstants.{ROOM};
     ghost use Rattle.http_wire.specs.Replies.{waiting, room_of, Adds};
 

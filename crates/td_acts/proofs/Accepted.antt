@@ -6,8 +6,7 @@ use Rattle.std.specs.Option.{is_some}
 use Rattle.std.specs.List.{AllByRecursion}
 use Rattle.std.proofs.lemmas.List.{length-map}
 use Rattle.td_base.specs.Codes.{IsAccessCode}
-use Rattle.td_base.specs.Days.{IsDay, day_of_moment}
-use Rattle.td_base.specs.Moment.{IsMoment}
+use Rattle.td_base.specs.Days.{IsDay, day_of_moment, IsMoment}
 use Rattle.td_movement.specs.declared.line.Line.{Line}
 use Rattle.td_movement.specs.declared.state.State.TheVariants.{Accepted}
 use Rattle.td_model.specs.declared.holder_row.HolderRow.{HolderRow}
@@ -21,15 +20,15 @@ use Rattle.td_commands.specs.declared.said.Refusal.TheVariants.{ClockBack, Seria
 use Rattle.td_commands.specs.declared.said.Said.{Said}
 use Rattle.td_commands.specs.declared.said.Said.TheVariants.{Answered, Refused}
 use Rattle.td_movement.specs.declared.moves.Move.{Move}
-use Rattle.td_movement.specs.Moves.{state_after}
+use Rattle.td_movement.specs.States.{state_after}
 use Rattle.td_acts.specs.declared.rows.NewStatus.{NewStatus}
 use Rattle.td_movement.specs.declared.state.State.{State}
 use Rattle.td_movement.specs.Status.{IsStatus}
 use Rattle.td_model.specs.Account.{Account, ReferencesDiffer, coded, uncoded, guarantee_by_grn, movement_by_lrn, movement_by_mrn}
 use Rattle.td_acts.specs.Changes.{with_status, with_terms, moved}
-use Rattle.td_model.specs.Acceptance.{is_answer}
+use Rattle.td_model.specs.Machine.{is_answer}
 use Rattle.td_model.specs.Declaring.{first_refusal, line_refusal, guarantee_refusal, refusal_or}
-use Rattle.td_commands.specs.Lines.{line_of, IsLines, IsLineAmount}
+use Rattle.td_commands.specs.Commands.{line_of, IsLines, IsLineAmount}
 use Rattle.td_model.specs.Table.{or_refuse, refuse_if, is_back, if_lrn_new, if_not_refused, on_guarantee, on_movement, stands}
 use Rattle.td_guarantee.specs.Codes.{with_code, without_code, most_codes}
 use Rattle.td_guarantee.proofs.Ascending.{one_ascends}

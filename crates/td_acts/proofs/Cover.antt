@@ -5,8 +5,7 @@ use Rattle.std.specs.List.{AllByRecursion}
 use Rattle.std.specs.Str.{bytes_eq}
 use Rattle.std.proofs.lemmas.List.Sums.{sum_by-cons, sum_by_push}
 use Rattle.std.proofs.lemmas.Slice.Eq.{bytes_eq-Decides}
-use Rattle.td_base.specs.Country.{IsCountry}
-use Rattle.td_base.specs.Holder.{IsHolderNumber}
+use Rattle.td_base.specs.Codes.{IsCountry, IsHolderNumber}
 use Rattle.td_base.specs.References.{grn_text, greatest_grn_serial}
 use Rattle.td_base.proofs.MadeReferences.{made_apart}
 use Rattle.td_movement.specs.declared.line.Line.{Line}

@@ -5,8 +5,7 @@ use Rattle.std.proofs.lemmas.Bool.{false≢true}
 use Rattle.std.proofs.lemmas.Bool.Decides.{nat_tests}
 use Rattle.std.proofs.lemmas.List.{append-nil}
 use Rattle.std.proofs.Math.Nat.{add-zero}
-use Rattle.td_base.specs.Days.{day_of_moment}
-use Rattle.td_base.specs.Moment.{IsMoment}
+use Rattle.td_base.specs.Days.{day_of_moment, IsMoment}
 use Rattle.td_base.specs.References.{grn_text, mrn_text}
 use Rattle.td_guarantee.specs.declared.guarantee.Guarantee.{Guarantee}
 use Rattle.td_movement.specs.declared.movement.Movement.{Movement}
@@ -23,16 +22,14 @@ use Rattle.td_movement.specs.declared.state.State.TheVariants.{Cancelled, Releas
 use Rattle.td_guarantee.specs.Usage.{used_on}
 use Rattle.td_commands.specs.declared.said.Refusal.TheVariants.{NoHolder, NoMovement, NoGuarantee, BelowUse, CodeKnown, CodesFull, NoCode, LastCode, LimitDate}
 use Rattle.td_model.specs.Account.{Account, entry_in, guarantee_by_grn, movement_by_lrn, movement_by_mrn}
-use Rattle.td_model.specs.Acceptance.{is_accepted_at}
+use Rattle.td_model.specs.Machine.{is_accepted_at}
 use Rattle.td_model.specs.Book.{eori_after, account_made}
 use Rattle.td_model.specs.Effects.{year2_at, openings, declarations, opened_by, declared_by, guarantee_said, movement_said, judged}
-use Rattle.td_commands.specs.Commands.{owner_of, IsProper}
-use Rattle.td_model.specs.Declaring.{first_refusal, has_contents}
+use Rattle.td_commands.specs.Commands.{owner_of, IsProper, line_of}
+use Rattle.td_model.specs.Declaring.{first_refusal, has_contents, first_uncovered}
 use Rattle.td_acts.specs.Changes.{account_after, is_change, with_status}
 use Rattle.td_acts.specs.Deciding.{change_of, new_state}
-use Rattle.td_commands.specs.Lines.{line_of}
 use Rattle.td_acts.proofs.Accepted.{IsFor, opened_facts, lodged_facts, day_is, one_code, lines_kept, named_if_fine, moved_facts, named_facts, passed, lines_passed, end_is, codes_with, codes_without}
-use Rattle.td_model.specs.Releasing.{first_uncovered}
 use Rattle.td_model.specs.Table.{stands}
 use Rattle.td_acts.proofs.Covering.{covered_when_released}
 use Rattle.td_acts.proofs.EachMove.{cancelled_from, released_from, arrived_from, judged_from, written_off_from, enquired_from}

@@ -5,8 +5,8 @@ use Rattle.std.specs.List.{AllByRecursion}
 use Rattle.std.specs.Str.{bytes_eq}
 use Rattle.std.proofs.lemmas.List.{length-append, length-map}
 use Rattle.std.proofs.lemmas.Slice.Eq.{bytes_eq-Decides}
-use Rattle.td_base.specs.Country.{IsCountry}
-use Rattle.td_base.specs.Moment.{IsMoment, moment_of}
+use Rattle.td_base.specs.Codes.{IsCountry}
+use Rattle.td_base.specs.Days.{IsMoment, moment_of}
 use Rattle.td_movement.specs.declared.state.State.TheVariants.{Accepted}
 use Rattle.td_movement.specs.declared.line.Line.{Line}
 use Rattle.td_model.specs.declared.holder_row.HolderRow.{HolderRow}

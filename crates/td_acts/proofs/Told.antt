@@ -21,7 +21,7 @@ use Rattle.td_guarantee.specs.Usage.{used_on}
 use Rattle.td_model.specs.Account.{Account, entry_in, guarantee_by_grn, movement_by_mrn}
 use Rattle.td_acts.specs.declared.rows.Loaded.{Loaded}
 use Rattle.td_commands.specs.Commands.{is_changing, Need, nothing, lodging, movement, release, all_movements, guarantee, all_guarantees}
-use Rattle.td_model.specs.Acceptance.{is_answer, has_known_lrn}
+use Rattle.td_model.specs.Machine.{is_answer, has_known_lrn}
 use Rattle.td_acts.specs.Deciding.{IsLoaded, IsLookedUp, change_of, decision_at, if_row, touched}
 use Rattle.td_model.specs.Table.{said_at, on_guarantee, on_movement, or_refuse}
 

@@ -3,8 +3,7 @@ use Rattle.std.specs.Prelude.{◌≡◌, ℕ, ℤ, ◌+◌, List, map, find, Opt
 use Rattle.std.specs.List.{AllByRecursion}
 use Rattle.std.specs.Option.{option_map}
 use Rattle.std.specs.Str.{bytes_eq}
-use Rattle.td_base.specs.Days.{day_of_moment}
-use Rattle.td_base.specs.Moment.{moment_of}
+use Rattle.td_base.specs.Days.{day_of_moment, moment_of}
 use Rattle.td_base.specs.References.{grn_text, mrn_text}
 use Rattle.td_guarantee.specs.declared.guarantee.Guarantee.{Guarantee}
 use Rattle.td_guarantee.specs.Usage.{used_on}
@@ -20,12 +19,10 @@ use Rattle.td_acts.specs.declared.rows.Verdict.{Verdict}
 use Rattle.td_commands.specs.declared.command.Command.{Command}
 use Rattle.td_commands.specs.declared.command.Command.TheVariants.{Register, OpenGuarantee, Amend, Revoke, Ie015, Ie014, AddCode, RemoveCode, Ie029, Ie007, Ie018, Ie045, Ie140}
 use Rattle.td_model.specs.Account.{Account, entry_in, guarantee_by_grn, movement_by_mrn, movement_by_lrn}
-use Rattle.td_commands.specs.Commands.{Need, nothing, lodging, movement, release, all_movements, guarantee, all_guarantees, need_of}
-use Rattle.td_model.specs.Effects.{year2_at, end_after, judged}
-use Rattle.td_commands.specs.Lines.{line_of}
-use Rattle.td_model.specs.NewRows.{new_holder_row, new_guarantee, new_movement}
+use Rattle.td_commands.specs.Commands.{Need, nothing, lodging, movement, release, all_movements, guarantee, all_guarantees, need_of, line_of}
+use Rattle.td_model.specs.Effects.{year2_at, end_after, judged, new_holder_row, new_guarantee, new_movement}
 use Rattle.td_model.specs.Table.{said, said_at}
-use Rattle.td_model.specs.Acceptance.{is_accepted_at}
+use Rattle.td_model.specs.Machine.{is_accepted_at}
 
 -- a guarantee that was loaded, and the amount in use on it where the command asks for that
 abbrev pub entry_by_grn : List ℕ → List (Guarantee × ℕ) → Option (Guarantee × ℕ)

@@ -2,7 +2,7 @@
 ghost use Rattle.std.specs.Prelude.{◌≡◌, Some, IfOk, map, option_map};
 ghost use Rattle.td_model.specs.Account.{guarantee_by_grn};
 ghost use Rattle.td_base.specs.Days.{day_of_moment};
-ghost use Rattle.td_model.specs.NewRows.{new_movement};
+ghost use Rattle.td_model.specs.Effects.{new_movement};
 ghost use Rattle.td_model.specs.Table.{if_lrn_new};
 ghost use Rattle.td_model.specs.Declaring.{has_contents, guarantee_refusal, first_refusal};
 ghost use Rattle.td_acts.specs.Deciding.{IsVerdictAt};

@@ -1,7 +1,7 @@
 //! What moves a movement from state to state.
 ghost use Rattle.std.specs.Prelude.{◌≡◌, Some, IfOk, MatchResult};
 ghost use Rattle.td_movement.specs.declared.movement.Movement.{Movement};
-ghost use Rattle.td_movement.specs.Moves.{state_after};
+ghost use Rattle.td_movement.specs.States.{state_after};
 ghost use Rattle.td_commands.specs.declared.said.Said.{Said};
 ghost use Rattle.td_commands.specs.declared.said.Said.TheVariants.{Refused};
 ghost use Rattle.td_model.specs.Account.{movement_by_mrn};

@@ -6,7 +6,7 @@ use Rattle.std.specs.Prelude.{codes, flat_map}
 use Rattle.serde_json.specs.Data.{Data}
 use Rattle.serde_json.specs.View.{items_of}
 use Rattle.serde_json.specs.Written.{compact_text, items_text}
-use Rattle.td_answers.specs.Shown.{array_of}
+use Rattle.td_answers.specs.Objects.{array_of}
 use Rattle.td_answers.specs.Unescaped.{in_brackets}
 
 -- an element that isn't the first

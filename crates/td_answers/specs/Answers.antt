@@ -4,7 +4,7 @@ use Rattle.std.specs.Prelude.{ℕ, Bool, true, List, ◌++◌, codes, decimal, N
 use Rattle.serde_json.specs.Data.{Data, boolean, number, unsigned, string, object, member, no_members}
 use Rattle.serde_json.specs.Written.{compact_text}
 use Rattle.td_base.specs.Days.{day_text}
-use Rattle.td_base.specs.Holder.{holder_text}
+use Rattle.td_base.specs.Codes.{holder_text}
 use Rattle.td_movement.specs.States.{state_name}
 use Rattle.td_movement.specs.declared.state.State.TheVariants.{Cancelled, Released, Enquired, WrittenOff}
 use Rattle.td_commands.specs.declared.said.Answer.{Answer}

@@ -1,5 +1,4 @@
+pub mod Unescaped
 pub mod Objects
 pub mod Refusals
 pub mod Answers
-pub mod Shown
-pub mod Unescaped

@@ -7,7 +7,7 @@ ghost use Rattle.std.specs.List.{list_all};
 ghost use Rattle.serde_json.specs.Written.{compact_text};
 ghost use Rattle.td_answers.specs.Unescaped.{is_unescaped};
 ghost use Rattle.td_base.specs.Days.{day_text};
-ghost use Rattle.td_base.specs.Holder.{holder_text};
+ghost use Rattle.td_base.specs.Codes.{holder_text};
 ghost use Rattle.td_movement.specs.States.{state_name};
 ghost use Rattle.td_commands.specs.declared.said.Said.TheVariants.{Answered};
 ghost use Rattle.td_answers.specs.Answers.{answer_body, answer_data, fault_body, fault_data, fault_reply, fault_status, fault_text, holder_data, release_data, said_body, said_data, said_reply, said_status, state_data, stops_after};

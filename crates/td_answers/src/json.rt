@@ -3,9 +3,9 @@ ghost use Rattle.std.specs.Fmt.{WritesOnOk};
 ghost use Rattle.std.specs.Prelude.{Some};
 ghost use Rattle.serde_json.specs.Data.{Data, boolean, number, string, unsigned};
 ghost use Rattle.serde_json.specs.Written.{compact_text};
-ghost use Rattle.td_answers.specs.Shown.{array_of, or_null};
+ghost use Rattle.td_answers.specs.Objects.{array_of, or_null};
 ghost use Rattle.td_base.specs.Days.{day_text};
-ghost use Rattle.td_base.specs.Holder.{holder_text};
+ghost use Rattle.td_base.specs.Codes.{holder_text};
 ghost use Rattle.td_movement.specs.States.{state_name};
 
 use std::fmt;

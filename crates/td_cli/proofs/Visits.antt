@@ -13,8 +13,7 @@ use Rattle.http_wire.specs.Request.{Asked}
 use Rattle.td_http.specs.declared.service.Service.{Service}
 use Rattle.td_http.specs.Served.{desk_of, IsHandledBy, IsHeadHandledBy}
 use Rattle.td_http.specs.Private.{IsPrivateOver}
-use Rattle.td_http.specs.Sockets.{ServesSockets}
-use Rattle.td_http.specs.Visits.{Between, Visit, Visited, IsRefused}
+use Rattle.td_http.specs.Visits.{ServesSockets, Between, Visit, Visited, IsRefused}
 use Rattle.td_http.proofs.Private.{visits_clean}
 use Rattle.td_cli.specs.Desks.{Sight, IsReady, IsHandledAt, IsHeadHandledAt, fresh_books}
 use Rattle.td_cli.specs.Listening.{HasServed, ServesAs, listening_line}

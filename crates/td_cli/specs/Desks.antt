@@ -2,8 +2,7 @@
 use Rattle.std.specs.Prelude.{◌≡◌, ℕ, ℤ, Bool, true, false, List, IsTrue}
 use Rattle.sqlite_wal.specs.Recovery.{Image}
 use Rattle.td_model.specs.Book.{Book}
-use Rattle.td_desk.specs.Content.{Content, account_in, empty_content, fresh}
-use Rattle.td_desk.specs.Sound.{IsSound}
+use Rattle.td_desk.specs.Content.{Content, account_in, empty_content, fresh, IsSound}
 use Rattle.td_files.specs.Found.{content_in, FileState, IsClean, IsKeptDesk, IsMadeDesk}
 use Rattle.http_wire.specs.declared.reply.Reply.{Reply}
 use Rattle.http_wire.specs.Request.{Asked}

@@ -1,6 +1,6 @@
 -- What the rows of a decision do to the content.
 use Rattle.std.proofs.Common.{◌≡◌, ◌≢◌, ℕ, Option, Some, None, refl, sym, ◌∙◌, ap, subst, arith}
-use Rattle.td_base.specs.Moment.{moment_of}
+use Rattle.td_base.specs.Days.{moment_of}
 use Rattle.td_model.specs.declared.holder_row.HolderRow.{HolderRow}
 use Rattle.td_acts.specs.declared.rows.Change.{Change}
 use Rattle.td_acts.specs.declared.rows.Change.TheVariants as change
@@ -17,9 +17,8 @@ use Rattle.td_acts.proofs.AcceptedRows.{nobody_writes}
 use Rattle.td_acts.proofs.Following.{follows_on, row_after, nothing_without_row}
 use Rattle.td_acts.proofs.Growing.{account_said_after}
 use Rattle.td_holder_memory.specs.Key.{holder_key}
-use Rattle.td_desk.specs.Content.{Content, account_in, rows_of, fresh, content_after, content_after_row}
+use Rattle.td_desk.specs.Content.{Content, account_in, rows_of, fresh, content_after, content_after_row, IsSound}
 use Rattle.keyed_rows.specs.Rows.{put_row}
-use Rattle.td_desk.specs.Sound.{IsSound}
 use Rattle.td_desk.specs.Weighing.{account_for, owner_account, Carries}
 use Rattle.td_desk.proofs.Differing.{references_differ}
 use Rattle.td_desk.proofs.Fresh.{account_fresh}

@@ -11,8 +11,7 @@ use Rattle.td_model.specs.Machine.{machine_says, machine_book, IsGrown}
 use Rattle.td_desk.specs.declared.fault.Fault.{Fault}
 use Rattle.td_desk.specs.declared.running.Outcome.{Outcome}
 use Rattle.td_desk.specs.declared.running.Outcome.TheVariants as outcome
-use Rattle.td_desk.specs.Content.{Content, account_in}
-use Rattle.td_desk.specs.Sound.{IsSound}
+use Rattle.td_desk.specs.Content.{Content, account_in, IsSound}
 use Rattle.td_desk.specs.Weighing.{owner_account, Carries}
 
 abbrev pub is_holder : ℕ → Option ℕ → Bool

@@ -1,8 +1,7 @@
 //! Runs of commands.
 ghost use Rattle.std.specs.Prelude.{◌≡◌, ◌≢◌, ℕ, All, IfOk, OnErr};
 ghost use Rattle.td_model.specs.Book.{Book};
-ghost use Rattle.td_desk.specs.Content.{Content};
-ghost use Rattle.td_desk.specs.Sound.{IsSound};
+ghost use Rattle.td_desk.specs.Content.{Content, IsSound};
 ghost use Rattle.td_desk.specs.Runs.{IsOutcomeOf, AreOutcomesOf, IsStep, IsTied, IsRun};
 
 use crate::desk::Desk;

@@ -4,8 +4,7 @@ ghost use Rattle.std.specs.Result.{result_err};
 ghost use Rattle.td_desk.specs.declared.fault.Fault.{Fault};
 ghost use Rattle.td_acts.specs.Deciding.{IsLoaded};
 ghost use Rattle.td_commands.specs.Commands.{need_said};
-ghost use Rattle.td_desk.specs.Content.{Content, content_after};
-ghost use Rattle.td_desk.specs.Sound.{IsSound};
+ghost use Rattle.td_desk.specs.Content.{Content, content_after, IsSound};
 ghost use Rattle.td_acts.specs.declared.rows.Verdict.{Verdict};
 ghost use Rattle.td_desk.specs.Weighing.{kept_for, IsDecision};
 

@@ -4,7 +4,7 @@ use Rattle.std.proofs.lemmas.List.{drop_more}
 use Rattle.serde_json.specs.View.{view, items_view}
 use Rattle.serde_json.specs.declared.value.Value.{Value}
 use Rattle.td_movement.specs.declared.line.Line.{Line}
-use Rattle.td_fields.specs.BodyLines.{line_in, lines_of_body}
+use Rattle.td_fields.specs.BodyFields.{line_in, lines_of_body}
 
 -- the lines of the objects from a place on, behind those that were read
 abbrev pub read_from : List (Line × List ℕ) → List Value → ℕ → Option (List (Line × List ℕ))

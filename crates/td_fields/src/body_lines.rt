@@ -3,8 +3,7 @@ ghost use Rattle.std.specs.Prelude.{◌≡◌, IfOk, codes, option_and_then, opt
 ghost use Rattle.serde_json.specs.View.{items_view, view};
 ghost use Rattle.std.specs.Result.{result_ok};
 ghost use Rattle.td_base.specs.References.{grn_read};
-ghost use Rattle.td_fields.specs.BodyFields.{text_at};
-ghost use Rattle.td_fields.specs.BodyLines.{line_in, lines_at, lines_of_body};
+ghost use Rattle.td_fields.specs.BodyFields.{text_at, line_in, lines_at, lines_of_body};
 ghost use Rattle.td_fields.specs.Faults.{field_name};
 ghost use Rattle.td_fields.specs.declared.fault.Field.TheVariants as field;
 

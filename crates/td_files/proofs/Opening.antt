@@ -19,7 +19,7 @@ use Rattle.td_store.specs.declared.refused.OpenFault.TheVariants.{UnknownVersion
 use Rattle.td_files.specs.declared.desks.DeskFault.{DeskFault}
 use Rattle.td_files.specs.declared.desks.DeskFault.TheVariants.{Refused}
 use Rattle.td_files.specs.Found.{FileState, IsClean, IsFoundIn, IsKeptDesk, IsRefusedFor, IsToldOf, IsUnmade, shown}
-use Rattle.td_store_rows.specs.MetaColumns.{newest_version}
+use Rattle.td_store_rows.specs.Columns.{newest_version}
 
 -- no fault is forgotten
 pub clean_before : (old new : State) (P : Trees → Type 0) → Survives old new P → HasCleanDisk new → HasCleanDisk old

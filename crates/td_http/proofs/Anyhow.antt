@@ -4,8 +4,7 @@ use Rattle.std.specs.Prelude.{MatchResult}
 use Rattle.std.specs.declared.io.Error.{Error}
 use Rattle.http_wire.specs.declared.reply.Reply.{Reply}
 use Rattle.http_wire.specs.Request.{Asked}
-use Rattle.td_http.specs.Visits.{Between, Visit, Visited, IsRefused}
-use Rattle.td_http.specs.Sockets.{beside}
+use Rattle.td_http.specs.Visits.{Between, Visit, Visited, IsRefused, beside}
 
 -- the clock and the handler alone
 abbrev without_source : {L C H : Type 0} → Between L C H → Between (Unit {0}) C H

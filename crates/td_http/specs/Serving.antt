@@ -12,8 +12,7 @@ use Rattle.td_desk.specs.declared.fault.Fault.{Fault}
 use Rattle.td_desk.specs.declared.fault.Fault.TheVariants as fault
 use Rattle.td_desk.specs.declared.running.Outcome.{Outcome}
 use Rattle.td_desk.specs.declared.running.Outcome.TheVariants as outcome
-use Rattle.td_desk.specs.Content.{Content}
-use Rattle.td_desk.specs.Sound.{IsSound}
+use Rattle.td_desk.specs.Content.{Content, IsSound}
 use Rattle.td_desk.specs.Runs.{IsOutcomeOf, IsStep, IsTied, is_holder}
 use Rattle.td_fields.specs.declared.fault.WebFault.{WebFault}
 use Rattle.http_wire.specs.declared.reply.Reply.{Reply}

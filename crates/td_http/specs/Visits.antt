@@ -1,5 +1,6 @@
 -- Connections that are served one after another.
-use Rattle.std.specs.Prelude.{◌≡◌, ℕ, ◌<◌, ℤ, false, List, length, Option, Result, MatchResult}
+-- Connections of a listening socket.
+use Rattle.std.specs.Prelude.{◌≡◌, ℕ, ◌<◌, ℤ, false, List, length, Option, Result, MatchResult, None}
 use Rattle.std.specs.List.{FoldsTo}
 use Rattle.std.specs.declared.io.Error.{Error}
 use Rattle.counted_io.specs.declared.counted.Counted.{Counted}
@@ -8,6 +9,7 @@ use Rattle.http_wire.specs.declared.reply.Reply.{Reply}
 use Rattle.http_wire.specs.declared.stream.StreamEnd.{StreamEnd}
 use Rattle.http_wire.specs.Request.{Asked}
 use Rattle.http_wire.specs.Stream.{Exchange, Serves}
+use Rattle.std.specs.declared.net.tcp.TcpStream.{TcpStream}
 
 -- what a connection that was served left: its two sides as they came and as they were handed back, how its
 -- stream ended, and its requests with their replies
@@ -87,3 +89,17 @@ pub record ServesConnections {R W C H L : Type 0}
   pub ended : MatchResult answer
       (λ _. (length visits ≡ count) × (new ≡ last))
       (λ why. (length visits < count) × IsRefused refuses last why new)
+
+-- the clock and the handler alone: of a listening socket nothing is known
+abbrev pub beside : {C H : Type 0} → C → H → Between (Unit {0}) C H
+beside clock handler = record { source = tt; clock = clock; handler = handler }
+
+-- So many connections of a listening socket were served, one after another, by this clock and this handler.
+-- The bytes of each are some bytes: no contract can say what came over a network, what becomes of what is
+-- sent, or when an accept fails.
+abbrev pub ServesSockets : {C H : Type 0} → (C → ℤ → C → Type 0) → (H → ℤ → Asked → Reply → H → Type 0)
+    → (H → List ℕ → Reply → H → Type 0) → C → H → C → H → ℕ → Result Unit Error → Type 0
+ServesSockets ticks handles heads clock handler clock_left handler_left count answer =
+    ServesConnections {R = TcpStream} {W = TcpStream} {L = Unit {0}} (λ _. None) (λ _. None)
+    (λ _ _ _ _. Unit {0}) (λ _ _ _ _. Unit {0}) (λ _ _ _. Unit {0}) ticks handles heads
+    (beside clock handler) (beside clock_left handler_left) count answer

@@ -1,6 +1,6 @@
 //! Connections that come to a listening socket.
 ghost use Rattle.std.specs.Prelude.{map};
-ghost use Rattle.td_http.specs.Sockets.{ServesSockets};
+ghost use Rattle.td_http.specs.Visits.{ServesSockets};
 ghost use Rattle.td_http.specs.Private.{IsPrivateOver};
 ghost use Rattle.td_http.specs.Served.{IsHandledBy, IsHeadHandledBy};
 

@@ -1,18 +1,55 @@
+-- Rows as they begin: of a new holder, a new guarantee and a new movement.
 -- What each accepted command says in its owner's book.
-use Rattle.std.specs.Prelude.{ℕ, ◌+◌, ◌%◌, List, [], ◌∷◌, map, Option, Some, None}
+use Rattle.std.specs.Prelude.{ℕ, List, [], ◌∷◌, None, ◌+◌, ◌%◌, map, Option, Some}
+use Rattle.td_guarantee.specs.declared.guarantee.Guarantee.{Guarantee}
+use Rattle.td_movement.specs.declared.line.Line.{Line}
+use Rattle.td_movement.specs.declared.movement.Movement.{Movement}
+use Rattle.td_movement.specs.declared.state.State.TheVariants.{Accepted, Cancelled, Released, Enquired, Arrived, Discrepant, Cleared, WrittenOff}
+use Rattle.td_model.specs.declared.holder_row.HolderRow.{HolderRow}
 use Rattle.td_base.specs.Days.{day_of_moment, year_of}
 use Rattle.td_base.specs.References.{grn_text, mrn_text}
-use Rattle.td_guarantee.specs.declared.guarantee.Guarantee.{Guarantee}
-use Rattle.td_movement.specs.declared.movement.Movement.{Movement}
 use Rattle.td_movement.specs.declared.state.State.{State}
-use Rattle.td_movement.specs.declared.state.State.TheVariants.{Cancelled, Released, Enquired, Arrived, Discrepant, Cleared, WrittenOff}
 use Rattle.td_movement.specs.declared.state.Control.{Control}
 use Rattle.td_movement.specs.declared.state.Control.TheVariants.{A1, A2, B1}
 use Rattle.td_commands.specs.declared.command.Command.{Command}
 use Rattle.td_commands.specs.declared.command.Command.TheVariants.{Register, OpenGuarantee, Amend, Revoke, Ie015, Ie014, AddCode, RemoveCode, Ie029, Ie007, Ie018, Ie045, Ie140}
 use Rattle.td_model.specs.Account.{at_grn, at_mrn, coded, uncoded}
-use Rattle.td_commands.specs.Lines.{line_of}
-use Rattle.td_model.specs.NewRows.{new_guarantee, new_movement}
+use Rattle.td_commands.specs.Commands.{line_of}
+
+-- a holder who is registered at a moment has no guarantees and no movements
+abbrev pub new_holder_row : ℕ → List ℕ → ℕ → HolderRow
+new_holder_row holder eori at = record {
+  holder = holder;
+  eori = eori;
+  last_at = at;
+  grn_count = 0;
+  mrn_count = 0;
+}
+
+-- a guarantee that is opened has one access code and no end
+abbrev pub new_guarantee : List ℕ → ℕ → ℕ → List ℕ → Guarantee
+new_guarantee grn reference cover code = record {
+  grn = grn;
+  reference = reference;
+  cover = cover;
+  ends = None;
+  codes = code ∷ [];
+}
+
+-- a movement that is declared on a day is accepted, and has no limit, no arrival and no actual office
+abbrev pub new_movement : List ℕ → List ℕ → List ℕ → List ℕ → ℕ → List Line → Movement
+new_movement mrn lrn departure destination accepted lines = record {
+  mrn = mrn;
+  lrn = lrn;
+  departure = departure;
+  destination = destination;
+  accepted = accepted;
+  state = Accepted;
+  limit = None;
+  arrival = None;
+  actual = None;
+  lines = lines;
+}
 
 -- the EORI under which the command registers the holder
 abbrev pub eori_given : Command → Option (List ℕ)

@@ -1,11 +1,8 @@
 pub mod Account
 pub mod Serials
-pub mod NewRows
 pub mod Effects
 pub mod Book
 pub mod Declaring
-pub mod Releasing
 pub mod Table
-pub mod Acceptance
 pub mod Machine
 pub mod Sound

@@ -1,14 +1,42 @@
+-- Which commands are accepted changes.
 -- A holder's own machine: the verdicts on a list of commands, one after the other, each over the holder's
 -- book so far. Nothing of any other holder takes part.
-use Rattle.std.specs.Prelude.{◌≡◌, ℕ, ℤ, true, List, [], ◌∷◌, ◌++◌, Option, Some, None, if◌then◌else◌}
-use Rattle.td_base.specs.Moment.{moment_of}
+use Rattle.std.specs.Prelude.{ℕ, ℤ, Option, Some, None, Bool, true, false, ◌&&◌, not, ◌≡◌, List, [], ◌∷◌, ◌++◌, if◌then◌else◌}
+use Rattle.std.specs.Option.{is_some}
+use Rattle.td_base.specs.Days.{moment_of}
 use Rattle.td_commands.specs.declared.command.Command.{Command}
-use Rattle.td_commands.specs.declared.command.Stamped.{Stamped}
+use Rattle.td_commands.specs.declared.command.Command.TheVariants.{Ie015}
 use Rattle.td_commands.specs.declared.said.Said.{Said}
+use Rattle.td_commands.specs.declared.said.Said.TheVariants.{Answered, Refused}
+use Rattle.td_model.specs.Account.{Account, movement_by_lrn}
+use Rattle.td_commands.specs.Commands.{is_changing, owner_of}
+use Rattle.td_model.specs.Table.{said_at, said}
+use Rattle.td_commands.specs.declared.command.Stamped.{Stamped}
 use Rattle.td_model.specs.Book.{Act, Book, account_of, fresh_book}
-use Rattle.td_commands.specs.Commands.{owner_of}
-use Rattle.td_model.specs.Table.{said}
-use Rattle.td_model.specs.Acceptance.{is_accepted_at}
+
+abbrev pub is_answer : Said → Bool
+is_answer (Answered answer) = true
+is_answer (Refused refusal) = false
+
+-- A declaration under an LRN that the holder has used already. Where it is answered it is a repeat.
+abbrev pub has_known_lrn : Account → Command → Bool
+has_known_lrn account (Ie015 holder lrn departure destination lines) =
+    is_some (movement_by_lrn lrn account.movements)
+has_known_lrn account command = false
+
+-- an answered command that is neither a view nor a repeat; refusals, views and repeats are no changes
+abbrev pub is_accepted_at : Account → ℕ → Command → Bool
+is_accepted_at account t command =
+    is_changing command && is_answer (said_at account t command) && not (has_known_lrn account command)
+
+-- at no moment nothing is accepted
+abbrev pub is_accepted_in : Option ℕ → Account → Command → Bool
+is_accepted_in None account command = false
+is_accepted_in (Some t) account command = is_accepted_at account t command
+
+-- the command is an accepted change at that number of seconds since 1970
+abbrev pub is_accepted : Account → ℤ → Command → Bool
+is_accepted account at command = is_accepted_in (moment_of at) account command
 
 -- what is said to H by the book
 abbrev pub verdict : ℕ → Book → ℤ → Command → Said

@@ -1,11 +1,8 @@
 -- The rules that one holder's rows keep.
 use Rattle.std.specs.Prelude.{◌≡◌, ◌≢◌, ℕ, ◌+◌, ◌%◌, ◌≤◌, List, [], ◌∷◌, length, All, AllPairs, IfSome, IsSome}
 use Rattle.std.specs.List.{AllByRecursion}
-use Rattle.td_base.specs.Codes.{IsAccessCode, IsLrn, IsOfficeNo}
-use Rattle.td_base.specs.Days.{IsDay, year_of}
-use Rattle.td_base.specs.Eori.{IsEori}
-use Rattle.td_base.specs.Holder.{IsHolderNumber}
-use Rattle.td_base.specs.Moment.{IsMoment}
+use Rattle.td_base.specs.Codes.{IsAccessCode, IsLrn, IsOfficeNo, IsEori, IsHolderNumber}
+use Rattle.td_base.specs.Days.{IsDay, year_of, IsMoment}
 use Rattle.td_base.specs.Money.{IsReference, IsCover}
 use Rattle.td_base.specs.References.{grn_text, mrn_text, greatest_grn_serial, greatest_mrn_serial}
 use Rattle.td_movement.specs.declared.line.Line.{Line}
@@ -16,7 +13,7 @@ use Rattle.td_model.specs.declared.holder_row.HolderRow.{HolderRow}
 use Rattle.td_guarantee.specs.declared.guarantee.Guarantee.{Guarantee}
 use Rattle.td_movement.specs.declared.movement.Movement.{Movement}
 use Rattle.td_model.specs.Account.{HolderRows, guarantee_by_grn}
-use Rattle.td_commands.specs.Lines.{IsLineAmount}
+use Rattle.td_commands.specs.Commands.{IsLineAmount}
 use Rattle.td_movement.specs.Lines.{most_lines}
 
 -- the columns of a holder's row are in their ranges

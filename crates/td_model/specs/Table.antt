@@ -5,19 +5,18 @@ use Rattle.std.specs.Prelude.{ℕ, ℤ, ◌+◌, nat_lt, nat_le, if◌then◌els
 use Rattle.std.specs.List.{list_any}
 use Rattle.std.specs.Option.{is_some}
 use Rattle.std.specs.Str.{bytes_eq}
-use Rattle.td_base.specs.Days.{day_of_moment}
-use Rattle.td_base.specs.Moment.{moment_of}
+use Rattle.td_base.specs.Days.{day_of_moment, moment_of}
 use Rattle.td_base.specs.References.{grn_text, mrn_text}
 use Rattle.td_movement.specs.declared.line.Line.{Line}
 use Rattle.td_model.specs.declared.holder_row.HolderRow.{HolderRow}
 use Rattle.td_movement.specs.declared.movement.Movement.{Movement}
 use Rattle.td_guarantee.specs.Usage.{used_on}
-use Rattle.td_movement.specs.Moves.{state_after}
+use Rattle.td_movement.specs.States.{state_after}
 use Rattle.td_movement.specs.declared.moves.Move.{Move}
 use Rattle.td_movement.specs.declared.moves.Move.TheVariants.{Cancel, Release, Arrive, Judge, WriteOff, Enquire}
 use Rattle.td_movement.specs.declared.state.Control.{Control}
 use Rattle.td_movement.specs.declared.state.Ground.{Ground}
-use Rattle.td_movement.specs.Times.{enquiry_is_open}
+use Rattle.td_movement.specs.Status.{enquiry_is_open}
 use Rattle.td_guarantee.specs.declared.guarantee.Guarantee.{Guarantee}
 use Rattle.td_commands.specs.declared.command.Command.{Command}
 use Rattle.td_commands.specs.declared.command.Command.TheVariants.{Register, OpenGuarantee, Amend, Revoke, Ie015, Ie014, AddCode, RemoveCode, Ie029, Ie007, Ie018, Ie045, Ie140, SeeHolder, SeeMovement, SeeMovements, SeeGuarantee, SeeGuarantees}
@@ -29,9 +28,8 @@ use Rattle.td_commands.specs.declared.said.Said.TheVariants.{Answered, Refused}
 use Rattle.td_model.specs.Account.{Account, coded, uncoded, entry_in, guarantee_by_grn, movement_by_mrn, movement_by_lrn}
 use Rattle.td_commands.specs.declared.lists.ListedMovement.{ListedMovement}
 use Rattle.td_model.specs.Effects.{year2_at, amended, end_after, judged}
-use Rattle.td_commands.specs.Lines.{line_of}
-use Rattle.td_model.specs.Declaring.{has_contents, first_refusal}
-use Rattle.td_model.specs.Releasing.{is_limit, first_uncovered}
+use Rattle.td_commands.specs.Commands.{line_of}
+use Rattle.td_model.specs.Declaring.{has_contents, first_refusal, is_limit, first_uncovered}
 use Rattle.td_model.specs.Serials.{greatest_grn_given, greatest_mrn_given}
 use Rattle.td_guarantee.specs.Codes.{most_codes}
 

@@ -5,7 +5,7 @@ use Rattle.std.specs.Prelude.{◌==◌}
 use Rattle.std.specs.Str.{is_utf8}
 use Rattle.path_table.specs.Segments.{fits, parts_of}
 use Rattle.td_fields.specs.Faults.{◌>>=◌}
-use Rattle.td_base.specs.Holder.{holder_read}
+use Rattle.td_base.specs.Codes.{holder_read}
 use Rattle.td_base.specs.References.{is_mrn, is_grn, first_fault}
 use Rattle.td_fields.specs.declared.fault.Allowed.{Allowed}
 use Rattle.td_fields.specs.declared.fault.WebFault.{WebFault}

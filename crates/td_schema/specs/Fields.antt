@@ -4,12 +4,9 @@ use Rattle.std.specs.Option.{option_and_then, option_map}
 use Rattle.std.specs.Result.{result_ok}
 use Rattle.sqlite_sql.specs.Ops.{is_null}
 use Rattle.sqlite_value.specs.declared.value.Value.{Value}
-use Rattle.td_time.specs.Days.{day_at}
-use Rattle.td_time.specs.Moment.{moment_of}
+use Rattle.td_time.specs.Days.{day_at, moment_of}
 use Rattle.td_money.specs.Money.{cents_of, cover_of}
-use Rattle.td_base.specs.Codes.{code_read, lrn_read, office_read}
-use Rattle.td_base.specs.Eori.{eori_read}
-use Rattle.td_base.specs.Holder.{holder_of}
+use Rattle.td_base.specs.Codes.{code_read, lrn_read, office_read, eori_read, holder_of}
 use Rattle.td_base.specs.References.{grn_read, mrn_read}
 use Rattle.typed_sql.specs.Values.{as_integer, as_number, as_text}
 

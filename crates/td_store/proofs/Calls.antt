@@ -5,8 +5,7 @@ use Rattle.sqlite.specs.State.{State, HasCleanDisk, Survives}
 use Rattle.sqlite.proofs.StateLemmas.{survives_then, survives_weaker}
 use Rattle.td_acts.specs.declared.rows.Change.{Change}
 use Rattle.td_acts.specs.declared.rows.Verdict.{Verdict}
-use Rattle.td_desk.specs.Content.{content_after}
-use Rattle.td_desk.specs.Sound.{IsSound}
+use Rattle.td_desk.specs.Content.{content_after, IsSound}
 use Rattle.td_desk.specs.Weighing.{IsDecision}
 use Rattle.td_schema.specs.Tables.{desk_schema}
 use Rattle.typed_sql.specs.Writing.{HasSchema}

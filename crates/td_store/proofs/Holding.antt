@@ -7,8 +7,7 @@ use Rattle.sqlite.specs.State.{State, HasCleanDisk}
 use Rattle.td_acts.specs.declared.rows.Change.{Change}
 use Rattle.td_model.specs.declared.holder_row.HolderRow.{HolderRow}
 use Rattle.td_acts.specs.declared.rows.Verdict.{Verdict}
-use Rattle.td_desk.specs.Content.{Content, content_after, content_after_row}
-use Rattle.td_desk.specs.Sound.{IsSound}
+use Rattle.td_desk.specs.Content.{Content, content_after, content_after_row, IsSound}
 use Rattle.td_desk.specs.Weighing.{IsDecision, kept_for}
 use Rattle.td_acts.specs.Changes.{row_in}
 use Rattle.td_acts.specs.Deciding.{IsLoaded}

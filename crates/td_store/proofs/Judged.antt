@@ -6,12 +6,12 @@ use Rattle.std.specs.Option.{option_to_list}
 use Rattle.std.proofs.lemmas.Bool.Decides.{Decides-and, Decides-eqb, Decides-like}
 use Rattle.sqlite.specs.declared.error.Error.{Error}
 use Rattle.sqlite_trees.specs.Tree.{Trees}
-use Rattle.td_base.specs.Country.{IsCountry, country_read, is_country}
+use Rattle.td_base.specs.Codes.{IsCountry, country_read, is_country}
 use Rattle.td_base.proofs.Decided.{capitals_decided, some_where}
 use Rattle.td_table_model.specs.declared.rule.Rule.{Rule}
 use Rattle.td_table_model.specs.declared.rule.Rule.TheVariants.{S1}
 use Rattle.typed_sql.specs.Typed.{AreTyped, typed_rows}
-use Rattle.td_store_rows.specs.MetaColumns.{MetaRow, meta_row, meta_typing, newest_version}
+use Rattle.td_store_rows.specs.Columns.{MetaRow, meta_row, meta_typing, newest_version}
 use Rattle.td_store_rows.specs.MetaTable.{stored_of}
 use Rattle.td_store_rows.specs.declared.meta.stored.StoredMeta.{StoredMeta}
 use Rattle.td_store_audit_rows.specs.Ids.{HaveAllIds}

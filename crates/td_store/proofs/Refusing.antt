@@ -10,7 +10,7 @@ use Rattle.sqlite.specs.State.{State}
 use Rattle.td_desk.specs.Content.{Content}
 use Rattle.td_schema.specs.Tables.{desk_schema}
 use Rattle.typed_sql.specs.Typed.{row_of, typed_rows}
-use Rattle.td_store_rows.specs.MetaColumns.{meta_typing, newest_version}
+use Rattle.td_store_rows.specs.Columns.{meta_typing, newest_version}
 use Rattle.td_store_rows.specs.StoreTables.{HoldsContent, country_in}
 use Rattle.td_store_audit_rows.specs.Laws.{ContentKeepsRules}
 use Rattle.td_store.specs.declared.refused.OpenFault.{OpenFault}

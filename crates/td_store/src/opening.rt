@@ -9,7 +9,7 @@ ghost use Rattle.td_store_rows.specs.StoreTables.{HoldsContent};
 ghost use Rattle.td_store.specs.declared.refused.OpenFault.TheVariants as fault;
 ghost use Rattle.td_store.specs.Kept.{LeavesItsTables, LeavesTrees, content_in};
 ghost use Rattle.td_store.specs.Opened.{AreDamaged, HasOfficeRow, IsOfAnother, IsOfVersion, LacksMeta};
-ghost use Rattle.td_store_rows.specs.MetaColumns.{newest_version};
+ghost use Rattle.td_store_rows.specs.Columns.{newest_version};
 
 use crate::desk::SqlDesk;
 use crate::judging::refusal;

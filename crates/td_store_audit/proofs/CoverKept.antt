@@ -8,7 +8,7 @@ use Rattle.sqlite_trees.proofs.ListLemmas.{all-map, all_both, all_from_map}
 use Rattle.sqlite.specs.State.{State}
 use Rattle.sqlite.specs.declared.error.Error.{Error}
 use Rattle.keyed_rows.specs.Rows.{row_at}
-use Rattle.td_base.specs.Holder.{IsHolderNumber}
+use Rattle.td_base.specs.Codes.{IsHolderNumber}
 use Rattle.td_guarantee.specs.declared.guarantee.Guarantee.{Guarantee}
 use Rattle.td_guarantee.specs.Usage.{used_on}
 use Rattle.td_movement.specs.declared.movement.Movement.{Movement}
@@ -21,9 +21,7 @@ use Rattle.td_table_model.specs.Rules.{HasGuarantees, HasLines, IsHolderCovered}
 use Rattle.td_table_model.specs.Tables.{Keyed, Tables}
 use Rattle.td_table_model.proofs.Ruled.{are_mine}
 use Rattle.typed_sql.specs.Typed.{AreTyped}
-use Rattle.td_store_rows.specs.GuaranteeColumns.{guarantee_typing}
-use Rattle.td_store_rows.specs.MovementColumns.{movement_typing}
-use Rattle.td_store_rows.specs.LineColumns.{line_typing}
+use Rattle.td_store_rows.specs.Columns.{guarantee_typing, movement_typing, line_typing}
 use Rattle.td_store_rows.specs.StoreTables.{tables_in}
 use Rattle.td_store_audit_rows.specs.Found.{FoundHoldersTell}
 use Rattle.td_store_audit_rows.specs.Kinds.{KeepsRaw}

@@ -14,8 +14,7 @@ use Rattle.td_table_model.specs.Rules.{HasGuarantees, IsGuaranteeInRange}
 use Rattle.td_table_model.specs.Tables.{Tables}
 use Rattle.td_table_model.proofs.Rebuilt.{all_in_order}
 use Rattle.typed_sql.specs.Typed.{IsTypedRow, row_of}
-use Rattle.td_store_rows.specs.HolderColumns.{holder_typing}
-use Rattle.td_store_rows.specs.GuaranteeColumns.{guarantee_typing}
+use Rattle.td_store_rows.specs.Columns.{holder_typing, guarantee_typing}
 use Rattle.td_store_rows.specs.StoreTables.{tables_in}
 use Rattle.td_store_audit_rows.specs.InPlace.{AreGuaranteesInPlace, IsGuaranteeInPlace}
 use Rattle.td_store_audit_rows.specs.Fields.{AreGuaranteeFields}

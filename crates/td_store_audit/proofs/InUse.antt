@@ -11,8 +11,7 @@ use Rattle.std.proofs.lemmas.Slice.Eq.{bytes_eq-Decides}
 use Rattle.sqlite_trees.proofs.ListLemmas.{all_both, all_weaker}
 use Rattle.keyed_rows.specs.Rows.{row_at}
 use Rattle.keyed_rows.proofs.Putting.{All-row_at, row_at_has}
-use Rattle.td_base.specs.Country.{IsCountry}
-use Rattle.td_base.specs.Holder.{IsHolderNumber}
+use Rattle.td_base.specs.Codes.{IsCountry, IsHolderNumber}
 use Rattle.td_base.specs.References.{serial_of, greatest_grn_serial}
 use Rattle.td_base.proofs.MadeReferences.{made_serial_is}
 use Rattle.td_guarantee.specs.declared.guarantee.Guarantee.{Guarantee}

@@ -14,8 +14,7 @@ use Rattle.td_table_model.specs.Rules.{HasMovements, IsMovementInRange}
 use Rattle.td_table_model.specs.Tables.{Tables}
 use Rattle.td_table_model.proofs.Rebuilt.{all_in_order}
 use Rattle.typed_sql.specs.Typed.{IsTypedRow, row_of}
-use Rattle.td_store_rows.specs.HolderColumns.{holder_typing}
-use Rattle.td_store_rows.specs.MovementColumns.{movement_typing}
+use Rattle.td_store_rows.specs.Columns.{holder_typing, movement_typing}
 use Rattle.td_store_rows.specs.StoreTables.{tables_in}
 use Rattle.td_store_audit_rows.specs.InPlace.{AreMovementsInPlace, IsMovementInPlace}
 use Rattle.td_store_audit_rows.specs.Fields.{AreMovementFields}

@@ -21,8 +21,8 @@ use Rattle.typed_sql.specs.Reading.{IsAnswerOf, Selects, row_order, shown_by}
 use Rattle.typed_sql.specs.Typed.{IsTypedRow, row_of}
 use Rattle.typed_sql.specs.Values.{as_integer, text_in}
 use Rattle.typed_sql.specs.Writing.{HasSchema, passes}
-use Rattle.td_base.specs.Country.{IsCountry}
-use Rattle.td_store_rows.specs.MetaColumns.{meta_typing}
+use Rattle.td_base.specs.Codes.{IsCountry}
+use Rattle.td_store_rows.specs.Columns.{meta_typing}
 use Rattle.td_store_rows.specs.StoreTables.{country_in, tables_in}
 use Rattle.td_store_audit.specs.Broken.{IsOffice, ShowsCountry, TellsCountry}
 use Rattle.td_store_audit.specs.declared.texts.TheConstants.{OFFICE}

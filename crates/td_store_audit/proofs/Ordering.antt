@@ -13,8 +13,7 @@ use Rattle.typed_sql.specs.Reading.{row_order}
 use Rattle.typed_sql.specs.Typed.{IsTypedRow, row_of}
 use Rattle.typed_sql.specs.Values.{number_value}
 use Rattle.typed_sql.specs.Writing.{passes}
-use Rattle.td_store_rows.specs.CodeColumns.{code_typing}
-use Rattle.td_store_rows.specs.LineColumns.{line_typing}
+use Rattle.td_store_rows.specs.Columns.{code_typing, line_typing}
 use Rattle.td_table_model.specs.Gathering.{no_of, place}
 use Rattle.td_table_model.specs.Tables.{Keyed, LineCells}
 use Rattle.td_store_audit.specs.Found.{code_order, is_of_holder, line_order}

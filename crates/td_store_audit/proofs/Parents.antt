@@ -11,7 +11,7 @@ use Rattle.sqlite_trees.proofs.ListLemmas.{all_both, all_weaker}
 use Rattle.sqlite_rules.specs.Edit.{id_in}
 use Rattle.sqlite_sql.specs.Ops.{is_null}
 use Rattle.sqlite_schema.specs.Rules.{agree, equal}
-use Rattle.typed_sql.specs.Rows.{HaveIds}
+use Rattle.typed_sql.specs.Writing.{HaveIds}
 use Rattle.typed_sql.specs.Values.{number_value}
 use Rattle.td_store_audit.proofs.Equal.{Ties, equal_ties, ints_tie, ties_on}
 use Rattle.td_store_audit.proofs.Ruled.{HasParent, both}

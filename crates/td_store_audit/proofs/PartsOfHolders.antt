@@ -6,15 +6,14 @@ use Rattle.std.proofs.lemmas.List.Sorted.{IsPermutation-sym}
 use Rattle.sqlite_trees.specs.Tree.{Trees}
 use Rattle.sqlite_trees.proofs.ListLemmas.{all-map, all-permutation, all_both, all_from_map, all_of, all_weaker}
 use Rattle.sqlite_value.specs.Order.{Row}
-use Rattle.td_base.specs.Codes.{IsAccessCode}
-use Rattle.td_base.specs.Holder.{IsHolderNumber}
+use Rattle.td_base.specs.Codes.{IsAccessCode, IsHolderNumber}
 use Rattle.td_model.specs.declared.holder_row.HolderRow.{HolderRow}
 use Rattle.td_table_model.specs.Gathering.{part}
 use Rattle.td_table_model.specs.Rules.{HasCodes, HasGuarantees, HasLines, HasMovements}
 use Rattle.td_table_model.specs.Tables.{Keyed, Tables}
 use Rattle.td_table_model.proofs.Ruled.{are_mine}
 use Rattle.typed_sql.specs.Typed.{row_of, typed_rows}
-use Rattle.td_store_rows.specs.HolderColumns.{holder_typing}
+use Rattle.td_store_rows.specs.Columns.{holder_typing}
 use Rattle.td_store_rows.specs.StoreTables.{tables_in}
 use Rattle.td_store_audit_rows.specs.Holders.{AreHoldersIn, HolderFields, fields_of, fields_of_raw}
 use Rattle.td_store_audit_rows.specs.Kinds.{AllRows, HasGrnCount, HasMrnCount}

@@ -9,10 +9,9 @@ use Rattle.td_schema.specs.Tables.{desk_schema}
 use Rattle.typed_sql.specs.Writing.{HasSchema}
 use Rattle.td_table_model.specs.declared.rule.Rule.{Rule}
 use Rattle.td_table_model.specs.declared.rule.Rule.TheVariants.{S1, S2, S3, S4, S5, S6, S7, S8}
-use Rattle.td_table_model.specs.Failing.{rule_no}
+use Rattle.td_table_model.specs.Rules.{rule_no}
 use Rattle.td_store_audit_rows.specs.Kinds.{IsFirstBrokenRaw, KeepsRaw}
-use Rattle.td_store_rows.specs.CodeColumns.{code_typing}
-use Rattle.td_store_rows.specs.LineColumns.{line_typing}
+use Rattle.td_store_rows.specs.Columns.{code_typing, line_typing}
 use Rattle.td_store_audit_rows.specs.Fields.{AreCodeFields, AreLineFields}
 use Rattle.td_store_audit_rows.specs.Scans.{TellsRead}
 use Rattle.td_store_audit_rows.specs.declared.holders.RawHolder.{RawHolder}

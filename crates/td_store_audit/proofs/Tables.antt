@@ -15,11 +15,7 @@ use Rattle.td_table_model.specs.Stored.{AreOfHolders}
 use Rattle.td_table_model.specs.Tables.{Keyed}
 use Rattle.typed_sql.specs.Typed.{IsTypedRow, Typing, row_of, typed_rows}
 use Rattle.typed_sql.specs.Values.{number_value}
-use Rattle.td_store_rows.specs.HolderColumns.{holder_typing}
-use Rattle.td_store_rows.specs.GuaranteeColumns.{guarantee_typing}
-use Rattle.td_store_rows.specs.CodeColumns.{code_typing}
-use Rattle.td_store_rows.specs.MovementColumns.{movement_typing}
-use Rattle.td_store_rows.specs.LineColumns.{line_typing}
+use Rattle.td_store_rows.specs.Columns.{holder_typing, guarantee_typing, code_typing, movement_typing, line_typing}
 use Rattle.td_store_rows.specs.StoreTables.{tables_in}
 use Rattle.td_store_audit_rows.specs.Ids.{HaveAllIds}
 use Rattle.td_store_audit_rows.specs.Kept.{AreCodesKept, AreGuaranteesKept, AreLinesKept, AreMovementsKept}

@@ -8,8 +8,7 @@ use Rattle.sqlite_trees.proofs.ListLemmas.{all_from_map}
 use Rattle.sqlite.specs.State.{State}
 use Rattle.td_table_model.specs.declared.rule.Rule.TheVariants.{S5, S6, S7, S8}
 use Rattle.typed_sql.specs.Typed.{AreTyped}
-use Rattle.td_store_rows.specs.LineColumns.{line_typing}
-use Rattle.td_store_rows.specs.MovementColumns.{movement_typing}
+use Rattle.td_store_rows.specs.Columns.{line_typing, movement_typing}
 use Rattle.td_store_audit_rows.specs.Fields.{AreLineFields, AreMovementFields}
 use Rattle.td_store_audit_rows.specs.Kinds.{IsFirstBrokenRaw, KeepsRaw}
 use Rattle.td_store_audit_rows.specs.Scans.{TellsRead}

@@ -12,8 +12,7 @@ use Rattle.typed_sql.specs.Typed.{IsTypedRow, row_of, typed_rows}
 use Rattle.td_table_model.specs.declared.rule.Rule.TheVariants.{S4, S6}
 use Rattle.td_table_model.specs.Gathering.{owner, part}
 use Rattle.td_table_model.specs.Tables.{Keyed, LineCells}
-use Rattle.td_store_rows.specs.CodeColumns.{code_typing}
-use Rattle.td_store_rows.specs.LineColumns.{line_typing}
+use Rattle.td_store_rows.specs.Columns.{code_typing, line_typing}
 use Rattle.td_store_rows.specs.StoreTables.{tables_in}
 use Rattle.td_store_audit_rows.specs.Fields.{AreCodeFields, AreLineFields}
 use Rattle.td_store_audit_rows.specs.Kinds.{AllRows, KeepsRaw}

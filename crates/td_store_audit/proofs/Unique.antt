@@ -10,7 +10,7 @@ use Rattle.sqlite_trees.specs.Tree.{Trees, has_rowid, rowid}
 use Rattle.sqlite_trees.proofs.ListLemmas.{all_both, filter-map}
 use Rattle.sqlite_rules.specs.Edit.{id_in}
 use Rattle.sqlite_schema.specs.Rules.{agree, clashes, differ, equal}
-use Rattle.typed_sql.specs.Rows.{HaveIds}
+use Rattle.typed_sql.specs.Writing.{HaveIds}
 use Rattle.typed_sql.specs.Typed.{IsTypedRow, Typing, row_of, typed_rows}
 use Rattle.typed_sql.proofs.Ids.{has_own}
 use Rattle.td_store_audit.proofs.Equal.{not_differ}

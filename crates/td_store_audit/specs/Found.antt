@@ -10,10 +10,9 @@ use Rattle.typed_sql.specs.Typed.{AreInOrder}
 use Rattle.typed_sql.specs.Writing.{HasSchema}
 use Rattle.td_table_model.specs.Gathering.{no_of, owner, place}
 use Rattle.td_table_model.specs.Tables.{Keyed, LineCells}
-use Rattle.td_store_rows.specs.CodeColumns.{code_typing}
+use Rattle.td_store_rows.specs.Columns.{code_typing, line_typing}
 use Rattle.td_store_rows.specs.CodeTable.{code_row_of as row_of_code}
 use Rattle.td_store_rows.specs.declared.codes.stored.StoredCode.{StoredCode}
-use Rattle.td_store_rows.specs.LineColumns.{line_typing}
 use Rattle.td_store_rows.specs.LineTable.{line_row_of as row_of_line}
 use Rattle.td_store_rows.specs.declared.lines.stored.StoredLine.{StoredLine}
 

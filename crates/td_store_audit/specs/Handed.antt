@@ -11,11 +11,9 @@ use Rattle.td_table_model.specs.Gathering.{movements_by, part, place}
 use Rattle.td_table_model.specs.Tables.{Keyed}
 use Rattle.td_table_model.specs.declared.rule.Rule.TheVariants.{S8}
 use Rattle.typed_sql.specs.Typed.{AreTyped}
-use Rattle.td_store_rows.specs.GuaranteeColumns.{guarantee_typing}
+use Rattle.td_store_rows.specs.Columns.{guarantee_typing, line_typing, movement_typing}
 use Rattle.td_store_rows.specs.declared.guarantees.stored.StoredGuarantee.{StoredGuarantee}
-use Rattle.td_store_rows.specs.LineColumns.{line_typing}
 use Rattle.td_store_rows.specs.LineTable.{line_row_of}
-use Rattle.td_store_rows.specs.MovementColumns.{movement_typing}
 use Rattle.td_store_rows.specs.MovementTable.{serial_of_stored}
 use Rattle.td_store_rows.specs.StoreTables.{tables_in}
 use Rattle.td_store_load.specs.InUse.{total_on}

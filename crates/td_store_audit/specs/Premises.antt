@@ -4,15 +4,13 @@ use Rattle.std.specs.Prelude.{ℕ, List, IsSome, unwrap_or}
 use Rattle.sqlite.specs.State.{State}
 use Rattle.sqlite_trees.specs.Tree.{Trees}
 use Rattle.td_schema.specs.Tables.{desk_schema}
-use Rattle.typed_sql.specs.Rows.{HaveIds}
+use Rattle.typed_sql.specs.Writing.{HaveIds, HasSchema}
 use Rattle.typed_sql.specs.Typed.{IsTypedRow, typed_rows}
-use Rattle.typed_sql.specs.Writing.{HasSchema}
 use Rattle.td_table_model.specs.declared.rule.Rule.TheVariants.{S3, S5}
 use Rattle.td_table_model.specs.Gathering.{part}
 use Rattle.td_table_model.specs.Rules.{HasCountry}
 use Rattle.td_table_model.specs.Stored.{AreOfHolders}
-use Rattle.td_store_rows.specs.CodeColumns.{code_typing}
-use Rattle.td_store_rows.specs.LineColumns.{line_typing}
+use Rattle.td_store_rows.specs.Columns.{code_typing, line_typing}
 use Rattle.td_store_rows.specs.StoreTables.{tables_in}
 use Rattle.td_store_audit_rows.specs.Holders.{AreHoldersIn, NumbersRise}
 use Rattle.td_store_audit_rows.specs.Kinds.{AllRows, KeepsRaw}

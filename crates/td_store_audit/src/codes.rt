@@ -7,7 +7,7 @@ ghost use Rattle.td_schema.specs.Tables.{desk_schema};
 ghost use Rattle.typed_sql.specs.Reading.{LeavesAll};
 ghost use Rattle.typed_sql.specs.Typed.{AreTyped};
 ghost use Rattle.typed_sql.specs.Writing.{HasSchema};
-ghost use Rattle.td_store_rows.specs.CodeColumns.{code_typing};
+ghost use Rattle.td_store_rows.specs.Columns.{code_typing};
 ghost use Rattle.td_table_model.specs.declared.rule.Rule.TheVariants.{S4};
 ghost use Rattle.td_store_audit_rows.specs.Fields.{AreCodeFields};
 ghost use Rattle.td_store_audit_rows.specs.Scans.{TellsRead};

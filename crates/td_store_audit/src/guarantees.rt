@@ -3,7 +3,7 @@ ghost use Rattle.std.specs.Prelude.{◌≡◌, IsTrue, IfOk, OnOk};
 ghost use Rattle.std.specs.List.{AllByRecursion};
 ghost use Rattle.sqlite.specs.Held.{state};
 ghost use Rattle.sqlite.specs.State.{HasCleanDisk, KeepsCommit, Survives};
-ghost use Rattle.td_store_rows.specs.GuaranteeColumns.{guarantee_typing};
+ghost use Rattle.td_store_rows.specs.Columns.{guarantee_typing};
 ghost use Rattle.td_table_model.specs.declared.rule.Rule.TheVariants.{S3};
 ghost use Rattle.td_store_audit_rows.specs.Fields.{AreGuaranteeFields};
 ghost use Rattle.td_store_audit_rows.specs.Scans.{TellsRead};

@@ -7,7 +7,7 @@ ghost use Rattle.td_schema.specs.Tables.{desk_schema};
 ghost use Rattle.typed_sql.specs.Reading.{LeavesAll};
 ghost use Rattle.typed_sql.specs.Typed.{AreTyped, typed_rows};
 ghost use Rattle.typed_sql.specs.Writing.{HasSchema};
-ghost use Rattle.td_store_rows.specs.LineColumns.{line_typing};
+ghost use Rattle.td_store_rows.specs.Columns.{line_typing};
 ghost use Rattle.td_store_rows.specs.LineTable.{AreLines};
 ghost use Rattle.td_table_model.specs.declared.rule.Rule.TheVariants.{S6};
 ghost use Rattle.td_table_model.specs.Gathering.{part};

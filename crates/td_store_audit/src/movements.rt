@@ -3,7 +3,7 @@ ghost use Rattle.std.specs.Prelude.{◌≡◌, filter, is_some, map, IsTrue, IfO
 ghost use Rattle.std.specs.List.{AllByRecursion};
 ghost use Rattle.sqlite.specs.Held.{state};
 ghost use Rattle.sqlite.specs.State.{HasCleanDisk, KeepsCommit, Survives};
-ghost use Rattle.td_store_rows.specs.MovementColumns.{movement_typing};
+ghost use Rattle.td_store_rows.specs.Columns.{movement_typing};
 ghost use Rattle.td_store_rows.specs.MovementTable.{movement_row_of, serial_of_stored};
 ghost use Rattle.td_table_model.specs.Gathering.{place};
 ghost use Rattle.td_table_model.specs.declared.rule.Rule.TheVariants.{S5};

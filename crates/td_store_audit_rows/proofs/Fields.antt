@@ -9,14 +9,11 @@ use Rattle.std.specs.Prelude.{◌&&◌, IfSome, if◌then◌else◌, nat_le, nat
 use Rattle.ascii_text.proofs.Decided.{le_decided}
 use Rattle.sqlite_value.specs.declared.value.Value.{Value}
 use Rattle.sqlite_value.specs.declared.value.Value.TheVariants.{Blob, Int, Null, Real, Text}
-use Rattle.td_base.specs.Codes.{IsAccessCode, IsLrn, IsOfficeNo, is_access_code, is_lrn, is_office_no}
-use Rattle.td_base.specs.Eori.{IsEori, is_eori}
-use Rattle.td_base.specs.Holder.{IsHolderNumber, holder_of, is_holder_number}
+use Rattle.td_base.specs.Codes.{IsAccessCode, IsLrn, IsOfficeNo, is_access_code, is_lrn, is_office_no, IsEori, is_eori, IsHolderNumber, holder_of, is_holder_number}
 use Rattle.td_base.specs.References.{IsGrn, IsMrn, first_fault, is_reference_text}
 use Rattle.td_base.specs.declared.references.RefFault.{RefFault}
 use Rattle.td_money.specs.Money.{IsCents, IsCover, is_cents, is_cover}
-use Rattle.td_time.specs.Days.{IsDay}
-use Rattle.td_time.specs.Moment.{IsMoment}
+use Rattle.td_time.specs.Days.{IsDay, IsMoment}
 use Rattle.td_schema.specs.Fields.{amount_in, code_in, cover_in, day_in, eori_in, grn_in, holder_in, lrn_in, moment_in, mrn_in, office_in, optional_in, serial_in}
 use Rattle.typed_sql.specs.Values.{number_if, number_in, number_or_null, number_value, text_if, text_in, text_or_null}
 use Rattle.td_store_audit_rows.proofs.Forms.{code_decided, cover_decided, eori_decided, holder_decided, lrn_decided, office_decided, reference_decided, serial_decided}

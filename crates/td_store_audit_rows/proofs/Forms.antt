@@ -5,11 +5,8 @@ use Rattle.std.specs.Prelude.{nat_lt}
 use Rattle.std.specs.Bool.{Decides}
 use Rattle.std.specs.List.{slice_get}
 use Rattle.ascii_text.proofs.Decided.{le_decided, range_decided, all_decided, some_decided, one_of_four, digits_decided, capitals_decided, marks_decided}
-use Rattle.td_base.specs.CheckDigit.{check_of}
-use Rattle.td_base.specs.Codes.{IsAccessCode, IsOfficeNo, IsLrn, IsLrnCharacter, is_access_code, is_office_no, is_lrn, is_lrn_character}
-use Rattle.td_base.specs.Eori.{IsEori, is_eori}
-use Rattle.td_base.specs.Holder.{IsHolderNumber, is_holder_number}
-use Rattle.td_base.specs.References.{front_of, country_of, identifier_of, HasForm, IsReferenceText, has_form, is_reference_text}
+use Rattle.td_base.specs.References.{check_of, front_of, country_of, identifier_of, HasForm, IsReferenceText, has_form, is_reference_text}
+use Rattle.td_base.specs.Codes.{IsAccessCode, IsOfficeNo, IsLrn, IsLrnCharacter, is_access_code, is_office_no, is_lrn, is_lrn_character, IsEori, is_eori, IsHolderNumber, is_holder_number}
 use Rattle.td_money.specs.Money.{IsCover, is_cover}
 
 pub eori_decided : (text : List ℕ) → Decides (is_eori text) (IsEori text)

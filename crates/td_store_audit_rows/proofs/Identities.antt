@@ -6,10 +6,9 @@ use Rattle.sqlite_value.specs.declared.value.Value.{Value}
 use Rattle.sqlite_value.specs.declared.value.Value.TheVariants.{Blob, Int, Null, Real, Text}
 use Rattle.sqlite_value.specs.Order.{Row, column}
 use Rattle.sqlite_trees.proofs.ListLemmas.{all-map, all_both, all_from_map, all_weaker}
-use Rattle.td_base.specs.Eori.{is_eori}
-use Rattle.td_base.specs.Holder.{holder_of, is_holder_number}
+use Rattle.td_base.specs.Codes.{is_eori, holder_of, is_holder_number}
 use Rattle.td_schema.specs.Fields.{eori_in, holder_in, moment_in, serial_in}
-use Rattle.td_store_rows.specs.HolderColumns.{holder_typing}
+use Rattle.td_store_rows.specs.Columns.{holder_typing}
 use Rattle.typed_sql.specs.Typed.{row_of}
 use Rattle.typed_sql.specs.Values.{number_in, text_in}
 use Rattle.td_table_model.specs.Rules.{IsHolderInRange}

@@ -7,7 +7,7 @@ use Rattle.sqlite_value.specs.Order.{Row, column}
 use Rattle.sqlite_trees.specs.Tree.{Trees}
 use Rattle.sqlite_trees.proofs.ListLemmas.{all_weaker}
 use Rattle.sqlite_typed.proofs.TestLemmas.{then_value}
-use Rattle.td_base.specs.Country.{IsCountry}
+use Rattle.td_base.specs.Codes.{IsCountry}
 use Rattle.td_table_model.specs.declared.rule.Rule.{Rule}
 use Rattle.td_table_model.specs.declared.rule.Rule.TheVariants.{S1, S2, S3, S4, S5, S6, S7, S8}
 use Rattle.td_table_model.specs.Rules.{KeepRules}
@@ -18,8 +18,7 @@ use Rattle.td_table_model.proofs.Ruled.{are_of_content}
 use Rattle.td_table_model.proofs.RuledSound.{content_is_sound}
 use Rattle.typed_sql.specs.Typed.{IsTypedRow, row_of}
 use Rattle.typed_sql.specs.Values.{number_in, number_value, text_in}
-use Rattle.td_store_rows.specs.MetaColumns.{meta_typing}
-use Rattle.td_store_rows.specs.HolderColumns.{holder_typing}
+use Rattle.td_store_rows.specs.Columns.{meta_typing, holder_typing}
 use Rattle.td_store_rows.specs.StoreTables.{AreAllTyped, country_in, tables_in}
 use Rattle.td_store_audit_rows.specs.Kinds.{AreOfKind, HasGrnCount, HasIdentity, HasMrnCount, HasNumber, IsNumber, IsText}
 use Rattle.td_store_audit_rows.specs.Laws.{AreKept, ContentKeepsRules, KeptRulesMeanContent}

@@ -8,14 +8,13 @@ use Rattle.sqlite_trees.proofs.ListLemmas.{all-permutation, all_both, all_from_m
 use Rattle.sqlite_value.specs.Order.{Row}
 use Rattle.keyed_rows.specs.Rows.{row_at}
 use Rattle.keyed_rows.proofs.Putting.{All-row_at, row_at_has}
-use Rattle.td_base.specs.Codes.{IsAccessCode}
-use Rattle.td_base.specs.Holder.{IsHolderNumber}
+use Rattle.td_base.specs.Codes.{IsAccessCode, IsHolderNumber}
 use Rattle.td_base.specs.References.{IsGrn, IsMrn, greatest_grn_serial, greatest_mrn_serial}
 use Rattle.td_base.proofs.MadeReferences.{made_is_reference}
 use Rattle.td_time.specs.Days.{year_of}
 use Rattle.td_movement.specs.declared.movement.Movement.{Movement}
 use Rattle.td_model.specs.declared.holder_row.HolderRow.{HolderRow}
-use Rattle.td_commands.specs.Lines.{IsLineAmount}
+use Rattle.td_commands.specs.Commands.{IsLineAmount}
 use Rattle.td_table_model.specs.Apart.{IsApart}
 use Rattle.td_table_model.specs.Gathering.{guarantees_by, holder_no, in_order, lines_by, movements_by, no_of, of_key, owner, part, place}
 use Rattle.td_table_model.specs.Rules.{AreLinesInRange, HasCodes, HasGuarantees, HasLines, HasMovements, IsGuaranteeInRange, IsMovementInRange, named_by}
@@ -26,10 +25,7 @@ use Rattle.td_table_model.proofs.Orders.{in_order_permutes}
 use Rattle.td_table_model.proofs.Rebuilt.{all_in_order, numbered_within}
 use Rattle.td_table_model.proofs.Ruled.{are_mine, lines_mine}
 use Rattle.typed_sql.specs.Typed.{IsTypedRow, Typing, row_of}
-use Rattle.td_store_rows.specs.CodeColumns.{code_typing}
-use Rattle.td_store_rows.specs.GuaranteeColumns.{guarantee_typing}
-use Rattle.td_store_rows.specs.LineColumns.{line_typing}
-use Rattle.td_store_rows.specs.MovementColumns.{movement_typing}
+use Rattle.td_store_rows.specs.Columns.{code_typing, guarantee_typing, line_typing, movement_typing}
 use Rattle.td_store_rows.specs.StoreTables.{tables_in}
 use Rattle.td_store_audit_rows.specs.Fields.{AreCodeFields, AreGuaranteeFields, AreLineFields, AreMovementFields}
 use Rattle.td_store_audit_rows.specs.Scans.{IsReadRow}

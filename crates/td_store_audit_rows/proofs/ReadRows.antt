@@ -10,10 +10,7 @@ use Rattle.td_movement.specs.States.{state_name}
 use Rattle.td_movement.specs.declared.state.State.{State}
 use Rattle.td_movement.specs.declared.state.State.TheVariants.{Accepted, Arrived, Cancelled, Cleared, Discrepant, Enquired, Released, WrittenOff}
 use Rattle.typed_sql.specs.Values.{text_in}
-use Rattle.td_store_rows.specs.CodeColumns.{code_columns, code_typing}
-use Rattle.td_store_rows.specs.GuaranteeColumns.{guarantee_columns, guarantee_typing}
-use Rattle.td_store_rows.specs.LineColumns.{line_columns, line_typing}
-use Rattle.td_store_rows.specs.MovementColumns.{movement_columns, movement_typing, state_in}
+use Rattle.td_store_rows.specs.Columns.{code_columns, code_typing, guarantee_columns, guarantee_typing, line_columns, line_typing, movement_columns, movement_typing, state_in}
 use Rattle.td_store_audit_rows.specs.Fields.{AreCodeFields, AreGuaranteeFields, AreLineFields, AreMovementFields}
 use Rattle.td_store_audit_rows.specs.Scans.{AreCodeColumns, AreGuaranteeColumns, AreLineColumns, AreMovementColumns, IsReadRow}
 use Rattle.td_store_audit_rows.proofs.Fields.{amount_field, code_field, cover_field, day_field, day_if_field, grn_field, holder_field, lrn_field, mrn_field, office_field, office_if_field, serial_field}

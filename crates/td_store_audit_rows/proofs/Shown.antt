@@ -11,8 +11,7 @@ use Rattle.sqlite_trees.proofs.ListLemmas.{IsPermutation-filter, all-map, all-pe
 use Rattle.sqlite_rules.specs.Edit.{id_in}
 use Rattle.sqlite_sql.specs.Term.{Term, col}
 use Rattle.typed_sql.specs.Reading.{IsAnswerOf, shown_by}
-use Rattle.typed_sql.specs.Rows.{HaveIds}
-use Rattle.typed_sql.specs.Writing.{passes}
+use Rattle.typed_sql.specs.Writing.{HaveIds, passes}
 
 -- with no test each row passes
 all_pass : (values : Row) (rows : List Row) → filter (passes values []) rows ≡ rows

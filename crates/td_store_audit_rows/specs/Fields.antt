@@ -2,8 +2,7 @@
 -- holder's rows, stands with the rules: that a GRN or an MRN is that of its row, that a reference amount isn't nothing, the
 -- days of a state, the numbers and the amounts of lines.
 use Rattle.std.specs.Prelude.{ℕ, ◌<◌, ◌^◌, List, IfSome}
-use Rattle.td_base.specs.Codes.{IsAccessCode, IsLrn, IsOfficeNo}
-use Rattle.td_base.specs.Holder.{IsHolderNumber}
+use Rattle.td_base.specs.Codes.{IsAccessCode, IsLrn, IsOfficeNo, IsHolderNumber}
 use Rattle.td_base.specs.References.{IsGrn, IsMrn}
 use Rattle.td_money.specs.Money.{IsCents, IsCover}
 use Rattle.td_time.specs.Days.{IsDay}

@@ -4,12 +4,12 @@ use Rattle.std.specs.List.{AllByRecursion}
 use Rattle.std.specs.List.Sorted.{IsPermutation}
 use Rattle.sqlite_trees.specs.Tree.{Trees}
 use Rattle.td_model.specs.declared.holder_row.HolderRow.{HolderRow}
-use Rattle.td_base.specs.Holder.{IsHolderNumber}
+use Rattle.td_base.specs.Codes.{IsHolderNumber}
 use Rattle.td_table_model.specs.declared.rule.Rule.TheVariants.{S2}
 use Rattle.td_table_model.specs.Apart.{IsApart}
 use Rattle.td_table_model.specs.Gathering.{holder_no}
 use Rattle.typed_sql.specs.Typed.{row_of, typed_rows}
-use Rattle.td_store_rows.specs.HolderColumns.{holder_typing}
+use Rattle.td_store_rows.specs.Columns.{holder_typing}
 use Rattle.td_store_audit_rows.specs.Holders.{AreHoldersIn, NumbersRise}
 use Rattle.td_store_audit_rows.specs.Kinds.{AllRows, HasGrnCount, HasMrnCount, HasNumber, KeepsRaw}
 use Rattle.td_store_audit_rows.specs.declared.holders.RawHolder.{RawHolder}

@@ -7,7 +7,7 @@ use Rattle.sqlite.specs.State.{State}
 use Rattle.td_schema.specs.Tables.{desk_schema}
 use Rattle.typed_sql.specs.Writing.{HasSchema}
 use Rattle.td_schema.specs.Fields.{eori_in, holder_in, moment_in, serial_in}
-use Rattle.td_store_rows.specs.HolderColumns.{holder_columns, holder_typing}
+use Rattle.td_store_rows.specs.Columns.{holder_columns, holder_typing}
 use Rattle.td_store_audit_rows.specs.declared.holders.RawHolder.{RawHolder}
 
 -- the fields of a holder's row: none where a column is no such field

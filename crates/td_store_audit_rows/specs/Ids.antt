@@ -5,13 +5,8 @@ use Rattle.sqlite_trees.specs.Tree.{Trees}
 use Rattle.sqlite_sql.specs.Term.{Term, col}
 use Rattle.td_schema.specs.Tables.{desk_schema}
 use Rattle.typed_sql.specs.Meanings.{MeansSelect}
-use Rattle.typed_sql.specs.Rows.{HaveIds}
-use Rattle.td_store_rows.specs.MetaColumns.{meta_typing}
-use Rattle.td_store_rows.specs.HolderColumns.{holder_typing}
-use Rattle.td_store_rows.specs.GuaranteeColumns.{guarantee_typing}
-use Rattle.td_store_rows.specs.CodeColumns.{code_typing}
-use Rattle.td_store_rows.specs.MovementColumns.{movement_typing}
-use Rattle.td_store_rows.specs.LineColumns.{line_typing}
+use Rattle.typed_sql.specs.Writing.{HaveIds}
+use Rattle.td_store_rows.specs.Columns.{meta_typing, holder_typing, guarantee_typing, code_typing, movement_typing, line_typing}
 
 -- the integer is above the last one, if there is one
 abbrev pub IsAbove : Option ℤ → ℤ → Type 0

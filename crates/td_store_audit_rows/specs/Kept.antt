@@ -1,7 +1,7 @@
 -- What the database itself keeps of each table: ranges, keys and references.
 use Rattle.std.specs.Prelude.{◌≡◌, ℕ, List, []}
 use Rattle.std.specs.List.{AllByRecursion}
-use Rattle.td_base.specs.Holder.{IsHolderNumber}
+use Rattle.td_base.specs.Codes.{IsHolderNumber}
 use Rattle.td_guarantee.specs.declared.guarantee.Guarantee.{Guarantee}
 use Rattle.td_movement.specs.declared.movement.Movement.{Movement}
 use Rattle.td_model.specs.declared.holder_row.HolderRow.{HolderRow}

@@ -8,15 +8,10 @@ use Rattle.sqlite_value.specs.Order.{Row, column}
 use Rattle.sqlite_trees.specs.Tree.{Trees}
 use Rattle.td_table_model.specs.declared.rule.Rule.{Rule}
 use Rattle.td_table_model.specs.declared.rule.Rule.TheVariants.{S1, S2, S3, S4, S5, S6, S7, S8}
-use Rattle.td_table_model.specs.Failing.{Keeps, rule_no}
+use Rattle.td_table_model.specs.Rules.{Keeps, rule_no}
 use Rattle.typed_sql.specs.Typed.{Typing, IsTypedRow}
 use Rattle.typed_sql.specs.Values.{number_value}
-use Rattle.td_store_rows.specs.MetaColumns.{meta_typing}
-use Rattle.td_store_rows.specs.HolderColumns.{holder_typing}
-use Rattle.td_store_rows.specs.GuaranteeColumns.{guarantee_typing}
-use Rattle.td_store_rows.specs.CodeColumns.{code_typing}
-use Rattle.td_store_rows.specs.MovementColumns.{movement_typing}
-use Rattle.td_store_rows.specs.LineColumns.{line_typing}
+use Rattle.td_store_rows.specs.Columns.{meta_typing, holder_typing, guarantee_typing, code_typing, movement_typing, line_typing}
 use Rattle.td_store_rows.specs.StoreTables.{tables_in}
 
 -- the column holds a number; a text

@@ -1,7 +1,7 @@
 pub mod Kinds
 pub mod Kept
-pub mod Laws
 pub mod Ids
+pub mod Laws
 pub mod Rising
 pub mod Holders
 pub mod Fields

@@ -4,7 +4,7 @@ use Rattle.std.specs.List.{AllByRecursion}
 use Rattle.sqlite_value.specs.Order.{Row}
 use Rattle.sqlite_trees.specs.Tree.{rowid}
 use Rattle.sqlite_rules.specs.Edit.{id_in}
-use Rattle.typed_sql.specs.Rows.{HaveIds}
+use Rattle.typed_sql.specs.Writing.{HaveIds}
 
 -- no rowid is above the last one
 abbrev pub AreUpTo : Option ℤ → List Row → Type 0

@@ -13,10 +13,7 @@ use Rattle.typed_sql.specs.Reading.{shown_by}
 use Rattle.typed_sql.specs.Typed.{IsTypedRow, Typing, row_of}
 use Rattle.td_schema.specs.Fields.{amount_in, code_in, cover_in, day_in, grn_in, holder_in, lrn_in, mrn_in, office_in, optional_in, serial_in}
 use Rattle.sqlite_trees.specs.Tree.{Trees}
-use Rattle.td_store_rows.specs.CodeColumns.{code_typing}
-use Rattle.td_store_rows.specs.GuaranteeColumns.{guarantee_typing}
-use Rattle.td_store_rows.specs.LineColumns.{line_typing}
-use Rattle.td_store_rows.specs.MovementColumns.{movement_typing}
+use Rattle.td_store_rows.specs.Columns.{code_typing, guarantee_typing, line_typing, movement_typing}
 use Rattle.td_store_audit_rows.specs.Fields.{AreCodeFields, AreGuaranteeFields, AreLineFields, AreMovementFields}
 use Rattle.td_store_audit_rows.specs.Kinds.{AllRows}
 use Rattle.td_store_audit_rows.specs.declared.tables.Readable.{Readable}

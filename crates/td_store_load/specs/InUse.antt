@@ -8,10 +8,9 @@ use Rattle.td_table_model.specs.Looking.{cents_of, lines_in_use}
 use Rattle.td_schema.specs.Tables.{desk_schema}
 use Rattle.typed_sql.specs.Typed.{AreTyped}
 use Rattle.typed_sql.specs.Writing.{HasSchema}
-use Rattle.td_store_rows.specs.MovementColumns.{movement_typing}
+use Rattle.td_store_rows.specs.Columns.{movement_typing, line_typing}
 use Rattle.td_store_rows.specs.MovementTable.{serial_of_stored}
 use Rattle.td_store_rows.specs.declared.movements.stored.MovementSerial.{MovementSerial}
-use Rattle.td_store_rows.specs.LineColumns.{line_typing}
 use Rattle.td_store_rows.specs.declared.lines.stored.StoredLine.{StoredLine}
 use Rattle.td_store_rows.specs.StoreTables.{tables_in}
 

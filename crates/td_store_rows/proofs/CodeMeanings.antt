@@ -13,7 +13,7 @@ use Rattle.sqlite_sql.specs.declared.ops.CompareOp.TheVariants.{Eq}
 use Rattle.td_schema.proofs.Acting.{none_acts}
 use Rattle.td_schema.specs.Tables.{desk_schema}
 use Rattle.typed_sql.specs.Meanings.{HasTable, MeansInsert, MeansDelete, MeansSelect}
-use Rattle.td_store_rows.specs.CodeColumns.{stored_table}
+use Rattle.td_store_rows.specs.Columns.{stored_table}
 use Rattle.td_store_rows.specs.declared.codes.texts.TheConstants.{INSERT, DELETE, OF_GUARANTEE}
 
 codes_there : HasTable desk_schema 2 stored_table

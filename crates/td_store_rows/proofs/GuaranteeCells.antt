@@ -6,7 +6,7 @@ use Rattle.sqlite_sql.specs.Ops.{binary}
 use Rattle.sqlite_sql.specs.declared.ops.BinaryOp.TheVariants.{Coalesce}
 use Rattle.sqlite_typed.proofs.TestLemmas.{then_value}
 use Rattle.td_guarantee.specs.declared.guarantee.Guarantee.{Guarantee}
-use Rattle.td_store_rows.specs.GuaranteeColumns.{guarantee_cells, guarantee_from, guarantees_table}
+use Rattle.td_store_rows.specs.Columns.{guarantee_cells, guarantee_from, guarantees_table}
 use Rattle.typed_sql.proofs.Columns.{cast_number_if, number_back}
 use Rattle.typed_sql.proofs.Effects.{cast_int}
 use Rattle.typed_sql.specs.Values.{number_or_null, number_value}

@@ -13,7 +13,7 @@ use Rattle.sqlite_sql.specs.declared.ops.CompareOp.TheVariants.{Eq}
 use Rattle.td_schema.proofs.Acting.{none_acts}
 use Rattle.td_schema.specs.Tables.{desk_schema}
 use Rattle.typed_sql.specs.Meanings.{HasTable, MeansInsert, MeansUpdate, MeansSelect}
-use Rattle.td_store_rows.specs.GuaranteeColumns.{guarantees_table}
+use Rattle.td_store_rows.specs.Columns.{guarantees_table}
 use Rattle.td_store_rows.specs.declared.guarantees.texts.TheConstants.{INSERT, SET_TERMS, BY_GRN, BY_SERIAL, OF_HOLDER}
 
 guarantees_there : HasTable desk_schema 4 guarantees_table

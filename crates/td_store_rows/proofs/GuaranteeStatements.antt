@@ -16,7 +16,7 @@ use Rattle.td_acts.specs.declared.rows.NewTerms.{NewTerms}
 use Rattle.td_guarantee.specs.declared.guarantee.Guarantee.{Guarantee}
 use Rattle.td_store_rows.proofs.GuaranteeCells.{back, bare, cells_stored, given_else}
 use Rattle.td_store_rows.proofs.GuaranteeMeanings.{grn_tests, holder_tests, insert_means, new_row, serial_tests, set_columns, set_means, by_serial}
-use Rattle.td_store_rows.specs.GuaranteeColumns.{guarantee_cells, guarantee_columns, guarantee_typing, guarantees_table}
+use Rattle.td_store_rows.specs.Columns.{guarantee_cells, guarantee_columns, guarantee_typing, guarantees_table}
 use Rattle.td_store_rows.specs.GuaranteeTable.{TurnsGuarantees, has_grn, has_serial, is_of, terms_values, with_new_terms, AreBySerial, AreGuarantees, guarantee_row_of}
 use Rattle.td_store_rows.specs.declared.guarantees.texts.TheConstants.{INSERT, SET_TERMS}
 use Rattle.td_schema.specs.Tables.{desk_schema}

@@ -11,7 +11,7 @@ use Rattle.sqlite_sql.specs.declared.ops.CompareOp.TheVariants.{Eq}
 use Rattle.td_schema.proofs.Acting.{none_acts}
 use Rattle.td_schema.specs.Tables.{desk_schema}
 use Rattle.typed_sql.specs.Meanings.{HasTable, MeansInsert, MeansUpdate, MeansSelect}
-use Rattle.td_store_rows.specs.HolderColumns.{holders_table}
+use Rattle.td_store_rows.specs.Columns.{holders_table}
 use Rattle.td_store_rows.specs.declared.holders.texts.TheConstants.{INSERT, SET, BY_NUMBER}
 
 holders_there : HasTable desk_schema 1 holders_table

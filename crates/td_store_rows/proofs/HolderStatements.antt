@@ -17,7 +17,7 @@ use Rattle.typed_sql.proofs.Columns.{cast_null, number_is}
 use Rattle.typed_sql.proofs.Effects.{cast_int}
 use Rattle.typed_sql.proofs.TypedRows.{inserted_typed_under, updated_typed}
 use Rattle.td_store_rows.specs.declared.holders.texts.TheConstants.{INSERT, SET}
-use Rattle.td_store_rows.specs.HolderColumns.{holder_columns, holder_cells, holder_typing, holders_table}
+use Rattle.td_store_rows.specs.Columns.{holder_columns, holder_cells, holder_typing, holders_table}
 use Rattle.td_store_rows.specs.HolderTable.{TurnsHolders}
 use Rattle.td_store_rows.proofs.HolderMeanings.{new_row, set_columns, number_tests, insert_means, set_means}
 

@@ -13,7 +13,7 @@ use Rattle.sqlite_sql.specs.declared.ops.CompareOp.TheVariants.{Eq}
 use Rattle.td_schema.proofs.Acting.{none_acts}
 use Rattle.td_schema.specs.Tables.{desk_schema}
 use Rattle.typed_sql.specs.Meanings.{HasTable, MeansInsert, MeansSelect}
-use Rattle.td_store_rows.specs.LineColumns.{lines_table}
+use Rattle.td_store_rows.specs.Columns.{lines_table}
 use Rattle.td_store_rows.specs.declared.lines.texts.TheConstants.{INSERT, OF_MOVEMENT, ON_GUARANTEE}
 
 lines_there : HasTable desk_schema 5 lines_table

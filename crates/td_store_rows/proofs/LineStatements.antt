@@ -10,7 +10,7 @@ use Rattle.sqlite_sql.specs.Term.{eval_all}
 use Rattle.sqlite_value.specs.Order.{Row, column}
 use Rattle.typed_sql.specs.Reading.{row_order}
 use Rattle.td_store_rows.specs.declared.lines.stored.StoredLine.{StoredLine}
-use Rattle.td_store_rows.specs.LineColumns.{line_cells, line_from, line_typing, lines_table}
+use Rattle.td_store_rows.specs.Columns.{line_cells, line_from, line_typing, lines_table}
 use Rattle.td_store_rows.specs.LineTable.{AreByNumber, AreLines, TurnsLines, is_line_of, is_line_on, line_rows_in, line_row_of}
 use Rattle.td_store_rows.specs.declared.lines.texts.TheConstants.{INSERT}
 use Rattle.td_schema.specs.Tables.{desk_schema}

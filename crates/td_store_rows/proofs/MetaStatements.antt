@@ -19,7 +19,7 @@ use Rattle.typed_sql.specs.Writing.{Inserts, columns_put, passes}
 use Rattle.sqlite_typed.proofs.TestLemmas.{then_value}
 use Rattle.td_store_rows.specs.declared.meta.stored.StoredMeta.{StoredMeta}
 use Rattle.td_store_rows.specs.declared.meta.texts.TheConstants.{INSERT, FIND}
-use Rattle.td_store_rows.specs.MetaColumns.{meta_cells, meta_columns, meta_from, meta_row, meta_table, meta_typing}
+use Rattle.td_store_rows.specs.Columns.{meta_cells, meta_columns, meta_from, meta_row, meta_table, meta_typing}
 use Rattle.td_store_rows.specs.MetaTable.{IsTheMeta, TurnsMeta, stored_of}
 use Rattle.td_store_rows.proofs.MetaMeanings.{all_columns, find_means, insert_means, new_row}
 

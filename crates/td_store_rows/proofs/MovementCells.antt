@@ -8,7 +8,7 @@ use Rattle.td_movement.specs.States.{is_counting, state_name}
 use Rattle.td_movement.specs.declared.movement.Movement.{Movement}
 use Rattle.td_movement.specs.declared.state.State.{State}
 use Rattle.td_movement.specs.declared.state.State.TheVariants.{Accepted, Arrived, Cancelled, Cleared, Discrepant, Enquired, Released, WrittenOff}
-use Rattle.td_store_rows.specs.MovementColumns.{movement_cells, movement_from, movements_table, state_in}
+use Rattle.td_store_rows.specs.Columns.{movement_cells, movement_from, movements_table, state_in}
 use Rattle.typed_sql.proofs.Columns.{cast_number_if, cast_text_if, number_back, text_back}
 use Rattle.typed_sql.proofs.Effects.{cast_int}
 use Rattle.td_table_model.specs.Tables.{Keyed}

@@ -20,7 +20,7 @@ use Rattle.typed_sql.specs.Reading.{Fetches, IsAnswerOf, Selects, row_order, sho
 use Rattle.typed_sql.specs.Typed.{AreTyped, row_of, typed_rows}
 use Rattle.typed_sql.specs.Values.{number_in, number_value}
 use Rattle.typed_sql.specs.Writing.{HasSchema, passes}
-use Rattle.td_store_rows.specs.MovementColumns.{movement_columns, movement_from, movement_typing}
+use Rattle.td_store_rows.specs.Columns.{movement_columns, movement_from, movement_typing}
 use Rattle.td_store_rows.specs.MovementTable.{AreSerialsInOrder, AreSerialsOf, counts_for, serial_of_stored}
 use Rattle.td_store_rows.specs.declared.movements.stored.MovementSerial.{MovementSerial}
 use Rattle.td_store_rows.specs.declared.movements.texts.TheConstants.{COUNTING_SERIALS}

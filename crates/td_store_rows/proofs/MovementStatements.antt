@@ -25,7 +25,7 @@ use Rattle.std.specs.Str.{bytes_eq}
 use Rattle.td_acts.specs.declared.rows.NewStatus.{NewStatus}
 use Rattle.td_movement.specs.States.{state_name}
 use Rattle.td_movement.specs.declared.movement.Movement.{Movement}
-use Rattle.td_store_rows.specs.MovementColumns.{movement_cells, movement_columns, movement_typing, movements_table}
+use Rattle.td_store_rows.specs.Columns.{movement_cells, movement_columns, movement_typing, movements_table}
 use Rattle.td_store_rows.specs.declared.movements.texts.TheConstants.{INSERT, SET_STATUS}
 use Rattle.td_schema.specs.Tables.{desk_schema}
 use Rattle.typed_sql.proofs.Columns.{given_or, number_is, text_is}

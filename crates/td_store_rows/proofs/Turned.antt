@@ -9,15 +9,9 @@ use Rattle.td_guarantee.specs.declared.guarantee.Guarantee.{Guarantee}
 use Rattle.td_movement.specs.declared.movement.Movement.{Movement}
 use Rattle.td_table_model.specs.Tables.{Keyed, LineCells, Tables}
 use Rattle.td_schema.specs.Tables.{desk_schema}
-use Rattle.typed_sql.specs.Rows.{AreOthersKept, HaveIds}
-use Rattle.typed_sql.specs.Writing.{HasSchema}
+use Rattle.typed_sql.specs.Writing.{AreOthersKept, HaveIds, HasSchema}
 use Rattle.typed_sql.specs.Typed.{Typing, AreTyped, IsTypedRow, Turns, row_of, typed_rows}
-use Rattle.td_store_rows.specs.MetaColumns.{meta_typing}
-use Rattle.td_store_rows.specs.HolderColumns.{holder_typing}
-use Rattle.td_store_rows.specs.GuaranteeColumns.{guarantee_typing}
-use Rattle.td_store_rows.specs.CodeColumns.{code_typing}
-use Rattle.td_store_rows.specs.MovementColumns.{movement_typing}
-use Rattle.td_store_rows.specs.LineColumns.{line_typing}
+use Rattle.td_store_rows.specs.Columns.{meta_typing, holder_typing, guarantee_typing, code_typing, movement_typing, line_typing}
 use Rattle.td_store_rows.specs.StoreTables.{AreAllTyped, HasTables, tables_in, country_in}
 
 -- a table whose tree is as it was has the same rows, typed as before

@@ -10,7 +10,7 @@ use Rattle.td_table_model.specs.Tables.{Keyed}
 use Rattle.td_schema.specs.Tables.{desk_schema}
 use Rattle.typed_sql.specs.Typed.{AreThose, AreTyped, Turns, typed_rows}
 use Rattle.typed_sql.specs.Writing.{HasSchema}
-use Rattle.td_store_rows.specs.CodeColumns.{code_typing}
+use Rattle.td_store_rows.specs.Columns.{code_typing}
 use Rattle.td_store_rows.specs.declared.codes.stored.StoredCode.{StoredCode}
 
 -- a code of a holder's guarantee, as its row

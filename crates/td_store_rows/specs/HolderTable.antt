@@ -5,7 +5,7 @@ use Rattle.sqlite.specs.State.{State}
 use Rattle.td_model.specs.declared.holder_row.HolderRow.{HolderRow}
 use Rattle.td_schema.specs.Tables.{desk_schema}
 use Rattle.typed_sql.specs.Typed.{AreThose, Turns}
-use Rattle.td_store_rows.specs.HolderColumns.{holder_typing}
+use Rattle.td_store_rows.specs.Columns.{holder_typing}
 
 -- the statement turned the holders into what f makes of them
 abbrev pub TurnsHolders : (List HolderRow → List HolderRow) → State → State → Type 0

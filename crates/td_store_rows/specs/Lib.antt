@@ -1,13 +1,8 @@
-pub mod MetaColumns
+pub mod Columns
 pub mod MetaTable
-pub mod HolderColumns
 pub mod HolderTable
-pub mod GuaranteeColumns
 pub mod GuaranteeTable
-pub mod CodeColumns
 pub mod CodeTable
-pub mod MovementColumns
 pub mod MovementTable
-pub mod LineColumns
 pub mod LineTable
 pub mod StoreTables

@@ -8,7 +8,7 @@ use Rattle.td_table_model.specs.Tables.{Keyed, LineCells}
 use Rattle.td_schema.specs.Tables.{desk_schema}
 use Rattle.typed_sql.specs.Typed.{AreThose, AreTyped, Turns, typed_rows}
 use Rattle.typed_sql.specs.Writing.{HasSchema}
-use Rattle.td_store_rows.specs.LineColumns.{line_typing}
+use Rattle.td_store_rows.specs.Columns.{line_typing}
 use Rattle.td_store_rows.specs.declared.lines.stored.StoredLine.{StoredLine}
 
 -- a line of a holder's movement, as its row

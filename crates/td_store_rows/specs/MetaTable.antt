@@ -2,11 +2,11 @@
 use Rattle.std.specs.Prelude.{◌≡◌, List, map, Option}
 use Rattle.std.specs.Option.{option_to_list}
 use Rattle.sqlite.specs.State.{State}
-use Rattle.td_base.specs.Country.{country_read}
+use Rattle.td_base.specs.Codes.{country_read}
 use Rattle.td_schema.specs.Tables.{desk_schema}
 use Rattle.typed_sql.specs.Typed.{AreTyped, Turns, typed_rows}
 use Rattle.typed_sql.specs.Writing.{HasSchema}
-use Rattle.td_store_rows.specs.MetaColumns.{MetaRow, meta_typing}
+use Rattle.td_store_rows.specs.Columns.{MetaRow, meta_typing}
 use Rattle.td_store_rows.specs.declared.meta.stored.StoredMeta.{StoredMeta}
 
 -- what is said of a row: its country, where its text is one

@@ -4,8 +4,7 @@ use Rattle.sqlite_trees.specs.Tree.{Trees}
 use Rattle.sqlite.specs.Effect.{Database}
 use Rattle.sqlite.specs.State.{State}
 use Rattle.td_acts.specs.declared.rows.Change.{Change}
-use Rattle.td_desk.specs.Content.{Content, content_after}
-use Rattle.td_desk.specs.Sound.{IsSound}
+use Rattle.td_desk.specs.Content.{Content, content_after, IsSound}
 use Rattle.td_desk.specs.Weighing.{IsDecision}
 use Rattle.td_desk.proofs.Carrying.{carries}
 use Rattle.td_acts.specs.declared.rows.Verdict.{Verdict}

@@ -6,19 +6,13 @@ use Rattle.sqlite_trees.specs.Tree.{Trees}
 use Rattle.sqlite.specs.State.{State}
 use Rattle.sqlite.proofs.Callers.{one_permutation}
 use Rattle.td_desk.specs.Content.{empty_content}
-use Rattle.td_base.specs.Country.{IsCountry}
+use Rattle.td_base.specs.Codes.{IsCountry}
 use Rattle.td_schema.specs.Making.{IsEmptyOf}
 use Rattle.td_schema.specs.Tables.{desk_schema}
-use Rattle.typed_sql.specs.Rows.{HaveIds}
-use Rattle.typed_sql.specs.Writing.{HasSchema}
+use Rattle.typed_sql.specs.Writing.{HaveIds, HasSchema}
 use Rattle.typed_sql.specs.Typed.{AreTyped, HasNow, IsTypedRow, Typing, row_of, typed_rows}
-use Rattle.td_store_rows.specs.MetaColumns.{meta_row, meta_typing, newest_version}
+use Rattle.td_store_rows.specs.Columns.{meta_row, meta_typing, newest_version, holder_typing, guarantee_typing, code_typing, movement_typing, line_typing}
 use Rattle.td_store_rows.specs.MetaTable.{TurnsMeta}
-use Rattle.td_store_rows.specs.HolderColumns.{holder_typing}
-use Rattle.td_store_rows.specs.GuaranteeColumns.{guarantee_typing}
-use Rattle.td_store_rows.specs.CodeColumns.{code_typing}
-use Rattle.td_store_rows.specs.MovementColumns.{movement_typing}
-use Rattle.td_store_rows.specs.LineColumns.{line_typing}
 use Rattle.td_store_rows.specs.StoreTables.{HoldsContent, country_in}
 use Rattle.td_store_write.specs.Created.{AreOfEmptyDesk}
 

@@ -6,7 +6,7 @@ use Rattle.td_desk.specs.Content.{empty_content}
 use Rattle.td_schema.specs.Making.{IsEmptyOf}
 use Rattle.td_schema.specs.Tables.{no_schema}
 use Rattle.typed_sql.specs.Typed.{typed_rows}
-use Rattle.td_store_rows.specs.MetaColumns.{meta_row, meta_typing, newest_version}
+use Rattle.td_store_rows.specs.Columns.{meta_row, meta_typing, newest_version}
 use Rattle.td_table_model.specs.Tables.{AreTablesOf}
 use Rattle.td_store_rows.specs.StoreTables.{AreAllTyped, HoldsContent, tables_in}
 

@@ -9,7 +9,7 @@ use Rattle.std.proofs.lemmas.List.Concat.{flat_map_single}
 use Rattle.std.proofs.lemmas.List.Sorted.{IsPermutation-refl}
 use Rattle.keyed_rows.specs.Rows.{put_row}
 use Rattle.keyed_rows.proofs.Putting.{row_at-put_row_same, row_at_has, All-row_at}
-use Rattle.td_base.specs.Holder.{IsHolderNumber}
+use Rattle.td_base.specs.Codes.{IsHolderNumber}
 use Rattle.td_guarantee.specs.declared.guarantee.Guarantee.{Guarantee}
 use Rattle.td_movement.specs.declared.movement.Movement.{Movement}
 use Rattle.td_model.specs.declared.holder_row.HolderRow.{HolderRow}
@@ -22,8 +22,7 @@ use Rattle.td_acts.specs.Changes.{with_terms, moved, row_in, rows_after, rows_or
 use Rattle.td_model.specs.Sound.{AreHolderRows, AllNumbered, IsGuaranteeRow}
 use Rattle.td_model.specs.Table.{stands}
 use Rattle.td_holder_memory.specs.Key.{holder_key}
-use Rattle.td_desk.specs.Content.{Content, rows_of, content_after, content_after_row}
-use Rattle.td_desk.specs.Sound.{IsSound}
+use Rattle.td_desk.specs.Content.{Content, rows_of, content_after, content_after_row, IsSound}
 use Rattle.td_table_model.specs.Tables.{Keyed, Tables, AreTablesOf, numbered, guarantee_row, guarantee_no, code_row, code_rows, movement_row, line_rows, guarantees_in, code_rows_of, movements_in, line_rows_of}
 use Rattle.td_table_model.specs.Gathering.{owner, holder_no, content_of}
 use Rattle.td_table_model.specs.Changes.{with_row, with_status_of, with_terms_of, is_code_of, tables_after, HaveSameRows, HasGuarantee, CanBeWritten}

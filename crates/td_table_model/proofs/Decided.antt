@@ -4,7 +4,7 @@ use Rattle.std.specs.Prelude.{if◌then◌else◌, IfSome}
 use Rattle.std.specs.Option.{option_map}
 use Rattle.keyed_rows.specs.Rows.{row_at}
 use Rattle.keyed_rows.proofs.Putting.{row_at_has}
-use Rattle.td_base.specs.Moment.{moment_of}
+use Rattle.td_base.specs.Days.{moment_of}
 use Rattle.td_guarantee.specs.declared.guarantee.Guarantee.{Guarantee}
 use Rattle.td_movement.specs.declared.movement.Movement.{Movement}
 use Rattle.td_commands.specs.declared.command.Command.{Command}
@@ -17,14 +17,13 @@ use Rattle.td_acts.specs.declared.rows.Verdict.{Verdict}
 use Rattle.td_acts.specs.declared.rows.Change.{Change}
 use Rattle.td_acts.specs.declared.rows.Change.TheVariants as change
 use Rattle.td_model.specs.Account.{Account, HolderRows, guarantee_by_grn}
-use Rattle.td_model.specs.Acceptance.{is_accepted_at}
+use Rattle.td_model.specs.Machine.{is_accepted_at}
 use Rattle.td_acts.specs.Deciding.{change_of, change_in, decision_on}
 use Rattle.td_model.specs.Table.{stands}
 use Rattle.td_acts.proofs.Accepted.{IsFor, named_facts, passed}
 use Rattle.td_acts.proofs.AcceptedRows.{change_in_is_for, moment_is, nobody_writes}
 use Rattle.td_holder_memory.specs.Key.{holder_key}
-use Rattle.td_desk.specs.Content.{Content, rows_of, account_in, content_after}
-use Rattle.td_desk.specs.Sound.{IsSound}
+use Rattle.td_desk.specs.Content.{Content, rows_of, account_in, content_after, IsSound}
 use Rattle.td_desk.specs.Weighing.{account_for, owner_account, IsDecision}
 use Rattle.td_desk.proofs.Carrying.{carries}
 use Rattle.td_desk.proofs.Fresh.{account_fresh}

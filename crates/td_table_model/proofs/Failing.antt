@@ -6,8 +6,7 @@ use Rattle.td_model.specs.declared.holder_row.HolderRow.{HolderRow}
 use Rattle.td_table_model.specs.declared.rule.Rule.{Rule}
 use Rattle.td_table_model.specs.declared.rule.Rule.TheVariants.{S1, S2, S3, S4, S5, S6, S7, S8}
 use Rattle.td_table_model.specs.Tables.{Tables}
-use Rattle.td_table_model.specs.Rules.{IsHolderInRange, HasGuarantees, HasCodes, HasMovements, HasLines, IsHolderCovered, KeepsRules, KeepRules}
-use Rattle.td_table_model.specs.Failing.{Keeps, RulesAreKeptEach}
+use Rattle.td_table_model.specs.Rules.{IsHolderInRange, HasGuarantees, HasCodes, HasMovements, HasLines, IsHolderCovered, KeepsRules, KeepRules, Keeps, RulesAreKeptEach}
 
 each_kept : (t : Tables) → KeepRules t → (rule : Rule) → Keeps t rule
 each_kept t keep S1 = keep.country

@@ -8,17 +8,15 @@ use Rattle.sqlite_trees.proofs.ListLemmas.{all_of, all_weaker, all_both, all-fla
 use Rattle.keyed_rows.specs.Rows.{row_at}
 use Rattle.td_table_model.specs.Apart.{IsApart}
 use Rattle.std.proofs.lemmas.List.Elements.{recursion_from_All}
-use Rattle.td_base.specs.Codes.{IsAccessCode}
-use Rattle.td_base.specs.Country.{IsCountry}
+use Rattle.td_base.specs.Codes.{IsAccessCode, IsCountry}
 use Rattle.td_guarantee.specs.declared.guarantee.Guarantee.{Guarantee}
 use Rattle.td_movement.specs.declared.line.Line.{Line}
 use Rattle.td_movement.specs.declared.movement.Movement.{Movement}
-use Rattle.td_commands.specs.Lines.{IsLineAmount}
+use Rattle.td_commands.specs.Commands.{IsLineAmount}
 use Rattle.td_model.specs.Account.{HolderRows, guarantee_by_grn}
 use Rattle.td_model.specs.Sound.{AreHolderRows, IsGuaranteeRow, IsMovementRow, IsCovered}
 use Rattle.td_acts.proofs.Joined.{AllPairs-map}
-use Rattle.td_desk.specs.Content.{Content}
-use Rattle.td_desk.specs.Sound.{IsSound}
+use Rattle.td_desk.specs.Content.{Content, IsSound}
 use Rattle.td_table_model.specs.Tables.{Keyed, LineCells, Tables, AreTablesOf, numbered, guarantee_row, guarantee_no, code_row, code_rows, movement_row, line_row, line_rows, guarantees_in, code_rows_of, movements_in, line_rows_of}
 use Rattle.td_table_model.specs.Gathering.{of_key, place, no_of, part, guarantees_by, movements_by, lines_by}
 use Rattle.td_table_model.specs.Rules.{IsGuaranteeInRange, HasGuarantees, HasCodes, IsMovementInRange, HasMovements, AreLinesInRange, HasLines, KeepsRules, KeepRules, count_of_codes, named_by}

@@ -14,8 +14,7 @@ use Rattle.td_movement.specs.declared.movement.Movement.{Movement}
 use Rattle.td_model.specs.Account.{HolderRows, ReferencesDiffer}
 use Rattle.td_model.specs.Sound.{AreHolderRows}
 use Rattle.td_holder_memory.specs.Key.{holder_key}
-use Rattle.td_desk.specs.Content.{Content, account_in, rows_of}
-use Rattle.td_desk.specs.Sound.{IsSound}
+use Rattle.td_desk.specs.Content.{Content, account_in, rows_of, IsSound}
 use Rattle.td_desk.proofs.Differing.{references_differ}
 use Rattle.td_table_model.specs.Tables.{Keyed, Tables, AreTablesOf, guarantees_in, movements_in}
 use Rattle.td_table_model.specs.Gathering.{in_order, owner, place, holder_no, part, guarantees_by, movements_by, with_codes, with_lines}

@@ -9,8 +9,7 @@ use Rattle.std.proofs.lemmas.List.Sorted.{IsPermutation-sym, IsPermutation-map, 
 use Rattle.std.proofs.lemmas.Slice.Eq.{bytes_eq-Decides}
 use Rattle.sqlite_trees.proofs.ListLemmas.{filter-map, all_of, all-map, filter_all, filter_same, IsPermutation-same}
 use Rattle.std.specs.Option.{is_some}
-use Rattle.td_base.specs.Country.{IsCountry}
-use Rattle.td_base.specs.Holder.{IsHolderNumber}
+use Rattle.td_base.specs.Codes.{IsCountry, IsHolderNumber}
 use Rattle.td_base.specs.References.{serial_of, greatest_grn_serial}
 use Rattle.td_guarantee.specs.declared.guarantee.Guarantee.{Guarantee}
 use Rattle.td_guarantee.specs.Codes.{with_code, without_code}

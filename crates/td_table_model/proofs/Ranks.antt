@@ -14,7 +14,7 @@ use Rattle.std.specs.declared.cmp.Ordering.{Ordering}
 use Rattle.std.specs.declared.cmp.Ordering.TheVariants.{Less, Equal, Greater}
 use Rattle.std.specs.Cmp.Lexicographic.{slice_cmp}
 use Rattle.std.specs.List.Sorted.{IsStrictlySortedBy}
-use Rattle.ascii_text.specs.Letters.{IsMark}
+use Rattle.ascii_text.specs.Digits.{IsMark}
 use Rattle.td_base.specs.Codes.{IsAccessCode}
 use Rattle.td_guarantee.specs.Codes.{AreAscending}
 use Rattle.std.specs.Ordering.{is_eq, ordering_reverse}

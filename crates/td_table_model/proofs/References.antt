@@ -6,8 +6,7 @@ use Rattle.std.specs.Str.{bytes_eq}
 use Rattle.std.proofs.lemmas.Bool.Decides.{nat_tests}
 use Rattle.std.proofs.lemmas.Slice.Eq.{bytes_eq-Decides}
 use Rattle.keyed_rows.specs.Rows.{row_at}
-use Rattle.td_base.specs.Country.{IsCountry}
-use Rattle.td_base.specs.Holder.{IsHolderNumber}
+use Rattle.td_base.specs.Codes.{IsCountry, IsHolderNumber}
 use Rattle.td_base.specs.References.{serial_of, greatest_grn_serial}
 use Rattle.td_base.proofs.MadeReferences.{made_serial_is}
 use Rattle.td_guarantee.specs.declared.guarantee.Guarantee.{Guarantee}

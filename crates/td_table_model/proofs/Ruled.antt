@@ -8,10 +8,8 @@ use Rattle.sqlite_trees.proofs.ListLemmas.{map-map, flat_map-map, all_weaker, al
 use Rattle.keyed_rows.specs.Rows.{row_at}
 use Rattle.keyed_rows.proofs.Putting.{row_at_has, All-row_at}
 use Rattle.td_table_model.specs.Apart.{IsApart, IsNumbered}
-use Rattle.td_base.specs.Country.{IsCountry}
-use Rattle.td_base.specs.Holder.{IsHolderNumber}
+use Rattle.td_base.specs.Codes.{IsCountry, IsHolderNumber, IsAccessCode}
 use Rattle.td_base.specs.References.{serial_of, greatest_grn_serial}
-use Rattle.td_base.specs.Codes.{IsAccessCode}
 use Rattle.td_base.proofs.MadeReferences.{made_serial_is}
 use Rattle.td_guarantee.specs.declared.guarantee.Guarantee.{Guarantee}
 use Rattle.td_movement.specs.declared.movement.Movement.{Movement}

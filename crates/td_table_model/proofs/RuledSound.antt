@@ -11,9 +11,7 @@ use Rattle.sqlite_trees.proofs.ListLemmas.{all_weaker, all_both, all-filter, all
 use Rattle.keyed_rows.specs.Rows.{row_at}
 use Rattle.td_table_model.specs.Apart.{IsApart}
 use Rattle.std.proofs.lemmas.List.Elements.{All-from_recursion}
-use Rattle.td_base.specs.Codes.{IsAccessCode}
-use Rattle.td_base.specs.Country.{IsCountry}
-use Rattle.td_base.specs.Holder.{IsHolderNumber}
+use Rattle.td_base.specs.Codes.{IsAccessCode, IsCountry, IsHolderNumber}
 use Rattle.td_base.specs.References.{grn_text, mrn_text}
 use Rattle.td_base.specs.Days.{year_of}
 use Rattle.td_guarantee.specs.declared.guarantee.Guarantee.{Guarantee}
@@ -22,13 +20,13 @@ use Rattle.td_movement.specs.declared.movement.Movement.{Movement}
 use Rattle.td_movement.specs.declared.state.State.{State}
 use Rattle.td_movement.specs.declared.state.State.TheVariants.{Accepted, Cancelled, Released, Enquired, Arrived, Discrepant, Cleared, WrittenOff}
 use Rattle.td_movement.specs.Status.{HasDaysOf, IsStatus}
-use Rattle.td_commands.specs.Lines.{IsLineAmount}
+use Rattle.td_commands.specs.Commands.{IsLineAmount}
 use Rattle.td_model.specs.declared.holder_row.HolderRow.{HolderRow}
 use Rattle.td_model.specs.Account.{guarantee_by_grn}
 use Rattle.td_model.specs.Sound.{AreCodes, AreMovementLines, IsGuaranteeRow, IsMovementRow, AreHolderRows}
 use Rattle.td_acts.proofs.Joined.{AllPairs-map}
 use Rattle.td_holder_memory.specs.Key.{holder_key}
-use Rattle.td_desk.specs.Sound.{IsSound}
+use Rattle.td_desk.specs.Content.{IsSound}
 use Rattle.td_table_model.specs.Tables.{Keyed, LineCells, Tables, guarantee_no}
 use Rattle.td_table_model.specs.Gathering.{in_order, of_key, owner, place, no_of, code_rank, text_rank, holder_no, part, guarantees_by, codes_by, movements_by, lines_by, grn_by, with_codes, with_lines, line_from, gathered, content_of}
 use Rattle.td_table_model.specs.Stored.{AreStored}

@@ -6,7 +6,7 @@ use Rattle.std.specs.Str.{bytes_eq}
 use Rattle.std.proofs.lemmas.Bool.Decides.{nat_tests}
 use Rattle.std.proofs.lemmas.Slice.Eq.{bytes_eq-Decides}
 use Rattle.sqlite_trees.proofs.ListLemmas.{all_weaker, all_both, all-flat_map, all-map, all-permutation}
-use Rattle.td_base.specs.Country.{IsCountry}
+use Rattle.td_base.specs.Codes.{IsCountry}
 use Rattle.td_base.specs.Days.{year_of}
 use Rattle.td_base.specs.References.{owner_of, serial_of}
 use Rattle.td_base.proofs.MadeReferences.{made_owner, made_serial_is}
@@ -14,8 +14,7 @@ use Rattle.td_guarantee.specs.declared.guarantee.Guarantee.{Guarantee}
 use Rattle.td_movement.specs.declared.movement.Movement.{Movement}
 use Rattle.td_model.specs.Account.{HolderRows}
 use Rattle.td_model.specs.Sound.{AreHolderRows, IsGuaranteeRow, IsMovementRow}
-use Rattle.td_desk.specs.Content.{Content}
-use Rattle.td_desk.specs.Sound.{IsSound}
+use Rattle.td_desk.specs.Content.{Content, IsSound}
 use Rattle.td_table_model.specs.Tables.{Keyed, Tables, AreTablesOf, numbered, guarantee_row, movement_row, guarantees_in, movements_in}
 use Rattle.td_table_model.specs.Looking.{TellKeys, MayBeAskedByKey}
 use Rattle.td_table_model.proofs.Numbered.{all_numbered}

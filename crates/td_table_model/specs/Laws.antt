@@ -6,8 +6,7 @@ use Rattle.td_guarantee.specs.Usage.{used_on}
 use Rattle.td_movement.specs.declared.movement.Movement.{Movement}
 use Rattle.td_acts.specs.declared.rows.Change.{Change}
 use Rattle.td_acts.specs.declared.rows.Verdict.{Verdict}
-use Rattle.td_desk.specs.Content.{Content, account_in, content_after}
-use Rattle.td_desk.specs.Sound.{IsSound}
+use Rattle.td_desk.specs.Content.{Content, account_in, content_after, IsSound}
 use Rattle.td_desk.specs.Weighing.{IsDecision}
 use Rattle.td_model.specs.Account.{guarantee_by_grn}
 use Rattle.td_table_model.specs.Tables.{Keyed, LineCells, Tables, AreTablesOf, guarantee_no}

@@ -5,6 +5,5 @@ pub mod Looking
 pub mod Changes
 pub mod Stored
 pub mod Rules
-pub mod Failing
 pub mod Worked
 pub mod Laws

@@ -1,19 +1,17 @@
 -- The rules of sound tables, beside what the database itself keeps: S1 of the country, S2 to S6 and S8 each of
 -- one holder's rows. S7 is of tables that keep the amounts in use, which these don't.
-use Rattle.std.specs.Prelude.{◌≡◌, ℕ, ◌%◌, ◌≤◌, List, length, IfSome, IsSome}
+-- The rules one by one, and which of them tables break first.
+use Rattle.std.specs.Prelude.{◌≡◌, ℕ, ◌%◌, ◌≤◌, List, length, IfSome, IsSome, ◌↔◌, ◌<◌, codes}
 use Rattle.std.specs.List.{AllByRecursion}
 use Rattle.keyed_rows.specs.Rows.{row_at}
-use Rattle.td_base.specs.Codes.{IsAccessCode, IsLrn, IsOfficeNo}
-use Rattle.td_base.specs.Country.{IsCountry}
-use Rattle.td_base.specs.Days.{IsDay, year_of}
-use Rattle.td_base.specs.Eori.{IsEori}
-use Rattle.td_base.specs.Moment.{IsMoment}
+use Rattle.td_base.specs.Codes.{IsAccessCode, IsLrn, IsOfficeNo, IsCountry, IsEori}
+use Rattle.td_base.specs.Days.{IsDay, year_of, IsMoment}
 use Rattle.td_base.specs.Money.{IsReference, IsCover}
 use Rattle.td_base.specs.References.{grn_text, mrn_text, greatest_grn_serial, greatest_mrn_serial}
 use Rattle.td_guarantee.specs.declared.guarantee.Guarantee.{Guarantee}
 use Rattle.td_movement.specs.declared.movement.Movement.{Movement}
 use Rattle.td_movement.specs.Status.{IsStatus}
-use Rattle.td_commands.specs.Lines.{IsLineAmount}
+use Rattle.td_commands.specs.Commands.{IsLineAmount}
 use Rattle.td_model.specs.declared.holder_row.HolderRow.{HolderRow}
 use Rattle.td_model.specs.Sound.{IsCovered, IsMrnOf, IsGrnOf}
 use Rattle.td_table_model.specs.Tables.{Keyed, LineCells, Tables}
@@ -22,6 +20,8 @@ use Rattle.td_table_model.specs.Apart.{IsApart, IsNumbered}
 use Rattle.td_table_model.specs.Stored.{AreStored}
 use Rattle.td_guarantee.specs.Codes.{most_codes}
 use Rattle.td_movement.specs.Lines.{most_lines}
+use Rattle.td_table_model.specs.declared.rule.Rule.{Rule}
+use Rattle.td_table_model.specs.declared.rule.Rule.TheVariants.{S1, S2, S3, S4, S5, S6, S7, S8}
 
 -- S1: the country is two capital letters
 abbrev pub HasCountry : Tables → Type 0
@@ -115,3 +115,45 @@ pub record KeepRules (t : Tables) : Type 0 where
   pub stored : AreStored t
   pub country : HasCountry t
   pub holders : AllByRecursion (KeepsRules t) t.holders
+
+-- its name
+abbrev pub rule_name : Rule → List ℕ
+rule_name S1 = codes "S1"
+rule_name S2 = codes "S2"
+rule_name S3 = codes "S3"
+rule_name S4 = codes "S4"
+rule_name S5 = codes "S5"
+rule_name S6 = codes "S6"
+rule_name S7 = codes "S7"
+rule_name S8 = codes "S8"
+
+-- its place among them
+abbrev pub rule_no : Rule → ℕ
+rule_no S1 = 1
+rule_no S2 = 2
+rule_no S3 = 3
+rule_no S4 = 4
+rule_no S5 = 5
+rule_no S6 = 6
+rule_no S7 = 7
+rule_no S8 = 8
+
+-- the tables keep the rule; S7 is of tables that keep the amounts in use, which these don't
+abbrev pub Keeps : Tables → Rule → Type 0
+Keeps t S1 = HasCountry t
+Keeps t S2 = AllByRecursion IsHolderInRange t.holders
+Keeps t S3 = AllByRecursion (HasGuarantees t) t.holders
+Keeps t S4 = AllByRecursion (HasCodes t) t.holders
+Keeps t S5 = AllByRecursion (HasMovements t) t.holders
+Keeps t S6 = AllByRecursion (HasLines t) t.holders
+Keeps t S7 = Unit {0}
+Keeps t S8 = AllByRecursion (IsHolderCovered t) t.holders
+
+-- it is the first that they break
+pub record IsFirstBroken (t : Tables) (rule : Rule) : Type 0 where
+  pub broken : ¬ Keeps t rule
+  pub before : (other : Rule) → rule_no other < rule_no rule → Keeps t other
+
+-- tables of which the database keeps what it does keep the rules exactly where they keep each
+abbrev pub RulesAreKeptEach : Type 0
+RulesAreKeptEach = (t : Tables) → AreStored t → KeepRules t ↔ ((rule : Rule) → Keeps t rule)

@@ -1,6 +1,6 @@
 //! Laws of the tables, as contracts of functions that do nothing.
 ghost use Rattle.td_table_model.specs.Laws.{AccountsAreInTables, ChangesAreWritten, ContentIsOfTables, CountingRowsAreUse, DecisionsAreWritten, LinesInUseAreUse, ReferencesTellKeys, RowsAreFoundInTables, RuledContentIsSound, RuledTablesAreOfContent, RulesMeanSoundContent};
-ghost use Rattle.td_table_model.specs.Failing.{RulesAreKeptEach};
+ghost use Rattle.td_table_model.specs.Rules.{RulesAreKeptEach};
 
 /// Tables that have just the rows of sound content have that content.
 pub fn content_is_of_tables()

@@ -1,6 +1,6 @@
 //! The rules of sound tables.
 ghost use Rattle.std.specs.Prelude.{◌≡◌};
-ghost use Rattle.td_table_model.specs.Failing.{rule_name};
+ghost use Rattle.td_table_model.specs.Rules.{rule_name};
 
 use std::fmt;
 

@@ -33,8 +33,7 @@ use Rattle.typed_sql.proofs.Queries.{plain_answer}
 use Rattle.typed_sql.proofs.Steps.{command_is, one_deleted, one_inserted, one_updated}
 use Rattle.typed_sql.specs.Meanings.{MeansDelete, MeansInsert, MeansUpdate, plain_query, plain_table, program_of}
 use Rattle.typed_sql.specs.Reading.{IsAnswerOf, row_order, shown_by}
-use Rattle.typed_sql.specs.Rows.{HaveIds}
-use Rattle.typed_sql.specs.Writing.{IsDeleted, IsInserted, IsUpdated, columns_put, columns_set, passes}
+use Rattle.typed_sql.specs.Writing.{HaveIds, IsDeleted, IsInserted, IsUpdated, columns_put, columns_set, passes}
 
 pub cast_int : (n : ℤ) → cast Integer (Int n) ≡ Int n
 unfolding unary

@@ -14,7 +14,7 @@ use Rattle.std.specs.Prelude.{filter, ℤ, ◌||◌}
 use Rattle.std.specs.declared.cmp.Ordering.{Ordering}
 use Rattle.std.specs.declared.cmp.Ordering.TheVariants.{Equal, Greater, Less}
 use Rattle.typed_sql.proofs.Lists.{fewer}
-use Rattle.typed_sql.specs.Rows.{HaveIds}
+use Rattle.typed_sql.specs.Writing.{HaveIds}
 
 -- a row whose rowid is free is put to the others
 pub puts : (new : Row) (rows : List Row) → is_taken rows new ≡ false

@@ -1,4 +1,3 @@
-pub mod Rows
 pub mod Meanings
 pub mod Writing
 pub mod Reading

@@ -9,8 +9,7 @@ use Rattle.sqlite_schema.specs.declared.schema.Schema.{Schema}
 use Rattle.sqlite_schema.specs.declared.schema.Table.{Table}
 use Rattle.sqlite.specs.Effect.{Database}
 use Rattle.sqlite.specs.State.{State}
-use Rattle.typed_sql.specs.Rows.{HaveIds, AreOthersKept}
-use Rattle.typed_sql.specs.Writing.{HasSchema}
+use Rattle.typed_sql.specs.Writing.{HaveIds, AreOthersKept, HasSchema}
 
 -- How a table's rows are typed: the columns of a row, by which a short one is made up with NULLs; the columns of a
 -- typed row; and the typed row that columns are read as, whatever they are.

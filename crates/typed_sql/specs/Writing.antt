@@ -1,18 +1,28 @@
+-- The rows of a table, each with its rowid, and the tables beside it.
 -- What a statement that writes one row did to the tables.
-use Rattle.std.specs.Prelude.{◌≡◌, ℕ, ℤ, Bool, if◌then◌else◌, not, List, [], ◌∷◌, length, map, filter, drop, IsTrue}
-use Rattle.std.specs.List.{list_all}
-use Rattle.std.specs.List.Sorted.{IsPermutation}
+use Rattle.std.specs.Prelude.{◌≡◌, ◌≢◌, ℕ, ℤ, ◌≤◌, List, length, filter, Bool, if◌then◌else◌, not, [], ◌∷◌, map, drop, IsTrue}
+use Rattle.std.specs.List.{AllByRecursion, list_all}
 use Rattle.sqlite_value.specs.declared.value.Value.TheVariants.{Int}
 use Rattle.sqlite_value.specs.Order.{Row}
-use Rattle.sqlite_trees.specs.Tree.{rowid}
+use Rattle.sqlite_trees.specs.Tree.{Trees, rowid, has_rowid}
+use Rattle.sqlite_rules.specs.Edit.{id_in}
+use Rattle.sqlite_schema.specs.declared.schema.Schema.{Schema}
+use Rattle.std.specs.List.Sorted.{IsPermutation}
 use Rattle.sqlite_sql.specs.Term.{Term, eval_all, holds}
 use Rattle.sqlite_rules.specs.Cast.{cast_all}
-use Rattle.sqlite_schema.specs.declared.schema.Schema.{Schema}
 use Rattle.sqlite_schema.specs.declared.schema.Table.{Table}
 use Rattle.sqlite.specs.Effect.{Database}
 use Rattle.sqlite.specs.State.{State}
 use Rattle.typed_sql.specs.Meanings.{MeansInsert, MeansUpdate, MeansDelete}
-use Rattle.typed_sql.specs.Rows.{HaveIds, AreOthersKept}
+
+-- each rowid is an integer, and no two are the same
+pub record HaveIds (rows : List Row) : Type 0 where
+  pub ints : AllByRecursion (λ r. rowid r ≡ Int (id_in (rowid r))) rows
+  pub apart : (id : ℤ) → length (filter (has_rowid id) rows) ≤ 1
+
+-- the rows of each table but the one in this tree are as they were
+abbrev pub AreOthersKept : Schema → ℕ → Trees → Trees → Type 0
+AreOthersKept s tree old new = AllByRecursion (λ u. u.tree ≢ tree → new u.tree ≡ old u.tree) s.tables
 
 -- the row passes every test, with the values that were given
 abbrev pub passes : Row → List Term → Row → Bool

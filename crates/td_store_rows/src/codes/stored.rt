@@ -16,7 +16,7 @@ pub struct StoredCode {
 impl FromRow for StoredCode {
     ghost use Rattle.std.specs.Prelude.{List, ℕ};
     ghost use Rattle.td_table_model.specs.Tables.{Keyed};
-    ghost use Rattle.td_store_rows.specs.CodeColumns.{code_from};
+    ghost use Rattle.td_store_rows.specs.Columns.{code_from};
     ghost use Rattle.td_store_rows.specs.CodeTable.{code_row_of};
 
     ghost Typed = { Keyed (List ℕ) };

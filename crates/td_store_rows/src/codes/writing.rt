@@ -4,7 +4,7 @@ ghost use Rattle.sqlite.specs.Held.{state};
 ghost use Rattle.sqlite.specs.State.{HasCleanDisk, KeepsCommit, Shows, Survives};
 ghost use Rattle.sqlite.specs.Values.{bound};
 ghost use Rattle.td_table_model.specs.Changes.{is_code_of};
-ghost use Rattle.td_store_rows.specs.CodeColumns.{code_cells};
+ghost use Rattle.td_store_rows.specs.Columns.{code_cells};
 ghost use Rattle.td_store_rows.specs.CodeTable.{TurnsCodes, code_row_of};
 
 use crate::codes::stored::StoredCode;

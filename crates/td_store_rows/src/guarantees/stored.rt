@@ -1,6 +1,6 @@
 //! Guarantees as their rows have them, read from the columns that a statement shows.
 ghost use Rattle.std.specs.Prelude.{◌≡◌, IfSome};
-ghost use Rattle.td_store_rows.specs.GuaranteeColumns.{guarantee_from};
+ghost use Rattle.td_store_rows.specs.Columns.{guarantee_from};
 ghost use Rattle.td_store_rows.specs.GuaranteeTable.{guarantee_row_of};
 
 use sqlite::Row;

@@ -4,7 +4,7 @@ ghost use Rattle.sqlite.specs.Held.{state};
 ghost use Rattle.sqlite.specs.State.{HasCleanDisk, KeepsCommit, Shows, Survives};
 ghost use Rattle.sqlite.specs.Values.{bound};
 ghost use Rattle.td_table_model.specs.Tables.{guarantee_row};
-ghost use Rattle.td_store_rows.specs.GuaranteeColumns.{guarantee_cells};
+ghost use Rattle.td_store_rows.specs.Columns.{guarantee_cells};
 ghost use Rattle.td_store_rows.specs.GuaranteeTable.{TurnsGuarantees, has_grn, terms_values, with_new_terms};
 
 use crate::guarantees::texts::{INSERT, SET_TERMS};

@@ -13,7 +13,7 @@ pub(crate) struct StoredHolder {
 
 impl FromRow for StoredHolder {
     ghost use Rattle.td_model.specs.declared.holder_row.HolderRow.{HolderRow};
-    ghost use Rattle.td_store_rows.specs.HolderColumns.{holder_from};
+    ghost use Rattle.td_store_rows.specs.Columns.{holder_from};
 
     ghost Typed = { HolderRow };
 

@@ -4,7 +4,7 @@ ghost use Rattle.sqlite.specs.Held.{state};
 ghost use Rattle.sqlite.specs.State.{HasCleanDisk, KeepsCommit, Shows, Survives};
 ghost use Rattle.sqlite.specs.Values.{bound};
 ghost use Rattle.td_table_model.specs.Changes.{with_row};
-ghost use Rattle.td_store_rows.specs.HolderColumns.{holder_cells};
+ghost use Rattle.td_store_rows.specs.Columns.{holder_cells};
 ghost use Rattle.td_store_rows.specs.HolderTable.{TurnsHolders};
 
 use crate::holders::texts::{INSERT, SET};

@@ -18,7 +18,7 @@ pub struct StoredLine {
 
 impl FromRow for StoredLine {
     ghost use Rattle.td_table_model.specs.Tables.{Keyed, LineCells};
-    ghost use Rattle.td_store_rows.specs.LineColumns.{line_from};
+    ghost use Rattle.td_store_rows.specs.Columns.{line_from};
     ghost use Rattle.td_store_rows.specs.LineTable.{line_row_of};
 
     ghost Typed = { Keyed LineCells };

@@ -3,7 +3,7 @@ ghost use Rattle.std.specs.Prelude.{◌≡◌, ◌∷◌, true, IsTrue, OnOk};
 ghost use Rattle.sqlite.specs.Held.{state};
 ghost use Rattle.sqlite.specs.State.{HasCleanDisk, KeepsCommit, Shows, Survives};
 ghost use Rattle.sqlite.specs.Values.{bound};
-ghost use Rattle.td_store_rows.specs.LineColumns.{line_cells};
+ghost use Rattle.td_store_rows.specs.Columns.{line_cells};
 ghost use Rattle.td_store_rows.specs.LineTable.{TurnsLines, line_row_of};
 
 use crate::lines::stored::StoredLine;

@@ -1,7 +1,7 @@
 //! The office's own row, read from the columns that a statement shows.
 ghost use Rattle.std.specs.Prelude.{◌≡◌, IfSome, IfOk, map};
 ghost use Rattle.std.specs.Option.{option_to_list};
-ghost use Rattle.td_store_rows.specs.MetaColumns.{meta_from};
+ghost use Rattle.td_store_rows.specs.Columns.{meta_from};
 ghost use Rattle.td_store_rows.specs.MetaTable.{stored_of};
 
 use sqlite::{Error, ErrorCode, Row};

@@ -3,7 +3,7 @@ ghost use Rattle.std.specs.Prelude.{◌≡◌, ◌∷◌, true, IsTrue, OnOk};
 ghost use Rattle.sqlite.specs.Held.{state};
 ghost use Rattle.sqlite.specs.State.{HasCleanDisk, KeepsCommit, Shows, Survives};
 ghost use Rattle.sqlite.specs.Values.{bound};
-ghost use Rattle.td_store_rows.specs.MetaColumns.{meta_cells, meta_row};
+ghost use Rattle.td_store_rows.specs.Columns.{meta_cells, meta_row};
 ghost use Rattle.td_store_rows.specs.MetaTable.{TurnsMeta};
 
 use crate::meta::texts::INSERT;

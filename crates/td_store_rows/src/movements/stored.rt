@@ -21,7 +21,7 @@ pub struct StoredMovement {
 impl FromRow for StoredMovement {
     ghost use Rattle.td_table_model.specs.Tables.{Keyed};
     ghost use Rattle.td_movement.specs.declared.movement.Movement.{Movement};
-    ghost use Rattle.td_store_rows.specs.MovementColumns.{movement_from};
+    ghost use Rattle.td_store_rows.specs.Columns.{movement_from};
     ghost use Rattle.td_store_rows.specs.MovementTable.{movement_row_of};
 
     ghost Typed = { Keyed Movement };

@@ -5,7 +5,7 @@ ghost use Rattle.sqlite.specs.State.{HasCleanDisk, KeepsCommit, Shows, Survives}
 ghost use Rattle.sqlite.specs.Values.{bound};
 ghost use Rattle.td_movement.specs.States.{state_name};
 ghost use Rattle.td_table_model.specs.Tables.{movement_row};
-ghost use Rattle.td_store_rows.specs.MovementColumns.{movement_cells};
+ghost use Rattle.td_store_rows.specs.Columns.{movement_cells};
 ghost use Rattle.td_store_rows.specs.MovementTable.{TurnsMovements, has_mrn, with_new_status, status_values};
 
 use crate::movements::texts::{INSERT, SET_STATUS};

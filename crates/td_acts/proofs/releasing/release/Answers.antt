@@ -10,7 +10,7 @@ use Rattle.td_commands.specs.declared.said.Refusal.TheVariants.{NoMovement, Limi
 use Rattle.td_commands.specs.declared.said.Said.TheVariants.{Answered}
 use Rattle.td_model.specs.Account.{movement_by_mrn, entry_in}
 use Rattle.td_acts.specs.Deciding.{new_state}
-use Rattle.td_model.specs.Releasing.{is_limit, first_uncovered}
+use Rattle.td_model.specs.Declaring.{is_limit, first_uncovered}
 use Rattle.td_model.specs.Table.{refuse_if, if_not_refused}
 use Rattle.std.specs.List.{AllByRecursion}
 use Rattle.std.specs.Prelude.{IfSome}

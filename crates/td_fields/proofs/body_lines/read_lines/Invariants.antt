@@ -1,6 +1,6 @@
 use Rattle.std.proofs.Common.{◌≡◌}
 use Rattle.serde_json.specs.View.{items_view}
-use Rattle.td_fields.specs.BodyLines.{lines_of_body}
+use Rattle.td_fields.specs.BodyFields.{lines_of_body}
 use Rattle.td_fields.proofs.LineFacts.{read_from}
 use Rattle.td_fields.proofs.body_lines.read_lines.Given as goal
 

@@ -6,7 +6,7 @@ use Rattle.sqlite.specs.Held.{state}
 use Rattle.sqlite.specs.State.{State, HasCleanDisk}
 use Rattle.sqlite_trees.proofs.ListLemmas.{all-append}
 use Rattle.typed_sql.specs.Typed.{AreTyped}
-use Rattle.td_store_rows.specs.CodeColumns.{code_typing}
+use Rattle.td_store_rows.specs.Columns.{code_typing}
 use Rattle.td_store_audit.specs.Premises.{HasCodesInPlace}
 use Rattle.td_store_audit.proofs.ReadingParts.{read_then, still_has}
 use Rattle.td_store_audit.proofs.codes.all_have_codes.Goals as goal

@@ -5,7 +5,7 @@ use Rattle.sqlite.specs.State.{HasCleanDisk}
 use Rattle.td_schema.specs.Tables.{desk_schema}
 use Rattle.typed_sql.specs.Typed.{AreTyped}
 use Rattle.typed_sql.specs.Writing.{HasSchema}
-use Rattle.td_store_rows.specs.CodeColumns.{code_typing}
+use Rattle.td_store_rows.specs.Columns.{code_typing}
 use Rattle.td_store_audit.specs.Premises.{HasCodesInPlace}
 use Rattle.td_store_audit.proofs.ReadingParts.{HasRead}
 use Rattle.td_store_audit.proofs.codes.all_have_codes.Given as goal

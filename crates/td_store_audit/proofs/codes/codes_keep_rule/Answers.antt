@@ -7,7 +7,7 @@ use Rattle.sqlite.specs.State.{State}
 use Rattle.sqlite_trees.proofs.ListLemmas.{all_weaker}
 use Rattle.typed_sql.proofs.Leaving.{if_both}
 use Rattle.typed_sql.specs.Typed.{AreTyped, IsTypedRow}
-use Rattle.td_store_rows.specs.CodeColumns.{code_typing}
+use Rattle.td_store_rows.specs.Columns.{code_typing}
 use Rattle.td_store_audit_rows.specs.Fields.{AreCodeFields}
 use Rattle.td_store_audit_rows.specs.Scans.{IsReadRow}
 use Rattle.td_store_audit.specs.Premises.{HasCodesInPlace}

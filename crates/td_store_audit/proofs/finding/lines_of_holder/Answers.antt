@@ -5,7 +5,7 @@ use Rattle.td_schema.specs.Tables.{desk_schema}
 use Rattle.typed_sql.proofs.Fetched.{in_order_fetched, those_fetched}
 use Rattle.typed_sql.proofs.Leaving.{stays_ok}
 use Rattle.typed_sql.specs.Values.{number_value}
-use Rattle.td_store_rows.specs.LineColumns.{line_typing}
+use Rattle.td_store_rows.specs.Columns.{line_typing}
 use Rattle.td_store_rows.specs.LineTable.{line_row_of}
 use Rattle.td_store_audit.proofs.Meanings.{by_three, line_terms, lines_mean, holder_tests}
 use Rattle.td_store_audit.proofs.Ordering.{line_passes, lines_compared}

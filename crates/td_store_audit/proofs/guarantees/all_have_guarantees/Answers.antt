@@ -5,7 +5,7 @@ use Rattle.std.specs.Prelude.{◌↔◌, IsTrue}
 use Rattle.std.specs.List.{AllByRecursion}
 use Rattle.sqlite.specs.Held.{state}
 use Rattle.sqlite.specs.State.{State, HasCleanDisk}
-use Rattle.td_store_rows.specs.GuaranteeColumns.{guarantee_typing}
+use Rattle.td_store_rows.specs.Columns.{guarantee_typing}
 use Rattle.td_store_audit.specs.InFile.{AreTypedApart, HasGuaranteesInPlace, TellsWhere}
 use Rattle.td_store_audit.proofs.Reading.{HasRead, read_then, so_before}
 use Rattle.td_store_audit.proofs.Walking.{one_more, one_of_all}

@@ -2,7 +2,7 @@ use Rattle.std.proofs.Common.{◌≡◌, take}
 use Rattle.std.specs.List.{AllByRecursion}
 use Rattle.sqlite.specs.Held.{state}
 use Rattle.sqlite.specs.State.{HasCleanDisk}
-use Rattle.td_store_rows.specs.GuaranteeColumns.{guarantee_typing}
+use Rattle.td_store_rows.specs.Columns.{guarantee_typing}
 use Rattle.td_store_audit.specs.InFile.{AreTypedApart, HasGuaranteesInPlace, IsSoWhere}
 use Rattle.td_store_audit.proofs.Reading.{HasRead}
 use Rattle.td_store_audit.proofs.guarantees.all_have_guarantees.Given as goal

@@ -1,5 +1,5 @@
 use Rattle.typed_sql.specs.Typed.{IsTypedRow}
-use Rattle.td_store_rows.specs.CodeColumns.{code_typing}
+use Rattle.td_store_rows.specs.Columns.{code_typing}
 use Rattle.td_store_rows.specs.StoreTables.{tables_in}
 use Rattle.td_store_audit_rows.specs.Kept.{AreCodesKept}
 use Rattle.td_store_audit_rows.specs.Kinds.{AllRows}

@@ -1,4 +1,4 @@
-use Rattle.td_store_rows.specs.HolderColumns.{holder_typing}
+use Rattle.td_store_rows.specs.Columns.{holder_typing}
 use Rattle.td_store_rows.specs.StoreTables.{tables_in}
 use Rattle.td_store_audit_rows.specs.Kept.{AreHoldersKept}
 use Rattle.td_store_audit_rows.specs.Kinds.{AllRows, HasNumber}

@@ -1,5 +1,5 @@
 use Rattle.typed_sql.specs.Typed.{IsTypedRow}
-use Rattle.td_store_rows.specs.LineColumns.{line_typing}
+use Rattle.td_store_rows.specs.Columns.{line_typing}
 use Rattle.td_store_rows.specs.StoreTables.{tables_in}
 use Rattle.td_store_audit_rows.specs.Kept.{AreLinesKept}
 use Rattle.td_store_audit_rows.specs.Kinds.{AllRows}

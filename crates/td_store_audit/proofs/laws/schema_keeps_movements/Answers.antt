@@ -1,5 +1,5 @@
 use Rattle.typed_sql.specs.Typed.{IsTypedRow}
-use Rattle.td_store_rows.specs.MovementColumns.{movement_typing}
+use Rattle.td_store_rows.specs.Columns.{movement_typing}
 use Rattle.td_store_rows.specs.StoreTables.{tables_in}
 use Rattle.td_store_audit_rows.specs.Kept.{AreMovementsKept}
 use Rattle.td_store_audit_rows.specs.Kinds.{AllRows}

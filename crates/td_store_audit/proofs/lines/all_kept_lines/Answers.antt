@@ -12,7 +12,7 @@ use Rattle.sqlite_trees.proofs.ListLemmas.{all-map, all_from_map}
 use Rattle.td_schema.specs.Tables.{desk_schema}
 use Rattle.typed_sql.specs.Typed.{AreTyped, typed_rows}
 use Rattle.typed_sql.specs.Writing.{HasSchema}
-use Rattle.td_store_rows.specs.LineColumns.{line_typing}
+use Rattle.td_store_rows.specs.Columns.{line_typing}
 use Rattle.td_table_model.specs.Gathering.{part}
 use Rattle.td_store_audit.specs.Handed.{AreItsLines, movements_in, raw_of}
 use Rattle.td_store_audit.specs.InPlace.{AreNumbersApart}

@@ -7,7 +7,7 @@ use Rattle.sqlite.specs.State.{State}
 use Rattle.sqlite_trees.proofs.ListLemmas.{all_weaker}
 use Rattle.typed_sql.proofs.Leaving.{if_both}
 use Rattle.typed_sql.specs.Typed.{AreTyped, IsTypedRow}
-use Rattle.td_store_rows.specs.LineColumns.{line_typing}
+use Rattle.td_store_rows.specs.Columns.{line_typing}
 use Rattle.td_store_audit_rows.specs.Fields.{AreLineFields}
 use Rattle.td_store_audit_rows.specs.Scans.{IsReadRow}
 use Rattle.td_store_audit.specs.Handed.{raw_of}

@@ -5,7 +5,7 @@ use Rattle.std.specs.Prelude.{◌↔◌, IsTrue, is_some}
 use Rattle.std.specs.List.{AllByRecursion}
 use Rattle.sqlite.specs.Held.{state}
 use Rattle.sqlite.specs.State.{State, HasCleanDisk}
-use Rattle.td_store_rows.specs.MovementColumns.{movement_typing}
+use Rattle.td_store_rows.specs.Columns.{movement_typing}
 use Rattle.td_store_audit.specs.Handed.{AreCounting, raw_of}
 use Rattle.td_store_audit.specs.InFile.{AreTypedApart, HasMovementsInPlace, IsSoWhere, TellsWhere}
 use Rattle.td_store_audit.proofs.Reading.{HasRead, read_then, so_before}

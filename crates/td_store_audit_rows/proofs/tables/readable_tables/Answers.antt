@@ -3,7 +3,7 @@ use Rattle.sqlite.specs.Effect.{Database}
 use Rattle.sqlite.specs.Held.{state}
 use Rattle.sqlite.specs.State.{HasCleanDisk, State}
 use Rattle.typed_sql.proofs.Leaving.{on_ok}
-use Rattle.typed_sql.specs.Rows.{HaveIds}
+use Rattle.typed_sql.specs.Writing.{HaveIds}
 use Rattle.td_store_audit_rows.specs.Ids.{HavePartIds}
 use Rattle.td_store_audit_rows.proofs.Chained.{unchanged_on, was_so}
 use Rattle.td_store_audit_rows.proofs.Meanings.{by_rowid, holder_ids_mean, meta_ids_mean}

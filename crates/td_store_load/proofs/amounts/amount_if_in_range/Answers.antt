@@ -7,7 +7,7 @@ use Rattle.sqlite.specs.State.{State, HasCleanDisk, IsUnchanged}
 use Rattle.td_base.specs.Money.{IsCents}
 use Rattle.typed_sql.specs.Typed.{AreTyped, typed_rows}
 use Rattle.td_store_rows.specs.MovementTable.{serial_of_stored}
-use Rattle.td_store_rows.specs.LineColumns.{line_typing}
+use Rattle.td_store_rows.specs.Columns.{line_typing}
 use Rattle.td_store_rows.specs.LineTable.{is_line_on, line_row_of}
 use Rattle.td_store_rows.specs.StoreTables.{tables_in}
 use Rattle.td_store_load.specs.InUse.{total_on}

@@ -7,7 +7,7 @@ use Rattle.sqlite.proofs.Callers.{survives_begin}
 use Rattle.sqlite.proofs.StateLemmas.{survives_then}
 use Rattle.td_schema.specs.Making.{IsEmptyOf}
 use Rattle.td_schema.specs.Tables.{no_schema, desk_schema}
-use Rattle.td_store_rows.specs.MetaColumns.{meta_row, newest_version}
+use Rattle.td_store_rows.specs.Columns.{meta_row, newest_version}
 use Rattle.td_store_rows.specs.MetaTable.{TurnsMeta}
 use Rattle.typed_sql.proofs.Leaving.{on_ok}
 use Rattle.td_store_write.specs.Created.{AreOfEmptyDesk, MayLeaveEmpty}

@@ -7,7 +7,7 @@ use Rattle.typed_sql.proofs.Leaving.{if_both, stays_ok}
 use Rattle.typed_sql.specs.Values.{number_value}
 use Rattle.td_store_rows.proofs.CodeMeanings.{all_columns, by_code, key_tests, of_guarantee_means}
 use Rattle.td_store_rows.proofs.CodeStatements.{by_codes, code_cmp, compared, key_passes}
-use Rattle.td_store_rows.specs.CodeColumns.{code_typing}
+use Rattle.td_store_rows.specs.Columns.{code_typing}
 use Rattle.td_store_rows.specs.CodeTable.{is_code_of_guarantee, code_row_of}
 use Rattle.td_store_rows.specs.declared.codes.texts.TheConstants.{OF_GUARANTEE}
 use Rattle.td_store_rows.proofs.codes.finding.codes_of.Goals as goal

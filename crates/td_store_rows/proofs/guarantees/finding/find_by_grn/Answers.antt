@@ -6,7 +6,7 @@ use Rattle.td_schema.specs.Tables.{desk_schema}
 use Rattle.typed_sql.proofs.Fetched.{one_fetched}
 use Rattle.typed_sql.proofs.Leaving.{stays_ok}
 use Rattle.typed_sql.specs.Values.{number_value}
-use Rattle.td_store_rows.specs.GuaranteeColumns.{guarantee_typing}
+use Rattle.td_store_rows.specs.Columns.{guarantee_typing}
 use Rattle.td_store_rows.specs.GuaranteeTable.{has_grn, guarantee_row_of}
 use Rattle.td_store_rows.specs.declared.guarantees.texts.TheConstants.{BY_GRN}
 use Rattle.td_store_rows.proofs.GuaranteeMeanings.{all_columns, by_grn_means, grn_tests}

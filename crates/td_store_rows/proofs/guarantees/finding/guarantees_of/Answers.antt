@@ -6,7 +6,7 @@ use Rattle.typed_sql.proofs.Fetched.{in_order_fetched, those_fetched}
 use Rattle.typed_sql.proofs.Leaving.{if_both, stays_ok}
 use Rattle.typed_sql.specs.Values.{number_value}
 use Rattle.td_table_model.specs.Gathering.{place}
-use Rattle.td_store_rows.specs.GuaranteeColumns.{guarantee_typing}
+use Rattle.td_store_rows.specs.Columns.{guarantee_typing}
 use Rattle.td_store_rows.specs.GuaranteeTable.{is_of, guarantee_row_of}
 use Rattle.td_store_rows.specs.declared.guarantees.texts.TheConstants.{OF_HOLDER}
 use Rattle.td_store_rows.proofs.GuaranteeMeanings.{all_columns, by_serial, holder_tests, of_holder_means}

@@ -9,7 +9,7 @@ use Rattle.typed_sql.specs.Typed.{typed_rows}
 use Rattle.typed_sql.specs.Values.{number_value}
 use Rattle.td_store_rows.proofs.HolderMeanings.{all_columns, by_number_means, number_tests}
 use Rattle.td_store_rows.proofs.HolderStatements.{passes_number}
-use Rattle.td_store_rows.specs.HolderColumns.{holder_typing}
+use Rattle.td_store_rows.specs.Columns.{holder_typing}
 use Rattle.td_store_rows.specs.declared.holders.stored.StoredHolder.{StoredHolder}
 use Rattle.td_store_rows.specs.declared.holders.texts.TheConstants.{BY_NUMBER}
 use Rattle.td_store_rows.proofs.holders.finding.find_holder.Goals as goal

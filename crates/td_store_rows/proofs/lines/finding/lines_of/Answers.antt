@@ -8,7 +8,7 @@ use Rattle.typed_sql.specs.Values.{number_value}
 use Rattle.td_table_model.specs.Gathering.{no_of}
 use Rattle.td_store_rows.proofs.LineMeanings.{all_columns, by_number, key_tests, of_movement_means}
 use Rattle.td_store_rows.proofs.LineStatements.{by_numbers, compared, key_passes}
-use Rattle.td_store_rows.specs.LineColumns.{line_typing}
+use Rattle.td_store_rows.specs.Columns.{line_typing}
 use Rattle.td_store_rows.specs.LineTable.{is_line_of, line_row_of}
 use Rattle.td_store_rows.specs.declared.lines.texts.TheConstants.{OF_MOVEMENT}
 use Rattle.td_store_rows.proofs.lines.finding.lines_of.Goals as goal

@@ -7,7 +7,7 @@ use Rattle.typed_sql.proofs.Leaving.{stays_ok}
 use Rattle.typed_sql.specs.Values.{number_value}
 use Rattle.td_store_rows.proofs.LineMeanings.{all_columns, guarantee_tests, on_guarantee_means}
 use Rattle.td_store_rows.proofs.LineStatements.{guarantee_passes}
-use Rattle.td_store_rows.specs.LineColumns.{line_typing}
+use Rattle.td_store_rows.specs.Columns.{line_typing}
 use Rattle.td_store_rows.specs.LineTable.{is_line_on, line_row_of}
 use Rattle.td_store_rows.specs.declared.lines.texts.TheConstants.{ON_GUARANTEE}
 use Rattle.td_store_rows.proofs.lines.finding.lines_on.Goals as goal

@@ -8,7 +8,7 @@ use Rattle.td_schema.specs.Tables.{desk_schema}
 use Rattle.typed_sql.proofs.Leaving.{any_ok, stays}
 use Rattle.td_store_rows.specs.declared.meta.stored.StoredMeta.{StoredMeta}
 use Rattle.td_store_rows.specs.declared.meta.texts.TheConstants.{FIND}
-use Rattle.td_store_rows.specs.MetaColumns.{meta_from}
+use Rattle.td_store_rows.specs.Columns.{meta_from}
 use Rattle.td_store_rows.specs.MetaTable.{IsTheMeta, stored_of}
 use Rattle.td_store_rows.proofs.MetaMeanings.{find_means}
 use Rattle.td_store_rows.proofs.MetaStatements.{found_meta}

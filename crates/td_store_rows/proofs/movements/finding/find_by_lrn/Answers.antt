@@ -8,7 +8,7 @@ use Rattle.typed_sql.proofs.Leaving.{stays_ok}
 use Rattle.typed_sql.specs.Values.{number_value}
 use Rattle.td_store_rows.proofs.MovementMeanings.{all_columns, by_lrn_means, lrn_tests}
 use Rattle.td_store_rows.proofs.MovementStatements.{lrn_passes}
-use Rattle.td_store_rows.specs.MovementColumns.{movement_typing}
+use Rattle.td_store_rows.specs.Columns.{movement_typing}
 use Rattle.td_store_rows.specs.MovementTable.{has_lrn, movement_row_of}
 use Rattle.td_store_rows.specs.declared.movements.texts.TheConstants.{BY_LRN}
 use Rattle.td_store_rows.proofs.movements.finding.find_by_lrn.Goals as goal

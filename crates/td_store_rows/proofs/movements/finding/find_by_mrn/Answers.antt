@@ -8,7 +8,7 @@ use Rattle.typed_sql.proofs.Leaving.{stays_ok}
 use Rattle.typed_sql.specs.Values.{number_value}
 use Rattle.td_store_rows.proofs.MovementMeanings.{all_columns, by_mrn_means, key_tests}
 use Rattle.td_store_rows.proofs.MovementStatements.{key_passes}
-use Rattle.td_store_rows.specs.MovementColumns.{movement_typing}
+use Rattle.td_store_rows.specs.Columns.{movement_typing}
 use Rattle.td_store_rows.specs.MovementTable.{has_mrn, movement_row_of}
 use Rattle.td_store_rows.specs.declared.movements.texts.TheConstants.{BY_MRN}
 use Rattle.td_store_rows.proofs.movements.finding.find_by_mrn.Goals as goal

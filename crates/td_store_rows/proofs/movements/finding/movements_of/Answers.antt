@@ -8,7 +8,7 @@ use Rattle.typed_sql.specs.Values.{number_value}
 use Rattle.td_store_rows.proofs.MovementMeanings.{all_columns, by_serial, holder_tests, of_holder_means}
 use Rattle.td_store_rows.proofs.MovementStatements.{by_serials, compared, holder_passes}
 use Rattle.td_table_model.specs.Gathering.{place}
-use Rattle.td_store_rows.specs.MovementColumns.{movement_typing}
+use Rattle.td_store_rows.specs.Columns.{movement_typing}
 use Rattle.td_store_rows.specs.MovementTable.{is_of, movement_row_of}
 use Rattle.td_store_rows.specs.declared.movements.texts.TheConstants.{OF_HOLDER}
 use Rattle.td_store_rows.proofs.movements.finding.movements_of.Goals as goal
