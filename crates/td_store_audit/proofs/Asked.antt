@@ -14,10 +14,13 @@ use Rattle.td_store_audit_rows.specs.declared.holders.RawHolder.{RawHolder}
 use Rattle.td_store_audit_rows.specs.declared.tables.Readable.{Readable}
 use Rattle.td_store_audit.specs.Auditable.{TellsRule, TellsS2}
 use Rattle.td_store_audit.specs.Broken.{HasOffice, IsNextRule, TellsBroken}
-use Rattle.td_store_audit.specs.InFile.{IsSoWhere, ReadsStore, TellsWhere}
+use Rattle.td_store_audit.specs.InFile.{IsSoWhere, TellsWhere}
 use Rattle.td_store_audit.specs.Premises.{AreCodesAuditable}
-use Rattle.td_store_audit.proofs.Reading.{none_read, so_before}
+use Rattle.td_store_audit.proofs.Reading.{so_before}
 use Rattle.td_store_audit.proofs.Succession.{broken_here, codes_next, first_next, holders_next, kept_on, table_next, told_before}
+use Rattle.typed_sql.proofs.OnlyRead.{none_read}
+use Rattle.typed_sql.specs.Reading.{OnlyRead}
+use Rattle.td_schema.specs.Tables.{desk_schema}
 
 module _ (country : List ℕ) (holders : List RawHolder) (readable : Readable) (a : State) where
   abbrev Q : Trees → Type 0
@@ -49,7 +52,7 @@ module _ (country : List ℕ) (holders : List RawHolder) (readable : Readable) (
     guarantees_broken b here tells = broken_here country holders readable Q a S3 after_holders b (guarantees_told b tells) here
 
     -- so is S3
-    module _ (b : Bool) (here : IsTrue b) (tells : TellsGuarantees b) (m : State) (read : ReadsStore a m) where
+    module _ (b : Bool) (here : IsTrue b) (tells : TellsGuarantees b) (m : State) (read : OnlyRead desk_schema a m) where
       after_guarantees : IsSoWhere Q (IsNextRule S4 country holders readable) a
       after_guarantees = kept_on country holders readable Q a S3 after_holders b (guarantees_told b tells) here S4 refl
 
@@ -64,7 +67,7 @@ module _ (country : List ℕ) (holders : List RawHolder) (readable : Readable) (
       codes_broken k so says = broken_here country holders readable Q a S4 after_guarantees k (codes_told k says) so
 
       -- so is S4: what is told of the rules behind it is told of all
-      module _ (k : Bool) (so : IsTrue k) (says : TellsCodes k) (d : State) (read_on : ReadsStore a d) where
+      module _ (k : Bool) (so : IsTrue k) (says : TellsCodes k) (d : State) (read_on : OnlyRead desk_schema a d) where
         pub all_told : (result : Result (Option Rule) Error) → IfOk result (λ broken. IsSoWhere (IsNextRule S5 country holders readable) (λ trees. TellsBroken trees broken) d)
             → IfOk result (λ broken. IsSoWhere Q (λ trees. TellsBroken trees broken) a)
         all_told (Err e) rest = rest

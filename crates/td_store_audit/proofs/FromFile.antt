@@ -14,7 +14,8 @@ use Rattle.td_store_audit_rows.specs.declared.holders.RawHolder.{RawHolder}
 use Rattle.td_store_audit_rows.specs.declared.tables.Readable.{Readable}
 use Rattle.td_store_audit.specs.Broken.{HasOffice, TellsBroken, TellsCountry}
 use Rattle.td_store_audit.specs.InFile.{IsSoWhere}
-use Rattle.td_store_audit.proofs.Reading.{one_read, read_more, so_before}
+use Rattle.td_store_audit.proofs.Reading.{so_before}
+use Rattle.typed_sql.proofs.OnlyRead.{one_read, read_more}
 
 module _ (a b d : State) (country : List ℕ) (holders : List RawHolder) (readable : Readable) (first : LeavesAll desk_schema a b)
     (second : LeavesAll desk_schema b d) (shown : Option (List ℕ)) (some : shown ≡ Some country)

@@ -20,7 +20,6 @@ mod Runs
 mod Tells
 mod Meanings
 mod Ordering
-mod ReadingParts
 mod Permuted
 mod PartsOfHolders
 mod Told

@@ -18,9 +18,10 @@ use Rattle.td_store_audit_rows.specs.declared.holders.RawHolder.{RawHolder}
 use Rattle.td_store_audit_rows.specs.declared.tables.Readable.{Readable}
 use Rattle.td_store_audit.specs.Auditable.{TellsRule, TellsS2}
 use Rattle.td_store_audit.specs.Broken.{HasOffice, IsNextRule}
-use Rattle.td_store_audit.specs.InFile.{IsSoWhere, ReadsStore, TellsWhere}
+use Rattle.td_store_audit.specs.InFile.{IsSoWhere, TellsWhere}
 use Rattle.td_store_audit.specs.Premises.{AreCodesAuditable, AreHoldersAuditable, AreLinesAuditable}
 use Rattle.td_store_audit.proofs.Reading.{so_before}
+use Rattle.typed_sql.specs.Reading.{OnlyRead}
 
 -- the numbers are from 1 to 8
 bounds : (rule : Rule) → (1 ≤ rule_no rule) × (rule_no rule ≤ 8)
@@ -129,7 +130,7 @@ module _ (country : List ℕ) (holders : List RawHolder) (readable : Readable) w
   -- One of them is asked, where those before it are kept.
   module _ (Q : Trees → Type 0) (a : State) (rule : Rule) (next : IsSoWhere Q (IsNext rule) a) (keeps : Bool) where
     -- what was told of the file afterwards
-    pub told_before : (b : State) → ReadsStore a b → TellsNext b rule keeps → TellsWhere Q (λ trees. KeepsRaw trees rule) a keeps
+    pub told_before : (b : State) → OnlyRead desk_schema a b → TellsNext b rule keeps → TellsWhere Q (λ trees. KeepsRaw trees rule) a keeps
     told_before b read told has so = so_before (IsNext rule) (λ trees. IsTrue keeps ↔ KeepsRaw trees rule) a b read told has (next has so)
 
     module _ (told : TellsWhere Q (λ trees. KeepsRaw trees rule) a keeps) where

@@ -17,13 +17,16 @@ use Rattle.td_store_audit_rows.specs.declared.tables.Readable.{Readable}
 use Rattle.td_store_audit.specs.Auditable.{IsAuditable, TellsRule}
 use Rattle.td_store_audit.specs.Broken.{IsNextRule, TellsBroken}
 use Rattle.td_store_audit.specs.Handed.{AreAllCounting, AreAllLines, AreCounting, AreItsLines, IsCoverAuditable, raw_holder_of, movements_in, raw_of}
-use Rattle.td_store_audit.specs.InFile.{IsSoWhere, ReadsStore, TellsWhere}
+use Rattle.td_store_audit.specs.InFile.{IsSoWhere, TellsWhere}
 use Rattle.td_store_audit.specs.Premises.{AreLinesAuditable}
 use Rattle.td_store_audit.specs.declared.handed.HolderMovements.{HolderMovements}
 use Rattle.td_store_audit.specs.declared.handed.HolderParts.{HolderParts}
 use Rattle.td_store_audit.proofs.CoverKept.{lines_typed, movements_typed}
-use Rattle.td_store_audit.proofs.Reading.{none_read, so_before}
+use Rattle.td_store_audit.proofs.Reading.{so_before}
 use Rattle.td_store_audit.proofs.Succession.{all_kept, broken_here, kept_on, lines_next, table_next, told_before}
+use Rattle.typed_sql.proofs.OnlyRead.{none_read}
+use Rattle.typed_sql.specs.Reading.{OnlyRead}
+use Rattle.td_schema.specs.Tables.{desk_schema}
 
 module _ (country : List ℕ) (holders : List RawHolder) (readable : Readable) (a : State) where
   abbrev Q : Trees → Type 0
@@ -45,7 +48,7 @@ module _ (country : List ℕ) (holders : List RawHolder) (readable : Readable) (
 
   -- it is kept, and the next is told of what was read after it
   module _ (counting : List HolderMovements) (of_holders : map raw_of counting ≡ holders)
-      (told : TellsRead movement_typing AreMovementFields a.now.trees readable.movements → TellsRule S5 country holders a true) (b : State) (read : ReadsStore a b) where
+      (told : TellsRead movement_typing AreMovementFields a.now.trees readable.movements → TellsRule S5 country holders a true) (b : State) (read : OnlyRead desk_schema a b) where
     after_movements : IsSoWhere Q (IsNextRule S6 country holders readable) a
     after_movements = kept_on country holders readable Q a S5 first true (movements_told true told) refl S6 refl
 
@@ -64,7 +67,7 @@ module _ (country : List ℕ) (holders : List RawHolder) (readable : Readable) (
 
     -- so is this one
     module _ (handed : List HolderParts) (of_counting : map movements_in handed ≡ counting) (tells : TellsLines true)
-        (counted : AreAllCounting a counting) (found : AreAllLines b handed) (d : State) (read_on : ReadsStore a d) where
+        (counted : AreAllCounting a counting) (found : AreAllLines b handed) (d : State) (read_on : OnlyRead desk_schema a d) where
       after_lines : IsSoWhere Q (IsNextRule S7 country holders readable) a
       after_lines = kept_on country holders readable Q a S6 after_movements true (lines_told true tells) refl S7 refl
 

@@ -5,9 +5,7 @@ use Rattle.std.specs.Ordering.{nat_cmp, ordering_then}
 use Rattle.std.specs.declared.cmp.Ordering.{Ordering}
 use Rattle.sqlite.specs.State.{State}
 use Rattle.td_schema.specs.Tables.{desk_schema}
-use Rattle.typed_sql.specs.Reading.{HasOnlyRead}
 use Rattle.typed_sql.specs.Typed.{AreInOrder}
-use Rattle.typed_sql.specs.Writing.{HasSchema}
 use Rattle.td_table_model.specs.Gathering.{no_of, owner, place}
 use Rattle.td_table_model.specs.Tables.{Keyed, LineCells}
 use Rattle.td_store_rows.specs.Columns.{code_typing, line_typing}
@@ -41,7 +39,3 @@ serial_of_code code = code.serial
 
 abbrev pub serial_of_line : StoredLine → ℕ
 serial_of_line line = line.serial
-
--- where the tables are a store's, the calls between the two states have only read
-abbrev pub OnlyReadsTables : State → State → Type 0
-OnlyReadsTables old new = HasSchema old desk_schema → HasOnlyRead old new

@@ -9,7 +9,6 @@ use Rattle.td_table_model.specs.Gathering.{guarantees_by, movements_by, part, pl
 use Rattle.td_table_model.specs.Looking.{cents_of, lines_in_use}
 use Rattle.td_table_model.specs.Tables.{Keyed}
 use Rattle.td_schema.specs.Tables.{desk_schema}
-use Rattle.typed_sql.specs.Reading.{HasOnlyRead}
 use Rattle.typed_sql.specs.Typed.{AreTyped, Typing, typed_rows}
 use Rattle.typed_sql.specs.Writing.{HasSchema}
 use Rattle.td_store_rows.specs.StoreTables.{tables_in}
@@ -46,7 +45,3 @@ IsSoWhere Q P state = HasSchema state desk_schema → Q state.now.trees → P st
 
 abbrev pub TellsWhere : (Trees → Type 0) → (Trees → Type 0) → State → Bool → Type 0
 TellsWhere Q P state is = IsSoWhere Q (λ trees. IsTrue is ↔ P trees) state
-
--- the calls between the two states have only read, where the tables are those of a store
-abbrev pub ReadsStore : State → State → Type 0
-ReadsStore old new = HasSchema old desk_schema → HasOnlyRead old new

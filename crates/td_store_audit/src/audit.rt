@@ -4,12 +4,12 @@ ghost use Rattle.sqlite.specs.Held.{state};
 ghost use Rattle.sqlite.specs.State.{HasCleanDisk, KeepsCommit, Survives};
 ghost use Rattle.td_schema.specs.Tables.{desk_schema};
 ghost use Rattle.td_table_model.specs.declared.rule.Rule.TheVariants.{S5};
-ghost use Rattle.typed_sql.specs.Reading.{LeavesAll};
+ghost use Rattle.typed_sql.specs.Reading.{LeavesAll, OnlyRead};
 ghost use Rattle.typed_sql.specs.Writing.{HasSchema};
 ghost use Rattle.td_store_audit_rows.specs.Laws.{AreKept};
 ghost use Rattle.td_store_audit_rows.specs.Scans.{TellReadable};
 ghost use Rattle.td_store_audit.specs.Broken.{HasOffice, IsNextRule, TellsBroken};
-ghost use Rattle.td_store_audit.specs.InFile.{IsSoWhere, ReadsStore};
+ghost use Rattle.td_store_audit.specs.InFile.{IsSoWhere};
 
 use crate::codes::codes_keep_rule;
 use crate::cover::cover_keeps_rule;
@@ -65,7 +65,7 @@ fn first_after_office<S: Alter>(
     ensures told { HasCleanDisk (state S.Store tx.new.conn.now)
         → IfOk result (λ broken. IsSoWhere (HasOffice country holders.now readable) (λ trees. TellsBroken trees broken) (state S.Store tx.old.conn.now)) }
     ensures still { HasCleanDisk (state S.Store tx.new.conn.now)
-        → OnOk result (ReadsStore (state S.Store tx.old.conn.now) (state S.Store tx.new.conn.now)) }
+        → OnOk result (OnlyRead desk_schema (state S.Store tx.old.conn.now) (state S.Store tx.new.conn.now)) }
     ensures inside { HasCleanDisk (state S.Store tx.new.conn.now) → OnOk result (IsTrue (state S.Store tx.new.conn.now).in_transaction) }
     ensures kept { HasCleanDisk (state S.Store tx.new.conn.now)
         → KeepsCommit (state S.Store tx.old.conn.now) (state S.Store tx.new.conn.now) }
@@ -97,7 +97,7 @@ fn first_of_movements<S: Alter>(
     ensures told { HasCleanDisk (state S.Store tx.new.conn.now)
         → IfOk result (λ broken. IsSoWhere (IsNextRule S5 country holders.now readable) (λ trees. TellsBroken trees broken) (state S.Store tx.old.conn.now)) }
     ensures still { HasCleanDisk (state S.Store tx.new.conn.now)
-        → OnOk result (ReadsStore (state S.Store tx.old.conn.now) (state S.Store tx.new.conn.now)) }
+        → OnOk result (OnlyRead desk_schema (state S.Store tx.old.conn.now) (state S.Store tx.new.conn.now)) }
     ensures inside { HasCleanDisk (state S.Store tx.new.conn.now) → OnOk result (IsTrue (state S.Store tx.new.conn.now).in_transaction) }
     ensures kept { HasCleanDisk (state S.Store tx.new.conn.now)
         → KeepsCommit (state S.Store tx.old.conn.now) (state S.Store tx.new.conn.now) }

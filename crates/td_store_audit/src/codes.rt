@@ -4,7 +4,7 @@ ghost use Rattle.std.specs.List.{AllByRecursion};
 ghost use Rattle.sqlite.specs.Held.{state};
 ghost use Rattle.sqlite.specs.State.{HasCleanDisk, KeepsCommit, Survives};
 ghost use Rattle.td_schema.specs.Tables.{desk_schema};
-ghost use Rattle.typed_sql.specs.Reading.{LeavesAll};
+ghost use Rattle.typed_sql.specs.Reading.{LeavesAll, OnlyRead};
 ghost use Rattle.typed_sql.specs.Typed.{AreTyped};
 ghost use Rattle.typed_sql.specs.Writing.{HasSchema};
 ghost use Rattle.td_store_rows.specs.Columns.{code_typing};
@@ -12,7 +12,6 @@ ghost use Rattle.td_table_model.specs.declared.rule.Rule.TheVariants.{S4};
 ghost use Rattle.td_store_audit_rows.specs.Fields.{AreCodeFields};
 ghost use Rattle.td_store_audit_rows.specs.Scans.{TellsRead};
 ghost use Rattle.td_store_audit_rows.specs.Kinds.{KeepsRaw};
-ghost use Rattle.td_store_audit.specs.Found.{OnlyReadsTables};
 ghost use Rattle.td_store_audit.specs.Premises.{AreCodesAuditable, HasCodesInPlace};
 
 use crate::codes_in_place::codes_are_in_place;
@@ -61,7 +60,7 @@ fn all_have_codes<S: Alter>(
         → AreTyped code_typing (state S.Store tx.old.conn.now).now.trees
         → IsTrue all ↔ AllByRecursion (HasCodesInPlace (state S.Store tx.old.conn.now).now.trees) holders.now) }
     ensures still { HasCleanDisk (state S.Store tx.new.conn.now)
-        → OnOk result (OnlyReadsTables (state S.Store tx.old.conn.now) (state S.Store tx.new.conn.now)) }
+        → OnOk result (OnlyRead desk_schema (state S.Store tx.old.conn.now) (state S.Store tx.new.conn.now)) }
     ensures inside { HasCleanDisk (state S.Store tx.new.conn.now) → OnOk result (IsTrue (state S.Store tx.new.conn.now).in_transaction) }
     ensures kept { HasCleanDisk (state S.Store tx.new.conn.now)
         → KeepsCommit (state S.Store tx.old.conn.now) (state S.Store tx.new.conn.now) }
@@ -91,7 +90,7 @@ pub fn codes_keep_rule<S: Alter>(
         → IfOk result (λ keeps. AreCodesAuditable (state S.Store tx.old.conn.now) holders.now
         → TellsRead code_typing AreCodeFields (state S.Store tx.old.conn.now).now.trees are_read → IsTrue keeps ↔ KeepsRaw (state S.Store tx.old.conn.now).now.trees S4) }
     ensures still { HasCleanDisk (state S.Store tx.new.conn.now)
-        → OnOk result (OnlyReadsTables (state S.Store tx.old.conn.now) (state S.Store tx.new.conn.now)) }
+        → OnOk result (OnlyRead desk_schema (state S.Store tx.old.conn.now) (state S.Store tx.new.conn.now)) }
     ensures inside { HasCleanDisk (state S.Store tx.new.conn.now) → OnOk result (IsTrue (state S.Store tx.new.conn.now).in_transaction) }
     ensures kept { HasCleanDisk (state S.Store tx.new.conn.now)
         → KeepsCommit (state S.Store tx.old.conn.now) (state S.Store tx.new.conn.now) }

@@ -6,7 +6,9 @@ ghost use Rattle.sqlite.specs.State.{HasCleanDisk, KeepsCommit, Survives};
 ghost use Rattle.td_table_model.specs.declared.rule.Rule.TheVariants.{S8};
 ghost use Rattle.td_store_audit_rows.specs.Kinds.{KeepsRaw};
 ghost use Rattle.td_store_audit.specs.Handed.{IsCoverAuditable, IsCoveredBy, IsHandedOn, raw_holder_of};
-ghost use Rattle.td_store_audit.specs.InFile.{IsHolderCoveredInFile, ReadsStore, TellsWhere};
+ghost use Rattle.td_store_audit.specs.InFile.{IsHolderCoveredInFile, TellsWhere};
+ghost use Rattle.typed_sql.specs.Reading.{OnlyRead};
+ghost use Rattle.td_schema.specs.Tables.{desk_schema};
 
 use crate::handed::HolderParts;
 use sqlite::{Error, Transaction};
@@ -30,7 +32,7 @@ pub(crate) fn cover_keeps_rule<S: Alter>(
         → IfOk result (λ keeps. (country : List ℕ)
         → TellsWhere (IsCoverAuditable country handed.now) (λ trees. KeepsRaw trees S8) (state S.Store tx.old.conn.now) keeps) }
     ensures still { HasCleanDisk (state S.Store tx.new.conn.now)
-        → OnOk result (ReadsStore (state S.Store tx.old.conn.now) (state S.Store tx.new.conn.now)) }
+        → OnOk result (OnlyRead desk_schema (state S.Store tx.old.conn.now) (state S.Store tx.new.conn.now)) }
     ensures inside { HasCleanDisk (state S.Store tx.new.conn.now) → OnOk result (IsTrue (state S.Store tx.new.conn.now).in_transaction) }
     ensures kept { HasCleanDisk (state S.Store tx.new.conn.now)
         → KeepsCommit (state S.Store tx.old.conn.now) (state S.Store tx.new.conn.now) }
@@ -52,7 +54,7 @@ fn all_holders_covered<S: Alter>(
         → IfOk result (TellsWhere (λ trees. AllByRecursion (IsHandedOn trees) handed.now)
         (λ trees. AllByRecursion (λ h. IsHolderCoveredInFile trees (raw_holder_of h)) handed.now) (state S.Store tx.old.conn.now)) }
     ensures still { HasCleanDisk (state S.Store tx.new.conn.now)
-        → OnOk result (ReadsStore (state S.Store tx.old.conn.now) (state S.Store tx.new.conn.now)) }
+        → OnOk result (OnlyRead desk_schema (state S.Store tx.old.conn.now) (state S.Store tx.new.conn.now)) }
     ensures inside { HasCleanDisk (state S.Store tx.new.conn.now) → OnOk result (IsTrue (state S.Store tx.new.conn.now).in_transaction) }
     ensures kept { HasCleanDisk (state S.Store tx.new.conn.now)
         → KeepsCommit (state S.Store tx.old.conn.now) (state S.Store tx.new.conn.now) }
@@ -77,7 +79,7 @@ fn is_holder_covered<S: Alter>(
     ensures told { HasCleanDisk (state S.Store tx.new.conn.now)
         → IfOk result (TellsWhere (λ trees. IsHandedOn trees parts.now) (λ trees. IsHolderCoveredInFile trees (raw_holder_of parts.now)) (state S.Store tx.old.conn.now)) }
     ensures still { HasCleanDisk (state S.Store tx.new.conn.now)
-        → OnOk result (ReadsStore (state S.Store tx.old.conn.now) (state S.Store tx.new.conn.now)) }
+        → OnOk result (OnlyRead desk_schema (state S.Store tx.old.conn.now) (state S.Store tx.new.conn.now)) }
     ensures inside { HasCleanDisk (state S.Store tx.new.conn.now) → OnOk result (IsTrue (state S.Store tx.new.conn.now).in_transaction) }
     ensures kept { HasCleanDisk (state S.Store tx.new.conn.now)
         → KeepsCommit (state S.Store tx.old.conn.now) (state S.Store tx.new.conn.now) }

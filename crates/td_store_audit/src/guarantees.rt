@@ -8,7 +8,9 @@ ghost use Rattle.td_table_model.specs.declared.rule.Rule.TheVariants.{S3};
 ghost use Rattle.td_store_audit_rows.specs.Fields.{AreGuaranteeFields};
 ghost use Rattle.td_store_audit_rows.specs.Scans.{TellsRead};
 ghost use Rattle.td_store_audit.specs.Auditable.{TellsRule};
-ghost use Rattle.td_store_audit.specs.InFile.{AreTypedApart, HasGuaranteesInPlace, ReadsStore, TellsWhere};
+ghost use Rattle.td_store_audit.specs.InFile.{AreTypedApart, HasGuaranteesInPlace, TellsWhere};
+ghost use Rattle.typed_sql.specs.Reading.{OnlyRead};
+ghost use Rattle.td_schema.specs.Tables.{desk_schema};
 
 use sqlite::{Error, Transaction};
 use sqlite_trees::store::Alter;
@@ -35,7 +37,7 @@ pub fn guarantees_keep_rule<S: Alter>(
         → IfOk result (λ keeps. TellsRead guarantee_typing AreGuaranteeFields (state S.Store tx.old.conn.now).now.trees are_read
         → TellsRule S3 country holders.now (state S.Store tx.old.conn.now) keeps) }
     ensures still { HasCleanDisk (state S.Store tx.new.conn.now)
-        → OnOk result (ReadsStore (state S.Store tx.old.conn.now) (state S.Store tx.new.conn.now)) }
+        → OnOk result (OnlyRead desk_schema (state S.Store tx.old.conn.now) (state S.Store tx.new.conn.now)) }
     ensures inside { HasCleanDisk (state S.Store tx.new.conn.now) → OnOk result (IsTrue (state S.Store tx.new.conn.now).in_transaction) }
     ensures kept { HasCleanDisk (state S.Store tx.new.conn.now)
         → KeepsCommit (state S.Store tx.old.conn.now) (state S.Store tx.new.conn.now) }
@@ -62,7 +64,7 @@ fn all_have_guarantees<S: Alter>(
         → IfOk result (TellsWhere (AreTypedApart guarantee_typing) (λ trees. AllByRecursion (HasGuaranteesInPlace country trees) holders.now)
         (state S.Store tx.old.conn.now)) }
     ensures still { HasCleanDisk (state S.Store tx.new.conn.now)
-        → OnOk result (ReadsStore (state S.Store tx.old.conn.now) (state S.Store tx.new.conn.now)) }
+        → OnOk result (OnlyRead desk_schema (state S.Store tx.old.conn.now) (state S.Store tx.new.conn.now)) }
     ensures inside { HasCleanDisk (state S.Store tx.new.conn.now) → OnOk result (IsTrue (state S.Store tx.new.conn.now).in_transaction) }
     ensures kept { HasCleanDisk (state S.Store tx.new.conn.now)
         → KeepsCommit (state S.Store tx.old.conn.now) (state S.Store tx.new.conn.now) }
@@ -88,7 +90,7 @@ fn has_guarantees<S: Alter>(
     ensures told { HasCleanDisk (state S.Store tx.new.conn.now)
         → IfOk result (TellsWhere (AreTypedApart guarantee_typing) (λ trees. HasGuaranteesInPlace country trees raw.now) (state S.Store tx.old.conn.now)) }
     ensures still { HasCleanDisk (state S.Store tx.new.conn.now)
-        → OnOk result (ReadsStore (state S.Store tx.old.conn.now) (state S.Store tx.new.conn.now)) }
+        → OnOk result (OnlyRead desk_schema (state S.Store tx.old.conn.now) (state S.Store tx.new.conn.now)) }
     ensures inside { HasCleanDisk (state S.Store tx.new.conn.now) → OnOk result (IsTrue (state S.Store tx.new.conn.now).in_transaction) }
     ensures kept { HasCleanDisk (state S.Store tx.new.conn.now)
         → KeepsCommit (state S.Store tx.old.conn.now) (state S.Store tx.new.conn.now) }

@@ -4,7 +4,7 @@ ghost use Rattle.std.specs.List.{AllByRecursion};
 ghost use Rattle.sqlite.specs.Held.{state};
 ghost use Rattle.sqlite.specs.State.{HasCleanDisk, KeepsCommit, Survives};
 ghost use Rattle.td_schema.specs.Tables.{desk_schema};
-ghost use Rattle.typed_sql.specs.Reading.{LeavesAll};
+ghost use Rattle.typed_sql.specs.Reading.{LeavesAll, OnlyRead};
 ghost use Rattle.typed_sql.specs.Typed.{AreTyped, typed_rows};
 ghost use Rattle.typed_sql.specs.Writing.{HasSchema};
 ghost use Rattle.td_store_rows.specs.Columns.{line_typing};
@@ -14,7 +14,7 @@ ghost use Rattle.td_table_model.specs.Gathering.{part};
 ghost use Rattle.td_store_audit_rows.specs.Fields.{AreLineFields};
 ghost use Rattle.td_store_audit_rows.specs.Scans.{TellsRead};
 ghost use Rattle.td_store_audit_rows.specs.Kinds.{KeepsRaw};
-ghost use Rattle.td_store_audit.specs.Found.{OnlyReadsTables, is_of_holder};
+ghost use Rattle.td_store_audit.specs.Found.{is_of_holder};
 ghost use Rattle.td_store_audit.specs.Handed.{AreAllLines, movements_in, raw_of};
 ghost use Rattle.td_store_audit.specs.InPlace.{AreNumbersApart};
 ghost use Rattle.td_store_audit.specs.Premises.{AreLinesAuditable, HasLinesInPlace};
@@ -81,7 +81,7 @@ fn all_kept_lines<S: Alter>(
     ensures handed { HasCleanDisk (state S.Store tx.new.conn.now)
         → IfOk result (λ found. IfSome found (λ each. AreAllLines (state S.Store tx.old.conn.now) each.items)) }
     ensures still { HasCleanDisk (state S.Store tx.new.conn.now)
-        → OnOk result (OnlyReadsTables (state S.Store tx.old.conn.now) (state S.Store tx.new.conn.now)) }
+        → OnOk result (OnlyRead desk_schema (state S.Store tx.old.conn.now) (state S.Store tx.new.conn.now)) }
     ensures inside { HasCleanDisk (state S.Store tx.new.conn.now) → OnOk result (IsTrue (state S.Store tx.new.conn.now).in_transaction) }
     ensures kept { HasCleanDisk (state S.Store tx.new.conn.now)
         → KeepsCommit (state S.Store tx.old.conn.now) (state S.Store tx.new.conn.now) }
@@ -117,7 +117,7 @@ pub(crate) fn lines_keep_rule<S: Alter>(
     ensures handed { HasCleanDisk (state S.Store tx.new.conn.now)
         → IfOk result (λ found. IfSome found (λ each. AreAllLines (state S.Store tx.old.conn.now) each.items)) }
     ensures still { HasCleanDisk (state S.Store tx.new.conn.now)
-        → OnOk result (OnlyReadsTables (state S.Store tx.old.conn.now) (state S.Store tx.new.conn.now)) }
+        → OnOk result (OnlyRead desk_schema (state S.Store tx.old.conn.now) (state S.Store tx.new.conn.now)) }
     ensures inside { HasCleanDisk (state S.Store tx.new.conn.now) → OnOk result (IsTrue (state S.Store tx.new.conn.now).in_transaction) }
     ensures kept { HasCleanDisk (state S.Store tx.new.conn.now)
         → KeepsCommit (state S.Store tx.old.conn.now) (state S.Store tx.new.conn.now) }

@@ -11,7 +11,9 @@ ghost use Rattle.td_store_audit_rows.specs.Fields.{AreMovementFields};
 ghost use Rattle.td_store_audit_rows.specs.Scans.{TellsRead};
 ghost use Rattle.td_store_audit.specs.Auditable.{TellsRule};
 ghost use Rattle.td_store_audit.specs.Handed.{AreAllCounting, AreCounting, is_counting_row, raw_of};
-ghost use Rattle.td_store_audit.specs.InFile.{AreTypedApart, HasMovementsInPlace, IsSoWhere, ReadsStore, TellsWhere};
+ghost use Rattle.td_store_audit.specs.InFile.{AreTypedApart, HasMovementsInPlace, IsSoWhere, TellsWhere};
+ghost use Rattle.typed_sql.specs.Reading.{OnlyRead};
+ghost use Rattle.td_schema.specs.Tables.{desk_schema};
 
 use crate::handed::HolderMovements;
 use sqlite::{Error, Transaction};
@@ -43,7 +45,7 @@ pub(crate) fn movements_keep_rule<S: Alter>(
     ensures handed { HasCleanDisk (state S.Store tx.new.conn.now)
         → IfOk result (λ found. IfSome found (λ each. AreAllCounting (state S.Store tx.old.conn.now) each.items)) }
     ensures still { HasCleanDisk (state S.Store tx.new.conn.now)
-        → OnOk result (ReadsStore (state S.Store tx.old.conn.now) (state S.Store tx.new.conn.now)) }
+        → OnOk result (OnlyRead desk_schema (state S.Store tx.old.conn.now) (state S.Store tx.new.conn.now)) }
     ensures inside { HasCleanDisk (state S.Store tx.new.conn.now) → OnOk result (IsTrue (state S.Store tx.new.conn.now).in_transaction) }
     ensures kept { HasCleanDisk (state S.Store tx.new.conn.now)
         → KeepsCommit (state S.Store tx.old.conn.now) (state S.Store tx.new.conn.now) }
@@ -73,7 +75,7 @@ fn all_kept_movements<S: Alter>(
     ensures handed { HasCleanDisk (state S.Store tx.new.conn.now)
         → IfOk result (λ found. IfSome found (λ each. AreAllCounting (state S.Store tx.old.conn.now) each.items)) }
     ensures still { HasCleanDisk (state S.Store tx.new.conn.now)
-        → OnOk result (ReadsStore (state S.Store tx.old.conn.now) (state S.Store tx.new.conn.now)) }
+        → OnOk result (OnlyRead desk_schema (state S.Store tx.old.conn.now) (state S.Store tx.new.conn.now)) }
     ensures inside { HasCleanDisk (state S.Store tx.new.conn.now) → OnOk result (IsTrue (state S.Store tx.new.conn.now).in_transaction) }
     ensures kept { HasCleanDisk (state S.Store tx.new.conn.now)
         → KeepsCommit (state S.Store tx.old.conn.now) (state S.Store tx.new.conn.now) }
@@ -105,7 +107,7 @@ fn kept_movements<S: Alter>(
     ensures handed { HasCleanDisk (state S.Store tx.new.conn.now)
         → IfOk result (λ found. IfSome found (λ h. IsSoWhere (AreTypedApart movement_typing) (λ trees. AreCounting trees h) (state S.Store tx.old.conn.now))) }
     ensures still { HasCleanDisk (state S.Store tx.new.conn.now)
-        → OnOk result (ReadsStore (state S.Store tx.old.conn.now) (state S.Store tx.new.conn.now)) }
+        → OnOk result (OnlyRead desk_schema (state S.Store tx.old.conn.now) (state S.Store tx.new.conn.now)) }
     ensures inside { HasCleanDisk (state S.Store tx.new.conn.now) → OnOk result (IsTrue (state S.Store tx.new.conn.now).in_transaction) }
     ensures kept { HasCleanDisk (state S.Store tx.new.conn.now)
         → KeepsCommit (state S.Store tx.old.conn.now) (state S.Store tx.new.conn.now) }

@@ -22,7 +22,7 @@ use Rattle.td_table_model.proofs.KeepingRules.{keep_rules}
 use Rattle.td_table_model.proofs.Looked.{account_is, are_found}
 use Rattle.td_table_model.proofs.Told.{references_tell}
 use Rattle.td_schema.specs.Tables.{desk_schema}
-use Rattle.typed_sql.specs.Reading.{LeavesAll}
+use Rattle.typed_sql.specs.Reading.{LeavesAll, OnlyRead}
 use Rattle.td_store_rows.specs.CodeTable.{AreByCode, code_row_of as row_of_code}
 use Rattle.td_store_rows.specs.declared.codes.stored.StoredCode.{StoredCode}
 use Rattle.td_store_rows.specs.GuaranteeTable.{IsTheGuarantee, has_grn, has_serial, guarantee_row_of as row_of_guarantee}
@@ -32,9 +32,10 @@ use Rattle.td_store_rows.specs.declared.lines.stored.StoredLine.{StoredLine}
 use Rattle.td_store_rows.specs.MovementTable.{AreBySerial, IsTheMovement, has_lrn, has_mrn, is_of, movement_row_of as row_of_movement}
 use Rattle.td_store_rows.specs.declared.movements.stored.StoredMovement.{StoredMovement}
 use Rattle.td_store_rows.specs.StoreTables.{HoldsContent, tables_in}
-use Rattle.td_store_load.specs.Loaded.{IsOfTables, LeavesTables, code_of}
-use Rattle.td_store_load.proofs.Reading.{as_tables, said_before}
+use Rattle.td_store_load.specs.Loaded.{IsOfTables, code_of}
+use Rattle.td_store_load.proofs.Reading.{said_before}
 use Rattle.td_store_load.proofs.Whole.{code_forms, codes_ascend, found_alone, grn_alone, next_code}
+use Rattle.typed_sql.proofs.OnlyRead.{one_read}
 
 -- the next of codes in ascending order
 pub next_put : (rows : List StoredCode) (i : ℕ) (d row : StoredCode) → i < length rows → row ≡ get_or rows i d → AreAscending (map code_of rows)
@@ -65,7 +66,7 @@ line_loaded a row g found content holds =
     (sym (grn_alone (tables_in a.now.trees) row.holder row.guarantee (row_of_guarantee g) (found holds.schema holds.typed.guarantees)))
 
 -- one more of what rows say
-pub next_of : {R X : Type 0} (f : Tables → R → X) (a b : State) (rows : List R) (i : ℕ) (d row : R) (found : List X) (x : X) → i < length rows → row ≡ get_or rows i d → LeavesTables a b
+pub next_of : {R X : Type 0} (f : Tables → R → X) (a b : State) (rows : List R) (i : ℕ) (d row : R) (found : List X) (x : X) → i < length rows → row ≡ get_or rows i d → OnlyRead desk_schema a b
     → IsOfTables (λ t. map (f t) (take i rows)) a found → IsOfTables (λ t. f t row) b x → IsOfTables (λ t. map (f t) (take (i + 1) rows)) a (found ++ x ∷ [])
 next_of f a b rows i d row found x within is left before next content holds =
     let t : Tables = tables_in a.now.trees in
@@ -80,7 +81,7 @@ whole_movement a b stored rows lines order still each content holds =
     let keep : KeepRules t = keep_rules t content holds.sound holds.tables in
     let found : map row_of_line rows ≡ lines_by stored.holder stored.serial t = order holds.schema holds.typed.lines (keep.stored.lines stored.holder stored.serial) in
     ap (λ (l : List Line). record stored.movement { lines = l })
-    (said_before (λ t. map (λ r. line_from t (row_of_line r)) rows) a b lines (as_tables a b still) each content holds
+    (said_before (λ t. map (λ r. line_from t (row_of_line r)) rows) a b lines (one_read a b still) each content holds
     ∙ sym (map-map (line_from t) row_of_line rows) ∙ ap (map (line_from t)) found)
 
 -- all movements of a holder
@@ -90,7 +91,7 @@ all_movements a b H rows movements order still each content holds =
     let t : Tables = tables_in a.now.trees in
     let keep : KeepRules t = keep_rules t content holds.sound holds.tables in
     let found : map row_of_movement rows ≡ movements_by H t = order holds.schema holds.typed.movements (keep.stored.movements H) in
-    said_before (λ t. map (λ r. with_lines t (row_of_movement r)) rows) a b movements (as_tables a b still) each content holds
+    said_before (λ t. map (λ r. with_lines t (row_of_movement r)) rows) a b movements (one_read a b still) each content holds
     ∙ sym (map-map (with_lines t) row_of_movement rows) ∙ ap (map (with_lines t)) found
     ∙ ap (λ (account : Account). account.movements) (sym (account_is t content holds.sound holds.tables H))
 

@@ -30,8 +30,9 @@ use Rattle.td_store_rows.specs.declared.guarantees.stored.StoredGuarantee.{Store
 use Rattle.td_store_rows.specs.StoreTables.{HoldsContent, tables_in}
 use Rattle.td_store_load.specs.InUse.{IsInUse}
 use Rattle.td_store_load.specs.Loaded.{IsOfTables}
-use Rattle.td_store_load.proofs.Reading.{as_tables, said_before}
+use Rattle.td_store_load.proofs.Reading.{said_before}
 use Rattle.td_store_load.specs.Needed.{entry_from, with_use}
+use Rattle.typed_sql.proofs.OnlyRead.{one_read}
 
 -- what is found is found among more
 found_in_more : (grn : List ℕ) (g : Guarantee) (gs : List Guarantee) → IsSome (guarantee_by_grn grn gs) → IsSome (guarantee_by_grn grn (g ∷ gs))
@@ -119,7 +120,7 @@ module _ (a : State) (H : ℕ) (content : Content) (holds : HoldsContent content
   all_entries b rows entries order still each =
       let keep : KeepRules t = keep_rules t content holds.sound holds.tables in
       let found : map guarantee_row_of rows ≡ guarantees_by H t = order holds.schema holds.typed.guarantees (keep.stored.guarantees H) in
-      said_before (λ t. map (λ r. entry_from t (guarantee_row_of r)) rows) a b entries (as_tables a b still) each content holds
+      said_before (λ t. map (λ r. entry_from t (guarantee_row_of r)) rows) a b entries (one_read a b still) each content holds
       ∙ sym (map-map (entry_from t) guarantee_row_of rows) ∙ ap (map (entry_from t)) found
       ∙ map_same (entry_from t) (λ r. with_use account (with_codes t r)) (guarantees_by H t) rows_used
       ∙ sym (map-map (with_use account) (with_codes t) (guarantees_by H t)) ∙ ap (map (with_use account)) (sym guarantees_are)

@@ -1,10 +1,8 @@
 -- What is read out of the tables of a store's file.
-use Rattle.std.specs.Prelude.{◌≡◌, ℕ, List, IsTrue}
-use Rattle.sqlite.specs.State.{State, IsUnchanged}
+use Rattle.std.specs.Prelude.{◌≡◌, ℕ, List}
+use Rattle.sqlite.specs.State.{State}
 use Rattle.td_desk.specs.Content.{Content}
 use Rattle.td_table_model.specs.Tables.{Tables}
-use Rattle.td_schema.specs.Tables.{desk_schema}
-use Rattle.typed_sql.specs.Writing.{HasSchema}
 use Rattle.td_store_rows.specs.declared.codes.stored.StoredCode.{StoredCode}
 use Rattle.td_store_rows.specs.StoreTables.{HoldsContent, tables_in}
 
@@ -19,12 +17,3 @@ IsOfTables f s x = (c : Content) → HoldsContent c s → x ≡ f (tables_in s.n
 -- where the store holds a content of that country, this is what f says of the content
 abbrev pub IsOfContent : {X : Type 0} → List ℕ → (Content → X) → State → X → Type 0
 IsOfContent country f s x = (c : Content) → HoldsContent c s → c.country ≡ country → x ≡ f c
-
--- the tables are as they were, and so is all else as far as the connection is open
-pub record IsLeft (old new : State) : Type 0 where
-  pub now_is : new.now ≡ old.now
-  pub schema : HasSchema new desk_schema
-  pub unchanged : IsTrue old.is_open → IsUnchanged old new
-
-abbrev pub LeavesTables : State → State → Type 0
-LeavesTables old new = HasSchema old desk_schema → IsLeft old new

@@ -7,10 +7,10 @@ ghost use Rattle.sqlite.specs.State.{HasCleanDisk, KeepsCommit, Survives};
 ghost use Rattle.td_model.specs.Account.{entry_in};
 ghost use Rattle.td_desk.specs.Content.{Content, account_in};
 ghost use Rattle.td_schema.specs.Tables.{desk_schema};
-ghost use Rattle.typed_sql.specs.Reading.{LeavesAll};
+ghost use Rattle.typed_sql.specs.Reading.{LeavesAll, OnlyRead};
 ghost use Rattle.td_store_rows.specs.GuaranteeTable.{guarantee_row_of};
 ghost use Rattle.td_store_rows.specs.StoreTables.{HoldsContent};
-ghost use Rattle.td_store_load.specs.Loaded.{IsOfContent, IsOfTables, LeavesTables};
+ghost use Rattle.td_store_load.specs.Loaded.{IsOfContent, IsOfTables};
 ghost use Rattle.td_store_load.specs.Needed.{entry_from, with_use};
 
 use crate::amounts::amount_in_use;
@@ -65,7 +65,7 @@ pub fn load_entries_of<S: Alter>(
         → IfOk result (λ found. IsOfContent country (λ c. filter_map (λ l. entry_in (account_in holder c) l.grn) lines.now)
         (state S.Store tx.old.conn.now) found.items) }
     ensures still { HasCleanDisk (state S.Store tx.new.conn.now)
-        → OnOk result (LeavesTables (state S.Store tx.old.conn.now) (state S.Store tx.new.conn.now)) }
+        → OnOk result (OnlyRead desk_schema (state S.Store tx.old.conn.now) (state S.Store tx.new.conn.now)) }
     ensures inside { HasCleanDisk (state S.Store tx.new.conn.now) → OnOk result (IsTrue (state S.Store tx.new.conn.now).in_transaction) }
     ensures kept { HasCleanDisk (state S.Store tx.new.conn.now)
         → KeepsCommit (state S.Store tx.old.conn.now) (state S.Store tx.new.conn.now) }
@@ -119,7 +119,7 @@ fn entries_in_rows<S: Alter>(
         → IfOk result (λ entries. IsOfTables (λ t. map (λ r. entry_from t (guarantee_row_of r)) rows.now)
         (state S.Store tx.old.conn.now) entries.items) }
     ensures still { HasCleanDisk (state S.Store tx.new.conn.now)
-        → OnOk result (LeavesTables (state S.Store tx.old.conn.now) (state S.Store tx.new.conn.now)) }
+        → OnOk result (OnlyRead desk_schema (state S.Store tx.old.conn.now) (state S.Store tx.new.conn.now)) }
     ensures inside { HasCleanDisk (state S.Store tx.new.conn.now) → OnOk result (IsTrue (state S.Store tx.new.conn.now).in_transaction) }
     ensures kept { HasCleanDisk (state S.Store tx.new.conn.now)
         → KeepsCommit (state S.Store tx.old.conn.now) (state S.Store tx.new.conn.now) }
@@ -145,7 +145,7 @@ pub fn load_all_entries<S: Alter>(
         → IfOk result (λ found. (c : Content) → HoldsContent c (state S.Store tx.old.conn.now)
         → found.items ≡ map (with_use (account_in holder c)) (account_in holder c).guarantees) }
     ensures still { HasCleanDisk (state S.Store tx.new.conn.now)
-        → OnOk result (LeavesTables (state S.Store tx.old.conn.now) (state S.Store tx.new.conn.now)) }
+        → OnOk result (OnlyRead desk_schema (state S.Store tx.old.conn.now) (state S.Store tx.new.conn.now)) }
     ensures inside { HasCleanDisk (state S.Store tx.new.conn.now) → OnOk result (IsTrue (state S.Store tx.new.conn.now).in_transaction) }
     ensures kept { HasCleanDisk (state S.Store tx.new.conn.now)
         → KeepsCommit (state S.Store tx.old.conn.now) (state S.Store tx.new.conn.now) }

@@ -8,9 +8,9 @@ ghost use Rattle.td_model.specs.Account.{guarantee_by_grn};
 ghost use Rattle.td_desk.specs.Content.{account_in};
 ghost use Rattle.td_schema.specs.Tables.{desk_schema};
 ghost use Rattle.td_table_model.specs.Gathering.{with_codes};
-ghost use Rattle.typed_sql.specs.Reading.{LeavesAll};
+ghost use Rattle.typed_sql.specs.Reading.{LeavesAll, OnlyRead};
 ghost use Rattle.td_store_rows.specs.GuaranteeTable.{guarantee_row_of};
-ghost use Rattle.td_store_load.specs.Loaded.{IsOfContent, IsOfTables, LeavesTables, code_of};
+ghost use Rattle.td_store_load.specs.Loaded.{IsOfContent, IsOfTables, code_of};
 
 use sqlite::{Error, Transaction};
 use sqlite_trees::store::Alter;
@@ -96,7 +96,7 @@ pub fn load_guarantees_of<S: Alter>(
         → IfOk result (λ found. IsOfContent country (λ c. filter_map (λ l. guarantee_by_grn l.0.grn
         (account_in holder c).guarantees) lines.now) (state S.Store tx.old.conn.now) (map (λ e. e.0) found.items)) }
     ensures still { HasCleanDisk (state S.Store tx.new.conn.now)
-        → OnOk result (LeavesTables (state S.Store tx.old.conn.now) (state S.Store tx.new.conn.now)) }
+        → OnOk result (OnlyRead desk_schema (state S.Store tx.old.conn.now) (state S.Store tx.new.conn.now)) }
     ensures inside { HasCleanDisk (state S.Store tx.new.conn.now) → OnOk result (IsTrue (state S.Store tx.new.conn.now).in_transaction) }
     ensures kept { HasCleanDisk (state S.Store tx.new.conn.now)
         → KeepsCommit (state S.Store tx.old.conn.now) (state S.Store tx.new.conn.now) }

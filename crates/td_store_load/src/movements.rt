@@ -7,10 +7,10 @@ ghost use Rattle.td_model.specs.Account.{movement_by_lrn, movement_by_mrn};
 ghost use Rattle.td_desk.specs.Content.{Content, account_in};
 ghost use Rattle.td_schema.specs.Tables.{desk_schema};
 ghost use Rattle.td_table_model.specs.Gathering.{line_from, with_lines};
-ghost use Rattle.typed_sql.specs.Reading.{LeavesAll};
+ghost use Rattle.typed_sql.specs.Reading.{LeavesAll, OnlyRead};
 ghost use Rattle.td_store_rows.specs.LineTable.{line_row_of as row_of_line};
 ghost use Rattle.td_store_rows.specs.MovementTable.{movement_row_of};
-ghost use Rattle.td_store_load.specs.Loaded.{IsOfContent, IsOfTables, LeavesTables};
+ghost use Rattle.td_store_load.specs.Loaded.{IsOfContent, IsOfTables};
 ghost use Rattle.td_store_rows.specs.StoreTables.{HoldsContent};
 
 use sqlite::{Error, ErrorCode, Transaction};
@@ -61,7 +61,7 @@ fn lines_on<S: Alter>(
         → IfOk result (λ lines. IsOfTables (λ t. map (λ l. line_from t (row_of_line l)) rows.now)
         (state S.Store tx.old.conn.now) lines.items) }
     ensures still { HasCleanDisk (state S.Store tx.new.conn.now)
-        → OnOk result (LeavesTables (state S.Store tx.old.conn.now) (state S.Store tx.new.conn.now)) }
+        → OnOk result (OnlyRead desk_schema (state S.Store tx.old.conn.now) (state S.Store tx.new.conn.now)) }
     ensures inside { HasCleanDisk (state S.Store tx.new.conn.now) → OnOk result (IsTrue (state S.Store tx.new.conn.now).in_transaction) }
     ensures kept { HasCleanDisk (state S.Store tx.new.conn.now)
         → KeepsCommit (state S.Store tx.old.conn.now) (state S.Store tx.new.conn.now) }
@@ -185,7 +185,7 @@ fn all_with_lines<S: Alter>(
         → IfOk result (λ found. IsOfTables (λ t. map (λ m. with_lines t (movement_row_of m)) rows.now)
         (state S.Store tx.old.conn.now) found.items) }
     ensures still { HasCleanDisk (state S.Store tx.new.conn.now)
-        → OnOk result (LeavesTables (state S.Store tx.old.conn.now) (state S.Store tx.new.conn.now)) }
+        → OnOk result (OnlyRead desk_schema (state S.Store tx.old.conn.now) (state S.Store tx.new.conn.now)) }
     ensures inside { HasCleanDisk (state S.Store tx.new.conn.now) → OnOk result (IsTrue (state S.Store tx.new.conn.now).in_transaction) }
     ensures kept { HasCleanDisk (state S.Store tx.new.conn.now)
         → KeepsCommit (state S.Store tx.old.conn.now) (state S.Store tx.new.conn.now) }

@@ -5,6 +5,7 @@ pub mod Steps
 pub mod Effects
 mod Answering
 pub mod Leaving
+pub mod OnlyRead
 pub mod TypedRows
 pub mod Ordered
 pub mod Fetched

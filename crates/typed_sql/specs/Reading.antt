@@ -54,3 +54,7 @@ pub record HasOnlyRead (old new : State) : Type 0 where
   pub was_open : IsTrue new.is_open → IsTrue old.is_open
   pub now_is : new.now ≡ old.now
   pub unchanged : IsTrue old.is_open → IsUnchanged old new
+
+-- so they have where the tables are those of the schema
+abbrev pub OnlyRead : Schema → State → State → Type 0
+OnlyRead s old new = HasSchema old s → HasOnlyRead old new

@@ -2,8 +2,8 @@ use Rattle.std.proofs.Common.{arith}
 use Rattle.sqlite.specs.Held.{state}
 use Rattle.sqlite.specs.State.{State, HasCleanDisk}
 use Rattle.td_store_audit.proofs.Asked.{all_told, codes_broken, guarantees_broken, holders_broken}
-use Rattle.td_store_audit.proofs.Reading.{read_more}
 use Rattle.td_store_audit.proofs.audit.first_after_office.Goals as goal
+use Rattle.typed_sql.proofs.OnlyRead.{read_more}
 
 pub returns-then-not-holders_keep_rule-clause-told : goal.returns-then-not-holders_keep_rule-clause-told
 returns-then-not-holders_keep_rule-clause-told g c clean =

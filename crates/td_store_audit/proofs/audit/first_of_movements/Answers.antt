@@ -1,9 +1,9 @@
 use Rattle.std.proofs.Common.{arith}
 use Rattle.sqlite.specs.Held.{state}
 use Rattle.sqlite.specs.State.{State, HasCleanDisk}
-use Rattle.td_store_audit.proofs.Reading.{read_more}
 use Rattle.td_store_audit.proofs.Threaded.{cover_broken, lines_broken, movements_broken, none_broken}
 use Rattle.td_store_audit.proofs.audit.first_of_movements.Goals as goal
+use Rattle.typed_sql.proofs.OnlyRead.{read_more}
 
 pub returns-in_default-clause-told : goal.returns-in_default-clause-told
 returns-in_default-clause-told g c clean =

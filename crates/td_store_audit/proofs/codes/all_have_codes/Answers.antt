@@ -8,8 +8,8 @@ use Rattle.sqlite_trees.proofs.ListLemmas.{all-append}
 use Rattle.typed_sql.specs.Typed.{AreTyped}
 use Rattle.td_store_rows.specs.Columns.{code_typing}
 use Rattle.td_store_audit.specs.Premises.{HasCodesInPlace}
-use Rattle.td_store_audit.proofs.ReadingParts.{read_then, still_has}
 use Rattle.td_store_audit.proofs.codes.all_have_codes.Goals as goal
+use Rattle.typed_sql.proofs.OnlyRead.{read_then, still_has}
 
 pub holders-preserved : goal.holders-preserved
 holders-preserved g c = (

@@ -7,9 +7,11 @@ use Rattle.sqlite.specs.Held.{state}
 use Rattle.sqlite.specs.State.{State, HasCleanDisk}
 use Rattle.td_store_audit.specs.Handed.{IsHandedOn, raw_holder_of}
 use Rattle.td_store_audit.specs.InFile.{IsHolderCoveredInFile, TellsWhere}
-use Rattle.td_store_audit.proofs.Reading.{HasRead, read_then, so_before}
+use Rattle.td_store_audit.proofs.Reading.{so_before}
 use Rattle.td_store_audit.proofs.Walking.{one_more, one_of_all}
 use Rattle.td_store_audit.proofs.cover.all_holders_covered.Goals as goal
+use Rattle.typed_sql.proofs.OnlyRead.{HaveRead, reads_then}
+use Rattle.td_schema.specs.Tables.{desk_schema}
 
 pub holders-preserved : goal.holders-preserved
 holders-preserved g c = (
@@ -29,8 +31,8 @@ holders-preserved g c = (
     d : State
     d = state g.S.Store c.is_holder_covered.new.tx.conn.now
 
-    more : HasRead a d
-    more = read_then a b d c.holders.invariant.1 c.in_ok-is_holder_covered.ensures.still c.in_ok-is_holder_covered.ensures.inside c.is_holder_covered.ensures.kept c.is_holder_covered.ensures.survives
+    more : HaveRead desk_schema a d
+    more = reads_then a b d c.holders.invariant.1 c.in_ok-is_holder_covered.ensures.still c.in_ok-is_holder_covered.ensures.inside c.is_holder_covered.ensures.kept c.is_holder_covered.ensures.survives
 
     clean_b : HasCleanDisk d → HasCleanDisk b
     clean_b clean = omega (arith, clean, c.is_holder_covered.ensures.survives.clean)

@@ -7,9 +7,11 @@ use Rattle.sqlite.specs.Held.{state}
 use Rattle.sqlite.specs.State.{State, HasCleanDisk}
 use Rattle.td_store_rows.specs.Columns.{guarantee_typing}
 use Rattle.td_store_audit.specs.InFile.{AreTypedApart, HasGuaranteesInPlace, TellsWhere}
-use Rattle.td_store_audit.proofs.Reading.{HasRead, read_then, so_before}
+use Rattle.td_store_audit.proofs.Reading.{so_before}
 use Rattle.td_store_audit.proofs.Walking.{one_more, one_of_all}
 use Rattle.td_store_audit.proofs.guarantees.all_have_guarantees.Goals as goal
+use Rattle.typed_sql.proofs.OnlyRead.{HaveRead, reads_then}
+use Rattle.td_schema.specs.Tables.{desk_schema}
 
 pub holders-preserved : goal.holders-preserved
 holders-preserved g c = (
@@ -29,8 +31,8 @@ holders-preserved g c = (
     d : State
     d = state g.S.Store c.has_guarantees.new.tx.conn.now
 
-    more : HasRead a d
-    more = read_then a b d c.holders.invariant.1 c.in_ok-has_guarantees.ensures.still c.in_ok-has_guarantees.ensures.inside c.has_guarantees.ensures.kept c.has_guarantees.ensures.survives
+    more : HaveRead desk_schema a d
+    more = reads_then a b d c.holders.invariant.1 c.in_ok-has_guarantees.ensures.still c.in_ok-has_guarantees.ensures.inside c.has_guarantees.ensures.kept c.has_guarantees.ensures.survives
 
     clean_b : HasCleanDisk d → HasCleanDisk b
     clean_b clean = omega (arith, clean, c.has_guarantees.ensures.survives.clean)

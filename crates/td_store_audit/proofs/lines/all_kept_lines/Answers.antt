@@ -19,9 +19,9 @@ use Rattle.td_store_audit.specs.InPlace.{AreNumbersApart}
 use Rattle.td_store_audit.specs.Premises.{HasLinesInPlace}
 use Rattle.td_store_audit.specs.declared.handed.HolderMovements.{HolderMovements}
 use Rattle.td_store_audit.specs.declared.handed.HolderParts.{HolderParts}
-use Rattle.td_store_audit.proofs.ReadingParts.{read_then, still_has}
 use Rattle.td_store_audit.proofs.Walking.{one_made, one_more, one_of_all, one_put}
 use Rattle.td_store_audit.proofs.lines.all_kept_lines.Goals as goal
+use Rattle.typed_sql.proofs.OnlyRead.{read_then, still_has}
 
 pub holders-preserved : goal.holders-preserved
 holders-preserved g c = (

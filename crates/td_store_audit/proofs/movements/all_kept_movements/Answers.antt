@@ -8,9 +8,11 @@ use Rattle.sqlite.specs.State.{State, HasCleanDisk}
 use Rattle.td_store_rows.specs.Columns.{movement_typing}
 use Rattle.td_store_audit.specs.Handed.{AreCounting, raw_of}
 use Rattle.td_store_audit.specs.InFile.{AreTypedApart, HasMovementsInPlace, IsSoWhere, TellsWhere}
-use Rattle.td_store_audit.proofs.Reading.{HasRead, read_then, so_before}
+use Rattle.td_store_audit.proofs.Reading.{so_before}
 use Rattle.td_store_audit.proofs.Walking.{one_made, one_more, one_of_all, one_put}
 use Rattle.td_store_audit.proofs.movements.all_kept_movements.Goals as goal
+use Rattle.typed_sql.proofs.OnlyRead.{HaveRead, reads_then}
+use Rattle.td_schema.specs.Tables.{desk_schema}
 
 pub holders-preserved : goal.holders-preserved
 holders-preserved g c = (
@@ -35,8 +37,8 @@ holders-preserved g c = (
     d : State
     d = state g.S.Store c.kept_movements.new.tx.conn.now
 
-    more : HasRead a d
-    more = read_then a b d c.holders.invariant.1 c.in_ok-movements.ensures.still c.in_ok-movements.ensures.inside c.kept_movements.ensures.kept c.kept_movements.ensures.survives
+    more : HaveRead desk_schema a d
+    more = reads_then a b d c.holders.invariant.1 c.in_ok-movements.ensures.still c.in_ok-movements.ensures.inside c.kept_movements.ensures.kept c.kept_movements.ensures.survives
 
     clean_b : HasCleanDisk d → HasCleanDisk b
     clean_b clean = omega (arith, clean, c.kept_movements.ensures.survives.clean)

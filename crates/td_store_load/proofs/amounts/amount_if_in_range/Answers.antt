@@ -12,8 +12,8 @@ use Rattle.td_store_rows.specs.LineTable.{is_line_on, line_row_of}
 use Rattle.td_store_rows.specs.StoreTables.{tables_in}
 use Rattle.td_store_load.specs.InUse.{total_on}
 use Rattle.td_store_load.proofs.Counted.{of_guarantee}
-use Rattle.td_store_load.proofs.Reading.{as_tables, still_has, then_left}
 use Rattle.td_store_load.proofs.amounts.amount_if_in_range.Goals as goal
+use Rattle.typed_sql.proofs.OnlyRead.{one_read, still_has, then_read}
 
 pub returns-clause-found : goal.returns-clause-found
 returns-clause-found g c clean has movements lines =
@@ -44,6 +44,6 @@ returns-clause-found g c clean has movements lines =
 
 pub returns-clause-still : goal.returns-clause-still
 returns-clause-still g c clean =
-    then_left (state g.S.Store c.args.tx.now.conn.now) (state g.S.Store c.counting_serials.new.tx.conn.now) (state g.S.Store c.lines_on.new.tx.conn.now)
+    then_read (state g.S.Store c.args.tx.now.conn.now) (state g.S.Store c.counting_serials.new.tx.conn.now) (state g.S.Store c.lines_on.new.tx.conn.now)
     (c.in_ok-serials.ensures.still (omega (arith, clean, c.lines_on.ensures.survives.clean)))
-    (as_tables (state g.S.Store c.counting_serials.new.tx.conn.now) (state g.S.Store c.lines_on.new.tx.conn.now) (c.in_ok-lines.ensures.still clean))
+    (one_read (state g.S.Store c.counting_serials.new.tx.conn.now) (state g.S.Store c.lines_on.new.tx.conn.now) (c.in_ok-lines.ensures.still clean))

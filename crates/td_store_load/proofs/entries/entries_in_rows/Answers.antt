@@ -3,9 +3,10 @@ use Rattle.sqlite.specs.Held.{state}
 use Rattle.sqlite.specs.State.{State, HasCleanDisk}
 use Rattle.td_store_rows.specs.GuaranteeTable.{guarantee_row_of}
 use Rattle.td_store_load.proofs.Found.{next_of}
-use Rattle.td_store_load.proofs.Reading.{HasRead, read_then}
 use Rattle.td_store_load.specs.Needed.{entry_from}
 use Rattle.td_store_load.proofs.entries.entries_in_rows.Goals as goal
+use Rattle.typed_sql.proofs.OnlyRead.{HaveRead, read_then}
+use Rattle.td_schema.specs.Tables.{desk_schema}
 
 pub rows-preserved : goal.rows-preserved
 rows-preserved g c = (
@@ -26,7 +27,7 @@ rows-preserved g c = (
     d : State
     d = state g.S.Store c.entry_in_row.new.tx.conn.now
 
-    more : HasRead a d
+    more : HaveRead desk_schema a d
     more = read_then a b d c.rows.invariant.1 c.in_ok-entry.ensures.still c.in_ok-entry.ensures.inside c.entry_in_row.ensures.kept c.entry_in_row.ensures.survives
 
     clean_b : HasCleanDisk d → HasCleanDisk b

@@ -6,12 +6,13 @@ use Rattle.td_store_rows.specs.GuaranteeTable.{guarantee_row_of}
 use Rattle.td_store_rows.specs.declared.guarantees.stored.StoredGuarantee.{StoredGuarantee}
 use Rattle.td_table_model.specs.Gathering.{with_codes}
 use Rattle.td_store_load.specs.Loaded.{IsOfTables}
-use Rattle.td_store_load.proofs.Reading.{as_tables, said_before, then_left}
+use Rattle.td_store_load.proofs.Reading.{said_before}
 use Rattle.td_store_load.proofs.entries.entry_in_row.Goals as goal
+use Rattle.typed_sql.proofs.OnlyRead.{one_read, then_read}
 
 pub returns-clause-entry : goal.returns-clause-entry
 returns-clause-entry g c clean content holds =
-    ap₂ (λ guarantee cents. (guarantee, cents)) (said_before (λ t. with_codes t (guarantee_row_of c.args.row.now)) a b _ (as_tables a b (c.in_ok-used.ensures.still clean_b)) whole content holds)
+    ap₂ (λ guarantee cents. (guarantee, cents)) (said_before (λ t. with_codes t (guarantee_row_of c.args.row.now)) a b _ (one_read a b (c.in_ok-used.ensures.still clean_b)) whole content holds)
     (c.in_ok-used.ensures.found clean_b holds.schema holds.typed.movements holds.typed.lines)
   where
     a : State
@@ -32,4 +33,4 @@ returns-clause-still g c clean =
     let a : State = state g.S.Store c.args.tx.now.conn.now in
     let b : State = state g.S.Store c.amount_in_use.new.tx.conn.now in
     let d : State = state g.S.Store c.guarantee_with_codes.new.tx.conn.now in
-    then_left a b d (c.in_ok-used.ensures.still (omega (arith, clean, c.guarantee_with_codes.ensures.survives.clean))) (as_tables b d (c.in_ok-guarantee.ensures.still clean))
+    then_read a b d (c.in_ok-used.ensures.still (omega (arith, clean, c.guarantee_with_codes.ensures.survives.clean))) (one_read b d (c.in_ok-guarantee.ensures.still clean))

@@ -5,10 +5,10 @@ use Rattle.td_store_rows.specs.GuaranteeTable.{guarantee_row_of}
 use Rattle.td_store_rows.specs.declared.guarantees.stored.StoredGuarantee.{StoredGuarantee}
 use Rattle.typed_sql.proofs.Leaving.{if_both, on_ok}
 use Rattle.td_store_load.specs.Loaded.{IsOfTables}
-use Rattle.td_store_load.proofs.Reading.{as_tables, then_left}
 use Rattle.td_store_load.specs.Needed.{entry_from}
 use Rattle.td_store_load.proofs.WithUse.{all_entries}
 use Rattle.td_store_load.proofs.entries.load_all_entries.Goals as goal
+use Rattle.typed_sql.proofs.OnlyRead.{one_read, then_read}
 
 pub returns-clause-found : goal.returns-clause-found
 returns-clause-found g c clean =
@@ -32,5 +32,5 @@ returns-clause-still g c clean =
     let b : State = state g.S.Store c.guarantees_of.new.tx.conn.now in
     let d : State = state g.S.Store c.entries_in_rows.new.tx.conn.now in
     on_ok c.entries_in_rows.result
-    (λ left. as_tables a d (then_left a b d (c.in_ok-rows.ensures.still (omega (arith, clean, c.entries_in_rows.ensures.survives.clean))) left))
+    (λ left. one_read a d (then_read a b d (c.in_ok-rows.ensures.still (omega (arith, clean, c.entries_in_rows.ensures.survives.clean))) left))
     (c.entries_in_rows.ensures.still clean)

@@ -9,9 +9,11 @@ use Rattle.td_model.specs.Account.{entry_in}
 use Rattle.td_desk.specs.Content.{Content, account_in}
 use Rattle.td_holder_memory.proofs.Loading.{one_more}
 use Rattle.td_store_load.specs.Loaded.{IsOfContent}
-use Rattle.td_store_load.proofs.Reading.{HasRead, content_before, read_then}
+use Rattle.td_store_load.proofs.Reading.{content_before}
 use Rattle.td_store_load.proofs.entries.load_entries_of.Goals as goal
 use Rattle.td_store_load.proofs.entries.load_entries_of.Goals.{in-Some+in_ok-push, in_default}
+use Rattle.typed_sql.proofs.OnlyRead.{HaveRead, read_then}
+use Rattle.td_schema.specs.Tables.{desk_schema}
 
 pub lines-preserved : goal.lines-preserved
 lines-preserved g c = (c.load_entry.ensures.same_reference ∙ c.lines.invariant.0, more, next)
@@ -25,7 +27,7 @@ lines-preserved g c = (c.load_entry.ensures.same_reference ∙ c.lines.invariant
     d : State
     d = state g.S.Store c.load_entry.new.tx.conn.now
 
-    more : HasRead a d
+    more : HaveRead desk_schema a d
     more = read_then a b d c.lines.invariant.1 c.in_ok-entry.ensures.still c.in_ok-entry.ensures.inside c.load_entry.ensures.kept c.load_entry.ensures.survives
 
     seek : Content → Line → Option (Guarantee × ℕ)

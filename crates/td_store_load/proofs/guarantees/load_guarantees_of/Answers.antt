@@ -8,9 +8,11 @@ use Rattle.td_guarantee.specs.declared.guarantee.Guarantee.{Guarantee}
 use Rattle.td_desk.specs.Content.{Content, account_in}
 use Rattle.td_holder_memory.proofs.Loading.{look, one_more}
 use Rattle.td_store_load.specs.Loaded.{IsOfContent}
-use Rattle.td_store_load.proofs.Reading.{HasRead, content_before, read_then}
+use Rattle.td_store_load.proofs.Reading.{content_before}
 use Rattle.td_store_load.proofs.guarantees.load_guarantees_of.Goals as goal
 use Rattle.td_store_load.proofs.guarantees.load_guarantees_of.Goals.{in-Some+in_ok-push, in_default}
+use Rattle.typed_sql.proofs.OnlyRead.{HaveRead, read_then}
+use Rattle.td_schema.specs.Tables.{desk_schema}
 
 pub lines-preserved : goal.lines-preserved
 lines-preserved g c = (c.load_guarantee.ensures.same_reference ∙ c.lines.invariant.0, more, next)
@@ -24,7 +26,7 @@ lines-preserved g c = (c.load_guarantee.ensures.same_reference ∙ c.lines.invar
     d : State
     d = state g.S.Store c.load_guarantee.new.tx.conn.now
 
-    more : HasRead a d
+    more : HaveRead desk_schema a d
     more = read_then a b d c.lines.invariant.1 c.in_ok-guarantee.ensures.still c.in_ok-guarantee.ensures.inside c.load_guarantee.ensures.kept c.load_guarantee.ensures.survives
 
     seek : Content → Line × List ℕ → Option Guarantee

@@ -7,8 +7,9 @@ use Rattle.td_store_rows.specs.MovementTable.{movement_row_of}
 use Rattle.td_table_model.specs.Gathering.{with_lines}
 use Rattle.td_store_load.specs.Loaded.{IsOfTables}
 use Rattle.td_store_load.proofs.Found.{next_of}
-use Rattle.td_store_load.proofs.Reading.{HasRead, read_then}
 use Rattle.td_store_load.proofs.movements.all_with_lines.Goals as goal
+use Rattle.typed_sql.proofs.OnlyRead.{HaveRead, read_then}
+use Rattle.td_schema.specs.Tables.{desk_schema}
 
 pub rows-preserved : goal.rows-preserved
 rows-preserved g c = (
@@ -32,7 +33,7 @@ rows-preserved g c = (
     d : State
     d = state g.S.Store c.movement_with_lines.new.tx.conn.now
 
-    more : HasRead a d
+    more : HaveRead desk_schema a d
     more = read_then a b d c.rows.invariant.1 c.in_ok-movement.ensures.still c.in_ok-movement.ensures.inside c.movement_with_lines.ensures.kept c.movement_with_lines.ensures.survives
 
     clean_b : HasCleanDisk d → HasCleanDisk b

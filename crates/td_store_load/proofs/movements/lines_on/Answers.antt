@@ -4,8 +4,9 @@ use Rattle.sqlite.specs.State.{State, HasCleanDisk}
 use Rattle.td_store_rows.specs.LineTable.{line_row_of}
 use Rattle.td_table_model.specs.Gathering.{line_from}
 use Rattle.td_store_load.proofs.Found.{next_of}
-use Rattle.td_store_load.proofs.Reading.{HasRead, read_then}
 use Rattle.td_store_load.proofs.movements.lines_on.Goals as goal
+use Rattle.typed_sql.proofs.OnlyRead.{HaveRead, read_then}
+use Rattle.td_schema.specs.Tables.{desk_schema}
 
 pub rows-preserved : goal.rows-preserved
 rows-preserved g c = (
@@ -26,7 +27,7 @@ rows-preserved g c = (
     d : State
     d = state g.S.Store c.line_on.new.tx.conn.now
 
-    more : HasRead a d
+    more : HaveRead desk_schema a d
     more = read_then a b d c.rows.invariant.1 c.in_ok-line.ensures.still c.in_ok-line.ensures.inside c.line_on.ensures.kept c.line_on.ensures.survives
 
     clean_b : HasCleanDisk d → HasCleanDisk b

@@ -7,8 +7,8 @@ use Rattle.typed_sql.proofs.Leaving.{if_both, on_ok}
 use Rattle.td_table_model.specs.Gathering.{with_lines}
 use Rattle.td_store_load.specs.Loaded.{IsOfTables}
 use Rattle.td_store_load.proofs.Found.{all_movements}
-use Rattle.td_store_load.proofs.Reading.{then_left}
 use Rattle.td_store_load.proofs.movements.load_all_movements.Goals as goal
+use Rattle.typed_sql.proofs.OnlyRead.{then_read}
 
 pub returns-clause-found : goal.returns-clause-found
 returns-clause-found g c clean =
@@ -29,6 +29,6 @@ returns-clause-found g c clean =
 pub returns-clause-still : goal.returns-clause-still
 returns-clause-still g c clean =
     on_ok c.all_with_lines.result
-    (then_left (state g.S.Store c.args.tx.now.conn.now) (state g.S.Store c.movements_of.new.tx.conn.now) (state g.S.Store c.all_with_lines.new.tx.conn.now)
+    (then_read (state g.S.Store c.args.tx.now.conn.now) (state g.S.Store c.movements_of.new.tx.conn.now) (state g.S.Store c.all_with_lines.new.tx.conn.now)
     (c.in_ok-rows.ensures.still (omega (arith, clean, c.all_with_lines.ensures.survives.clean))))
     (c.all_with_lines.ensures.still clean)

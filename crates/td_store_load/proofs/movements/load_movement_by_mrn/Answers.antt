@@ -6,8 +6,9 @@ use Rattle.td_store_rows.specs.declared.movements.stored.StoredMovement.{StoredM
 use Rattle.td_table_model.specs.Gathering.{with_lines}
 use Rattle.td_table_model.specs.Looking.{movement_no}
 use Rattle.td_store_load.proofs.Found.{by_mrn}
-use Rattle.td_store_load.proofs.Reading.{as_tables, said_before}
+use Rattle.td_store_load.proofs.Reading.{said_before}
 use Rattle.td_store_load.proofs.movements.load_movement_by_mrn.Goals as goal
+use Rattle.typed_sql.proofs.OnlyRead.{one_read}
 
 pub returns-in_default-clause-found : goal.returns-in_default-clause-found
 returns-in_default-clause-found g c clean content holds at = sym (by_mrn a c.args.holder content holds c.args.country c.args.mrn.now at None found)
@@ -21,7 +22,7 @@ returns-in_default-clause-found g c clean content holds at = sym (by_mrn a c.arg
 
 pub returns-clause-found : goal.returns-clause-found
 returns-clause-found g c clean content holds at =
-    ap Some (said_before (λ t. with_lines t (movement_row_of c.in-Some.stored)) a b _ (as_tables a b (c.in_ok-stored.ensures.still clean_b)) (c.in_ok-movement_with_lines.ensures.whole clean) content holds)
+    ap Some (said_before (λ t. with_lines t (movement_row_of c.in-Some.stored)) a b _ (one_read a b (c.in_ok-stored.ensures.still clean_b)) (c.in_ok-movement_with_lines.ensures.whole clean) content holds)
     ∙ sym (by_mrn a c.args.holder content holds c.args.country c.args.mrn.now at (Some c.in-Some.stored) found)
   where
     a : State

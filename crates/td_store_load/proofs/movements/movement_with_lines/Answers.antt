@@ -8,8 +8,8 @@ use Rattle.td_store_rows.specs.MovementTable.{movement_row_of}
 use Rattle.td_table_model.specs.Gathering.{line_from, with_lines}
 use Rattle.td_store_load.specs.Loaded.{IsOfTables}
 use Rattle.td_store_load.proofs.Found.{whole_movement}
-use Rattle.td_store_load.proofs.Reading.{then_left}
 use Rattle.td_store_load.proofs.movements.movement_with_lines.Goals as goal
+use Rattle.typed_sql.proofs.OnlyRead.{then_read}
 
 pub returns-clause-whole : goal.returns-clause-whole
 returns-clause-whole g c clean =
@@ -28,5 +28,5 @@ returns-clause-whole g c clean =
 
 pub returns-clause-still : goal.returns-clause-still
 returns-clause-still g c clean =
-    then_left (state g.S.Store c.args.tx.now.conn.now) (state g.S.Store c.lines_of.new.tx.conn.now) (state g.S.Store c.lines_on.new.tx.conn.now)
+    then_read (state g.S.Store c.args.tx.now.conn.now) (state g.S.Store c.lines_of.new.tx.conn.now) (state g.S.Store c.lines_on.new.tx.conn.now)
     (c.in_ok-rows.ensures.still (omega (arith, clean, c.lines_on.ensures.survives.clean))) (c.in_ok-lines.ensures.still clean)

@@ -8,9 +8,9 @@ use Rattle.td_commands.specs.Commands.{need_said}
 use Rattle.td_desk.specs.Weighing.{kept_for}
 use Rattle.td_store_rows.specs.HolderTable.{IsTheHolder}
 use Rattle.typed_sql.proofs.Leaving.{if_both}
-use Rattle.td_store_load.proofs.Reading.{as_tables}
 use Rattle.td_store_load.proofs.Owner.{loaded_for, nothing_loaded}
 use Rattle.td_store_load.proofs.needs.load.Goals as goal
+use Rattle.typed_sql.proofs.OnlyRead.{one_read}
 
 -- nobody owns the command
 pub returns-in_default-clause-loaded : goal.returns-in_default-clause-loaded
@@ -31,7 +31,7 @@ pub returns-clause-loaded : goal.returns-clause-loaded
 returns-clause-loaded g c clean =
     if_both c.load_for.result
     (λ loaded says same content holds at. subst (λ o. IsLoaded (kept_for o content) (need_said c.args.needs.now) loaded) (sym c.in-Some.is)
-    (loaded_for a b c.in-Some.holder c.args.country c.in-Some-2.row (need_said c.args.needs.now) loaded row (as_tables a b (c.in_ok-row.ensures.still clean_b)) says content holds at))
+    (loaded_for a b c.in-Some.holder c.args.country c.in-Some-2.row (need_said c.args.needs.now) loaded row (one_read a b (c.in_ok-row.ensures.still clean_b)) says content holds at))
     (c.load_for.ensures.loaded clean) (c.load_for.ensures.loaded clean)
   where
     a : State

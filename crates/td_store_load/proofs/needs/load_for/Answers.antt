@@ -3,9 +3,9 @@ use Rattle.std.specs.Prelude.{IfOk}
 use Rattle.sqlite.specs.Held.{state}
 use Rattle.sqlite.specs.State.{State}
 use Rattle.td_commands.specs.Commands.{need_said}
-use Rattle.td_store_load.proofs.Reading.{nothing_read}
 use Rattle.td_store_load.specs.Needed.{IsLoadedFor}
 use Rattle.td_store_load.proofs.needs.load_for.Goals as goal
+use Rattle.typed_sql.proofs.OnlyRead.{nothing_read}
 
 pub returns-in-Nothing-clause-loaded : goal.returns-in-Nothing-clause-loaded
 returns-in-Nothing-clause-loaded g c clean content holds at row = record {

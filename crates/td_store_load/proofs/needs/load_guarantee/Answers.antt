@@ -4,8 +4,8 @@ use Rattle.sqlite.specs.Held.{state}
 use Rattle.td_acts.specs.declared.rows.Loaded.{Loaded}
 use Rattle.td_desk.specs.Content.{account_in}
 use Rattle.td_holder_memory.proofs.Loading.{guarantee_looked_up}
-use Rattle.td_store_load.proofs.Reading.{as_tables}
 use Rattle.td_store_load.proofs.needs.load_guarantee.Goals as goal
+use Rattle.typed_sql.proofs.OnlyRead.{one_read}
 
 pub returns-clause-loaded : goal.returns-clause-loaded
 returns-clause-loaded g c clean content holds at row =
@@ -19,4 +19,4 @@ returns-clause-loaded g c clean content holds at row =
 
 pub returns-clause-still : goal.returns-clause-still
 returns-clause-still g c clean =
-    as_tables (state g.S.Store c.args.tx.now.conn.now) (state g.S.Store c.load_entry.new.tx.conn.now) (c.in_ok-found.ensures.still clean)
+    one_read (state g.S.Store c.args.tx.now.conn.now) (state g.S.Store c.load_entry.new.tx.conn.now) (c.in_ok-found.ensures.still clean)

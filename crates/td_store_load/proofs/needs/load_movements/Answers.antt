@@ -1,7 +1,7 @@
 use Rattle.std.proofs.Common.{◌∙◌, sym}
 use Rattle.sqlite.specs.Held.{state}
-use Rattle.td_store_load.proofs.Reading.{as_tables}
 use Rattle.td_store_load.proofs.needs.load_movements.Goals as goal
+use Rattle.typed_sql.proofs.OnlyRead.{one_read}
 
 pub returns-clause-loaded : goal.returns-clause-loaded
 returns-clause-loaded g c clean content holds at row = record {
@@ -12,4 +12,4 @@ returns-clause-loaded g c clean content holds at row = record {
 
 pub returns-clause-still : goal.returns-clause-still
 returns-clause-still g c clean =
-    as_tables (state g.S.Store c.args.tx.now.conn.now) (state g.S.Store c.load_all_movements.new.tx.conn.now) (c.in_ok-movements.ensures.still clean)
+    one_read (state g.S.Store c.args.tx.now.conn.now) (state g.S.Store c.load_all_movements.new.tx.conn.now) (c.in_ok-movements.ensures.still clean)
