@@ -28,7 +28,7 @@ use Rattle.td_model.specs.Account.{Account, ReferencesDiffer, coded, uncoded, gu
 use Rattle.td_acts.specs.Changes.{with_status, with_terms, moved}
 use Rattle.td_model.specs.Machine.{is_answer}
 use Rattle.td_model.specs.Declaring.{first_refusal, line_refusal, guarantee_refusal, refusal_or}
-use Rattle.td_commands.specs.Commands.{line_of, IsLines, IsLineAmount}
+use Rattle.td_commands.specs.Lines.{line_of, IsLines, IsLineAmount}
 use Rattle.td_model.specs.Table.{or_refuse, refuse_if, is_back, if_lrn_new, if_not_refused, on_guarantee, on_movement, stands}
 use Rattle.td_guarantee.specs.Codes.{with_code, without_code, most_codes}
 use Rattle.td_guarantee.proofs.Ascending.{one_ascends}

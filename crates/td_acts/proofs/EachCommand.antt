@@ -25,7 +25,8 @@ use Rattle.td_model.specs.Account.{Account, entry_in, guarantee_by_grn, movement
 use Rattle.td_model.specs.Machine.{is_accepted_at}
 use Rattle.td_model.specs.Book.{eori_after, account_made}
 use Rattle.td_model.specs.Effects.{year2_at, openings, declarations, opened_by, declared_by, guarantee_said, movement_said, judged}
-use Rattle.td_commands.specs.Commands.{owner_of, IsProper, line_of}
+use Rattle.td_commands.specs.Commands.{owner_of, IsProper}
+use Rattle.td_commands.specs.Lines.{line_of}
 use Rattle.td_model.specs.Declaring.{first_refusal, has_contents, first_uncovered}
 use Rattle.td_acts.specs.Changes.{account_after, is_change, with_status}
 use Rattle.td_acts.specs.Deciding.{change_of, new_state}

@@ -21,7 +21,7 @@ use Rattle.td_model.specs.Account.{guarantee_by_grn, movement_by_lrn}
 use Rattle.td_model.specs.Effects.{year2_at}
 use Rattle.td_model.specs.Declaring.{first_refusal, guarantee_refusal, refusal_or}
 use Rattle.td_acts.specs.Deciding.{decision_at, entry_by_grn}
-use Rattle.td_commands.specs.Commands.{line_of}
+use Rattle.td_commands.specs.Lines.{line_of}
 use Rattle.td_model.specs.Serials.{next_serial, greatest_mrn_given}
 
 -- a guarantee is found as its entry is

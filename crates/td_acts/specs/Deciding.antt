@@ -19,7 +19,8 @@ use Rattle.td_acts.specs.declared.rows.Verdict.{Verdict}
 use Rattle.td_commands.specs.declared.command.Command.{Command}
 use Rattle.td_commands.specs.declared.command.Command.TheVariants.{Register, OpenGuarantee, Amend, Revoke, Ie015, Ie014, AddCode, RemoveCode, Ie029, Ie007, Ie018, Ie045, Ie140}
 use Rattle.td_model.specs.Account.{Account, entry_in, guarantee_by_grn, movement_by_mrn, movement_by_lrn}
-use Rattle.td_commands.specs.Commands.{Need, nothing, lodging, movement, release, all_movements, guarantee, all_guarantees, need_of, line_of}
+use Rattle.td_commands.specs.Commands.{Need, nothing, lodging, movement, release, all_movements, guarantee, all_guarantees, need_of}
+use Rattle.td_commands.specs.Lines.{line_of}
 use Rattle.td_model.specs.Effects.{year2_at, end_after, judged, new_holder_row, new_guarantee, new_movement}
 use Rattle.td_model.specs.Table.{said, said_at}
 use Rattle.td_model.specs.Machine.{is_accepted_at}

@@ -2,7 +2,7 @@
 ghost use Rattle.std.specs.Prelude.{◌≡◌, ◌↔◌, List, IsTrue, IfOk, SomeIff, map};
 ghost use Rattle.std.specs.List.{list_any};
 ghost use Rattle.std.specs.Str.{bytes_eq};
-ghost use Rattle.td_commands.specs.Commands.{IsLines, IsLineAmount, are_lines, is_line_amount, line_of, lines_of};
+ghost use Rattle.td_commands.specs.Lines.{IsLines, IsLineAmount, are_lines, is_line_amount, line_of, lines_of};
 
 use std::alloc::{AllocError, Global};
 use std::marker::Model;
@@ -19,7 +19,7 @@ pub struct Lines {
 impl Model for Lines {
     ghost use Rattle.std.specs.Prelude.{List, ℕ};
     ghost use Rattle.td_movement.specs.declared.line.Line.{Line};
-    ghost use Rattle.td_commands.specs.Commands.{IsLines};
+    ghost use Rattle.td_commands.specs.Lines.{IsLines};
 
     ghost Value = { List (Line × List ℕ) };
 

@@ -9,7 +9,7 @@ use Rattle.td_movement.specs.declared.state.Control.TheVariants.{A1, A2, B1}
 use Rattle.td_movement.specs.declared.state.Ground.{Ground}
 use Rattle.td_movement.specs.declared.state.Ground.TheVariants.{Results, Proof}
 use Rattle.std.specs.Result.{result_ok}
-use Rattle.td_commands.specs.Commands.{lines_of}
+use Rattle.td_commands.specs.Lines.{lines_of}
 use Rattle.td_base.specs.Codes.{code_read}
 use Rattle.td_base.specs.Money.{cents_of}
 use Rattle.td_base.specs.References.{grn_read}

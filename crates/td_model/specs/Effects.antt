@@ -14,7 +14,7 @@ use Rattle.td_movement.specs.declared.state.Control.TheVariants.{A1, A2, B1}
 use Rattle.td_commands.specs.declared.command.Command.{Command}
 use Rattle.td_commands.specs.declared.command.Command.TheVariants.{Register, OpenGuarantee, Amend, Revoke, Ie015, Ie014, AddCode, RemoveCode, Ie029, Ie007, Ie018, Ie045, Ie140}
 use Rattle.td_model.specs.Account.{at_grn, at_mrn, coded, uncoded}
-use Rattle.td_commands.specs.Commands.{line_of}
+use Rattle.td_commands.specs.Lines.{line_of}
 
 -- a holder who is registered at a moment has no guarantees and no movements
 abbrev pub new_holder_row : ℕ → List ℕ → ℕ → HolderRow

@@ -13,7 +13,7 @@ use Rattle.td_model.specs.declared.holder_row.HolderRow.{HolderRow}
 use Rattle.td_guarantee.specs.declared.guarantee.Guarantee.{Guarantee}
 use Rattle.td_movement.specs.declared.movement.Movement.{Movement}
 use Rattle.td_model.specs.Account.{HolderRows, guarantee_by_grn}
-use Rattle.td_commands.specs.Commands.{IsLineAmount}
+use Rattle.td_commands.specs.Lines.{IsLineAmount}
 use Rattle.td_movement.specs.Lines.{most_lines}
 
 -- the columns of a holder's row are in their ranges

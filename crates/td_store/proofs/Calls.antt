@@ -10,7 +10,8 @@ use Rattle.td_desk.specs.Weighing.{IsDecision}
 use Rattle.td_schema.specs.Tables.{desk_schema}
 use Rattle.typed_sql.specs.Writing.{HasSchema}
 use Rattle.td_store_write.specs.Carried.{CarriesChange, MayLeave}
-use Rattle.td_store.specs.Kept.{IsCalled, IsDeskOf, LeavesAsIs, LeavesItsTables, LeavesTrees, MayLeaveAfter, content_in}
+use Rattle.td_store.specs.Kept.{IsCalled, IsDeskOf, LeavesAsIs, LeavesItsTables, LeavesTrees, MayLeaveAfter}
+use Rattle.td_store_rows.specs.StoreTables.{content_in}
 use Rattle.td_store.proofs.Holding.{decided_there, desk_after, desk_still, holds_own, left_after, left_by_fault, left_by_read, written}
 
 -- a connection that is a desk's after the call has the tables of its content

@@ -17,9 +17,9 @@ use Rattle.td_table_model.specs.Tables.{AreTablesOf}
 use Rattle.td_table_model.proofs.Gathered.{content_is}
 use Rattle.td_schema.specs.Tables.{desk_schema}
 use Rattle.typed_sql.specs.Writing.{HasSchema}
-use Rattle.td_store_rows.specs.StoreTables.{AreAllTyped, HoldsContent, tables_in}
+use Rattle.td_store_rows.specs.StoreTables.{AreAllTyped, HoldsContent, tables_in, content_in}
 use Rattle.td_store_write.specs.Carried.{CarriesChange, IsDecidedOver, MayLeave}
-use Rattle.td_store.specs.Kept.{IsDeskOf, LeavesAsIs, LeavesTrees, MayLeaveAfter, content_in}
+use Rattle.td_store.specs.Kept.{IsDeskOf, LeavesAsIs, LeavesTrees, MayLeaveAfter}
 
 -- the content that a connection holds is that of its trees
 pub content_held : (c : Content) (s : State) → HoldsContent c s → content_in s.now.trees ≡ c

@@ -11,11 +11,10 @@ use Rattle.td_desk.specs.Content.{Content}
 use Rattle.td_schema.specs.Tables.{desk_schema}
 use Rattle.typed_sql.specs.Typed.{row_of, typed_rows}
 use Rattle.td_store_rows.specs.Columns.{meta_typing, newest_version}
-use Rattle.td_store_rows.specs.StoreTables.{HoldsContent, country_in}
+use Rattle.td_store_rows.specs.StoreTables.{HoldsContent, country_in, content_in}
 use Rattle.td_store_audit_rows.specs.Laws.{ContentKeepsRules}
 use Rattle.td_store.specs.declared.refused.OpenFault.{OpenFault}
 use Rattle.td_store.specs.declared.refused.OpenFault.TheVariants.{UnknownVersion, NeedsMigration, OtherCountry, Damaged, Store, NoMemory}
-use Rattle.td_store.specs.Kept.{content_in}
 use Rattle.td_store.specs.Opened.{AreOfDesk, HasOfficeRow, IsOfAnother, LacksMeta, TellsDatabase, TellsTables}
 
 -- where there is none, it has a store's tables, and they are a desk's

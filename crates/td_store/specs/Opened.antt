@@ -13,7 +13,8 @@ use Rattle.td_store_rows.specs.MetaTable.{stored_of}
 use Rattle.td_store_rows.specs.declared.meta.stored.StoredMeta.{StoredMeta}
 use Rattle.td_store_audit_rows.specs.Kinds.{IsFirstBrokenRaw}
 use Rattle.td_store_audit_rows.specs.Ids.{HaveAllIds}
-use Rattle.td_store_audit_rows.specs.Laws.{AreKept, HoldSoundContent}
+use Rattle.td_store_audit_rows.specs.Laws.{AreKept}
+use Rattle.td_store_rows.specs.StoreTables.{HoldSoundContent}
 use Rattle.td_store_audit_rows.specs.Scans.{TellReadable}
 use Rattle.td_store_audit_rows.specs.declared.tables.Readable.{Readable}
 use Rattle.td_store_audit.specs.Broken.{TellsBroken}

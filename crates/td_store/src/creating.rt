@@ -3,12 +3,12 @@ ghost use Rattle.std.specs.Prelude.{◌≡◌, ◌⊎◌, ◌↔◌, false, IsTr
 ghost use Rattle.sqlite.specs.Held.{state};
 ghost use Rattle.sqlite.specs.State.{HasCleanDisk, Survives};
 ghost use Rattle.td_desk.specs.Content.{empty_content};
-ghost use Rattle.td_schema.specs.Making.{IsEmptyOf};
+ghost use Rattle.td_schema.specs.Tables.{IsEmptyOf};
 ghost use Rattle.td_schema.specs.Tables.{no_schema};
-ghost use Rattle.td_store_rows.specs.StoreTables.{HoldsContent};
+ghost use Rattle.td_store_rows.specs.StoreTables.{HoldsContent, content_in};
 ghost use Rattle.td_store_write.specs.Created.{AreOfEmptyDesk};
 ghost use Rattle.td_store.specs.declared.refused.OpenFault.TheVariants as fault;
-ghost use Rattle.td_store.specs.Kept.{LeavesItsTables, content_in};
+ghost use Rattle.td_store.specs.Kept.{LeavesItsTables};
 
 use crate::desk::SqlDesk;
 use crate::faults::open_fault_of;

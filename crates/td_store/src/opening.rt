@@ -5,9 +5,9 @@ ghost use Rattle.sqlite.specs.State.{HasCleanDisk, Survives};
 ghost use Rattle.td_desk.specs.Content.{Content};
 ghost use Rattle.td_table_model.specs.declared.rule.Rule.{Rule};
 ghost use Rattle.td_schema.specs.Tables.{desk_schema};
-ghost use Rattle.td_store_rows.specs.StoreTables.{HoldsContent};
+ghost use Rattle.td_store_rows.specs.StoreTables.{HoldsContent, content_in};
 ghost use Rattle.td_store.specs.declared.refused.OpenFault.TheVariants as fault;
-ghost use Rattle.td_store.specs.Kept.{LeavesItsTables, LeavesTrees, content_in};
+ghost use Rattle.td_store.specs.Kept.{LeavesItsTables, LeavesTrees};
 ghost use Rattle.td_store.specs.Opened.{AreDamaged, HasOfficeRow, IsOfAnother, IsOfVersion, LacksMeta};
 ghost use Rattle.td_store_rows.specs.Columns.{newest_version};
 

@@ -2,12 +2,11 @@
 -- what its field's type says; these are the rules beyond that.
 use Rattle.std.specs.Prelude.{◌≡◌, ℕ, ◌%◌, ◌≤◌, List, length}
 use Rattle.std.specs.List.{AllByRecursion}
-use Rattle.td_base.specs.Days.{year_of}
-use Rattle.td_base.specs.References.{grn_text, mrn_text, greatest_grn_serial, greatest_mrn_serial}
+use Rattle.td_base.specs.References.{greatest_grn_serial, greatest_mrn_serial}
 use Rattle.td_guarantee.specs.declared.guarantee.Guarantee.{Guarantee}
 use Rattle.td_movement.specs.declared.movement.Movement.{Movement}
 use Rattle.td_movement.specs.Status.{HasDaysOf}
-use Rattle.td_commands.specs.Commands.{IsLineAmount}
+use Rattle.td_commands.specs.Lines.{IsLineAmount}
 use Rattle.td_table_model.specs.Apart.{IsApart, IsNumbered}
 use Rattle.td_table_model.specs.Gathering.{no_of, place}
 use Rattle.td_table_model.specs.Rules.{named_by}

@@ -3,11 +3,10 @@ use Rattle.std.specs.Prelude.{◌≤◌, length}
 use Rattle.sqlite_trees.specs.Tree.{Trees}
 use Rattle.td_desk.specs.Content.{Content, IsSound}
 use Rattle.td_table_model.specs.declared.rule.Rule.{Rule}
-use Rattle.td_table_model.specs.Gathering.{content_of}
 use Rattle.td_table_model.specs.Tables.{AreTablesOf}
 use Rattle.typed_sql.specs.Typed.{IsTypedRow}
 use Rattle.td_store_rows.specs.Columns.{meta_typing, holder_typing, guarantee_typing, code_typing, movement_typing, line_typing}
-use Rattle.td_store_rows.specs.StoreTables.{AreAllTyped, tables_in}
+use Rattle.td_store_rows.specs.StoreTables.{AreAllTyped, tables_in, HoldSoundContent}
 use Rattle.td_store_audit_rows.specs.Ids.{HaveAllIds}
 use Rattle.td_store_audit_rows.specs.Kept.{AreCodesKept, AreGuaranteesKept, AreHoldersKept, AreLinesKept, AreMovementsKept}
 use Rattle.td_store_audit_rows.specs.Kinds.{AllRows, HasNumber, KeepsRaw}
@@ -22,12 +21,6 @@ pub record AreKept (trees : Trees) : Type 0 where
   pub codes : AllRows code_typing (IsTypedRow code_typing) trees → AreCodesKept (tables_in trees)
   pub movements : AllRows movement_typing (IsTypedRow movement_typing) trees → AreMovementsKept (tables_in trees)
   pub lines : AllRows line_typing (IsTypedRow line_typing) trees → AreLinesKept (tables_in trees)
-
--- the tables hold a content, which is sound
-pub record HoldSoundContent (trees : Trees) : Type 0 where
-  pub typed : AreAllTyped trees
-  pub sound : IsSound (content_of (tables_in trees))
-  pub tables : AreTablesOf (tables_in trees) (content_of (tables_in trees))
 
 -- tables that keep each rule as they stand hold sound content
 abbrev pub KeptRulesMeanContent : Type 0

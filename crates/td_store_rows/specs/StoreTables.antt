@@ -9,6 +9,7 @@ use Rattle.td_schema.specs.Tables.{desk_schema}
 use Rattle.typed_sql.specs.Typed.{AreTyped, typed_rows}
 use Rattle.typed_sql.specs.Writing.{HasSchema}
 use Rattle.td_store_rows.specs.Columns.{MetaRow, meta_typing, holder_typing, guarantee_typing, code_typing, movement_typing, line_typing}
+use Rattle.td_table_model.specs.Gathering.{content_of}
 
 -- the country in the office's own row; none where there is no such row
 abbrev pub country_in : List MetaRow → List ℕ
@@ -51,3 +52,13 @@ pub record HoldsContent (c : Content) (s : State) : Type 0 where
   pub typed : AreAllTyped s.now.trees
   pub sound : IsSound c
   pub tables : AreTablesOf (tables_in s.now.trees) c
+
+-- the content that trees hold
+abbrev pub content_in : Trees → Content
+content_in trees = content_of (tables_in trees)
+
+-- the tables hold a content, which is sound
+pub record HoldSoundContent (trees : Trees) : Type 0 where
+  pub typed : AreAllTyped trees
+  pub sound : IsSound (content_of (tables_in trees))
+  pub tables : AreTablesOf (tables_in trees) (content_of (tables_in trees))

@@ -7,7 +7,7 @@ use Rattle.sqlite.specs.State.{State}
 use Rattle.sqlite.proofs.Callers.{one_permutation}
 use Rattle.td_desk.specs.Content.{empty_content}
 use Rattle.td_base.specs.Codes.{IsCountry}
-use Rattle.td_schema.specs.Making.{IsEmptyOf}
+use Rattle.td_schema.specs.Tables.{IsEmptyOf}
 use Rattle.td_schema.specs.Tables.{desk_schema}
 use Rattle.typed_sql.specs.Writing.{HaveIds, HasSchema}
 use Rattle.typed_sql.specs.Typed.{AreTyped, HasNow, IsTypedRow, Typing, row_of, typed_rows}

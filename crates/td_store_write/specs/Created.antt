@@ -3,7 +3,7 @@ use Rattle.std.specs.Prelude.{◌≡◌, ℕ, List, [], ◌∷◌}
 use Rattle.sqlite_trees.specs.Tree.{Trees}
 use Rattle.sqlite.specs.State.{State}
 use Rattle.td_desk.specs.Content.{empty_content}
-use Rattle.td_schema.specs.Making.{IsEmptyOf}
+use Rattle.td_schema.specs.Tables.{IsEmptyOf}
 use Rattle.td_schema.specs.Tables.{no_schema}
 use Rattle.typed_sql.specs.Typed.{typed_rows}
 use Rattle.td_store_rows.specs.Columns.{meta_row, meta_typing, newest_version}

@@ -12,7 +12,7 @@ use Rattle.td_base.specs.Codes.{IsAccessCode, IsCountry}
 use Rattle.td_guarantee.specs.declared.guarantee.Guarantee.{Guarantee}
 use Rattle.td_movement.specs.declared.line.Line.{Line}
 use Rattle.td_movement.specs.declared.movement.Movement.{Movement}
-use Rattle.td_commands.specs.Commands.{IsLineAmount}
+use Rattle.td_commands.specs.Lines.{IsLineAmount}
 use Rattle.td_model.specs.Account.{HolderRows, guarantee_by_grn}
 use Rattle.td_model.specs.Sound.{AreHolderRows, IsGuaranteeRow, IsMovementRow, IsCovered}
 use Rattle.td_acts.proofs.Joined.{AllPairs-map}

@@ -20,7 +20,7 @@ use Rattle.td_movement.specs.declared.movement.Movement.{Movement}
 use Rattle.td_movement.specs.declared.state.State.{State}
 use Rattle.td_movement.specs.declared.state.State.TheVariants.{Accepted, Cancelled, Released, Enquired, Arrived, Discrepant, Cleared, WrittenOff}
 use Rattle.td_movement.specs.Status.{HasDaysOf, IsStatus}
-use Rattle.td_commands.specs.Commands.{IsLineAmount}
+use Rattle.td_commands.specs.Lines.{IsLineAmount}
 use Rattle.td_model.specs.declared.holder_row.HolderRow.{HolderRow}
 use Rattle.td_model.specs.Account.{guarantee_by_grn}
 use Rattle.td_model.specs.Sound.{AreCodes, AreMovementLines, IsGuaranteeRow, IsMovementRow, AreHolderRows}

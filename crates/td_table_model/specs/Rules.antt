@@ -5,13 +5,13 @@ use Rattle.std.specs.Prelude.{◌≡◌, ℕ, ◌%◌, ◌≤◌, List, length, 
 use Rattle.std.specs.List.{AllByRecursion}
 use Rattle.keyed_rows.specs.Rows.{row_at}
 use Rattle.td_base.specs.Codes.{IsAccessCode, IsLrn, IsOfficeNo, IsCountry, IsEori}
-use Rattle.td_base.specs.Days.{IsDay, year_of, IsMoment}
+use Rattle.td_base.specs.Days.{IsDay, IsMoment}
 use Rattle.td_base.specs.Money.{IsReference, IsCover}
-use Rattle.td_base.specs.References.{grn_text, mrn_text, greatest_grn_serial, greatest_mrn_serial}
+use Rattle.td_base.specs.References.{greatest_grn_serial, greatest_mrn_serial}
 use Rattle.td_guarantee.specs.declared.guarantee.Guarantee.{Guarantee}
 use Rattle.td_movement.specs.declared.movement.Movement.{Movement}
 use Rattle.td_movement.specs.Status.{IsStatus}
-use Rattle.td_commands.specs.Commands.{IsLineAmount}
+use Rattle.td_commands.specs.Lines.{IsLineAmount}
 use Rattle.td_model.specs.declared.holder_row.HolderRow.{HolderRow}
 use Rattle.td_model.specs.Sound.{IsCovered, IsMrnOf, IsGrnOf}
 use Rattle.td_table_model.specs.Tables.{Keyed, LineCells, Tables}

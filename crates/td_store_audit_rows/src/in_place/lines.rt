@@ -1,7 +1,7 @@
 //! The lines of a movement.
 ghost use Rattle.std.specs.Prelude.{◌≡◌, ◌==◌, ◌↔◌, map, IsTrue};
 ghost use Rattle.std.specs.List.{list_any};
-ghost use Rattle.td_commands.specs.Commands.{IsLineAmount};
+ghost use Rattle.td_commands.specs.Lines.{IsLineAmount};
 ghost use Rattle.td_store_rows.specs.LineTable.{line_row_of};
 ghost use Rattle.td_store_audit_rows.specs.InPlace.{AreLinesInPlace};
 

@@ -9,7 +9,7 @@ use Rattle.std.specs.Str.{bytes_eq}
 use Rattle.td_base.proofs.Decided.{all_decided, le_decided}
 use Rattle.std.proofs.lemmas.List.{get_or_default}
 use Rattle.td_movement.specs.declared.line.Line.{Line}
-use Rattle.td_commands.specs.Commands.{IsLineAmount, IsLines, are_distinct, are_lines, is_line_amount}
+use Rattle.td_commands.specs.Lines.{IsLineAmount, IsLines, are_distinct, are_lines, is_line_amount}
 use Rattle.td_commands.proofs.Earlier.{named_by_none, named_by_one, up_to}
 use Rattle.td_commands.proofs.lines.are_lines.Goals as goal
 use Rattle.td_commands.proofs.lines.are_lines.Goals.{then-not-is_line_amount-via-then-not-is_line_amount, then-not-is_line_amount-via-else-not-is_line_amount+then-is_named}

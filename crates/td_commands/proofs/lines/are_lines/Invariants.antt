@@ -1,6 +1,6 @@
 use Rattle.std.proofs.Common.{ℕ, List, ◌<◌, ◌≢◌, get_or}
 use Rattle.td_movement.specs.declared.line.Line.{Line}
-use Rattle.td_commands.specs.Commands.{IsLineAmount}
+use Rattle.td_commands.specs.Lines.{IsLineAmount}
 use Rattle.td_commands.proofs.lines.are_lines.Given as goal
 
 -- the lines before are of good amounts, and on different guarantees

@@ -1,5 +1,5 @@
 use Rattle.std.proofs.Common.{Some}
-use Rattle.td_commands.specs.Commands.{lines_of}
+use Rattle.td_commands.specs.Lines.{lines_of}
 use Rattle.td_fields.specs.BodyFields.{lines_of_body}
 use Rattle.td_fields.proofs.MemberFacts.{read_of}
 use Rattle.td_fields.proofs.body_lines.lines_in.Goals as goal

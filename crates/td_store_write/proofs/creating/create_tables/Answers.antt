@@ -5,7 +5,7 @@ use Rattle.sqlite.specs.Held.{state}
 use Rattle.sqlite.specs.State.{State, HasCleanDisk, KeepsCounts, Shows, Survives}
 use Rattle.sqlite.proofs.Callers.{survives_begin}
 use Rattle.sqlite.proofs.StateLemmas.{survives_then}
-use Rattle.td_schema.specs.Making.{IsEmptyOf}
+use Rattle.td_schema.specs.Tables.{IsEmptyOf}
 use Rattle.td_schema.specs.Tables.{no_schema, desk_schema}
 use Rattle.td_store_rows.specs.Columns.{meta_row, newest_version}
 use Rattle.td_store_rows.specs.MetaTable.{TurnsMeta}
