@@ -33,10 +33,9 @@ use Rattle.td_model.specs.Table.{or_refuse, refuse_if, is_back, if_lrn_new, if_n
 use Rattle.td_guarantee.specs.Codes.{with_code, without_code, most_codes}
 use Rattle.td_guarantee.proofs.Ascending.{one_ascends}
 use Rattle.td_guarantee.proofs.Coded.{all_with, all_without, ascending_with, ascending_without, length_with, length_without}
-use Rattle.td_model.specs.Effects.{end_after}
+use Rattle.td_model.specs.Effects.{end_after, greatest_grn_given, greatest_mrn_given}
 use Rattle.td_model.specs.Sound.{IsHolderRow, AreCodes, IsGuaranteeRow, AreMovementLines, IsMovementRow, IsCovered}
 use Rattle.td_acts.proofs.Joined.{All-map, AllPairs-map, AllByRecursion-map}
-use Rattle.td_model.specs.Serials.{greatest_grn_given, greatest_mrn_given}
 
 -- a new holder's row, where there was none
 pub record IsRegistered (H : ℕ) (before : Option HolderRow) (row : HolderRow) : Type 0 where

@@ -17,7 +17,7 @@ use Rattle.td_guarantee.specs.Usage.{cents_on, lines_on, movement_on, used_on}
 use Rattle.td_model.specs.Account.{guarantee_by_grn}
 use Rattle.td_model.specs.Account.{HolderRows}
 use Rattle.td_model.specs.Sound.{AllNumbered, IsGuaranteeRow, IsMovementRow, IsCovered, AreHolderRows}
-use Rattle.td_model.specs.Serials.{greatest_grn_given}
+use Rattle.td_model.specs.Effects.{greatest_grn_given}
 
 -- what holds of each holds of all with one more
 pub AllByRecursion-append : {X : Type 0} (P : X → Type 0) (xs : List X) (y : X) → AllByRecursion P xs → P y → AllByRecursion P (xs ++ y ∷ [])

@@ -24,7 +24,7 @@ use Rattle.td_commands.specs.declared.said.Refusal.TheVariants.{NoHolder, NoMove
 use Rattle.td_model.specs.Account.{Account, entry_in, guarantee_by_grn, movement_by_lrn, movement_by_mrn}
 use Rattle.td_model.specs.Machine.{is_accepted_at}
 use Rattle.td_model.specs.Book.{eori_after, account_made}
-use Rattle.td_model.specs.Effects.{year2_at, openings, declarations, opened_by, declared_by, guarantee_said, movement_said, judged}
+use Rattle.td_model.specs.Effects.{year2_at, openings, declarations, opened_by, declared_by, guarantee_said, movement_said, judged, greatest_grn_given, greatest_mrn_given}
 use Rattle.td_commands.specs.Commands.{owner_of, IsProper}
 use Rattle.td_commands.specs.Lines.{line_of}
 use Rattle.td_model.specs.Declaring.{first_refusal, has_contents, first_uncovered}
@@ -35,7 +35,6 @@ use Rattle.td_model.specs.Table.{stands}
 use Rattle.td_acts.proofs.Covering.{covered_when_released}
 use Rattle.td_acts.proofs.EachMove.{cancelled_from, released_from, arrived_from, judged_from, written_off_from, enquired_from}
 use Rattle.td_acts.proofs.Steps.{map-id, no_more_moved}
-use Rattle.td_model.specs.Serials.{greatest_grn_given, greatest_mrn_given}
 use Rattle.td_guarantee.specs.Codes.{most_codes}
 
 -- where nobody is registered, only a registration is accepted

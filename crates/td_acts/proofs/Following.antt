@@ -29,7 +29,7 @@ use Rattle.td_acts.proofs.Accepted.{IsFor, IsSaidOf}
 use Rattle.td_acts.proofs.AcceptedRows.{change_in_is_for, moment_is}
 use Rattle.td_acts.proofs.Cover.{AllByRecursion-append, unused_when_new, covered_with_accepted}
 use Rattle.td_acts.proofs.Joined.{AllPairs-append, AllPairs-map, AllNumbered-append, AllNumbered-weaker, AllByRecursion-weaker}
-use Rattle.td_model.specs.Serials.{greatest_grn_given, greatest_mrn_given}
+use Rattle.td_model.specs.Effects.{greatest_grn_given, greatest_mrn_given}
 
 -- the row of the rows after a change is that of the change
 pub row_after : (c : Change) (row : HolderRow) (h : HolderRows) → row_in c ≡ Some row → (rows_after c h).row ≡ row

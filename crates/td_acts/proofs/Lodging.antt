@@ -18,11 +18,10 @@ use Rattle.td_commands.specs.declared.said.Answer.TheVariants as answer
 use Rattle.td_commands.specs.declared.said.Refusal.{Refusal}
 use Rattle.td_commands.specs.declared.said.Said.TheVariants.{Answered, Refused}
 use Rattle.td_model.specs.Account.{guarantee_by_grn, movement_by_lrn}
-use Rattle.td_model.specs.Effects.{year2_at}
+use Rattle.td_model.specs.Effects.{year2_at, next_serial, greatest_mrn_given}
 use Rattle.td_model.specs.Declaring.{first_refusal, guarantee_refusal, refusal_or}
 use Rattle.td_acts.specs.Deciding.{decision_at, entry_by_grn}
 use Rattle.td_commands.specs.Lines.{line_of}
-use Rattle.td_model.specs.Serials.{next_serial, greatest_mrn_given}
 
 -- a guarantee is found as its entry is
 pub named_entry : (grn : List ℕ) (es : List (Guarantee × ℕ)) → guarantee_by_grn grn (map (λ e. e.0) es) ≡ option_map (λ e. e.0) (entry_by_grn grn es)

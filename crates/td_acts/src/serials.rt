@@ -1,7 +1,6 @@
 //! The next references of a holder.
 ghost use Rattle.std.specs.Prelude.{◌≡◌};
-ghost use Rattle.td_model.specs.Serials.{next_serial};
-ghost use Rattle.td_model.specs.Effects.{year2_at};
+ghost use Rattle.td_model.specs.Effects.{next_serial, year2_at};
 ghost use Rattle.td_base.specs.References.{grn_text, mrn_text};
 
 use td_base::{Country, Day, Grn, HolderNo, Moment, Mrn};

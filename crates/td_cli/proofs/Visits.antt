@@ -11,7 +11,7 @@ use Rattle.counted_io.specs.Counted.{known_bytes}
 use Rattle.http_wire.specs.declared.reply.Reply.{Reply}
 use Rattle.http_wire.specs.Request.{Asked}
 use Rattle.td_http.specs.declared.service.Service.{Service}
-use Rattle.td_http.specs.Served.{desk_of, IsHandledBy, IsHeadHandledBy}
+use Rattle.td_http.specs.Serving.{desk_of, IsHandledBy, IsHeadHandledBy}
 use Rattle.td_http.specs.Private.{IsPrivateOver}
 use Rattle.td_http.specs.Visits.{ServesSockets, Between, Visit, Visited, IsRefused}
 use Rattle.td_http.proofs.Private.{visits_clean}

@@ -6,8 +6,7 @@ use Rattle.td_desk.specs.Content.{Content, account_in, empty_content, fresh, IsS
 use Rattle.td_files.specs.Found.{content_in, FileState, IsClean, IsKeptDesk, IsMadeDesk}
 use Rattle.http_wire.specs.declared.reply.Reply.{Reply}
 use Rattle.http_wire.specs.Request.{Asked}
-use Rattle.td_http.specs.Served.{IsHeadReply}
-use Rattle.td_http.specs.Serving.{IsHandled}
+use Rattle.td_http.specs.Serving.{IsHeadReply, IsHandled}
 
 -- What contracts see of a desk: its content; whether its disk is clean, that is returned what was written while nobody else
 -- wrote; whether no fault has shut it; and whether a store stands behind it.

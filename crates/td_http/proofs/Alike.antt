@@ -18,8 +18,7 @@ use Rattle.http_wire.specs.Request.{Asked}
 use Rattle.http_wire.specs.ReplyText.{bytes_of, is_made}
 use Rattle.http_wire.specs.Stream.{Exchange, question}
 use Rattle.td_http.specs.declared.service.Service.{Service}
-use Rattle.td_http.specs.Served.{desk_of, IsPrivate}
-use Rattle.td_http.specs.Serving.{Demand, command_in, heard_by, heard_in, told_by, told_in, machine_replies, fixed_reply, IsServed, IsServedAlone}
+use Rattle.td_http.specs.Serving.{desk_of, IsPrivate, Demand, command_in, heard_by, heard_in, told_by, told_in, machine_replies, fixed_reply, IsServed, IsServedAlone}
 use Rattle.td_http.specs.Laws.{asked_by, asked_in, replies_by, replies_in, fault_told, TellAlike, IsDeskOf, IsRequestAt}
 
 -- the requests that did not fail

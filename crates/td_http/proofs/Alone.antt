@@ -18,8 +18,7 @@ use Rattle.http_wire.specs.Request.{Asked}
 use Rattle.http_wire.specs.ReplyText.{bytes_of, is_made}
 use Rattle.td_answers.specs.Answers.{said_reply}
 use Rattle.td_http.specs.declared.service.Service.{Service}
-use Rattle.td_http.specs.Served.{desk_of, IsHandledBy, IsPrivateAlone}
-use Rattle.td_http.specs.Serving.{command_in, IsReplyTo, HandledAs, heard_by, told_by, commands_of, machine_replies, IsServedAlone}
+use Rattle.td_http.specs.Serving.{desk_of, IsHandledBy, IsPrivateAlone, command_in, IsReplyTo, HandledAs, heard_by, told_by, commands_of, machine_replies, IsServedAlone}
 use Rattle.td_http.proofs.Served.{fixed_reply, no_run}
 
 first_of : {A : Type 0} (x y : A) → x ∷ [] ≡ y ∷ [] → x ≡ y

@@ -6,7 +6,7 @@ use Rattle.http_wire.specs.ReplyText.{bytes_of, is_made}
 use Rattle.http_wire.specs.Stream.{Exchange}
 use Rattle.td_http.specs.declared.service.Service.{Service}
 use Rattle.td_http.specs.Laws.{fault_told, IsDeskOf}
-use Rattle.td_http.specs.Served.{desk_of}
+use Rattle.td_http.specs.Serving.{desk_of}
 use Rattle.td_http.proofs.Alike.{still, filled, heard_then, bytes_then, IsToldOf, told_as, told_if, replies_if}
 use Rattle.td_http.specs.ConnectionLaws.{asked_over, replies_over, TellAlikeOver}
 use Rattle.td_http.specs.Private.{heard_over, told_over, IsServedOver, IsPrivateOver}

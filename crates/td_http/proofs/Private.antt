@@ -8,9 +8,7 @@ use Rattle.td_desk.specs.Content.{Content, IsSound}
 use Rattle.td_desk.specs.Runs.{IsTied}
 use Rattle.http_wire.specs.Stream.{Exchange}
 use Rattle.td_http.specs.declared.service.Service.{Service}
-use Rattle.td_http.specs.Served.{desk_of, IsHandledBy, IsHeadHandledBy}
-use Rattle.td_http.specs.Serving.{Demand, FaultsAreTold, NobodysAreTold}
-use Rattle.td_http.specs.Serving.{commands_of, heard_in, machine_replies, IsServed}
+use Rattle.td_http.specs.Serving.{desk_of, IsHandledBy, IsHeadHandledBy, Demand, FaultsAreTold, NobodysAreTold, commands_of, heard_in, machine_replies, IsServed}
 use Rattle.td_http.proofs.Served.{machine_book-++}
 use Rattle.td_http.proofs.Streamed.{stream_clean, stream_served}
 use Rattle.td_http.specs.Visits.{Between, Visit, IsVisit, Visited}

@@ -9,8 +9,7 @@ use Rattle.http_wire.specs.ReplyText.{bytes_of, is_made}
 use Rattle.http_wire.specs.Stream.{Exchange}
 use Rattle.td_http.specs.declared.service.Service.{Service}
 use Rattle.td_http.specs.Laws.{asked_in, replies_in, fault_told, IsDeskOf}
-use Rattle.td_http.specs.Served.{desk_of, IsHandledBy, IsHeadHandledBy}
-use Rattle.td_http.specs.Serving.{Demand}
+use Rattle.td_http.specs.Serving.{desk_of, IsHandledBy, IsHeadHandledBy, Demand}
 use Rattle.td_http.specs.Visits.{Between, ServesConnections}
 use Rattle.td_http.specs.Private.{heard_over, told_over, IsPrivateOver}
 

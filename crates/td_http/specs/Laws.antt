@@ -15,8 +15,7 @@ use Rattle.http_wire.specs.Request.{Asked}
 use Rattle.http_wire.specs.ReplyText.{bytes_of, is_made}
 use Rattle.http_wire.specs.Stream.{Exchange, Serves, Sides, question}
 use Rattle.td_http.specs.declared.service.Service.{Service}
-use Rattle.td_http.specs.Served.{desk_of, IsHandledBy, IsHeadHandledBy, IsPrivate, IsPrivateAlone}
-use Rattle.td_http.specs.Serving.{Demand, command_in, heard_in, told_in}
+use Rattle.td_http.specs.Serving.{desk_of, IsHandledBy, IsHeadHandledBy, IsPrivate, IsPrivateAlone, Demand, command_in, heard_in, told_in}
 
 -- H's commands among the exchanges that come after so many, whether they failed or not: each with its
 -- moment, and whether its reply has to tell that the stream stops

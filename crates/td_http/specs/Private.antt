@@ -7,9 +7,7 @@ use Rattle.td_desk.specs.Content.{Content, IsSound}
 use Rattle.td_desk.specs.Runs.{IsTied}
 use Rattle.http_wire.specs.Stream.{Exchange}
 use Rattle.td_http.specs.declared.service.Service.{Service}
-use Rattle.td_http.specs.Served.{desk_of}
-use Rattle.td_http.specs.Serving.{Demand, FaultsAreTold, NobodysAreTold, commands_of, heard_in, machine_replies}
-use Rattle.td_http.specs.Serving.{told_in}
+use Rattle.td_http.specs.Serving.{desk_of, Demand, FaultsAreTold, NobodysAreTold, commands_of, heard_in, machine_replies, told_in}
 
 -- H's requests over all streams, in their order: those that can be read and whose reply isn't a fixed one of
 -- a fault

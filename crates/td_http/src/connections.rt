@@ -2,7 +2,7 @@
 ghost use Rattle.std.specs.Prelude.{map};
 ghost use Rattle.td_http.specs.Visits.{ServesConnections, ServesNext};
 ghost use Rattle.td_http.specs.Private.{IsPrivateOver};
-ghost use Rattle.td_http.specs.Served.{IsHandledBy, IsHeadHandledBy};
+ghost use Rattle.td_http.specs.Serving.{IsHandledBy, IsHeadHandledBy};
 
 use crate::{Clock, Service, serve_stream};
 use std::alloc::Global;

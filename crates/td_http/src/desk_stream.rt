@@ -1,6 +1,6 @@
 //! Streams of requests served by a desk.
 ghost use Rattle.std.specs.Prelude.{◌≡◌};
-ghost use Rattle.td_http.specs.Served.{IsHandledBy, IsHeadHandledBy, IsPrivate};
+ghost use Rattle.td_http.specs.Serving.{IsHandledBy, IsHeadHandledBy, IsPrivate};
 ghost use Rattle.http_wire.specs.Stream.{Serves};
 
 use crate::service::Service;
@@ -11,7 +11,7 @@ use td_base::Counted;
 use td_desk::Desk;
 
 impl<D: Desk + Drop> Handler for Service<D> {
-    ghost use Rattle.td_http.specs.Served.{IsHandledBy, IsHeadHandledBy};
+    ghost use Rattle.td_http.specs.Serving.{IsHandledBy, IsHeadHandledBy};
 
     ghost handles = { IsHandledBy D.content D.is_clean D.is_live D.has_store };
 

@@ -114,7 +114,7 @@ fn reply_to_unread(alloc: Global, fault: &WebFault, close: bool) -> Reply
 }
 
 impl<D: Desk + Drop> Service<D> {
-    ghost use Rattle.td_http.specs.Served.{desk_of, IsHandledBy, IsHeadHandledBy, IsPrivateAlone};
+    ghost use Rattle.td_http.specs.Serving.{desk_of, IsHandledBy, IsHeadHandledBy, IsPrivateAlone};
 
     /// A service of the desk. It takes no memory.
     pub fn new(desk: D) -> Service<D>

@@ -1,6 +1,7 @@
+-- Serials of references.
 -- Rows as they begin: of a new holder, a new guarantee and a new movement.
 -- What each accepted command says in its owner's book.
-use Rattle.std.specs.Prelude.{ℕ, List, [], ◌∷◌, None, ◌+◌, ◌%◌, map, Option, Some}
+use Rattle.std.specs.Prelude.{ℕ, ◌+◌, nat_le, if◌then◌else◌, List, Option, Some, None, [], ◌∷◌, ◌%◌, map}
 use Rattle.td_guarantee.specs.declared.guarantee.Guarantee.{Guarantee}
 use Rattle.td_movement.specs.declared.line.Line.{Line}
 use Rattle.td_movement.specs.declared.movement.Movement.{Movement}
@@ -15,6 +16,17 @@ use Rattle.td_commands.specs.declared.command.Command.{Command}
 use Rattle.td_commands.specs.declared.command.Command.TheVariants.{Register, OpenGuarantee, Amend, Revoke, Ie015, Ie014, AddCode, RemoveCode, Ie029, Ie007, Ie018, Ie045, Ie140}
 use Rattle.td_model.specs.Account.{at_grn, at_mrn, coded, uncoded}
 use Rattle.td_commands.specs.Lines.{line_of}
+
+-- the greatest serial that a new guarantee is given, and a new movement
+abbrev pub greatest_grn_given : ℕ
+greatest_grn_given = 999999
+
+abbrev pub greatest_mrn_given : ℕ
+greatest_mrn_given = 9999999
+
+-- the serial after the last one, and the text made of it; none after the greatest
+abbrev pub next_serial : ℕ → ℕ → (ℕ → List ℕ) → Option (ℕ × List ℕ)
+next_serial greatest last text = if nat_le greatest last then None else Some (last + 1, text (last + 1))
 
 -- a holder who is registered at a moment has no guarantees and no movements
 abbrev pub new_holder_row : ℕ → List ℕ → ℕ → HolderRow

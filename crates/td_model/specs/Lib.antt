@@ -1,5 +1,4 @@
 pub mod Account
-pub mod Serials
 pub mod Effects
 pub mod Book
 pub mod Declaring

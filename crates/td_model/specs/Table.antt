@@ -27,10 +27,9 @@ use Rattle.td_commands.specs.declared.said.Said.{Said}
 use Rattle.td_commands.specs.declared.said.Said.TheVariants.{Answered, Refused}
 use Rattle.td_model.specs.Account.{Account, coded, uncoded, entry_in, guarantee_by_grn, movement_by_mrn, movement_by_lrn}
 use Rattle.td_commands.specs.declared.lists.ListedMovement.{ListedMovement}
-use Rattle.td_model.specs.Effects.{year2_at, amended, end_after, judged}
+use Rattle.td_model.specs.Effects.{year2_at, amended, end_after, judged, greatest_grn_given, greatest_mrn_given}
 use Rattle.td_commands.specs.Lines.{line_of}
 use Rattle.td_model.specs.Declaring.{has_contents, first_refusal, is_limit, first_uncovered}
-use Rattle.td_model.specs.Serials.{greatest_grn_given, greatest_mrn_given}
 use Rattle.td_guarantee.specs.Codes.{most_codes}
 
 -- refused for this where there is nothing, else what is said of the thing that is there

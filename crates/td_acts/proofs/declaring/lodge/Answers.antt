@@ -4,8 +4,7 @@ use Rattle.std.specs.Prelude.{option_map}
 use Rattle.td_base.specs.Days.{day_of_moment}
 use Rattle.td_base.specs.References.{mrn_text}
 use Rattle.td_model.specs.Account.{movement_by_lrn}
-use Rattle.td_model.specs.Effects.{year2_at}
-use Rattle.td_model.specs.Serials.{next_serial, greatest_mrn_given}
+use Rattle.td_model.specs.Effects.{year2_at, next_serial, greatest_mrn_given}
 use Rattle.td_acts.proofs.Lodging.{lodged_at, same_refusal}
 use Rattle.td_acts.proofs.declaring.lodge.Goals as goal
 

@@ -1,5 +1,5 @@
 use Rattle.std.proofs.Common.{arith, refl, []}
-use Rattle.td_http.specs.Served.{IsHandledBy, IsHeadHandledBy}
+use Rattle.td_http.specs.Serving.{IsHandledBy, IsHeadHandledBy}
 use Rattle.td_http.proofs.Visits.{between, answer_is, serving_more}
 use Rattle.td_http.proofs.Private.{visits_private}
 use Rattle.td_http.proofs.connections.serve_connections.Goals as goal

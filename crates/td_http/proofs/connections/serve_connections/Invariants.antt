@@ -1,4 +1,4 @@
-use Rattle.td_http.specs.Served.{IsHandledBy, IsHeadHandledBy}
+use Rattle.td_http.specs.Serving.{IsHandledBy, IsHeadHandledBy}
 use Rattle.td_http.proofs.Visits.{Serving}
 use Rattle.td_http.proofs.connections.serve_connections.Given as goal
 

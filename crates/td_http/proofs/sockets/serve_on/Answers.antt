@@ -1,5 +1,5 @@
 use Rattle.std.proofs.Common.{None}
-use Rattle.td_http.specs.Served.{IsHandledBy, IsHeadHandledBy}
+use Rattle.td_http.specs.Serving.{IsHandledBy, IsHeadHandledBy}
 use Rattle.td_http.specs.Visits.{beside}
 use Rattle.td_http.proofs.Visits.{between}
 use Rattle.td_http.proofs.Anyhow.{visited_anyhow, ended_anyhow}
