@@ -5,7 +5,7 @@ use Rattle.std.specs.Str.{IsAscii}
 use Rattle.std.proofs.lemmas.Bool.{cases_lt}
 use Rattle.std.proofs.lemmas.List.{take-append-drop, get_or_past}
 use Rattle.std.proofs.lemmas.List.Elements.{All-append, All-same, All-weaker}
-use Rattle.ascii_text.specs.Letters.{IsMark}
+use Rattle.ascii_text.specs.Digits.{IsMark}
 
 -- a text of characters below 128
 pub IsAscii-from : (P : ℕ → Type 0) → ((c : ℕ) → P c → c < 128) → (text : List ℕ) → All P text → IsAscii text

@@ -8,7 +8,7 @@ use Rattle.std.specs.Bool.{Decides}
 use Rattle.std.specs.Int.{is_in_range, IsInRange}
 use Rattle.std.specs.List.{list_all}
 use Rattle.std.specs.Char.{is_ascii_digit, is_ascii_uppercase, IsAsciiDigit, IsAsciiUppercase}
-use Rattle.ascii_text.specs.Letters.{IsMark, is_mark}
+use Rattle.ascii_text.specs.Digits.{IsMark, is_mark}
 
 -- a value where a fact holds, the fact told by a test
 pub some_where : {T : Type 0} {P : Type 0} (b : Bool) (r : Option T) (v : T) → Decides b P → SomeIff r P v → r ≡ (if b then Some v else None)

@@ -4,7 +4,7 @@ ghost use Rattle.std.specs.Char.{IsAsciiDigit, IsAsciiUppercase, is_ascii_digit,
 ghost use Rattle.std.specs.List.{list_all};
 ghost use Rattle.std.specs.Str.{IsAscii};
 ghost use Rattle.std.specs.Fmt.{WritesOnOk};
-ghost use Rattle.ascii_text.specs.Letters.{IsMark, is_mark};
+ghost use Rattle.ascii_text.specs.Digits.{IsMark, is_mark};
 
 use std::fmt;
 

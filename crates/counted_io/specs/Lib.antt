@@ -1,3 +1,2 @@
 pub mod Counted
 pub mod Chains
-pub mod Writing

@@ -2,8 +2,7 @@
 ghost use Rattle.std.specs.Prelude.{◌≡◌, ◌≤◌, ℕ, length, take, true, false};
 ghost use Rattle.std.specs.Io.KnownBytes.{Appends};
 ghost use Rattle.counted_io.specs.Counted.{calls_of, has_failed, known_bytes, HasCalled};
-ghost use Rattle.counted_io.specs.Writing.{IsCutShort, MadeWrites};
-ghost use Rattle.counted_io.specs.Chains.{Wrote};
+ghost use Rattle.counted_io.specs.Chains.{IsCutShort, MadeWrites, Wrote};
 
 use crate::counted::Counted;
 use std::io::Write;

@@ -6,11 +6,10 @@ use Rattle.std.specs.Option.{is_some}
 use Rattle.std.specs.List.{AllByRecursion}
 use Rattle.std.proofs.lemmas.List.{length-map}
 use Rattle.td_base.specs.Codes.{IsAccessCode}
-use Rattle.td_base.specs.Days.{IsDay, day_of_moment}
-use Rattle.td_base.specs.Moment.{IsMoment}
+use Rattle.td_base.specs.Days.{IsDay, day_of_moment, IsMoment}
 use Rattle.td_movement.specs.declared.line.Line.{Line}
 use Rattle.td_movement.specs.declared.state.State.TheVariants.{Accepted}
-use Rattle.td_acts.specs.declared.rows.HolderRow.{HolderRow}
+use Rattle.td_model.specs.declared.holder_row.HolderRow.{HolderRow}
 use Rattle.td_guarantee.specs.declared.guarantee.Guarantee.{Guarantee}
 use Rattle.td_movement.specs.declared.movement.Movement.{Movement}
 use Rattle.td_acts.specs.declared.rows.Change.{Change}
@@ -21,21 +20,21 @@ use Rattle.td_commands.specs.declared.said.Refusal.TheVariants.{ClockBack, Seria
 use Rattle.td_commands.specs.declared.said.Said.{Said}
 use Rattle.td_commands.specs.declared.said.Said.TheVariants.{Answered, Refused}
 use Rattle.td_movement.specs.declared.moves.Move.{Move}
-use Rattle.td_movement.specs.Moves.{state_after}
+use Rattle.td_movement.specs.States.{state_after}
 use Rattle.td_acts.specs.declared.rows.NewStatus.{NewStatus}
 use Rattle.td_movement.specs.declared.state.State.{State}
 use Rattle.td_movement.specs.Status.{IsStatus}
-use Rattle.td_acts.specs.Account.{Account, ReferencesDiffer, coded, uncoded, guarantee_by_grn, movement_by_lrn, movement_by_mrn}
+use Rattle.td_model.specs.Account.{Account, ReferencesDiffer, coded, uncoded, guarantee_by_grn, movement_by_lrn, movement_by_mrn}
 use Rattle.td_acts.specs.Changes.{with_status, with_terms, moved}
-use Rattle.td_acts.specs.Acceptance.{is_answer}
-use Rattle.td_acts.specs.Declaring.{first_refusal, line_refusal, guarantee_refusal, refusal_or}
+use Rattle.td_model.specs.Machine.{is_answer}
+use Rattle.td_model.specs.Declaring.{first_refusal, line_refusal, guarantee_refusal, refusal_or}
 use Rattle.td_commands.specs.Lines.{line_of, IsLines, IsLineAmount}
-use Rattle.td_acts.specs.Table.{or_refuse, refuse_if, is_back, if_lrn_new, if_not_refused, on_guarantee, on_movement, stands}
-use Rattle.td_guarantee.specs.Codes.{with_code, without_code}
+use Rattle.td_model.specs.Table.{or_refuse, refuse_if, is_back, if_lrn_new, if_not_refused, on_guarantee, on_movement, stands}
+use Rattle.td_guarantee.specs.Codes.{with_code, without_code, most_codes}
 use Rattle.td_guarantee.proofs.Ascending.{one_ascends}
 use Rattle.td_guarantee.proofs.Coded.{all_with, all_without, ascending_with, ascending_without, length_with, length_without}
-use Rattle.td_acts.specs.Effects.{end_after}
-use Rattle.td_acts.specs.Sound.{IsHolderRow, AreCodes, IsGuaranteeRow, AreMovementLines, IsMovementRow, IsCovered}
+use Rattle.td_model.specs.Effects.{end_after, greatest_grn_given, greatest_mrn_given}
+use Rattle.td_model.specs.Sound.{IsHolderRow, AreCodes, IsGuaranteeRow, AreMovementLines, IsMovementRow, IsCovered}
 use Rattle.td_acts.proofs.Joined.{All-map, AllPairs-map, AllByRecursion-map}
 
 -- a new holder's row, where there was none
@@ -52,7 +51,7 @@ pub record IsOpened (country : List ℕ) (H : ℕ) (before : Option HolderRow) (
   pub known : before ≡ Some old
   pub moment : IsMoment row.last_at
   pub next : row ≡ record old { last_at = row.last_at; grn_count = old.grn_count + 1 }
-  pub left : old.grn_count < 999999
+  pub left : old.grn_count < greatest_grn_given
   pub guarantee : IsGuaranteeRow country H (old.grn_count + 1) g
 
 -- the holder's row with a moment and the next serial of a movement, and that movement, of a new LRN
@@ -61,7 +60,7 @@ pub record IsDeclared (country : List ℕ) (H : ℕ) (account : Account) (row : 
   pub known : account.holder ≡ Some old
   pub moment : IsMoment row.last_at
   pub next : row ≡ record old { last_at = row.last_at; mrn_count = old.mrn_count + 1 }
-  pub left : old.mrn_count < 9999999
+  pub left : old.mrn_count < greatest_mrn_given
   pub movement : IsMovementRow country H account.guarantees (old.mrn_count + 1) m
   pub fresh : movement_by_lrn m.lrn account.movements ≡ None
   pub accepted : m.state ≡ Accepted
@@ -205,10 +204,10 @@ pub end_is : (t : ℕ) → IsMoment t → IsDay (end_after (day_of_moment t))
 end_is t moment = (omega (arith, moment.0, moment.1), omega (arith, moment.0, moment.1))
 
 -- a new code beside others that leave room for it
-pub codes_with : (code : List ℕ) (codes : List (List ℕ)) → stands code codes ≡ false → nat_le 20 (length codes) ≡ false → IsAccessCode code → AreCodes codes → AreCodes (with_code code codes)
+pub codes_with : (code : List ℕ) (codes : List (List ℕ)) → stands code codes ≡ false → nat_le most_codes (length codes) ≡ false → IsAccessCode code → AreCodes codes → AreCodes (with_code code codes)
 codes_with code codes new room form are = record {
   some = omega (arith, length_with code codes new);
-  most = (let left : length codes < 20 = grind (arith, nat_tests, room) in omega (arith, length_with code codes new, left));
+  most = (let left : length codes < most_codes = grind (arith, nat_tests, room) in omega (arith, length_with code codes new, left));
   form = all_with IsAccessCode code codes are.form form;
   order = ascending_with code codes are.order;
 }

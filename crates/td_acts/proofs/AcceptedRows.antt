@@ -2,14 +2,14 @@
 use Rattle.std.proofs.Common.{◌≡◌, ℕ, ℤ, Bool, true, false, List, [], Option, Some, None, refl, ap, arith, negsuc, pos}
 use Rattle.std.specs.Prelude.{IfSome, if◌then◌else◌}
 use Rattle.std.proofs.lemmas.Bool.Decides.{nat_tests}
-use Rattle.td_base.specs.Moment.{IsMoment, moment_of}
+use Rattle.td_base.specs.Days.{IsMoment, moment_of}
 use Rattle.td_guarantee.specs.declared.guarantee.Guarantee.{Guarantee}
 use Rattle.td_movement.specs.declared.movement.Movement.{Movement}
-use Rattle.td_acts.specs.declared.rows.HolderRow.{HolderRow}
+use Rattle.td_model.specs.declared.holder_row.HolderRow.{HolderRow}
 use Rattle.td_acts.specs.declared.rows.Change.TheVariants as change
 use Rattle.td_commands.specs.declared.command.Command.{Command}
-use Rattle.td_acts.specs.Account.{Account, empty_account}
-use Rattle.td_acts.specs.Acceptance.{is_accepted_at}
+use Rattle.td_model.specs.Account.{Account, empty_account}
+use Rattle.td_model.specs.Machine.{is_accepted_at}
 use Rattle.td_commands.specs.Commands.{owner_of, IsProper}
 use Rattle.td_acts.specs.Deciding.{change_at, change_in}
 use Rattle.td_acts.specs.Deciding.{change_of}

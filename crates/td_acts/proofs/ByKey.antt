@@ -4,7 +4,7 @@ use Rattle.std.specs.Prelude.{AllPairs, find, if◌then◌else◌}
 use Rattle.std.specs.List.{AllByRecursion}
 use Rattle.std.specs.Str.{bytes_eq}
 use Rattle.std.proofs.lemmas.Slice.Eq.{bytes_eq-Decides}
-use Rattle.td_acts.specs.Sound.{AllNumbered}
+use Rattle.td_model.specs.Sound.{AllNumbered}
 
 module _ {R : Type 0} (key : R → List ℕ) where
   -- the keys of rows differ

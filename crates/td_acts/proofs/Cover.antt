@@ -5,9 +5,8 @@ use Rattle.std.specs.List.{AllByRecursion}
 use Rattle.std.specs.Str.{bytes_eq}
 use Rattle.std.proofs.lemmas.List.Sums.{sum_by-cons, sum_by_push}
 use Rattle.std.proofs.lemmas.Slice.Eq.{bytes_eq-Decides}
-use Rattle.td_base.specs.Country.{IsCountry}
-use Rattle.td_base.specs.Holder.{IsHolderNumber}
-use Rattle.td_base.specs.References.{grn_text}
+use Rattle.td_base.specs.Codes.{IsCountry, IsHolderNumber}
+use Rattle.td_base.specs.References.{grn_text, greatest_grn_serial}
 use Rattle.td_base.proofs.MadeReferences.{made_apart}
 use Rattle.td_movement.specs.declared.line.Line.{Line}
 use Rattle.td_movement.specs.declared.movement.Movement.{Movement}
@@ -15,9 +14,10 @@ use Rattle.td_movement.specs.declared.state.State.TheVariants.{Accepted}
 use Rattle.td_movement.specs.States.{is_counting}
 use Rattle.td_guarantee.specs.declared.guarantee.Guarantee.{Guarantee}
 use Rattle.td_guarantee.specs.Usage.{cents_on, lines_on, movement_on, used_on}
-use Rattle.td_acts.specs.Account.{guarantee_by_grn}
-use Rattle.td_acts.specs.Account.{HolderRows}
-use Rattle.td_acts.specs.Sound.{AllNumbered, IsGuaranteeRow, IsMovementRow, IsCovered, AreHolderRows}
+use Rattle.td_model.specs.Account.{guarantee_by_grn}
+use Rattle.td_model.specs.Account.{HolderRows}
+use Rattle.td_model.specs.Sound.{AllNumbered, IsGuaranteeRow, IsMovementRow, IsCovered, AreHolderRows}
+use Rattle.td_model.specs.Effects.{greatest_grn_given}
 
 -- what holds of each holds of all with one more
 pub AllByRecursion-append : {X : Type 0} (P : X → Type 0) (xs : List X) (y : X) → AllByRecursion P xs → P y → AllByRecursion P (xs ++ y ∷ [])
@@ -66,7 +66,7 @@ movements_elsewhere country grn H n gs others [] are = tt
 movements_elsewhere country grn H n gs others (m ∷ ms) are = (lines_elsewhere grn gs others m.lines are.0.lines.own, movements_elsewhere country grn H (n + 1) gs others ms are.1)
 
 -- a later serial's reference is none of the earlier ones'
-earlier_differ : (country grn : List ℕ) (H k year n : ℕ) (gs : List Guarantee) → IsCountry country → IsHolderNumber H → k ≤ 999999 → grn ≡ grn_text year country H k → AllNumbered (IsGuaranteeRow country H) n gs → n + length gs < k
+earlier_differ : (country grn : List ℕ) (H k year n : ℕ) (gs : List Guarantee) → IsCountry country → IsHolderNumber H → k ≤ greatest_grn_serial → grn ≡ grn_text year country H k → AllNumbered (IsGuaranteeRow country H) n gs → n + length gs < k
     → AllByRecursion (λ g. g.grn ≢ grn) gs
 earlier_differ country grn H k year n [] form number most is are more = tt
 earlier_differ country grn H k year n (g ∷ gs) form number most is are more =
@@ -76,7 +76,7 @@ earlier_differ country grn H k year n (g ∷ gs) form number most is are more =
     )
 
 -- nothing is in use on a new guarantee
-pub unused_when_new : (country : List ℕ) (h : HolderRows) (g : Guarantee) → IsCountry country → h.row.grn_count < 999999 → IsGuaranteeRow country h.row.holder (h.row.grn_count + 1) g → AreHolderRows country h → used_on g.grn h.movements ≡ 0
+pub unused_when_new : (country : List ℕ) (h : HolderRows) (g : Guarantee) → IsCountry country → h.row.grn_count < greatest_grn_given → IsGuaranteeRow country h.row.holder (h.row.grn_count + 1) g → AreHolderRows country h → used_on g.grn h.movements ≡ 0
 unused_when_new country h g form left is sound =
     let made = is.grn in
     let others = earlier_differ country g.grn h.row.holder (h.row.grn_count + 1) made.0 0 h.guarantees form sound.row.number (omega (arith, left)) made.2 sound.guarantees (omega (arith, sound.grn_count)) in

@@ -8,22 +8,20 @@ use Rattle.std.proofs.lemmas.List.Sums.{sum_by-cons}
 use Rattle.std.proofs.lemmas.Slice.Eq.{bytes_eq-Decides}
 use Rattle.td_movement.specs.declared.movement.Movement.{Movement}
 use Rattle.td_movement.specs.States.{is_counting}
-use Rattle.td_guarantee.specs.Terms.{has_ended, is_within}
-use Rattle.td_guarantee.specs.Usage.{cents_on, lines_on, used_on}
+use Rattle.td_guarantee.specs.Usage.{has_ended, is_within, cents_on, lines_on, used_on}
 use Rattle.td_acts.specs.declared.rows.NewStatus.{NewStatus}
 use Rattle.td_commands.specs.declared.said.Refusal.{Refusal}
 use Rattle.td_commands.specs.declared.said.Refusal.TheVariants.{GuaranteeEnded, OverReference}
-use Rattle.td_acts.specs.Account.{Account, ReferencesDiffer, entry_in, guarantee_by_grn, movement_by_mrn}
+use Rattle.td_model.specs.Account.{Account, ReferencesDiffer, entry_in, guarantee_by_grn, movement_by_mrn}
 use Rattle.td_acts.specs.Changes.{moved}
-use Rattle.td_acts.specs.Sound.{IsCovered}
+use Rattle.td_model.specs.Sound.{IsCovered}
 use Rattle.td_acts.proofs.Cover.{lines_off}
 use Rattle.td_acts.proofs.ByKey.{KeysDiffer, behind_differ, first_differs, others_differ, each_found}
 use Rattle.td_acts.proofs.Joined.{AllByRecursion-weaker}
 use Rattle.td_acts.proofs.Steps.{used_moved}
 use Rattle.td_movement.specs.declared.line.Line.{Line}
 use Rattle.td_guarantee.specs.declared.guarantee.Guarantee.{Guarantee}
-use Rattle.td_acts.specs.Declaring.{refusal_or}
-use Rattle.td_acts.specs.Releasing.{cover_refusal, first_uncovered}
+use Rattle.td_model.specs.Declaring.{refusal_or, cover_refusal, first_uncovered}
 
 -- lines are refused alike over guarantees that are found alike
 pub same_uncovered : (day : ℕ) (a b : List ℕ → Option (Guarantee × ℕ)) (lines : List Line) → AllByRecursion (λ l. a l.grn ≡ b l.grn) lines → first_uncovered day a lines ≡ first_uncovered day b lines

@@ -1,14 +1,14 @@
 -- In sound rows no two references of a holder are alike.
 use Rattle.std.proofs.Common.{◌≢◌, ℕ, zero, suc, ◌+◌, ◌<◌, ◌≤◌, ◌%◌, List, [], ◌∷◌, length, get_or, Option, Some, None, sym, ◌∙◌, subst, arith}
 use Rattle.std.specs.Prelude.{AllPairs, IfSome}
-use Rattle.td_base.specs.Country.{IsCountry}
+use Rattle.td_base.specs.Codes.{IsCountry, IsHolderNumber}
 use Rattle.td_base.specs.Days.{year_of}
-use Rattle.td_base.specs.Holder.{IsHolderNumber}
 use Rattle.td_base.proofs.MadeReferences.{made_apart}
 use Rattle.td_guarantee.specs.declared.guarantee.Guarantee.{Guarantee}
 use Rattle.td_movement.specs.declared.movement.Movement.{Movement}
-use Rattle.td_acts.specs.Account.{HolderRows, account_with, ReferencesDiffer}
-use Rattle.td_acts.specs.Sound.{AllNumbered, IsGuaranteeRow, IsMovementRow, AreHolderRows}
+use Rattle.td_model.specs.Account.{HolderRows, account_with, ReferencesDiffer}
+use Rattle.td_model.specs.Sound.{AllNumbered, IsGuaranteeRow, IsMovementRow, AreHolderRows}
+use Rattle.td_base.specs.References.{greatest_grn_serial, greatest_mrn_serial}
 
 -- the row at a place has the number of the place
 numbered_at : {R : Type 0} (P : ℕ → R → Type 0) (n : ℕ) (rows : List R) (k : ℕ) (d : R) → k < length rows → AllNumbered P n rows → P (n + k + 1) (get_or rows k d)
@@ -16,14 +16,14 @@ numbered_at P n [] k d within all = absurd (omega (arith, within))
 numbered_at P n (r ∷ rows) zero d within all = subst (λ m. P m r) (omega arith) all.0
 numbered_at P n (r ∷ rows) (suc k) d within all = subst (λ m. P m (get_or rows k d)) (omega arith) (numbered_at P (n + 1) rows k d (omega (arith, within)) all.1)
 
-grns_differ : (country : List ℕ) (H : ℕ) (gs : List Guarantee) → IsCountry country → IsHolderNumber H → length gs ≤ 999999 → AllNumbered (IsGuaranteeRow country H) 0 gs → AllPairs (λ a b. a.grn ≢ b.grn) gs
+grns_differ : (country : List ℕ) (H : ℕ) (gs : List Guarantee) → IsCountry country → IsHolderNumber H → length gs ≤ greatest_grn_serial → AllNumbered (IsGuaranteeRow country H) 0 gs → AllPairs (λ a b. a.grn ≢ b.grn) gs
 grns_differ country H gs form number most all = λ j k d less within same.
     let first = numbered_at (IsGuaranteeRow country H) 0 gs j d (omega (arith, less, within)) all in
     let second = numbered_at (IsGuaranteeRow country H) 0 gs k d within all in
     let apart = made_apart 6 first.grn.0 second.grn.0 country country H H (0 + j + 1) (0 + k + 1) form form number number (omega (arith, less, within, most)) (omega (arith, within, most)) (sym first.grn.2 ∙ same ∙ second.grn.2) in
     absurd (omega (arith, apart.1, less))
 
-mrns_differ : (country : List ℕ) (H : ℕ) (gs : List Guarantee) (ms : List Movement) → IsCountry country → IsHolderNumber H → length ms ≤ 9999999 → AllNumbered (IsMovementRow country H gs) 0 ms → AllPairs (λ a b. a.mrn ≢ b.mrn) ms
+mrns_differ : (country : List ℕ) (H : ℕ) (gs : List Guarantee) (ms : List Movement) → IsCountry country → IsHolderNumber H → length ms ≤ greatest_mrn_serial → AllNumbered (IsMovementRow country H gs) 0 ms → AllPairs (λ a b. a.mrn ≢ b.mrn) ms
 mrns_differ country H gs ms form number most all = λ j k d less within same.
     let first = numbered_at (IsMovementRow country H gs) 0 ms j d (omega (arith, less, within)) all in
     let second = numbered_at (IsMovementRow country H gs) 0 ms k d within all in

@@ -5,12 +5,11 @@ use Rattle.std.proofs.lemmas.Bool.{false≢true}
 use Rattle.std.proofs.lemmas.Bool.Decides.{nat_tests}
 use Rattle.std.proofs.lemmas.List.{append-nil}
 use Rattle.std.proofs.Math.Nat.{add-zero}
-use Rattle.td_base.specs.Days.{day_of_moment}
-use Rattle.td_base.specs.Moment.{IsMoment}
+use Rattle.td_base.specs.Days.{day_of_moment, IsMoment}
 use Rattle.td_base.specs.References.{grn_text, mrn_text}
 use Rattle.td_guarantee.specs.declared.guarantee.Guarantee.{Guarantee}
 use Rattle.td_movement.specs.declared.movement.Movement.{Movement}
-use Rattle.td_acts.specs.declared.rows.HolderRow.{HolderRow}
+use Rattle.td_model.specs.declared.holder_row.HolderRow.{HolderRow}
 use Rattle.td_commands.specs.declared.command.Command.{Command}
 use Rattle.td_commands.specs.declared.command.Command.TheVariants.{Register, OpenGuarantee, Amend, Revoke, Ie015, Ie014, AddCode, RemoveCode, Ie029, Ie007, Ie018, Ie045, Ie140, SeeHolder, SeeMovement, SeeMovements, SeeGuarantee, SeeGuarantees}
 use Rattle.td_movement.specs.States.{is_counting}
@@ -22,21 +21,21 @@ use Rattle.td_movement.specs.declared.state.State.{State}
 use Rattle.td_movement.specs.declared.state.State.TheVariants.{Cancelled, Released, Enquired, Arrived, WrittenOff}
 use Rattle.td_guarantee.specs.Usage.{used_on}
 use Rattle.td_commands.specs.declared.said.Refusal.TheVariants.{NoHolder, NoMovement, NoGuarantee, BelowUse, CodeKnown, CodesFull, NoCode, LastCode, LimitDate}
-use Rattle.td_acts.specs.Account.{Account, entry_in, guarantee_by_grn, movement_by_lrn, movement_by_mrn}
-use Rattle.td_acts.specs.Acceptance.{is_accepted_at}
-use Rattle.td_acts.specs.Book.{eori_after, account_made}
-use Rattle.td_acts.specs.Effects.{year2_at, openings, declarations, opened_by, declared_by, guarantee_said, movement_said, judged}
+use Rattle.td_model.specs.Account.{Account, entry_in, guarantee_by_grn, movement_by_lrn, movement_by_mrn}
+use Rattle.td_model.specs.Machine.{is_accepted_at}
+use Rattle.td_model.specs.Book.{eori_after, account_made}
+use Rattle.td_model.specs.Effects.{year2_at, openings, declarations, opened_by, declared_by, guarantee_said, movement_said, judged, greatest_grn_given, greatest_mrn_given}
 use Rattle.td_commands.specs.Commands.{owner_of, IsProper}
-use Rattle.td_acts.specs.Declaring.{first_refusal, has_contents}
+use Rattle.td_commands.specs.Lines.{line_of}
+use Rattle.td_model.specs.Declaring.{first_refusal, has_contents, first_uncovered}
 use Rattle.td_acts.specs.Changes.{account_after, is_change, with_status}
 use Rattle.td_acts.specs.Deciding.{change_of, new_state}
-use Rattle.td_commands.specs.Lines.{line_of}
 use Rattle.td_acts.proofs.Accepted.{IsFor, opened_facts, lodged_facts, day_is, one_code, lines_kept, named_if_fine, moved_facts, named_facts, passed, lines_passed, end_is, codes_with, codes_without}
-use Rattle.td_acts.specs.Releasing.{first_uncovered}
-use Rattle.td_acts.specs.Table.{stands}
+use Rattle.td_model.specs.Table.{stands}
 use Rattle.td_acts.proofs.Covering.{covered_when_released}
 use Rattle.td_acts.proofs.EachMove.{cancelled_from, released_from, arrived_from, judged_from, written_off_from, enquired_from}
 use Rattle.td_acts.proofs.Steps.{map-id, no_more_moved}
+use Rattle.td_guarantee.specs.Codes.{most_codes}
 
 -- where nobody is registered, only a registration is accepted
 pub accepted_unregistered : (country : List ℕ) (gs : List Guarantee) (ms : List Movement) (t : ℕ) (command : Command)
@@ -158,7 +157,7 @@ rows_are_for H country None gs ms t (Register h eori) own proper moment accepted
 rows_are_for H country (Some row) gs ms t (Register h eori) own proper moment accepted = cc
 rows_are_for H country None gs ms t (OpenGuarantee h reference cover code) own proper moment accepted = cc
 rows_are_for H country (Some row) gs ms t (OpenGuarantee h reference cover code) own proper moment accepted =
-    let facts = opened_facts (nat_lt t row.last_at) (nat_le 999999 row.grn_count) _ accepted in
+    let facts = opened_facts (nat_lt t row.last_at) (nat_le greatest_grn_given row.grn_count) _ accepted in
     let same : h ≡ H = cc in
     record {
       old = row;
@@ -201,7 +200,7 @@ rows_are_for H country (Some row) gs ms t (Revoke grn) own proper moment accepte
     }
 rows_are_for H country None gs ms t (Ie015 h lrn departure destination lines) own proper moment accepted = cc
 rows_are_for H country (Some row) gs ms t (Ie015 h lrn departure destination lines) own proper moment accepted =
-    let facts = lodged_facts (nat_lt t row.last_at) (movement_by_lrn lrn ms) (has_contents departure destination (map line_of lines)) (nat_le 9999999 row.mrn_count) (first_refusal (day_of_moment t) gs lines) _ accepted in
+    let facts = lodged_facts (nat_lt t row.last_at) (movement_by_lrn lrn ms) (has_contents departure destination (map line_of lines)) (nat_le greatest_mrn_given row.mrn_count) (first_refusal (day_of_moment t) gs lines) _ accepted in
     let same : h ≡ H = cc in
     record {
       old = row;
@@ -233,7 +232,7 @@ rows_are_for H country (Some row) gs ms t (AddCode h grn code) own proper moment
     let facts = named_facts NoHolder row t (guarantee_by_grn grn gs) _ accepted in
     let g = facts.0 in
     let known = passed CodeKnown (stands code g.codes) _ facts.2 in
-    let full = passed CodesFull (nat_le 20 (length g.codes)) _ known.1 in
+    let full = passed CodesFull (nat_le most_codes (length g.codes)) _ known.1 in
     record {
       old = row;
       known = refl;

@@ -9,10 +9,9 @@ use Rattle.td_movement.specs.declared.state.Ground.{Ground}
 use Rattle.td_movement.specs.declared.state.Ground.TheVariants.{Results, Proof}
 use Rattle.td_movement.specs.declared.state.State.{State}
 use Rattle.td_movement.specs.declared.state.State.TheVariants.{Accepted, Cancelled, Released, Enquired, Arrived, Discrepant, Cleared, WrittenOff}
-use Rattle.td_movement.specs.Moves.{state_after}
-use Rattle.td_movement.specs.States.{is_counting}
+use Rattle.td_movement.specs.States.{state_after, is_counting}
 use Rattle.td_movement.specs.Status.{HasDaysOf, HasArrived}
-use Rattle.td_acts.specs.Effects.{judged}
+use Rattle.td_model.specs.Effects.{judged}
 
 -- only an accepted declaration is cancelled
 pub cancelled_from : (s n : State) → state_after s Cancel ≡ Some n → (n ≡ Cancelled) × (s ≡ Accepted)

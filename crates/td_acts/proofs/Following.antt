@@ -5,16 +5,16 @@ use Rattle.std.specs.List.{AllByRecursion}
 use Rattle.std.specs.Str.{bytes_eq}
 use Rattle.std.proofs.lemmas.List.{length-append, length-map}
 use Rattle.std.proofs.lemmas.Slice.Eq.{bytes_eq-Decides}
-use Rattle.td_base.specs.Country.{IsCountry}
-use Rattle.td_base.specs.Moment.{IsMoment, moment_of}
+use Rattle.td_base.specs.Codes.{IsCountry}
+use Rattle.td_base.specs.Days.{IsMoment, moment_of}
 use Rattle.td_movement.specs.declared.state.State.TheVariants.{Accepted}
 use Rattle.td_movement.specs.declared.line.Line.{Line}
-use Rattle.td_acts.specs.declared.rows.HolderRow.{HolderRow}
+use Rattle.td_model.specs.declared.holder_row.HolderRow.{HolderRow}
 use Rattle.td_guarantee.specs.declared.guarantee.Guarantee.{Guarantee}
 use Rattle.td_movement.specs.declared.movement.Movement.{Movement}
 use Rattle.td_acts.specs.declared.rows.Change.{Change}
 use Rattle.td_acts.specs.declared.rows.Change.TheVariants as change
-use Rattle.td_acts.specs.Account.{HolderRows, account_with, at_grn, coded, uncoded, guarantee_by_grn, movement_by_lrn, movement_by_mrn}
+use Rattle.td_model.specs.Account.{HolderRows, account_with, at_grn, coded, uncoded, guarantee_by_grn, movement_by_lrn, movement_by_mrn}
 use Rattle.td_acts.specs.declared.rows.NewStatus.{NewStatus}
 use Rattle.td_movement.specs.Status.{IsStatus}
 use Rattle.td_acts.specs.Changes.{account_after, row_in, rows_after, rows_or_new, with_status, with_terms, moved}
@@ -22,13 +22,14 @@ use Rattle.td_acts.proofs.Differing.{differ_with}
 use Rattle.td_acts.proofs.ByKey.{only_found, number_found}
 use Rattle.td_acts.proofs.SaidAnew.{found_anew, each_anew, numbered_anew}
 use Rattle.td_acts.proofs.Steps.{rows_moved, lrn_moved}
-use Rattle.td_acts.specs.Sound.{IsGuaranteeRow, AreMovementLines, IsMovementRow, IsCovered, AreHolderRows}
+use Rattle.td_model.specs.Sound.{IsGuaranteeRow, AreMovementLines, IsMovementRow, IsCovered, AreHolderRows}
 use Rattle.td_acts.specs.Deciding.{decision_on}
 use Rattle.td_acts.specs.Laws.{KeepsRowsSound}
 use Rattle.td_acts.proofs.Accepted.{IsFor, IsSaidOf}
 use Rattle.td_acts.proofs.AcceptedRows.{change_in_is_for, moment_is}
 use Rattle.td_acts.proofs.Cover.{AllByRecursion-append, unused_when_new, covered_with_accepted}
 use Rattle.td_acts.proofs.Joined.{AllPairs-append, AllPairs-map, AllNumbered-append, AllNumbered-weaker, AllByRecursion-weaker}
+use Rattle.td_model.specs.Effects.{greatest_grn_given, greatest_mrn_given}
 
 -- the row of the rows after a change is that of the change
 pub row_after : (c : Change) (row : HolderRow) (h : HolderRows) → row_in c ≡ Some row → (rows_after c h).row ≡ row
@@ -89,7 +90,7 @@ other_lrn lrn (m ∷ ms) none zero d within = differs m.lrn lrn (not_first (byte
 other_lrn lrn (m ∷ ms) none (suc k) d within = other_lrn lrn ms (not_first (bytes_eq m.lrn lrn) m (movement_by_lrn lrn ms) none).1 k d (omega (arith, within))
 
 -- a holder's rows with one more guarantee keep their rules
-sound_opened : (country : List ℕ) (h : HolderRows) (g : Guarantee) (t : ℕ) → IsCountry country → IsMoment t → h.row.grn_count < 999999 → IsGuaranteeRow country h.row.holder (h.row.grn_count + 1) g → AreHolderRows country h
+sound_opened : (country : List ℕ) (h : HolderRows) (g : Guarantee) (t : ℕ) → IsCountry country → IsMoment t → h.row.grn_count < greatest_grn_given → IsGuaranteeRow country h.row.holder (h.row.grn_count + 1) g → AreHolderRows country h
     → AreHolderRows country (record { row = record h.row { last_at = t; grn_count = h.row.grn_count + 1 }; guarantees = h.guarantees ++ g ∷ []; movements = h.movements })
 sound_opened country h g t form moment left is sound = record {
   row = record { number = sound.row.number; eori = sound.row.eori; last_at = moment };
@@ -104,7 +105,7 @@ sound_opened country h g t form moment left is sound = record {
 }
 
 -- and so with one more movement
-sound_declared : (country : List ℕ) (h : HolderRows) (m : Movement) (t : ℕ) → IsMoment t → h.row.mrn_count < 9999999 → IsMovementRow country h.row.holder h.guarantees (h.row.mrn_count + 1) m → movement_by_lrn m.lrn h.movements ≡ None → m.state ≡ Accepted → AreHolderRows country h
+sound_declared : (country : List ℕ) (h : HolderRows) (m : Movement) (t : ℕ) → IsMoment t → h.row.mrn_count < greatest_mrn_given → IsMovementRow country h.row.holder h.guarantees (h.row.mrn_count + 1) m → movement_by_lrn m.lrn h.movements ≡ None → m.state ≡ Accepted → AreHolderRows country h
     → AreHolderRows country (record { row = record h.row { last_at = t; mrn_count = h.row.mrn_count + 1 }; guarantees = h.guarantees; movements = h.movements ++ m ∷ [] })
 sound_declared country h m t moment left is fresh accepted sound = record {
   row = record { number = sound.row.number; eori = sound.row.eori; last_at = moment };
@@ -192,14 +193,14 @@ sound_after country H None (change.Opened r g) row form has is number sound = le
 sound_after country H (Some h) (change.Opened r g) row form has is number sound =
     let same : is.old ≡ h.row = the_row h.row is.old is.known in
     let next : r ≡ record h.row { last_at = r.last_at; grn_count = h.row.grn_count + 1 } = subst (λ (o : HolderRow). r ≡ record o { last_at = r.last_at; grn_count = o.grn_count + 1 }) same is.next in
-    let left : h.row.grn_count < 999999 = subst (λ (o : HolderRow). o.grn_count < 999999) same is.left in
+    let left : h.row.grn_count < greatest_grn_given = subst (λ (o : HolderRow). o.grn_count < greatest_grn_given) same is.left in
     let guarantee : IsGuaranteeRow country h.row.holder (h.row.grn_count + 1) g = subst (λ n. IsGuaranteeRow country n (h.row.grn_count + 1) g) (sym number) (subst (λ (o : HolderRow). IsGuaranteeRow country H (o.grn_count + 1) g) same is.guarantee) in
     subst (λ (x : HolderRow). AreHolderRows country (record { row = x; guarantees = h.guarantees ++ g ∷ []; movements = h.movements })) (sym next) (sound_opened country h g r.last_at form is.moment left guarantee sound)
 sound_after country H None (change.Declared r m) row form has is number sound = let some = is.known in cc
 sound_after country H (Some h) (change.Declared r m) row form has is number sound =
     let same : is.old ≡ h.row = the_row h.row is.old is.known in
     let next : r ≡ record h.row { last_at = r.last_at; mrn_count = h.row.mrn_count + 1 } = subst (λ (o : HolderRow). r ≡ record o { last_at = r.last_at; mrn_count = o.mrn_count + 1 }) same is.next in
-    let left : h.row.mrn_count < 9999999 = subst (λ (o : HolderRow). o.mrn_count < 9999999) same is.left in
+    let left : h.row.mrn_count < greatest_mrn_given = subst (λ (o : HolderRow). o.mrn_count < greatest_mrn_given) same is.left in
     let movement : IsMovementRow country h.row.holder h.guarantees (h.row.mrn_count + 1) m = subst (λ n. IsMovementRow country n h.guarantees (h.row.mrn_count + 1) m) (sym number) (subst (λ (o : HolderRow). IsMovementRow country H h.guarantees (o.mrn_count + 1) m) same is.movement) in
     subst (λ (x : HolderRow). AreHolderRows country (record { row = x; guarantees = h.guarantees; movements = h.movements ++ m ∷ [] })) (sym next) (sound_declared country h m r.last_at is.moment left movement is.fresh is.accepted sound)
 sound_after country H None (change.Moved r status) row form has is number sound = let some = is.known in cc

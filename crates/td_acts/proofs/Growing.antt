@@ -3,19 +3,18 @@ use Rattle.std.proofs.Common.{◌≡◌, ℕ, ◌+◌, Bool, true, false, List, 
 use Rattle.std.proofs.lemmas.List.{append-nil}
 use Rattle.std.specs.Prelude.{IfSome, if◌then◌else◌}
 use Rattle.std.specs.Option.{option_map, option_or}
-use Rattle.td_base.specs.Moment.{moment_of}
-use Rattle.td_acts.specs.declared.rows.HolderRow.{HolderRow}
+use Rattle.td_base.specs.Days.{moment_of}
+use Rattle.td_model.specs.declared.holder_row.HolderRow.{HolderRow}
 use Rattle.td_guarantee.specs.declared.guarantee.Guarantee.{Guarantee}
 use Rattle.td_movement.specs.declared.movement.Movement.{Movement}
 use Rattle.td_commands.specs.declared.command.Command.{Command}
 use Rattle.td_commands.specs.declared.command.Stamped.{Stamped}
 use Rattle.td_acts.specs.declared.rows.Change.TheVariants as change
-use Rattle.td_acts.specs.Account.{Account, IsAccountOf, ReferencesDiffer}
-use Rattle.td_acts.specs.Book.{Book, Act, eori_after, eori_in, last_in, serial_in, rows_in, eori_of, last_of, grn_count_before, mrn_count_before, grn_count_of, mrn_count_of, guarantees_of, movements_of, account_made, account_of, fresh_book}
-use Rattle.td_acts.specs.Effects.{eori_given, guarantee_said, movement_said, openings, declarations, opened_by, declared_by}
+use Rattle.td_model.specs.Account.{Account, IsAccountOf, ReferencesDiffer}
+use Rattle.td_model.specs.Book.{Book, Act, eori_after, eori_in, last_in, serial_in, rows_after_acts, eori_of, last_of, grn_count_before, mrn_count_before, grn_count_of, mrn_count_of, guarantees_of, movements_of, account_made, account_of, fresh_book}
+use Rattle.td_model.specs.Effects.{eori_given, guarantee_said, movement_said, openings, declarations, opened_by, declared_by}
 use Rattle.td_commands.specs.Commands.{owner_of}
-use Rattle.td_acts.specs.Acceptance.{is_accepted_at}
-use Rattle.td_acts.specs.Machine.{appended, book_after, book_after_at, AreAccepted, IsGrown}
+use Rattle.td_model.specs.Machine.{is_accepted_at, appended, book_after, book_after_at, AreAccepted, IsGrown}
 use Rattle.td_acts.specs.Changes.{account_after}
 use Rattle.td_acts.specs.Deciding.{decision_on, change_in}
 use Rattle.td_acts.specs.Deciding.{change_of}
@@ -38,7 +37,7 @@ serial_in-append uses n (b ∷ acts) a = serial_in-append uses (n + uses b.comma
 
 -- one more act says its own of all rows before, and what it makes stands behind them
 rows_in-append : {R : Type 0} (said : ℕ → Command → R → R) (made : ℕ → ℕ → Command → List R) (uses : Command → ℕ) (n : ℕ) (rows : List R) (acts : List Act) (a : Act)
-    → rows_in said made uses n rows (acts ++ a ∷ []) ≡ map (said a.at a.command) (rows_in said made uses n rows acts) ++ made (serial_in uses n acts) a.at a.command
+    → rows_after_acts said made uses n rows (acts ++ a ∷ []) ≡ map (said a.at a.command) (rows_after_acts said made uses n rows acts) ++ made (serial_in uses n acts) a.at a.command
 rows_in-append said made uses n rows [] a = refl
 rows_in-append said made uses n rows (b ∷ acts) a = rows_in-append said made uses (n + uses b.command) (map (said b.at b.command) rows ++ made n b.at b.command) acts a
 

@@ -5,7 +5,7 @@ use Rattle.std.specs.List.{AllByRecursion}
 use Rattle.std.proofs.Math.Seq.{get_or-append_seam}
 use Rattle.std.proofs.lemmas.Bool.Decides.{nat_tests}
 use Rattle.std.proofs.lemmas.List.{get_or_append_left, get_or-map, length-append, length-map}
-use Rattle.td_acts.specs.Sound.{AllNumbered}
+use Rattle.td_model.specs.Sound.{AllNumbered}
 
 -- what holds of all pairs, and of each element beside one more, holds of all pairs with that one
 pub AllPairs-append : {X : Type 0} (R : X → X → Type 0) (xs : List X) (y : X) → AllPairs R xs → All (λ x. R x y) xs → AllPairs R (xs ++ y ∷ [])

@@ -7,7 +7,7 @@ use Rattle.std.specs.Str.{bytes_eq}
 use Rattle.td_base.specs.Days.{day_of_moment}
 use Rattle.td_base.specs.References.{mrn_text}
 use Rattle.td_movement.specs.declared.line.Line.{Line}
-use Rattle.td_acts.specs.declared.rows.HolderRow.{HolderRow}
+use Rattle.td_model.specs.declared.holder_row.HolderRow.{HolderRow}
 use Rattle.td_guarantee.specs.declared.guarantee.Guarantee.{Guarantee}
 use Rattle.td_movement.specs.declared.movement.Movement.{Movement}
 use Rattle.td_movement.specs.declared.state.State.TheVariants.{Accepted}
@@ -17,12 +17,11 @@ use Rattle.td_commands.specs.declared.command.Command.TheVariants.{Ie015}
 use Rattle.td_commands.specs.declared.said.Answer.TheVariants as answer
 use Rattle.td_commands.specs.declared.said.Refusal.{Refusal}
 use Rattle.td_commands.specs.declared.said.Said.TheVariants.{Answered, Refused}
-use Rattle.td_acts.specs.Account.{guarantee_by_grn, movement_by_lrn}
-use Rattle.td_acts.specs.Effects.{year2_at}
-use Rattle.td_acts.specs.Declaring.{first_refusal, guarantee_refusal, refusal_or}
+use Rattle.td_model.specs.Account.{guarantee_by_grn, movement_by_lrn}
+use Rattle.td_model.specs.Effects.{year2_at, next_serial, greatest_mrn_given}
+use Rattle.td_model.specs.Declaring.{first_refusal, guarantee_refusal, refusal_or}
 use Rattle.td_acts.specs.Deciding.{decision_at, entry_by_grn}
 use Rattle.td_commands.specs.Lines.{line_of}
-use Rattle.td_acts.specs.Serials.{next_serial}
 
 -- a guarantee is found as its entry is
 pub named_entry : (grn : List ℕ) (es : List (Guarantee × ℕ)) → guarantee_by_grn grn (map (λ e. e.0) es) ≡ option_map (λ e. e.0) (entry_by_grn grn es)
@@ -67,12 +66,12 @@ lodged None t mrn lrn departure destination lines serial row = record {
 -- the table's verdict where no refusal before the lines comes
 pub lodged_at : (country : List ℕ) (o : Option HolderRow) (gs : List Guarantee) (ms : List Movement) (t holder : ℕ) (lrn departure destination : List ℕ) (lines : List (Line × List ℕ)) (row : HolderRow) (serial : ℕ) (mrn : List ℕ) (refusal : Option Refusal)
     → o ≡ Some row → nat_lt t row.last_at ≡ false → movement_by_lrn lrn ms ≡ None
-    → next_serial 9999999 row.mrn_count (mrn_text (year2_at t) country holder) ≡ Some (serial, mrn)
+    → next_serial greatest_mrn_given row.mrn_count (mrn_text (year2_at t) country holder) ≡ Some (serial, mrn)
     → first_refusal (day_of_moment t) gs lines ≡ refusal
     → decision_at (record { country = country; holder = o; guarantees = gs; movements = ms }) t (Ie015 holder lrn departure destination lines) ≡ lodged refusal t mrn lrn departure destination (map line_of lines) serial row
 lodged_at country o gs ms t holder lrn departure destination lines row serial mrn None own not_back unknown next tested =
-    let left = serial_left 9999999 row.mrn_count serial (mrn_text (year2_at t) country holder) mrn next in
+    let left = serial_left greatest_mrn_given row.mrn_count serial (mrn_text (year2_at t) country holder) mrn next in
     rw (own, not_back, unknown, left.0, tested, left.1, left.2) refl
 lodged_at country o gs ms t holder lrn departure destination lines row serial mrn (Some why) own not_back unknown next tested =
-    let left = serial_left 9999999 row.mrn_count serial (mrn_text (year2_at t) country holder) mrn next in
+    let left = serial_left greatest_mrn_given row.mrn_count serial (mrn_text (year2_at t) country holder) mrn next in
     rw (own, not_back, unknown, left.0, tested) refl

@@ -1,8 +1,8 @@
 -- What one more command does to a machine's list and its book.
 use Rattle.std.proofs.Common.{◌≡◌, ℕ, List, [], ◌∷◌, ◌++◌, refl, ap}
 use Rattle.td_commands.specs.declared.command.Stamped.{Stamped}
-use Rattle.td_acts.specs.Book.{Book}
-use Rattle.td_acts.specs.Machine.{verdict, book_after, machine_says, machine_book}
+use Rattle.td_model.specs.Book.{Book}
+use Rattle.td_model.specs.Machine.{verdict, book_after, machine_says, machine_book}
 
 -- one more command at the end of a machine's list
 pub machine_book-append : (H : ℕ) (book : Book) (list : List Stamped) (s : Stamped) → machine_book H book (list ++ s ∷ []) ≡ book_after H (machine_book H book list) s

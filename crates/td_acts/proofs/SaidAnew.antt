@@ -5,8 +5,8 @@ use Rattle.std.specs.List.{AllByRecursion}
 use Rattle.std.specs.Str.{bytes_eq}
 use Rattle.std.proofs.lemmas.Slice.Eq.{bytes_eq-Decides}
 use Rattle.td_guarantee.specs.declared.guarantee.Guarantee.{Guarantee}
-use Rattle.td_acts.specs.Account.{at_grn, guarantee_by_grn}
-use Rattle.td_acts.specs.Sound.{AllNumbered}
+use Rattle.td_model.specs.Account.{at_grn, guarantee_by_grn}
+use Rattle.td_model.specs.Sound.{AllNumbered}
 
 module _ (grn : List ℕ) (made : Guarantee → Guarantee) (same : (g : Guarantee) → (made g).grn ≡ g.grn) where
   -- a guarantee keeps its GRN

@@ -12,18 +12,18 @@ use Rattle.td_commands.specs.declared.said.Said.TheVariants.{Answered, Refused}
 use Rattle.td_acts.specs.declared.rows.Change.{Change}
 use Rattle.td_acts.specs.declared.rows.Change.TheVariants.{Nothing, Moved}
 use Rattle.td_acts.specs.declared.rows.Verdict.{Verdict}
-use Rattle.td_acts.specs.declared.rows.HolderRow.{HolderRow}
+use Rattle.td_model.specs.declared.holder_row.HolderRow.{HolderRow}
 use Rattle.td_acts.specs.declared.rows.NewStatus.{NewStatus}
 use Rattle.td_movement.specs.declared.movement.Movement.{Movement}
 use Rattle.td_movement.specs.declared.moves.Move.{Move}
 use Rattle.td_guarantee.specs.declared.guarantee.Guarantee.{Guarantee}
 use Rattle.td_guarantee.specs.Usage.{used_on}
-use Rattle.td_acts.specs.Account.{Account, entry_in, guarantee_by_grn, movement_by_mrn}
+use Rattle.td_model.specs.Account.{Account, entry_in, guarantee_by_grn, movement_by_mrn}
 use Rattle.td_acts.specs.declared.rows.Loaded.{Loaded}
 use Rattle.td_commands.specs.Commands.{is_changing, Need, nothing, lodging, movement, release, all_movements, guarantee, all_guarantees}
-use Rattle.td_acts.specs.Acceptance.{is_answer, has_known_lrn}
+use Rattle.td_model.specs.Machine.{is_answer, has_known_lrn}
 use Rattle.td_acts.specs.Deciding.{IsLoaded, IsLookedUp, change_of, decision_at, if_row, touched}
-use Rattle.td_acts.specs.Table.{said_at, on_guarantee, on_movement, or_refuse}
+use Rattle.td_model.specs.Table.{said_at, on_guarantee, on_movement, or_refuse}
 
 abbrev verdict_of : Said → Change → Verdict
 verdict_of said change = record { said = said; change = change }

@@ -1,11 +1,11 @@
 -- Something is written exactly where a change is accepted.
 use Rattle.std.proofs.Common.{◌≡◌, ℕ, ℤ, Bool, true, false, Option, Some, None, refl}
 use Rattle.std.specs.Prelude.{if◌then◌else◌}
-use Rattle.td_base.specs.Moment.{moment_of}
+use Rattle.td_base.specs.Days.{moment_of}
 use Rattle.td_acts.specs.declared.rows.Change.TheVariants as change
 use Rattle.td_commands.specs.declared.command.Command.{Command}
-use Rattle.td_acts.specs.Account.{Account}
-use Rattle.td_acts.specs.Acceptance.{is_accepted_at, is_accepted_in, is_accepted}
+use Rattle.td_model.specs.Account.{Account}
+use Rattle.td_model.specs.Machine.{is_accepted_at, is_accepted_in, is_accepted}
 use Rattle.td_acts.specs.Changes.{is_change}
 use Rattle.td_acts.specs.Deciding.{decision_on, change_at, change_in}
 use Rattle.td_acts.specs.Deciding.{change_of}

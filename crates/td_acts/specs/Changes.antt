@@ -3,12 +3,12 @@ use Rattle.std.specs.Prelude.{List, [], ◌∷◌, ◌++◌, map, Option, Some, 
 use Rattle.std.specs.Option.{option_or}
 use Rattle.td_guarantee.specs.declared.guarantee.Guarantee.{Guarantee}
 use Rattle.td_movement.specs.declared.movement.Movement.{Movement}
-use Rattle.td_acts.specs.declared.rows.HolderRow.{HolderRow}
+use Rattle.td_model.specs.declared.holder_row.HolderRow.{HolderRow}
 use Rattle.td_acts.specs.declared.rows.NewStatus.{NewStatus}
 use Rattle.td_acts.specs.declared.rows.Change.{Change}
 use Rattle.td_acts.specs.declared.rows.Change.TheVariants.{Nothing, Registered, Opened, Declared, Moved, TermsSet, CodeAdded, CodeRemoved}
 use Rattle.td_acts.specs.declared.rows.NewTerms.{NewTerms}
-use Rattle.td_acts.specs.Account.{Account, HolderRows, at_grn, at_mrn, coded, uncoded}
+use Rattle.td_model.specs.Account.{Account, HolderRows, at_grn, at_mrn, coded, uncoded}
 
 -- there is something to write
 abbrev pub is_change : Change → Bool

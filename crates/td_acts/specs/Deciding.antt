@@ -3,14 +3,13 @@ use Rattle.std.specs.Prelude.{◌≡◌, ℕ, ℤ, ◌+◌, List, map, find, Opt
 use Rattle.std.specs.List.{AllByRecursion}
 use Rattle.std.specs.Option.{option_map}
 use Rattle.std.specs.Str.{bytes_eq}
-use Rattle.td_base.specs.Days.{day_of_moment}
-use Rattle.td_base.specs.Moment.{moment_of}
+use Rattle.td_base.specs.Days.{day_of_moment, moment_of}
 use Rattle.td_base.specs.References.{grn_text, mrn_text}
 use Rattle.td_guarantee.specs.declared.guarantee.Guarantee.{Guarantee}
 use Rattle.td_guarantee.specs.Usage.{used_on}
 use Rattle.td_movement.specs.declared.state.State.{State}
 use Rattle.td_movement.specs.declared.state.State.TheVariants.{Cancelled, Released, Enquired, Arrived, WrittenOff}
-use Rattle.td_acts.specs.declared.rows.HolderRow.{HolderRow}
+use Rattle.td_model.specs.declared.holder_row.HolderRow.{HolderRow}
 use Rattle.td_acts.specs.declared.rows.NewStatus.{NewStatus}
 use Rattle.td_acts.specs.declared.rows.NewTerms.{NewTerms}
 use Rattle.td_acts.specs.declared.rows.Loaded.{Loaded}
@@ -19,13 +18,12 @@ use Rattle.td_acts.specs.declared.rows.Change.TheVariants as change
 use Rattle.td_acts.specs.declared.rows.Verdict.{Verdict}
 use Rattle.td_commands.specs.declared.command.Command.{Command}
 use Rattle.td_commands.specs.declared.command.Command.TheVariants.{Register, OpenGuarantee, Amend, Revoke, Ie015, Ie014, AddCode, RemoveCode, Ie029, Ie007, Ie018, Ie045, Ie140}
-use Rattle.td_acts.specs.Account.{Account, entry_in, guarantee_by_grn, movement_by_mrn, movement_by_lrn}
+use Rattle.td_model.specs.Account.{Account, entry_in, guarantee_by_grn, movement_by_mrn, movement_by_lrn}
 use Rattle.td_commands.specs.Commands.{Need, nothing, lodging, movement, release, all_movements, guarantee, all_guarantees, need_of}
-use Rattle.td_acts.specs.Effects.{year2_at, end_after, judged}
 use Rattle.td_commands.specs.Lines.{line_of}
-use Rattle.td_acts.specs.NewRows.{new_holder_row, new_guarantee, new_movement}
-use Rattle.td_acts.specs.Table.{said, said_at}
-use Rattle.td_acts.specs.Acceptance.{is_accepted_at}
+use Rattle.td_model.specs.Effects.{year2_at, end_after, judged, new_holder_row, new_guarantee, new_movement}
+use Rattle.td_model.specs.Table.{said, said_at}
+use Rattle.td_model.specs.Machine.{is_accepted_at}
 
 -- a guarantee that was loaded, and the amount in use on it where the command asks for that
 abbrev pub entry_by_grn : List ℕ → List (Guarantee × ℕ) → Option (Guarantee × ℕ)

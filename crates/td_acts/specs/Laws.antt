@@ -1,19 +1,18 @@
 -- Laws that tie the rows which the code writes to the model, where they are not mentioned.
 use Rattle.std.specs.Prelude.{◌≡◌, ℕ, ℤ, List, Option, Some, None, IfSome}
-use Rattle.td_base.specs.Country.{IsCountry}
+use Rattle.td_base.specs.Codes.{IsCountry}
 use Rattle.td_commands.specs.declared.command.Command.{Command}
 use Rattle.td_commands.specs.declared.command.Stamped.{Stamped}
-use Rattle.td_acts.specs.declared.rows.HolderRow.{HolderRow}
+use Rattle.td_model.specs.declared.holder_row.HolderRow.{HolderRow}
 use Rattle.td_acts.specs.declared.rows.Change.{Change}
 use Rattle.td_acts.specs.declared.rows.Change.TheVariants.{Nothing}
-use Rattle.td_acts.specs.Account.{Account, HolderRows, account_with, empty_account, IsAccountOf, ReferencesDiffer}
-use Rattle.td_acts.specs.Book.{Book, account_of, fresh_book}
+use Rattle.td_model.specs.Account.{Account, HolderRows, account_with, empty_account, IsAccountOf, ReferencesDiffer}
+use Rattle.td_model.specs.Book.{Book, account_of, fresh_book}
 use Rattle.td_commands.specs.Commands.{owner_of, IsProper}
-use Rattle.td_acts.specs.Acceptance.{is_accepted}
-use Rattle.td_acts.specs.Machine.{book_after, IsGrown}
+use Rattle.td_model.specs.Machine.{is_accepted, book_after, IsGrown}
 use Rattle.td_acts.specs.Changes.{is_change, row_in, rows_after, rows_or_new, account_after}
 use Rattle.td_acts.specs.Deciding.{decision_on}
-use Rattle.td_acts.specs.Sound.{AreHolderRows}
+use Rattle.td_model.specs.Sound.{AreHolderRows}
 
 -- something is written exactly where the command is an accepted change
 abbrev pub WritesWhatIsAccepted : Type 0

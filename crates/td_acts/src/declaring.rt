@@ -1,19 +1,20 @@
 //! Declarations: the LRN rule, and the tests of the lines.
 ghost use Rattle.std.specs.Prelude.{◌≡◌, Some, IfOk, map, option_map};
-ghost use Rattle.td_acts.specs.Account.{guarantee_by_grn};
+ghost use Rattle.td_model.specs.Account.{guarantee_by_grn};
 ghost use Rattle.td_base.specs.Days.{day_of_moment};
-ghost use Rattle.td_acts.specs.NewRows.{new_movement};
-ghost use Rattle.td_acts.specs.Table.{if_lrn_new};
-ghost use Rattle.td_acts.specs.Declaring.{has_contents, guarantee_refusal, first_refusal};
+ghost use Rattle.td_model.specs.Effects.{new_movement};
+ghost use Rattle.td_model.specs.Table.{if_lrn_new};
+ghost use Rattle.td_model.specs.Declaring.{has_contents, guarantee_refusal, first_refusal};
 ghost use Rattle.td_acts.specs.Deciding.{IsVerdictAt};
 
 use crate::finding::{find_entry, find_movement_by_lrn};
-use crate::rows::{Change, HolderRow, Loaded, Verdict};
+use crate::rows::{Change, Loaded, Verdict};
 use crate::serials::next_mrn;
 use std::alloc::{AllocError, Global};
 use td_base::{AccessCode, Cents, Day, HolderNo, Lrn, Moment, Mrn, OfficeNo};
 use td_commands::{Answer, Command, Lines, Refusal, Said};
 use td_guarantee::{Guarantee, ended};
+use td_model::HolderRow;
 use td_movement::{Line, Movement, MovementLines, State};
 
 /// A declaration (IE015) that a holder lodges.

@@ -2,7 +2,7 @@
 ghost use Rattle.std.specs.Prelude.{◌≡◌, map, option_map};
 ghost use Rattle.std.specs.List.{position};
 ghost use Rattle.std.specs.Str.{bytes_eq};
-ghost use Rattle.td_acts.specs.Account.{guarantee_by_grn, movement_by_mrn, movement_by_lrn};
+ghost use Rattle.td_model.specs.Account.{guarantee_by_grn, movement_by_mrn, movement_by_lrn};
 ghost use Rattle.td_acts.specs.Deciding.{entry_by_grn};
 
 use td_base::{Cents, Grn, Lrn, Mrn};

@@ -10,6 +10,7 @@ mod moving;
 mod releasing;
 mod rows;
 mod serials;
+// `verdict` isn't handed on here: a function and a type whose names differ only in case may not stand in one module.
 pub mod table;
 mod terms;
 mod views;
@@ -19,8 +20,9 @@ pub use laws::{
     fresh_book_says_its_account, keeps_rows_sound, nobody_writes, writes_what_is_accepted,
     writes_what_the_book_says,
 };
-pub use rows::{Change, HolderRow, Loaded, NewStatus, NewTerms, Verdict};
+pub use rows::{Change, Loaded, NewStatus, NewTerms, Verdict};
 pub use td_commands::{
     Answer, Command, Lines, ListedGuarantees, ListedMovement, ListedMovements, Needs, Refusal,
     Said, Stamped, Subject, known, owner,
 };
+pub use td_model::HolderRow;

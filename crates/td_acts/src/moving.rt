@@ -1,17 +1,18 @@
 //! What moves a movement from state to state.
 ghost use Rattle.std.specs.Prelude.{◌≡◌, Some, IfOk, MatchResult};
 ghost use Rattle.td_movement.specs.declared.movement.Movement.{Movement};
-ghost use Rattle.td_movement.specs.Moves.{state_after};
+ghost use Rattle.td_movement.specs.States.{state_after};
 ghost use Rattle.td_commands.specs.declared.said.Said.{Said};
 ghost use Rattle.td_commands.specs.declared.said.Said.TheVariants.{Refused};
-ghost use Rattle.td_acts.specs.Account.{movement_by_mrn};
+ghost use Rattle.td_model.specs.Account.{movement_by_mrn};
 ghost use Rattle.td_acts.specs.Deciding.{IsVerdictAt};
-ghost use Rattle.td_acts.specs.Table.{is_late, may_be_asked_after, on_movement};
+ghost use Rattle.td_model.specs.Table.{is_late, may_be_asked_after, on_movement};
 
 use crate::finding::find_movement_by_mrn;
-use crate::rows::{Change, HolderRow, Loaded, NewStatus, Verdict};
+use crate::rows::{Change, Loaded, NewStatus, Verdict};
 use td_base::{Day, HolderNo, Moment, Mrn, OfficeNo};
 use td_commands::{Answer, Command, Refusal, Said};
+use td_model::HolderRow;
 use td_movement::{Control, Ground, Move, Movement, State, may_enquire, step};
 
 /// A movement that moves, the row of its holder, and the state to which it moves.

@@ -1,7 +1,7 @@
 //! Releases for transit: the limit, and the tests of the movement's lines.
 ghost use Rattle.std.specs.Prelude.{◌≡◌, ◌-◌};
 ghost use Rattle.td_acts.specs.Deciding.{IsVerdictAt, entry_by_grn};
-ghost use Rattle.td_acts.specs.Releasing.{cover_refusal, first_uncovered, is_limit};
+ghost use Rattle.td_model.specs.Declaring.{cover_refusal, first_uncovered, is_limit};
 
 use crate::finding::find_entry;
 use crate::moving::find_moving;

@@ -1,24 +1,12 @@
-//! The rows of one holder, and the rows that a verdict writes.
+//! What a verdict is given, and the rows that it writes.
 ghost use Rattle.std.specs.Prelude.{◌≡◌, IfOk};
 
 use std::alloc::{AllocError, Global};
 use td_base::{AccessCode, Cents, Country, Cover, Day, Eori, Grn, HolderNo, Moment, Mrn, OfficeNo};
 use td_commands::{Answer, Refusal, Said};
 use td_guarantee::Guarantee;
+use td_model::HolderRow;
 use td_movement::{Movement, State};
-
-/// The row of a registered holder.
-#[derive(Clone, Copy, Debug, PartialEq, Eq)]
-pub struct HolderRow {
-    pub holder: HolderNo,
-    pub eori: Eori,
-    /// The moment of the holder's last accepted change, registration included.
-    pub last_at: Moment,
-    /// The last serial of the holder's guarantees.
-    pub grn_count: u32,
-    /// The last serial of the holder's movements.
-    pub mrn_count: u32,
-}
 
 /// What the verdict on a command needs of its owner's rows; no row of another holder.
 #[derive(Debug, Drop)]
@@ -34,7 +22,7 @@ pub struct Loaded {
 }
 
 impl Loaded {
-    ghost use Rattle.td_acts.specs.Account.{empty_account};
+    ghost use Rattle.td_model.specs.Account.{empty_account};
     ghost use Rattle.td_commands.specs.Commands.{Need};
     ghost use Rattle.td_acts.specs.Deciding.{IsLoaded};
 

@@ -6,7 +6,7 @@ use crate::declaring::{Declaration, lodge};
 use crate::finding::{take_entry, take_movement};
 use crate::moving::{arrive, cancel, enquire, judge, write_off};
 use crate::releasing::release;
-use crate::rows::{Change, HolderRow, Loaded, Verdict};
+use crate::rows::{Change, Loaded, Verdict};
 use crate::serials::next_grn;
 use crate::terms::{add_code, amend, remove_code, revoke};
 use crate::views::{
@@ -18,6 +18,7 @@ use std::mem::replace;
 use td_base::{AccessCode, Cover, Eori, HolderNo, Moment, Reference};
 use td_commands::{Answer, Command, Refusal, Said};
 use td_guarantee::{Codes, Guarantee};
+use td_model::HolderRow;
 
 /// The verdict that `decide` gives, for a caller that keeps what was loaded: all of it is copied first. `AllocError`:
 /// want of memory.
@@ -53,6 +54,8 @@ pub fn decide(
     }
 }
 
+// The verdicts on single commands are left to the compiler: with `inline(never)` on each, a view took a fourteenth more
+// instructions, since a verdict that a call returns needs a place of its own and is copied from there.
 #[inline(always)]
 fn decide_at(
     alloc: Global,

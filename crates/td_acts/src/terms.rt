@@ -4,19 +4,17 @@ ghost use Rattle.td_guarantee.specs.declared.guarantee.Guarantee.{Guarantee};
 ghost use Rattle.td_commands.specs.declared.said.Said.{Said};
 ghost use Rattle.td_commands.specs.declared.said.Said.TheVariants.{Refused};
 ghost use Rattle.td_acts.specs.Deciding.{IsVerdictAt, entry_by_grn, touched};
-ghost use Rattle.td_acts.specs.Effects.{end_after};
-ghost use Rattle.td_acts.specs.Table.{on_guarantee};
+ghost use Rattle.td_model.specs.Effects.{end_after};
+ghost use Rattle.td_model.specs.Table.{on_guarantee};
 ghost use Rattle.td_base.specs.Days.{day_of_moment};
 
 use crate::finding::find_entry;
-use crate::rows::{Change, HolderRow, Loaded, NewTerms, Verdict};
+use crate::rows::{Change, Loaded, NewTerms, Verdict};
 use std::alloc::{AllocError, Global};
 use td_base::{AccessCode, Cents, Cover, Day, Grn, HolderNo, Moment, Reference};
 use td_commands::{Answer, Command, Refusal, Said};
-use td_guarantee::Guarantee;
-
-/// The most access codes of a guarantee.
-const MAX_CODES: usize = 20;
+use td_guarantee::{Guarantee, MOST_CODES};
+use td_model::HolderRow;
 
 /// How many days after its revocation a guarantee ends.
 const DAYS_TO_END: u32 = 16;
@@ -143,7 +141,7 @@ pub fn add_code(
     if named.guarantee.codes.has(&code) {
         return Ok(Verdict::refused(Refusal::CodeKnown));
     }
-    if named.guarantee.codes.len() >= MAX_CODES {
+    if named.guarantee.codes.len() >= MOST_CODES {
         return Ok(Verdict::refused(Refusal::CodesFull));
     }
     let mut guarantee = named.guarantee.copy(alloc)?;

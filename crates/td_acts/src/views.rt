@@ -1,13 +1,14 @@
 //! Views: what they show, and nothing is written for them. They take what they show, and know not where it comes
 //! from.
 ghost use Rattle.std.specs.Prelude.{◌≡◌, IfOk, map};
-ghost use Rattle.td_acts.specs.Table.{listed, or_refuse};
+ghost use Rattle.td_model.specs.Table.{listed, or_refuse};
 
-use crate::rows::{Change, HolderRow, Verdict};
+use crate::rows::{Change, Verdict};
 use std::alloc::{AllocError, Global};
 use td_base::Cents;
 use td_commands::{Answer, ListedGuarantees, ListedMovement, ListedMovements, Refusal, Said};
 use td_guarantee::Guarantee;
+use td_model::HolderRow;
 use td_movement::Movement;
 
 /// The verdict on a view of a holder, of whom this is the row, if it is there.

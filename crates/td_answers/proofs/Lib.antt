@@ -1,3 +1,5 @@
 mod PlainText
 mod PlainObjects
 mod PlainAnswers
+pub mod Texts
+pub mod Arrays

@@ -5,12 +5,10 @@ use Rattle.std.specs.Prelude.{codes, decimal}
 use Rattle.serde_json.specs.Data.{Data, boolean, number, unsigned, string, object, member, no_members}
 use Rattle.serde_json.specs.Written.{compact_text}
 use Rattle.serde_json.proofs.OnLiterals.{serde_json_on_literals}
-use Rattle.json_text.specs.Unescaped.{is_unescaped}
-use Rattle.json_text.proofs.Texts.{written_text}
-use Rattle.td_base.specs.Codes.{IsLrn}
+use Rattle.td_answers.specs.Unescaped.{is_unescaped}
+use Rattle.td_answers.proofs.Texts.{written_text}
+use Rattle.td_base.specs.Codes.{IsLrn, IsEori, holder_text}
 use Rattle.td_base.specs.Days.{day_text}
-use Rattle.td_base.specs.Eori.{IsEori}
-use Rattle.td_base.specs.Holder.{holder_text}
 use Rattle.td_base.specs.References.{IsGrn, IsMrn}
 use Rattle.td_movement.specs.States.{state_name}
 use Rattle.td_movement.specs.declared.state.State.{State}

@@ -7,14 +7,13 @@ use Rattle.std.specs.Prelude.{codes, decimal}
 use Rattle.serde_json.specs.Data.{Data, number, unsigned, string, object, member, no_members}
 use Rattle.serde_json.specs.Written.{compact_text}
 use Rattle.serde_json.proofs.OnLiterals.{serde_json_on_literals}
-use Rattle.json_text.specs.Shown.{array_of}
-use Rattle.json_text.specs.Unescaped.{in_quotes}
-use Rattle.json_text.proofs.Arrays.{written_array}
-use Rattle.json_text.proofs.Texts.{written_class, written_text}
+use Rattle.td_answers.specs.Objects.{array_of, free_on, text_data, day_data, line_data, lines_data, codes_data, movement_data, guarantee_data, listed_movement_data, listed_guarantee_data, movements_data, guarantees_data, text_body, day_body, line_body, movement_body, guarantee_body, listed_movement_body, listed_guarantee_body, movements_body, guarantees_body, IsMovementTold, IsGuaranteeTold}
+use Rattle.td_answers.specs.Unescaped.{in_quotes}
+use Rattle.td_answers.proofs.Arrays.{written_array}
+use Rattle.td_answers.proofs.Texts.{written_class, written_text}
 use Rattle.td_base.specs.Codes.{IsAccessCode, IsLrn, IsOfficeNo}
 use Rattle.td_base.specs.Days.{day_text, year_of, month_of, day_of}
-use Rattle.td_base.specs.Digits.{fixed_decimal}
-use Rattle.td_base.specs.Letters.{IsMark}
+use Rattle.td_base.specs.Digits.{fixed_decimal, IsMark}
 use Rattle.td_base.specs.References.{IsGrn, IsMrn}
 use Rattle.td_commands.specs.declared.lists.ListedMovement.{ListedMovement}
 use Rattle.td_guarantee.specs.declared.guarantee.Guarantee.{Guarantee}
@@ -24,8 +23,6 @@ use Rattle.td_movement.specs.declared.movement.Movement.{Movement}
 use Rattle.td_movement.specs.declared.state.State.{State}
 use Rattle.td_movement.specs.declared.state.State.TheVariants.{Accepted, Cancelled, Released, Enquired, Arrived, Discrepant, Cleared, WrittenOff}
 use Rattle.td_base.specs.Money.{share_of}
-use Rattle.td_answers.specs.Objects.{free_on, text_data, day_data, line_data, lines_data, codes_data, movement_data, guarantee_data, listed_movement_data, listed_guarantee_data, movements_data, guarantees_data}
-use Rattle.td_answers.specs.Objects.{text_body, day_body, line_body, movement_body, guarantee_body, listed_movement_body, listed_guarantee_body, movements_body, guarantees_body, IsMovementTold, IsGuaranteeTold}
 use Rattle.td_answers.proofs.PlainText.{digit_unescaped, mark_unescaped, written_lrn, written_reference}
 
 -- ---- texts

@@ -5,12 +5,10 @@ use Rattle.std.proofs.lemmas.List.Elements.{All-append, All-same, All-weaker}
 use Rattle.std.specs.Char.{IsAsciiDigit, IsAsciiUppercase}
 use Rattle.serde_json.specs.Data.{string}
 use Rattle.serde_json.specs.Written.{compact_text}
-use Rattle.json_text.specs.Unescaped.{in_quotes, is_unescaped}
-use Rattle.json_text.proofs.Texts.{between, beyond, written_class, written_text}
-use Rattle.td_base.specs.Codes.{IsLrn, IsLrnCharacter}
-use Rattle.td_base.specs.Eori.{IsEori}
-use Rattle.td_base.specs.Holder.{holder_text}
-use Rattle.td_base.specs.Letters.{IsMark}
+use Rattle.td_answers.specs.Unescaped.{in_quotes, is_unescaped}
+use Rattle.td_answers.proofs.Texts.{between, beyond, written_class, written_text}
+use Rattle.td_base.specs.Codes.{IsLrn, IsLrnCharacter, IsEori, holder_text}
+use Rattle.td_base.specs.Digits.{IsMark}
 use Rattle.td_base.specs.References.{front_of, IsReferenceText}
 use Rattle.td_base.proofs.Checked.{front_marks}
 

@@ -4,7 +4,7 @@ use Rattle.std.specs.Prelude.{ℕ, Bool, true, List, ◌++◌, codes, decimal, N
 use Rattle.serde_json.specs.Data.{Data, boolean, number, unsigned, string, object, member, no_members}
 use Rattle.serde_json.specs.Written.{compact_text}
 use Rattle.td_base.specs.Days.{day_text}
-use Rattle.td_base.specs.Holder.{holder_text}
+use Rattle.td_base.specs.Codes.{holder_text}
 use Rattle.td_movement.specs.States.{state_name}
 use Rattle.td_movement.specs.declared.state.State.TheVariants.{Cancelled, Released, Enquired, WrittenOff}
 use Rattle.td_commands.specs.declared.said.Answer.{Answer}
@@ -14,7 +14,7 @@ use Rattle.td_commands.specs.declared.said.Said.TheVariants.{Answered, Refused}
 use Rattle.td_fields.specs.Faults.{fault_allow, fault_name, field_name, reason_text}
 use Rattle.td_answers.specs.Objects.{guarantee_body, guarantee_data, guarantees_body, guarantees_data, movement_body, movement_data, movements_body, movements_data, truth_body}
 use Rattle.td_answers.specs.Refusals.{error_data, refusal_data, refusal_status}
-use Rattle.td_wire.specs.ReplyText.{reply_text}
+use Rattle.http_wire.specs.ReplyText.{reply_text}
 use Rattle.td_base.specs.declared.references.RefFault.TheVariants.{Length, Form, CheckDigit}
 use Rattle.td_fields.specs.declared.fault.Field.TheVariants as field
 use Rattle.td_fields.specs.declared.fault.WebFault.{WebFault}

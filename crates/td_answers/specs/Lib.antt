@@ -1,3 +1,4 @@
+pub mod Unescaped
 pub mod Objects
 pub mod Refusals
 pub mod Answers

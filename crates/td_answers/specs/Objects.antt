@@ -1,9 +1,10 @@
+-- What JSON shows of values that there may be, and of values in a row.
 -- The JSON objects that show movements and guarantees, one and many, and their texts.
 -- Keys stand in ascending order of bytes.
-use Rattle.std.specs.Prelude.{◌≡◌, ℕ, ◌-◌, Bool, true, false, List, ◌++◌, map, codes, decimal, Option, None, Some}
-use Rattle.json_text.specs.Shown.{array_of, or_null}
-use Rattle.json_text.specs.Unescaped.{in_brackets, in_quotes}
-use Rattle.serde_json.specs.Data.{Data, number, unsigned, string, object, member, no_members}
+use Rattle.std.specs.Prelude.{List, map, Option, None, Some, ◌≡◌, ℕ, ◌-◌, Bool, true, false, ◌++◌, codes, decimal}
+use Rattle.serde_json.specs.Data.{Data, null, array, number, unsigned, string, object, member, no_members}
+use Rattle.serde_json.specs.View.{items_of}
+use Rattle.td_answers.specs.Unescaped.{in_brackets, in_quotes}
 use Rattle.serde_json.specs.Written.{compact_text}
 use Rattle.td_base.specs.Days.{day_text}
 use Rattle.td_base.specs.Money.{share_of}
@@ -12,6 +13,15 @@ use Rattle.td_guarantee.specs.declared.guarantee.Guarantee.{Guarantee}
 use Rattle.td_movement.specs.States.{state_name}
 use Rattle.td_movement.specs.declared.line.Line.{Line}
 use Rattle.td_movement.specs.declared.movement.Movement.{Movement}
+
+-- a value that there may be
+abbrev pub or_null : {X : Type 0} → (X → Data) → Option X → Data
+or_null shows None = null
+or_null shows (Some x) = shows x
+
+-- values in their order
+abbrev pub array_of : {X : Type 0} → (X → Data) → List X → Data
+array_of shows xs = array (items_of (map shows xs))
 
 -- what is left of a guarantee's reference amount beside what is in use
 abbrev pub free_on : Guarantee → ℕ → ℕ

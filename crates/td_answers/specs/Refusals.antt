@@ -3,7 +3,7 @@
 use Rattle.std.specs.Prelude.{ℕ, List, ◌++◌, codes, decimal}
 use Rattle.serde_json.specs.Data.{Data, number, unsigned, string, object, member, no_members}
 use Rattle.td_movement.specs.States.{state_name}
-use Rattle.td_commands.specs.Names.{refusal_name}
+use Rattle.td_commands.specs.Commands.{refusal_name}
 use Rattle.td_commands.specs.declared.said.Refusal.{Refusal}
 use Rattle.td_commands.specs.declared.said.Refusal.TheVariants.{ClockRange, NoHolder, HolderKnown, ClockBack, NoMovement, NoGuarantee, BadCode, GuaranteeEnded, LrnUsed, SerialsSpent, WrongState, OverReference, BelowUse, LimitDate, TooEarly, CodeKnown, NoCode, LastCode, CodesFull, AlreadyEnded}
 

@@ -5,27 +5,27 @@ ghost use Rattle.std.specs.Fmt.{WritesOnOk};
 ghost use Rattle.std.specs.Prelude.{◌≡◌, IfOk, IsTrue, string_bytes};
 ghost use Rattle.std.specs.List.{list_all};
 ghost use Rattle.serde_json.specs.Written.{compact_text};
-ghost use Rattle.json_text.specs.Unescaped.{is_unescaped};
+ghost use Rattle.td_answers.specs.Unescaped.{is_unescaped};
 ghost use Rattle.td_base.specs.Days.{day_text};
-ghost use Rattle.td_base.specs.Holder.{holder_text};
+ghost use Rattle.td_base.specs.Codes.{holder_text};
 ghost use Rattle.td_movement.specs.States.{state_name};
 ghost use Rattle.td_commands.specs.declared.said.Said.TheVariants.{Answered};
 ghost use Rattle.td_answers.specs.Answers.{answer_body, answer_data, fault_body, fault_data, fault_reply, fault_status, fault_text, holder_data, release_data, said_body, said_data, said_reply, said_status, state_data, stops_after};
 ghost use Rattle.td_fields.specs.declared.fault.WebFault.TheVariants.{NoMemory};
-ghost use Rattle.td_wire.specs.ReplyText.{no_memory_reply};
+ghost use Rattle.http_wire.specs.ReplyText.{no_memory_reply};
 
 use crate::json::{Json, ToJson};
 use crate::lists::{guarantees_are_told_in, movements_are_told_in};
 use crate::objects::{guarantee_is_told_in, is_grn, is_mrn, movement_is_told_in, write_guarantee};
 use crate::refusals::refusal_status_of;
 use http::StatusCode;
+use http_wire::json_reply;
 use std::alloc::{AllocError, Global};
 use std::fmt;
 use td_base::{Day, Eori, HolderNo, Mrn};
 use td_commands::{Answer, Said};
 use td_fields::{WebFault, reason_name};
 use td_movement::State;
-use td_wire::json_reply;
 
 impl ToJson for Answer {
     ghost shown = { answer_data };

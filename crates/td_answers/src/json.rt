@@ -3,16 +3,17 @@ ghost use Rattle.std.specs.Fmt.{WritesOnOk};
 ghost use Rattle.std.specs.Prelude.{Some};
 ghost use Rattle.serde_json.specs.Data.{Data, boolean, number, string, unsigned};
 ghost use Rattle.serde_json.specs.Written.{compact_text};
-ghost use Rattle.json_text.specs.Shown.{array_of, or_null};
+ghost use Rattle.td_answers.specs.Objects.{array_of, or_null};
 ghost use Rattle.td_base.specs.Days.{day_text};
-ghost use Rattle.td_base.specs.Holder.{holder_text};
+ghost use Rattle.td_base.specs.Codes.{holder_text};
 ghost use Rattle.td_movement.specs.States.{state_name};
 
 use std::fmt;
 use td_base::{AccessCode, Cents, Cover, Day, Eori, Grn, HolderNo, Lrn, Mrn, OfficeNo};
 use td_movement::State;
 
-/// What JSON shows of a value, and its text.
+/// What JSON shows of a value, and its text. It stands in this crate, since another crate's trait can't be implemented here for the
+/// types of td_base.
 pub(crate) trait ToJson {
     ghost shown: { Self → Data };
 

@@ -4,7 +4,7 @@ use Rattle.std.specs.Char.{IsAsciiDigit}
 use Rattle.std.specs.Str.{IsAscii}
 use Rattle.std.proofs.lemmas.List.{take-append-drop}
 use Rattle.std.proofs.lemmas.List.Elements.{All-append, All-same, All-weaker}
-use Rattle.ascii_text.specs.Letters.{IsMark}
+use Rattle.ascii_text.specs.Digits.{IsMark}
 use Rattle.ascii_text.proofs.Ascii.{IsAscii-from, mark_small}
 use Rattle.td_base.specs.References.{HasForm, front_of}
 use Rattle.td_base.proofs.Checked.{front_marks}

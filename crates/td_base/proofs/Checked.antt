@@ -8,9 +8,8 @@ use Rattle.std.proofs.lemmas.List.{length-take-le, length-drop, get_or-drop, dro
 use Rattle.std.proofs.lemmas.List.Elements.{All-append, All-same, All-weaker}
 use Rattle.std.proofs.lemmas.Option.{slice_get-get_or, get_or_from_slice_get}
 use Rattle.std.proofs.Math.Seq.{take-add}
-use Rattle.ascii_text.specs.Letters.{IsMark}
-use Rattle.td_base.specs.CheckDigit.{check_of, weighted_sum, IsCheckable}
-use Rattle.td_base.specs.References.{front_of, country_of, identifier_of, HasForm, HasCheckDigit}
+use Rattle.ascii_text.specs.Digits.{IsMark}
+use Rattle.td_base.specs.References.{check_of, weighted_sum, IsCheckable, front_of, country_of, identifier_of, HasForm, HasCheckDigit}
 
 -- a check digit is one digit
 small_rest : (rest : ℕ) → rest < 11 → (if rest == 10 then 0 else rest) ≤ 9

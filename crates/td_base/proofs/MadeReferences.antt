@@ -3,13 +3,10 @@ use Rattle.std.proofs.Common.{◌≡◌, ℕ, ◌+◌, ◌^◌, ◌<◌, ◌≤�
 use Rattle.std.specs.Char.{IsAsciiDigit}
 use Rattle.std.proofs.lemmas.List.{take_at, drop_at, length-append}
 use Rattle.std.proofs.lemmas.List.Elements.{All-nil, All-cons, All-append, All-weaker}
-use Rattle.ascii_text.specs.Digits.{fixed_decimal}
-use Rattle.ascii_text.specs.Letters.{IsMark}
+use Rattle.ascii_text.specs.Digits.{fixed_decimal, IsMark}
 use Rattle.ascii_text.proofs.Decimals.{length-fixed_decimal, fixed_decimal_digits, digits_value-fixed_decimal}
-use Rattle.td_base.specs.Country.{IsCountry}
-use Rattle.td_base.specs.CheckDigit.{check_of, IsCheckable}
-use Rattle.td_base.specs.Holder.{IsHolderNumber}
-use Rattle.td_base.specs.References.{holder_part, serial_part, is_owned, owner_of, serial_of, reference_text, IsReferenceText}
+use Rattle.td_base.specs.Codes.{IsCountry, IsHolderNumber}
+use Rattle.td_base.specs.References.{check_of, IsCheckable, holder_part, serial_part, is_owned, owner_of, serial_of, reference_text, IsReferenceText}
 use Rattle.td_base.proofs.Checked.{check_small, front_checkable}
 use Rattle.td_base.proofs.Owners.{owned_from, owner_is, serial_is}
 use Rattle.td_base.proofs.ReferenceParts.{IsMadeOf, made_of}

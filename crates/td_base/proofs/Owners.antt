@@ -8,7 +8,7 @@ use Rattle.std.proofs.lemmas.List.{length-take-le, length-drop, drop-drop}
 use Rattle.std.proofs.lemmas.List.Elements.{All-nil, All-cons, All-head, All-tail, All-take}
 use Rattle.std.proofs.lemmas.Slice.{between_is}
 use Rattle.std.proofs.lemmas.Slice.Eq.{bytes_eq-Decides}
-use Rattle.td_base.specs.Holder.{IsHolderText}
+use Rattle.td_base.specs.Codes.{IsHolderText}
 use Rattle.td_base.specs.References.{country_of, identifier_of, holder_part, serial_part, is_owned, owner_of, serial_of}
 
 -- the test of digits, as a fact

@@ -1,7 +1,7 @@
 -- What is read is printed as it was.
 use Rattle.std.proofs.Common.{◌≡◌, ℕ, ◌/◌, List, refl, ap, arith, sym, ◌∙◌}
 use Rattle.ascii_text.specs.Digits.{digits_value, fixed_decimal}
-use Rattle.td_base.specs.Holder.{IsHolderText, holder_text}
+use Rattle.td_base.specs.Codes.{IsHolderText, holder_text}
 use Rattle.ascii_text.proofs.DigitsAgain.{digits_again}
 
 -- a holder's text in six digits

@@ -3,7 +3,7 @@ use Rattle.std.proofs.Common.{◌≡◌, ℕ, ◌+◌, ◌*◌, ◌^◌, ◌<◌
 use Rattle.std.proofs.lemmas.List.{take_more, length-take-le}
 use Rattle.std.proofs.Math.Nat.{pow-le-pow_right}
 use Rattle.std.proofs.lemmas.Nat.{mul-le}
-use Rattle.td_base.specs.CheckDigit.{value_of, weighted_sum}
+use Rattle.td_base.specs.References.{value_of, weighted_sum}
 
 -- one more character at the end
 weighted_push : (place : ℕ) (text : List ℕ) (c : ℕ) → weighted_sum place (text ++ c ∷ []) ≡ weighted_sum place text + value_of c * 2 ^ (place + length text)

@@ -5,8 +5,8 @@ use Rattle.std.proofs.lemmas.Slice.{take-put_mid}
 use borrow.Rule.Slice.PartMut.{put_mid}
 use Rattle.ascii_text.specs.Digits.{fixed_decimal}
 use Rattle.ascii_text.proofs.Decimals.{length-fixed_decimal}
-use Rattle.td_base.specs.Country.{IsCountry}
-use Rattle.td_base.specs.CheckDigit.{check_of, IsCheckable}
+use Rattle.td_base.specs.Codes.{IsCountry}
+use Rattle.td_base.specs.References.{check_of, IsCheckable}
 use Rattle.td_base.proofs.Checked.{some_of}
 use Rattle.td_base.proofs.MadeReferences.{numbers, length-numbers, made_checkable}
 use Rattle.std.specs.Option.{SomeIff}

@@ -1,16 +1,40 @@
+-- The check digit of ISO 6346, over digits and capital letters.
 -- References: the MRN of a movement and the GRN of a guarantee (NCTS).
-use Rattle.std.specs.Prelude.{◌≡◌, ◌≢◌, ℕ, ◌+◌, ◌-◌, ◌≤◌, ◌&&◌, not, Bool, nat_eq, nat_lt, if◌then◌else◌, List, [], ◌∷◌, ◌++◌, length, take, drop, slice_range, slice_get, Option, Some, None, Result, Ok, Err, All, codes}
+use Rattle.std.specs.Prelude.{ℕ, ◌+◌, ◌-◌, ◌*◌, ◌%◌, ◌^◌, ◌≤◌, ◌==◌, nat_lt, if◌then◌else◌, List, [], ◌∷◌, length, slice_index, All, ◌≡◌, ◌≢◌, ◌&&◌, not, Bool, nat_eq, ◌++◌, take, drop, slice_range, slice_get, Option, Some, None, Result, Ok, Err, codes}
+use Rattle.ascii_text.specs.Digits.{IsMark, is_mark, digits_value, fixed_decimal}
 use Rattle.std.specs.Char.{IsAsciiDigit, IsAsciiUppercase, is_ascii_digit, is_ascii_uppercase}
 use Rattle.std.specs.List.{list_all}
 use Rattle.std.specs.Option.{option_eq}
 use Rattle.std.specs.Str.{bytes_eq, all_ascii_digits}
-use Rattle.ascii_text.specs.Digits.{digits_value, fixed_decimal}
-use Rattle.ascii_text.specs.Letters.{IsMark, is_mark}
-use Rattle.td_base.specs.CheckDigit.{check_of}
-use Rattle.td_base.specs.Country.{IsCountry}
-use Rattle.td_base.specs.Holder.{IsHolderNumber}
+use Rattle.td_base.specs.Codes.{IsCountry, IsHolderNumber}
 use Rattle.td_base.specs.declared.references.RefFault.{RefFault}
 use Rattle.td_base.specs.declared.references.RefFault.TheVariants.{Length, Form, CheckDigit}
+
+-- The values of the letters from A to Z (ISO 6346): from 10 on, and 11, 22 and 33 are left out,
+-- since a multiple of 11 would add nothing to a sum modulo 11.
+abbrev pub letter_values : List ℕ
+letter_values =
+    10 ∷ 12 ∷ 13 ∷ 14 ∷ 15 ∷ 16 ∷ 17 ∷ 18 ∷ 19 ∷ 20 ∷ 21 ∷ 23 ∷ 24 ∷ 25 ∷ 26 ∷ 27 ∷ 28 ∷ 29 ∷ 30 ∷ 31 ∷ 32 ∷ 34
+    ∷ 35 ∷ 36 ∷ 37 ∷ 38 ∷ []
+
+-- the value of a character: a digit's own, or its letter's
+abbrev pub value_of : ℕ → ℕ
+value_of c = if nat_lt c 65 then c - 48 else slice_index letter_values (c - 65)
+
+-- the sum of each value times 2 to its place, counted from the left
+abbrev pub weighted_sum : ℕ → List ℕ → ℕ
+weighted_sum place [] = 0
+weighted_sum place (c ∷ text) = value_of c * 2 ^ place + weighted_sum (place + 1) text
+
+-- that sum modulo 11, where 10 is written 0
+abbrev pub check_of : List ℕ → ℕ
+check_of text = let rest = weighted_sum 0 text % 11 in if rest == 10 then 0 else rest
+
+-- A text that has a check digit: digits and capital letters. The limit of 40 is the desk's own,
+-- and keeps the sum within 64 bits.
+pub record IsCheckable (text : List ℕ) : Type 0 where
+  pub size : length text ≤ 40
+  pub marks : All IsMark text
 
 -- all but the check digit
 abbrev pub front_of : List ℕ → List ℕ
@@ -141,13 +165,21 @@ abbrev pub mrn_text : ℕ → List ℕ → ℕ → ℕ → List ℕ
 mrn_text year country holder serial =
     reference_text year country (fixed_decimal 6 holder ++ fixed_decimal 7 serial)
 
--- the serials of guarantees: a GRN has six digits for them
-abbrev pub IsGrnSerial : ℕ → Type 0
-IsGrnSerial serial = (1 ≤ serial) × (serial ≤ 999999)
+-- the greatest serial of a guarantee: a GRN has six digits for it
+abbrev pub greatest_grn_serial : ℕ
+greatest_grn_serial = 999999
 
--- the serials of movements: an MRN has seven digits for them
+-- the greatest serial of a movement: an MRN has seven digits for it
+abbrev pub greatest_mrn_serial : ℕ
+greatest_mrn_serial = 9999999
+
+-- the serials of guarantees
+abbrev pub IsGrnSerial : ℕ → Type 0
+IsGrnSerial serial = (1 ≤ serial) × (serial ≤ greatest_grn_serial)
+
+-- the serials of movements
 abbrev pub IsMrnSerial : ℕ → Type 0
-IsMrnSerial serial = (1 ≤ serial) × (serial ≤ 9999999)
+IsMrnSerial serial = (1 ≤ serial) × (serial ≤ greatest_mrn_serial)
 
 -- references that are made for different holders, or of different serials, differ
 abbrev pub TellsApart : (ℕ → List ℕ → ℕ → ℕ → List ℕ) → (ℕ → Type 0) → Type 0

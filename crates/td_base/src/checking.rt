@@ -1,8 +1,8 @@
 //! Check digits.
 ghost use Rattle.std.specs.Prelude.{◌≡◌, ◌≤◌, ◌%◌, ◌==◌, not, filter, SomeIff, IfSome};
 ghost use Rattle.std.specs.List.{range_with_len};
-ghost use Rattle.ascii_text.specs.Letters.{IsMark};
-ghost use Rattle.td_base.specs.CheckDigit.{letter_values, value_of, check_of, IsCheckable};
+ghost use Rattle.ascii_text.specs.Digits.{IsMark};
+ghost use Rattle.td_base.specs.References.{letter_values, value_of, check_of, IsCheckable};
 
 /// The check digit of a text by ISO 6346: the sum of each character's value times 2 to its place from the left,
 /// modulo 11, with 10 written 0. `None` for another character than a digit or a capital letter, and for more

@@ -1,6 +1,6 @@
 //! Codes of countries.
 ghost use Rattle.std.specs.Prelude.{◌≡◌, ℕ, List, Some, SomeIff};
-ghost use Rattle.td_base.specs.Country.{IsCountry, country_read};
+ghost use Rattle.td_base.specs.Codes.{IsCountry, country_read};
 
 use std::fmt;
 use std::marker::Model;

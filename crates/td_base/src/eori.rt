@@ -1,6 +1,6 @@
 //! Numbers of economic operators.
 ghost use Rattle.std.specs.Prelude.{◌≡◌, ◌↔◌, IsTrue, Some, SomeIff};
-ghost use Rattle.td_base.specs.Eori.{IsEori, is_eori, eori_read};
+ghost use Rattle.td_base.specs.Codes.{IsEori, is_eori, eori_read};
 
 use ascii_text::{is_capitals, is_marks, write_ascii};
 use std::fmt;
@@ -15,7 +15,7 @@ pub struct Eori {
 
 impl Model for Eori {
     ghost use Rattle.std.specs.Prelude.{List, ℕ, take, length, replicate, ◌++◌, ◌-◌};
-    ghost use Rattle.td_base.specs.Eori.{IsEori};
+    ghost use Rattle.td_base.specs.Codes.{IsEori};
     ghost use Rattle.td_base.specs.Kept.{IsKept, kept_back};
 
     ghost Value = { List ℕ };

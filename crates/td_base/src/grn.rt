@@ -10,7 +10,7 @@ use std::fmt;
 use std::marker::Model;
 
 /// The greatest serial of a holder's guarantees: it has six digits in the reference.
-const MAX_SERIAL: u32 = 999_999;
+pub const GREATEST_GRN_SERIAL: u32 = 999_999;
 
 /// A guarantee reference number (GRN) of NCTS: two digits of a year, two capital letters of a country, 12
 /// digits or capital letters and a check digit. Contracts see it as its text.
@@ -49,7 +49,7 @@ impl Grn {
     pub fn make(year2: u8, country: Country, holder: HolderNo, serial: u32) -> Option<Self>
         ensures { SomeIff result ((year2 ≤ 99) × IsGrnSerial serial) (grn_text year2 country holder serial) }
     {
-        let bytes = make_reference(year2, country, holder, serial, MAX_SERIAL)?;
+        let bytes = make_reference(year2, country, holder, serial, GREATEST_GRN_SERIAL)?;
         Some(Grn { bytes })
     }
 

@@ -1,7 +1,7 @@
 //! Numbers of holders.
 ghost use Rattle.std.specs.Prelude.{◌≡◌, ℕ, Some, SomeIff};
 ghost use Rattle.ascii_text.specs.Digits.{digits_value};
-ghost use Rattle.td_base.specs.Holder.{IsHolderNumber, IsHolderText, holder_of, holder_read, holder_text};
+ghost use Rattle.td_base.specs.Codes.{IsHolderNumber, IsHolderText, holder_of, holder_read, holder_text};
 
 use ascii_text::{last_digit, read_digits, write_ascii};
 use std::fmt;

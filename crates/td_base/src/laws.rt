@@ -1,12 +1,9 @@
 //! What holds of all texts that are printed.
 ghost use Rattle.ascii_text.specs.Digits.{digits_value};
-ghost use Rattle.td_base.specs.Codes.{IsAccessCode, IsLrn, IsOfficeNo};
-ghost use Rattle.td_base.specs.Country.{IsCountry};
+ghost use Rattle.td_base.specs.Codes.{IsAccessCode, IsLrn, IsOfficeNo, IsCountry, IsHolderText, holder_text, IsEori};
 ghost use Rattle.std.specs.Prelude.{◌≡◌};
 ghost use Rattle.td_time.specs.Days.{IsDayText, day_text, number_in};
-ghost use Rattle.td_base.specs.Holder.{IsHolderText, holder_text};
 ghost use Rattle.td_money.specs.Money.{IsCentsText, cents_text, cents_value};
-ghost use Rattle.td_base.specs.Eori.{IsEori};
 ghost use Rattle.td_base.specs.References.{IsGrn, IsMrn};
 
 use crate::access_code::AccessCode;

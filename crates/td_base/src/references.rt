@@ -1,9 +1,9 @@
-//! References: what prints, owns and numbers them. The texts of MRN and GRN differ in their length alone.
+//! References: what prints, owns and numbers them. The texts of MRN and GRN differ in their length alone: `Grn` and
+//! `Mrn` add that, and their greatest serial.
 ghost use Rattle.std.specs.Prelude.{◌≡◌, ◌+◌, ◌-◌, ◌≤◌, ◌++◌, length, IsTrue, ◌↔◌, Some, SomeIff, IfSome, OkIff, IfErr};
 ghost use Rattle.ascii_text.specs.Digits.{fixed_decimal};
-ghost use Rattle.td_base.specs.Country.{IsCountry};
-ghost use Rattle.td_base.specs.References.{fault_text, IsReferenceText, IsFirstFault, HasForm, has_form, reference_read, owner_of as owner_in, serial_of as serial_in};
-ghost use Rattle.td_base.specs.References.{reference_text, grn_text, mrn_text, IsGrnSerial, IsMrnSerial, TellsApart};
+ghost use Rattle.td_base.specs.Codes.{IsCountry};
+ghost use Rattle.td_base.specs.References.{fault_text, IsReferenceText, IsFirstFault, HasForm, has_form, reference_read, owner_of as owner_in, serial_of as serial_in, reference_text, grn_text, mrn_text, IsGrnSerial, IsMrnSerial, TellsApart};
 
 use crate::checking::check_digit;
 use crate::country::Country;

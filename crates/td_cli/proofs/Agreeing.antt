@@ -1,14 +1,14 @@
 -- What two jobs tell one holder alike.
 use Rattle.std.proofs.Common.{◌≡◌, ℕ, List, ◌∙◌, ap, subst, sym}
-use Rattle.td_acts.specs.Book.{fresh_book}
+use Rattle.td_model.specs.Book.{fresh_book}
 use Rattle.td_desk.specs.Content.{Content, account_in, empty_content}
-use Rattle.td_wire.specs.Stream.{Exchange}
+use Rattle.http_wire.specs.Stream.{Exchange}
 use Rattle.td_http.specs.Laws.{TellAlike}
 use Rattle.td_http.specs.Serving.{IsServed}
 use Rattle.td_http.proofs.Alike.{tell_alike}
-use Rattle.td_connections.specs.Laws.{TellAlikeOver}
-use Rattle.td_connections.specs.Private.{IsServedOver}
-use Rattle.td_connections.proofs.Alike.{tell_alike_over}
+use Rattle.td_http.specs.ConnectionLaws.{TellAlikeOver}
+use Rattle.td_http.specs.Private.{IsServedOver}
+use Rattle.td_http.proofs.ConnectionsAlike.{tell_alike_over}
 use Rattle.td_cli.specs.Desks.{BeginAlike, fresh_books}
 
 -- two streams from contents of one country that have the same of H

@@ -5,10 +5,9 @@ use Rattle.td_desk.specs.Content.{Content}
 use Rattle.td_files.specs.Found.{FileState}
 use Rattle.td_desk.specs.Runs.{IsTied}
 use Rattle.td_desk.proofs.Fresh.{account_fresh}
-use Rattle.td_wire.specs.declared.reply.Reply.{Reply}
-use Rattle.td_wire.specs.Request.{Asked}
-use Rattle.td_http.specs.Served.{desk_of, IsHeadHandledBy}
-use Rattle.td_http.specs.Serving.{IsHandled}
+use Rattle.http_wire.specs.declared.reply.Reply.{Reply}
+use Rattle.http_wire.specs.Request.{Asked}
+use Rattle.td_http.specs.Serving.{desk_of, IsHeadHandledBy, IsHandled}
 use Rattle.td_http.specs.declared.service.Service.{Service}
 use Rattle.td_cli.specs.Desks.{Sight, over_file, BeginsKept, BeginsMade, IsHandledAt, IsHeadHandledAt, IsReady, fresh_books}
 

@@ -1,10 +1,10 @@
 -- Streams at desks.
 use Rattle.std.proofs.Common.{◌≡◌, ℕ, ℤ, List, Option, refl, subst, sym}
 use Rattle.counted_io.specs.declared.counted.Counted.{Counted}
-use Rattle.td_wire.specs.declared.stream.StreamEnd.{StreamEnd}
-use Rattle.td_wire.specs.Stream.{Serves}
+use Rattle.http_wire.specs.declared.stream.StreamEnd.{StreamEnd}
+use Rattle.http_wire.specs.Stream.{Serves}
 use Rattle.td_http.specs.declared.service.Service.{Service}
-use Rattle.td_http.specs.Served.{desk_of, IsHandledBy, IsHeadHandledBy, IsPrivate}
+use Rattle.td_http.specs.Serving.{desk_of, IsHandledBy, IsHeadHandledBy, IsPrivate}
 use Rattle.td_http.proofs.Streamed.{stream_clean}
 use Rattle.td_cli.specs.Desks.{Sight, IsReady, IsHandledAt, IsHeadHandledAt, fresh_books}
 use Rattle.td_cli.specs.Piped.{IsPiped}

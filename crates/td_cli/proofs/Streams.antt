@@ -1,11 +1,11 @@
 -- What is said of a stream at a clock and a handler, said of what is seen of these two.
 use Rattle.std.proofs.Common.{ℕ, ◌+◌, ℤ, List, [], ◌∷◌, Option, ap, sym, subst, inl, inr}
 use Rattle.counted_io.specs.declared.counted.Counted.{Counted}
-use Rattle.td_wire.specs.declared.reply.Reply.{Reply}
-use Rattle.td_wire.specs.declared.stream.StreamEnd.{StreamEnd}
-use Rattle.td_wire.specs.declared.stream.StreamEnd.TheVariants.{Closed, Asked, Served, Refused, Cut, ReadsSpent, ReadFault, WriteFault, Failed}
-use Rattle.td_wire.specs.Request as request
-use Rattle.td_wire.specs.Stream.{Exchange, Chain, Run, EndsAs, Serves, Sides, IsParting, Parting, silence, refusal, to_head, no_memory, MetEnd, LeftOpen, AskedAtReply, FailedAtReply, CutAtReply}
+use Rattle.http_wire.specs.declared.reply.Reply.{Reply}
+use Rattle.http_wire.specs.declared.stream.StreamEnd.{StreamEnd}
+use Rattle.http_wire.specs.declared.stream.StreamEnd.TheVariants.{Closed, Asked, Served, Refused, Cut, ReadsSpent, ReadFault, WriteFault, Failed}
+use Rattle.http_wire.specs.Request as request
+use Rattle.http_wire.specs.Stream.{Exchange, Chain, Run, EndsAs, Serves, Sides, IsParting, Parting, silence, refusal, to_head, no_memory, MetEnd, LeftOpen, AskedAtReply, FailedAtReply, CutAtReply}
 use Rattle.td_cli.proofs.Clocks.{Shows}
 
 module _ {C C' H H' : Type 0} (ticks : C → ℤ → C → Type 0) (moments : C' → ℤ → C' → Type 0) (look : C → C')

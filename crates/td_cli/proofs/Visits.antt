@@ -8,14 +8,13 @@ use Rattle.std.specs.declared.io.Error.{Error}
 use Rattle.std.specs.declared.net.tcp.TcpStream.{TcpStream}
 use Rattle.counted_io.specs.declared.counted.Counted.{Counted}
 use Rattle.counted_io.specs.Counted.{known_bytes}
-use Rattle.td_wire.specs.declared.reply.Reply.{Reply}
-use Rattle.td_wire.specs.Request.{Asked}
+use Rattle.http_wire.specs.declared.reply.Reply.{Reply}
+use Rattle.http_wire.specs.Request.{Asked}
 use Rattle.td_http.specs.declared.service.Service.{Service}
-use Rattle.td_http.specs.Served.{desk_of, IsHandledBy, IsHeadHandledBy}
-use Rattle.td_connections.specs.Private.{IsPrivateOver}
-use Rattle.td_connections.specs.Sockets.{ServesSockets}
-use Rattle.td_connections.specs.Visits.{Between, Visit, Visited, IsRefused}
-use Rattle.td_connections.proofs.Private.{visits_clean}
+use Rattle.td_http.specs.Serving.{desk_of, IsHandledBy, IsHeadHandledBy}
+use Rattle.td_http.specs.Private.{IsPrivateOver}
+use Rattle.td_http.specs.Visits.{ServesSockets, Between, Visit, Visited, IsRefused}
+use Rattle.td_http.proofs.Private.{visits_clean}
 use Rattle.td_cli.specs.Desks.{Sight, IsReady, IsHandledAt, IsHeadHandledAt, fresh_books}
 use Rattle.td_cli.specs.Listening.{HasServed, ServesAs, listening_line}
 use Rattle.td_cli.specs.declared.serving.ServingEnd.{ServingEnd}

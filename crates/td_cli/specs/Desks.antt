@@ -1,14 +1,12 @@
 -- What the program's jobs say of a desk: what contracts see of it, what it begins with, and what is told to each holder.
 use Rattle.std.specs.Prelude.{◌≡◌, ℕ, ℤ, Bool, true, false, List, IsTrue}
 use Rattle.sqlite_wal.specs.Recovery.{Image}
-use Rattle.td_acts.specs.Book.{Book}
-use Rattle.td_desk.specs.Content.{Content, account_in, empty_content, fresh}
-use Rattle.td_desk.specs.Sound.{IsSound}
+use Rattle.td_model.specs.Book.{Book}
+use Rattle.td_desk.specs.Content.{Content, account_in, empty_content, fresh, IsSound}
 use Rattle.td_files.specs.Found.{content_in, FileState, IsClean, IsKeptDesk, IsMadeDesk}
-use Rattle.td_wire.specs.declared.reply.Reply.{Reply}
-use Rattle.td_wire.specs.Request.{Asked}
-use Rattle.td_http.specs.Served.{IsHeadReply}
-use Rattle.td_http.specs.Serving.{IsHandled}
+use Rattle.http_wire.specs.declared.reply.Reply.{Reply}
+use Rattle.http_wire.specs.Request.{Asked}
+use Rattle.td_http.specs.Serving.{IsHeadReply, IsHandled}
 
 -- What contracts see of a desk: its content; whether its disk is clean, that is returned what was written while nobody else
 -- wrote; whether no fault has shut it; and whether a store stands behind it.

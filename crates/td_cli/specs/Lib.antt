@@ -1,6 +1,6 @@
 pub mod Statuses
+pub mod Desks
 pub mod Piped
 pub mod Checked
-pub mod Desks
 pub mod Listening
 pub mod Performed

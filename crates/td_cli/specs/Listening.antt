@@ -6,14 +6,14 @@ use Rattle.std.specs.declared.io.Error.{Error}
 use Rattle.sqlite_wal.specs.Recovery.{Image}
 use Rattle.counted_io.specs.declared.counted.Counted.{Counted}
 use Rattle.counted_io.specs.Counted.{known_bytes}
-use Rattle.counted_io.specs.Writing.{IsCutShort}
+use Rattle.counted_io.specs.Chains.{IsCutShort}
 use Rattle.td_desk.specs.Content.{Content}
 use Rattle.td_files.specs.Found.{FileState, IsToldOf, IsUnmade}
 use Rattle.td_files.specs.declared.desks.DeskFault.{DeskFault}
 use Rattle.td_files.specs.declared.desks.DeskFault.TheVariants.{Refused}
 use Rattle.td_files.specs.Faults as fault
-use Rattle.td_connections.specs.Private.{IsServedOver}
-use Rattle.td_connections.specs.Sockets.{ServesSockets}
+use Rattle.td_http.specs.Private.{IsServedOver}
+use Rattle.td_http.specs.Visits.{ServesSockets}
 use Rattle.td_cli.specs.Desks.{Sight, in_memory, over_file, BeginsEmpty, BeginsKept, BeginsMade, IsHandledAt, IsHeadHandledAt, fresh_books}
 use Rattle.td_cli.specs.Piped.{IsMoment}
 use Rattle.td_words.specs.declared.words.Listening.{Listening}

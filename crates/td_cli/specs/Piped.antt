@@ -8,8 +8,8 @@ use Rattle.td_files.specs.declared.desks.DeskFault.{DeskFault}
 use Rattle.td_files.specs.declared.desks.DeskFault.TheVariants.{Refused}
 use Rattle.td_files.specs.Faults as fault
 use Rattle.td_http.specs.Serving.{IsServed}
-use Rattle.td_wire.specs.declared.stream.StreamEnd.{StreamEnd}
-use Rattle.td_wire.specs.Stream.{Serves}
+use Rattle.http_wire.specs.declared.stream.StreamEnd.{StreamEnd}
+use Rattle.http_wire.specs.Stream.{Serves}
 use Rattle.td_words.specs.declared.words.Records.{Records}
 use Rattle.td_words.specs.declared.words.Records.TheVariants.{Memory, File, NewFile}
 use Rattle.td_cli.specs.Desks.{Sight, in_memory, over_file, BeginsEmpty, BeginsKept, BeginsMade, IsHandledAt, IsHeadHandledAt, fresh_books}

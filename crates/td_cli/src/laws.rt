@@ -7,9 +7,9 @@ ghost use Rattle.td_files.specs.Found.{FileState, IsClean};
 ghost use Rattle.td_cli.specs.Desks.{in_memory, over_file, BeginAlike, BeginsEmpty, BeginsIn};
 ghost use Rattle.td_cli.specs.Listening.{HasServed};
 ghost use Rattle.td_cli.specs.Piped.{IsMoment, IsPipedAt};
-ghost use Rattle.td_connections.specs.Laws.{TellAlikeOver};
+ghost use Rattle.td_http.specs.ConnectionLaws.{TellAlikeOver};
 ghost use Rattle.td_http.specs.Laws.{TellAlike};
-ghost use Rattle.td_wire.specs.declared.stream.StreamEnd.{StreamEnd};
+ghost use Rattle.http_wire.specs.declared.stream.StreamEnd.{StreamEnd};
 
 use std::io::{Read, Write};
 

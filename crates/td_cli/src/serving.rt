@@ -5,7 +5,7 @@ ghost use Rattle.sqlite.specs.WalFiles.{image_at};
 ghost use Rattle.td_files.specs.Found.{FileState, shown};
 ghost use Rattle.td_files.specs.declared.desks.DeskFault.TheVariants as fault;
 ghost use Rattle.td_files.specs.Faults as refused;
-ghost use Rattle.td_http.specs.Served.{desk_of};
+ghost use Rattle.td_http.specs.Serving.{desk_of};
 ghost use Rattle.td_cli.specs.Desks.{in_memory, over_file, BeginsEmpty, IsReady};
 ghost use Rattle.td_cli.specs.Listening.{AreLinesOf, IsServing, ServesAs, ServesAt};
 
@@ -15,10 +15,9 @@ use std::alloc::{AllocError, Global};
 use std::io::Write;
 use std::net::{Ipv4Addr, SocketAddr, TcpListener};
 use td_base::{Counted, Country, write_whole};
-use td_connections::serve_on;
 use td_desk::{Desk, PlainDesk};
 use td_files::{DeskFault, DeskFile, FileDesk, OpenFault};
-use td_http::{Clock, Service};
+use td_http::{Clock, Service, serve_on};
 use td_words::{Listening, Records};
 
 /// How a serving ended.

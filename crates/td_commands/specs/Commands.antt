@@ -1,9 +1,9 @@
 -- Commands: whose they are, what their parts keep to, and what the verdict on them needs of their owners'
 -- accounts, beside the holder's own row.
-use Rattle.std.specs.Prelude.{ℕ, List, Option, Some, Bool, true, false}
-use Rattle.td_base.specs.Holder.{IsHolderNumber}
-use Rattle.td_base.specs.Eori.{IsEori}
-use Rattle.td_base.specs.Codes.{IsAccessCode, IsLrn, IsOfficeNo}
+-- The names of refusals, as replies and result files show them.
+use Rattle.std.specs.Prelude.{ℕ, Bool, true, List, [], Option, Some, false, codes}
+use Rattle.td_movement.specs.declared.line.Line.{Line}
+use Rattle.td_base.specs.Codes.{IsHolderNumber, IsEori, IsAccessCode, IsLrn, IsOfficeNo}
 use Rattle.td_base.specs.Days.{IsDay}
 use Rattle.td_base.specs.Money.{IsReference, IsCover}
 use Rattle.td_base.specs.References.{IsGrn, IsMrn, owner_of as reference_owner}
@@ -11,10 +11,11 @@ use Rattle.td_commands.specs.declared.command.Command.{Command}
 use Rattle.td_commands.specs.declared.command.Command.TheVariants.{Register, OpenGuarantee, Amend, Revoke, Ie015, Ie014, AddCode, RemoveCode, Ie029, Ie007, Ie018, Ie045, Ie140, SeeHolder, SeeMovement, SeeMovements, SeeGuarantee, SeeGuarantees}
 use Rattle.td_commands.specs.declared.command.Subject.{Subject}
 use Rattle.td_commands.specs.declared.command.Subject.TheVariants.{Holder, Movement, Guarantee}
-use Rattle.td_movement.specs.declared.line.Line.{Line}
 use Rattle.td_commands.specs.declared.needs.Needs.{Needs}
-use Rattle.td_commands.specs.declared.needs.Needs.TheVariants as needs
 use Rattle.td_commands.specs.Lines.{IsLines}
+use Rattle.td_commands.specs.declared.said.Refusal.{Refusal}
+use Rattle.td_commands.specs.declared.said.Refusal.TheVariants.{ClockRange, NoHolder, HolderKnown, ClockBack, NoMovement, NoGuarantee, BadCode, GuaranteeEnded, LrnUsed, SerialsSpent, WrongState, OverReference, BelowUse, LimitDate, TooEarly, CodeKnown, NoCode, LastCode, CodesFull, AlreadyEnded}
+use Rattle.td_commands.specs.declared.needs.Needs.TheVariants as needs
 
 -- the holder whom a subject belongs to, at a desk of that country: read from a reference's text alone
 abbrev pub owner_of_subject : List ℕ → Subject → Option ℕ
@@ -133,3 +134,25 @@ need_said (needs.Release mrn) = release mrn
 need_said needs.AllMovements = all_movements
 need_said (needs.Guarantee grn) = guarantee grn
 need_said needs.AllGuarantees = all_guarantees
+
+abbrev pub refusal_name : Refusal → List ℕ
+refusal_name ClockRange = codes "clock-range"
+refusal_name NoHolder = codes "no-holder"
+refusal_name HolderKnown = codes "holder-known"
+refusal_name ClockBack = codes "clock-back"
+refusal_name NoMovement = codes "no-movement"
+refusal_name NoGuarantee = codes "no-guarantee"
+refusal_name BadCode = codes "bad-code"
+refusal_name GuaranteeEnded = codes "guarantee-ended"
+refusal_name LrnUsed = codes "lrn-used"
+refusal_name SerialsSpent = codes "serials-spent"
+refusal_name (WrongState state) = codes "wrong-state"
+refusal_name (OverReference free grn) = codes "over-reference"
+refusal_name (BelowUse used) = codes "below-use"
+refusal_name LimitDate = codes "limit-date"
+refusal_name TooEarly = codes "too-early"
+refusal_name CodeKnown = codes "code-known"
+refusal_name NoCode = codes "no-code"
+refusal_name LastCode = codes "last-code"
+refusal_name CodesFull = codes "codes-full"
+refusal_name AlreadyEnded = codes "already-ended"

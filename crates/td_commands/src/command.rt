@@ -206,7 +206,8 @@ pub fn owner(country: Country, command: &Command) -> Option<HolderNo>
     command.subject().owner(country)
 }
 
-/// Always true: what the types of a command's parts say of them, as a fact that proofs can use.
+/// Always true: what the types of a command's parts say of them, as a fact that proofs can use. A clause over every command
+/// ranges over values that no type has; this tells that a command isn't one of them.
 pub fn known(command: &Command) -> bool
     ensures known { result ≡ true }
     ensures proper { IsProper command.now }

@@ -7,13 +7,7 @@ ghost use Rattle.td_commands.specs.Lines.{IsLines, IsLineAmount, are_lines, is_l
 use std::alloc::{AllocError, Global};
 use std::marker::Model;
 use td_base::{AccessCode, Cents, Grn};
-use td_movement::{Line, MovementLines};
-
-/// The most lines of a declaration.
-const MAX_LINES: usize = 9;
-
-/// The greatest amount of a line, in cents.
-const MAX_LINE_CENTS: u64 = 1_000_000_000_000;
+use td_movement::{Line, MOST_LINE_CENTS, MOST_LINES, MovementLines};
 
 /// The lines of a declaration, each with the access code of its guarantee: 1 to 9 of them, each of 1 to
 /// 10^12 cents, and no two on one guarantee.
@@ -76,7 +70,7 @@ fn are_lines(items: &[(Line, AccessCode)]) -> bool
     ensures value { result ≡ are_lines items.now }
     ensures form { IsTrue result ↔ IsLines items.now }
 {
-    if items.is_empty() || items.len() > MAX_LINES {
+    if items.is_empty() || items.len() > MOST_LINES {
         return false;
     }
     for i in 0..items.len() {
@@ -94,7 +88,7 @@ fn is_line_amount(cents: Cents) -> bool
     ensures form { IsTrue result ↔ IsLineAmount cents }
 {
     let cents = cents.get();
-    cents >= 1 && cents <= MAX_LINE_CENTS
+    cents >= 1 && cents <= MOST_LINE_CENTS
 }
 
 // Whether one of the lines names the guarantee.

@@ -115,7 +115,7 @@ pub enum Refusal {
 }
 
 impl Refusal {
-    ghost use Rattle.td_commands.specs.Names.{refusal_name};
+    ghost use Rattle.td_commands.specs.Commands.{refusal_name};
 
     /// The name that replies and result files give the refusal.
     pub fn name(&self) -> &'static str

@@ -2,9 +2,9 @@
 use Rattle.std.proofs.Common.{◌≡◌, ℕ, Bool, true, false, List, [], ◌∷◌, length, refl, sym, ◌∙◌, ap, ap₂, arith}
 use Rattle.std.specs.Prelude.{if◌then◌else◌, map, filter, zip}
 use Rattle.td_commands.specs.declared.command.Stamped.{Stamped}
-use Rattle.td_acts.specs.Book.{Book}
+use Rattle.td_model.specs.Book.{Book}
 use Rattle.td_commands.specs.Commands.{owner_of}
-use Rattle.td_acts.specs.Machine.{machine_says}
+use Rattle.td_model.specs.Machine.{machine_says}
 use Rattle.td_desk.specs.declared.running.Outcome.{Outcome}
 use Rattle.td_desk.specs.declared.running.Outcome.TheVariants as outcome
 use Rattle.td_desk.specs.Content.{Content}

@@ -1,25 +1,24 @@
 -- What the rows of a decision do to the content.
 use Rattle.std.proofs.Common.{◌≡◌, ◌≢◌, ℕ, Option, Some, None, refl, sym, ◌∙◌, ap, subst, arith}
-use Rattle.td_base.specs.Moment.{moment_of}
-use Rattle.td_acts.specs.declared.rows.HolderRow.{HolderRow}
+use Rattle.td_base.specs.Days.{moment_of}
+use Rattle.td_model.specs.declared.holder_row.HolderRow.{HolderRow}
 use Rattle.td_acts.specs.declared.rows.Change.{Change}
 use Rattle.td_acts.specs.declared.rows.Change.TheVariants as change
 use Rattle.td_commands.specs.declared.command.Stamped.{Stamped}
-use Rattle.td_acts.specs.Account.{Account, HolderRows, account_with, ReferencesDiffer}
-use Rattle.td_acts.specs.Book.{account_of}
+use Rattle.td_model.specs.Account.{Account, HolderRows, account_with, ReferencesDiffer}
+use Rattle.td_model.specs.Book.{account_of}
 use Rattle.td_acts.specs.Changes.{account_after, row_in, rows_after, rows_or_new}
 use Rattle.td_commands.specs.Commands.{owner_of, IsProper}
 use Rattle.td_acts.specs.Deciding.{decision_on}
 use Rattle.td_acts.specs.Laws.{FollowsOn}
-use Rattle.td_acts.specs.Machine.{book_after}
-use Rattle.td_acts.specs.Sound.{AreHolderRows}
+use Rattle.td_model.specs.Machine.{book_after}
+use Rattle.td_model.specs.Sound.{AreHolderRows}
 use Rattle.td_acts.proofs.AcceptedRows.{nobody_writes}
 use Rattle.td_acts.proofs.Following.{follows_on, row_after, nothing_without_row}
 use Rattle.td_acts.proofs.Growing.{account_said_after}
-use Rattle.td_holder_file.specs.Key.{holder_key}
-use Rattle.td_desk.specs.Content.{Content, account_in, rows_of, fresh, content_after, content_after_row}
+use Rattle.td_holder_memory.specs.Key.{holder_key}
+use Rattle.td_desk.specs.Content.{Content, account_in, rows_of, fresh, content_after, content_after_row, IsSound}
 use Rattle.keyed_rows.specs.Rows.{put_row}
-use Rattle.td_desk.specs.Sound.{IsSound}
 use Rattle.td_desk.specs.Weighing.{account_for, owner_account, Carries}
 use Rattle.td_desk.proofs.Differing.{references_differ}
 use Rattle.td_desk.proofs.Fresh.{account_fresh}

@@ -8,11 +8,11 @@ use Rattle.std.proofs.lemmas.List.{append-nil, length-append}
 use Rattle.std.proofs.lemmas.Slice.Zip.{all_zipped_more}
 use Rattle.td_commands.specs.declared.command.Stamped.{Stamped}
 use Rattle.td_commands.specs.declared.said.Said.{Said}
-use Rattle.td_acts.specs.Account.{Account, empty_account, ReferencesDiffer}
-use Rattle.td_acts.specs.Book.{Book, account_of}
+use Rattle.td_model.specs.Account.{Account, empty_account, ReferencesDiffer}
+use Rattle.td_model.specs.Book.{Book, account_of}
 use Rattle.td_commands.specs.Commands.{owner_of}
-use Rattle.td_acts.specs.Table.{said}
-use Rattle.td_acts.specs.Machine.{verdict, book_after, machine_says, machine_book, IsGrown}
+use Rattle.td_model.specs.Table.{said}
+use Rattle.td_model.specs.Machine.{verdict, book_after, machine_says, machine_book, IsGrown}
 use Rattle.td_acts.specs.Changes.{account_after}
 use Rattle.td_acts.specs.Deciding.{decision_on}
 use Rattle.td_acts.proofs.Growing.{account_said_after, grown_after}

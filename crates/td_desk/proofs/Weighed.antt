@@ -3,7 +3,7 @@ use Rattle.std.proofs.Common.{◌≡◌, ℤ, sym, ◌∙◌, ap, subst}
 use Rattle.td_acts.specs.declared.rows.Loaded.{Loaded}
 use Rattle.td_acts.specs.declared.rows.Verdict.{Verdict}
 use Rattle.td_commands.specs.declared.command.Command.{Command}
-use Rattle.td_acts.specs.Account.{Account}
+use Rattle.td_model.specs.Account.{Account}
 use Rattle.td_acts.specs.Changes.{is_change}
 use Rattle.td_acts.specs.Deciding.{IsLoaded, IsVerdict, decision_on}
 use Rattle.td_commands.specs.Commands.{need_of}

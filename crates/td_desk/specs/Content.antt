@@ -1,13 +1,17 @@
 -- What a desk contains: the desk's country, and the rows of each registered holder, in ascending order of
 -- the holders' numbers.
+-- The rules that a desk's rows keep.
 use Rattle.std.specs.Prelude.{ℕ, List, [], Option, Some, None}
-use Rattle.td_acts.specs.declared.rows.HolderRow.{HolderRow}
+use Rattle.td_model.specs.declared.holder_row.HolderRow.{HolderRow}
 use Rattle.td_acts.specs.declared.rows.Change.{Change}
-use Rattle.td_acts.specs.Account.{Account, HolderRows, account_with}
-use Rattle.td_acts.specs.Book.{Book, fresh_book}
+use Rattle.td_model.specs.Account.{Account, HolderRows, account_with}
+use Rattle.td_model.specs.Book.{Book, fresh_book}
 use Rattle.td_acts.specs.Changes.{row_in, rows_after, rows_or_new}
-use Rattle.keyed_rows.specs.Rows.{row_at, put_row}
-use Rattle.td_holder_file.specs.Key.{holder_key}
+use Rattle.keyed_rows.specs.Rows.{row_at, put_row, Rises}
+use Rattle.td_holder_memory.specs.Key.{holder_key}
+use Rattle.std.specs.List.{AllByRecursion}
+use Rattle.td_base.specs.Codes.{IsCountry}
+use Rattle.td_model.specs.Sound.{AreHolderRows}
 
 pub record Content : Type 0 where
   pub country : List ℕ
@@ -39,3 +43,9 @@ content_after_row (Some row) change content =
 -- the content after a change
 abbrev pub content_after : Change → Content → Content
 content_after change content = content_after_row (row_in change) change content
+
+-- the rows keep their rules
+pub record IsSound (rows : Content) : Type 0 where
+  pub country : IsCountry rows.country
+  pub order : Rises holder_key 0 rows.holders
+  pub holders : AllByRecursion (AreHolderRows rows.country) rows.holders

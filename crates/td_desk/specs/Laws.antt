@@ -1,12 +1,11 @@
 -- Laws of contents, books and runs.
 use Rattle.std.specs.Prelude.{◌≡◌, ℕ, List}
-use Rattle.td_base.specs.Country.{IsCountry}
+use Rattle.td_base.specs.Codes.{IsCountry}
 use Rattle.td_commands.specs.declared.command.Stamped.{Stamped}
-use Rattle.td_acts.specs.Account.{empty_account}
-use Rattle.td_acts.specs.Book.{Book, fresh_book}
+use Rattle.td_model.specs.Account.{empty_account}
+use Rattle.td_model.specs.Book.{Book, fresh_book}
 use Rattle.td_desk.specs.declared.running.Outcome.{Outcome}
-use Rattle.td_desk.specs.Content.{Content, fresh, empty_content}
-use Rattle.td_desk.specs.Sound.{IsSound}
+use Rattle.td_desk.specs.Content.{Content, fresh, empty_content, IsSound}
 use Rattle.td_desk.specs.Runs.{Agree, failures, heard, told, IsTied, IsRun}
 
 -- an empty desk is sound, and tied to empty books

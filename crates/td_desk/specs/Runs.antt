@@ -3,16 +3,15 @@ use Rattle.std.specs.Prelude.{◌≡◌, ◌⊎◌, ℕ, ◌==◌, Bool, true, f
 use Rattle.std.specs.List.{AllZip}
 use Rattle.td_commands.specs.declared.command.Stamped.{Stamped}
 use Rattle.td_commands.specs.declared.said.Said.{Said}
-use Rattle.td_acts.specs.Account.{empty_account}
-use Rattle.td_acts.specs.Book.{Book, account_of}
+use Rattle.td_model.specs.Account.{empty_account}
+use Rattle.td_model.specs.Book.{Book, account_of}
 use Rattle.td_commands.specs.Commands.{owner_of}
-use Rattle.td_acts.specs.Table.{said}
-use Rattle.td_acts.specs.Machine.{machine_says, machine_book, IsGrown}
+use Rattle.td_model.specs.Table.{said}
+use Rattle.td_model.specs.Machine.{machine_says, machine_book, IsGrown}
 use Rattle.td_desk.specs.declared.fault.Fault.{Fault}
 use Rattle.td_desk.specs.declared.running.Outcome.{Outcome}
 use Rattle.td_desk.specs.declared.running.Outcome.TheVariants as outcome
-use Rattle.td_desk.specs.Content.{Content, account_in}
-use Rattle.td_desk.specs.Sound.{IsSound}
+use Rattle.td_desk.specs.Content.{Content, account_in, IsSound}
 use Rattle.td_desk.specs.Weighing.{owner_account, Carries}
 
 abbrev pub is_holder : ℕ → Option ℕ → Bool

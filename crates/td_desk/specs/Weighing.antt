@@ -3,16 +3,14 @@ use Rattle.std.specs.Prelude.{◌≡◌, ◌≢◌, ℕ, ℤ, Option, Some, None
 use Rattle.td_commands.specs.declared.command.Command.{Command}
 use Rattle.td_commands.specs.declared.command.Stamped.{Stamped}
 use Rattle.td_acts.specs.declared.rows.Verdict.{Verdict}
-use Rattle.td_acts.specs.Account.{Account, empty_account}
-use Rattle.td_acts.specs.Book.{account_of}
+use Rattle.td_model.specs.Account.{Account, empty_account}
+use Rattle.td_model.specs.Book.{account_of}
 use Rattle.td_commands.specs.Commands.{owner_of, IsProper}
-use Rattle.td_acts.specs.Table.{said}
-use Rattle.td_acts.specs.Acceptance.{is_accepted}
-use Rattle.td_acts.specs.Machine.{book_after}
+use Rattle.td_model.specs.Table.{said}
+use Rattle.td_model.specs.Machine.{is_accepted, book_after}
 use Rattle.td_acts.specs.Changes.{is_change}
 use Rattle.td_acts.specs.Deciding.{decision_on}
-use Rattle.td_desk.specs.Content.{Content, account_in, fresh}
-use Rattle.td_desk.specs.Sound.{IsSound}
+use Rattle.td_desk.specs.Content.{Content, account_in, fresh, IsSound}
 
 -- what the fresh book of a command's owner says; over a command that nobody owns there is nothing to say
 abbrev pub account_for : Option ℕ → Content → Account

@@ -5,8 +5,7 @@ ghost use Rattle.td_desk.specs.declared.fault.Fault.{Fault};
 ghost use Rattle.td_acts.specs.declared.rows.Change.TheVariants as change;
 ghost use Rattle.td_commands.specs.declared.command.Stamped.{Stamped};
 ghost use Rattle.td_commands.specs.Commands.{IsProper};
-ghost use Rattle.td_desk.specs.Content.{Content};
-ghost use Rattle.td_desk.specs.Sound.{IsSound};
+ghost use Rattle.td_desk.specs.Content.{Content, IsSound};
 ghost use Rattle.td_desk.specs.Weighing.{IsWeighed, IsDecision, Carries};
 
 use crate::decision::Decision;

@@ -15,7 +15,7 @@ pub use desk::Desk;
 pub use fault::Fault;
 pub use laws::{agreeing_runs_tell_the_same, empty_desk_is_tied, fresh_books_are_tied};
 pub use plain::PlainDesk;
-pub use running::{Outcome, perform, run};
+pub use running::{Outcome, do_one, run};
 pub use store::Store;
 pub use td_acts::{
     Answer, Change, Command, HolderRow, Loaded, Needs, NewStatus, Refusal, Said, Stamped, Subject,

@@ -2,9 +2,8 @@
 ghost use Rattle.std.specs.Prelude.{◌≡◌, ◌≢◌, Some, IfOk, OnOk, OnErr};
 ghost use Rattle.td_acts.specs.Changes.{row_in, rows_after, rows_or_new};
 ghost use Rattle.keyed_rows.specs.Rows.{Rises, Rises-prop, row_at, put_row};
-ghost use Rattle.td_holder_file.specs.Key.{holder_key};
-ghost use Rattle.td_desk.specs.Content.{empty_content};
-ghost use Rattle.td_desk.specs.Sound.{IsSound};
+ghost use Rattle.td_holder_memory.specs.Key.{holder_key};
+ghost use Rattle.td_desk.specs.Content.{empty_content, IsSound};
 
 use crate::fault::Fault;
 use crate::store::Store;
@@ -12,7 +11,7 @@ use keyed_rows::{find_row, rows_below};
 use std::alloc::{AllocError, Global};
 use td_acts::{Change, HolderRow, Loaded, Needs};
 use td_base::{Country, HolderNo};
-use td_holder_file::HolderFile;
+use td_holder_memory::HolderFile;
 
 /// A desk in memory.
 #[derive(Drop)]
@@ -23,12 +22,12 @@ pub struct PlainDesk {
 }
 
 impl PlainDesk {
-    ghost use Rattle.td_desk.specs.Plain.{rows_in};
+    ghost use Rattle.td_desk.specs.Plain.{plain_content};
 
     /// A desk of that country with no holders. `AllocError`: want of memory.
     pub fn new(alloc: Global, country: Country) -> Result<PlainDesk, AllocError>
-        ensures empty { IfOk result (λ desk. rows_in desk ≡ empty_content country) }
-        ensures sound { IfOk result (λ desk. IsSound (rows_in desk)) }
+        ensures empty { IfOk result (λ desk. plain_content desk ≡ empty_content country) }
+        ensures sound { IfOk result (λ desk. IsSound (plain_content desk)) }
     {
         let _letters = country.as_bytes();
         Ok(PlainDesk {
@@ -40,9 +39,9 @@ impl PlainDesk {
 
 impl Store for PlainDesk {
     ghost use Rattle.td_desk.specs.declared.fault.Fault.TheVariants as fault;
-    ghost use Rattle.td_desk.specs.Plain.{rows_in};
+    ghost use Rattle.td_desk.specs.Plain.{plain_content};
 
-    ghost rows = { rows_in };
+    ghost rows = { plain_content };
 
     ghost is_kept = { λ _. Unit {0} };
 

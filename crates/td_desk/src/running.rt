@@ -1,8 +1,7 @@
 //! Runs of commands.
 ghost use Rattle.std.specs.Prelude.{◌≡◌, ◌≢◌, ℕ, All, IfOk, OnErr};
-ghost use Rattle.td_acts.specs.Book.{Book};
-ghost use Rattle.td_desk.specs.Content.{Content};
-ghost use Rattle.td_desk.specs.Sound.{IsSound};
+ghost use Rattle.td_model.specs.Book.{Book};
+ghost use Rattle.td_desk.specs.Content.{Content, IsSound};
 ghost use Rattle.td_desk.specs.Runs.{IsOutcomeOf, AreOutcomesOf, IsStep, IsTied, IsRun};
 
 use crate::desk::Desk;
@@ -20,7 +19,7 @@ pub enum Outcome {
 }
 
 /// Does one command: weighs it, and carries the decision.
-pub fn perform<D: Desk>(alloc: Global, desk: &mut D, stamped: &Stamped) -> Outcome
+pub fn do_one<D: Desk>(alloc: Global, desk: &mut D, stamped: &Stamped) -> Outcome
     ensures clean { D.is_clean desk.new → D.is_clean desk.old }
     ensures live { D.is_clean desk.new → D.is_live desk.new → D.is_live desk.old }
     ensures performs { D.is_clean desk.new
@@ -68,7 +67,7 @@ pub fn run<D: Desk>(
 {
     let mut outcomes = Vec::with_capacity(alloc, list.len())?;
     for stamped in list {
-        let outcome = perform(alloc, desk, stamped);
+        let outcome = do_one(alloc, desk, stamped);
         outcomes.push_reserved(outcome);
     }
     Ok(outcomes)

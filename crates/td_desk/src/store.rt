@@ -4,8 +4,7 @@ ghost use Rattle.std.specs.Result.{result_err};
 ghost use Rattle.td_desk.specs.declared.fault.Fault.{Fault};
 ghost use Rattle.td_acts.specs.Deciding.{IsLoaded};
 ghost use Rattle.td_commands.specs.Commands.{need_said};
-ghost use Rattle.td_desk.specs.Content.{Content, content_after};
-ghost use Rattle.td_desk.specs.Sound.{IsSound};
+ghost use Rattle.td_desk.specs.Content.{Content, content_after, IsSound};
 ghost use Rattle.td_acts.specs.declared.rows.Verdict.{Verdict};
 ghost use Rattle.td_desk.specs.Weighing.{kept_for, IsDecision};
 
@@ -95,6 +94,7 @@ impl<S: Store> Desk for S {
     }
 
     fn weigh(&mut self, alloc: Global, at: i64, command: &Command) -> Result<Decision, Fault> {
+        // For its clause: the parts of the command are in the ranges of their types.
         let _known = known(command);
         let owner = owner(self.office(), command);
         let mut loaded = self.load(alloc, owner, &command.needs())?;

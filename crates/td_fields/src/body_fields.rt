@@ -1,9 +1,8 @@
 //! The fields of a body: each is `None` where it is missing or ill-formed.
 ghost use Rattle.std.specs.Prelude.{◌≡◌, option_and_then, option_map};
 ghost use Rattle.serde_json.specs.View.{items_view, view};
-ghost use Rattle.td_base.specs.Codes.{code_read, lrn_read, office_read};
+ghost use Rattle.td_base.specs.Codes.{code_read, lrn_read, office_read, eori_read};
 ghost use Rattle.td_base.specs.Days.{day_read};
-ghost use Rattle.td_base.specs.Eori.{eori_read};
 ghost use Rattle.td_base.specs.Money.{cover_of, reference_of};
 ghost use Rattle.td_fields.specs.BodyFields.{array_at, control_read, ground_read, number_at, text_at};
 ghost use Rattle.td_fields.specs.Faults.{field_name};

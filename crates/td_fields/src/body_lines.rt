@@ -3,8 +3,7 @@ ghost use Rattle.std.specs.Prelude.{◌≡◌, IfOk, codes, option_and_then, opt
 ghost use Rattle.serde_json.specs.View.{items_view, view};
 ghost use Rattle.std.specs.Result.{result_ok};
 ghost use Rattle.td_base.specs.References.{grn_read};
-ghost use Rattle.td_fields.specs.BodyFields.{text_at};
-ghost use Rattle.td_fields.specs.BodyLines.{line_in, lines_at, lines_in};
+ghost use Rattle.td_fields.specs.BodyFields.{text_at, line_in, lines_at, lines_of_body};
 ghost use Rattle.td_fields.specs.Faults.{field_name};
 ghost use Rattle.td_fields.specs.declared.fault.Field.TheVariants as field;
 
@@ -35,7 +34,7 @@ fn read_lines(
     alloc: Global,
     objects: &[Value],
 ) -> Result<Option<Vec<(Line, AccessCode)>>, AllocError>
-    ensures { IfOk result (λ lines. option_map (λ v. v.items) lines ≡ lines_in (items_view objects.now)) }
+    ensures { IfOk result (λ lines. option_map (λ v. v.items) lines ≡ lines_of_body (items_view objects.now)) }
 {
     let mut lines = Vec::with_capacity(alloc, objects.len())?;
     for object in objects {

@@ -9,16 +9,16 @@ use Rattle.sqlite.specs.Files.{AreFoundIn}
 use Rattle.sqlite.specs.State.{State, HasCleanDisk, Opens, Survives}
 use Rattle.sqlite_trees.specs.Tree.{Trees}
 use Rattle.td_desk.specs.Content.{Content}
-use Rattle.td_tables.specs.declared.rule.Rule.{Rule}
+use Rattle.td_table_model.specs.declared.rule.Rule.{Rule}
 use Rattle.td_schema.specs.Tables.{desk_schema}
-use Rattle.td_store_tables.specs.Rows.{HoldsContent}
-use Rattle.td_store.specs.Kept.{content_in}
+use Rattle.td_store_rows.specs.StoreTables.{HoldsContent, content_in}
 use Rattle.td_store.specs.Opened.{AreDamaged, HasOfficeRow, IsOfAnother, IsOfVersion, LacksMeta, TellsDatabase}
 use Rattle.td_store.specs.declared.refused.OpenFault.{OpenFault}
 use Rattle.td_store.specs.declared.refused.OpenFault.TheVariants.{UnknownVersion, NeedsMigration, OtherCountry, Damaged, Store, NoMemory}
 use Rattle.td_files.specs.declared.desks.DeskFault.{DeskFault}
 use Rattle.td_files.specs.declared.desks.DeskFault.TheVariants.{Refused}
 use Rattle.td_files.specs.Found.{FileState, IsClean, IsFoundIn, IsKeptDesk, IsRefusedFor, IsToldOf, IsUnmade, shown}
+use Rattle.td_store_rows.specs.Columns.{newest_version}
 
 -- no fault is forgotten
 pub clean_before : (old new : State) (P : Trees → Type 0) → Survives old new P → HasCleanDisk new → HasCleanDisk old
@@ -37,7 +37,7 @@ found_there image s opens finds =
 
 -- a desk that was opened over it
 pub kept_there : (image : Image) (country : List ℕ) (found s : State) → IsFoundIn image found.now → s.now ≡ found.now → IsTrue s.is_open
-    → HoldsContent (content_in s.now.trees) s → (content_in s.now.trees).country ≡ country → HasOfficeRow 1 country s.now.trees
+    → HoldsContent (content_in s.now.trees) s → (content_in s.now.trees).country ≡ country → HasOfficeRow newest_version country s.now.trees
     → IsKeptDesk image country (shown s)
 kept_there image country found s is same live holds country_is office =
     record {
@@ -50,13 +50,13 @@ kept_there image country found s is same live holds country_is office =
 
 -- what the clauses of an open say of a fault
 tells : (country : List ℕ) (db : Database) (fault : OpenFault)
-    → (fault ≡ UnknownVersion → LacksMeta db.schema ⊎ ((db.schema ≡ desk_schema) × (¬ IsOfVersion 1 db.trees)))
+    → (fault ≡ UnknownVersion → LacksMeta db.schema ⊎ ((db.schema ≡ desk_schema) × (¬ IsOfVersion newest_version db.trees)))
     → ((version : ℕ) → fault ≢ NeedsMigration version)
     → (fault ≡ OtherCountry → (db.schema ≡ desk_schema) × IsOfAnother country db.trees)
     → ((rule : Rule) → fault ≡ Damaged rule → (db.schema ≡ desk_schema) × AreDamaged country rule db.trees)
     → TellsDatabase country db (Some fault)
 tells country db UnknownVersion unknown newest other broken = of_unknown (unknown refl) where
-  of_unknown : LacksMeta db.schema ⊎ ((db.schema ≡ desk_schema) × (¬ IsOfVersion 1 db.trees)) → TellsDatabase country db (Some UnknownVersion)
+  of_unknown : LacksMeta db.schema ⊎ ((db.schema ≡ desk_schema) × (¬ IsOfVersion newest_version db.trees)) → TellsDatabase country db (Some UnknownVersion)
   of_unknown (inl lacks) = inr (inl (refl, lacks))
   of_unknown (inr is) = inr (inr is)
 tells country db (NeedsMigration version) unknown newest other broken = absurd (newest version refl)
@@ -67,11 +67,11 @@ tells country db NoMemory unknown newest other broken = inl (inr refl)
 
 -- Where the disk stayed clean, what the file held was refused for this fault, if it is neither the store's nor want of memory.
 pub refused_for : (image : Image) (country : List ℕ) (found : State) (fault : OpenFault) → IsFoundIn image found.now → IsTrue found.is_open
-    → (fault ≡ UnknownVersion → LacksMeta found.now.schema ⊎ ((found.now.schema ≡ desk_schema) × (¬ IsOfVersion 1 found.now.trees)))
+    → (fault ≡ UnknownVersion → LacksMeta found.now.schema ⊎ ((found.now.schema ≡ desk_schema) × (¬ IsOfVersion newest_version found.now.trees)))
     → ((version : ℕ) → fault ≢ NeedsMigration version)
     → (fault ≡ OtherCountry → (found.now.schema ≡ desk_schema) × IsOfAnother country found.now.trees)
     → ((rule : Rule) → fault ≡ Damaged rule → (found.now.schema ≡ desk_schema) × AreDamaged country rule found.now.trees)
-    → ((c : Content) → HoldsContent c found → HasOfficeRow 1 country found.now.trees → (fault ≡ Store) ⊎ (fault ≡ NoMemory))
+    → ((c : Content) → HoldsContent c found → HasOfficeRow newest_version country found.now.trees → (fault ≡ Store) ⊎ (fault ≡ NoMemory))
     → ¬ ((fault ≡ Store) ⊎ (fault ≡ NoMemory)) → IsRefusedFor image country fault
 refused_for image country found fault is live unknown newest other broken sound neither =
     record {

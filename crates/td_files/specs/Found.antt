@@ -6,11 +6,10 @@ use Rattle.sqlite_trees.specs.View.{doubt}
 use Rattle.sqlite.specs.Effect.{Database}
 use Rattle.sqlite.specs.Files.{HoldsDatabase, AreFoundIn}
 use Rattle.sqlite.specs.State.{State}
-use Rattle.td_desk.specs.Content.{empty_content}
-use Rattle.td_desk.specs.Sound.{IsSound}
-use Rattle.td_schema.specs.Making.{IsEmptyOf}
+use Rattle.td_desk.specs.Content.{empty_content, IsSound}
+use Rattle.td_schema.specs.Tables.{IsEmptyOf}
 use Rattle.td_schema.specs.Tables.{desk_schema, no_schema}
-pub use Rattle.td_store.specs.Kept.{content_in}
+pub use Rattle.td_store_rows.specs.StoreTables.{content_in}
 use Rattle.td_store.specs.Opened.{AreOfDesk, TellsDatabase}
 use Rattle.td_store.specs.declared.refused.OpenFault.{OpenFault}
 use Rattle.td_store.specs.declared.refused.OpenFault.TheVariants.{UnknownVersion, NeedsMigration, OtherCountry, Damaged, Store, NoMemory}

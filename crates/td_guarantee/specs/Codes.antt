@@ -7,6 +7,10 @@ use Rattle.std.specs.List.Sorted.{IsStrictlySortedBy}
 use Rattle.td_guarantee.specs.declared.codes.Items.{Items}
 use Rattle.td_guarantee.specs.declared.codes.Items.TheVariants.{One, Many}
 
+-- the most access codes of a guarantee
+abbrev pub most_codes : ℕ
+most_codes = 20
+
 -- they stand in ascending order of their characters, no two alike
 abbrev pub AreAscending : List (List ℕ) → Type 0
 AreAscending codes = IsStrictlySortedBy (slice_cmp nat_cmp) codes
@@ -24,6 +28,6 @@ abbrev pub without_code : List ℕ → List (List ℕ) → List (List ℕ)
 without_code code codes = filter (λ c. not (bytes_eq c code)) codes
 
 -- the codes as they are kept: one that stands alone, or those of a list
-abbrev pub codes_in : Items → List (List ℕ)
-codes_in (One code) = code ∷ []
-codes_in (Many codes) = codes.items
+abbrev pub codes_kept : Items → List (List ℕ)
+codes_kept (One code) = code ∷ []
+codes_kept (Many codes) = codes.items

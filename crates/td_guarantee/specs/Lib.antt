@@ -1,3 +1,3 @@
 pub mod Codes
-pub mod Terms
 pub mod Usage
+pub mod Known

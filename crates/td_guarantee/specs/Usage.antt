@@ -1,5 +1,6 @@
 -- The amount in use on a guarantee: the sum of the amounts that movements have taken up on it and not given back.
-use Rattle.std.specs.Prelude.{ℕ, if◌then◌else◌, List}
+-- The terms of a guarantee.
+use Rattle.std.specs.Prelude.{ℕ, if◌then◌else◌, List, ◌+◌, nat_le, Bool, false, Option, Some, None}
 use Rattle.std.specs.List.{sum_by}
 use Rattle.std.specs.Str.{bytes_eq}
 use Rattle.td_movement.specs.declared.line.Line.{Line}
@@ -21,3 +22,12 @@ movement_on grn m = if is_counting m.state then lines_on grn m.lines else 0
 -- the amount in use, over a holder's movements
 abbrev pub used_on : List ℕ → List Movement → ℕ
 used_on grn movements = sum_by (movement_on grn) movements
+
+-- an amount fits beside what is in use: equality fits
+abbrev pub is_within : ℕ → ℕ → ℕ → Bool
+is_within reference used cents = nat_le (used + cents) reference
+
+-- from the end day on nothing is lodged or released on a guarantee
+abbrev pub has_ended : ℕ → Option ℕ → Bool
+has_ended day None = false
+has_ended day (Some end) = nat_le end day

@@ -7,6 +7,9 @@ use std::alloc::{AllocError, Global};
 use std::marker::Model;
 use td_base::AccessCode;
 
+/// The most access codes of a guarantee.
+pub const MOST_CODES: usize = 20;
+
 /// The access codes of a guarantee, in ascending order of their characters.
 #[derive(Debug, Drop)]
 pub struct Codes {
@@ -23,11 +26,11 @@ enum Items {
 
 impl Items {
     ghost use Rattle.std.specs.Prelude.{◌≤◌, insert};
-    ghost use Rattle.td_guarantee.specs.Codes.{codes_in, without_code};
+    ghost use Rattle.td_guarantee.specs.Codes.{codes_kept, without_code};
 
     // The codes, in order.
     fn listed(&self) -> &[AccessCode]
-        ensures { result.now ≡ codes_in self.now }
+        ensures { result.now ≡ codes_kept self.now }
     {
         match self {
             Items::One(code) => std::slice::from_ref(code),
@@ -37,9 +40,9 @@ impl Items {
 
     // Puts a code at a place. `AllocError`: want of memory, and they are as they were.
     fn insert(&mut self, alloc: Global, at: usize, code: AccessCode) -> Result<(), AllocError>
-        requires { at ≤ length (codes_in self.old) }
-        ensures ok { OnOk result (codes_in self.new ≡ insert (codes_in self.old) at code) }
-        ensures err { OnErr result (codes_in self.new ≡ codes_in self.old) }
+        requires { at ≤ length (codes_kept self.old) }
+        ensures ok { OnOk result (codes_kept self.new ≡ insert (codes_kept self.old) at code) }
+        ensures err { OnErr result (codes_kept self.new ≡ codes_kept self.old) }
     {
         match self {
             Items::One(known) => {
@@ -54,7 +57,7 @@ impl Items {
 
     // Takes a code out, if it is there.
     fn remove(&mut self, alloc: Global, code: &AccessCode)
-        ensures { codes_in self.new ≡ without_code code.now (codes_in self.old) }
+        ensures { codes_kept self.new ≡ without_code code.now (codes_kept self.old) }
     {
         if let Items::Many(codes) = self {
             codes.retain(|known| known != code);
@@ -66,13 +69,13 @@ impl Items {
 
 impl Model for Codes {
     ghost use Rattle.std.specs.Prelude.{List, ℕ};
-    ghost use Rattle.td_guarantee.specs.Codes.{AreAscending, codes_in};
+    ghost use Rattle.td_guarantee.specs.Codes.{AreAscending, codes_kept};
 
     ghost Value = { List (List ℕ) };
 
-    ghost view = { λ c. codes_in c.items };
+    ghost view = { λ c. codes_kept c.items };
 
-    ghost invariant = { λ c. AreAscending (codes_in c.items) };
+    ghost invariant = { λ c. AreAscending (codes_kept c.items) };
 }
 
 impl Codes {

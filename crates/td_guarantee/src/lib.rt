@@ -1,12 +1,15 @@
-//! Comprehensive guarantees (Common Transit Convention, Appendix I): their terms, and the amount in use on them.
+//! Comprehensive guarantees (Common Transit Convention, Appendix I): their terms, and the amount in use on them, added up afresh or known from
+//! before.
 #![tactic(auto)]
 
 mod codes;
 mod guarantee;
+mod known;
 mod terms;
 mod usage;
 
-pub use codes::Codes;
+pub use codes::{Codes, MOST_CODES};
 pub use guarantee::Guarantee;
+pub use known::{known_amount, make_lines_known, put_on, take_off};
 pub use terms::{ended, fits, guaranteed};
 pub use usage::in_use;

@@ -1,7 +1,7 @@
 //! The terms of a guarantee.
 ghost use Rattle.std.specs.Prelude.{◌≡◌};
 ghost use Rattle.td_base.specs.Money.{share_of};
-ghost use Rattle.td_guarantee.specs.Terms.{has_ended, is_within};
+ghost use Rattle.td_guarantee.specs.Usage.{has_ended, is_within};
 
 use td_base::{Cents, Cover, Day};
 

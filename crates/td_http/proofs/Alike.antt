@@ -4,22 +4,21 @@ use Rattle.std.proofs.lemmas.Bool.{eq-eqb}
 use Rattle.std.proofs.lemmas.List.{append_assoc, append-nil}
 use Rattle.std.specs.Prelude.{if◌then◌else◌}
 use Rattle.td_commands.specs.declared.command.Command.{Command}
-use Rattle.td_acts.specs.Book.{Book}
+use Rattle.td_model.specs.Book.{Book}
 use Rattle.td_commands.specs.Commands.{owner_of}
-use Rattle.td_acts.specs.Machine.{verdict}
+use Rattle.td_model.specs.Machine.{verdict}
 use Rattle.td_desk.specs.declared.fault.Fault.{Fault}
 use Rattle.td_desk.specs.Content.{Content}
 use Rattle.td_desk.specs.Runs.{is_holder}
 use Rattle.td_fields.specs.declared.fault.WebFault.{WebFault}
-use Rattle.td_wire.specs.declared.reply.Reply.{Reply}
-use Rattle.td_wire.specs.declared.reply.Reply.TheVariants.{Made, NoMemory, Store}
+use Rattle.http_wire.specs.declared.reply.Reply.{Reply}
+use Rattle.http_wire.specs.declared.reply.Reply.TheVariants.{Made, NoMemory, Store}
 use Rattle.td_answers.specs.Answers.{said_reply}
-use Rattle.td_wire.specs.Request.{Asked}
-use Rattle.td_wire.specs.ReplyText.{bytes_of, is_made}
-use Rattle.td_wire.specs.Stream.{Exchange, question}
+use Rattle.http_wire.specs.Request.{Asked}
+use Rattle.http_wire.specs.ReplyText.{bytes_of, is_made}
+use Rattle.http_wire.specs.Stream.{Exchange, question}
 use Rattle.td_http.specs.declared.service.Service.{Service}
-use Rattle.td_http.specs.Served.{desk_of, IsPrivate}
-use Rattle.td_http.specs.Serving.{Demand, command_in, heard_by, heard_in, told_by, told_in, machine_replies, fixed_reply, IsServed, IsServedAlone}
+use Rattle.td_http.specs.Serving.{desk_of, IsPrivate, Demand, command_in, heard_by, heard_in, told_by, told_in, machine_replies, fixed_reply, IsServed, IsServedAlone}
 use Rattle.td_http.specs.Laws.{asked_by, asked_in, replies_by, replies_in, fault_told, TellAlike, IsDeskOf, IsRequestAt}
 
 -- the requests that did not fail

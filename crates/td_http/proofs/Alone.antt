@@ -4,23 +4,21 @@ use Rattle.std.specs.Prelude.{if◌then◌else◌}
 use Rattle.td_commands.specs.declared.command.Command.{Command}
 use Rattle.td_commands.specs.declared.command.Stamped.{Stamped}
 use Rattle.td_commands.specs.declared.said.Said.{Said}
-use Rattle.td_acts.specs.Book.{Book, account_of}
+use Rattle.td_model.specs.Book.{Book, account_of}
 use Rattle.td_commands.specs.Commands.{owner_of}
-use Rattle.td_acts.specs.Machine.{verdict, machine_book, machine_says, IsGrown}
+use Rattle.td_model.specs.Machine.{verdict, machine_book, machine_says, IsGrown}
 use Rattle.td_desk.specs.declared.running.Outcome.{Outcome}
 use Rattle.td_desk.specs.declared.running.Outcome.TheVariants as outcome
-use Rattle.td_desk.specs.Content.{Content}
-use Rattle.td_desk.specs.Sound.{IsSound}
+use Rattle.td_desk.specs.Content.{Content, IsSound}
 use Rattle.td_desk.specs.Runs.{IsRun, IsStep, IsTied, is_holder, heard}
 use Rattle.td_desk.proofs.Turns.{run_more}
 use Rattle.td_fields.specs.declared.fault.WebFault.{WebFault}
-use Rattle.td_wire.specs.declared.reply.Reply.{Reply}
-use Rattle.td_wire.specs.Request.{Asked}
-use Rattle.td_wire.specs.ReplyText.{bytes_of, is_made}
+use Rattle.http_wire.specs.declared.reply.Reply.{Reply}
+use Rattle.http_wire.specs.Request.{Asked}
+use Rattle.http_wire.specs.ReplyText.{bytes_of, is_made}
 use Rattle.td_answers.specs.Answers.{said_reply}
 use Rattle.td_http.specs.declared.service.Service.{Service}
-use Rattle.td_http.specs.Served.{desk_of, IsHandledBy, IsPrivateAlone}
-use Rattle.td_http.specs.Serving.{command_in, IsReplyTo, HandledAs, heard_by, told_by, commands_of, machine_replies, IsServedAlone}
+use Rattle.td_http.specs.Serving.{desk_of, IsHandledBy, IsPrivateAlone, command_in, IsReplyTo, HandledAs, heard_by, told_by, commands_of, machine_replies, IsServedAlone}
 use Rattle.td_http.proofs.Served.{fixed_reply, no_run}
 
 first_of : {A : Type 0} (x y : A) → x ∷ [] ≡ y ∷ [] → x ≡ y

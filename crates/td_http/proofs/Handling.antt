@@ -7,10 +7,10 @@ use Rattle.td_desk.specs.declared.running.Outcome.TheVariants as outcome
 use Rattle.td_desk.specs.Content.{Content}
 use Rattle.td_fields.specs.declared.fault.WebFault.{WebFault}
 use Rattle.td_fields.specs.declared.fault.WebFault.TheVariants as why
-use Rattle.td_wire.specs.declared.reply.Reply.{Reply}
-use Rattle.td_wire.specs.declared.reply.Reply.TheVariants.{NoMemory, Store}
+use Rattle.http_wire.specs.declared.reply.Reply.{Reply}
+use Rattle.http_wire.specs.declared.reply.Reply.TheVariants.{NoMemory, Store}
 use Rattle.td_fields.specs.Faults.{OrNoMemory}
-use Rattle.td_wire.specs.ReplyText.{is_made}
+use Rattle.http_wire.specs.ReplyText.{is_made}
 use Rattle.td_http.specs.Serving.{IsFaultReply, HandledAs}
 
 -- what was read is what is asked

@@ -3,3 +3,7 @@ pub mod Served
 pub mod Streamed
 mod Alone
 pub mod Alike
+mod Visits
+pub mod Private
+mod Anyhow
+pub mod ConnectionsAlike

@@ -4,24 +4,23 @@ use Rattle.std.specs.Prelude.{if◌then◌else◌}
 use Rattle.td_commands.specs.declared.command.Command.{Command}
 use Rattle.td_commands.specs.declared.command.Stamped.{Stamped}
 use Rattle.td_commands.specs.declared.said.Said.{Said}
-use Rattle.td_acts.specs.Account.{empty_account}
-use Rattle.td_acts.specs.Book.{Book, account_of}
+use Rattle.td_model.specs.Account.{empty_account}
+use Rattle.td_model.specs.Book.{Book, account_of}
 use Rattle.td_commands.specs.Commands.{owner_of}
-use Rattle.td_acts.specs.Machine.{verdict, book_after, machine_book, machine_says, IsGrown}
-use Rattle.td_acts.specs.Table.{said}
+use Rattle.td_model.specs.Machine.{verdict, book_after, machine_book, machine_says, IsGrown}
+use Rattle.td_model.specs.Table.{said}
 use Rattle.td_desk.specs.declared.fault.Fault.{Fault}
 use Rattle.td_desk.specs.declared.fault.Fault.TheVariants as fault
 use Rattle.td_desk.specs.declared.running.Outcome.{Outcome}
 use Rattle.td_desk.specs.declared.running.Outcome.TheVariants as outcome
-use Rattle.td_desk.specs.Content.{Content}
-use Rattle.td_desk.specs.Sound.{IsSound}
+use Rattle.td_desk.specs.Content.{Content, IsSound}
 use Rattle.td_desk.specs.Runs.{IsRun, IsStep, IsTied, is_holder, heard}
 use Rattle.td_desk.proofs.Turns.{run_more}
 use Rattle.td_fields.specs.declared.fault.WebFault.{WebFault}
-use Rattle.td_wire.specs.declared.reply.Reply.{Reply}
-use Rattle.td_wire.specs.Request.{Asked}
-use Rattle.td_wire.specs.ReplyText.{bytes_of, is_made}
-use Rattle.td_wire.specs.Stream.{Exchange, Chain, question}
+use Rattle.http_wire.specs.declared.reply.Reply.{Reply}
+use Rattle.http_wire.specs.Request.{Asked}
+use Rattle.http_wire.specs.ReplyText.{bytes_of, is_made}
+use Rattle.http_wire.specs.Stream.{Exchange, Chain, question}
 use Rattle.td_answers.specs.Answers.{said_reply}
 use Rattle.td_http.specs.Serving.{command_in, IsReplyTo, IsFaultReply, HandledAs, IsHandled, heard_by, heard_in, told_by, told_in, commands_of, machine_replies, IsServed}
 

@@ -1,13 +1,11 @@
 -- What a stream at a desk tells each holder.
 use Rattle.std.proofs.Common.{◌≡◌, ℕ, ℤ, List, ◌∙◌, ap, subst, refl}
-use Rattle.td_acts.specs.Book.{Book}
-use Rattle.td_desk.specs.Content.{Content}
-use Rattle.td_desk.specs.Sound.{IsSound}
+use Rattle.td_model.specs.Book.{Book}
+use Rattle.td_desk.specs.Content.{Content, IsSound}
 use Rattle.td_desk.specs.Runs.{IsTied}
 use Rattle.td_http.specs.declared.service.Service.{Service}
-use Rattle.td_http.specs.Served.{desk_of, IsHandledBy, IsHeadHandledBy, IsPrivate}
-use Rattle.td_wire.specs.Stream.{Exchange, Chain, Parting, silence, refusal, to_head, no_memory, IsParting}
-use Rattle.td_http.specs.Serving.{IsServed}
+use Rattle.td_http.specs.Serving.{desk_of, IsHandledBy, IsHeadHandledBy, IsPrivate, IsServed}
+use Rattle.http_wire.specs.Stream.{Exchange, Chain, Parting, silence, refusal, to_head, no_memory, IsParting}
 use Rattle.td_http.proofs.Served.{chain_clean, chain_served}
 
 -- what parts with the rest leaves the desk as it is

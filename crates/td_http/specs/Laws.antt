@@ -1,23 +1,21 @@
 -- What two streams, or two requests, tell one holder.
 use Rattle.std.specs.Prelude.{◌≡◌, ℕ, ℤ, ◌+◌, Bool, List, [], ◌∷◌, ◌++◌, map, Option, None, Some, Result, Ok, Err, if◌then◌else◌}
 use Rattle.td_commands.specs.declared.command.Command.{Command}
-use Rattle.td_acts.specs.Book.{Book}
+use Rattle.td_model.specs.Book.{Book}
 use Rattle.td_commands.specs.Commands.{owner_of}
 use Rattle.td_desk.specs.declared.fault.Fault.{Fault}
 use Rattle.td_desk.specs.declared.fault.Fault.TheVariants as fault
-use Rattle.td_desk.specs.Content.{Content}
-use Rattle.td_desk.specs.Sound.{IsSound}
+use Rattle.td_desk.specs.Content.{Content, IsSound}
 use Rattle.td_desk.specs.Runs.{IsTied, is_holder}
 use Rattle.td_fields.specs.declared.fault.WebFault.{WebFault}
-use Rattle.td_wire.specs.declared.reply.Reply.{Reply}
-use Rattle.td_wire.specs.declared.reply.Reply.TheVariants.{Made, NoMemory, Store}
-use Rattle.td_wire.specs.declared.stream.StreamEnd.{StreamEnd}
-use Rattle.td_wire.specs.Request.{Asked}
-use Rattle.td_wire.specs.ReplyText.{bytes_of, is_made}
-use Rattle.td_wire.specs.Stream.{Exchange, Serves, Sides, question}
+use Rattle.http_wire.specs.declared.reply.Reply.{Reply}
+use Rattle.http_wire.specs.declared.reply.Reply.TheVariants.{Made, NoMemory, Store}
+use Rattle.http_wire.specs.declared.stream.StreamEnd.{StreamEnd}
+use Rattle.http_wire.specs.Request.{Asked}
+use Rattle.http_wire.specs.ReplyText.{bytes_of, is_made}
+use Rattle.http_wire.specs.Stream.{Exchange, Serves, Sides, question}
 use Rattle.td_http.specs.declared.service.Service.{Service}
-use Rattle.td_http.specs.Served.{desk_of, IsHandledBy, IsHeadHandledBy, IsPrivate, IsPrivateAlone}
-use Rattle.td_http.specs.Serving.{Demand, command_in, heard_in, told_in}
+use Rattle.td_http.specs.Serving.{desk_of, IsHandledBy, IsHeadHandledBy, IsPrivate, IsPrivateAlone, Demand, command_in, heard_in, told_in}
 
 -- H's commands among the exchanges that come after so many, whether they failed or not: each with its
 -- moment, and whether its reply has to tell that the stream stops

@@ -1,28 +1,31 @@
 -- What the desk's service does with a request, and what a stream of requests tells each holder.
-use Rattle.std.specs.Prelude.{◌≡◌, ℕ, ℤ, ◌+◌, ◌⊎◌, Bool, true, false, if◌then◌else◌, List, [], ◌∷◌, ◌++◌, map, None, Option, Result, Ok, Err}
+-- A desk's service as a handler of requests, and what a stream at a desk tells each holder.
+use Rattle.std.specs.Prelude.{◌≡◌, ℕ, ℤ, ◌+◌, ◌⊎◌, Bool, true, false, if◌then◌else◌, List, [], ◌∷◌, ◌++◌, map, None, Option, Result, Ok, Err, option_and_then, option_map}
 use Rattle.td_commands.specs.declared.command.Command.{Command}
 use Rattle.td_commands.specs.declared.command.Stamped.{Stamped}
-use Rattle.td_acts.specs.Account.{empty_account}
-use Rattle.td_acts.specs.Book.{Book}
+use Rattle.td_model.specs.Account.{empty_account}
+use Rattle.td_model.specs.Book.{Book}
 use Rattle.td_commands.specs.Commands.{owner_of}
-use Rattle.td_acts.specs.Machine.{verdict, book_after, machine_book}
-use Rattle.td_acts.specs.Table.{said}
+use Rattle.td_model.specs.Machine.{verdict, book_after, machine_book}
+use Rattle.td_model.specs.Table.{said}
 use Rattle.td_commands.specs.declared.said.Said.{Said}
 use Rattle.td_desk.specs.declared.fault.Fault.{Fault}
-use Rattle.td_desk.specs.declared.fault.Fault.TheVariants as fault
 use Rattle.td_desk.specs.declared.running.Outcome.{Outcome}
-use Rattle.td_desk.specs.declared.running.Outcome.TheVariants as outcome
-use Rattle.td_desk.specs.Content.{Content}
-use Rattle.td_desk.specs.Sound.{IsSound}
+use Rattle.td_desk.specs.Content.{Content, IsSound}
 use Rattle.td_desk.specs.Runs.{IsOutcomeOf, IsStep, IsTied, is_holder}
 use Rattle.td_fields.specs.declared.fault.WebFault.{WebFault}
-use Rattle.td_wire.specs.declared.reply.Reply.{Reply}
-use Rattle.td_wire.specs.declared.reply.Reply.TheVariants.{Made, NoMemory, Store}
-use Rattle.td_wire.specs.Request.{Asked}
-use Rattle.td_wire.specs.ReplyText.{bytes_of, is_made}
+use Rattle.http_wire.specs.declared.reply.Reply.{Reply}
+use Rattle.http_wire.specs.declared.reply.Reply.TheVariants.{Made, NoMemory, Store}
+use Rattle.http_wire.specs.Request.{Asked}
+use Rattle.http_wire.specs.ReplyText.{bytes_of, is_made, head_text}
 use Rattle.td_answers.specs.Answers.{said_reply, fault_reply}
 use Rattle.td_routes.specs.Bodies.{command_of}
-use Rattle.td_wire.specs.Stream.{Exchange, question}
+use Rattle.http_wire.specs.Stream.{Exchange, question}
+use Rattle.td_http.specs.declared.service.Service.{Service}
+use Rattle.td_fields.specs.Faults.{allowed_text}
+use Rattle.td_routes.specs.Routes.{methods_of, path_of}
+use Rattle.td_desk.specs.declared.fault.Fault.TheVariants as fault
+use Rattle.td_desk.specs.declared.running.Outcome.TheVariants as outcome
 
 -- what a request asks: a command, or why it can't be read
 abbrev pub command_in : Asked → Result Command WebFault
@@ -151,3 +154,44 @@ pub record IsServedAlone (country : List ℕ) (books : ℕ → Book) (at : ℤ) 
   pub tied : IsTied new (λ H.
       machine_book H (books H)
       (commands_of (heard_by country H (command_in asked) at asked.close (is_made reply))))
+
+-- the desk behind a service
+abbrev pub desk_of : {D : Type 0} → Service D → D
+desk_of s = s.desk
+
+-- what a request does to a service of a desk
+abbrev pub IsHandledBy : {D : Type 0} → (D → Content) → (D → Type 0) → (D → Type 0) → Type 0 → Service D → ℤ
+    → Asked → Reply → Service D → Type 0
+IsHandledBy = IsHandled desk_of
+
+-- the reply to a HEAD request: a head alone, with the methods of the target's path where the desk has it
+abbrev pub IsHeadReply : List ℕ → Reply → Type 0
+IsHeadReply target reply =
+    (reply ≡ NoMemory) ⊎ ((is_made reply ≡ true)
+    × (bytes_of reply ≡ head_text (option_map allowed_text (option_and_then methods_of (path_of target)))))
+
+-- a HEAD request leaves the desk as it is
+pub record IsHeadHandledBy {D : Type 0} (old : Service D) (target : List ℕ) (reply : Reply)
+    (new : Service D) : Type 0 where
+  pub stays : desk_of new ≡ desk_of old
+  pub told : IsHeadReply target reply
+
+-- Where the desk is clean in the end: to each holder at once, the bytes of the replies to the holder's
+-- requests are those of the holder's own machine, from any books to which the desk's content was tied. Where
+-- a fault shut the desk on the way, c is the content up to that.
+abbrev pub IsPrivate : {D : Type 0} → (D → Content) → (D → Type 0) → (D → Type 0) → Service D → Service D
+    → List Exchange → Type 0
+IsPrivate content is_clean is_live old new exchanges =
+    is_clean (desk_of new) → is_live (desk_of old) → IsSound (content (desk_of old)) → (books : ℕ → Book)
+    → IsTied (content (desk_of old)) books
+    → (c : Content) × IsServed (content (desk_of old)).country books 0 exchanges c
+    × (is_live (desk_of new) → content (desk_of new) ≡ c)
+
+-- The same of one request alone, from books to the books after it.
+abbrev pub IsPrivateAlone : {D : Type 0} → (D → Content) → (D → Type 0) → (D → Type 0) → Service D → ℤ → Asked
+    → Reply → Service D → Type 0
+IsPrivateAlone content is_clean is_live old at asked reply new =
+    is_clean (desk_of new) → is_live (desk_of old) → IsSound (content (desk_of old)) → (books : ℕ → Book)
+    → IsTied (content (desk_of old)) books
+    → (c : Content) × IsServedAlone (content (desk_of old)).country books at asked reply c
+    × (is_live (desk_of new) → content (desk_of new) ≡ c)

@@ -1,28 +1,28 @@
 //! Streams of requests served by a desk.
 ghost use Rattle.std.specs.Prelude.{◌≡◌};
-ghost use Rattle.td_http.specs.Served.{IsHandledBy, IsHeadHandledBy, IsPrivate};
-ghost use Rattle.td_wire.specs.Stream.{Serves};
+ghost use Rattle.td_http.specs.Serving.{IsHandledBy, IsHeadHandledBy, IsPrivate};
+ghost use Rattle.http_wire.specs.Stream.{Serves};
 
 use crate::service::Service;
+use http_wire::{Clock, Handler, Reply, Request, StreamEnd, serve_requests};
 use std::alloc::Global;
 use std::io::{Read, Write};
 use td_base::Counted;
 use td_desk::Desk;
-use td_wire::{Clock, Handler, Reply, Request, StreamEnd, serve_requests};
 
 impl<D: Desk + Drop> Handler for Service<D> {
-    ghost use Rattle.td_http.specs.Served.{IsHandledBy, IsHeadHandledBy};
+    ghost use Rattle.td_http.specs.Serving.{IsHandledBy, IsHeadHandledBy};
 
     ghost handles = { IsHandledBy D.content D.is_clean D.is_live D.has_store };
 
     ghost handles_head = { IsHeadHandledBy };
 
     fn handle(&mut self, alloc: Global, at: i64, request: &Request) -> Reply {
-        self.handle(alloc, at, request)
+        Service::handle(self, alloc, at, request)
     }
 
     fn head(&mut self, alloc: Global, target: &[u8]) -> Reply {
-        self.head(alloc, target)
+        Service::head(self, alloc, target)
     }
 }
 

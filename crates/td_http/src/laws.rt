@@ -1,20 +1,20 @@
 //! Laws of what a holder is told over HTTP, as contracts of functions that do nothing.
 ghost use Rattle.std.specs.Prelude.{◌≡◌, ℕ, ℤ, List, Ok, Some};
 ghost use Rattle.td_commands.specs.declared.command.Command.{Command};
-ghost use Rattle.td_acts.specs.Book.{Book};
+ghost use Rattle.td_model.specs.Book.{Book};
 ghost use Rattle.td_commands.specs.Commands.{owner_of};
-ghost use Rattle.td_wire.specs.declared.reply.Reply.{Reply};
-ghost use Rattle.td_wire.specs.declared.stream.StreamEnd.{StreamEnd};
-ghost use Rattle.td_wire.specs.Request.{Asked};
-ghost use Rattle.td_wire.specs.ReplyText.{bytes_of};
-ghost use Rattle.td_wire.specs.Stream.{Sides};
+ghost use Rattle.http_wire.specs.declared.reply.Reply.{Reply};
+ghost use Rattle.http_wire.specs.declared.stream.StreamEnd.{StreamEnd};
+ghost use Rattle.http_wire.specs.Request.{Asked};
+ghost use Rattle.http_wire.specs.ReplyText.{bytes_of};
+ghost use Rattle.http_wire.specs.Stream.{Sides};
 ghost use Rattle.td_http.specs.declared.service.Service.{Service};
 ghost use Rattle.td_http.specs.Laws.{IsRequestAt, IsStreamAt, TellAlike, fault_told};
 ghost use Rattle.td_http.specs.Serving.{command_in};
 
+use http_wire::Clock;
 use std::io::{Read, Write};
 use td_desk::Desk;
-use td_wire::Clock;
 
 /// The headline, over the bytes of two streams, each as a call of `serve_stream` leaves it. They may be
 /// served at different desks of one country, over different readers, writers and clocks, from contents

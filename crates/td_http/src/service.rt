@@ -1,22 +1,22 @@
 //! The desk as a service: a request is read, weighed, its reply is built, and only then it is carried.
 ghost use Rattle.std.specs.Prelude.{◌≡◌, ◌≢◌, ◌⊎◌, None, Bool, true, MatchResult, option_map};
 ghost use Rattle.td_fields.specs.Faults.{allowed_text};
-ghost use Rattle.td_wire.specs.ReplyText.{head_text, is_made, bytes_of};
+ghost use Rattle.http_wire.specs.ReplyText.{head_text, is_made, bytes_of};
 ghost use Rattle.td_commands.specs.declared.command.Stamped.{Stamped};
 ghost use Rattle.td_commands.specs.declared.said.Said.{Said};
 ghost use Rattle.td_desk.specs.declared.fault.Fault.TheVariants as fault;
 ghost use Rattle.td_desk.specs.declared.running.Outcome.TheVariants as outcome;
 ghost use Rattle.td_desk.specs.Runs.{IsOutcomeOf, IsStep};
-ghost use Rattle.td_wire.specs.Request.{asked};
+ghost use Rattle.http_wire.specs.Request.{asked};
 ghost use Rattle.td_http.specs.Serving.{fixed_reply, IsCausedBy, IsReplyTo, IsFaultReply, HandledAs};
 ghost use Rattle.td_answers.specs.Answers.{said_reply};
 
+use http_wire::{Reply, Request, head_reply};
 use std::alloc::Global;
 use td_acts::Command;
 use td_answers::{fault_bytes, reply_bytes};
 use td_desk::{Desk, Fault};
 use td_routes::{Allowed, Routes, WebFault, path, read_command_by};
-use td_wire::{Reply, Request, head_reply};
 
 /// A desk that answers HTTP requests.
 #[derive(Drop)]
@@ -78,7 +78,13 @@ fn reply_to_fault(fault: Fault) -> Reply
 }
 
 // The reply to a command.
-fn reply_to<D: Desk>(alloc: Global, desk: &mut D, at: i64, command: &Command, close: bool) -> Reply
+fn reply_to_command<D: Desk>(
+    alloc: Global,
+    desk: &mut D,
+    at: i64,
+    command: &Command,
+    close: bool,
+) -> Reply
     ensures clean { D.is_clean desk.new → D.is_clean desk.old }
     ensures live { D.is_clean desk.new → D.is_live desk.new → D.is_live desk.old }
     ensures handled { D.is_clean desk.new
@@ -108,7 +114,7 @@ fn reply_to_unread(alloc: Global, fault: &WebFault, close: bool) -> Reply
 }
 
 impl<D: Desk + Drop> Service<D> {
-    ghost use Rattle.td_http.specs.Served.{desk_of, IsHandledBy, IsHeadHandledBy, IsPrivateAlone};
+    ghost use Rattle.td_http.specs.Serving.{desk_of, IsHandledBy, IsHeadHandledBy, IsPrivateAlone};
 
     /// A service of the desk. It takes no memory.
     pub fn new(desk: D) -> Service<D>
@@ -138,7 +144,7 @@ impl<D: Desk + Drop> Service<D> {
         ensures alone { IsPrivateAlone D.content D.is_clean D.is_live self.old at (asked request.now) result self.new }
     {
         match read_command_by(alloc, &mut self.routes, request) {
-            Ok(command) => reply_to(alloc, &mut self.desk, at, &command, request.close),
+            Ok(command) => reply_to_command(alloc, &mut self.desk, at, &command, request.close),
             Err(fault) => reply_to_unread(alloc, &fault, request.close),
         }
     }

@@ -5,7 +5,7 @@ use Rattle.std.specs.Prelude.{SomeIff}
 use Rattle.std.specs.Bool.{Decides}
 use Rattle.std.specs.List.{slice_get}
 use Rattle.ascii_text.proofs.Decided.{some_where, le_decided, some_decided, implies_decided, digits_decided}
-use Rattle.td_money.specs.Money.{IsCentsText, IsWhole, is_cents_text, is_whole, cents_read, cents_value, point_of}
+use Rattle.td_money.specs.Money.{IsCentsText, IsWhole, is_cents_text, is_whole, cents_read, cents_value, point_of, most_cents}
 
 pub whole_decided : (text : List ℕ) → Decides (is_whole text) (IsWhole text)
 whole_decided text =
@@ -21,7 +21,7 @@ cents_text_decided text =
     (λ h. record { whole = h.0.0.0; point = h.0.0.1; fraction = h.0.1; range = h.1 })
     (λ h. (((h.whole, h.point), h.fraction), h.range))
     (Decides-and _ _ (Decides-and _ _ (Decides-and _ _ (whole_decided (take (point_of text) text)) (some_decided (slice_get text (point_of text)) 46))
-    (digits_decided (drop (point_of text + 1) text))) (le_decided (cents_value text) (10 ^ 15)))
+    (digits_decided (drop (point_of text + 1) text))) (le_decided (cents_value text) most_cents))
 
 -- what a text is read as, where it is an amount's or isn't
 pub cents_read_is : (text : List ℕ) (r : Option ℕ) → SomeIff r (IsCentsText text) (cents_value text) → r ≡ cents_read text

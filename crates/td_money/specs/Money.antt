@@ -6,14 +6,18 @@ use Rattle.std.specs.Fmt.{decimal}
 use Rattle.std.specs.List.{list_all}
 use Rattle.std.specs.Option.{option_eq}
 
--- An amount in cents. The limit is the desk's own: a hundred times as much fits in 64 bits, so a
--- share can be taken of every amount.
+-- The greatest amount in cents. The limit is the desk's own: a hundred times as much fits in 64 bits, so a share can be taken of
+-- every amount.
+abbrev pub most_cents : ℕ
+most_cents = 10 ^ 15
+
+-- an amount in cents
 abbrev pub IsCents : ℕ → Type 0
-IsCents n = n ≤ 10 ^ 15
+IsCents n = n ≤ most_cents
 
 -- whether a number is one
 abbrev pub is_cents : ℕ → Bool
-is_cents n = nat_le n (10 ^ 15)
+is_cents n = nat_le n most_cents
 
 -- the amount of so many cents, where there is one
 abbrev pub cents_of : ℕ → Option ℕ
@@ -21,11 +25,11 @@ cents_of n = if is_cents n then Some n else None
 
 -- a reference amount in cents (Common Transit Convention, Appendix I): an amount, and not nothing
 abbrev pub IsReference : ℕ → Type 0
-IsReference n = (1 ≤ n) × (n ≤ 10 ^ 15)
+IsReference n = (1 ≤ n) × (n ≤ most_cents)
 
 -- whether a number is one
 abbrev pub is_reference : ℕ → Bool
-is_reference n = nat_le 1 n && nat_le n (10 ^ 15)
+is_reference n = nat_le 1 n && nat_le n most_cents
 
 -- the reference amount of so many cents, where there is one
 abbrev pub reference_of : ℕ → Option ℕ

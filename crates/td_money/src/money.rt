@@ -6,6 +6,9 @@ use ascii_text::{is_digits, last_digit, read_digits};
 use std::fmt;
 use std::marker::Model;
 
+/// The greatest amount, in cents.
+const MOST_CENTS: u64 = 1_000_000_000_000_000;
+
 /// An amount of money in cents, 0 to 10^15. Contracts see it as that number. It is printed with a point and two
 /// digits, as `1234.56`.
 #[derive(Clone, Copy, Debug, PartialEq, Eq, PartialOrd, Ord)]
@@ -29,7 +32,7 @@ impl Cents {
         ensures value { result ≡ cents_of cents }
         ensures range { SomeIff result (IsCents cents) cents }
     {
-        if cents <= 1_000_000_000_000_000 {
+        if cents <= MOST_CENTS {
             Some(Cents { cents })
         } else {
             None
@@ -130,7 +133,7 @@ impl Reference {
         ensures value { result ≡ reference_of cents }
         ensures range { SomeIff result (IsReference cents) cents }
     {
-        if cents >= 1 && cents <= 1_000_000_000_000_000 {
+        if cents >= 1 && cents <= MOST_CENTS {
             Some(Reference { cents })
         } else {
             None

@@ -8,7 +8,7 @@ mod moves;
 mod state;
 mod times;
 
-pub use line::{Line, MovementLines};
+pub use line::{Line, MOST_LINE_CENTS, MOST_LINES, MovementLines};
 pub use movement::Movement;
 pub use moves::{Move, WrongState, step};
 pub use state::{Control, Ground, State, counts, names_differ};

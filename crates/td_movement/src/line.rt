@@ -5,6 +5,12 @@ use std::alloc::{AllocError, Global};
 use std::marker::Model;
 use td_base::{Cents, Grn};
 
+/// The most lines of a movement.
+pub const MOST_LINES: usize = 9;
+
+/// The greatest amount of a line, in cents.
+pub const MOST_LINE_CENTS: u64 = 1_000_000_000_000;
+
 /// A line: a guarantee, and the amount in cents for which it is used.
 #[derive(Clone, Copy, Debug, PartialEq, Eq)]
 pub struct Line {
@@ -28,11 +34,11 @@ enum Items {
 impl Model for MovementLines {
     ghost use Rattle.std.specs.Prelude.{List};
     ghost use Rattle.td_movement.specs.declared.line.Line.{Line};
-    ghost use Rattle.td_movement.specs.Lines.{lines_in};
+    ghost use Rattle.td_movement.specs.Lines.{lines_kept};
 
     ghost Value = { List Line };
 
-    ghost view = { λ l. lines_in l.items };
+    ghost view = { λ l. lines_kept l.items };
 }
 
 impl MovementLines {

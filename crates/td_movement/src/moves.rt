@@ -1,7 +1,7 @@
 //! The moves of a movement from state to state.
 ghost use Rattle.std.specs.Prelude.{◌≡◌, IfErr};
 ghost use Rattle.std.specs.Result.{result_ok};
-ghost use Rattle.td_movement.specs.Moves.{state_after};
+ghost use Rattle.td_movement.specs.States.{state_after};
 
 use crate::state::{Control, Ground, State};
 use thiserror::Error;

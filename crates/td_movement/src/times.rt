@@ -1,6 +1,6 @@
 //! The days by which a movement has to arrive, to be controlled, and to be asked after.
 ghost use Rattle.std.specs.Prelude.{◌≡◌};
-ghost use Rattle.td_movement.specs.Times.{enquiry_is_open, overdue};
+ghost use Rattle.td_movement.specs.Status.{enquiry_is_open, overdue};
 
 use crate::state::State;
 use td_base::Day;

@@ -6,12 +6,10 @@ use Rattle.serde_json.specs.Read.{read}
 use Rattle.serde_json.specs.Find.{as_object}
 use Rattle.td_commands.specs.declared.command.Command.{Command}
 use Rattle.td_commands.specs.declared.command.Command.TheVariants as command
-use Rattle.td_base.specs.Codes.{code_read, lrn_read, office_read}
+use Rattle.td_base.specs.Codes.{code_read, lrn_read, office_read, eori_read}
 use Rattle.td_base.specs.Days.{day_read}
-use Rattle.td_base.specs.Eori.{eori_read}
 use Rattle.td_base.specs.Money.{cover_of, reference_of}
-use Rattle.td_fields.specs.BodyFields.{text_at, number_at, control_read, ground_read}
-use Rattle.td_fields.specs.BodyLines.{lines_at}
+use Rattle.td_fields.specs.BodyFields.{text_at, number_at, control_read, ground_read, lines_at}
 use Rattle.td_fields.specs.Faults.{field_name, ◌>>=◌}
 use Rattle.td_routes.specs.Routes.{route_of, path_of}
 use Rattle.td_fields.specs.declared.fault.Field.{Field}

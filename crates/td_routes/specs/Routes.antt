@@ -5,7 +5,7 @@ use Rattle.std.specs.Prelude.{◌==◌}
 use Rattle.std.specs.Str.{is_utf8}
 use Rattle.path_table.specs.Segments.{fits, parts_of}
 use Rattle.td_fields.specs.Faults.{◌>>=◌}
-use Rattle.td_base.specs.Holder.{holder_read}
+use Rattle.td_base.specs.Codes.{holder_read}
 use Rattle.td_base.specs.References.{is_mrn, is_grn, first_fault}
 use Rattle.td_fields.specs.declared.fault.Allowed.{Allowed}
 use Rattle.td_fields.specs.declared.fault.WebFault.{WebFault}
@@ -97,8 +97,8 @@ abbrev pub grn_part : List ℕ → Result (List ℕ) WebFault
 grn_part part = if is_grn part then Ok part else Err (BadGrn (first_fault 17 part))
 
 -- the parts of a path, by what they name, from left to right
-abbrev pub holder_in : List (List ℕ) → Result ℕ WebFault
-holder_in parts = holder_part (part_at 0 parts)
+abbrev pub holder_of_parts : List (List ℕ) → Result ℕ WebFault
+holder_of_parts parts = holder_part (part_at 0 parts)
 
 abbrev pub grn_in : List (List ℕ) → Result (List ℕ) WebFault
 grn_in parts = grn_part (part_at 0 parts)
@@ -120,11 +120,11 @@ holder_and_mrn parts =
 
 -- the route of a row and the parts of its path
 abbrev pub route_with : List (List ℕ) → Endpoint → Result Route WebFault
-route_with parts endpoint.Register = holder_in parts >>= λ holder. Ok (route.Register holder)
-route_with parts endpoint.OpenGuarantee = holder_in parts >>= λ holder. Ok (route.OpenGuarantee holder)
+route_with parts endpoint.Register = holder_of_parts parts >>= λ holder. Ok (route.Register holder)
+route_with parts endpoint.OpenGuarantee = holder_of_parts parts >>= λ holder. Ok (route.OpenGuarantee holder)
 route_with parts endpoint.Amend = grn_in parts >>= λ grn. Ok (route.Amend grn)
 route_with parts endpoint.Revoke = grn_in parts >>= λ grn. Ok (route.Revoke grn)
-route_with parts endpoint.Ie015 = holder_in parts >>= λ holder. Ok (route.Ie015 holder)
+route_with parts endpoint.Ie015 = holder_of_parts parts >>= λ holder. Ok (route.Ie015 holder)
 route_with parts endpoint.Ie014 = holder_and_mrn parts >>= λ named. Ok (route.Ie014 named.0 named.1)
 route_with parts endpoint.AddCode = holder_and_grn parts >>= λ named. Ok (route.AddCode named.0 named.1)
 route_with parts endpoint.RemoveCode = holder_and_grn parts >>= λ named. Ok (route.RemoveCode named.0 named.1)
@@ -133,11 +133,11 @@ route_with parts endpoint.Ie007 = mrn_in parts >>= λ mrn. Ok (route.Ie007 mrn)
 route_with parts endpoint.Ie018 = mrn_in parts >>= λ mrn. Ok (route.Ie018 mrn)
 route_with parts endpoint.Ie045 = mrn_in parts >>= λ mrn. Ok (route.Ie045 mrn)
 route_with parts endpoint.Ie140 = mrn_in parts >>= λ mrn. Ok (route.Ie140 mrn)
-route_with parts endpoint.SeeHolder = holder_in parts >>= λ holder. Ok (route.SeeHolder holder)
+route_with parts endpoint.SeeHolder = holder_of_parts parts >>= λ holder. Ok (route.SeeHolder holder)
 route_with parts endpoint.SeeMovement = holder_and_mrn parts >>= λ named. Ok (route.SeeMovement named.0 named.1)
-route_with parts endpoint.SeeMovements = holder_in parts >>= λ holder. Ok (route.SeeMovements holder)
+route_with parts endpoint.SeeMovements = holder_of_parts parts >>= λ holder. Ok (route.SeeMovements holder)
 route_with parts endpoint.SeeGuarantee = holder_and_grn parts >>= λ named. Ok (route.SeeGuarantee named.0 named.1)
-route_with parts endpoint.SeeGuarantees = holder_in parts >>= λ holder. Ok (route.SeeGuarantees holder)
+route_with parts endpoint.SeeGuarantees = holder_of_parts parts >>= λ holder. Ok (route.SeeGuarantees holder)
 
 -- the route of a method and a path among rows: the path's pattern, its row with the method, and the parts
 abbrev pub route_in : List TableRow → List ℕ → List ℕ → Result Route WebFault

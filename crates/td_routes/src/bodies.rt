@@ -11,6 +11,7 @@ ghost use Rattle.td_routes.specs.declared.table.Route.TheVariants as route;
 
 use crate::routes::Routes;
 use crate::table::Route;
+use http_wire::Request;
 use serde_json::Value;
 use std::alloc::Global;
 use td_base::{AccessCode, Cover, Grn, HolderNo, Mrn, OfficeNo, Reference};
@@ -19,7 +20,6 @@ use td_fields::{
     Field, WebFault, code_in, cover_in, eori_in, ground_in, limit_in, lines_in, lrn_in, office_in,
     reference_in, result_in,
 };
-use td_wire::Request;
 
 /// The command of a request, or the first fault, in the order of `WebFault`. Want of memory may take the
 /// place of either. A command without fields doesn't look at the body; of one with fields, unknown keys of

@@ -3,7 +3,7 @@ ghost use Rattle.std.specs.Prelude.{◌≡◌, [], Some, find, bytes_eq, unwrap_
 ghost use Rattle.std.specs.Option.{ForSome};
 ghost use Rattle.std.specs.Str.{IsUtf8};
 ghost use Rattle.td_fields.specs.Faults.{OrNoMemory};
-ghost use Rattle.td_routes.specs.Routes.{table, row_shown, pattern_in, row_with, methods_with, holder_part, mrn_part, grn_part, part_at, holder_in, grn_in, mrn_in, holder_and_grn, holder_and_mrn, route_with, route_in, route_of, methods_of};
+ghost use Rattle.td_routes.specs.Routes.{table, row_shown, pattern_in, row_with, methods_with, holder_part, mrn_part, grn_part, part_at, holder_of_parts, grn_in, mrn_in, holder_and_grn, holder_and_mrn, route_with, route_in, route_of, methods_of};
 ghost use Rattle.td_fields.specs.declared.fault.WebFault.TheVariants.{NoMemory};
 
 use crate::table::{Endpoint, ROWS, Route, Row, Verb};
@@ -40,7 +40,7 @@ fn part_at<'p>(parts: &Parts<'_, 'p>, place: usize) -> &'p [u8]
 
 // A path that names a holder.
 fn holder_in(parts: &Parts<'_, '_>) -> Result<HolderNo, WebFault>
-    ensures { result ≡ holder_in parts.now }
+    ensures { result ≡ holder_of_parts parts.now }
 {
     read_holder(part_at(parts, 0))
 }

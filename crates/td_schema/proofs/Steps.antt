@@ -13,8 +13,9 @@ use Rattle.sqlite.specs.Effect.{Database}
 use Rattle.sqlite.specs.Listing.{understood}
 use Rattle.sqlite.specs.State.{State, Writes, ExecutesInside}
 use Rattle.sqlite.proofs.Callers.{statement_of, runs_as}
-use Rattle.td_sql.proofs.Steps.{command_is, same_value, went}
-use Rattle.td_schema.specs.Making.{own_text, MakesOne, IsEmptyOf}
+use Rattle.typed_sql.proofs.Steps.{command_is, same_value, went}
+use Rattle.td_schema.specs.Making.{own_text, MakesOne}
+use Rattle.td_schema.specs.Tables.{IsEmptyOf}
 
 -- the own text, in the words of the kit
 text_is : (text : List ℕ) (r : Result Compiled CompileError) → statement_of text r ≡ own_text text r

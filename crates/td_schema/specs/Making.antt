@@ -1,6 +1,5 @@
 -- What the making of a table does.
 use Rattle.std.specs.Prelude.{◌≡◌, ℕ, false, List, [], Result, Ok, Err}
-use Rattle.std.specs.List.{AllByRecursion}
 use Rattle.sqlite_catalog.specs.Change.{created}
 use Rattle.sqlite_resolve.specs.Compile.{table_defined_by}
 use Rattle.sqlite_resolve.specs.declared.compiled.Compiled.{Compiled}
@@ -9,11 +8,10 @@ use Rattle.sqlite_schema.specs.declared.command.Command.TheVariants.{CreateTable
 use Rattle.sqlite_schema.specs.declared.schema.Schema.{Schema}
 use Rattle.sqlite_schema.specs.declared.schema.Table.{Table}
 use Rattle.sqlite.specs.Does.{lacks_sequence}
-use Rattle.sqlite.specs.Effect.{Database}
 use Rattle.sqlite.specs.Given.{IsPlain}
 use Rattle.sqlite.specs.Listing.{understood}
 use Rattle.sqlite.specs.State.{text_of}
-use Rattle.td_sql.specs.Meanings.{command_in}
+use Rattle.typed_sql.specs.Meanings.{command_in}
 
 -- the own text of a statement that is understood
 abbrev pub own_text : List ℕ → Result Compiled CompileError → List ℕ
@@ -27,8 +25,3 @@ pub record MakesOne (s : Schema) (text : List ℕ) (t : Table) : Type 0 where
   pub whole : own_text text (understood s text) ≡ text
   pub table : table_defined_by text ≡ Ok t
   pub uncounted : lacks_sequence (created s t) ≡ false
-
--- the database has these tables, and no row in any
-pub record IsEmptyOf (s : Schema) (db : Database) : Type 0 where
-  pub schema : db.schema ≡ s
-  pub empty : AllByRecursion (λ t. db.trees t.tree ≡ []) s.tables

@@ -1,6 +1,6 @@
 -- The tables of version 1, as SQLite understands their texts; where their rows stand is settled as they are made. Those that no
 -- later version changes are made first, so that they have the same places in each.
-use Rattle.std.specs.Prelude.{ℕ, pos, true, false, List, [], ◌∷◌, Some, None, codes}
+use Rattle.std.specs.Prelude.{ℕ, pos, true, false, List, [], ◌∷◌, Some, None, codes, ◌≡◌}
 use Rattle.sqlite_value.specs.declared.keys.Collation.TheVariants.{Binary}
 use Rattle.sqlite_value.specs.declared.keys.Order.{Order}
 use Rattle.sqlite_value.specs.declared.value.Value.{Value}
@@ -17,6 +17,8 @@ use Rattle.sqlite_schema.specs.declared.schema.Stamps.{Stamps}
 use Rattle.sqlite_schema.specs.declared.schema.Action.TheVariants.{NoAction}
 use Rattle.sqlite_schema.specs.declared.schema.Kind.{Kind}
 use Rattle.sqlite_schema.specs.declared.schema.Kind.TheVariants as kind
+use Rattle.sqlite.specs.Effect.{Database}
+use Rattle.std.specs.List.{AllByRecursion}
 
 -- a column that is never NULL, and one that may be
 abbrev pub always : Kind → List ℕ → Column
@@ -164,3 +166,8 @@ no_schema = record { tables = []; indexes = []; views = [] }
 -- the tables of a desk, in the order in which they are made, each with the indexes of its keys
 abbrev pub desk_schema : Schema
 desk_schema = created (created (created (created (created (created no_schema meta) holders) codes_table) movements) guarantees) lines
+
+-- the database has these tables, and no row in any
+pub record IsEmptyOf (s : Schema) (db : Database) : Type 0 where
+  pub schema : db.schema ≡ s
+  pub empty : AllByRecursion (λ t. db.trees t.tree ≡ []) s.tables

@@ -1,7 +1,14 @@
-//! The tables of a store of SQLite: their texts, and how they are made.
+//! The tables of a store of SQLite: their texts, how they are made, and the fields of a desk's rows as their columns.
 #![tactic(auto)]
 
+mod columns;
 mod making;
 mod texts;
 
+pub use columns::{
+    amount_at, amount_of, amount_or_null, code_at, cover_at, cover_of, cover_or_null, day_at,
+    day_of, day_or_null, eori_at, grn_at, holder_at, holder_key, lrn_at, moment_at, mrn_at,
+    number_of, office_at, office_or_null, optional_day_at, optional_office_at, serial_at,
+    serial_key, state_at,
+};
 pub use making::make_tables;

@@ -5,8 +5,8 @@ ghost use Rattle.sqlite.specs.State.{HasCleanDisk, KeepsCommit, Survives};
 ghost use Rattle.sqlite_catalog.specs.Change.{created};
 ghost use Rattle.sqlite_schema.specs.declared.schema.Schema.{Schema};
 ghost use Rattle.sqlite_schema.specs.declared.schema.Table.{Table};
-ghost use Rattle.td_schema.specs.Tables.{no_schema, desk_schema};
-ghost use Rattle.td_schema.specs.Making.{MakesOne, IsEmptyOf};
+ghost use Rattle.td_schema.specs.Tables.{no_schema, desk_schema, IsEmptyOf};
+ghost use Rattle.td_schema.specs.Making.{MakesOne};
 
 use crate::texts::{CODES, GUARANTEES, HOLDERS, LINES, META, MOVEMENTS};
 use sqlite::{Error, Transaction};

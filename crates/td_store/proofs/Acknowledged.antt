@@ -6,9 +6,9 @@ use Rattle.sqlite_trees.specs.Tree.{Trees}
 use Rattle.sqlite.specs.Held.{state}
 use Rattle.sqlite.specs.State.{State}
 use Rattle.td_desk.specs.Content.{Content}
-use Rattle.td_tables.specs.Tables.{AreTablesOf}
-use Rattle.td_store_tables.specs.Rows.{AreAllTyped, HoldsContent, tables_in}
-use Rattle.td_store.specs.Kept.{AreAfterDecision, LeavesItsTables, content_in}
+use Rattle.td_table_model.specs.Tables.{AreTablesOf}
+use Rattle.td_store_rows.specs.StoreTables.{AreAllTyped, HoldsContent, tables_in, content_in}
+use Rattle.td_store.specs.Kept.{AreAfterDecision, LeavesItsTables}
 use Rattle.td_store.specs.Laws.{AcknowledgedIsKept, AcknowledgedIsKeptMeanwhile, HaveTablesOf}
 use Rattle.td_store.proofs.Holding.{content_held}
 

@@ -5,13 +5,13 @@ use Rattle.sqlite.specs.State.{State, HasCleanDisk, Survives}
 use Rattle.sqlite.proofs.StateLemmas.{survives_then, survives_weaker}
 use Rattle.td_acts.specs.declared.rows.Change.{Change}
 use Rattle.td_acts.specs.declared.rows.Verdict.{Verdict}
-use Rattle.td_desk.specs.Content.{content_after}
-use Rattle.td_desk.specs.Sound.{IsSound}
+use Rattle.td_desk.specs.Content.{content_after, IsSound}
 use Rattle.td_desk.specs.Weighing.{IsDecision}
 use Rattle.td_schema.specs.Tables.{desk_schema}
-use Rattle.td_sql.specs.Writing.{HasSchema}
-use Rattle.td_carrying.specs.Carried.{CarriesChange, MayLeave}
-use Rattle.td_store.specs.Kept.{IsCalled, IsDeskOf, LeavesAsIs, LeavesItsTables, LeavesTrees, MayLeaveAfter, content_in}
+use Rattle.typed_sql.specs.Writing.{HasSchema}
+use Rattle.td_store_write.specs.Carried.{CarriesChange, MayLeave}
+use Rattle.td_store.specs.Kept.{IsCalled, IsDeskOf, LeavesAsIs, LeavesItsTables, LeavesTrees, MayLeaveAfter}
+use Rattle.td_store_rows.specs.StoreTables.{content_in}
 use Rattle.td_store.proofs.Holding.{decided_there, desk_after, desk_still, holds_own, left_after, left_by_fault, left_by_read, written}
 
 -- a connection that is a desk's after the call has the tables of its content

@@ -5,22 +5,21 @@ use Rattle.sqlite_trees.specs.Tree.{Trees}
 use Rattle.sqlite.specs.Effect.{Database}
 use Rattle.sqlite.specs.State.{State, HasCleanDisk}
 use Rattle.td_acts.specs.declared.rows.Change.{Change}
-use Rattle.td_acts.specs.declared.rows.HolderRow.{HolderRow}
+use Rattle.td_model.specs.declared.holder_row.HolderRow.{HolderRow}
 use Rattle.td_acts.specs.declared.rows.Verdict.{Verdict}
-use Rattle.td_desk.specs.Content.{Content, content_after, content_after_row}
-use Rattle.td_desk.specs.Sound.{IsSound}
+use Rattle.td_desk.specs.Content.{Content, content_after, content_after_row, IsSound}
 use Rattle.td_desk.specs.Weighing.{IsDecision, kept_for}
 use Rattle.td_acts.specs.Changes.{row_in}
 use Rattle.td_acts.specs.Deciding.{IsLoaded}
 use Rattle.td_acts.specs.declared.rows.Loaded.{Loaded}
 use Rattle.td_commands.specs.Commands.{Need}
-use Rattle.td_tables.specs.Tables.{AreTablesOf}
-use Rattle.td_tables.proofs.Gathered.{content_is}
+use Rattle.td_table_model.specs.Tables.{AreTablesOf}
+use Rattle.td_table_model.proofs.Gathered.{content_is}
 use Rattle.td_schema.specs.Tables.{desk_schema}
-use Rattle.td_sql.specs.Writing.{HasSchema}
-use Rattle.td_store_tables.specs.Rows.{AreAllTyped, HoldsContent, tables_in}
-use Rattle.td_carrying.specs.Carried.{CarriesChange, IsDecidedOver, MayLeave}
-use Rattle.td_store.specs.Kept.{IsDeskOf, LeavesAsIs, LeavesTrees, MayLeaveAfter, content_in}
+use Rattle.typed_sql.specs.Writing.{HasSchema}
+use Rattle.td_store_rows.specs.StoreTables.{AreAllTyped, HoldsContent, tables_in, content_in}
+use Rattle.td_store_write.specs.Carried.{CarriesChange, IsDecidedOver, MayLeave}
+use Rattle.td_store.specs.Kept.{IsDeskOf, LeavesAsIs, LeavesTrees, MayLeaveAfter}
 
 -- the content that a connection holds is that of its trees
 pub content_held : (c : Content) (s : State) → HoldsContent c s → content_in s.now.trees ≡ c

@@ -6,17 +6,17 @@ use Rattle.std.specs.Option.{option_to_list}
 use Rattle.std.proofs.lemmas.Bool.Decides.{Decides-and, Decides-eqb, Decides-like}
 use Rattle.sqlite.specs.declared.error.Error.{Error}
 use Rattle.sqlite_trees.specs.Tree.{Trees}
-use Rattle.td_base.specs.Country.{IsCountry, country_read, is_country}
+use Rattle.td_base.specs.Codes.{IsCountry, country_read, is_country}
 use Rattle.td_base.proofs.Decided.{capitals_decided, some_where}
-use Rattle.td_tables.specs.declared.rule.Rule.{Rule}
-use Rattle.td_tables.specs.declared.rule.Rule.TheVariants.{S1}
-use Rattle.td_sql.specs.Typed.{AreTyped, rows_in}
-use Rattle.td_meta.specs.Cells.{MetaRow, meta_row, meta_typing}
-use Rattle.td_meta.specs.Stored.{stored_of}
-use Rattle.td_meta.specs.declared.stored.StoredMeta.{StoredMeta}
-use Rattle.td_audit_rows.specs.Ids.{HaveAllIds}
-use Rattle.td_audit_rows.specs.Laws.{AreKept, KeptRulesMeanContent}
-use Rattle.td_audit.specs.Broken.{TellsBroken}
+use Rattle.td_table_model.specs.declared.rule.Rule.{Rule}
+use Rattle.td_table_model.specs.declared.rule.Rule.TheVariants.{S1}
+use Rattle.typed_sql.specs.Typed.{AreTyped, typed_rows}
+use Rattle.td_store_rows.specs.Columns.{MetaRow, meta_row, meta_typing, newest_version}
+use Rattle.td_store_rows.specs.MetaTable.{stored_of}
+use Rattle.td_store_rows.specs.declared.meta.stored.StoredMeta.{StoredMeta}
+use Rattle.td_store_audit_rows.specs.Ids.{HaveAllIds}
+use Rattle.td_store_audit_rows.specs.Laws.{AreKept, KeptRulesMeanContent}
+use Rattle.td_store_audit.specs.Broken.{TellsBroken}
 use Rattle.td_store.specs.declared.refused.OpenFault.{OpenFault}
 use Rattle.td_store.specs.declared.refused.OpenFault.TheVariants.{UnknownVersion, NeedsMigration, OtherCountry, Damaged, Store, NoMemory}
 use Rattle.td_store.specs.Opened.{HasOfficeRow, IsOfAnother, IsOfVersion, TellsOffice, TellsRows, TellsTables}
@@ -49,25 +49,25 @@ one_row [] m is = absurd cc
 one_row (r ∷ []) m is = let same : stored_of r ≡ m = cc in (r, refl, same)
 one_row (r ∷ s ∷ rows) m is = absurd cc
 
-made_of : (row : MetaRow) (country : List ℕ) → row.version ≡ pos 1 → row.country ≡ country → row ≡ meta_row 1 country
+made_of : (row : MetaRow) (country : List ℕ) → row.version ≡ pos newest_version → row.country ≡ country → row ≡ meta_row newest_version country
 made_of row country version text =
-    ap (λ v. record { version = v; country = row.country }) version ∙ ap (meta_row 1) text
+    ap (λ v. record { version = v; country = row.country }) version ∙ ap (meta_row newest_version) text
 
 module _ (country : List ℕ) (trees : Trees) (office : Option StoredMeta)
-    (found : AreTyped meta_typing trees → map stored_of (rows_in meta_typing trees) ≡ option_to_list office) where
-  not_of_version : ((m : StoredMeta) → office ≡ Some m → m.version ≢ pos 1) → ¬ IsOfVersion 1 trees
+    (found : AreTyped meta_typing trees → map stored_of (typed_rows meta_typing trees) ≡ option_to_list office) where
+  not_of_version : ((m : StoredMeta) → office ≡ Some m → m.version ≢ pos newest_version) → ¬ IsOfVersion newest_version trees
   not_of_version none is =
-      let one : stored_of (meta_row 1 is.country) ∷ [] ≡ option_to_list office =
+      let one : stored_of (meta_row newest_version is.country) ∷ [] ≡ option_to_list office =
       ap (map stored_of) (sym is.row) ∙ found is.typed in
-      none (stored_of (meta_row 1 is.country)) (only_one _ office one) refl
+      none (stored_of (meta_row newest_version is.country)) (only_one _ office one) refl
 
   row_there : (m : StoredMeta) → office ≡ Some m → AreTyped meta_typing trees
-      → (row : MetaRow) × (rows_in meta_typing trees ≡ row ∷ []) × (stored_of row ≡ m)
-  row_there m is typed = one_row (rows_in meta_typing trees) m (found typed ∙ ap option_to_list is)
+      → (row : MetaRow) × (typed_rows meta_typing trees ≡ row ∷ []) × (stored_of row ≡ m)
+  row_there m is typed = one_row (typed_rows meta_typing trees) m (found typed ∙ ap option_to_list is)
 
-  of_this : TellsOffice country office None → AreTyped meta_typing trees → HasOfficeRow 1 country trees
+  of_this : TellsOffice country office None → AreTyped meta_typing trees → HasOfficeRow newest_version country trees
   of_this is typed =
-      let r = row_there (record { version = pos 1; country = Some country }) is typed in
+      let r = row_there (record { version = pos newest_version; country = Some country }) is typed in
       r.1 ∙ ap (λ row. row ∷ []) (made_of r.0 country (ap (λ (m : StoredMeta). m.version) r.2)
       (same_country r.0.country country (ap (λ (m : StoredMeta). m.country) r.2)))
 

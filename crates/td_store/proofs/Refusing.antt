@@ -9,13 +9,12 @@ use Rattle.sqlite.specs.Effect.{Database}
 use Rattle.sqlite.specs.State.{State}
 use Rattle.td_desk.specs.Content.{Content}
 use Rattle.td_schema.specs.Tables.{desk_schema}
-use Rattle.td_sql.specs.Typed.{row_of, rows_in}
-use Rattle.td_meta.specs.Cells.{meta_typing}
-use Rattle.td_store_tables.specs.Rows.{HoldsContent, country_in}
-use Rattle.td_audit_rows.specs.Laws.{ContentKeepsRules}
+use Rattle.typed_sql.specs.Typed.{row_of, typed_rows}
+use Rattle.td_store_rows.specs.Columns.{meta_typing, newest_version}
+use Rattle.td_store_rows.specs.StoreTables.{HoldsContent, country_in, content_in}
+use Rattle.td_store_audit_rows.specs.Laws.{ContentKeepsRules}
 use Rattle.td_store.specs.declared.refused.OpenFault.{OpenFault}
 use Rattle.td_store.specs.declared.refused.OpenFault.TheVariants.{UnknownVersion, NeedsMigration, OtherCountry, Damaged, Store, NoMemory}
-use Rattle.td_store.specs.Kept.{content_in}
 use Rattle.td_store.specs.Opened.{AreOfDesk, HasOfficeRow, IsOfAnother, LacksMeta, TellsDatabase, TellsTables}
 
 -- where there is none, it has a store's tables, and they are a desk's
@@ -65,14 +64,14 @@ meta_there = refl
 none_lacks : (s : Schema) → s ≡ desk_schema → ¬ LacksMeta s
 none_lacks s is lacks = let e = sym meta_there ∙ ap (λ t. table_named t (codes "meta")) (sym is) ∙ lacks in absurd cc
 
-one_row : (country : List ℕ) (trees : Trees) → HasOfficeRow 1 country trees → length (trees meta_typing.table.tree) ≤ 1
+one_row : (country : List ℕ) (trees : Trees) → HasOfficeRow newest_version country trees → length (trees meta_typing.table.tree) ≤ 1
 one_row country trees row =
-    let one : length (rows_in meta_typing trees) ≡ 1 = ap length row in
+    let one : length (typed_rows meta_typing trees) ≡ 1 = ap length row in
     let all = length-map (trees meta_typing.table.tree) (row_of meta_typing) in
     omega (arith, one, all)
 
 module _ (country : List ℕ) (s : State) (is_open : IsTrue s.is_open) (c : Content) (has : HoldsContent c s)
-    (row : HasOfficeRow 1 country s.now.trees) (keeps : ContentKeepsRules) where
+    (row : HasOfficeRow newest_version country s.now.trees) (keeps : ContentKeepsRules) where
   sound_tables : (fault : OpenFault) → ¬ TellsTables country s.now.trees (Some fault)
   sound_tables UnknownVersion told = told (record { typed = has.typed.meta; country = country; row = row })
   sound_tables (NeedsMigration version) told = told

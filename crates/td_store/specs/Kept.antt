@@ -5,15 +5,10 @@ use Rattle.sqlite.specs.State.{State, HasCleanDisk, Survives}
 use Rattle.td_acts.specs.declared.rows.Verdict.{Verdict}
 use Rattle.td_desk.specs.Content.{Content, content_after}
 use Rattle.td_desk.specs.Weighing.{IsDecision}
-use Rattle.td_tables.specs.Tables.{AreTablesOf}
-use Rattle.td_tables.specs.Gathering.{content_of}
+use Rattle.td_table_model.specs.Tables.{AreTablesOf}
 use Rattle.td_schema.specs.Tables.{desk_schema}
-use Rattle.td_sql.specs.Writing.{HasSchema}
-use Rattle.td_store_tables.specs.Rows.{AreAllTyped, HoldsContent, tables_in}
-
--- the content that trees hold
-abbrev pub content_in : Trees → Content
-content_in trees = content_of (tables_in trees)
+use Rattle.typed_sql.specs.Writing.{HasSchema}
+use Rattle.td_store_rows.specs.StoreTables.{AreAllTyped, HoldsContent, tables_in, content_in}
 
 -- as far as the disk is clean and the connection open, it holds a content of that country
 abbrev pub IsDeskOf : List ℕ → State → Type 0

@@ -5,9 +5,9 @@ use Rattle.sqlite_trees.specs.Tree.{Trees}
 use Rattle.sqlite.specs.Held.{Held, state}
 use Rattle.sqlite.specs.State.{State, HasCleanDisk}
 use Rattle.td_desk.specs.Content.{Content}
-use Rattle.td_tables.specs.Tables.{AreTablesOf}
-use Rattle.td_store_tables.specs.Rows.{AreAllTyped, HoldsContent, tables_in}
-use Rattle.td_store.specs.Kept.{AreAfterDecision, IsCalled, LeavesItsTables, content_in}
+use Rattle.td_table_model.specs.Tables.{AreTablesOf}
+use Rattle.td_store_rows.specs.StoreTables.{AreAllTyped, HoldsContent, tables_in, content_in}
+use Rattle.td_store.specs.Kept.{AreAfterDecision, IsCalled, LeavesItsTables}
 
 -- the trees have the tables of this content, and hold it
 pub record HaveTablesOf (c : Content) (trees : Trees) : Type 0 where

@@ -5,18 +5,19 @@ use Rattle.sqlite_schema.specs.Names.{table_named}
 use Rattle.sqlite_schema.specs.declared.schema.Schema.{Schema}
 use Rattle.sqlite_trees.specs.Tree.{Trees}
 use Rattle.sqlite.specs.Effect.{Database}
-use Rattle.td_tables.specs.declared.rule.Rule.{Rule}
+use Rattle.td_table_model.specs.declared.rule.Rule.{Rule}
 use Rattle.td_schema.specs.Tables.{desk_schema}
-use Rattle.td_sql.specs.Typed.{AreTyped, rows_in}
-use Rattle.td_meta.specs.Cells.{meta_row, meta_typing}
-use Rattle.td_meta.specs.Stored.{stored_of}
-use Rattle.td_meta.specs.declared.stored.StoredMeta.{StoredMeta}
-use Rattle.td_audit_rows.specs.Kinds.{IsFirstBrokenRaw}
-use Rattle.td_audit_rows.specs.Ids.{HaveAllIds}
-use Rattle.td_audit_rows.specs.Laws.{AreKept, HoldSoundContent}
-use Rattle.td_audit_rows.specs.Scans.{TellReadable}
-use Rattle.td_audit_rows.specs.declared.tables.Readable.{Readable}
-use Rattle.td_audit.specs.Broken.{TellsBroken}
+use Rattle.typed_sql.specs.Typed.{AreTyped, typed_rows}
+use Rattle.td_store_rows.specs.Columns.{meta_row, meta_typing, newest_version}
+use Rattle.td_store_rows.specs.MetaTable.{stored_of}
+use Rattle.td_store_rows.specs.declared.meta.stored.StoredMeta.{StoredMeta}
+use Rattle.td_store_audit_rows.specs.Kinds.{IsFirstBrokenRaw}
+use Rattle.td_store_audit_rows.specs.Ids.{HaveAllIds}
+use Rattle.td_store_audit_rows.specs.Laws.{AreKept}
+use Rattle.td_store_rows.specs.StoreTables.{HoldSoundContent}
+use Rattle.td_store_audit_rows.specs.Scans.{TellReadable}
+use Rattle.td_store_audit_rows.specs.declared.tables.Readable.{Readable}
+use Rattle.td_store_audit.specs.Broken.{TellsBroken}
 use Rattle.td_store.specs.declared.refused.OpenFault.{OpenFault}
 use Rattle.td_store.specs.declared.refused.OpenFault.TheVariants.{UnknownVersion, NeedsMigration, OtherCountry, Damaged, Store, NoMemory}
 
@@ -26,7 +27,7 @@ LacksMeta s = table_named s (codes "meta") ≡ None
 
 -- the office's own row, which is there once, says this version and this country
 abbrev pub HasOfficeRow : ℕ → List ℕ → Trees → Type 0
-HasOfficeRow version country trees = rows_in meta_typing trees ≡ meta_row version country ∷ []
+HasOfficeRow version country trees = typed_rows meta_typing trees ≡ meta_row version country ∷ []
 
 -- it is typed, and says this version
 pub record IsOfVersion (version : ℕ) (trees : Trees) : Type 0 where
@@ -37,22 +38,22 @@ pub record IsOfVersion (version : ℕ) (trees : Trees) : Type 0 where
 -- where it is typed, it says version 1 and another country than this
 abbrev pub IsOfAnother : List ℕ → Trees → Type 0
 IsOfAnother country trees =
-    AreTyped meta_typing trees → (other : List ℕ) × HasOfficeRow 1 other trees × (other ≢ country)
+    AreTyped meta_typing trees → (other : List ℕ) × HasOfficeRow newest_version other trees × (other ≢ country)
 
 -- the tables break this rule first; where the office's own row is typed, it says version 1 and this country
 pub record AreDamaged (country : List ℕ) (rule : Rule) (trees : Trees) : Type 0 where
   pub first : IsFirstBrokenRaw trees rule
-  pub office : AreTyped meta_typing trees → HasOfficeRow 1 country trees
+  pub office : AreTyped meta_typing trees → HasOfficeRow newest_version country trees
 
 -- they hold sound content, and the office's own row says version 1 and this country
 pub record AreOfDesk (country : List ℕ) (trees : Trees) : Type 0 where
   pub content : HoldSoundContent trees
-  pub office : HasOfficeRow 1 country trees
+  pub office : HasOfficeRow newest_version country trees
 
 -- what a fault, or none, says of a store's tables
 abbrev pub TellsTables : List ℕ → Trees → Option OpenFault → Type 0
 TellsTables country trees None = AreOfDesk country trees
-TellsTables country trees (Some UnknownVersion) = ¬ IsOfVersion 1 trees
+TellsTables country trees (Some UnknownVersion) = ¬ IsOfVersion newest_version trees
 TellsTables country trees (Some (NeedsMigration version)) = ⊥
 TellsTables country trees (Some OtherCountry) = IsOfAnother country trees
 TellsTables country trees (Some (Damaged rule)) = AreDamaged country rule trees
@@ -68,16 +69,16 @@ TellsDatabase country db fault =
 
 -- what the office's own row, as it was read, is refused for
 abbrev pub TellsOffice : List ℕ → Option StoredMeta → Option OpenFault → Type 0
-TellsOffice country meta None = meta ≡ Some (record { version = pos 1; country = Some country })
-TellsOffice country meta (Some UnknownVersion) = (m : StoredMeta) → meta ≡ Some m → m.version ≢ pos 1
+TellsOffice country meta None = meta ≡ Some (record { version = pos newest_version; country = Some country })
+TellsOffice country meta (Some UnknownVersion) = (m : StoredMeta) → meta ≡ Some m → m.version ≢ pos newest_version
 TellsOffice country meta (Some OtherCountry) =
-    (m : StoredMeta) × (meta ≡ Some m) × (m.version ≡ pos 1) × (m.country ≢ Some country)
+    (m : StoredMeta) × (meta ≡ Some m) × (m.version ≡ pos newest_version) × (m.country ≢ Some country)
 TellsOffice country meta (Some _) = ⊥
 
 -- it is told of the office's own row as it stands in the tables
 abbrev pub TellsOfficeIn : List ℕ → Trees → Option OpenFault → Type 0
 TellsOfficeIn country trees fault =
-    (meta : Option StoredMeta) × (AreTyped meta_typing trees → map stored_of (rows_in meta_typing trees) ≡ option_to_list meta)
+    (meta : Option StoredMeta) × (AreTyped meta_typing trees → map stored_of (typed_rows meta_typing trees) ≡ option_to_list meta)
     × TellsOffice country meta fault
 
 -- where the rowids are integers, no two the same, and these tables can be read, it is told what the rules say of the tables

@@ -3,12 +3,12 @@ ghost use Rattle.std.specs.Prelude.{◌≡◌, ◌⊎◌, ◌↔◌, false, IsTr
 ghost use Rattle.sqlite.specs.Held.{state};
 ghost use Rattle.sqlite.specs.State.{HasCleanDisk, Survives};
 ghost use Rattle.td_desk.specs.Content.{empty_content};
-ghost use Rattle.td_schema.specs.Making.{IsEmptyOf};
+ghost use Rattle.td_schema.specs.Tables.{IsEmptyOf};
 ghost use Rattle.td_schema.specs.Tables.{no_schema};
-ghost use Rattle.td_store_tables.specs.Rows.{HoldsContent};
-ghost use Rattle.td_carrying.specs.Created.{AreOfEmptyDesk};
+ghost use Rattle.td_store_rows.specs.StoreTables.{HoldsContent, content_in};
+ghost use Rattle.td_store_write.specs.Created.{AreOfEmptyDesk};
 ghost use Rattle.td_store.specs.declared.refused.OpenFault.TheVariants as fault;
-ghost use Rattle.td_store.specs.Kept.{LeavesItsTables, content_in};
+ghost use Rattle.td_store.specs.Kept.{LeavesItsTables};
 
 use crate::desk::SqlDesk;
 use crate::faults::open_fault_of;
@@ -17,7 +17,7 @@ use crate::settling::see_settled;
 use sqlite::Connection;
 use sqlite_trees::store::Alter;
 use td_base::Country;
-use td_carrying::create_tables;
+use td_store_write::create_tables;
 
 // Whether the database has no table.
 fn is_blank<S: Alter>(conn: &Connection<S>) -> bool

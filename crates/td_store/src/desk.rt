@@ -8,8 +8,8 @@ use std::alloc::Global;
 use std::marker::Model;
 use td_acts::{Change, Loaded, Needs};
 use td_base::{Country, HolderNo};
-use td_carrying::carry_change;
 use td_desk::{Fault, Store};
+use td_store_write::carry_change;
 
 /// A desk whose rows stand in the tables of a store. It holds the store's connection, outside a transaction, and the country
 /// of its office. What contracts see of it is the connection.
@@ -37,8 +37,8 @@ impl<S: Alter> SqlDesk<S> {
     ghost use Rattle.std.specs.Prelude.{◌≡◌, false, IsTrue};
     ghost use Rattle.sqlite.specs.Held.{state};
     ghost use Rattle.sqlite.specs.State.{HasCleanDisk};
-    ghost use Rattle.td_store_tables.specs.Rows.{HoldsContent};
-    ghost use Rattle.td_store.specs.Kept.{IsDeskOf, LeavesItsTables, content_in};
+    ghost use Rattle.td_store_rows.specs.StoreTables.{HoldsContent, content_in, content_in};
+    ghost use Rattle.td_store.specs.Kept.{IsDeskOf, LeavesItsTables};
 
     // The desk over a connection that holds a content of that country.
     pub(crate) fn over(conn: Connection<S>, country: Country) -> Self
@@ -68,7 +68,7 @@ impl<S: Alter> Store for SqlDesk<S> {
     ghost use Rattle.std.specs.Prelude.{IsTrue};
     ghost use Rattle.sqlite.specs.Held.{state};
     ghost use Rattle.sqlite.specs.State.{HasCleanDisk};
-    ghost use Rattle.td_store.specs.Kept.{IsCalled, content_in};
+    ghost use Rattle.td_store.specs.Kept.{IsCalled};
 
     ghost rows = { λ d. content_in (state S.Store d).now.trees };
 

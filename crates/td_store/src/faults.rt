@@ -4,7 +4,7 @@ ghost use Rattle.sqlite.specs.Held.{state};
 ghost use Rattle.sqlite.specs.State.{HasCleanDisk, Survives};
 ghost use Rattle.td_desk.specs.declared.fault.Fault.TheVariants as fault;
 ghost use Rattle.td_schema.specs.Tables.{desk_schema};
-ghost use Rattle.td_sql.specs.Writing.{HasSchema};
+ghost use Rattle.typed_sql.specs.Writing.{HasSchema};
 ghost use Rattle.td_store.specs.declared.refused.OpenFault.TheVariants as open_fault;
 ghost use Rattle.td_store.specs.Kept.{LeavesAsIs};
 
@@ -12,7 +12,7 @@ use crate::refused::OpenFault;
 use sqlite::{Connection, Error, ErrorCode};
 use sqlite_trees::store::Alter;
 use td_desk::Fault;
-use td_meta::find_meta;
+use td_store_rows::find_meta;
 
 /// Whether the connection still answers: whether the office's own row can be read. `false`, too, for want of memory.
 fn answers<S: Alter>(conn: &mut Connection<S>) -> bool

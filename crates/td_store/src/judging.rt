@@ -3,7 +3,7 @@ ghost use Rattle.std.specs.Prelude.{◌≡◌, false, Some, None, option_map, Is
 ghost use Rattle.sqlite.specs.Held.{state};
 ghost use Rattle.sqlite.specs.State.{HasCleanDisk, Survives};
 ghost use Rattle.td_schema.specs.Tables.{desk_schema};
-ghost use Rattle.td_sql.specs.Writing.{HasSchema};
+ghost use Rattle.typed_sql.specs.Writing.{HasSchema};
 ghost use Rattle.td_store.specs.Kept.{LeavesTrees};
 ghost use Rattle.td_store.specs.declared.refused.OpenFault.TheVariants as fault;
 ghost use Rattle.td_store.specs.Opened.{LacksMeta, TellsDatabase, TellsOfficeIn, TellsRows, TellsRules, TellsTables};
@@ -15,11 +15,11 @@ use crate::schema::{has_store_tables, lacks_meta};
 use sqlite::{Connection, Error};
 use sqlite_trees::store::Alter;
 use std::alloc::Global;
-use td_audit::{first_broken, kept};
-use td_audit_rows::{Readable, kept_rules_mean_content, readable_tables};
 use td_base::Country;
-use td_meta::find_meta;
-use td_tables::Rule;
+use td_store_audit::{database_keeps, first_broken};
+use td_store_audit_rows::{Readable, kept_rules_mean_content, readable_tables};
+use td_store_rows::find_meta;
+use td_table_model::Rule;
 
 // What the office's own row is refused for, at an office of that country, or none. It is read in a transaction. An error is the
 // database's own, or want of memory.
@@ -66,7 +66,7 @@ fn broken_rule<S: Alter>(
     ensures crash { Survives (state S.Store conn.old) (state S.Store conn.new) (LeavesTrees (state S.Store conn.old)) }
 {
     let _settled = conn.is_autocommit();
-    kept(conn);
+    database_keeps(conn);
     let mut tx = conn.transaction();
     let broken = first_broken(alloc, &mut tx, readable)?;
     tx.commit()?;

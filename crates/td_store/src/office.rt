@@ -3,20 +3,17 @@ ghost use Rattle.td_store.specs.Opened.{TellsOffice};
 
 use crate::refused::OpenFault;
 use td_base::Country;
-use td_meta::StoredMeta;
-
-// The version of the tables, and there is none above it yet.
-const VERSION: i64 = 1;
+use td_store_rows::{NEWEST_VERSION, StoredMeta};
 
 /// What the office's own row is refused for, at an office of that country: `UnknownVersion` where there is none, or its version
-/// isn't 1; else `OtherCountry` where its country isn't that one.
+/// isn't the newest; else `OtherCountry` where its country isn't that one.
 pub(crate) fn office_fault(office: Option<StoredMeta>, country: Country) -> Option<OpenFault>
     ensures { TellsOffice country office result }
 {
     let Some(office) = office else {
         return Some(OpenFault::UnknownVersion);
     };
-    if office.version != VERSION {
+    if office.version != i64::from(NEWEST_VERSION) {
         return Some(OpenFault::UnknownVersion);
     }
     if office.country != Some(country) {

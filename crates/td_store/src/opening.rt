@@ -3,12 +3,13 @@ ghost use Rattle.std.specs.Prelude.{◌≡◌, ◌≢◌, ◌⊎◌, ℕ, false,
 ghost use Rattle.sqlite.specs.Held.{state};
 ghost use Rattle.sqlite.specs.State.{HasCleanDisk, Survives};
 ghost use Rattle.td_desk.specs.Content.{Content};
-ghost use Rattle.td_tables.specs.declared.rule.Rule.{Rule};
+ghost use Rattle.td_table_model.specs.declared.rule.Rule.{Rule};
 ghost use Rattle.td_schema.specs.Tables.{desk_schema};
-ghost use Rattle.td_store_tables.specs.Rows.{HoldsContent};
+ghost use Rattle.td_store_rows.specs.StoreTables.{HoldsContent, content_in};
 ghost use Rattle.td_store.specs.declared.refused.OpenFault.TheVariants as fault;
-ghost use Rattle.td_store.specs.Kept.{LeavesItsTables, LeavesTrees, content_in};
+ghost use Rattle.td_store.specs.Kept.{LeavesItsTables, LeavesTrees};
 ghost use Rattle.td_store.specs.Opened.{AreDamaged, HasOfficeRow, IsOfAnother, IsOfVersion, LacksMeta};
+ghost use Rattle.td_store_rows.specs.Columns.{newest_version};
 
 use crate::desk::SqlDesk;
 use crate::judging::refusal;
@@ -17,8 +18,8 @@ use crate::settling::see_settled;
 use sqlite::Connection;
 use sqlite_trees::store::Alter;
 use std::alloc::Global;
-use td_audit_rows::content_keeps_rules;
 use td_base::Country;
+use td_store_audit_rows::content_keeps_rules;
 
 impl<S: Alter> SqlDesk<S> {
     /// Opens the desk of an office of that country over a database that one was made in before. The first of these that holds is
@@ -39,13 +40,13 @@ impl<S: Alter> SqlDesk<S> {
         ensures country { IfOk result (λ desk. HasCleanDisk (state S.Store desk)
             → (content_in (state S.Store desk).now.trees).country ≡ country) }
         ensures version { IfOk result (λ desk. HasCleanDisk (state S.Store desk)
-            → HasOfficeRow 1 country (state S.Store desk).now.trees) }
+            → HasOfficeRow newest_version country (state S.Store desk).now.trees) }
         ensures same { IfOk result (λ desk. HasCleanDisk (state S.Store desk) → (state S.Store desk).now ≡ (state S.Store conn).now) }
         ensures absent { LacksMeta (state S.Store conn).now.schema
             → MatchResult result (λ _. ⊥) (λ refused. (refused.fault ≡ fault.UnknownVersion) × (refused.connection ≡ conn)) }
         ensures unknown { IfErr result (λ refused. HasCleanDisk (state S.Store refused.connection) → refused.fault ≡ fault.UnknownVersion
             → LacksMeta (state S.Store conn).now.schema
-            ⊎ (((state S.Store conn).now.schema ≡ desk_schema) × (¬ IsOfVersion 1 (state S.Store conn).now.trees))) }
+            ⊎ (((state S.Store conn).now.schema ≡ desk_schema) × (¬ IsOfVersion newest_version (state S.Store conn).now.trees))) }
         ensures newest { IfErr result (λ refused. HasCleanDisk (state S.Store refused.connection)
             → (version : ℕ) → refused.fault ≢ fault.NeedsMigration version) }
         ensures other { IfErr result (λ refused. HasCleanDisk (state S.Store refused.connection) → refused.fault ≡ fault.OtherCountry
@@ -54,7 +55,7 @@ impl<S: Alter> SqlDesk<S> {
             → refused.fault ≡ fault.Damaged rule
             → ((state S.Store conn).now.schema ≡ desk_schema) × AreDamaged country rule (state S.Store conn).now.trees) }
         ensures sound { IfErr result (λ refused. HasCleanDisk (state S.Store refused.connection) → IsTrue (state S.Store conn).is_open
-            → (c : Content) → HoldsContent c (state S.Store conn) → HasOfficeRow 1 country (state S.Store conn).now.trees
+            → (c : Content) → HoldsContent c (state S.Store conn) → HasOfficeRow newest_version country (state S.Store conn).now.trees
             → (refused.fault ≡ fault.Store) ⊎ (refused.fault ≡ fault.NoMemory)) }
         ensures handed { IfErr result (λ refused. HasCleanDisk (state S.Store refused.connection)
             → IsTrue (state S.Store refused.connection).is_open → (state S.Store refused.connection).now ≡ (state S.Store conn).now) }

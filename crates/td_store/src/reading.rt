@@ -7,8 +7,8 @@ ghost use Rattle.td_acts.specs.Deciding.{IsLoaded};
 ghost use Rattle.td_desk.specs.Content.{Content};
 ghost use Rattle.td_desk.specs.Weighing.{kept_for};
 ghost use Rattle.td_schema.specs.Tables.{desk_schema};
-ghost use Rattle.td_sql.specs.Writing.{HasSchema};
-ghost use Rattle.td_store_tables.specs.Rows.{HoldsContent};
+ghost use Rattle.typed_sql.specs.Writing.{HasSchema};
+ghost use Rattle.td_store_rows.specs.StoreTables.{HoldsContent};
 ghost use Rattle.td_store.specs.Kept.{LeavesTrees};
 
 use sqlite::{Connection, Error};
@@ -16,7 +16,7 @@ use sqlite_trees::store::Alter;
 use std::alloc::Global;
 use td_acts::{Loaded, Needs};
 use td_base::{Country, HolderNo};
-use td_needs::load;
+use td_store_load::load;
 
 /// What a verdict needs of a command's owner, at an office of that country, read in a transaction. The transaction is
 /// committed: so the answer shows that the connection is open still. An error is the database's own, or `load`'s.

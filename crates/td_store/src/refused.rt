@@ -1,7 +1,7 @@
 //! Why a connection isn't taken for a desk.
 use sqlite::Connection;
 use sqlite_trees::store::Alter;
-use td_tables::Rule;
+use td_table_model::Rule;
 use thiserror::Error;
 
 /// Why a connection isn't taken for a desk. Its line is what the program prints.

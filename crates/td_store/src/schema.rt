@@ -3,7 +3,7 @@ ghost use Rattle.std.specs.Prelude.{◌≡◌, ◌↔◌, false, IsTrue, IfOk, O
 ghost use Rattle.sqlite.specs.Held.{state};
 ghost use Rattle.sqlite.specs.State.{HasCleanDisk};
 ghost use Rattle.sqlite.specs.Steps.{over_memory};
-ghost use Rattle.td_schema.specs.Making.{IsEmptyOf};
+ghost use Rattle.td_schema.specs.Tables.{IsEmptyOf};
 ghost use Rattle.td_schema.specs.Tables.{desk_schema, no_schema};
 ghost use Rattle.td_store.specs.Opened.{LacksMeta};
 

@@ -1,11 +1,22 @@
+-- Moments: whole seconds since 1970-01-01T00:00:00Z.
 -- Days, by their number from 1970-01-01. What a date is and which number it has is the calendar's of `jiff`.
-use Rattle.std.specs.Prelude.{◌≡◌, ℕ, zero, suc, ◌+◌, ◌-◌, ◌/◌, ◌≤◌, Bool, ◌&&◌, nat_eq, nat_le, if◌then◌else◌, ℤ, pos, negsuc, unsigned_abs, List, ◌∷◌, ◌++◌, length, take, drop, slice_range, slice_get, Option, Some, None, All}
+use Rattle.std.specs.Prelude.{ℕ, ◌≤◌, ℤ, pos, negsuc, Option, Some, None, nat_le, ◌&&◌, if◌then◌else◌, ◌≡◌, zero, suc, ◌+◌, ◌-◌, ◌/◌, Bool, nat_eq, unsigned_abs, List, ◌∷◌, ◌++◌, length, take, drop, slice_range, slice_get, All}
 use Rattle.std.specs.Char.{IsAsciiDigit, is_ascii_digit}
 use Rattle.std.specs.Int.{is_in_range}
 use Rattle.std.specs.List.{list_all}
 use Rattle.std.specs.Option.{option_eq}
 use Rattle.jiff_core.specs.Calendar.{days_from_civil, days_in_month, IsDate}
 use Rattle.ascii_text.specs.Digits.{digits_value, fixed_decimal}
+
+-- from the first second of 2000 to the last of 2099, so that the two digits of a year in a
+-- reference tell the year
+abbrev pub IsMoment : ℕ → Type 0
+IsMoment n = (946684800 ≤ n) × (n ≤ 4102444799)
+
+-- the moment of a number of seconds, where it has one
+abbrev pub moment_of : ℤ → Option ℕ
+moment_of (pos n) = if nat_le 946684800 n && nat_le n 4102444799 then Some n else None
+moment_of (negsuc n) = None
 
 -- From 2000-01-01 to 2100-12-31. The last moment is in 2099, and a day that is counted on from it
 -- may lie in the year after.

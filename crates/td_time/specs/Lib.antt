@@ -1,2 +1,1 @@
-pub mod Moment
 pub mod Days

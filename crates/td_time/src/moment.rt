@@ -1,7 +1,7 @@
 //! Moments.
 ghost use Rattle.std.specs.Prelude.{◌≡◌, ℕ, pos, Some, codes};
 ghost use Rattle.std.specs.Result.{result_ok};
-ghost use Rattle.td_time.specs.Moment.{IsMoment, moment_of};
+ghost use Rattle.td_time.specs.Days.{IsMoment, moment_of};
 
 use std::error::Error;
 use std::fmt;

@@ -2,8 +2,7 @@ use Rattle.std.proofs.Common.{◌≡◌, ℕ, ◌+◌, ◌-◌, ◌<◌, [], tru
 use Rattle.std.proofs.KnownBytes.{Appends-trans, Appends-nil}
 use Rattle.counted_io.specs.declared.counted.Counted.{Counted}
 use Rattle.counted_io.specs.Counted.{calls_of, one_more, HasCalled, HasMade}
-use Rattle.counted_io.specs.Writing.{IsCutShort, MadeWrites}
-use Rattle.counted_io.specs.Chains.{IsWrite, TakesSome, Wrote}
+use Rattle.counted_io.specs.Chains.{IsCutShort, MadeWrites, IsWrite, TakesSome, Wrote}
 use Rattle.counted_io.proofs.Calls.{made_more, made_none}
 use Rattle.counted_io.proofs.Chaining.{wrote_nothing, wrote_more, wrote_last, wrote_appends}
 use Rattle.counted_io.proofs.Counts.{called_more, not_fallen}

@@ -1,5 +1,5 @@
 use Rattle.std.proofs.Common.{◌≡◌, drop, map}
-use Rattle.td_acts.specs.Declaring.{first_refusal}
+use Rattle.td_model.specs.Declaring.{first_refusal}
 use Rattle.td_acts.proofs.declaring.find_refusal.Given as goal
 
 -- none of the lines before is refused

@@ -3,9 +3,8 @@ use Rattle.std.proofs.lemmas.Bool.Decides.{nat_tests}
 use Rattle.std.specs.Prelude.{option_map}
 use Rattle.td_base.specs.Days.{day_of_moment}
 use Rattle.td_base.specs.References.{mrn_text}
-use Rattle.td_acts.specs.Account.{movement_by_lrn}
-use Rattle.td_acts.specs.Effects.{year2_at}
-use Rattle.td_acts.specs.Serials.{next_serial}
+use Rattle.td_model.specs.Account.{movement_by_lrn}
+use Rattle.td_model.specs.Effects.{year2_at, next_serial, greatest_mrn_given}
 use Rattle.td_acts.proofs.Lodging.{lodged_at, same_refusal}
 use Rattle.td_acts.proofs.declaring.lodge.Goals as goal
 
@@ -19,7 +18,7 @@ returns-in-Some-refusal c = λ account loaded.
     (sym loaded.holder ∙ c.in-Some.is)
     (grind (arith, nat_tests, c.lt.ensures, c.if-lt.false))
     (sym loaded.things.0 ∙ ap (movement_by_lrn d.lrn) (sym c.deref.ensures.value) ∙ sym c.find_movement_by_lrn.ensures ∙ ap (option_map (λ found. found.now)) c.in_default-find_movement_by_lrn.is)
-    (ap (λ country. next_serial 9999999 row.mrn_count (mrn_text (year2_at t) country d.holder)) (sym loaded.country) ∙ sym c.next_mrn.ensures ∙ c.in-Some-next_mrn.is)
+    (ap (λ country. next_serial greatest_mrn_given row.mrn_count (mrn_text (year2_at t) country d.holder)) (sym loaded.country) ∙ sym c.next_mrn.ensures ∙ c.in-Some-next_mrn.is)
     (sym (same_refusal (day_of_moment t) c.args.loaded.now.guarantees.items account.guarantees d.lines.now loaded.things.1)
     ∙ sym (rw (c.of_moment.ensures, c.deref-2.ensures.value, c.as_slice.ensures.value) at c.find_refusal-refusal.ensures) ∙ c.in-Some-refusal.is) in
     ap₂ (λ said change. record { said = said; change = change }) c.refused-in-Some-refusal.ensures.said c.refused-in-Some-refusal.ensures.change ∙ sym verdict
@@ -34,7 +33,7 @@ returns c = λ account loaded.
     (sym loaded.holder ∙ c.in-Some.is)
     (grind (arith, nat_tests, c.lt.ensures, c.if-lt.false))
     (sym loaded.things.0 ∙ ap (movement_by_lrn d.lrn) (sym c.deref.ensures.value) ∙ sym c.find_movement_by_lrn.ensures ∙ ap (option_map (λ found. found.now)) c.in_default-find_movement_by_lrn.is)
-    (ap (λ country. next_serial 9999999 row.mrn_count (mrn_text (year2_at t) country d.holder)) (sym loaded.country) ∙ sym c.next_mrn.ensures ∙ c.in-Some-next_mrn.is)
+    (ap (λ country. next_serial greatest_mrn_given row.mrn_count (mrn_text (year2_at t) country d.holder)) (sym loaded.country) ∙ sym c.next_mrn.ensures ∙ c.in-Some-next_mrn.is)
     (sym (same_refusal (day_of_moment t) c.args.loaded.now.guarantees.items account.guarantees d.lines.now loaded.things.1)
     ∙ sym (rw (c.of_moment.ensures, c.deref-2.ensures.value, c.as_slice.ensures.value) at c.find_refusal-refusal.ensures) ∙ c.in_default-refusal.is) in
     ap₂ (λ said change. record { said = said; change = change }) c.accept.ensures.said (rw (c.in_ok-lines.ensures) at c.accept.ensures.change) ∙ sym verdict

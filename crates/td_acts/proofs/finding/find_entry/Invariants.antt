@@ -1,5 +1,5 @@
 use Rattle.std.proofs.Common.{◌≡◌, drop, map}
-use Rattle.td_acts.specs.Account.{guarantee_by_grn}
+use Rattle.td_model.specs.Account.{guarantee_by_grn}
 use Rattle.td_acts.specs.Deciding.{entry_by_grn}
 use Rattle.td_acts.proofs.finding.find_entry.Given as goal
 

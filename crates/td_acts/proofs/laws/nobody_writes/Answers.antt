@@ -1,4 +1,4 @@
-use Rattle.td_base.specs.Moment.{moment_of}
+use Rattle.td_base.specs.Days.{moment_of}
 use Rattle.td_acts.proofs.AcceptedRows.{nobody_writes}
 use Rattle.td_acts.proofs.laws.nobody_writes.Goals as goal
 

@@ -5,11 +5,11 @@ use Rattle.td_commands.specs.declared.command.Command.TheVariants.{Ie007}
 use Rattle.td_commands.specs.declared.said.Answer.TheVariants as answer
 use Rattle.td_commands.specs.declared.said.Refusal.TheVariants.{NoMovement}
 use Rattle.td_commands.specs.declared.said.Said.TheVariants.{Answered}
-use Rattle.td_acts.specs.Account.{movement_by_mrn}
+use Rattle.td_model.specs.Account.{movement_by_mrn}
 use Rattle.td_acts.specs.Deciding.{new_state}
 use Rattle.td_base.specs.Days.{day_of_moment}
 use Rattle.td_movement.specs.declared.state.State.TheVariants.{Arrived}
-use Rattle.td_acts.specs.Table.{is_late}
+use Rattle.td_model.specs.Table.{is_late}
 use Rattle.std.specs.Prelude.{Some}
 use Rattle.td_acts.proofs.EachMove.{arrived_from}
 use Rattle.td_acts.proofs.Told.{told_moved}

@@ -6,11 +6,11 @@ use Rattle.td_acts.specs.declared.rows.Change.TheVariants.{Moved}
 use Rattle.td_commands.specs.declared.said.Answer.TheVariants as answer
 use Rattle.td_commands.specs.declared.said.Refusal.TheVariants.{NoMovement, TooEarly}
 use Rattle.td_commands.specs.declared.said.Said.TheVariants.{Answered}
-use Rattle.td_acts.specs.Account.{movement_by_mrn}
+use Rattle.td_model.specs.Account.{movement_by_mrn}
 use Rattle.td_acts.specs.Deciding.{new_state, touched}
 use Rattle.td_base.specs.Days.{day_of_moment}
 use Rattle.td_movement.specs.declared.state.State.TheVariants.{Enquired}
-use Rattle.td_acts.specs.Table.{may_be_asked_after, refuse_if}
+use Rattle.td_model.specs.Table.{may_be_asked_after, refuse_if}
 use Rattle.std.specs.Prelude.{not}
 use Rattle.td_acts.proofs.EachMove.{enquired_from}
 use Rattle.td_acts.proofs.Told.{told_moved}

@@ -6,9 +6,9 @@ use Rattle.td_acts.specs.declared.rows.Change.TheVariants.{Moved}
 use Rattle.td_commands.specs.declared.said.Answer.TheVariants as answer
 use Rattle.td_commands.specs.declared.said.Refusal.TheVariants.{NoMovement}
 use Rattle.td_commands.specs.declared.said.Said.TheVariants.{Answered}
-use Rattle.td_acts.specs.Account.{movement_by_mrn}
+use Rattle.td_model.specs.Account.{movement_by_mrn}
 use Rattle.td_acts.specs.Deciding.{new_state, touched}
-use Rattle.td_acts.specs.Effects.{judged}
+use Rattle.td_model.specs.Effects.{judged}
 use Rattle.td_acts.proofs.EachMove.{judged_from}
 use Rattle.td_acts.proofs.Told.{told_moved}
 use Rattle.td_acts.proofs.moving.judge.Goals as goal

@@ -6,7 +6,7 @@ use Rattle.td_acts.specs.declared.rows.Change.TheVariants.{Moved}
 use Rattle.td_commands.specs.declared.said.Answer.TheVariants as answer
 use Rattle.td_commands.specs.declared.said.Refusal.TheVariants.{NoMovement}
 use Rattle.td_commands.specs.declared.said.Said.TheVariants.{Answered}
-use Rattle.td_acts.specs.Account.{movement_by_mrn}
+use Rattle.td_model.specs.Account.{movement_by_mrn}
 use Rattle.td_acts.specs.Deciding.{new_state, touched}
 use Rattle.td_movement.specs.declared.state.State.TheVariants.{WrittenOff}
 use Rattle.td_acts.proofs.EachMove.{written_off_from}

@@ -1,6 +1,6 @@
 use Rattle.std.proofs.Common.{◌≡◌, drop}
 use Rattle.td_acts.specs.Deciding.{entry_by_grn}
-use Rattle.td_acts.specs.Releasing.{first_uncovered}
+use Rattle.td_model.specs.Declaring.{first_uncovered}
 use Rattle.td_acts.proofs.releasing.find_uncovered.Given as goal
 
 -- none of the lines before is refused

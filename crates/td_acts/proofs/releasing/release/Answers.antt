@@ -8,13 +8,13 @@ use Rattle.td_commands.specs.declared.command.Command.TheVariants.{Ie029}
 use Rattle.td_commands.specs.declared.said.Answer.TheVariants as answer
 use Rattle.td_commands.specs.declared.said.Refusal.TheVariants.{NoMovement, LimitDate}
 use Rattle.td_commands.specs.declared.said.Said.TheVariants.{Answered}
-use Rattle.td_acts.specs.Account.{movement_by_mrn, entry_in}
+use Rattle.td_model.specs.Account.{movement_by_mrn, entry_in}
 use Rattle.td_acts.specs.Deciding.{new_state}
-use Rattle.td_acts.specs.Releasing.{is_limit, first_uncovered}
-use Rattle.td_acts.specs.Table.{refuse_if, if_not_refused}
+use Rattle.td_model.specs.Declaring.{is_limit, first_uncovered}
+use Rattle.td_model.specs.Table.{refuse_if, if_not_refused}
 use Rattle.std.specs.List.{AllByRecursion}
 use Rattle.std.specs.Prelude.{IfSome}
-use Rattle.td_acts.specs.Account.{Account}
+use Rattle.td_model.specs.Account.{Account}
 use Rattle.td_acts.specs.Deciding.{entry_by_grn}
 use Rattle.td_commands.specs.declared.said.Said.{Said}
 use Rattle.std.proofs.Common.{ℕ, subst}

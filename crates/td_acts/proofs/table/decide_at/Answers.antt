@@ -7,10 +7,10 @@ use Rattle.td_commands.specs.declared.said.Said.TheVariants.{Answered}
 use Rattle.td_guarantee.specs.declared.guarantee.Guarantee.{Guarantee}
 use Rattle.td_guarantee.specs.Usage.{used_on}
 use Rattle.td_movement.specs.declared.movement.Movement.{Movement}
-use Rattle.td_acts.specs.Account.{movement_by_mrn}
+use Rattle.td_model.specs.Account.{movement_by_mrn}
 use Rattle.td_acts.specs.Deciding.{IsVerdictAt}
-use Rattle.td_acts.specs.Table.{listed, or_refuse}
-use Rattle.td_acts.specs.declared.rows.HolderRow.{HolderRow}
+use Rattle.td_model.specs.Table.{listed, or_refuse}
+use Rattle.td_model.specs.declared.holder_row.HolderRow.{HolderRow}
 use Rattle.td_acts.specs.declared.rows.Verdict.{Verdict}
 use Rattle.td_acts.proofs.Told.{told_shown, told_view}
 use Rattle.td_acts.proofs.table.decide_at.Goals as goal

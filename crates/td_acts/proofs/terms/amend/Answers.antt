@@ -9,10 +9,10 @@ use Rattle.td_commands.specs.declared.said.Answer.TheVariants as answer
 use Rattle.td_commands.specs.declared.said.Refusal.TheVariants.{NoGuarantee, BelowUse}
 use Rattle.td_commands.specs.declared.said.Said.{Said}
 use Rattle.td_commands.specs.declared.said.Said.TheVariants.{Answered}
-use Rattle.td_acts.specs.Account.{Account}
+use Rattle.td_model.specs.Account.{Account}
 use Rattle.td_acts.specs.Deciding.{entry_by_grn, no_terms}
-use Rattle.td_acts.specs.Effects.{amended}
-use Rattle.td_acts.specs.Table.{refuse_if}
+use Rattle.td_model.specs.Effects.{amended}
+use Rattle.td_model.specs.Table.{refuse_if}
 use Rattle.td_acts.proofs.Told.{told_named, told_unnamed, same_guarantee, same_use}
 use Rattle.td_acts.proofs.terms.amend.Goals as goal
 

@@ -9,9 +9,9 @@ use Rattle.td_commands.specs.declared.said.Answer.TheVariants as answer
 use Rattle.td_commands.specs.declared.said.Refusal.TheVariants.{NoHolder, NoCode, LastCode}
 use Rattle.td_commands.specs.declared.said.Said.{Said}
 use Rattle.td_commands.specs.declared.said.Said.TheVariants.{Answered}
-use Rattle.td_acts.specs.Account.{Account, uncoded}
+use Rattle.td_model.specs.Account.{Account, uncoded}
 use Rattle.td_acts.specs.Deciding.{entry_by_grn}
-use Rattle.td_acts.specs.Table.{refuse_if, stands}
+use Rattle.td_model.specs.Table.{refuse_if, stands}
 use Rattle.td_acts.proofs.Told.{told_named, told_unnamed, same_guarantee, same_use}
 use Rattle.td_acts.proofs.terms.remove_code.Goals as goal
 

@@ -9,8 +9,8 @@ use Rattle.td_commands.specs.declared.said.Refusal.TheVariants.{NoGuarantee, Alr
 use Rattle.td_commands.specs.declared.said.Said.{Said}
 use Rattle.td_commands.specs.declared.said.Said.TheVariants.{Answered}
 use Rattle.td_acts.specs.Deciding.{entry_by_grn, no_terms}
-use Rattle.td_acts.specs.Effects.{end_after}
-use Rattle.td_acts.specs.Table.{refuse_if}
+use Rattle.td_model.specs.Effects.{end_after}
+use Rattle.td_model.specs.Table.{refuse_if}
 use Rattle.td_acts.proofs.Told.{told_named, told_unnamed, same_guarantee, same_use}
 use Rattle.td_acts.proofs.terms.revoke.Goals as goal
 

@@ -5,8 +5,8 @@ use Rattle.td_commands.specs.declared.said.Answer.TheVariants as answer
 use Rattle.td_commands.specs.declared.said.Refusal.TheVariants.{NoHolder, NoMovement}
 use Rattle.td_commands.specs.declared.said.Said.{Said}
 use Rattle.td_commands.specs.declared.said.Said.TheVariants.{Answered, Refused}
-use Rattle.td_acts.specs.declared.rows.HolderRow.{HolderRow}
-use Rattle.td_acts.specs.Table.{or_refuse}
+use Rattle.td_model.specs.declared.holder_row.HolderRow.{HolderRow}
+use Rattle.td_model.specs.Table.{or_refuse}
 use Rattle.td_acts.proofs.views.see_movement.Goals as goal
 
 -- what a view shows

@@ -2,7 +2,7 @@ use Rattle.std.proofs.Common.{◌≡◌, ◌∙◌, Bool, refl}
 use Rattle.std.specs.Prelude.{IfOk}
 use Rattle.serde_json.proofs.OnLiterals.{serde_json_on_literals}
 use Rattle.td_fields.specs.declared.fault.WebFault.TheVariants.{NoMemory}
-use Rattle.td_wire.specs.ReplyText.{no_memory_reply}
+use Rattle.http_wire.specs.ReplyText.{no_memory_reply}
 use Rattle.td_answers.specs.Answers.{fault_reply}
 use Rattle.td_answers.proofs.answers.fault_bytes.Goals as goal
 

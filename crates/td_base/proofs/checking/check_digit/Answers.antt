@@ -1,7 +1,7 @@
 use Rattle.std.proofs.Common.{arith, add-one, sym, refl}
 use Rattle.std.proofs.Math.Nat.{pow-suc}
 use Rattle.std.proofs.lemmas.List.Elements.{All-more}
-use Rattle.ascii_text.specs.Letters.{IsMark}
+use Rattle.ascii_text.specs.Digits.{IsMark}
 use Rattle.td_base.proofs.Sums.{weighted_more, value_small, weight_small}
 use Rattle.td_base.proofs.checking.check_digit.Goals as goal
 

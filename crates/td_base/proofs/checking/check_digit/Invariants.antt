@@ -1,6 +1,6 @@
 use Rattle.std.proofs.Common.{◌≡◌, ◌+◌, ◌*◌, ◌^◌, ◌≤◌, take, All}
-use Rattle.ascii_text.specs.Letters.{IsMark}
-use Rattle.td_base.specs.CheckDigit.{weighted_sum}
+use Rattle.ascii_text.specs.Digits.{IsMark}
+use Rattle.td_base.specs.References.{weighted_sum}
 use Rattle.td_base.proofs.checking.check_digit.Given as goal
 
 abbrev pub invariant-loop-c : goal.invariant-loop-c

@@ -1,7 +1,7 @@
 use Rattle.std.proofs.Common.{◌≡◌, ℕ, zero, suc, ◌+◌, ◌-◌, ◌/◌, ◌<◌, ◌≤◌, Bool, true, false, nat_lt, arith, refl, inr, slice_index, sym}
 use Rattle.std.specs.Prelude.{◌==◌, ◌&&◌}
 use Rattle.std.proofs.lemmas.Bool.Decides.{Decides-below_and, Decides-eqb, nat_tests}
-use Rattle.td_base.specs.CheckDigit.{letter_values, value_of}
+use Rattle.td_base.specs.References.{letter_values, value_of}
 use Rattle.td_base.proofs.checking.value.Goals as goal
 
 -- the value of the letter at this place, by its place

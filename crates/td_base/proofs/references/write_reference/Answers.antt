@@ -1,5 +1,5 @@
 use Rattle.std.proofs.Common.{◌≡◌, ◌+◌, arith, refl, ◌∙◌, rules}
-use Rattle.td_base.specs.CheckDigit.{check_of}
+use Rattle.td_base.specs.References.{check_of}
 use Rattle.td_base.proofs.Written.{front_is, front_size, found_digit, last_written}
 use Rattle.td_base.proofs.references.write_reference.Goals as goal
 

@@ -1,5 +1,5 @@
 use Rattle.std.proofs.Common.{◌≡◌, ◌∙◌, ap}
-use Rattle.td_desk.specs.Plain.{rows_in}
+use Rattle.td_desk.specs.Plain.{plain_content}
 use Rattle.td_cli.specs.Desks.{in_memory, BeginsEmpty}
 use Rattle.td_cli.proofs.Clocks.{shows_itself}
 use Rattle.td_cli.proofs.Pipes.{piped_seen}
@@ -8,6 +8,6 @@ use Rattle.td_cli.proofs.piping.pipe_in_memory.Goals as goal
 pub returns : goal.returns
 returns g c =
     let made = c.in-Ok.ensures in
-    piped_seen in_memory rows_in (λ d. d ≡ c.in-Ok.desk) (λ d. d ≡ c.pipe_at-end.result.1) (BeginsEmpty c.args.country) (λ _. Unit {0})
-    g.R.Read.remaining g.W.Write.contents _ _ (λ t. t) _ _ _ _ _ _ (λ d is. ap rows_in is ∙ made.empty) (λ d is. tt) (shows_itself _ _)
+    piped_seen in_memory plain_content (λ d. d ≡ c.in-Ok.desk) (λ d. d ≡ c.pipe_at-end.result.1) (BeginsEmpty c.args.country) (λ _. Unit {0})
+    g.R.Read.remaining g.W.Write.contents _ _ (λ t. t) _ _ _ _ _ _ (λ d is. ap plain_content is ∙ made.empty) (λ d is. tt) (shows_itself _ _)
     (c.pipe_at-end.ensures (λ clean. (tt, made.sound)))

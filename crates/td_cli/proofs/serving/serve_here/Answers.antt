@@ -1,5 +1,5 @@
 use Rattle.std.proofs.Common.{◌≡◌, ◌∙◌, sym, inl, inr}
-use Rattle.td_http.specs.Served.{desk_of}
+use Rattle.td_http.specs.Serving.{desk_of}
 use Rattle.td_cli.specs.Desks.{Sight}
 use Rattle.td_cli.specs.Listening.{HasServed}
 use Rattle.td_cli.proofs.Visits.{has_served, served_some, served_all}

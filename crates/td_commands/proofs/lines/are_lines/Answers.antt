@@ -1,4 +1,4 @@
-use Rattle.std.proofs.Common.{◌≡◌, ◌≢◌, ℕ, suc, ◌^◌, ◌<◌, List, [], ◌∷◌, length, Bool, true, false, refl, sym, ◌∙◌, arith, get_or, rules}
+use Rattle.std.proofs.Common.{◌≡◌, ◌≢◌, ℕ, suc, ◌<◌, List, [], ◌∷◌, length, Bool, true, false, refl, sym, ◌∙◌, arith, get_or, rules}
 use Rattle.std.proofs.lemmas.Bool.{false≢true}
 use Rattle.std.proofs.lemmas.Bool.Decides.{Decides-and, Decides-like, Decides-not, same_from_decides}
 use Rattle.std.proofs.lemmas.List.Kept.{AllPairs-cons}
@@ -13,6 +13,7 @@ use Rattle.td_commands.specs.Lines.{IsLineAmount, IsLines, are_distinct, are_lin
 use Rattle.td_commands.proofs.Earlier.{named_by_none, named_by_one, up_to}
 use Rattle.td_commands.proofs.lines.are_lines.Goals as goal
 use Rattle.td_commands.proofs.lines.are_lines.Goals.{then-not-is_line_amount-via-then-not-is_line_amount, then-not-is_line_amount-via-else-not-is_line_amount+then-is_named}
+use Rattle.td_movement.specs.Lines.{most_lines, most_line_cents}
 
 -- the test that no two lines are on one guarantee is right
 distinct_decided : (lines : List (Line × List ℕ)) → Decides (are_distinct lines) (AllPairs (λ l m. l.0.grn ≢ m.0.grn) lines)
@@ -27,7 +28,7 @@ distinct_decided (line ∷ lines) =
 
 -- the test of a line's amount is right
 amount_decided : (line : Line × List ℕ) → Decides (is_line_amount line.0.cents) (IsLineAmount line.0.cents)
-amount_decided line = Decides-and _ _ (le_decided 1 line.0.cents) (le_decided line.0.cents (10 ^ 12))
+amount_decided line = Decides-and _ _ (le_decided 1 line.0.cents) (le_decided line.0.cents most_line_cents)
 
 -- the test of a declaration's lines is right
 lines_decided : (lines : List (Line × List ℕ)) → Decides (are_lines lines) (IsLines lines)
@@ -35,7 +36,7 @@ lines_decided lines =
     Decides-like (are_lines lines)
     (λ h. record { some = h.0.0.0; most = h.0.0.1; amounts = h.0.1; distinct = h.1 })
     (λ h. (((h.some, h.most), h.amounts), h.distinct))
-    (Decides-and _ _ (Decides-and _ _ (Decides-and _ _ (le_decided 1 (length lines)) (le_decided (length lines) 9))
+    (Decides-and _ _ (Decides-and _ _ (Decides-and _ _ (le_decided 1 (length lines)) (le_decided (length lines) most_lines))
     (all_decided (λ line. is_line_amount line.0.cents) (λ line. IsLineAmount line.0.cents) amount_decided lines)) (distinct_decided lines))
 
 -- what is true just of a declaration's lines is the test

@@ -20,14 +20,14 @@ loop-stamped-preserved g c =
     record {
       room = grind (arith, common_steps);
       one_each = grind (arith, common_steps);
-      stored = rw c.push_reserved.ensures.items (All-push (λ o. o ≡ outcome.Failed fault.Store → g.D.Desk.has_store) c.loop-stamped.outcomes.items c.perform-outcome.result c.loop-stamped.invariant.stored c.perform-outcome.ensures.store);
-      calls = rw c.push_reserved.ensures.items (one_outcome_more g.D.Desk.called c.args.desk.now c.loop-stamped.desk c.perform-outcome.new.desk c.loop-stamped.outcomes.items c.perform-outcome.result c.loop-stamped.invariant.calls c.perform-outcome.ensures.calls);
+      stored = rw c.push_reserved.ensures.items (All-push (λ o. o ≡ outcome.Failed fault.Store → g.D.Desk.has_store) c.loop-stamped.outcomes.items c.do_one-outcome.result c.loop-stamped.invariant.stored c.do_one-outcome.ensures.store);
+      calls = rw c.push_reserved.ensures.items (one_outcome_more g.D.Desk.called c.args.desk.now c.loop-stamped.desk c.do_one-outcome.new.desk c.loop-stamped.outcomes.items c.do_one-outcome.result c.loop-stamped.invariant.calls c.do_one-outcome.ensures.calls);
       stays = λ h live none.
-          let each = before_and_last (λ o. o ≢ outcome.Failed fault.Store) c.loop-stamped.outcomes.items c.perform-outcome.result (subst (λ (os : List Outcome). All (λ o. o ≢ outcome.Failed fault.Store) os) c.push_reserved.ensures.items none) in
-          c.perform-outcome.ensures.stays h (c.loop-stamped.invariant.stays (c.perform-outcome.ensures.clean h) live each.0) each.1;
-      clean = λ h. c.loop-stamped.invariant.clean (c.perform-outcome.ensures.clean h);
-      live = λ h now. c.loop-stamped.invariant.live (c.perform-outcome.ensures.clean h) (c.perform-outcome.ensures.live h now);
+          let each = before_and_last (λ o. o ≢ outcome.Failed fault.Store) c.loop-stamped.outcomes.items c.do_one-outcome.result (subst (λ (os : List Outcome). All (λ o. o ≢ outcome.Failed fault.Store) os) c.push_reserved.ensures.items none) in
+          c.do_one-outcome.ensures.stays h (c.loop-stamped.invariant.stays (c.do_one-outcome.ensures.clean h) live each.0) each.1;
+      clean = λ h. c.loop-stamped.invariant.clean (c.do_one-outcome.ensures.clean h);
+      live = λ h now. c.loop-stamped.invariant.live (c.do_one-outcome.ensures.clean h) (c.do_one-outcome.ensures.live h now);
       runs = λ h was_live sound books tied.
-          let was = c.loop-stamped.invariant.runs (c.perform-outcome.ensures.clean h) was_live sound books tied in
-          rw (more, c.push_reserved.ensures.items) (run_on (content c.args.desk.now).country books before c.loop-stamped.outcomes.items c.stamped-item.result was.0 (content c.loop-stamped.desk) (content c.perform-outcome.new.desk) (is_live c.loop-stamped.desk) (is_live c.perform-outcome.new.desk) was.1 was.2 (c.perform-outcome.ensures.live h) c.perform-outcome.result (c.perform-outcome.ensures.performs h));
+          let was = c.loop-stamped.invariant.runs (c.do_one-outcome.ensures.clean h) was_live sound books tied in
+          rw (more, c.push_reserved.ensures.items) (run_on (content c.args.desk.now).country books before c.loop-stamped.outcomes.items c.stamped-item.result was.0 (content c.loop-stamped.desk) (content c.do_one-outcome.new.desk) (is_live c.loop-stamped.desk) (is_live c.do_one-outcome.new.desk) was.1 was.2 (c.do_one-outcome.ensures.live h) c.do_one-outcome.result (c.do_one-outcome.ensures.performs h));
     }

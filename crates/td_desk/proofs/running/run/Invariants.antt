@@ -1,10 +1,9 @@
 use Rattle.std.proofs.Common.{◌≡◌, ◌≢◌, ℕ, ◌≤◌, length, take, vec_len}
 use Rattle.std.specs.Prelude.{vec_capacity, All}
-use Rattle.td_acts.specs.Book.{Book}
+use Rattle.td_model.specs.Book.{Book}
 use Rattle.td_desk.specs.declared.fault.Fault.TheVariants as fault
 use Rattle.td_desk.specs.declared.running.Outcome.TheVariants as outcome
-use Rattle.td_desk.specs.Content.{Content}
-use Rattle.td_desk.specs.Sound.{IsSound}
+use Rattle.td_desk.specs.Content.{Content, IsSound}
 use Rattle.td_desk.specs.Runs.{AreOutcomesOf, IsTied, IsRun}
 use Rattle.td_desk.proofs.running.run.Given as goal
 

@@ -1,4 +1,4 @@
-use Rattle.td_base.specs.Eori.{eori_read}
+use Rattle.td_base.specs.Codes.{eori_read}
 use Rattle.td_fields.proofs.MemberFacts.{read_of}
 use Rattle.td_fields.proofs.body_fields.eori_in.Goals as goal
 

@@ -1,7 +1,7 @@
 use Rattle.std.proofs.Common.{◌≡◌, ◌+◌, ◌∙◌, List, ℕ, Some, get_or, ap, sym}
 use Rattle.serde_json.specs.View.{view}
 use Rattle.td_movement.specs.declared.line.Line.{Line}
-use Rattle.td_fields.specs.BodyLines.{line_in}
+use Rattle.td_fields.specs.BodyFields.{line_in}
 use Rattle.td_fields.proofs.LineFacts.{read_from, read_goes_on}
 use Rattle.td_fields.proofs.body_lines.read_lines.Goals as goal
 

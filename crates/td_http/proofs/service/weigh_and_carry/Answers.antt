@@ -2,8 +2,7 @@ use Rattle.std.proofs.Common.{◌∙◌, sym, ap, subst, w64}
 use Rattle.std.proofs.lemmas.Int.{to_z-of_z}
 use Rattle.td_commands.specs.declared.command.Stamped.{Stamped}
 use Rattle.td_commands.specs.declared.said.Said.{Said}
-use Rattle.td_desk.specs.Content.{Content}
-use Rattle.td_desk.specs.Sound.{IsSound}
+use Rattle.td_desk.specs.Content.{Content, IsSound}
 use Rattle.td_desk.specs.Weighing.{IsWeighed, Carries}
 use Rattle.td_answers.specs.Answers.{said_reply}
 use Rattle.td_http.proofs.service.weigh_and_carry.Goals as goal

@@ -1,7 +1,7 @@
 use Rattle.std.proofs.Common.{arith}
 use Rattle.sqlite.specs.Held.{state}
 use Rattle.sqlite.specs.State.{HasCleanDisk}
-use Rattle.td_sql.proofs.Leaving.{on_ok}
+use Rattle.typed_sql.proofs.Leaving.{on_ok}
 use Rattle.td_schema.proofs.Meanings.{meta_made, holders_made, codes_made, movements_made, guarantees_made, lines_made}
 use Rattle.td_schema.proofs.making.make_tables.Goals as goal
 

@@ -1,7 +1,7 @@
 use Rattle.std.proofs.Common.{get_or, refl, rules}
 use Rattle.std.proofs.Output.{has_written_append, has_written_of_eq}
 use Rattle.std.specs.Fmt.{HasWritten}
-use Rattle.json_text.proofs.Arrays.{array_text, behind_comma, one_more}
+use Rattle.td_answers.proofs.Arrays.{array_text, behind_comma, one_more}
 use Rattle.td_answers.proofs.json.RefSliceToJson.write_json.Goals as goal
 
 pub loop-value-init : goal.loop-value-init

@@ -1,7 +1,7 @@
 use Rattle.std.proofs.Common.{take}
 use Rattle.std.specs.Fmt.{HasWritten, IsPlainFormatter}
 use Rattle.std.specs.Prelude.{flat_map}
-use Rattle.json_text.proofs.Arrays.{behind_comma}
+use Rattle.td_answers.proofs.Arrays.{behind_comma}
 use Rattle.td_answers.proofs.json.RefSliceToJson.write_json.Given as goal
 
 -- behind the first, the elements before are written

@@ -1,4 +1,4 @@
-use Rattle.td_base.specs.Eori.{IsEori}
+use Rattle.td_base.specs.Codes.{IsEori}
 use Rattle.td_base.proofs.Filled.{filled}
 use Rattle.td_base.proofs.eori.Eori.read.Goals as goal
 

@@ -1,8 +1,7 @@
 use Rattle.std.proofs.Common.{◌≡◌, ℕ, Option, w64, ◌∙◌, ap, subst}
 use Rattle.std.proofs.lemmas.Int.{to_z-of_z}
 use Rattle.td_acts.specs.Deciding.{IsLoaded}
-use Rattle.td_commands.specs.Commands.{owner_of}
-use Rattle.td_commands.specs.Commands.{Need, need_of}
+use Rattle.td_commands.specs.Commands.{owner_of, Need, need_of}
 use Rattle.td_desk.specs.Weighing.{kept_for, kept_of}
 use Rattle.td_desk.proofs.Weighed.{weighed_by}
 use Rattle.td_desk.proofs.store.AnyDesk.weigh.Goals as goal

@@ -1,11 +1,11 @@
 use Rattle.std.proofs.Common.{◌≡◌, sym, ◌∙◌, ap, subst}
 use Rattle.std.specs.Prelude.{insert}
-use Rattle.td_guarantee.specs.Codes.{AreAscending, codes_in, with_code}
+use Rattle.td_guarantee.specs.Codes.{AreAscending, codes_kept, with_code}
 use Rattle.td_guarantee.proofs.Coded.{inserted, stayed, parted, ascending_with}
 use Rattle.td_guarantee.proofs.codes.Codes.add.Goals as goal
 
 -- the code stands in its place
-put : (c : goal.In_ok-insert) → codes_in c.insert.new.self ≡ with_code c.args.code c.as_slice.result.now
+put : (c : goal.In_ok-insert) → codes_kept c.insert.new.self ≡ with_code c.args.code c.as_slice.result.now
 put c =
     let code = c.args.code in
     let order = c.as_slice.ensures.ascending in

@@ -1,7 +1,7 @@
 use Rattle.std.proofs.Common.{rules}
 use Rattle.sqlite.specs.Held.{state}
 use Rattle.td_desk.specs.Content.{empty_content}
-use Rattle.td_schema.specs.Making.{IsEmptyOf}
+use Rattle.td_schema.specs.Tables.{IsEmptyOf}
 use Rattle.td_schema.specs.Tables.{no_schema}
 use Rattle.td_store.proofs.Holding.{content_held, holds_shown}
 use Rattle.td_store.proofs.desk.SqlDesk.create.Goals as goal

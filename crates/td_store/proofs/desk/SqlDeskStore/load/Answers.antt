@@ -7,8 +7,8 @@ use Rattle.td_commands.specs.Commands.{need_said}
 use Rattle.td_desk.specs.Content.{Content}
 use Rattle.td_desk.specs.Weighing.{kept_for}
 use Rattle.td_schema.specs.Tables.{desk_schema}
-use Rattle.td_sql.specs.Writing.{HasSchema}
-use Rattle.td_store_tables.specs.Rows.{HoldsContent}
+use Rattle.typed_sql.specs.Writing.{HasSchema}
+use Rattle.td_store_rows.specs.StoreTables.{HoldsContent}
 use Rattle.td_store.specs.Kept.{IsDeskOf, LeavesTrees}
 use Rattle.td_store.proofs.Calls.{fault_called, left_reading, read_called}
 use Rattle.td_store.proofs.Holding.{loaded_there}

@@ -1,7 +1,7 @@
 use Rattle.std.specs.Prelude.{IsTrue}
 use Rattle.sqlite.specs.Held.{state}
 use Rattle.sqlite.specs.State.{State, HasCleanDisk, Survives}
-use Rattle.td_carrying.specs.Carried.{CarriesChange, MayLeave}
+use Rattle.td_store_write.specs.Carried.{CarriesChange, MayLeave}
 use Rattle.td_store.specs.Kept.{IsDeskOf}
 use Rattle.td_store.proofs.Calls.{carry_called, content_carried, desk_carried, fault_called, left_carrying}
 use Rattle.td_store.proofs.desk.SqlDeskStore.write.Goals as goal

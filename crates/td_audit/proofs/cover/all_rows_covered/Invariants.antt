@@ -1,8 +1,0 @@
-use Rattle.std.proofs.Common.{take}
-use Rattle.std.specs.List.{AllByRecursion}
-use Rattle.td_audit.specs.Handed.{IsCoveredBy}
-use Rattle.td_audit.proofs.cover.all_rows_covered.Given as goal
-
--- those before are covered
-abbrev pub invariant-rows : goal.invariant-rows
-invariant-rows l = AllByRecursion (IsCoveredBy l.parts) (take l.row-index l.rows)

@@ -1,7 +1,0 @@
-use Rattle.std.proofs.Common.{◌≡◌, ℕ, ◌<◌, ◌≤◌, get_or}
-use Rattle.td_lines.specs.declared.stored.StoredLine.{StoredLine}
-use Rattle.td_audit.proofs.lines_in_place.end_of_run.Given as goal
-
--- those from the start on have the serial
-abbrev pub invariant-loop-i : goal.invariant-loop-i
-invariant-loop-i l = (j : ℕ) (d : StoredLine) → l.start ≤ j → j < l.i → (get_or l.rows j d).serial ≡ l.serial

@@ -1,5 +1,0 @@
-use Rattle.td_audit_rows.proofs.Raw.{rules_mean_content}
-use Rattle.td_audit_rows.proofs.laws.kept_rules_mean_content.Goals as goal
-
-pub returns : goal.returns
-returns c = rules_mean_content

@@ -1,4 +1,0 @@
-mod Visits
-pub mod Private
-mod Anyhow
-pub mod Alike

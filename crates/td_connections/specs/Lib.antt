@@ -1,4 +1,0 @@
-pub mod Visits
-pub mod Private
-pub mod Sockets
-pub mod Laws

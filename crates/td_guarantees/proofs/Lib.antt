@@ -1,3 +1,0 @@
-mod Meanings
-pub mod CellLemmas
-mod Statements

@@ -1,0 +1,109 @@
+//! A holder's movements in memory, and what they have in use on guarantees.
+ghost use Rattle.std.specs.Prelude.{◌≡◌, ◌∷◌, ◌++◌, [], map, option_map, OnOk, OnErr, SomeIff};
+ghost use Rattle.td_base.specs.Money.{IsCents};
+ghost use Rattle.td_guarantee.specs.Usage.{used_on};
+ghost use Rattle.td_model.specs.Account.{movement_by_lrn, movement_by_mrn};
+ghost use Rattle.td_acts.specs.Changes.{moved};
+
+use crate::movement_rows::MovementRows;
+use std::alloc::{AllocError, Global};
+use std::marker::Model;
+use td_acts::NewStatus;
+use td_base::{Cents, Country, Grn, Lrn, Mrn};
+use td_guarantee::{in_use, known_amount, make_lines_known, put_on, take_off};
+use td_movement::{Movement, counts};
+
+/// A holder's movements, by serial.
+#[derive(Drop)]
+pub(crate) struct CountedRows {
+    rows: MovementRows,
+    // The amount in use on some guarantees. It is added up when a movement is released on one, and kept from then on.
+    known: Vec<(Grn, Cents)>,
+}
+
+impl Model for CountedRows {
+    ghost use Rattle.std.specs.Prelude.{List};
+    ghost use Rattle.td_movement.specs.declared.movement.Movement.{Movement};
+    ghost use Rattle.td_guarantee.specs.Known.{AreInUse};
+
+    ghost Value = { List Movement };
+
+    ghost view = { λ r. r.rows };
+
+    ghost invariant = { λ r. AreInUse r.known.items r.rows };
+}
+
+impl CountedRows {
+    /// No movements yet, of a holder at a desk of that country.
+    pub fn new(alloc: Global, country: Country) -> Self
+        ensures { result ≡ [] }
+    {
+        CountedRows {
+            rows: MovementRows::new(alloc, country),
+            known: Vec::new(alloc),
+        }
+    }
+
+    /// The movements, in order.
+    pub fn as_slice(&self) -> &[Movement]
+        ensures { result.now ≡ self.now }
+    {
+        self.rows.as_slice()
+    }
+
+    /// Puts a movement behind the others. `AllocError`: want of memory, and they are as they were.
+    pub fn push(&mut self, movement: Movement) -> Result<(), AllocError>
+        ensures ok { OnOk result (self.new ≡ self.old ++ movement ∷ []) }
+        ensures err { OnErr result (self.new ≡ self.old) }
+    {
+        if counts(movement.state) {
+            self.known.clear();
+        }
+        self.rows.push(movement)
+    }
+
+    /// The movement with an LRN, if there is one.
+    pub fn find_by_lrn(&self, lrn: &Lrn) -> Option<&Movement>
+        ensures { option_map (λ m. m.now) result ≡ movement_by_lrn lrn.now self.now }
+    {
+        self.rows.find_by_lrn(lrn)
+    }
+
+    /// The movement with an MRN, if there is one.
+    pub fn find_by_mrn(&self, mrn: &Mrn) -> Option<&Movement>
+        ensures { option_map (λ m. m.now) result ≡ movement_by_mrn mrn.now self.now }
+    {
+        self.rows.find_by_mrn(mrn)
+    }
+
+    /// The amount in use on a guarantee. `None` above 10^15 cents.
+    pub fn in_use(&self, grn: &Grn) -> Option<Cents>
+        ensures { SomeIff result (IsCents (used_on grn.now self.now)) (used_on grn.now self.now) }
+    {
+        match known_amount(&self.known, grn) {
+            Some(amount) => {
+                let _range = amount.get();
+                Some(amount)
+            }
+            None => in_use(self.rows.as_slice(), grn),
+        }
+    }
+
+    /// Puts the movement that has moved into its new state.
+    pub fn put_status(&mut self, status: &NewStatus)
+        ensures { self.new ≡ map (moved status.now) self.old }
+    {
+        let Some(at) = self.rows.only_place_of(&status.mrn) else {
+            self.known.clear();
+            self.rows.put_status(status);
+            return;
+        };
+        if counts(status.state) {
+            let movements = self.rows.as_slice();
+            make_lines_known(&mut self.known, movements, movements[at].lines.as_slice());
+        }
+        take_off(&mut self.known, &self.rows.as_slice()[at..at + 1]);
+        self.rows.put_status(status);
+        put_on(&mut self.known, &self.rows.as_slice()[at..at + 1]);
+    }
+}

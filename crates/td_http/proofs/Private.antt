@@ -1,0 +1,146 @@
+-- What connections one after another tell each holder.
+use Rattle.std.proofs.Common.{◌≡◌, ℕ, ℤ, List, [], ◌∷◌, ◌++◌, map, Option, refl, sym, ◌∙◌, ap, subst}
+use Rattle.std.proofs.lemmas.List.{map-append}
+use Rattle.std.proofs.lemmas.List.Elements.{All-cons, All-nil}
+use Rattle.td_model.specs.Book.{Book, account_of}
+use Rattle.td_model.specs.Machine.{book_after, machine_book, IsGrown}
+use Rattle.td_desk.specs.Content.{Content, IsSound}
+use Rattle.td_desk.specs.Runs.{IsTied}
+use Rattle.http_wire.specs.Stream.{Exchange}
+use Rattle.td_http.specs.declared.service.Service.{Service}
+use Rattle.td_http.specs.Serving.{desk_of, IsHandledBy, IsHeadHandledBy, Demand, FaultsAreTold, NobodysAreTold, commands_of, heard_in, machine_replies, IsServed}
+use Rattle.td_http.proofs.Served.{machine_book-++}
+use Rattle.td_http.proofs.Streamed.{stream_clean, stream_served}
+use Rattle.td_http.specs.Visits.{Between, Visit, IsVisit, Visited}
+use Rattle.td_http.specs.Private.{heard_over, IsServedOver, IsPrivateOver}
+
+-- a machine's replies to one list and then another
+machine_replies-++ : (H : ℕ) (book : Book) (xs ys : List Demand)
+    → machine_replies H book (xs ++ ys)
+    ≡ machine_replies H book xs ++ machine_replies H (machine_book H book (commands_of xs)) ys
+machine_replies-++ H book [] ys = refl
+machine_replies-++ H book (x ∷ xs) ys = rw (machine_replies-++ H (book_after H book x.0) xs ys) refl
+
+-- the books that a stream leaves
+abbrev books_after : List ℕ → (ℕ → Book) → List Exchange → ℕ → Book
+books_after country books es H = machine_book H (books H) (commands_of (heard_in country H 0 es))
+
+-- one stream, and those that begin with the books that it left
+module _ (country : List ℕ) (books : ℕ → Book) (es : List Exchange) (streams : List (List Exchange)) where
+  books_are : (H : ℕ)
+      → machine_book H (books_after country books es H) (commands_of (heard_over country H streams))
+      ≡ machine_book H (books H) (commands_of (heard_over country H (es ∷ streams)))
+  books_are H =
+      let heard = heard_in country H 0 es in
+      let later = heard_over country H streams in
+      sym (ap (machine_book H (books H)) (map-append (λ (r : Demand). r.0) heard later)
+      ∙ machine_book-++ H (books H) (commands_of heard) (commands_of later))
+
+  served_over : (mid new : Content) → IsServed country books 0 es mid
+      → IsServedOver country (books_after country books es) streams new
+      → IsServedOver country books (es ∷ streams) new
+  served_over mid new first later = record {
+    answers = λ H. rw (first.answers H, later.answers H)
+        (sym (machine_replies-++ H (books H) (heard_in country H 0 es) (heard_over country H streams)));
+    faults = All-cons (FaultsAreTold 0) es streams first.faults later.faults;
+    nobodys = All-cons (NobodysAreTold country 0) es streams first.nobodys later.nobodys;
+    country_stays = later.country_stays;
+    sound = later.sound;
+    tied = record {
+      each = λ H. later.tied.each H ∙ ap (account_of H) (books_are H);
+      grown = λ H. subst (λ (b : Book). IsGrown H b) (books_are H) (later.tied.grown H);
+    };
+  }
+
+-- no stream
+served_nothing : (country : List ℕ) (books : ℕ → Book) (rows : Content)
+    → rows.country ≡ country → IsSound rows → IsTied rows books → IsServedOver country books [] rows
+served_nothing country books rows same sound tied = record {
+  answers = λ H. refl;
+  faults = All-nil (FaultsAreTold 0);
+  nobodys = All-nil (NobodysAreTold country 0);
+  country_stays = same;
+  sound = sound;
+  tied = record { each = tied.each; grown = tied.grown };
+}
+
+module _ {R W C D L : Type 0} (remaining : R → Option (List ℕ)) (contents : W → Option (List ℕ))
+    (gives takes : L → R → W → L → Type 0) (ticks : C → ℤ → C → Type 0)
+    (content : D → Content) (is_clean is_live : D → Type 0) (has_store : Type 0) where
+  -- connections at a service of the desk
+  abbrev Served : Between L C (Service D) → List (Visit R W) → Between L C (Service D) → Type 0
+  Served = Visited remaining contents gives takes ticks
+      (IsHandledBy content is_clean is_live has_store) IsHeadHandledBy
+
+  -- one of them
+  abbrev OneServed : Between L C (Service D) → Visit R W → Between L C (Service D) → Type 0
+  OneServed = IsVisit remaining contents gives takes ticks
+      (IsHandledBy content is_clean is_live has_store) IsHeadHandledBy
+
+  -- their requests with their replies
+  abbrev streams_of : List (Visit R W) → List (List Exchange)
+  streams_of visits = map (λ (visit : Visit R W). visit.exchanges) visits
+
+  -- where no fault has shut the desk before, these are its rows
+  abbrev Shows : Between L C (Service D) → Content → Type 0
+  Shows b rows = is_live (desk_of b.handler) → content (desk_of b.handler) ≡ rows
+
+  -- a connection that leaves a clean desk found it clean
+  visit_clean : (old : Between L C (Service D)) (visit : Visit R W) (new : Between L C (Service D))
+      → OneServed old visit new → is_clean (desk_of new.handler) → is_clean (desk_of old.handler)
+  visit_clean old visit new is clean =
+      let run = is.served.run in
+      stream_clean ticks content is_clean is_live has_store old.clock new.clock old.handler run.handler
+      new.handler run.exchanges run.rest run.parting is.served.chain is.served.parting clean
+
+  -- one connection from any rows that are tied to books
+  visit_served : (old : Between L C (Service D)) (visit : Visit R W) (new : Between L C (Service D))
+      → OneServed old visit new → is_clean (desk_of new.handler)
+      → (country : List ℕ) (books : ℕ → Book) (rows : Content)
+      → rows.country ≡ country → IsSound rows → IsTied rows books → Shows old rows
+      → (c : Content) × IsServed country books 0 visit.exchanges c × Shows new c
+  visit_served old visit new is clean country books rows same_country sound tied same =
+      let run = is.served.run in
+      let served = stream_served ticks content is_clean is_live has_store old.clock new.clock old.handler
+      run.handler new.handler run.exchanges run.rest run.parting is.served.chain is.served.parting clean
+      country books rows same_country sound tied same in
+      (served.0, rw is.exchanges served.1, served.2)
+
+  -- connections that leave a clean desk found it clean
+  pub visits_clean : (visits : List (Visit R W)) (old new : Between L C (Service D))
+      → Served old visits new → is_clean (desk_of new.handler) → is_clean (desk_of old.handler)
+  visits_clean [] old new visited clean =
+      subst (λ (b : Between L C (Service D)). is_clean (desk_of b.handler)) (sym visited) clean
+  visits_clean (visit ∷ visits) old new visited clean =
+      visit_clean old visit visited.0 visited.1 (visits_clean visits visited.0 new visited.2 clean)
+
+  -- Connections from any rows that are tied to books. Before them a fault may have shut the desk: then rows
+  -- is the content up to that.
+  visits_served : (visits : List (Visit R W)) (old new : Between L C (Service D))
+      → Served old visits new → is_clean (desk_of new.handler)
+      → (country : List ℕ) (books : ℕ → Book) (rows : Content)
+      → rows.country ≡ country → IsSound rows → IsTied rows books → Shows old rows
+      → (c : Content) × IsServedOver country books (streams_of visits) c × Shows new c
+  visits_served [] old new visited clean country books rows same_country sound tied same = (
+    rows,
+    served_nothing country books rows same_country sound tied,
+    subst (λ (b : Between L C (Service D)). Shows b rows) visited same,
+  )
+  visits_served (visit ∷ visits) old new visited clean country books rows same_country sound tied same =
+      let mid = visited.0 in
+      let mid_clean = visits_clean visits mid new visited.2 clean in
+      let first = visit_served old visit mid visited.1 mid_clean country books rows same_country sound tied
+      same in
+      let later = visits_served visits mid new visited.2 clean country
+      (books_after country books visit.exchanges) first.0 first.1.country_stays first.1.sound first.1.tied
+      first.2 in
+      let streams = streams_of visits in
+      (later.0, served_over country books visit.exchanges streams first.0 later.0 first.1 later.1, later.2)
+
+  -- connections from the content of the desk
+  pub visits_private : (visits : List (Visit R W)) (old new : Between L C (Service D))
+      → Served old visits new
+      → IsPrivateOver content is_clean is_live old.handler new.handler (streams_of visits)
+  visits_private visits old new visited = λ clean live sound books tied.
+      let rows = content (desk_of old.handler) in
+      visits_served visits old new visited clean rows.country books rows refl sound tied (λ _. refl)

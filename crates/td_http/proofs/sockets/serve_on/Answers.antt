@@ -1,0 +1,25 @@
+use Rattle.std.proofs.Common.{None}
+use Rattle.td_http.specs.Serving.{IsHandledBy, IsHeadHandledBy}
+use Rattle.td_http.specs.Visits.{beside}
+use Rattle.td_http.proofs.Visits.{between}
+use Rattle.td_http.proofs.Anyhow.{visited_anyhow, ended_anyhow}
+use Rattle.td_http.proofs.sockets.serve_on.Goals as goal
+
+pub returns : goal.returns
+returns g c =
+    let desk = g.D.Desk in
+    let call = c.serve_connections in
+    let served = call.ensures.0 in
+    let old = between _ c.args.clock.now c.args.service.now in
+    let new = between call.new.connections call.new.clock call.new.service in (
+      record {
+        visits = served.visits;
+        last = beside served.last.clock served.last.handler;
+        visited = visited_anyhow (λ _. None) (λ _. None) (λ _ _ _ _. Unit {0}) (λ _ _ _ _. Unit {0})
+            g.C.Clock.ticks (IsHandledBy desk.content desk.is_clean desk.is_live desk.has_store) IsHeadHandledBy
+            served.visits old served.last served.visited;
+        ended = ended_anyhow (λ _ _ _. Unit {0}) served.visits served.last new c.args.connections call.result
+            served.ended;
+      },
+      call.ensures.1,
+    )

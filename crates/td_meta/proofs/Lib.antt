@@ -1,2 +1,0 @@
-mod Meanings
-mod Statements

@@ -1,4 +1,0 @@
-pub mod Meanings
-mod CellLemmas
-pub mod Statements
-pub mod Serials

@@ -1,9 +1,0 @@
-use Rattle.std.proofs.Common.{◌∙◌, sym}
-use Rattle.td_needs.proofs.needs.load_guarantees.Goals as goal
-
-pub returns-clause-loaded : goal.returns-clause-loaded
-returns-clause-loaded g c clean content holds at row = record {
-  country = c.row_alone-loaded.ensures.country ∙ sym at;
-  holder = c.row_alone-loaded.ensures.row ∙ sym row;
-  things = c.in_ok-guarantees.ensures.found clean content holds;
-}

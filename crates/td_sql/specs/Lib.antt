@@ -1,6 +1,0 @@
-pub mod Rows
-pub mod Meanings
-pub mod Writing
-pub mod Reading
-pub mod Typed
-pub mod Values

@@ -1,0 +1,76 @@
+-- The rules from S2 to S4, asked one after another, and those behind them.
+use Rattle.std.proofs.Common.{◌≡◌, ℕ, Bool, false, List, Option, Ok, Err, Result, refl}
+use Rattle.std.specs.Prelude.{◌↔◌, IfOk, IsTrue}
+use Rattle.sqlite_trees.specs.Tree.{Trees}
+use Rattle.sqlite.specs.State.{State}
+use Rattle.sqlite.specs.declared.error.Error.{Error}
+use Rattle.td_table_model.specs.declared.rule.Rule.{Rule}
+use Rattle.td_table_model.specs.declared.rule.Rule.TheVariants.{S2, S3, S4, S5}
+use Rattle.td_store_rows.specs.Columns.{code_typing, guarantee_typing}
+use Rattle.td_store_audit_rows.specs.Fields.{AreCodeFields, AreGuaranteeFields}
+use Rattle.td_store_audit_rows.specs.Kinds.{IsFirstBrokenRaw, KeepsRaw}
+use Rattle.td_store_audit_rows.specs.Scans.{TellsRead}
+use Rattle.td_store_audit_rows.specs.declared.holders.RawHolder.{RawHolder}
+use Rattle.td_store_audit_rows.specs.declared.tables.Readable.{Readable}
+use Rattle.td_store_audit.specs.Auditable.{TellsRule, TellsS2}
+use Rattle.td_store_audit.specs.Broken.{HasOffice, IsNextRule, TellsBroken}
+use Rattle.td_store_audit.specs.InFile.{IsSoWhere, TellsWhere}
+use Rattle.td_store_audit.specs.Premises.{AreCodesAuditable}
+use Rattle.td_store_audit.proofs.Reading.{so_before}
+use Rattle.td_store_audit.proofs.Succession.{broken_here, codes_next, first_next, holders_next, kept_on, table_next, told_before}
+use Rattle.typed_sql.proofs.OnlyRead.{none_read}
+use Rattle.typed_sql.specs.Reading.{OnlyRead}
+use Rattle.td_schema.specs.Tables.{desk_schema}
+
+module _ (country : List ℕ) (holders : List RawHolder) (readable : Readable) (a : State) where
+  abbrev Q : Trees → Type 0
+  Q = HasOffice country holders readable
+
+  first : IsSoWhere Q (IsNextRule S2 country holders readable) a
+  first has office = first_next country holders readable a.now.trees office
+
+  holders_told : (keeps : Bool) → TellsS2 holders keeps → TellsWhere Q (λ trees. KeepsRaw trees S2) a keeps
+  holders_told keeps told = told_before country holders readable Q a S2 first keeps a (none_read a) (holders_next country holders readable a keeps told)
+
+  pub holders_broken : (keeps : Bool) → keeps ≡ false → TellsS2 holders keeps → IsSoWhere Q (λ trees. IsFirstBrokenRaw trees S2) a
+  holders_broken keeps is told = broken_here country holders readable Q a S2 first keeps (holders_told keeps told) is
+
+  -- S2 is kept
+  module _ (keeps : Bool) (is : IsTrue keeps) (told : TellsS2 holders keeps) where
+    after_holders : IsSoWhere Q (IsNextRule S3 country holders readable) a
+    after_holders = kept_on country holders readable Q a S2 first keeps (holders_told keeps told) is S3 refl
+
+    abbrev TellsGuarantees : Bool → Type 0
+    TellsGuarantees b = TellsRead guarantee_typing AreGuaranteeFields a.now.trees readable.guarantees → TellsRule S3 country holders a b
+
+    guarantees_told : (b : Bool) → TellsGuarantees b → TellsWhere Q (λ trees. KeepsRaw trees S3) a b
+    guarantees_told b tells =
+        told_before country holders readable Q a S3 after_holders b a (none_read a)
+        (table_next country holders readable a S3 b (λ has next. tells next.office.told.guarantees))
+
+    pub guarantees_broken : (b : Bool) → b ≡ false → TellsGuarantees b → IsSoWhere Q (λ trees. IsFirstBrokenRaw trees S3) a
+    guarantees_broken b here tells = broken_here country holders readable Q a S3 after_holders b (guarantees_told b tells) here
+
+    -- so is S3
+    module _ (b : Bool) (here : IsTrue b) (tells : TellsGuarantees b) (m : State) (read : OnlyRead desk_schema a m) where
+      after_guarantees : IsSoWhere Q (IsNextRule S4 country holders readable) a
+      after_guarantees = kept_on country holders readable Q a S3 after_holders b (guarantees_told b tells) here S4 refl
+
+      abbrev TellsCodes : Bool → Type 0
+      TellsCodes k =
+          AreCodesAuditable m holders → TellsRead code_typing AreCodeFields m.now.trees readable.codes → IsTrue k ↔ KeepsRaw m.now.trees S4
+
+      codes_told : (k : Bool) → TellsCodes k → TellsWhere Q (λ trees. KeepsRaw trees S4) a k
+      codes_told k says = told_before country holders readable Q a S4 after_guarantees k m read (codes_next country holders readable m k says)
+
+      pub codes_broken : (k : Bool) → k ≡ false → TellsCodes k → IsSoWhere Q (λ trees. IsFirstBrokenRaw trees S4) a
+      codes_broken k so says = broken_here country holders readable Q a S4 after_guarantees k (codes_told k says) so
+
+      -- so is S4: what is told of the rules behind it is told of all
+      module _ (k : Bool) (so : IsTrue k) (says : TellsCodes k) (d : State) (read_on : OnlyRead desk_schema a d) where
+        pub all_told : (result : Result (Option Rule) Error) → IfOk result (λ broken. IsSoWhere (IsNextRule S5 country holders readable) (λ trees. TellsBroken trees broken) d)
+            → IfOk result (λ broken. IsSoWhere Q (λ trees. TellsBroken trees broken) a)
+        all_told (Err e) rest = rest
+        all_told (Ok broken) rest = λ has office.
+            so_before (IsNextRule S5 country holders readable) (λ trees. TellsBroken trees broken) a d read_on rest has
+            (kept_on country holders readable Q a S4 after_guarantees k (codes_told k says) so S5 refl has office)

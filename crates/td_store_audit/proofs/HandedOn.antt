@@ -1,0 +1,68 @@
+-- By what was handed on of a holder each of the holder's guarantees is covered exactly where it is in the file.
+use Rattle.std.proofs.Common.{◌≡◌, ℕ, ◌≤◌, List, map, sum_by, sym, ap, subst, arith, IsPermutation}
+use Rattle.std.specs.Prelude.{◌↔◌, ◌==◌, filter}
+use Rattle.std.specs.List.{AllByRecursion}
+use Rattle.std.proofs.lemmas.List.Sorted.{IsPermutation-map}
+use Rattle.sqlite_trees.specs.Tree.{Trees}
+use Rattle.sqlite_trees.proofs.ListLemmas.{IsPermutation-filter, all-map, all_both, all_from_map}
+use Rattle.td_guarantee.specs.declared.guarantee.Guarantee.{Guarantee}
+use Rattle.td_table_model.specs.Gathering.{guarantees_by, movements_by, owner, part, place}
+use Rattle.td_table_model.specs.Looking.{cents_of, counting_rows, lines_in_use}
+use Rattle.td_table_model.specs.Tables.{Keyed, Tables}
+use Rattle.td_table_model.proofs.Counting.{filter_both}
+use Rattle.td_table_model.proofs.Orders.{in_order_permutes}
+use Rattle.td_table_model.proofs.Ruled.{are_mine}
+use Rattle.td_store_rows.specs.GuaranteeTable.{guarantee_row_of}
+use Rattle.td_store_rows.specs.declared.guarantees.stored.StoredGuarantee.{StoredGuarantee}
+use Rattle.td_store_rows.specs.MovementTable.{serial_of_stored}
+use Rattle.td_store_rows.specs.declared.movements.stored.MovementSerial.{MovementSerial}
+use Rattle.td_store_rows.specs.declared.lines.stored.StoredLine.{StoredLine}
+use Rattle.td_store_rows.specs.StoreTables.{tables_in}
+use Rattle.td_store_load.specs.InUse.{total_on}
+use Rattle.td_store_load.proofs.Counted.{of_holder}
+use Rattle.td_store_audit.specs.Handed.{IsCoveredBy, IsHandedOn, is_counting_row}
+use Rattle.td_store_audit.specs.InFile.{IsRowCovered}
+use Rattle.td_store_audit.specs.declared.handed.HolderParts.{HolderParts}
+
+module _ (trees : Trees) (h : HolderParts) (is : IsHandedOn trees h) where
+  abbrev H : ℕ
+  H = h.movements.raw.holder
+
+  abbrev t : Tables
+  t = tables_in trees
+
+  abbrev serials : List MovementSerial
+  serials = h.movements.serials.items
+
+  abbrev lines : List StoredLine
+  lines = h.lines.items
+
+  -- the serials are those of the rows that count
+  those : IsPermutation (map place (counting_rows H t)) (map serial_of_stored serials)
+  those =
+      subst (IsPermutation (map place (counting_rows H t))) (sym is.counting)
+      (IsPermutation-map place (counting_rows H t) (filter is_counting_row (movements_by H t))
+      (subst (λ rows. IsPermutation rows (filter is_counting_row (movements_by H t))) (sym (filter_both is_counting_row (λ m. owner m == H) t.movements))
+      (IsPermutation-filter is_counting_row (part H t.movements) (movements_by H t) (in_order_permutes place (part H t.movements) is.apart))))
+
+  -- so the lines on a guarantee add up to what is in use on it
+  in_use : (n : ℕ) → total_on n serials lines ≡ sum_by cents_of (lines_in_use H n t)
+  in_use n = of_holder H n t serials h.movements.order those lines is.lines
+
+  abbrev Is : Keyed Guarantee → Type 0
+  Is g = total_on g.serial serials lines ≤ g.row.reference
+
+  row_covered : (g : Keyed Guarantee) → owner g ≡ H → Is g → IsRowCovered trees g
+  row_covered g own low = omega (arith, in_use g.serial, ap (λ k. sum_by cents_of (lines_in_use k g.serial t)) own, low)
+
+  row_is : (g : Keyed Guarantee) → owner g ≡ H → IsRowCovered trees g → Is g
+  row_is g own low = omega (arith, in_use g.serial, ap (λ k. sum_by cents_of (lines_in_use k g.serial t)) own, low)
+
+  pub rows_tell : (rows : List StoredGuarantee) → map guarantee_row_of rows ≡ guarantees_by H t
+      → AllByRecursion (IsCoveredBy h) rows ↔ AllByRecursion (IsRowCovered trees) (guarantees_by H t)
+  rows_tell rows found = (
+    λ all. all_both (λ g. owner g ≡ H) Is (IsRowCovered trees) row_covered (guarantees_by H t) (are_mine H t.guarantees)
+        (subst (AllByRecursion Is) found (all-map Is guarantee_row_of rows all)),
+    λ all. all_from_map Is guarantee_row_of rows
+        (subst (AllByRecursion Is) (sym found) (all_both (λ g. owner g ≡ H) (IsRowCovered trees) Is row_is (guarantees_by H t) (are_mine H t.guarantees) all)),
+  )

@@ -1,0 +1,143 @@
+-- S5 is kept exactly where each row of movements is read, and each holder's are in their places.
+use Rattle.std.proofs.Common.{◌≡◌, ◌∙◌, ◌<◌, ◌^◌, ℕ, Bool, false, List, Option, Ok, Err, Result, subst, sym, arith}
+use Rattle.std.proofs.lemmas.Bool.{false≢true}
+use Rattle.std.specs.Prelude.{◌↔◌, ◌==◌, IfOk, IsTrue, is_some}
+use Rattle.std.specs.List.{AllByRecursion}
+use Rattle.sqlite_trees.specs.Tree.{Trees}
+use Rattle.sqlite_trees.proofs.ListLemmas.{all-filter, all-map, all_both, all_from_map, all_weaker}
+use Rattle.sqlite.specs.State.{State}
+use Rattle.sqlite.specs.declared.error.Error.{Error}
+use Rattle.td_model.specs.declared.holder_row.HolderRow.{HolderRow}
+use Rattle.td_table_model.specs.declared.rule.Rule.TheVariants.{S1, S5}
+use Rattle.td_table_model.specs.Gathering.{movements_by, owner, part, place}
+use Rattle.td_table_model.specs.Rules.{HasMovements, IsMovementInRange}
+use Rattle.td_table_model.specs.Tables.{Tables}
+use Rattle.td_table_model.proofs.Rebuilt.{all_in_order}
+use Rattle.typed_sql.specs.Typed.{IsTypedRow, row_of}
+use Rattle.td_store_rows.specs.Columns.{holder_typing, movement_typing}
+use Rattle.td_store_rows.specs.StoreTables.{tables_in}
+use Rattle.td_store_audit_rows.specs.InPlace.{AreMovementsInPlace, IsMovementInPlace}
+use Rattle.td_store_audit_rows.specs.Fields.{AreMovementFields}
+use Rattle.td_store_audit_rows.specs.Found.{FoundHoldersTell, HasMrns, mrn_pair, raw_mrn_pair}
+use Rattle.td_store_audit_rows.specs.Kinds.{AllRows, HasMrnCount, KeepsRaw}
+use Rattle.td_store_audit_rows.specs.Scans.{IsReadRow, TellsRead}
+use Rattle.td_store_audit_rows.specs.Told.{MovementsAreRead}
+use Rattle.td_store_audit_rows.specs.declared.holders.RawHolder.{RawHolder}
+use Rattle.td_store_audit.specs.Auditable.{IsAuditable, TellsRule}
+use Rattle.td_store_audit.specs.InFile.{AreTypedApart, HasMovementsInPlace, TellsWhere}
+use Rattle.td_store_audit.proofs.HoldersTold.{holders_tell, of_pairs, owners}
+
+abbrev AreAllRead : Trees → Type 0
+AreAllRead trees = AllRows movement_typing (IsReadRow movement_typing AreMovementFields) trees
+
+module _ (law : FoundHoldersTell) (trees : Trees) (country : List ℕ) (holders : List RawHolder) (known : IsAuditable trees country holders) where
+  abbrev t : Tables
+  t = tables_in trees
+
+  -- where S5 is kept each row is read
+  pub kept_read : MovementsAreRead → KeepsRaw trees S1 → KeepsRaw trees S5 → AreAllRead trees
+  kept_read read first keeps =
+      let keyed = known.kept.movements keeps.0.1 in
+      read trees (owners law trees country holders known first) keyed.owned keyed.apart keeps
+
+  module _ (read : AreAllRead trees) where
+    cells : AllRows movement_typing (IsTypedRow movement_typing) trees
+    cells = all_weaker (IsReadRow movement_typing AreMovementFields) (IsTypedRow movement_typing) (λ r is. is.0) (trees movement_typing.table.tree) read
+
+    pub typed_apart : AreTypedApart movement_typing trees
+    typed_apart = record { typed = record { ids = known.kept.ids.movements; cells = cells }; apart = (known.kept.movements cells).apart }
+
+    fields : (H : ℕ) → AllByRecursion AreMovementFields (movements_by H t)
+    fields H =
+        all_in_order place AreMovementFields (part H t.movements)
+        (all-filter AreMovementFields (λ r. owner r == H) t.movements
+        (all-map AreMovementFields (row_of movement_typing) (trees movement_typing.table.tree)
+        (all_weaker (IsReadRow movement_typing AreMovementFields) (λ r. AreMovementFields (row_of movement_typing r)) (λ r is. is.1) (trees movement_typing.table.tree) read)))
+
+    -- a holder's count and movements keep S5 exactly where they are in their places
+    abbrev IsInPlace : ℕ × ℕ → Type 0
+    IsInPlace p = AreMovementsInPlace t.country p.1 (movements_by p.0 t)
+
+    placed : (row : HolderRow) → HasMovements t row → IsInPlace (mrn_pair row)
+    placed row has = record {
+      serials = has.serials;
+      count = has.count;
+      most = has.most;
+      each = all_weaker (IsMovementInRange t.country) (IsMovementInPlace t.country)
+          (λ g is. record { mrn = is.mrn; days = is.status.days }) (movements_by row.holder t) has.columns;
+    }
+
+    ranged : (row : HolderRow) → IsInPlace (mrn_pair row) → HasMovements t row
+    ranged row is = record {
+      serials = is.serials;
+      count = is.count;
+      most = is.most;
+      columns = all_both (IsMovementInPlace t.country) AreMovementFields (IsMovementInRange t.country)
+          (λ g place_is field. record {
+            mrn = place_is.mrn;
+            lrn = field.lrn;
+            departure = field.departure;
+            destination = field.destination;
+            accepted = field.accepted;
+            status = record { days = place_is.days; limit = field.limit; arrival = field.arrival; actual = field.actual };
+          }) (movements_by row.holder t) is.each (fields row.holder);
+    }
+
+    -- the counts of rows that keep S5 are in range
+    counted : KeepsRaw trees S5 → AllByRecursion HasMrns holders
+    counted keeps =
+        let told = holders_tell law trees country holders known in
+        told.mrn_kinds.0
+        (all_both HasMrnCount (λ r. HasMovements t (row_of holder_typing r)) (λ r. HasMrnCount r × ((row_of holder_typing r).mrn_count < 2 ^ 32))
+        (λ r number has. (number, omega (arith, has.most))) (trees holder_typing.table.tree) keeps.0.0
+        (all_from_map (HasMovements t) (row_of holder_typing) (trees holder_typing.table.tree) keeps.1))
+
+    of_country : (h : RawHolder) → HasMrns h → IsInPlace (raw_mrn_pair h) → HasMovementsInPlace country trees h
+    of_country h some is =
+        (some, subst (λ c. AreMovementsInPlace c (raw_mrn_pair h).1 (movements_by h.holder t)) known.country_is is)
+
+    of_tables : (h : RawHolder) → HasMovementsInPlace country trees h → IsInPlace (raw_mrn_pair h)
+    of_tables h is = subst (λ c. AreMovementsInPlace c (raw_mrn_pair h).1 (movements_by h.holder t)) (sym known.country_is) is.1
+
+    pub kept_each : KeepsRaw trees S5 ↔ AllByRecursion (HasMovementsInPlace country trees) holders
+    kept_each =
+        let told = holders_tell law trees country holders known in (
+          λ keeps.
+              let some = counted keeps in
+              all_both HasMrns (λ h. IsInPlace (raw_mrn_pair h)) (HasMovementsInPlace country trees) of_country holders some
+              ((of_pairs mrn_pair raw_mrn_pair IsInPlace t.holders holders (told.mrn_counts some)).0
+              (all_weaker (HasMovements t) (λ row. IsInPlace (mrn_pair row)) placed t.holders keeps.1)),
+          λ each.
+              let some = all_weaker (HasMovementsInPlace country trees) HasMrns (λ h is. is.0) holders each in
+              let kinds = told.mrn_kinds.1 some in (
+                (
+                  all_weaker (λ r. HasMrnCount r × ((row_of holder_typing r).mrn_count < 2 ^ 32)) HasMrnCount (λ r is. is.0)
+                      (trees holder_typing.table.tree) kinds,
+                  cells,
+                ),
+                all_weaker (λ row. IsInPlace (mrn_pair row)) (HasMovements t) ranged t.holders
+                    ((of_pairs mrn_pair raw_mrn_pair IsInPlace t.holders holders (told.mrn_counts some)).1
+                    (all_weaker (HasMovementsInPlace country trees) (λ h. IsInPlace (raw_mrn_pair h)) of_tables holders each)),
+              ),
+        )
+
+-- what is told by the scan of the table, where a row isn't read
+pub told_unread : (scanned : Bool) (a : State) (country : List ℕ) (holders : List RawHolder) → FoundHoldersTell → MovementsAreRead
+    → TellsRead movement_typing AreMovementFields a.now.trees scanned → scanned ≡ false → TellsRule S5 country holders a false
+told_unread scanned a country holders law read tells unread has known before = (
+  λ t. absurd (false≢true t),
+  λ keeps. absurd (false≢true (sym unread ∙ tells.1 (kept_read law a.now.trees country holders known read (before S1 (omega arith)) keeps))),
+)
+
+-- and by the holders' own, where each row is
+pub told_each : (scanned : Bool) (a : State) (country : List ℕ) (holders : List RawHolder) → FoundHoldersTell
+    → IsTrue scanned → {X : Type 0} (result : Result (Option X) Error)
+    → IfOk result (λ found. TellsWhere (AreTypedApart movement_typing) (λ trees. AllByRecursion (HasMovementsInPlace country trees) holders) a (is_some found))
+    → IfOk result (λ found. TellsRead movement_typing AreMovementFields a.now.trees scanned → TellsRule S5 country holders a (is_some found))
+told_each scanned a country holders law is (Err e) each = each
+told_each scanned a country holders law is (Ok found) each = λ tells has known before.
+    let trees = a.now.trees in
+    let read = tells.0 is in
+    let whole = each has (typed_apart law trees country holders known read) in
+    let rule = kept_each law trees country holders known read in
+    (λ t. rule.1 (whole.0 t), λ keeps. whole.1 (rule.0 keeps))

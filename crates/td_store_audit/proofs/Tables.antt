@@ -1,0 +1,133 @@
+-- What a store's schema keeps of guarantees, codes, movements and lines.
+use Rattle.std.proofs.Common.{◌≡◌, ℕ, true, List, [], ◌∷◌, refl, ap}
+use Rattle.std.specs.Prelude.{IsSome, ◌&&◌, ◌==◌, bytes_eq}
+use Rattle.std.specs.List.{AllByRecursion}
+use Rattle.keyed_rows.specs.Rows.{row_at}
+use Rattle.sqlite_value.specs.Order.{Row, column}
+use Rattle.sqlite_trees.specs.Tree.{Trees}
+use Rattle.sqlite_trees.proofs.ListLemmas.{all-map, all_both, all_of}
+use Rattle.sqlite_schema.specs.Rules.{Obeys}
+use Rattle.td_guarantee.specs.declared.guarantee.Guarantee.{Guarantee}
+use Rattle.td_movement.specs.declared.movement.Movement.{Movement}
+use Rattle.td_schema.specs.Tables.{desk_schema}
+use Rattle.td_table_model.specs.Gathering.{holder_no, no_of, owner, place}
+use Rattle.td_table_model.specs.Stored.{AreOfHolders}
+use Rattle.td_table_model.specs.Tables.{Keyed}
+use Rattle.typed_sql.specs.Typed.{IsTypedRow, Typing, row_of, typed_rows}
+use Rattle.typed_sql.specs.Values.{number_value}
+use Rattle.td_store_rows.specs.Columns.{holder_typing, guarantee_typing, code_typing, movement_typing, line_typing}
+use Rattle.td_store_rows.specs.StoreTables.{tables_in}
+use Rattle.td_store_audit_rows.specs.Ids.{HaveAllIds}
+use Rattle.td_store_audit_rows.specs.Kept.{AreCodesKept, AreGuaranteesKept, AreLinesKept, AreMovementsKept}
+use Rattle.td_store_audit_rows.specs.Kinds.{AllRows}
+use Rattle.td_store_audit.proofs.HoldersKept.{owned, owned_through}
+use Rattle.td_store_audit.proofs.Keyed.{all_three, numbers_equal, of_three, of_two, texts_equal}
+use Rattle.td_store_audit.proofs.Ruled.{HasParent, both, code_keys, codes_named, guarantee_keys, guarantees_named, line_keys, lines_named, lrn_keys, movement_keys, movements_named}
+use Rattle.td_store_audit.proofs.Unique.{HaveSame, one_typed}
+
+module _ (trees : Trees) (obeys : Obeys desk_schema trees) (ids : HaveAllIds trees) where
+  -- rows that name a holder in their first column are of holders that are there
+  owned_rows : {X : Type 0} (ty : Typing (Keyed X)) → ((r : Row) → IsTypedRow ty r → column r 1 ≡ number_value (owner (row_of ty r)))
+      → AllByRecursion (HasParent trees (1 ∷ []) 1 (0 ∷ [])) (trees ty.table.tree) → AllRows ty (IsTypedRow ty) trees
+      → AreOfHolders (typed_rows holder_typing trees) (typed_rows ty trees)
+  owned_rows ty first named typed =
+      all-map (λ k. IsSome (row_at holder_no (owner k) (typed_rows holder_typing trees))) (row_of ty) (trees ty.table.tree)
+      (all_both (IsTypedRow ty) (HasParent trees (1 ∷ []) 1 (0 ∷ [])) (λ r. IsSome (row_at holder_no (owner (row_of ty r)) (typed_rows holder_typing trees)))
+      (λ r is has. owned trees ids.holders r (owner (row_of ty r)) (first r is) has) (trees ty.table.tree) typed named)
+
+  -- rows of one holder's number and one serial have their first two columns the same
+  same_keys : {X : Type 0} (ty : Typing (Keyed X)) → ((r : Row) → IsTypedRow ty r → column r 1 ≡ number_value (owner (row_of ty r)))
+      → ((r : Row) → IsTypedRow ty r → column r 2 ≡ number_value (place (row_of ty r))) → (H k : ℕ) (a b : Row) → IsTypedRow ty a → IsTypedRow ty b
+      → ((owner (row_of ty a) == H) && (place (row_of ty a) == k)) ≡ true → ((owner (row_of ty b) == H) && (place (row_of ty b) == k)) ≡ true
+      → HaveSame (1 ∷ 2 ∷ []) a b
+  same_keys ty first second H k a b is_a is_b test_a test_b =
+      let of_a = both (owner (row_of ty a) == H) (place (row_of ty a) == k) test_a in
+      let of_b = both (owner (row_of ty b) == H) (place (row_of ty b) == k) test_b in (
+        numbers_equal (column a 1) (column b 1) (owner (row_of ty a)) (owner (row_of ty b)) H (first a is_a) (first b is_b) of_a.0 of_b.0,
+        (numbers_equal (column a 2) (column b 2) (place (row_of ty a)) (place (row_of ty b)) k (second a is_a) (second b is_b) of_a.1 of_b.1, tt),
+      )
+
+  pub guarantees_kept : AllRows guarantee_typing (IsTypedRow guarantee_typing) trees → AreGuaranteesKept (tables_in trees)
+  guarantees_kept typed = record {
+    apart = λ H k. of_two (λ g. place g == k) (λ g. owner g == H) (typed_rows guarantee_typing trees)
+        (one_typed guarantee_typing trees (1 ∷ 2 ∷ []) ids.guarantees (guarantee_keys trees obeys) typed (λ g. (owner g == H) && (place g == k))
+        (same_keys guarantee_typing (λ r is. ap (λ l. column l 0) is) (λ r is. ap (λ l. column l 1) is) H k));
+    owned = owned_rows guarantee_typing (λ r is. ap (λ l. column l 0) is) (guarantees_named trees obeys) typed;
+    without_codes = all-map (λ (g : Keyed Guarantee). g.row.codes ≡ []) (row_of guarantee_typing) (trees 8)
+        (all_of (λ r. (row_of guarantee_typing r).row.codes ≡ []) (λ r. refl) (trees 8));
+  }
+
+  pub codes_kept : AllRows code_typing (IsTypedRow code_typing) trees → AreCodesKept (tables_in trees)
+  codes_kept typed = record {
+    apart = λ H n k. of_three (λ (c : Keyed (List ℕ)). bytes_eq c.row k) (λ c. place c == n) (λ c. owner c == H) (typed_rows code_typing trees)
+        (one_typed code_typing trees (1 ∷ 2 ∷ 3 ∷ []) ids.codes (code_keys trees obeys) typed (λ c. (owner c == H) && ((place c == n) && bytes_eq c.row k)) (same H n k));
+    owned = owned_rows code_typing (λ r is. ap (λ l. column l 0) is) (codes_named trees obeys) typed;
+  }
+    where
+      same : (H n : ℕ) (k : List ℕ) (a b : Row) → IsTypedRow code_typing a → IsTypedRow code_typing b
+          → ((owner (row_of code_typing a) == H) && ((place (row_of code_typing a) == n) && bytes_eq (row_of code_typing a).row k)) ≡ true
+          → ((owner (row_of code_typing b) == H) && ((place (row_of code_typing b) == n) && bytes_eq (row_of code_typing b).row k)) ≡ true
+          → HaveSame (1 ∷ 2 ∷ 3 ∷ []) a b
+      same H n k a b is_a is_b test_a test_b =
+          let x = row_of code_typing a in
+          let y = row_of code_typing b in
+          let of_a = all_three (owner x == H) (place x == n) (bytes_eq x.row k) test_a in
+          let of_b = all_three (owner y == H) (place y == n) (bytes_eq y.row k) test_b in (
+            numbers_equal (column a 1) (column b 1) (owner x) (owner y) H (ap (λ l. column l 0) is_a) (ap (λ l. column l 0) is_b) of_a.first of_b.first,
+            (
+              numbers_equal (column a 2) (column b 2) (place x) (place y) n (ap (λ l. column l 1) is_a) (ap (λ l. column l 1) is_b) of_a.second of_b.second,
+              (texts_equal (column a 3) (column b 3) x.row y.row k (ap (λ l. column l 2) is_a) (ap (λ l. column l 2) is_b) of_a.third of_b.third, tt),
+            ),
+          )
+
+  pub movements_kept : AllRows movement_typing (IsTypedRow movement_typing) trees → AreMovementsKept (tables_in trees)
+  movements_kept typed = record {
+    apart = λ H k. of_two (λ m. place m == k) (λ m. owner m == H) (typed_rows movement_typing trees)
+        (one_typed movement_typing trees (1 ∷ 2 ∷ []) ids.movements (movement_keys trees obeys) typed (λ m. (owner m == H) && (place m == k))
+        (same_keys movement_typing (λ r is. ap (λ l. column l 0) is) (λ r is. ap (λ l. column l 1) is) H k));
+    lrns = λ H k. of_two (λ (m : Keyed Movement). bytes_eq m.row.lrn k) (λ m. owner m == H) (typed_rows movement_typing trees)
+        (one_typed movement_typing trees (1 ∷ 4 ∷ []) ids.movements (lrn_keys trees obeys) typed (λ m. (owner m == H) && bytes_eq m.row.lrn k) (same H k));
+    owned = owned_rows movement_typing (λ r is. ap (λ l. column l 0) is) (movements_named trees obeys) typed;
+    without_lines = all-map (λ (m : Keyed Movement). m.row.lines ≡ []) (row_of movement_typing) (trees 4)
+        (all_of (λ r. (row_of movement_typing r).row.lines ≡ []) (λ r. refl) (trees 4));
+  }
+    where
+      same : (H : ℕ) (k : List ℕ) (a b : Row) → IsTypedRow movement_typing a → IsTypedRow movement_typing b
+          → ((owner (row_of movement_typing a) == H) && bytes_eq (row_of movement_typing a).row.lrn k) ≡ true
+          → ((owner (row_of movement_typing b) == H) && bytes_eq (row_of movement_typing b).row.lrn k) ≡ true
+          → HaveSame (1 ∷ 4 ∷ []) a b
+      same H k a b is_a is_b test_a test_b =
+          let x = row_of movement_typing a in
+          let y = row_of movement_typing b in
+          let of_a = both (owner x == H) (bytes_eq x.row.lrn k) test_a in
+          let of_b = both (owner y == H) (bytes_eq y.row.lrn k) test_b in (
+            numbers_equal (column a 1) (column b 1) (owner x) (owner y) H (ap (λ l. column l 0) is_a) (ap (λ l. column l 0) is_b) of_a.0 of_b.0,
+            (texts_equal (column a 4) (column b 4) x.row.lrn y.row.lrn k (ap (λ l. column l 3) is_a) (ap (λ l. column l 3) is_b) of_a.1 of_b.1, tt),
+          )
+
+  pub lines_kept : AllRows line_typing (IsTypedRow line_typing) trees → AreLinesKept (tables_in trees)
+  lines_kept typed = record {
+    apart = λ H n k. of_three (λ l. no_of l == k) (λ l. place l == n) (λ l. owner l == H) (typed_rows line_typing trees)
+        (one_typed line_typing trees (1 ∷ 2 ∷ 3 ∷ []) ids.lines (line_keys trees obeys) typed (λ l. (owner l == H) && ((place l == n) && (no_of l == k))) (same H n k));
+    owned = all-map (λ l. IsSome (row_at holder_no (owner l) (typed_rows holder_typing trees))) (row_of line_typing) (trees 11)
+        (all_both (IsTypedRow line_typing) (HasParent trees (1 ∷ 2 ∷ []) 4 (1 ∷ 2 ∷ []))
+        (λ r. IsSome (row_at holder_no (owner (row_of line_typing r)) (typed_rows holder_typing trees)))
+        (λ r is has. owned_through trees ids.holders obeys r (owner (row_of line_typing r)) (place (row_of line_typing r))
+        (ap (λ l. column l 0) is) (ap (λ l. column l 1) is) has) (trees 11) typed (lines_named trees obeys));
+  }
+    where
+      same : (H n k : ℕ) (a b : Row) → IsTypedRow line_typing a → IsTypedRow line_typing b
+          → ((owner (row_of line_typing a) == H) && ((place (row_of line_typing a) == n) && (no_of (row_of line_typing a) == k))) ≡ true
+          → ((owner (row_of line_typing b) == H) && ((place (row_of line_typing b) == n) && (no_of (row_of line_typing b) == k))) ≡ true
+          → HaveSame (1 ∷ 2 ∷ 3 ∷ []) a b
+      same H n k a b is_a is_b test_a test_b =
+          let x = row_of line_typing a in
+          let y = row_of line_typing b in
+          let of_a = all_three (owner x == H) (place x == n) (no_of x == k) test_a in
+          let of_b = all_three (owner y == H) (place y == n) (no_of y == k) test_b in (
+            numbers_equal (column a 1) (column b 1) (owner x) (owner y) H (ap (λ l. column l 0) is_a) (ap (λ l. column l 0) is_b) of_a.first of_b.first,
+            (
+              numbers_equal (column a 2) (column b 2) (place x) (place y) n (ap (λ l. column l 1) is_a) (ap (λ l. column l 1) is_b) of_a.second of_b.second,
+              (numbers_equal (column a 3) (column b 3) (no_of x) (no_of y) k (ap (λ l. column l 2) is_a) (ap (λ l. column l 2) is_b) of_a.third of_b.third, tt),
+            ),
+          )

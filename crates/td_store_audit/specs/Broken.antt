@@ -1,0 +1,55 @@
+-- Which rule of sound tables a store's file breaks first, as it stands.
+use Rattle.std.specs.Prelude.{◌≡◌, ℕ, ℤ, List, [], ◌∷◌, Option, Some, None}
+use Rattle.sqlite_value.specs.declared.value.Value.TheVariants.{Int, Text}
+use Rattle.sqlite_value.specs.Order.{Row, column}
+use Rattle.sqlite_trees.specs.Tree.{Trees}
+use Rattle.sqlite.specs.State.{State}
+use Rattle.td_base.specs.Codes.{IsCountry}
+use Rattle.td_table_model.specs.declared.rule.Rule.{Rule}
+use Rattle.td_table_model.specs.declared.rule.Rule.TheVariants.{S1}
+use Rattle.td_store_rows.specs.StoreTables.{tables_in}
+use Rattle.td_store_audit_rows.specs.Ids.{HaveAllIds}
+use Rattle.td_store_audit_rows.specs.Kinds.{IsFirstBrokenRaw, KeepsRaw}
+use Rattle.td_store_audit_rows.specs.Laws.{AreKept}
+use Rattle.td_store_audit_rows.specs.Scans.{TellReadable}
+use Rattle.td_store_audit_rows.specs.declared.holders.RawHolder.{RawHolder}
+use Rattle.td_store_audit_rows.specs.declared.tables.Readable.{Readable}
+use Rattle.td_store_audit.specs.Auditable.{IsAuditable, KeepsBefore}
+
+-- the first rule that the tables break as they stand, or none
+abbrev pub TellsBroken : Trees → Option Rule → Type 0
+TellsBroken trees None = (rule : Rule) → KeepsRaw trees rule
+TellsBroken trees (Some rule) = IsFirstBrokenRaw trees rule
+
+-- where the rowids of the tables are integers, no two the same, a database keeps of them what it does
+abbrev pub KeepsItsTables : State → Type 0
+KeepsItsTables state = HaveAllIds state.now.trees → AreKept state.now.trees
+
+-- the office's own row is the only one that is shown: a version, and this text
+pub record IsOffice (rows : List Row) (text : List ℕ) : Type 0 where
+  pub row : Row
+  pub alone : rows ≡ row ∷ []
+  pub version : ℤ
+  pub version_is : column row 0 ≡ Int version
+  pub text_is : column row 1 ≡ Text text
+
+-- the country that is shown so, or none where no text that is shown so is one
+abbrev pub ShowsCountry : List Row → Option (List ℕ) → Type 0
+ShowsCountry rows None = (text : List ℕ) → IsOffice rows text → ¬ IsCountry text
+ShowsCountry rows (Some country) = IsOffice rows country × IsCountry country
+
+-- the tables keep S1, and this is the country; or they don't
+abbrev pub TellsCountry : Trees → Option (List ℕ) → Type 0
+TellsCountry trees None = ¬ KeepsRaw trees S1
+TellsCountry trees (Some country) = KeepsRaw trees S1 × ((tables_in trees).country ≡ country)
+
+-- what the rules after S1 are asked by, and which tables can be read row by row
+pub record HasOffice (country : List ℕ) (holders : List RawHolder) (readable : Readable) (trees : Trees) : Type 0 where
+  pub known : IsAuditable trees country holders
+  pub keeps : KeepsRaw trees S1
+  pub told : TellReadable readable trees
+
+-- and one of them, where the rules before it are kept
+pub record IsNextRule (rule : Rule) (country : List ℕ) (holders : List RawHolder) (readable : Readable) (trees : Trees) : Type 0 where
+  pub office : HasOffice country holders readable trees
+  pub before : KeepsBefore trees rule

@@ -1,0 +1,41 @@
+-- What is asked of a holder's codes and lines in a store's file.
+use Rattle.std.specs.Prelude.{ℕ, ◌==◌, Bool, List, map}
+use Rattle.std.specs.Cmp.Lexicographic.{slice_cmp}
+use Rattle.std.specs.Ordering.{nat_cmp, ordering_then}
+use Rattle.std.specs.declared.cmp.Ordering.{Ordering}
+use Rattle.sqlite.specs.State.{State}
+use Rattle.td_schema.specs.Tables.{desk_schema}
+use Rattle.typed_sql.specs.Typed.{AreInOrder}
+use Rattle.td_table_model.specs.Gathering.{no_of, owner, place}
+use Rattle.td_table_model.specs.Tables.{Keyed, LineCells}
+use Rattle.td_store_rows.specs.Columns.{code_typing, line_typing}
+use Rattle.td_store_rows.specs.CodeTable.{code_row_of as row_of_code}
+use Rattle.td_store_rows.specs.declared.codes.stored.StoredCode.{StoredCode}
+use Rattle.td_store_rows.specs.LineTable.{line_row_of as row_of_line}
+use Rattle.td_store_rows.specs.declared.lines.stored.StoredLine.{StoredLine}
+
+-- the rows of a holder
+abbrev pub is_of_holder : {R : Type 0} → ℕ → Keyed R → Bool
+is_of_holder H r = owner r == H
+
+-- codes by their serials, and those of one serial as texts
+abbrev pub code_order : Keyed (List ℕ) → Keyed (List ℕ) → Ordering
+code_order a b = ordering_then (nat_cmp (place a) (place b)) (slice_cmp nat_cmp a.row b.row)
+
+-- lines by their serials, and those of one serial by their numbers
+abbrev pub line_order : Keyed LineCells → Keyed LineCells → Ordering
+line_order a b = ordering_then (nat_cmp (place a) (place b)) (nat_cmp (no_of a) (no_of b))
+
+-- where the rows of the table are typed, these are in that order
+abbrev pub AreInCodeOrder : State → List StoredCode → Type 0
+AreInCodeOrder state found = AreInOrder code_typing desk_schema code_order state (map row_of_code found)
+
+abbrev pub AreInLineOrder : State → List StoredLine → Type 0
+AreInLineOrder state found = AreInOrder line_typing desk_schema line_order state (map row_of_line found)
+
+-- the serial of the guarantee that a code is of, and of the movement that a line is of
+abbrev pub serial_of_code : StoredCode → ℕ
+serial_of_code code = code.serial
+
+abbrev pub serial_of_line : StoredLine → ℕ
+serial_of_line line = line.serial

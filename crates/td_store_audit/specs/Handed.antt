@@ -1,0 +1,71 @@
+-- What the rules of movements and of lines hand on of each holder, and what is asked of the guarantees by it.
+use Rattle.std.specs.Prelude.{◌≡◌, ℕ, ◌≤◌, Bool, List, filter, map}
+use Rattle.std.specs.List.{AllByRecursion}
+use Rattle.std.specs.List.Sorted.{IsPermutation}
+use Rattle.sqlite_trees.specs.Tree.{Trees}
+use Rattle.sqlite.specs.State.{State}
+use Rattle.td_movement.specs.States.{is_counting}
+use Rattle.td_movement.specs.declared.movement.Movement.{Movement}
+use Rattle.td_table_model.specs.Apart.{IsApart}
+use Rattle.td_table_model.specs.Gathering.{movements_by, part, place}
+use Rattle.td_table_model.specs.Tables.{Keyed}
+use Rattle.td_table_model.specs.declared.rule.Rule.TheVariants.{S8}
+use Rattle.typed_sql.specs.Typed.{AreTyped}
+use Rattle.td_store_rows.specs.Columns.{guarantee_typing, line_typing, movement_typing}
+use Rattle.td_store_rows.specs.declared.guarantees.stored.StoredGuarantee.{StoredGuarantee}
+use Rattle.td_store_rows.specs.LineTable.{line_row_of}
+use Rattle.td_store_rows.specs.MovementTable.{serial_of_stored}
+use Rattle.td_store_rows.specs.StoreTables.{tables_in}
+use Rattle.td_store_load.specs.InUse.{total_on}
+use Rattle.td_store_audit_rows.specs.declared.holders.RawHolder.{RawHolder}
+use Rattle.td_store_audit.specs.Auditable.{IsAuditable, KeepsBefore}
+use Rattle.td_store_audit.specs.InFile.{AreTypedApart, IsSoWhere}
+use Rattle.td_store_audit.specs.declared.handed.HolderMovements.{HolderMovements}
+use Rattle.td_store_audit.specs.declared.handed.HolderParts.{HolderParts}
+
+-- whose movements they are, and which movements the lines are of
+abbrev pub raw_of : HolderMovements → RawHolder
+raw_of h = h.raw
+
+abbrev pub movements_in : HolderParts → HolderMovements
+movements_in h = h.movements
+
+abbrev pub raw_holder_of : HolderParts → RawHolder
+raw_holder_of h = h.movements.raw
+
+-- whether the movement in a row counts against its guarantees
+abbrev pub is_counting_row : Keyed Movement → Bool
+is_counting_row m = is_counting m.row.state
+
+-- these are the serials of the holder's movements that count, in their order
+abbrev pub AreCounting : Trees → HolderMovements → Type 0
+AreCounting trees h = map serial_of_stored h.serials.items ≡ map place (filter is_counting_row (movements_by h.raw.holder (tables_in trees)))
+
+-- these are the holder's lines
+abbrev pub AreItsLines : Trees → HolderParts → Type 0
+AreItsLines trees h = IsPermutation (part h.movements.raw.holder (tables_in trees).lines) (map line_row_of h.lines.items)
+
+-- so they are of each holder, where the tables that they are of are typed
+abbrev pub AreAllCounting : State → List HolderMovements → Type 0
+AreAllCounting state handed = IsSoWhere (AreTypedApart movement_typing) (λ trees. AllByRecursion (AreCounting trees) handed) state
+
+abbrev pub AreAllLines : State → List HolderParts → Type 0
+AreAllLines state handed = IsSoWhere (AreTyped line_typing) (λ trees. AllByRecursion (AreItsLines trees) handed) state
+
+-- what was handed on of a holder is so, and the holder's guarantees are typed
+pub record IsHandedOn (trees : Trees) (h : HolderParts) : Type 0 where
+  pub guarantees : AreTypedApart guarantee_typing trees
+  pub apart : IsApart place (part h.movements.raw.holder (tables_in trees).movements)
+  pub counting : AreCounting trees h.movements
+  pub lines : AreItsLines trees h
+
+-- by it what is in use on the guarantee in a row is at most its reference amount
+abbrev pub IsCoveredBy : HolderParts → StoredGuarantee → Type 0
+IsCoveredBy h g = total_on g.serial h.movements.serials.items h.lines.items ≤ g.guarantee.reference
+
+-- the rules before S8 are kept, and what was handed on of each holder is so
+pub record IsCoverAuditable (country : List ℕ) (handed : List HolderParts) (trees : Trees) : Type 0 where
+  pub known : IsAuditable trees country (map raw_holder_of handed)
+  pub before : KeepsBefore trees S8
+  pub counting : AllByRecursion (λ h. AreCounting trees (movements_in h)) handed
+  pub lines : AllByRecursion (AreItsLines trees) handed

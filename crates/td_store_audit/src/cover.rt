@@ -1,0 +1,113 @@
+//! S8: on each guarantee the amount in use is at most the reference amount.
+ghost use Rattle.std.specs.Prelude.{◌≡◌, ◌↔◌, ℕ, List, IsTrue, IfOk, OnOk};
+ghost use Rattle.std.specs.List.{AllByRecursion};
+ghost use Rattle.sqlite.specs.Held.{state};
+ghost use Rattle.sqlite.specs.State.{HasCleanDisk, KeepsCommit, Survives};
+ghost use Rattle.td_table_model.specs.declared.rule.Rule.TheVariants.{S8};
+ghost use Rattle.td_store_audit_rows.specs.Kinds.{KeepsRaw};
+ghost use Rattle.td_store_audit.specs.Handed.{IsCoverAuditable, IsCoveredBy, IsHandedOn, raw_holder_of};
+ghost use Rattle.td_store_audit.specs.InFile.{IsHolderCoveredInFile, TellsWhere};
+ghost use Rattle.typed_sql.specs.Reading.{OnlyRead};
+ghost use Rattle.td_schema.specs.Tables.{desk_schema};
+
+use crate::handed::HolderParts;
+use sqlite::{Error, Transaction};
+use sqlite_trees::store::Alter;
+use std::alloc::Global;
+use td_store_audit_rows::found_holders_tell;
+use td_store_load::total_on;
+use td_store_rows::{StoredGuarantee, guarantees_of};
+
+/// Whether the tables keep S8 as they stand in the file, at an office of whatever country. It is given what the rules of movements
+/// and of lines handed on of each holder, and reads the guarantees alone. `OutOfMemory`: want of memory; any other error is the
+/// database's own.
+pub(crate) fn cover_keeps_rule<S: Alter>(
+    alloc: Global,
+    tx: &mut Transaction<'_, S>,
+    handed: &[HolderParts],
+) -> Result<bool, Error>
+    requires { HasCleanDisk (state S.Store tx.old.conn.now) → IsTrue (state S.Store tx.old.conn.now).in_transaction }
+    ensures same_reference { tx.new.conn.ghost_name ≡ tx.old.conn.ghost_name }
+    ensures told { HasCleanDisk (state S.Store tx.new.conn.now)
+        → IfOk result (λ keeps. (country : List ℕ)
+        → TellsWhere (IsCoverAuditable country handed.now) (λ trees. KeepsRaw trees S8) (state S.Store tx.old.conn.now) keeps) }
+    ensures still { HasCleanDisk (state S.Store tx.new.conn.now)
+        → OnOk result (OnlyRead desk_schema (state S.Store tx.old.conn.now) (state S.Store tx.new.conn.now)) }
+    ensures inside { HasCleanDisk (state S.Store tx.new.conn.now) → OnOk result (IsTrue (state S.Store tx.new.conn.now).in_transaction) }
+    ensures kept { HasCleanDisk (state S.Store tx.new.conn.now)
+        → KeepsCommit (state S.Store tx.old.conn.now) (state S.Store tx.new.conn.now) }
+    ensures survives { Survives (state S.Store tx.old.conn.now) (state S.Store tx.new.conn.now) (λ _. ⊥) }
+{
+    found_holders_tell();
+    all_holders_covered(alloc, tx, handed)
+}
+
+// Whether each of the holders' guarantees is covered.
+fn all_holders_covered<S: Alter>(
+    alloc: Global,
+    tx: &mut Transaction<'_, S>,
+    handed: &[HolderParts],
+) -> Result<bool, Error>
+    requires { HasCleanDisk (state S.Store tx.old.conn.now) → IsTrue (state S.Store tx.old.conn.now).in_transaction }
+    ensures same_reference { tx.new.conn.ghost_name ≡ tx.old.conn.ghost_name }
+    ensures told { HasCleanDisk (state S.Store tx.new.conn.now)
+        → IfOk result (TellsWhere (λ trees. AllByRecursion (IsHandedOn trees) handed.now)
+        (λ trees. AllByRecursion (λ h. IsHolderCoveredInFile trees (raw_holder_of h)) handed.now) (state S.Store tx.old.conn.now)) }
+    ensures still { HasCleanDisk (state S.Store tx.new.conn.now)
+        → OnOk result (OnlyRead desk_schema (state S.Store tx.old.conn.now) (state S.Store tx.new.conn.now)) }
+    ensures inside { HasCleanDisk (state S.Store tx.new.conn.now) → OnOk result (IsTrue (state S.Store tx.new.conn.now).in_transaction) }
+    ensures kept { HasCleanDisk (state S.Store tx.new.conn.now)
+        → KeepsCommit (state S.Store tx.old.conn.now) (state S.Store tx.new.conn.now) }
+    ensures survives { Survives (state S.Store tx.old.conn.now) (state S.Store tx.new.conn.now) (λ _. ⊥) }
+{
+    'holders: for parts in handed {
+        if !is_holder_covered(alloc, tx, parts)? {
+            return Ok(false);
+        }
+    }
+    Ok(true)
+}
+
+// Whether each of a holder's guarantees is.
+fn is_holder_covered<S: Alter>(
+    alloc: Global,
+    tx: &mut Transaction<'_, S>,
+    parts: &HolderParts,
+) -> Result<bool, Error>
+    requires { HasCleanDisk (state S.Store tx.old.conn.now) → IsTrue (state S.Store tx.old.conn.now).in_transaction }
+    ensures same_reference { tx.new.conn.ghost_name ≡ tx.old.conn.ghost_name }
+    ensures told { HasCleanDisk (state S.Store tx.new.conn.now)
+        → IfOk result (TellsWhere (λ trees. IsHandedOn trees parts.now) (λ trees. IsHolderCoveredInFile trees (raw_holder_of parts.now)) (state S.Store tx.old.conn.now)) }
+    ensures still { HasCleanDisk (state S.Store tx.new.conn.now)
+        → OnOk result (OnlyRead desk_schema (state S.Store tx.old.conn.now) (state S.Store tx.new.conn.now)) }
+    ensures inside { HasCleanDisk (state S.Store tx.new.conn.now) → OnOk result (IsTrue (state S.Store tx.new.conn.now).in_transaction) }
+    ensures kept { HasCleanDisk (state S.Store tx.new.conn.now)
+        → KeepsCommit (state S.Store tx.old.conn.now) (state S.Store tx.new.conn.now) }
+    ensures survives { Survives (state S.Store tx.old.conn.now) (state S.Store tx.new.conn.now) (λ _. ⊥) }
+{
+    let rows = guarantees_of(alloc, tx, parts.movements.raw.holder)?;
+    Ok(all_rows_covered(parts, &rows))
+}
+
+// Whether each of the guarantees in rows is, by the holder's lines and the movements that count.
+fn all_rows_covered(parts: &HolderParts, rows: &[StoredGuarantee]) -> bool
+    ensures { IsTrue result ↔ AllByRecursion (IsCoveredBy parts.now) rows.now }
+{
+    'rows: for row in rows {
+        if !is_row_covered(parts, row) {
+            return false;
+        }
+    }
+    true
+}
+
+// Whether the guarantee in a row is.
+fn is_row_covered(parts: &HolderParts, row: &StoredGuarantee) -> bool
+    ensures { IsTrue result ↔ IsCoveredBy parts.now row.now }
+{
+    let reference = row.guarantee.reference.get();
+    let Some(used) = total_on(row.serial, &parts.lines, &parts.movements.serials) else {
+        return false;
+    };
+    used.get() <= reference
+}

@@ -1,0 +1,32 @@
+//! Laws of what a store's schema keeps of its tables, as contracts of functions that do nothing else.
+ghost use Rattle.td_store_audit.specs.Keeping.{SchemaKeepsCodes, SchemaKeepsGuarantees, SchemaKeepsHolders, SchemaKeepsLines, SchemaKeepsMovements, SchemaKeepsTables};
+
+/// The holders' numbers are numbers in range, and no two are the same.
+pub fn schema_keeps_holders()
+    ensures { SchemaKeepsHolders }
+{}
+
+/// Where the rows of guarantees are typed, no two of a holder have one serial, and each is of a holder that is there.
+pub fn schema_keeps_guarantees()
+    ensures { SchemaKeepsGuarantees }
+{}
+
+/// Where the rows of codes are typed, no two of a guarantee are the same, and each is of a holder that is there.
+pub fn schema_keeps_codes()
+    ensures { SchemaKeepsCodes }
+{}
+
+/// Where the rows of movements are typed, no two of a holder have one serial or one LRN, and each is of a holder that is there.
+pub fn schema_keeps_movements()
+    ensures { SchemaKeepsMovements }
+{}
+
+/// Where the rows of lines are typed, no two of a movement have one number, and each is of a holder that is there.
+pub fn schema_keeps_lines()
+    ensures { SchemaKeepsLines }
+{}
+
+/// All of this, of a store's six tables.
+pub fn schema_keeps_tables()
+    ensures { SchemaKeepsTables }
+{}

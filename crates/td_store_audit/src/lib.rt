@@ -1,0 +1,32 @@
+//! Whether a store's file keeps the rules of sound tables, rule by rule, whatever stands in its tables, which of them it breaks
+//! first, and what the database itself keeps of them: each CHECK, UNIQUE and FOREIGN KEY of the schema, read of the rows. A table
+//! is scanned whole first, and then asked holder by holder. Each function that is given a transaction runs inside it and changes
+//! nothing.
+#![tactic(auto)]
+
+mod audit;
+mod codes;
+mod codes_in_place;
+mod connection;
+mod cover;
+mod finding;
+mod guarantees;
+mod handed;
+mod holders;
+mod laws;
+mod lines;
+mod lines_in_place;
+mod movements;
+mod office;
+mod texts;
+
+pub use audit::first_broken;
+pub use codes::codes_keep_rule;
+pub use connection::database_keeps;
+pub use finding::{codes_of_holder, lines_of_holder};
+pub use guarantees::guarantees_keep_rule;
+pub use holders::holders_keep_rule;
+pub use laws::{
+    schema_keeps_codes, schema_keeps_guarantees, schema_keeps_holders, schema_keeps_lines,
+    schema_keeps_movements, schema_keeps_tables,
+};

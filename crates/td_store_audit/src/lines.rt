@@ -1,0 +1,132 @@
+//! Whether the lines of movements keep their rule as they stand in a store's file.
+ghost use Rattle.std.specs.Prelude.{◌≡◌, ◌↔◌, ℕ, is_some, map, IsTrue, IfOk, IfSome, OnOk};
+ghost use Rattle.std.specs.List.{AllByRecursion};
+ghost use Rattle.sqlite.specs.Held.{state};
+ghost use Rattle.sqlite.specs.State.{HasCleanDisk, KeepsCommit, Survives};
+ghost use Rattle.td_schema.specs.Tables.{desk_schema};
+ghost use Rattle.typed_sql.specs.Reading.{LeavesAll, OnlyRead};
+ghost use Rattle.typed_sql.specs.Typed.{AreTyped, typed_rows};
+ghost use Rattle.typed_sql.specs.Writing.{HasSchema};
+ghost use Rattle.td_store_rows.specs.Columns.{line_typing};
+ghost use Rattle.td_store_rows.specs.LineTable.{AreLines};
+ghost use Rattle.td_table_model.specs.declared.rule.Rule.TheVariants.{S6};
+ghost use Rattle.td_table_model.specs.Gathering.{part};
+ghost use Rattle.td_store_audit_rows.specs.Fields.{AreLineFields};
+ghost use Rattle.td_store_audit_rows.specs.Scans.{TellsRead};
+ghost use Rattle.td_store_audit_rows.specs.Kinds.{KeepsRaw};
+ghost use Rattle.td_store_audit.specs.Found.{is_of_holder};
+ghost use Rattle.td_store_audit.specs.Handed.{AreAllLines, movements_in, raw_of};
+ghost use Rattle.td_store_audit.specs.InPlace.{AreNumbersApart};
+ghost use Rattle.td_store_audit.specs.Premises.{AreLinesAuditable, HasLinesInPlace};
+
+use crate::finding::lines_of_holder;
+use crate::handed::{HolderMovements, HolderParts};
+use crate::lines_in_place::all_lines_are_in_place;
+use sqlite::{Error, Transaction};
+use sqlite_trees::store::Alter;
+use std::alloc::Global;
+use td_store_audit_rows::{RawHolder, holder_fields_tell, kept_rules_are_read};
+use td_store_rows::StoredLine;
+
+// A holder's lines, where both counts of the holder can be read and the lines are in their places by them, if no two lines of one
+// movement have one number.
+fn kept_lines<S: Alter>(
+    alloc: Global,
+    tx: &mut Transaction<'_, S>,
+    raw: &RawHolder,
+) -> Result<Option<Vec<StoredLine>>, Error>
+    requires { HasCleanDisk (state S.Store tx.old.conn.now) → IsTrue (state S.Store tx.old.conn.now).in_transaction }
+    ensures same_reference { tx.new.conn.ghost_name ≡ tx.old.conn.ghost_name }
+    ensures told { HasCleanDisk (state S.Store tx.new.conn.now)
+        → IfOk result (λ found. HasSchema (state S.Store tx.old.conn.now) desk_schema
+        → AreTyped line_typing (state S.Store tx.old.conn.now).now.trees
+        → AreNumbersApart (part raw.now.holder (typed_rows line_typing (state S.Store tx.old.conn.now).now.trees))
+        → IsTrue (is_some found) ↔ HasLinesInPlace (state S.Store tx.old.conn.now).now.trees raw.now) }
+    ensures handed { HasCleanDisk (state S.Store tx.new.conn.now)
+        → IfOk result (λ found. IfSome found (λ lines. AreLines (is_of_holder raw.now.holder) (state S.Store tx.old.conn.now) lines.items)) }
+    ensures still { HasCleanDisk (state S.Store tx.new.conn.now)
+        → OnOk result (LeavesAll desk_schema (state S.Store tx.old.conn.now) (state S.Store tx.new.conn.now)) }
+    ensures inside { HasCleanDisk (state S.Store tx.new.conn.now) → OnOk result (IsTrue (state S.Store tx.new.conn.now).in_transaction) }
+    ensures kept { HasCleanDisk (state S.Store tx.new.conn.now)
+        → KeepsCommit (state S.Store tx.old.conn.now) (state S.Store tx.new.conn.now) }
+    ensures survives { Survives (state S.Store tx.old.conn.now) (state S.Store tx.new.conn.now) (λ _. ⊥) }
+{
+    let lines = lines_of_holder(alloc, tx, raw.holder)?;
+    let Some(guarantees) = raw.grn_count else {
+        return Ok(None);
+    };
+    let Some(movements) = raw.mrn_count else {
+        return Ok(None);
+    };
+    if !all_lines_are_in_place(guarantees, movements, &lines) {
+        return Ok(None);
+    }
+    Ok(Some(lines))
+}
+
+// What is handed on of each holder, where the lines of each are.
+fn all_kept_lines<S: Alter>(
+    alloc: Global,
+    tx: &mut Transaction<'_, S>,
+    counting: Vec<HolderMovements>,
+) -> Result<Option<Vec<HolderParts>>, Error>
+    requires { HasCleanDisk (state S.Store tx.old.conn.now) → IsTrue (state S.Store tx.old.conn.now).in_transaction }
+    ensures same_reference { tx.new.conn.ghost_name ≡ tx.old.conn.ghost_name }
+    ensures told { HasCleanDisk (state S.Store tx.new.conn.now)
+        → IfOk result (λ found. HasSchema (state S.Store tx.old.conn.now) desk_schema
+        → AreTyped line_typing (state S.Store tx.old.conn.now).now.trees
+        → ((H : ℕ) → AreNumbersApart (part H (typed_rows line_typing (state S.Store tx.old.conn.now).now.trees)))
+        → IsTrue (is_some found) ↔ AllByRecursion (HasLinesInPlace (state S.Store tx.old.conn.now).now.trees) (map raw_of counting.items)) }
+    ensures movements { IfOk result (λ found. IfSome found (λ each. map movements_in each.items ≡ counting.items)) }
+    ensures handed { HasCleanDisk (state S.Store tx.new.conn.now)
+        → IfOk result (λ found. IfSome found (λ each. AreAllLines (state S.Store tx.old.conn.now) each.items)) }
+    ensures still { HasCleanDisk (state S.Store tx.new.conn.now)
+        → OnOk result (OnlyRead desk_schema (state S.Store tx.old.conn.now) (state S.Store tx.new.conn.now)) }
+    ensures inside { HasCleanDisk (state S.Store tx.new.conn.now) → OnOk result (IsTrue (state S.Store tx.new.conn.now).in_transaction) }
+    ensures kept { HasCleanDisk (state S.Store tx.new.conn.now)
+        → KeepsCommit (state S.Store tx.old.conn.now) (state S.Store tx.new.conn.now) }
+    ensures survives { Survives (state S.Store tx.old.conn.now) (state S.Store tx.new.conn.now) (λ _. ⊥) }
+{
+    let mut handed = Vec::with_capacity(alloc, counting.len())?;
+    'holders: for movements in counting {
+        let Some(lines) = kept_lines(alloc, tx, &movements.raw)? else {
+            return Ok(None);
+        };
+        handed.push(HolderParts { movements, lines })?;
+    }
+    Ok(Some(handed))
+}
+
+/// Whether the lines keep their rule as they stand in the file: each can be read and is of a movement of its holder's, and each
+/// movement has 1 to 9 lines, numbered from 1, each on a guarantee of the holder's, no two on one, with amounts in range. Where they
+/// do, it hands on each holder's lines beside the movements that count. The holders are all that the file has, and it is given
+/// whether each row of the table can be read. `OutOfMemory`: want of memory; any other error is the database's own. It changes
+/// nothing.
+pub(crate) fn lines_keep_rule<S: Alter>(
+    alloc: Global,
+    tx: &mut Transaction<'_, S>,
+    counting: Vec<HolderMovements>,
+    are_read: bool,
+) -> Result<Option<Vec<HolderParts>>, Error>
+    requires { HasCleanDisk (state S.Store tx.old.conn.now) → IsTrue (state S.Store tx.old.conn.now).in_transaction }
+    ensures same_reference { tx.new.conn.ghost_name ≡ tx.old.conn.ghost_name }
+    ensures told { HasCleanDisk (state S.Store tx.new.conn.now)
+        → IfOk result (λ found. AreLinesAuditable (state S.Store tx.old.conn.now) (map raw_of counting.items)
+        → TellsRead line_typing AreLineFields (state S.Store tx.old.conn.now).now.trees are_read → IsTrue (is_some found) ↔ KeepsRaw (state S.Store tx.old.conn.now).now.trees S6) }
+    ensures movements { IfOk result (λ found. IfSome found (λ each. map movements_in each.items ≡ counting.items)) }
+    ensures handed { HasCleanDisk (state S.Store tx.new.conn.now)
+        → IfOk result (λ found. IfSome found (λ each. AreAllLines (state S.Store tx.old.conn.now) each.items)) }
+    ensures still { HasCleanDisk (state S.Store tx.new.conn.now)
+        → OnOk result (OnlyRead desk_schema (state S.Store tx.old.conn.now) (state S.Store tx.new.conn.now)) }
+    ensures inside { HasCleanDisk (state S.Store tx.new.conn.now) → OnOk result (IsTrue (state S.Store tx.new.conn.now).in_transaction) }
+    ensures kept { HasCleanDisk (state S.Store tx.new.conn.now)
+        → KeepsCommit (state S.Store tx.old.conn.now) (state S.Store tx.new.conn.now) }
+    ensures survives { Survives (state S.Store tx.old.conn.now) (state S.Store tx.new.conn.now) (λ _. ⊥) }
+{
+    holder_fields_tell();
+    kept_rules_are_read();
+    if !are_read {
+        return Ok(None);
+    }
+    all_kept_lines(alloc, tx, counting)
+}

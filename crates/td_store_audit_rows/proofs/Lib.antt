@@ -1,0 +1,14 @@
+mod Raw
+mod Meanings
+mod Shown
+mod Rising
+mod Forms
+mod Fields
+mod ReadRows
+mod Telling
+mod Chained
+mod Identities
+mod ReadByRules
+mod FoundHolders
+mod Placed
+mod Named

@@ -1,0 +1,11 @@
+pub mod Kinds
+pub mod Kept
+pub mod Ids
+pub mod Laws
+pub mod Rising
+pub mod Holders
+pub mod Fields
+pub mod Scans
+pub mod Told
+pub mod Found
+pub mod InPlace

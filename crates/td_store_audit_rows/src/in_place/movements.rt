@@ -1,0 +1,51 @@
+//! A holder's movements.
+ghost use Rattle.std.specs.Prelude.{◌↔◌, map, IsTrue};
+ghost use Rattle.td_base.specs.References.{IsMrnSerial};
+ghost use Rattle.td_movement.specs.Status.{HasDaysOf};
+ghost use Rattle.td_store_rows.specs.MovementTable.{movement_row_of};
+ghost use Rattle.td_store_audit_rows.specs.InPlace.{AreMovementsInPlace, IsMovementInPlace};
+
+use td_base::{Country, GREATEST_MRN_SERIAL, Mrn};
+use td_movement::{Movement, State};
+use td_store_rows::StoredMovement;
+
+/// Whether these are all of a holder's movements, by their serials, of which the holder's row counts so many: none is left out, and
+/// each has the MRN of the year of its acceptance, the country, the holder and its serial, and the days and the office of
+/// its state.
+pub fn movements_are_in_place(country: Country, count: u32, rows: &[StoredMovement]) -> bool
+    ensures { IsTrue result ↔ AreMovementsInPlace country count (map movement_row_of rows.now) }
+{
+    if count as usize != rows.len() || count > GREATEST_MRN_SERIAL {
+        return false;
+    }
+    for i in 0..rows.len() {
+        if rows[i].serial as usize != i + 1 || !is_in_place(country, &rows[i]) {
+            return false;
+        }
+    }
+    true
+}
+
+// Whether a movement with such a serial is in its place.
+fn is_in_place(country: Country, row: &StoredMovement) -> bool
+    ensures { IsMrnSerial row.now.serial → (IsTrue result ↔ IsMovementInPlace country (movement_row_of row.now)) }
+{
+    let movement = &row.movement;
+    let made = Mrn::make(movement.accepted.year2(), country, row.holder, row.serial);
+    made == Some(movement.mrn) && has_days(movement)
+}
+
+// Whether it has the days and the office that its state asks for, and no others.
+fn has_days(movement: &Movement) -> bool
+    ensures { IsTrue result ↔ HasDaysOf movement.now.state movement.now }
+{
+    let limit = movement.limit.is_some();
+    let arrival = movement.arrival.is_some();
+    let actual = movement.actual.is_some();
+    match movement.state {
+        State::Accepted | State::Cancelled => !limit && !arrival && !actual,
+        State::Released | State::Enquired => limit && !arrival && !actual,
+        State::Arrived | State::Discrepant | State::Cleared => limit && arrival && actual,
+        State::WrittenOff => limit && arrival == actual,
+    }
+}

@@ -1,0 +1,22 @@
+//! What the audit of a store's file reads of it, whatever stands in its tables: the rowids of each table, all holders, whether
+//! each row of the other tables is of its kinds and in range, and whether one holder's rows keep the rules of sound tables. Each
+//! function changes nothing.
+#![tactic(auto)]
+
+mod holders;
+mod ids;
+mod in_place;
+mod laws;
+mod scanning;
+mod tables;
+mod texts;
+
+pub use holders::{RawHolder, all_holders};
+pub use in_place::{
+    codes_belong, guarantees_are_in_place, lines_are_in_place, lines_belong, movements_are_in_place,
+};
+pub use laws::{
+    content_keeps_rules, found_holders_tell, holder_fields_tell, kept_rules_are_read,
+    kept_rules_mean_content,
+};
+pub use tables::{Readable, readable_tables};

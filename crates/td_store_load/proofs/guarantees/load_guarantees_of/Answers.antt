@@ -1,0 +1,79 @@
+use Rattle.std.proofs.Common.{◌≡◌, ◌∷◌, [], ◌++◌, ◌+◌, ◌<◌, ◌≤◌, ℕ, List, None, Option, Some, length, map, take, get_or, sym, ◌∙◌, ap, subst, arith}
+use Rattle.std.specs.Prelude.{filter_map}
+use Rattle.std.proofs.lemmas.List.{take_all, take_more, append-nil, map-append}
+use Rattle.sqlite.specs.Held.{state}
+use Rattle.sqlite.specs.State.{State, HasCleanDisk}
+use Rattle.td_movement.specs.declared.line.Line.{Line}
+use Rattle.td_guarantee.specs.declared.guarantee.Guarantee.{Guarantee}
+use Rattle.td_desk.specs.Content.{Content, account_in}
+use Rattle.td_holder_memory.proofs.Loading.{look, one_more}
+use Rattle.td_store_load.specs.Loaded.{IsOfContent}
+use Rattle.td_store_load.proofs.Reading.{content_before}
+use Rattle.td_store_load.proofs.guarantees.load_guarantees_of.Goals as goal
+use Rattle.td_store_load.proofs.guarantees.load_guarantees_of.Goals.{in-Some+in_ok-push, in_default}
+use Rattle.typed_sql.proofs.OnlyRead.{HaveRead, read_then}
+use Rattle.td_schema.specs.Tables.{desk_schema}
+
+pub lines-preserved : goal.lines-preserved
+lines-preserved g c = (c.load_guarantee.ensures.same_reference ∙ c.lines.invariant.0, more, next)
+  where
+    a : State
+    a = state g.S.Store c.args.tx.now.conn.now
+
+    b : State
+    b = state g.S.Store c.lines.tx.conn.now
+
+    d : State
+    d = state g.S.Store c.load_guarantee.new.tx.conn.now
+
+    more : HaveRead desk_schema a d
+    more = read_then a b d c.lines.invariant.1 c.in_ok-guarantee.ensures.still c.in_ok-guarantee.ensures.inside c.load_guarantee.ensures.kept c.load_guarantee.ensures.survives
+
+    seek : Content → Line × List ℕ → Option Guarantee
+    seek content = look (account_in c.args.holder content).guarantees
+
+    items : List (Line × List ℕ)
+    items = c.args.lines.now
+
+    line : Line × List ℕ
+    line = c.lines-item.result
+
+    n : ℕ
+    n = c.lines.line-index
+
+    within : n < length items
+    within = subst (λ (l : List (Line × List ℕ)). n < length l) c.as_slice-line-items.ensures.value c.lines-test.true
+
+    at_n : line ≡ get_or items n line
+    at_n = subst (λ (l : List (Line × List ℕ)). line ≡ get_or l n line) c.as_slice-line-items.ensures.value c.lines-item.is
+
+    one_line : take (n + 1) items ≡ take n items ++ line ∷ []
+    one_line = take_more items n line within ∙ ap (λ s. take n items ++ s ∷ []) (sym at_n)
+
+    before : List Guarantee
+    before = map (λ e. e.0) c.lines.found.items
+
+    clean_b : HasCleanDisk d → HasCleanDisk b
+    clean_b clean = omega (arith, clean, c.load_guarantee.ensures.survives.clean)
+
+    told : HasCleanDisk d → IsOfContent c.args.country (λ content. seek content line) a c.in_ok-guarantee.field-0
+    told clean = content_before c.args.country (λ content. seek content line) a b c.in_ok-guarantee.field-0 (c.lines.invariant.1.still (clean_b clean)) (c.in_ok-guarantee.ensures.found clean)
+
+    next : HasCleanDisk d → IsOfContent c.args.country (λ content. filter_map (seek content) (take (n + 1) items)) a (map (λ e. e.0) c.match-branch-2.found.items)
+    next clean content holds at =
+        subst (λ l. map (λ e. e.0) c.match-branch-2.found.items ≡ filter_map (seek content) l) (sym one_line) (elim c.match-branch-2.branch [
+          | in-Some+in_ok-push w ↦
+              one_more (seek content) (take n items) line (Some w.in-Some.guarantee) before (map (λ e. e.0) c.match-branch-2.found.items)
+              (sym (told clean content holds at) ∙ w.in-Some.is) (c.lines.invariant.2 (clean_b clean) content holds at)
+              (ap (λ v. map (λ e. e.0) v.items) w.found-is ∙ ap (map (λ e. e.0)) w.in_ok-push.ensures.items ∙ map-append (λ e. e.0) c.lines.found.items _)
+          | in_default w ↦
+              one_more (seek content) (take n items) line None before (map (λ e. e.0) c.match-branch-2.found.items)
+              (sym (told clean content holds at) ∙ w.in_default.is) (c.lines.invariant.2 (clean_b clean) content holds at)
+              (ap (λ v. map (λ e. e.0) v.items) w.found-is ∙ sym (append-nil before))
+        ])
+
+pub returns-clause-found : goal.returns-clause-found
+returns-clause-found g c clean content holds at =
+    c.lines.invariant.2 clean content holds at
+    ∙ ap (filter_map (look (account_in c.args.holder content).guarantees))
+    (take_all c.lines.line-index c.args.lines.now (subst (λ (l : List (Line × List ℕ)). length l ≤ c.lines.line-index) c.as_slice-line-items.ensures.value c.lines-test.false))

@@ -1,0 +1,100 @@
+//! What is in use on a guarantee. It changes nothing.
+ghost use Rattle.std.specs.Prelude.{◌≡◌, ◌↔◌, IsTrue, IfOk, OnOk, SomeIff};
+ghost use Rattle.keyed_rows.specs.Rows.{Rises};
+ghost use Rattle.sqlite.specs.Held.{state};
+ghost use Rattle.sqlite.specs.State.{HasCleanDisk, KeepsCommit, Survives};
+ghost use Rattle.td_base.specs.Money.{IsCents};
+ghost use Rattle.td_schema.specs.Tables.{desk_schema};
+ghost use Rattle.typed_sql.specs.Reading.{LeavesAll};
+ghost use Rattle.td_store_rows.specs.MovementTable.{serial_of_stored};
+ghost use Rattle.td_store_load.specs.InUse.{IsInUse, IsInUseIfInRange, total_on};
+
+use keyed_rows::find_row;
+use sqlite::{Error, ErrorCode, Transaction};
+use sqlite_trees::store::Alter;
+use std::alloc::Global;
+use td_base::{Cents, HolderNo};
+use td_store_rows::{MovementSerial, StoredLine, counting_serials, lines_on};
+
+// Whether serials stand in ascending order, no two alike.
+fn rise(serials: &[MovementSerial]) -> bool
+    ensures { IsTrue result ↔ Rises serial_of_stored 0 serials.now }
+{
+    let mut least = 0u64;
+    for row in serials {
+        let serial = u64::from(row.serial);
+        if serial < least {
+            return false;
+        }
+        least = serial + 1;
+    }
+    true
+}
+
+/// What the lines on a guarantee add up to, of lines on any: those alone of the movements with these serials. `None`: above 10^15
+/// cents.
+pub fn total_on(guarantee: u32, lines: &[StoredLine], serials: &[MovementSerial]) -> Option<Cents>
+    requires { Rises serial_of_stored 0 serials.now }
+    ensures { let cents = total_on guarantee serials.now lines.now in SomeIff result (IsCents cents) cents }
+{
+    let mut sum = Cents::new(0)?;
+    for line in lines {
+        if line.guarantee == guarantee && find_row(serials, line.serial).is_some() {
+            sum = sum.plus(line.cents)?;
+        }
+    }
+    Some(sum)
+}
+
+// The amount in use on a holder's guarantee with a serial, in cents: what the lines on it add up to, of those of the
+// holder's movements that count. `None`: they add up to more than 10^15 cents, which no amount is. `DatabaseCorrupt`: a row is
+// no line's or no movement's, or two movements that count have one serial; `OutOfMemory`: want of memory; any other error is
+// the database's own.
+fn amount_if_in_range<S: Alter>(
+    alloc: Global,
+    tx: &mut Transaction<'_, S>,
+    holder: HolderNo,
+    guarantee: u32,
+) -> Result<Option<Cents>, Error>
+    requires { HasCleanDisk (state S.Store tx.old.conn.now) → IsTrue (state S.Store tx.old.conn.now).in_transaction }
+    ensures same_reference { tx.new.conn.ghost_name ≡ tx.old.conn.ghost_name }
+    ensures found { HasCleanDisk (state S.Store tx.new.conn.now)
+        → IfOk result (IsInUseIfInRange holder guarantee (state S.Store tx.old.conn.now)) }
+    ensures still { HasCleanDisk (state S.Store tx.new.conn.now)
+        → OnOk result (LeavesAll desk_schema (state S.Store tx.old.conn.now) (state S.Store tx.new.conn.now)) }
+    ensures inside { HasCleanDisk (state S.Store tx.new.conn.now) → OnOk result (IsTrue (state S.Store tx.new.conn.now).in_transaction) }
+    ensures kept { HasCleanDisk (state S.Store tx.new.conn.now)
+        → KeepsCommit (state S.Store tx.old.conn.now) (state S.Store tx.new.conn.now) }
+    ensures survives { Survives (state S.Store tx.old.conn.now) (state S.Store tx.new.conn.now) (λ _. ⊥) }
+{
+    let serials = counting_serials(alloc, tx, holder)?;
+    if !rise(&serials) {
+        return Err(Error::SqliteFailure(ErrorCode::DatabaseCorrupt));
+    }
+    let lines = lines_on(alloc, tx, holder, guarantee)?;
+    Ok(total_on(guarantee, &lines, &serials))
+}
+
+/// That amount, where they add up to one. `DatabaseCorrupt`: a row is no line's or no movement's, two movements that count have
+/// one serial, or they add up to more than 10^15 cents; `OutOfMemory`: want of memory; any other error is the database's own.
+pub fn amount_in_use<S: Alter>(
+    alloc: Global,
+    tx: &mut Transaction<'_, S>,
+    holder: HolderNo,
+    guarantee: u32,
+) -> Result<Cents, Error>
+    requires { HasCleanDisk (state S.Store tx.old.conn.now) → IsTrue (state S.Store tx.old.conn.now).in_transaction }
+    ensures same_reference { tx.new.conn.ghost_name ≡ tx.old.conn.ghost_name }
+    ensures found { HasCleanDisk (state S.Store tx.new.conn.now)
+        → IfOk result (IsInUse holder guarantee (state S.Store tx.old.conn.now)) }
+    ensures still { HasCleanDisk (state S.Store tx.new.conn.now)
+        → OnOk result (LeavesAll desk_schema (state S.Store tx.old.conn.now) (state S.Store tx.new.conn.now)) }
+    ensures inside { HasCleanDisk (state S.Store tx.new.conn.now) → OnOk result (IsTrue (state S.Store tx.new.conn.now).in_transaction) }
+    ensures kept { HasCleanDisk (state S.Store tx.new.conn.now)
+        → KeepsCommit (state S.Store tx.old.conn.now) (state S.Store tx.new.conn.now) }
+    ensures survives { Survives (state S.Store tx.old.conn.now) (state S.Store tx.new.conn.now) (λ _. ⊥) }
+{
+    amount_if_in_range(alloc, tx, holder, guarantee)?.ok_or(Error::SqliteFailure(
+        ErrorCode::DatabaseCorrupt,
+    ))
+}

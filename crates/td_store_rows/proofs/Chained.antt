@@ -1,0 +1,128 @@
+-- Statements one after another: each turns the tables that the one before it left, whatever the order of their rows.
+use Rattle.std.proofs.Common.{◌∙◌, ℕ, Bool, List, ◌∷◌, ◌++◌, map, IsPermutation, refl}
+use Rattle.std.specs.Prelude.{filter}
+use Rattle.std.proofs.lemmas.List.Sorted.{IsPermutation-trans, IsPermutation-refl, IsPermutation-cons, IsPermutation-map, IsPermutation-append_right}
+use Rattle.sqlite_trees.proofs.ListLemmas.{IsPermutation-filter}
+use Rattle.sqlite.specs.State.{State}
+use Rattle.td_guarantee.specs.declared.guarantee.Guarantee.{Guarantee}
+use Rattle.td_movement.specs.declared.movement.Movement.{Movement}
+use Rattle.td_table_model.specs.Tables.{Keyed, LineCells, Tables}
+use Rattle.td_table_model.specs.Changes.{HaveSameRows}
+use Rattle.td_store_rows.specs.StoreTables.{TurnsTables, tables_in}
+
+-- what turns tables with the same rows into tables with the same rows
+abbrev pub RespectsRows : (Tables → Tables) → Type 0
+RespectsRows f = (t u : Tables) → HaveSameRows t u → HaveSameRows (f t) (f u)
+
+pub same_rows : (t : Tables) → HaveSameRows t t
+same_rows t = record {
+  country = refl;
+  holders = IsPermutation-refl t.holders;
+  guarantees = IsPermutation-refl t.guarantees;
+  codes = IsPermutation-refl t.codes;
+  movements = IsPermutation-refl t.movements;
+  lines = IsPermutation-refl t.lines;
+}
+
+pub same_then : (t u v : Tables) → HaveSameRows t u → HaveSameRows u v → HaveSameRows t v
+same_then t u v a b = record {
+  country = b.country ∙ a.country;
+  holders = IsPermutation-trans _ _ _ a.holders b.holders;
+  guarantees = IsPermutation-trans _ _ _ a.guarantees b.guarantees;
+  codes = IsPermutation-trans _ _ _ a.codes b.codes;
+  movements = IsPermutation-trans _ _ _ a.movements b.movements;
+  lines = IsPermutation-trans _ _ _ a.lines b.lines;
+}
+
+-- nothing was done
+pub turned_nothing : (f : Tables → Tables) → ((t : Tables) → HaveSameRows (f t) t) → (a : State) → TurnsTables f a a
+turned_nothing f same a has typed = record { same = same (tables_in a.now.trees); typed = typed; schema = has }
+
+-- two statements
+pub turned_then : (f g : Tables → Tables) → RespectsRows g → (a b d : State) → TurnsTables f a b → TurnsTables g b d
+    → TurnsTables (λ t. g (f t)) a d
+turned_then f g respects a b d first second has typed =
+    let one = first has typed in
+    let two = second one.schema one.typed in
+    record { same = same_then _ _ _ (respects _ _ one.same) two.same; typed = two.typed; schema = two.schema }
+
+-- the tables that they leave, said otherwise
+pub turned_as : (f g : Tables → Tables) (old new : State) → ((t : Tables) → HaveSameRows (g t) (f t))
+    → TurnsTables f old new → TurnsTables g old new
+turned_as f g old new same turns has typed =
+    let one = turns has typed in
+    record { same = same_then _ _ _ (same _) one.same; typed = one.typed; schema = one.schema }
+
+-- a function of one table's rows that respects them
+abbrev pub Respects : {R : Type 0} → (List R → List R) → Type 0
+Respects f = (xs ys : List _) → IsPermutation xs ys → IsPermutation (f xs) (f ys)
+
+-- one row more, a change of each, and those that are left
+pub cons_respects : {R : Type 0} (x : R) → Respects (λ rows. x ∷ rows)
+cons_respects x xs ys same = IsPermutation-cons x xs ys same
+
+pub append_respects : {R : Type 0} (these : List R) → Respects (λ rows. these ++ rows)
+append_respects these xs ys same = IsPermutation-append_right these xs ys same
+
+pub map_respects : {R : Type 0} (f : R → R) → Respects (map f)
+map_respects f xs ys same = IsPermutation-map f xs ys same
+
+pub filter_respects : {R : Type 0} (p : R → Bool) → Respects (filter p)
+filter_respects p xs ys same = IsPermutation-filter p xs ys same
+
+-- the same rows where one table has others, the same in both
+pub guarantees_same : (t u : Tables) (xs ys : List (Keyed Guarantee)) → HaveSameRows t u → IsPermutation xs ys
+    → HaveSameRows (record t { guarantees = xs }) (record u { guarantees = ys })
+guarantees_same t u xs ys same rows = record {
+  country = same.country;
+  holders = same.holders;
+  guarantees = rows;
+  codes = same.codes;
+  movements = same.movements;
+  lines = same.lines;
+}
+
+pub guarantees_respect : (f : List (Keyed Guarantee) → List (Keyed Guarantee)) → Respects f → RespectsRows (λ t. record t { guarantees = f t.guarantees })
+guarantees_respect f respects t u same = guarantees_same t u _ _ same (respects t.guarantees u.guarantees same.guarantees)
+
+pub codes_same : (t u : Tables) (xs ys : List (Keyed (List ℕ))) → HaveSameRows t u → IsPermutation xs ys
+    → HaveSameRows (record t { codes = xs }) (record u { codes = ys })
+codes_same t u xs ys same rows = record {
+  country = same.country;
+  holders = same.holders;
+  guarantees = same.guarantees;
+  codes = rows;
+  movements = same.movements;
+  lines = same.lines;
+}
+
+pub codes_respect : (f : List (Keyed (List ℕ)) → List (Keyed (List ℕ))) → Respects f → RespectsRows (λ t. record t { codes = f t.codes })
+codes_respect f respects t u same = codes_same t u _ _ same (respects t.codes u.codes same.codes)
+
+pub movements_same : (t u : Tables) (xs ys : List (Keyed Movement)) → HaveSameRows t u → IsPermutation xs ys
+    → HaveSameRows (record t { movements = xs }) (record u { movements = ys })
+movements_same t u xs ys same rows = record {
+  country = same.country;
+  holders = same.holders;
+  guarantees = same.guarantees;
+  codes = same.codes;
+  movements = rows;
+  lines = same.lines;
+}
+
+pub movements_respect : (f : List (Keyed Movement) → List (Keyed Movement)) → Respects f → RespectsRows (λ t. record t { movements = f t.movements })
+movements_respect f respects t u same = movements_same t u _ _ same (respects t.movements u.movements same.movements)
+
+pub lines_same : (t u : Tables) (xs ys : List (Keyed LineCells)) → HaveSameRows t u → IsPermutation xs ys
+    → HaveSameRows (record t { lines = xs }) (record u { lines = ys })
+lines_same t u xs ys same rows = record {
+  country = same.country;
+  holders = same.holders;
+  guarantees = same.guarantees;
+  codes = same.codes;
+  movements = same.movements;
+  lines = rows;
+}
+
+pub lines_respect : (f : List (Keyed LineCells) → List (Keyed LineCells)) → Respects f → RespectsRows (λ t. record t { lines = f t.lines })
+lines_respect f respects t u same = lines_same t u _ _ same (respects t.lines u.lines same.lines)

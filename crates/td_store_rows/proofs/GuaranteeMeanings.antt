@@ -1,0 +1,81 @@
+-- What the statements on the table of guarantees mean, where the tables are those of a store.
+use Rattle.std.proofs.Common.{refl}
+use Rattle.std.specs.Prelude.{ℕ, List, [], ◌∷◌, codes}
+use Rattle.sqlite_tied.specs.Compute.{everything}
+use Rattle.sqlite.specs.Listing.{understood}
+use Rattle.sqlite_value.specs.declared.keys.Collation.TheVariants.{Binary}
+use Rattle.sqlite_value.specs.declared.keys.Key.{Key}
+use Rattle.sqlite_value.specs.declared.value.Value.TheVariants.{Null}
+use Rattle.sqlite_value.specs.Keys.{ascending}
+use Rattle.sqlite_sql.specs.Term.{Term, lit, col, op2}
+use Rattle.sqlite_sql.specs.declared.ops.BinaryOp.TheVariants.{Compare, Coalesce}
+use Rattle.sqlite_sql.specs.declared.ops.CompareOp.TheVariants.{Eq}
+use Rattle.td_schema.proofs.Acting.{none_acts}
+use Rattle.td_schema.specs.Tables.{desk_schema}
+use Rattle.typed_sql.specs.Meanings.{HasTable, MeansInsert, MeansUpdate, MeansSelect}
+use Rattle.td_store_rows.specs.Columns.{guarantees_table}
+use Rattle.td_store_rows.specs.declared.guarantees.texts.TheConstants.{INSERT, SET_TERMS, BY_GRN, BY_SERIAL, OF_HOLDER}
+
+guarantees_there : HasTable desk_schema 4 guarantees_table
+guarantees_there = record { there = refl; free = none_acts 8 }
+
+-- a column is the value that was given at a place
+abbrev pub equals : ℕ → ℕ → Term
+equals at given = op2 (Compare Eq Binary) (col 1 at) (col 0 given)
+
+abbrev pub grn_tests : List Term
+grn_tests = equals 1 0 ∷ equals 2 1 ∷ equals 3 2 ∷ []
+
+abbrev pub serial_tests : List Term
+serial_tests = equals 1 0 ∷ equals 2 1 ∷ []
+
+abbrev pub holder_tests : List Term
+holder_tests = equals 1 0 ∷ []
+
+-- the columns of a new row, of a row that is set anew, and of one that is shown
+abbrev pub new_row : List Term
+new_row = lit Null ∷ col 0 0 ∷ col 0 1 ∷ col 0 2 ∷ col 0 3 ∷ col 0 4 ∷ col 0 5 ∷ []
+
+abbrev pub set_columns : List Term
+set_columns =
+    col 1 1 ∷ col 1 2 ∷ col 1 3 ∷ op2 Coalesce (col 0 3) (col 1 4) ∷ op2 Coalesce (col 0 4) (col 1 5)
+    ∷ op2 Coalesce (col 0 5) (col 1 6) ∷ []
+
+abbrev pub all_columns : List Term
+all_columns = col 1 1 ∷ col 1 2 ∷ col 1 3 ∷ col 1 4 ∷ col 1 5 ∷ col 1 6 ∷ []
+
+abbrev pub by_serial : List (Term × Key)
+by_serial = (col 1 1, ascending Binary) ∷ (col 1 2, ascending Binary) ∷ []
+
+abbrev names : List (List ℕ)
+names =
+    codes "holder" ∷ codes "serial" ∷ codes "grn" ∷ codes "reference" ∷ codes "cover" ∷ codes "ends" ∷ []
+
+pub insert_means : MeansInsert desk_schema INSERT.now guarantees_table new_row
+unfolding understood everything
+insert_means =
+    record {
+      place = 4;
+      width = 7;
+      table = guarantees_there;
+      command = refl;
+      plain = (refl, refl);
+      one =
+          λ values. refl;
+    }
+
+pub set_means : MeansUpdate desk_schema SET_TERMS.now guarantees_table grn_tests set_columns
+unfolding understood everything
+set_means = record { place = 4; table = guarantees_there; command = refl; plain = (refl, refl) }
+
+pub by_grn_means : MeansSelect desk_schema BY_GRN.now 8 grn_tests all_columns []
+unfolding understood everything
+by_grn_means = record { names = names; command = refl; plain = (refl, refl); unlisted = refl }
+
+pub by_serial_means : MeansSelect desk_schema BY_SERIAL.now 8 serial_tests all_columns []
+unfolding understood everything
+by_serial_means = record { names = names; command = refl; plain = (refl, refl); unlisted = refl }
+
+pub of_holder_means : MeansSelect desk_schema OF_HOLDER.now 8 holder_tests all_columns by_serial
+unfolding understood everything
+of_holder_means = record { names = names; command = refl; plain = (refl, refl); unlisted = refl }

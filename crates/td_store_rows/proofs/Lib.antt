@@ -1,0 +1,18 @@
+mod MetaMeanings
+mod MetaStatements
+mod HolderMeanings
+mod HolderStatements
+mod GuaranteeMeanings
+pub mod GuaranteeCells
+mod GuaranteeStatements
+mod CodeMeanings
+mod CodeStatements
+pub mod MovementMeanings
+mod MovementCells
+pub mod MovementStatements
+pub mod MovementSerials
+mod LineMeanings
+mod LineStatements
+pub mod Turned
+pub mod Chained
+pub mod Holding

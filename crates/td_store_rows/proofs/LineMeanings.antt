@@ -1,0 +1,69 @@
+-- What the statements on the table of lines mean, where the tables are those of a store.
+use Rattle.std.proofs.Common.{refl}
+use Rattle.std.specs.Prelude.{List, [], ◌∷◌, codes}
+use Rattle.sqlite_tied.specs.Compute.{everything}
+use Rattle.sqlite.specs.Listing.{understood}
+use Rattle.sqlite_value.specs.declared.keys.Collation.TheVariants.{Binary}
+use Rattle.sqlite_value.specs.declared.keys.Key.{Key}
+use Rattle.sqlite_value.specs.declared.value.Value.TheVariants.{Null}
+use Rattle.sqlite_value.specs.Keys.{ascending}
+use Rattle.sqlite_sql.specs.Term.{Term, lit, col, op2}
+use Rattle.sqlite_sql.specs.declared.ops.BinaryOp.TheVariants.{Compare}
+use Rattle.sqlite_sql.specs.declared.ops.CompareOp.TheVariants.{Eq}
+use Rattle.td_schema.proofs.Acting.{none_acts}
+use Rattle.td_schema.specs.Tables.{desk_schema}
+use Rattle.typed_sql.specs.Meanings.{HasTable, MeansInsert, MeansSelect}
+use Rattle.td_store_rows.specs.Columns.{lines_table}
+use Rattle.td_store_rows.specs.declared.lines.texts.TheConstants.{INSERT, OF_MOVEMENT, ON_GUARANTEE}
+
+lines_there : HasTable desk_schema 5 lines_table
+lines_there = record { there = refl; free = none_acts 11 }
+
+-- the holder and the serial are those that were given
+abbrev pub key_tests : List Term
+key_tests = op2 (Compare Eq Binary) (col 1 1) (col 0 0) ∷ op2 (Compare Eq Binary) (col 1 2) (col 0 1) ∷ []
+
+-- so are the holder and the guarantee
+abbrev pub guarantee_tests : List Term
+guarantee_tests = op2 (Compare Eq Binary) (col 1 1) (col 0 0) ∷ op2 (Compare Eq Binary) (col 1 4) (col 0 1) ∷ []
+
+-- the columns of a new row, and of one that is shown
+abbrev pub new_row : List Term
+new_row = lit Null ∷ col 0 0 ∷ col 0 1 ∷ col 0 2 ∷ col 0 3 ∷ col 0 4 ∷ []
+
+abbrev pub all_columns : List Term
+all_columns = col 1 1 ∷ col 1 2 ∷ col 1 3 ∷ col 1 4 ∷ col 1 5 ∷ []
+
+abbrev pub by_number : List (Term × Key)
+by_number = (col 1 1, ascending Binary) ∷ (col 1 2, ascending Binary) ∷ (col 1 3, ascending Binary) ∷ []
+
+pub insert_means : MeansInsert desk_schema INSERT.now lines_table new_row
+unfolding understood everything
+insert_means =
+    record {
+      place = 5;
+      width = 6;
+      table = lines_there;
+      command = refl;
+      plain = (refl, refl);
+      one =
+          λ values. refl;
+    }
+
+pub of_movement_means : MeansSelect desk_schema OF_MOVEMENT.now 11 key_tests all_columns by_number
+unfolding understood everything
+of_movement_means = record {
+  names = codes "holder" ∷ codes "serial" ∷ codes "no" ∷ codes "guarantee" ∷ codes "cents" ∷ [];
+  command = refl;
+  plain = (refl, refl);
+  unlisted = refl;
+}
+
+pub on_guarantee_means : MeansSelect desk_schema ON_GUARANTEE.now 11 guarantee_tests all_columns []
+unfolding understood everything
+on_guarantee_means = record {
+  names = codes "holder" ∷ codes "serial" ∷ codes "no" ∷ codes "guarantee" ∷ codes "cents" ∷ [];
+  command = refl;
+  plain = (refl, refl);
+  unlisted = refl;
+}

@@ -1,0 +1,82 @@
+-- What the statements on the table of lines did.
+use Rattle.sqlite.specs.State.{State}
+use Rattle.std.proofs.Common.{subst, IsPermutation, List, [], ap, map, nat_cmp, refl, ℕ, ◌∷◌, ◌≡◌}
+use Rattle.std.specs.Prelude.{pos, ◌==◌}
+use Rattle.sqlite_typed.proofs.TestLemmas.{last_term, then_term, then_value}
+use Rattle.typed_sql.proofs.Effects.{cast_int}
+use Rattle.td_store_rows.proofs.LineMeanings.{by_number, guarantee_tests, insert_means, key_tests, new_row}
+use Rattle.sqlite_rules.specs.Cast.{cast_all}
+use Rattle.sqlite_sql.specs.Term.{eval_all}
+use Rattle.sqlite_value.specs.Order.{Row, column}
+use Rattle.typed_sql.specs.Reading.{row_order}
+use Rattle.td_store_rows.specs.declared.lines.stored.StoredLine.{StoredLine}
+use Rattle.td_store_rows.specs.Columns.{line_cells, line_from, line_typing, lines_table}
+use Rattle.td_store_rows.specs.LineTable.{AreByNumber, AreLines, TurnsLines, is_line_of, is_line_on, line_rows_in, line_row_of}
+use Rattle.td_store_rows.specs.declared.lines.texts.TheConstants.{INSERT}
+use Rattle.td_schema.specs.Tables.{desk_schema}
+use Rattle.typed_sql.proofs.Columns.{number_is}
+use Rattle.typed_sql.proofs.Ordered.{Passes, both_pass, by_third, numbers_compared}
+use Rattle.td_table_model.proofs.Counting.{filter_both}
+use Rattle.td_table_model.proofs.Orders.{sorted_is_order}
+use Rattle.td_table_model.specs.Gathering.{no_of, place}
+use Rattle.typed_sql.proofs.TypedRows.{inserted_typed}
+use Rattle.typed_sql.specs.Typed.{AreInOrder, IsTypedRow, row_of, typed_rows}
+use Rattle.typed_sql.specs.Values.{number_value}
+use Rattle.typed_sql.specs.Writing.{Inserts, IsInserted, passes}
+use Rattle.td_table_model.specs.Tables.{Keyed, LineCells}
+
+back : (l : Keyed LineCells) → line_from (line_cells l) ≡ l
+back l = refl
+
+cells_stored : (l : Keyed LineCells) → cast_all lines_table.columns (line_cells l) ≡ line_cells l
+cells_stored l =
+    then_value (cast_int (pos l.holder))
+    (then_value (cast_int (pos l.serial)) (then_value (cast_int (pos l.row.no))
+    (then_value (cast_int (pos l.row.guarantee)) (then_value (cast_int (pos l.row.cents)) refl))))
+
+pub inserted : (l : Keyed LineCells) (values : Row) → values ≡ line_cells l → (old new : State)
+    → Inserts INSERT.now values old new
+    → TurnsLines (λ rows. l ∷ rows) old new
+inserted l values is old new h has typed =
+    let did : Inserts INSERT.now (line_cells l) old new = subst (λ v. Inserts INSERT.now v old new) is h in
+    let done = did desk_schema lines_table new_row has insert_means in
+    inserted_typed line_typing desk_schema (eval_all new_row (line_cells l ∷ [])) (line_cells l) l old.now new.now
+    (λ id. refl) (back l)
+    (subst (λ c. IsInserted desk_schema lines_table (eval_all new_row (line_cells l ∷ [])) c old.now new.now)
+    (cells_stored l) done) typed
+
+-- a row passes where it is of the movement
+pub key_passes : (H n : ℕ) (r : Row) → IsTypedRow line_typing r
+    → passes (number_value H ∷ number_value n ∷ []) key_tests r ≡ is_line_of H n (row_of line_typing r)
+key_passes H n r is =
+    then_term (number_is (column r 1) (row_of line_typing r).holder H (ap (λ l. column l 0) is))
+    (last_term (number_is (column r 2) (row_of line_typing r).serial n (ap (λ l. column l 1) is)))
+
+-- a row passes where it is on the guarantee
+pub guarantee_passes : (H n : ℕ) (r : Row) → IsTypedRow line_typing r
+    → passes (number_value H ∷ number_value n ∷ []) guarantee_tests r ≡ is_line_on H n (row_of line_typing r)
+guarantee_passes H n r is =
+    then_term (number_is (column r 1) (row_of line_typing r).holder H (ap (λ l. column l 0) is))
+    (last_term (number_is (column r 4) (row_of line_typing r).row.guarantee n (ap (λ l. column l 3) is)))
+
+-- the lines of one movement are compared by their numbers
+pub compared : (H n : ℕ) (a b : Row) → Passes line_typing (is_line_of H n) a → Passes line_typing (is_line_of H n) b
+    → row_order by_number (number_value H ∷ number_value n ∷ []) a b
+    ≡ nat_cmp (no_of (row_of line_typing a)) (no_of (row_of line_typing b))
+compared H n =
+    by_third line_typing (is_line_of H n) (λ l. l.holder) H (λ r is. ap (λ l. column l 0) is)
+    (λ l passes. (both_pass (l.holder == H) (l.serial == n) passes).0) (number_value H ∷ number_value n ∷ [])
+    (λ l. l.serial) n (λ r is. ap (λ l. column l 1) is)
+    (λ l passes. (both_pass (l.holder == H) (l.serial == n) passes).1) (λ x y. nat_cmp (no_of x) (no_of y))
+    (λ a b is other. numbers_compared (column a 3) (column b 3) (no_of (row_of line_typing a))
+    (no_of (row_of line_typing b)) (ap (λ l. column l 2) is) (ap (λ l. column l 2) other))
+
+-- so those that were fetched are they by their numbers
+pub by_numbers : (H n : ℕ) (old : State) (found : List StoredLine) → AreLines (is_line_of H n) old found
+    → AreInOrder line_typing desk_schema (λ a b. nat_cmp (no_of a) (no_of b)) old (map line_row_of found)
+    → AreByNumber H n old found
+by_numbers H n old found those sorted has typed apart =
+    sorted_is_order no_of (map line_row_of found) (line_rows_in H n old.now.trees)
+    (subst (λ l. IsPermutation l (map line_row_of found))
+    (filter_both (λ l. place l == n) (λ l. l.holder == H) (typed_rows line_typing old.now.trees)) (those has typed))
+    (sorted has typed) apart

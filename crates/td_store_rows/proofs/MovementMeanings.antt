@@ -1,0 +1,106 @@
+-- What the statements on the table of movements mean, where the tables are those of a store.
+use Rattle.std.proofs.Common.{refl}
+use Rattle.std.specs.Prelude.{ℕ, List, [], ◌∷◌, codes}
+use Rattle.sqlite_tied.specs.Compute.{everything}
+use Rattle.sqlite.specs.Listing.{understood}
+use Rattle.sqlite_value.specs.declared.keys.Collation.TheVariants.{Binary}
+use Rattle.sqlite_value.specs.declared.keys.Key.{Key}
+use Rattle.sqlite_value.specs.declared.value.Value.TheVariants.{Null, Text}
+use Rattle.sqlite_value.specs.Keys.{ascending}
+use Rattle.sqlite_sql.specs.Term.{Term, lit, col, op2}
+use Rattle.sqlite_sql.specs.declared.ops.BinaryOp.TheVariants.{Compare, Coalesce, Or}
+use Rattle.sqlite_sql.specs.declared.ops.CompareOp.TheVariants.{Eq}
+use Rattle.td_schema.proofs.Acting.{none_acts}
+use Rattle.td_schema.specs.Tables.{desk_schema}
+use Rattle.typed_sql.specs.Meanings.{HasTable, MeansInsert, MeansUpdate, MeansSelect}
+use Rattle.td_store_rows.specs.Columns.{movements_table}
+use Rattle.td_store_rows.specs.declared.movements.texts.TheConstants.{INSERT, SET_STATUS, BY_MRN, BY_LRN, OF_HOLDER, COUNTING_SERIALS}
+
+movements_there : HasTable desk_schema 3 movements_table
+movements_there = record { there = refl; free = none_acts 4 }
+
+-- a column is the value that was given at a place
+abbrev pub equals : ℕ → ℕ → Term
+equals at given = op2 (Compare Eq Binary) (col 1 at) (col 0 given)
+
+abbrev pub key_tests : List Term
+key_tests = equals 1 0 ∷ equals 2 1 ∷ equals 3 2 ∷ []
+
+abbrev pub lrn_tests : List Term
+lrn_tests = equals 1 0 ∷ equals 4 1 ∷ []
+
+abbrev pub holder_tests : List Term
+holder_tests = equals 1 0 ∷ []
+
+-- the state has a name
+abbrev pub named : List ℕ → Term
+named name = op2 (Compare Eq Binary) (col 1 8) (lit (Text name))
+
+abbrev pub counting_tests : List Term
+counting_tests =
+    equals 1 0
+    ∷ op2 Or (op2 Or (named (codes "released")) (named (codes "enquired")))
+    (op2 Or (named (codes "arrived")) (op2 Or (named (codes "discrepant")) (named (codes "cleared"))))
+    ∷ []
+
+-- the columns of a new row, of a row that is set anew, and of one that is shown
+abbrev pub new_row : List Term
+new_row =
+    lit Null ∷ col 0 0 ∷ col 0 1 ∷ col 0 2 ∷ col 0 3 ∷ col 0 4 ∷ col 0 5 ∷ col 0 6 ∷ col 0 7 ∷ col 0 8 ∷ col 0 9
+    ∷ col 0 10 ∷ []
+
+abbrev pub set_columns : List Term
+set_columns =
+    col 1 1 ∷ col 1 2 ∷ col 1 3 ∷ col 1 4 ∷ col 1 5 ∷ col 1 6 ∷ col 1 7 ∷ col 0 3
+    ∷ op2 Coalesce (col 0 4) (col 1 9)
+    ∷ op2 Coalesce (col 0 5) (col 1 10) ∷ op2 Coalesce (col 0 6) (col 1 11) ∷ []
+
+abbrev pub all_columns : List Term
+all_columns =
+    col 1 1 ∷ col 1 2 ∷ col 1 3 ∷ col 1 4 ∷ col 1 5 ∷ col 1 6 ∷ col 1 7 ∷ col 1 8 ∷ col 1 9 ∷ col 1 10 ∷ col 1 11
+    ∷ []
+
+abbrev pub by_serial : List (Term × Key)
+by_serial = (col 1 1, ascending Binary) ∷ (col 1 2, ascending Binary) ∷ []
+
+abbrev names : List (List ℕ)
+names =
+    codes "holder" ∷ codes "serial" ∷ codes "mrn" ∷ codes "lrn" ∷ codes "departure" ∷ codes "destination"
+    ∷ codes "accepted" ∷ codes "state" ∷ codes "limit_day" ∷ codes "arrival" ∷ codes "actual" ∷ []
+
+pub insert_means : MeansInsert desk_schema INSERT.now movements_table new_row
+unfolding understood everything
+insert_means =
+    record {
+      place = 3;
+      width = 12;
+      table = movements_there;
+      command = refl;
+      plain = (refl, refl);
+      one =
+          λ values. refl;
+    }
+
+pub set_means : MeansUpdate desk_schema SET_STATUS.now movements_table key_tests set_columns
+unfolding understood everything
+set_means = record { place = 3; table = movements_there; command = refl; plain = (refl, refl) }
+
+pub by_mrn_means : MeansSelect desk_schema BY_MRN.now 4 key_tests all_columns []
+unfolding understood everything
+by_mrn_means = record { names = names; command = refl; plain = (refl, refl); unlisted = refl }
+
+pub by_lrn_means : MeansSelect desk_schema BY_LRN.now 4 lrn_tests all_columns []
+unfolding understood everything
+by_lrn_means = record { names = names; command = refl; plain = (refl, refl); unlisted = refl }
+
+pub of_holder_means : MeansSelect desk_schema OF_HOLDER.now 4 holder_tests all_columns by_serial
+unfolding understood everything
+of_holder_means = record { names = names; command = refl; plain = (refl, refl); unlisted = refl }
+
+-- the serial alone
+abbrev pub serial_column : List Term
+serial_column = col 1 2 ∷ []
+
+pub counting_means : MeansSelect desk_schema COUNTING_SERIALS.now 4 counting_tests serial_column by_serial
+unfolding understood everything
+counting_means = record { names = codes "serial" ∷ []; command = refl; plain = (refl, refl); unlisted = refl }

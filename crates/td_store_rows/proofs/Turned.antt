@@ -1,0 +1,166 @@
+-- A statement that turned the rows of one table, seen at all tables: the others are as they were.
+use Rattle.std.proofs.Common.{◌≡◌, ◌≢◌, ℕ, List, map, ap, sym, subst, IsPermutation}
+use Rattle.std.specs.List.{AllByRecursion}
+use Rattle.sqlite_trees.specs.Tree.{Trees}
+use Rattle.sqlite_trees.proofs.ListLemmas.{IsPermutation-same}
+use Rattle.sqlite.specs.State.{State}
+use Rattle.td_model.specs.declared.holder_row.HolderRow.{HolderRow}
+use Rattle.td_guarantee.specs.declared.guarantee.Guarantee.{Guarantee}
+use Rattle.td_movement.specs.declared.movement.Movement.{Movement}
+use Rattle.td_table_model.specs.Tables.{Keyed, LineCells, Tables}
+use Rattle.td_schema.specs.Tables.{desk_schema}
+use Rattle.typed_sql.specs.Writing.{AreOthersKept, HaveIds, HasSchema}
+use Rattle.typed_sql.specs.Typed.{Typing, AreTyped, IsTypedRow, Turns, row_of, typed_rows}
+use Rattle.td_store_rows.specs.Columns.{meta_typing, holder_typing, guarantee_typing, code_typing, movement_typing, line_typing}
+use Rattle.td_store_rows.specs.StoreTables.{AreAllTyped, HasTables, tables_in, country_in}
+
+-- a table whose tree is as it was has the same rows, typed as before
+rows_still : {R : Type 0} (ty : Typing R) (old new : Trees) → new ty.table.tree ≡ old ty.table.tree
+    → IsPermutation (typed_rows ty old) (typed_rows ty new)
+rows_still ty old new is = IsPermutation-same _ _ (ap (map (row_of ty)) (sym is))
+
+typed_still : {R : Type 0} (ty : Typing R) (old new : Trees) → new ty.table.tree ≡ old ty.table.tree
+    → AreTyped ty old → AreTyped ty new
+typed_still ty old new is typed = record {
+  ids = subst HaveIds (sym is) typed.ids;
+  cells = subst (AllByRecursion (IsTypedRow ty)) (sym is) typed.cells;
+}
+
+-- the office's row is as it was where its tree is
+country_still : (old new : Trees) → new 0 ≡ old 0
+    → country_in (typed_rows meta_typing new) ≡ country_in (typed_rows meta_typing old)
+country_still old new is = ap (λ rows. country_in (map (row_of meta_typing) rows)) is
+
+-- which trees are not this one, and so are as they were
+record AreKept (tree : ℕ) (old new : Trees) : Type 0 where
+  meta : 0 ≢ tree → new 0 ≡ old 0
+  holders : 1 ≢ tree → new 1 ≡ old 1
+  codes : 2 ≢ tree → new 2 ≡ old 2
+  movements : 4 ≢ tree → new 4 ≡ old 4
+  guarantees : 8 ≢ tree → new 8 ≡ old 8
+  lines : 11 ≢ tree → new 11 ≡ old 11
+
+kept : (tree : ℕ) (old new : Trees) → AreOthersKept desk_schema tree old new → AreKept tree old new
+kept tree old new others = record {
+  meta = others.0;
+  holders = others.1.0;
+  codes = others.1.1.0;
+  movements = others.1.1.1.0;
+  guarantees = others.1.1.1.1.0;
+  lines = others.1.1.1.1.1.0;
+}
+
+-- a table has these rows now, in any order, and they are typed
+record Now {R : Type 0} (ty : Typing R) (rows : List R) (trees : Trees) : Type 0 where
+  same : IsPermutation rows (typed_rows ty trees)
+  typed : AreTyped ty trees
+
+still : {R : Type 0} (ty : Typing R) (old new : Trees) → AreTyped ty old → new ty.table.tree ≡ old ty.table.tree
+    → Now ty (typed_rows ty old) new
+still ty old new typed is = record { same = rows_still ty old new is; typed = typed_still ty old new is typed }
+
+-- all of them, each as it is now
+assembled : (f : Tables → Tables) (old new : State)
+    → country_in (typed_rows meta_typing new.now.trees) ≡ (f (tables_in old.now.trees)).country → AreTyped meta_typing new.now.trees
+    → Now holder_typing (f (tables_in old.now.trees)).holders new.now.trees
+    → Now guarantee_typing (f (tables_in old.now.trees)).guarantees new.now.trees
+    → Now code_typing (f (tables_in old.now.trees)).codes new.now.trees
+    → Now movement_typing (f (tables_in old.now.trees)).movements new.now.trees
+    → Now line_typing (f (tables_in old.now.trees)).lines new.now.trees
+    → HasSchema new desk_schema → HasTables f old new
+assembled f old new country meta holders guarantees codes movements lines schema = record {
+  same = record {
+    country = country;
+    holders = holders.same;
+    guarantees = guarantees.same;
+    codes = codes.same;
+    movements = movements.same;
+    lines = lines.same;
+  };
+  typed = record {
+    meta = meta;
+    holders = holders.typed;
+    guarantees = guarantees.typed;
+    codes = codes.typed;
+    movements = movements.typed;
+    lines = lines.typed;
+  };
+  schema = schema;
+}
+
+module _ (old new : State) (has : HasSchema old desk_schema) (typed : AreAllTyped old.now.trees) where
+  abbrev a : Trees
+  a = old.now.trees
+
+  abbrev b : Trees
+  b = new.now.trees
+
+  pub holders_turned : (f : List HolderRow → List HolderRow) → Turns holder_typing desk_schema f old new
+      → HasTables (λ t. record t { holders = f t.holders }) old new
+  holders_turned f turns =
+      let now = turns has typed.holders in
+      let rest = kept 1 a b now.others in
+      assembled (λ t. record t { holders = f t.holders }) old new (country_still a b (rest.meta (λ e. cc)))
+      (typed_still meta_typing a b (rest.meta (λ e. cc)) typed.meta)
+      (record { same = now.same; typed = now.typed })
+      (still guarantee_typing a b typed.guarantees (rest.guarantees (λ e. cc)))
+      (still code_typing a b typed.codes (rest.codes (λ e. cc)))
+      (still movement_typing a b typed.movements (rest.movements (λ e. cc)))
+      (still line_typing a b typed.lines (rest.lines (λ e. cc)))
+      (λ is_open. now.schema)
+
+  pub guarantees_turned : (f : List (Keyed Guarantee) → List (Keyed Guarantee)) → Turns guarantee_typing desk_schema f old new
+      → HasTables (λ t. record t { guarantees = f t.guarantees }) old new
+  guarantees_turned f turns =
+      let now = turns has typed.guarantees in
+      let rest = kept 8 a b now.others in
+      assembled (λ t. record t { guarantees = f t.guarantees }) old new (country_still a b (rest.meta (λ e. cc)))
+      (typed_still meta_typing a b (rest.meta (λ e. cc)) typed.meta)
+      (still holder_typing a b typed.holders (rest.holders (λ e. cc)))
+      (record { same = now.same; typed = now.typed })
+      (still code_typing a b typed.codes (rest.codes (λ e. cc)))
+      (still movement_typing a b typed.movements (rest.movements (λ e. cc)))
+      (still line_typing a b typed.lines (rest.lines (λ e. cc)))
+      (λ is_open. now.schema)
+
+  pub codes_turned : (f : List (Keyed (List ℕ)) → List (Keyed (List ℕ))) → Turns code_typing desk_schema f old new
+      → HasTables (λ t. record t { codes = f t.codes }) old new
+  codes_turned f turns =
+      let now = turns has typed.codes in
+      let rest = kept 2 a b now.others in
+      assembled (λ t. record t { codes = f t.codes }) old new (country_still a b (rest.meta (λ e. cc)))
+      (typed_still meta_typing a b (rest.meta (λ e. cc)) typed.meta)
+      (still holder_typing a b typed.holders (rest.holders (λ e. cc)))
+      (still guarantee_typing a b typed.guarantees (rest.guarantees (λ e. cc)))
+      (record { same = now.same; typed = now.typed })
+      (still movement_typing a b typed.movements (rest.movements (λ e. cc)))
+      (still line_typing a b typed.lines (rest.lines (λ e. cc)))
+      (λ is_open. now.schema)
+
+  pub movements_turned : (f : List (Keyed Movement) → List (Keyed Movement)) → Turns movement_typing desk_schema f old new
+      → HasTables (λ t. record t { movements = f t.movements }) old new
+  movements_turned f turns =
+      let now = turns has typed.movements in
+      let rest = kept 4 a b now.others in
+      assembled (λ t. record t { movements = f t.movements }) old new (country_still a b (rest.meta (λ e. cc)))
+      (typed_still meta_typing a b (rest.meta (λ e. cc)) typed.meta)
+      (still holder_typing a b typed.holders (rest.holders (λ e. cc)))
+      (still guarantee_typing a b typed.guarantees (rest.guarantees (λ e. cc)))
+      (still code_typing a b typed.codes (rest.codes (λ e. cc)))
+      (record { same = now.same; typed = now.typed })
+      (still line_typing a b typed.lines (rest.lines (λ e. cc)))
+      (λ is_open. now.schema)
+
+  pub lines_turned : (f : List (Keyed LineCells) → List (Keyed LineCells)) → Turns line_typing desk_schema f old new
+      → HasTables (λ t. record t { lines = f t.lines }) old new
+  lines_turned f turns =
+      let now = turns has typed.lines in
+      let rest = kept 11 a b now.others in
+      assembled (λ t. record t { lines = f t.lines }) old new (country_still a b (rest.meta (λ e. cc)))
+      (typed_still meta_typing a b (rest.meta (λ e. cc)) typed.meta)
+      (still holder_typing a b typed.holders (rest.holders (λ e. cc)))
+      (still guarantee_typing a b typed.guarantees (rest.guarantees (λ e. cc)))
+      (still code_typing a b typed.codes (rest.codes (λ e. cc)))
+      (still movement_typing a b typed.movements (rest.movements (λ e. cc)))
+      (record { same = now.same; typed = now.typed })
+      (λ is_open. now.schema)

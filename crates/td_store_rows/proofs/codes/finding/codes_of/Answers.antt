@@ -1,0 +1,35 @@
+use Rattle.std.proofs.Common.{refl}
+use Rattle.std.specs.Prelude.{[], ◌∷◌}
+use Rattle.sqlite.specs.Held.{state}
+use Rattle.td_schema.specs.Tables.{desk_schema}
+use Rattle.typed_sql.proofs.Fetched.{in_order_fetched, those_fetched}
+use Rattle.typed_sql.proofs.Leaving.{if_both, stays_ok}
+use Rattle.typed_sql.specs.Values.{number_value}
+use Rattle.td_store_rows.proofs.CodeMeanings.{all_columns, by_code, key_tests, of_guarantee_means}
+use Rattle.td_store_rows.proofs.CodeStatements.{by_codes, code_cmp, compared, key_passes}
+use Rattle.td_store_rows.specs.Columns.{code_typing}
+use Rattle.td_store_rows.specs.CodeTable.{is_code_of_guarantee, code_row_of}
+use Rattle.td_store_rows.specs.declared.codes.texts.TheConstants.{OF_GUARANTEE}
+use Rattle.td_store_rows.proofs.codes.finding.codes_of.Goals as goal
+
+pub returns-clause-found : goal.returns-clause-found
+returns-clause-found g c clean =
+    those_fetched code_typing desk_schema code_row_of OF_GUARANTEE.now key_tests all_columns by_code
+    (is_code_of_guarantee c.args.holder c.args.serial) (number_value c.args.holder ∷ number_value c.args.serial ∷ [])
+    _ c.serial_key.ensures of_guarantee_means (key_passes c.args.holder c.args.serial) (λ r. refl)
+    (state g.S.Store c.args.tx.now.conn.now) c.fetch.result (c.fetch.ensures.found clean)
+
+pub returns-clause-order : goal.returns-clause-order
+returns-clause-order g c clean =
+    if_both c.fetch.result
+    (λ found. by_codes c.args.holder c.args.serial (state g.S.Store c.args.tx.now.conn.now) found.items)
+    (returns-clause-found g c clean)
+    (in_order_fetched code_typing desk_schema code_row_of OF_GUARANTEE.now key_tests all_columns by_code
+    (is_code_of_guarantee c.args.holder c.args.serial) (number_value c.args.holder ∷ number_value c.args.serial ∷ [])
+    _ c.serial_key.ensures of_guarantee_means (key_passes c.args.holder c.args.serial) (λ r. refl)
+    (state g.S.Store c.args.tx.now.conn.now) code_cmp (compared c.args.holder c.args.serial) c.fetch.result
+    (c.fetch.ensures.found clean))
+
+pub returns-clause-still : goal.returns-clause-still
+returns-clause-still g c clean =
+    stays_ok desk_schema OF_GUARANTEE.now of_guarantee_means.plain _ _ c.fetch.result (c.fetch.ensures.still clean)

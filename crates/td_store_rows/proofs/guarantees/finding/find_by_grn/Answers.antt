@@ -1,0 +1,25 @@
+use Rattle.std.proofs.Common.{refl}
+use Rattle.std.specs.Prelude.{[], ◌∷◌}
+use Rattle.sqlite.specs.Held.{state}
+use Rattle.sqlite_value.specs.declared.value.Value.TheVariants.{Text}
+use Rattle.td_schema.specs.Tables.{desk_schema}
+use Rattle.typed_sql.proofs.Fetched.{one_fetched}
+use Rattle.typed_sql.proofs.Leaving.{stays_ok}
+use Rattle.typed_sql.specs.Values.{number_value}
+use Rattle.td_store_rows.specs.Columns.{guarantee_typing}
+use Rattle.td_store_rows.specs.GuaranteeTable.{has_grn, guarantee_row_of}
+use Rattle.td_store_rows.specs.declared.guarantees.texts.TheConstants.{BY_GRN}
+use Rattle.td_store_rows.proofs.GuaranteeMeanings.{all_columns, by_grn_means, grn_tests}
+use Rattle.td_store_rows.proofs.GuaranteeStatements.{grn_passes}
+use Rattle.td_store_rows.proofs.guarantees.finding.find_by_grn.Goals as goal
+
+pub returns-clause-found : goal.returns-clause-found
+returns-clause-found g c clean =
+    one_fetched guarantee_typing desk_schema guarantee_row_of BY_GRN.now grn_tests all_columns []
+    (has_grn c.args.holder c.args.serial c.args.grn.now) (number_value c.args.holder ∷ number_value c.args.serial ∷ Text c.args.grn.now ∷ [])
+    _ c.grn_values.ensures by_grn_means (λ r is. grn_passes r is c.args.holder c.args.serial c.args.grn.now []) (λ r. refl)
+    (state g.S.Store c.args.tx.now.conn.now) c.fetch_one.result (c.fetch_one.ensures.found clean)
+
+pub returns-clause-still : goal.returns-clause-still
+returns-clause-still g c clean =
+    stays_ok desk_schema BY_GRN.now by_grn_means.plain _ _ c.fetch_one.result (c.fetch_one.ensures.still clean)

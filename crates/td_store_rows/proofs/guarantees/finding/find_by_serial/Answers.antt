@@ -1,0 +1,24 @@
+use Rattle.std.proofs.Common.{refl}
+use Rattle.std.specs.Prelude.{[], ◌∷◌}
+use Rattle.sqlite.specs.Held.{state}
+use Rattle.td_schema.specs.Tables.{desk_schema}
+use Rattle.typed_sql.proofs.Fetched.{one_fetched}
+use Rattle.typed_sql.proofs.Leaving.{stays_ok}
+use Rattle.typed_sql.specs.Values.{number_value}
+use Rattle.td_store_rows.specs.Columns.{guarantee_typing}
+use Rattle.td_store_rows.specs.GuaranteeTable.{has_serial, guarantee_row_of}
+use Rattle.td_store_rows.specs.declared.guarantees.texts.TheConstants.{BY_SERIAL}
+use Rattle.td_store_rows.proofs.GuaranteeMeanings.{all_columns, by_serial_means, serial_tests}
+use Rattle.td_store_rows.proofs.GuaranteeStatements.{serial_passes}
+use Rattle.td_store_rows.proofs.guarantees.finding.find_by_serial.Goals as goal
+
+pub returns-clause-found : goal.returns-clause-found
+returns-clause-found g c clean =
+    one_fetched guarantee_typing desk_schema guarantee_row_of BY_SERIAL.now serial_tests all_columns []
+    (has_serial c.args.holder c.args.serial) (number_value c.args.holder ∷ number_value c.args.serial ∷ [])
+    _ c.serial_key.ensures by_serial_means (λ r is. serial_passes r is c.args.holder c.args.serial) (λ r. refl)
+    (state g.S.Store c.args.tx.now.conn.now) c.fetch_one.result (c.fetch_one.ensures.found clean)
+
+pub returns-clause-still : goal.returns-clause-still
+returns-clause-still g c clean =
+    stays_ok desk_schema BY_SERIAL.now by_serial_means.plain _ _ c.fetch_one.result (c.fetch_one.ensures.still clean)

@@ -1,0 +1,12 @@
+use Rattle.sqlite.specs.Held.{state}
+use Rattle.sqlite.specs.Values.{bound}
+use Rattle.typed_sql.proofs.Leaving.{on_ok}
+use Rattle.td_store_rows.proofs.MetaStatements.{inserted}
+use Rattle.td_store_rows.proofs.meta.writing.insert_meta.Goals as goal
+
+pub returns-clause-inserted : goal.returns-clause-inserted
+returns-clause-inserted g c clean =
+    on_ok c.insert.result
+    (inserted c.args.version c.args.country (bound c.columns.result) c.columns.ensures
+    (state g.S.Store c.args.tx.now.conn.now) (state g.S.Store c.insert.new.tx.conn.now))
+    (c.insert.ensures.inserted clean)

@@ -1,0 +1,25 @@
+use Rattle.std.proofs.Common.{refl}
+use Rattle.std.specs.Prelude.{[], ◌∷◌}
+use Rattle.sqlite.specs.Held.{state}
+use Rattle.sqlite_value.specs.declared.value.Value.TheVariants.{Text}
+use Rattle.td_schema.specs.Tables.{desk_schema}
+use Rattle.typed_sql.proofs.Fetched.{one_fetched}
+use Rattle.typed_sql.proofs.Leaving.{stays_ok}
+use Rattle.typed_sql.specs.Values.{number_value}
+use Rattle.td_store_rows.proofs.MovementMeanings.{all_columns, by_lrn_means, lrn_tests}
+use Rattle.td_store_rows.proofs.MovementStatements.{lrn_passes}
+use Rattle.td_store_rows.specs.Columns.{movement_typing}
+use Rattle.td_store_rows.specs.MovementTable.{has_lrn, movement_row_of}
+use Rattle.td_store_rows.specs.declared.movements.texts.TheConstants.{BY_LRN}
+use Rattle.td_store_rows.proofs.movements.finding.find_by_lrn.Goals as goal
+
+pub returns-clause-found : goal.returns-clause-found
+returns-clause-found g c clean =
+    one_fetched movement_typing desk_schema movement_row_of BY_LRN.now lrn_tests all_columns []
+    (has_lrn c.args.holder c.args.lrn.now) (number_value c.args.holder ∷ Text c.args.lrn.now ∷ []) _
+    c.lrn_values.ensures by_lrn_means (λ r is. lrn_passes r is c.args.holder c.args.lrn.now) (λ r. refl)
+    (state g.S.Store c.args.tx.now.conn.now) c.fetch_one.result (c.fetch_one.ensures.found clean)
+
+pub returns-clause-still : goal.returns-clause-still
+returns-clause-still g c clean =
+    stays_ok desk_schema BY_LRN.now by_lrn_means.plain _ _ c.fetch_one.result (c.fetch_one.ensures.still clean)

@@ -1,0 +1,86 @@
+-- What is asked of the movements in a store's file, and what is said anew of one.
+use Rattle.std.specs.Prelude.{◌≡◌, [], ◌∷◌, ℕ, ◌==◌, Bool, ◌&&◌, List, filter, map, Option}
+use Rattle.std.specs.List.Sorted.{IsPermutation, IsSorted}
+use Rattle.std.specs.Option.{option_to_list}
+use Rattle.std.specs.Ordering.{nat_cmp}
+use Rattle.std.specs.Str.{bytes_eq}
+use Rattle.td_movement.specs.States.{is_counting, state_name}
+use Rattle.td_movement.specs.declared.movement.Movement.{Movement}
+use Rattle.td_acts.specs.Changes.{with_status}
+use Rattle.td_acts.specs.declared.rows.NewStatus.{NewStatus}
+use Rattle.td_table_model.specs.Tables.{Keyed}
+use Rattle.td_schema.specs.Tables.{desk_schema}
+use Rattle.typed_sql.specs.Typed.{AreThose, AreTyped, Turns, typed_rows}
+use Rattle.typed_sql.specs.Writing.{HasSchema}
+use Rattle.td_table_model.specs.Apart.{IsApart}
+use Rattle.td_table_model.specs.Gathering.{in_order, place}
+use Rattle.typed_sql.specs.Values.{number_value, number_or_null, text_or_null}
+use Rattle.sqlite_value.specs.declared.value.Value.TheVariants.{Text}
+use Rattle.sqlite_value.specs.Order.{Row}
+use Rattle.sqlite.specs.State.{State}
+use Rattle.td_store_rows.specs.Columns.{movement_typing}
+use Rattle.td_store_rows.specs.declared.movements.stored.MovementSerial.{MovementSerial}
+use Rattle.td_store_rows.specs.declared.movements.stored.StoredMovement.{StoredMovement}
+
+-- a movement that was found, as its row
+abbrev pub movement_row_of : StoredMovement → Keyed Movement
+movement_row_of m = record { holder = m.holder; serial = m.serial; row = m.movement }
+
+-- the movement of a holder with a serial and an MRN; with an LRN; each of the holder; each of the holder that
+-- counts
+abbrev pub has_mrn : ℕ → ℕ → List ℕ → Keyed Movement → Bool
+has_mrn H n mrn m = m.holder == H && (m.serial == n && bytes_eq m.row.mrn mrn)
+
+abbrev pub has_lrn : ℕ → List ℕ → Keyed Movement → Bool
+has_lrn H lrn m = m.holder == H && bytes_eq m.row.lrn lrn
+
+abbrev pub is_of : ℕ → Keyed Movement → Bool
+is_of H m = m.holder == H
+
+abbrev pub counts_for : ℕ → Keyed Movement → Bool
+counts_for H m = m.holder == H && is_counting m.row.state
+
+-- the movement in its new state
+abbrev pub with_new_status : NewStatus → Keyed Movement → Keyed Movement
+with_new_status status m = record m { row = with_status status m.row }
+
+-- the statement turned the movements into what f makes of them
+abbrev pub TurnsMovements : (List (Keyed Movement) → List (Keyed Movement)) → State → State → Type 0
+TurnsMovements f = Turns movement_typing desk_schema f
+
+-- these are the movements that pass the test
+abbrev pub AreMovements : (Keyed Movement → Bool) → State → List StoredMovement → Type 0
+AreMovements p state found = AreThose movement_typing desk_schema p state (map movement_row_of found)
+
+-- where no two of them have one serial, these are they by their serials
+abbrev pub AreBySerial : (Keyed Movement → Bool) → State → List StoredMovement → Type 0
+AreBySerial p state found =
+    HasSchema state desk_schema → AreTyped movement_typing state.now.trees
+    → IsApart place (filter p (typed_rows movement_typing state.now.trees))
+    → map movement_row_of found ≡ in_order place (filter p (typed_rows movement_typing state.now.trees))
+
+-- a serial that was found
+abbrev pub serial_of_stored : MovementSerial → ℕ
+serial_of_stored s = s.serial
+
+-- where the table's rows are typed, these are the serials of the movements that pass the test, each as often as a movement
+-- has it; and they don't fall
+abbrev pub AreSerialsOf : (Keyed Movement → Bool) → State → List MovementSerial → Type 0
+AreSerialsOf p state found =
+    HasSchema state desk_schema → AreTyped movement_typing state.now.trees
+    → IsPermutation (map place (filter p (typed_rows movement_typing state.now.trees))) (map serial_of_stored found)
+
+abbrev pub AreSerialsInOrder : State → List MovementSerial → Type 0
+AreSerialsInOrder state found =
+    HasSchema state desk_schema → AreTyped movement_typing state.now.trees → IsSorted nat_cmp (map serial_of_stored found)
+
+-- this is the movement that passes the test, or there is none
+abbrev pub IsTheMovement : (Keyed Movement → Bool) → State → Option StoredMovement → Type 0
+IsTheMovement p state found = AreMovements p state (option_to_list found)
+
+-- what a new status is written by: the holder, the serial and the MRN, and then the new columns
+abbrev pub status_values : ℕ → ℕ → NewStatus → Row
+status_values H n status =
+    number_value H ∷ number_value n ∷ Text status.mrn ∷ Text (state_name status.state)
+    ∷ number_or_null status.limit
+    ∷ number_or_null status.arrival ∷ text_or_null status.actual ∷ []

@@ -1,0 +1,23 @@
+//! The rows of a store's file, table by table: what is read of each table and what is written into it. Each function runs one
+//! statement inside a transaction that the caller commits. What the six tables are together, as the tables of a desk, stands in
+//! specs/.
+#![tactic(auto)]
+
+mod codes;
+mod guarantees;
+mod holders;
+mod lines;
+mod meta;
+mod movements;
+
+pub use codes::{StoredCode, codes_of, delete_code, insert_code};
+pub use guarantees::{
+    StoredGuarantee, find_by_grn, find_by_serial, guarantees_of, insert_guarantee, set_terms,
+};
+pub use holders::{find_holder, insert_holder, set_holder};
+pub use lines::{StoredLine, insert_line, lines_of, lines_on};
+pub use meta::{NEWEST_VERSION, StoredMeta, find_meta, insert_meta};
+pub use movements::{
+    MovementSerial, StoredMovement, counting_serials, find_by_lrn, find_by_mrn, insert_movement,
+    movements_of, set_status,
+};

@@ -1,0 +1,41 @@
+//! What is written into the table `meta`. An error is the database's own, and commits nothing.
+ghost use Rattle.std.specs.Prelude.{◌≡◌, ◌∷◌, true, IsTrue, OnOk};
+ghost use Rattle.sqlite.specs.Held.{state};
+ghost use Rattle.sqlite.specs.State.{HasCleanDisk, KeepsCommit, Shows, Survives};
+ghost use Rattle.sqlite.specs.Values.{bound};
+ghost use Rattle.td_store_rows.specs.Columns.{meta_cells, meta_row};
+ghost use Rattle.td_store_rows.specs.MetaTable.{TurnsMeta};
+
+use crate::meta::texts::INSERT;
+use sqlite::{Error, Transaction};
+use sqlite_trees::store::Alter;
+use sqlite_value::value::ValueRef;
+use td_base::Country;
+use td_schema::number_of;
+
+// The columns of the office's own row.
+fn columns(version: u32, country: &Country) -> [ValueRef<'_>; 2]
+    ensures { bound result ≡ meta_cells (meta_row version country.now) }
+{
+    [number_of(version), ValueRef::Text(country.as_bytes())]
+}
+
+/// Inserts the office's own row, with the version of the tables. The database refuses a second row.
+pub fn insert_meta<S: Alter>(
+    tx: &mut Transaction<'_, S>,
+    version: u32,
+    country: Country,
+) -> Result<(), Error>
+    requires { HasCleanDisk (state S.Store tx.old.conn.now) → IsTrue (state S.Store tx.old.conn.now).in_transaction }
+    ensures same_reference { tx.new.conn.ghost_name ≡ tx.old.conn.ghost_name }
+    ensures inserted { HasCleanDisk (state S.Store tx.new.conn.now)
+        → OnOk result (TurnsMeta (λ rows. meta_row version country ∷ rows)
+        (state S.Store tx.old.conn.now) (state S.Store tx.new.conn.now)) }
+    ensures inside { HasCleanDisk (state S.Store tx.new.conn.now) → OnOk result (Shows (state S.Store tx.old.conn.now)
+        (state S.Store tx.new.conn.now) (state S.Store tx.new.conn.now).now (state S.Store tx.old.conn.now).committed true) }
+    ensures kept { HasCleanDisk (state S.Store tx.new.conn.now)
+        → KeepsCommit (state S.Store tx.old.conn.now) (state S.Store tx.new.conn.now) }
+    ensures survives { Survives (state S.Store tx.old.conn.now) (state S.Store tx.new.conn.now) (λ _. ⊥) }
+{
+    typed_sql::insert(tx, INSERT, &columns(version, &country))
+}

@@ -1,0 +1,10 @@
+//! The movements of a store: what is read of their table, and what is written into it. Each function runs one statement
+//! inside a transaction that the caller commits.
+mod finding;
+mod stored;
+mod texts;
+mod writing;
+
+pub use finding::{counting_serials, find_by_lrn, find_by_mrn, movements_of};
+pub use stored::{MovementSerial, StoredMovement};
+pub use writing::{insert_movement, set_status};

@@ -1,0 +1,123 @@
+//! What is looked up in the table of movements. It changes nothing. `DatabaseCorrupt`: a row is no movement's, or there are
+//! several where there can be one; `OutOfMemory`: want of memory; any other error is the database's own.
+ghost use Rattle.std.specs.Prelude.{◌≡◌, [], ◌∷◌, IsTrue, IfOk, OnOk};
+ghost use Rattle.sqlite.specs.Held.{state};
+ghost use Rattle.sqlite.specs.State.{HasCleanDisk, KeepsCommit, Survives};
+ghost use Rattle.sqlite.specs.Values.{bound};
+ghost use Rattle.sqlite_value.specs.declared.value.Value.TheVariants.{Text};
+ghost use Rattle.typed_sql.specs.Values.{number_value};
+ghost use Rattle.td_schema.specs.Tables.{desk_schema};
+ghost use Rattle.typed_sql.specs.Reading.{LeavesAll};
+ghost use Rattle.td_store_rows.specs.MovementTable.{AreBySerial, AreMovements, AreSerialsInOrder, AreSerialsOf, IsTheMovement, has_lrn, has_mrn, is_of, counts_for};
+
+use crate::movements::stored::{MovementSerial, StoredMovement};
+use crate::movements::texts::{BY_LRN, BY_MRN, COUNTING_SERIALS, OF_HOLDER};
+use sqlite::{Error, Transaction};
+use sqlite_trees::store::Alter;
+use sqlite_value::value::ValueRef;
+use std::alloc::Global;
+use td_base::{HolderNo, Lrn, Mrn};
+use td_schema::{holder_key, number_of};
+
+fn lrn_values(holder: HolderNo, lrn: &Lrn) -> [ValueRef<'_>; 2]
+    ensures { bound result ≡ number_value holder ∷ Text lrn.now ∷ [] }
+{
+    [number_of(holder.number()), ValueRef::Text(lrn.as_bytes())]
+}
+
+fn mrn_values(holder: HolderNo, serial: u32, mrn: &Mrn) -> [ValueRef<'_>; 3]
+    ensures { bound result ≡ number_value holder ∷ number_value serial ∷ Text mrn.now ∷ [] }
+{
+    [
+        number_of(holder.number()),
+        number_of(serial),
+        ValueRef::Text(mrn.as_bytes()),
+    ]
+}
+
+/// The holder's movement with a serial and exactly an MRN, if there is one.
+pub fn find_by_mrn<S: Alter>(
+    alloc: Global,
+    tx: &mut Transaction<'_, S>,
+    holder: HolderNo,
+    serial: u32,
+    mrn: &Mrn,
+) -> Result<Option<StoredMovement>, Error>
+    requires { HasCleanDisk (state S.Store tx.old.conn.now) → IsTrue (state S.Store tx.old.conn.now).in_transaction }
+    ensures same_reference { tx.new.conn.ghost_name ≡ tx.old.conn.ghost_name }
+    ensures found { HasCleanDisk (state S.Store tx.new.conn.now)
+        → IfOk result (IsTheMovement (has_mrn holder serial mrn.now) (state S.Store tx.old.conn.now)) }
+    ensures still { HasCleanDisk (state S.Store tx.new.conn.now)
+        → OnOk result (LeavesAll desk_schema (state S.Store tx.old.conn.now) (state S.Store tx.new.conn.now)) }
+    ensures inside { HasCleanDisk (state S.Store tx.new.conn.now) → OnOk result (IsTrue (state S.Store tx.new.conn.now).in_transaction) }
+    ensures kept { HasCleanDisk (state S.Store tx.new.conn.now)
+        → KeepsCommit (state S.Store tx.old.conn.now) (state S.Store tx.new.conn.now) }
+    ensures survives { Survives (state S.Store tx.old.conn.now) (state S.Store tx.new.conn.now) (λ _. ⊥) }
+{
+    typed_sql::fetch_one(alloc, tx, BY_MRN, &mrn_values(holder, serial, mrn))
+}
+
+/// The holder's movement with exactly an LRN, if there is one.
+pub fn find_by_lrn<S: Alter>(
+    alloc: Global,
+    tx: &mut Transaction<'_, S>,
+    holder: HolderNo,
+    lrn: &Lrn,
+) -> Result<Option<StoredMovement>, Error>
+    requires { HasCleanDisk (state S.Store tx.old.conn.now) → IsTrue (state S.Store tx.old.conn.now).in_transaction }
+    ensures same_reference { tx.new.conn.ghost_name ≡ tx.old.conn.ghost_name }
+    ensures found { HasCleanDisk (state S.Store tx.new.conn.now)
+        → IfOk result (IsTheMovement (has_lrn holder lrn.now) (state S.Store tx.old.conn.now)) }
+    ensures still { HasCleanDisk (state S.Store tx.new.conn.now)
+        → OnOk result (LeavesAll desk_schema (state S.Store tx.old.conn.now) (state S.Store tx.new.conn.now)) }
+    ensures inside { HasCleanDisk (state S.Store tx.new.conn.now) → OnOk result (IsTrue (state S.Store tx.new.conn.now).in_transaction) }
+    ensures kept { HasCleanDisk (state S.Store tx.new.conn.now)
+        → KeepsCommit (state S.Store tx.old.conn.now) (state S.Store tx.new.conn.now) }
+    ensures survives { Survives (state S.Store tx.old.conn.now) (state S.Store tx.new.conn.now) (λ _. ⊥) }
+{
+    typed_sql::fetch_one(alloc, tx, BY_LRN, &lrn_values(holder, lrn))
+}
+
+/// All movements of a holder, by their serials.
+pub fn movements_of<S: Alter>(
+    alloc: Global,
+    tx: &mut Transaction<'_, S>,
+    holder: HolderNo,
+) -> Result<Vec<StoredMovement>, Error>
+    requires { HasCleanDisk (state S.Store tx.old.conn.now) → IsTrue (state S.Store tx.old.conn.now).in_transaction }
+    ensures same_reference { tx.new.conn.ghost_name ≡ tx.old.conn.ghost_name }
+    ensures found { HasCleanDisk (state S.Store tx.new.conn.now)
+        → IfOk result (λ found. AreMovements (is_of holder) (state S.Store tx.old.conn.now) found.items) }
+    ensures order { HasCleanDisk (state S.Store tx.new.conn.now)
+        → IfOk result (λ found. AreBySerial (is_of holder) (state S.Store tx.old.conn.now) found.items) }
+    ensures still { HasCleanDisk (state S.Store tx.new.conn.now)
+        → OnOk result (LeavesAll desk_schema (state S.Store tx.old.conn.now) (state S.Store tx.new.conn.now)) }
+    ensures inside { HasCleanDisk (state S.Store tx.new.conn.now) → OnOk result (IsTrue (state S.Store tx.new.conn.now).in_transaction) }
+    ensures kept { HasCleanDisk (state S.Store tx.new.conn.now)
+        → KeepsCommit (state S.Store tx.old.conn.now) (state S.Store tx.new.conn.now) }
+    ensures survives { Survives (state S.Store tx.old.conn.now) (state S.Store tx.new.conn.now) (λ _. ⊥) }
+{
+    typed_sql::fetch(alloc, tx, OF_HOLDER, &holder_key(holder))
+}
+
+/// The serials of a holder's movements that count against their guarantees, in ascending order.
+pub fn counting_serials<S: Alter>(
+    alloc: Global,
+    tx: &mut Transaction<'_, S>,
+    holder: HolderNo,
+) -> Result<Vec<MovementSerial>, Error>
+    requires { HasCleanDisk (state S.Store tx.old.conn.now) → IsTrue (state S.Store tx.old.conn.now).in_transaction }
+    ensures same_reference { tx.new.conn.ghost_name ≡ tx.old.conn.ghost_name }
+    ensures found { HasCleanDisk (state S.Store tx.new.conn.now)
+        → IfOk result (λ found. AreSerialsOf (counts_for holder) (state S.Store tx.old.conn.now) found.items) }
+    ensures order { HasCleanDisk (state S.Store tx.new.conn.now)
+        → IfOk result (λ found. AreSerialsInOrder (state S.Store tx.old.conn.now) found.items) }
+    ensures still { HasCleanDisk (state S.Store tx.new.conn.now)
+        → OnOk result (LeavesAll desk_schema (state S.Store tx.old.conn.now) (state S.Store tx.new.conn.now)) }
+    ensures inside { HasCleanDisk (state S.Store tx.new.conn.now) → OnOk result (IsTrue (state S.Store tx.new.conn.now).in_transaction) }
+    ensures kept { HasCleanDisk (state S.Store tx.new.conn.now)
+        → KeepsCommit (state S.Store tx.old.conn.now) (state S.Store tx.new.conn.now) }
+    ensures survives { Survives (state S.Store tx.old.conn.now) (state S.Store tx.new.conn.now) (λ _. ⊥) }
+{
+    typed_sql::fetch(alloc, tx, COUNTING_SERIALS, &holder_key(holder))
+}

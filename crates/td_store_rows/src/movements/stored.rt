@@ -1,0 +1,89 @@
+//! Movements as their rows have them, read from the columns that a statement shows.
+use keyed_rows::Keyed;
+use sqlite::Row;
+use std::alloc::Global;
+use td_base::HolderNo;
+use td_movement::{Movement, MovementLines};
+use td_schema::{
+    day_at, holder_at, lrn_at, mrn_at, office_at, optional_day_at, optional_office_at, serial_at,
+    state_at,
+};
+use typed_sql::FromRow;
+
+/// The row of a movement: its holder, its serial among the holder's, and the movement, without lines.
+#[derive(Debug, Drop)]
+pub struct StoredMovement {
+    pub holder: HolderNo,
+    pub serial: u32,
+    pub movement: Movement,
+}
+
+impl FromRow for StoredMovement {
+    ghost use Rattle.td_table_model.specs.Tables.{Keyed};
+    ghost use Rattle.td_movement.specs.declared.movement.Movement.{Movement};
+    ghost use Rattle.td_store_rows.specs.Columns.{movement_from};
+    ghost use Rattle.td_store_rows.specs.MovementTable.{movement_row_of};
+
+    ghost Typed = { Keyed Movement };
+
+    ghost typed = { movement_row_of };
+
+    ghost from = { movement_from };
+
+    // A row of eleven columns.
+    fn from_row(alloc: Global, row: &Row) -> Option<Self> {
+        let movement = Movement {
+            mrn: mrn_at(row, 2)?,
+            lrn: lrn_at(row, 3)?,
+            departure: office_at(row, 4)?,
+            destination: office_at(row, 5)?,
+            accepted: day_at(row, 6)?,
+            state: state_at(row, 7)?,
+            limit: optional_day_at(row, 8)?,
+            arrival: optional_day_at(row, 9)?,
+            actual: optional_office_at(row, 10)?,
+            lines: MovementLines::new(Vec::new(alloc)),
+        };
+        Some(StoredMovement {
+            holder: holder_at(row, 0)?,
+            serial: serial_at(row, 1)?,
+            movement,
+        })
+    }
+}
+
+/// The serial of a movement among its holder's, read alone.
+#[derive(Clone, Copy, Debug, PartialEq, Eq)]
+pub struct MovementSerial {
+    pub serial: u32,
+}
+
+impl FromRow for MovementSerial {
+    ghost use Rattle.std.specs.Prelude.{ℕ};
+    ghost use Rattle.sqlite_value.specs.Order.{column};
+    ghost use Rattle.typed_sql.specs.Values.{number_in};
+    ghost use Rattle.td_store_rows.specs.MovementTable.{serial_of_stored};
+
+    ghost Typed = { ℕ };
+
+    ghost typed = { serial_of_stored };
+
+    ghost from = { λ cells. number_in (column cells 0) };
+
+    // A row of one column.
+    fn from_row(alloc: Global, row: &Row) -> Option<Self> {
+        Some(MovementSerial {
+            serial: serial_at(row, 0)?,
+        })
+    }
+}
+
+impl Keyed for MovementSerial {
+    ghost use Rattle.td_store_rows.specs.MovementTable.{serial_of_stored};
+
+    ghost key_of = { serial_of_stored };
+
+    fn key(&self) -> u32 {
+        self.serial
+    }
+}

@@ -1,0 +1,67 @@
+-- What the statements of a change wrote inside a transaction, and what is there when it is committed.
+use Rattle.std.proofs.Common.{◌≡◌, ◌∙◌, ℕ, List, ap, sym, subst}
+use Rattle.sqlite_trees.specs.Tree.{Trees}
+use Rattle.sqlite.specs.Effect.{Database}
+use Rattle.sqlite.specs.State.{State}
+use Rattle.td_acts.specs.declared.rows.Change.{Change}
+use Rattle.td_desk.specs.Content.{Content, content_after, IsSound}
+use Rattle.td_desk.specs.Weighing.{IsDecision}
+use Rattle.td_desk.proofs.Carrying.{carries}
+use Rattle.td_acts.specs.declared.rows.Verdict.{Verdict}
+use Rattle.td_table_model.specs.Tables.{AreTablesOf}
+use Rattle.td_table_model.specs.Changes.{HaveSameRows, tables_after}
+use Rattle.td_table_model.proofs.Decided.{decisions_are_written}
+use Rattle.td_table_model.proofs.Told.{references_tell}
+use Rattle.td_schema.specs.Tables.{desk_schema}
+use Rattle.typed_sql.specs.Writing.{HasSchema}
+use Rattle.td_store_rows.specs.StoreTables.{AreAllTyped, tables_in}
+use Rattle.td_store_rows.proofs.Holding.{holds_still}
+use Rattle.td_store_write.specs.Written.{WritesChange}
+use Rattle.td_store_write.specs.Carried.{CarriesChange, MayLeave}
+
+-- what is decided on over sound content leaves sound content
+sound_after : (c : Content) (v : Verdict) → IsSound c → IsDecision c v → IsSound (content_after v.change c)
+sound_after c v sound (at, command, proper, weighed) =
+    subst (λ change. IsSound (content_after change c)) (sym weighed.written)
+    (carries c (record { at = at; command = command }) sound proper).sound
+
+-- inside the transaction the content is that after the change
+pub inside : (country : List ℕ) (change : Change) (a b : State) → WritesChange country change a b
+    → CarriesChange country change a b
+inside country change a b writes c d =
+    let t = tables_in a.now.trees in
+    let wrote = writes d.holds.schema d.holds.typed (d.holds.tables.country ∙ d.country)
+    (references_tell t c d.holds.sound d.holds.tables).1 in
+    let same : HaveSameRows (tables_after d.verdict.change t) (tables_in b.now.trees) =
+    subst (λ made. HaveSameRows (tables_after made t) (tables_in b.now.trees)) (sym d.change) wrote.same in
+    record {
+      schema = wrote.schema;
+      typed = wrote.typed;
+      sound = subst (λ made. IsSound (content_after made c)) d.change (sound_after c d.verdict d.holds.sound d.decision);
+      tables = subst (λ made. AreTablesOf (tables_in b.now.trees) (content_after made c)) d.change
+          (decisions_are_written d.verdict t (tables_in b.now.trees) c d.holds.sound d.decision d.holds.tables same).0;
+    }
+
+-- a connection that sees the same database has the same tables
+still_has_schema : (a b : State) → b.now ≡ a.now → a.is_open ≡ b.is_open → HasSchema a desk_schema → HasSchema b desk_schema
+still_has_schema a b same both has is_open = ap (λ (d : Database). d.schema) same ∙ has (both ∙ is_open)
+
+-- what the change carries is carried from a connection that sees the same, and to one
+pub carried_as : (country : List ℕ) (change : Change) (o a b e : State) → a.now ≡ o.now → o.is_open ≡ a.is_open
+    → e.now ≡ b.now → b.is_open ≡ e.is_open → CarriesChange country change a b → CarriesChange country change o e
+carried_as country change o a b e begins opens ends closes carries c d =
+    let holds = carries c (record {
+      holds = holds_still c o a begins (still_has_schema o a begins opens d.holds.schema) d.holds;
+      country = d.country;
+      verdict = d.verdict;
+      change = d.change;
+      decision = d.decision;
+    }) in
+    holds_still (content_after change c) b e ends (still_has_schema b e ends closes holds.schema) holds
+
+-- and a crash that leaves what was written leaves the tables of that content
+pub left : (country : List ℕ) (change : Change) (o b : State) (trees : Trees) → trees ≡ b.now.trees
+    → CarriesChange country change o b → MayLeave country change o trees
+left country change o b trees is carries c d =
+    let holds = carries c d in
+    subst (λ t. AreAllTyped t × AreTablesOf (tables_in t) (content_after change c)) (sym is) (holds.typed, holds.tables)

@@ -1,0 +1,126 @@
+-- What the statements of each change did is what the change says.
+use Rattle.std.proofs.Common.{◌≡◌, ℕ, Bool, true, false, List, [], ◌∷◌, ◌++◌, map, refl, ap, ap₂, sym, subst}
+use Rattle.std.specs.Prelude.{◌==◌, ◌&&◌, if◌then◌else◌, not, filter}
+use Rattle.std.specs.List.{AllByRecursion}
+use Rattle.std.specs.Str.{bytes_eq}
+use Rattle.sqlite_trees.proofs.ListLemmas.{all_weaker}
+use Rattle.sqlite.specs.State.{State}
+use Rattle.td_guarantee.specs.declared.guarantee.Guarantee.{Guarantee}
+use Rattle.td_movement.specs.declared.movement.Movement.{Movement}
+use Rattle.td_acts.specs.declared.rows.Change.TheVariants.{Declared, Moved, TermsSet, CodeAdded, CodeRemoved}
+use Rattle.td_model.specs.declared.holder_row.HolderRow.{HolderRow}
+use Rattle.td_acts.specs.declared.rows.NewStatus.{NewStatus}
+use Rattle.td_acts.specs.declared.rows.NewTerms.{NewTerms}
+use Rattle.td_acts.specs.Changes.{with_status, with_terms}
+use Rattle.td_table_model.specs.Tables.{Keyed, Tables, code_row, guarantee_no, line_rows, movement_row}
+use Rattle.td_table_model.specs.Changes.{HaveSameRows, is_code_of, tables_after, with_row, with_status_of, with_terms_of}
+use Rattle.td_table_model.specs.Looking.{movement_no}
+use Rattle.td_store_rows.specs.StoreTables.{HasTables, TurnsTables, tables_in}
+use Rattle.td_store_write.specs.Written.{WritesChange, status_by_key, terms_by_key}
+
+-- tables are turned into others that are the same
+has_as : (f g : Tables → Tables) (old new : State) → f (tables_in old.now.trees) ≡ g (tables_in old.now.trees)
+    → HasTables f old new → HasTables g old new
+has_as f g old new same has = record {
+  same = subst (λ t. HaveSameRows t (tables_in new.now.trees)) same has.same;
+  typed = has.typed;
+  schema = has.schema;
+}
+
+-- a row that is named by its key and its reference is named by its reference
+named : {X : Type 0} (r : Keyed X) (x : X) (of by key : Bool) → by ≡ key
+    → (if of && key then record r { row = x } else r) ≡ (if of then record r { row = if by then x else r.row } else r)
+named r x false by key same = refl
+named r x true true true same = refl
+named r x true false false same = refl
+named r x true true false same = cc
+named r x true false true same = cc
+
+map_as : {X Y : Type 0} (f g : X → Y) (xs : List X) → AllByRecursion (λ x. f x ≡ g x) xs → map f xs ≡ map g xs
+map_as f g [] each = refl
+map_as f g (x ∷ xs) each = ap₂ ◌∷◌ each.0 (map_as f g xs each.1)
+
+status_put : (H n : ℕ) (status : NewStatus) (rows : List (Keyed Movement))
+    → AllByRecursion (λ (m : Keyed Movement). bytes_eq m.row.mrn status.mrn ≡ (m.serial == n && bytes_eq m.row.mrn status.mrn)) rows
+    → map (status_by_key H n status) rows ≡ map (with_status_of H status) rows
+status_put H n status rows keys =
+    map_as (status_by_key H n status) (with_status_of H status) rows
+    (all_weaker (λ (m : Keyed Movement). bytes_eq m.row.mrn status.mrn ≡ (m.serial == n && bytes_eq m.row.mrn status.mrn))
+    (λ m. status_by_key H n status m ≡ with_status_of H status m)
+    (λ m key. named m (with_status status m.row) (m.holder == H) (bytes_eq m.row.mrn status.mrn) (m.serial == n && bytes_eq m.row.mrn status.mrn) key)
+    rows keys)
+
+terms_put : (H n : ℕ) (terms : NewTerms) (rows : List (Keyed Guarantee))
+    → AllByRecursion (λ (g : Keyed Guarantee). bytes_eq g.row.grn terms.grn ≡ (g.serial == n && bytes_eq g.row.grn terms.grn)) rows
+    → map (terms_by_key H n terms) rows ≡ map (with_terms_of H terms) rows
+terms_put H n terms rows keys =
+    map_as (terms_by_key H n terms) (with_terms_of H terms) rows
+    (all_weaker (λ (g : Keyed Guarantee). bytes_eq g.row.grn terms.grn ≡ (g.serial == n && bytes_eq g.row.grn terms.grn))
+    (λ g. terms_by_key H n terms g ≡ with_terms_of H terms g)
+    (λ g key. named g (with_terms terms g.row) (g.holder == H) (bytes_eq g.row.grn terms.grn) (g.serial == n && bytes_eq g.row.grn terms.grn) key)
+    rows keys)
+
+-- each written as the change says
+pub declared_written : (country : List ℕ) (row : HolderRow) (movement : Movement) (old new : State)
+    → TurnsTables (λ t. record t {
+      holders = map (with_row row) t.holders;
+      movements = movement_row row.holder (row.mrn_count, movement) ∷ t.movements;
+      lines = line_rows country row.holder (row.mrn_count, movement) ++ t.lines;
+    }) old new → WritesChange country (Declared row movement) old new
+declared_written country row movement old new turns has typed same keys =
+    has_as _ (tables_after (Declared row movement)) old new
+    (ap (λ k. let t = tables_in old.now.trees in record t {
+      holders = map (with_row row) t.holders;
+      movements = movement_row row.holder (row.mrn_count, movement) ∷ t.movements;
+      lines = line_rows k row.holder (row.mrn_count, movement) ++ t.lines;
+    }) (sym same)) (turns has typed)
+
+pub moved_written : (country : List ℕ) (row : HolderRow) (status : NewStatus) (old new : State)
+    → TurnsTables (λ t. record t {
+      holders = map (with_row row) t.holders;
+      movements = map (status_by_key row.holder (movement_no country status.mrn) status) t.movements;
+    }) old new → WritesChange country (Moved row status) old new
+moved_written country row status old new turns has typed same keys =
+    has_as _ (tables_after (Moved row status)) old new
+    (ap (λ rows. let t = tables_in old.now.trees in record t { holders = map (with_row row) t.holders; movements = rows })
+    (status_put row.holder (movement_no country status.mrn) status (tables_in old.now.trees).movements
+    (subst (λ k. AllByRecursion (λ (m : Keyed Movement). bytes_eq m.row.mrn status.mrn
+    ≡ (m.serial == movement_no k status.mrn && bytes_eq m.row.mrn status.mrn)) (tables_in old.now.trees).movements)
+    same (keys.mrns status.mrn)))) (turns has typed)
+
+pub terms_written : (country : List ℕ) (row : HolderRow) (terms : NewTerms) (old new : State)
+    → TurnsTables (λ t. record t {
+      holders = map (with_row row) t.holders;
+      guarantees = map (terms_by_key row.holder (guarantee_no country terms.grn) terms) t.guarantees;
+    }) old new → WritesChange country (TermsSet row terms) old new
+terms_written country row terms old new turns has typed same keys =
+    has_as _ (tables_after (TermsSet row terms)) old new
+    (ap (λ rows. let t = tables_in old.now.trees in record t { holders = map (with_row row) t.holders; guarantees = rows })
+    (terms_put row.holder (guarantee_no country terms.grn) terms (tables_in old.now.trees).guarantees
+    (subst (λ k. AllByRecursion (λ (g : Keyed Guarantee). bytes_eq g.row.grn terms.grn
+    ≡ (g.serial == guarantee_no k terms.grn && bytes_eq g.row.grn terms.grn)) (tables_in old.now.trees).guarantees)
+    same (keys.grns terms.grn)))) (turns has typed)
+
+pub added_written : (country : List ℕ) (row : HolderRow) (grn code : List ℕ) (old new : State)
+    → TurnsTables (λ t. record t {
+      holders = map (with_row row) t.holders;
+      codes = code_row row.holder (guarantee_no country grn) code ∷ t.codes;
+    }) old new → WritesChange country (CodeAdded row grn code) old new
+added_written country row grn code old new turns has typed same keys =
+    has_as _ (tables_after (CodeAdded row grn code)) old new
+    (ap (λ k. let t = tables_in old.now.trees in record t {
+      holders = map (with_row row) t.holders;
+      codes = code_row row.holder (guarantee_no k grn) code ∷ t.codes;
+    }) (sym same)) (turns has typed)
+
+pub removed_written : (country : List ℕ) (row : HolderRow) (grn code : List ℕ) (old new : State)
+    → TurnsTables (λ t. record t {
+      holders = map (with_row row) t.holders;
+      codes = filter (λ r. not (is_code_of row.holder (guarantee_no country grn) code r)) t.codes;
+    }) old new → WritesChange country (CodeRemoved row grn code) old new
+removed_written country row grn code old new turns has typed same keys =
+    has_as _ (tables_after (CodeRemoved row grn code)) old new
+    (ap (λ k. let t = tables_in old.now.trees in record t {
+      holders = map (with_row row) t.holders;
+      codes = filter (λ r. not (is_code_of row.holder (guarantee_no k grn) code r)) t.codes;
+    }) (sym same)) (turns has typed)

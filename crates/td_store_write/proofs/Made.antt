@@ -1,0 +1,99 @@
+-- The tables that are made, and the office's row in them.
+use Rattle.std.proofs.Common.{◌≡◌, ◌∙◌, ℕ, List, [], ◌∷◌, map, IsPermutation, ap, sym, subst, arith}
+use Rattle.std.specs.List.{AllByRecursion}
+use Rattle.std.proofs.lemmas.List.Sorted.{IsPermutation-refl}
+use Rattle.sqlite_trees.specs.Tree.{Trees}
+use Rattle.sqlite.specs.State.{State}
+use Rattle.sqlite.proofs.Callers.{one_permutation}
+use Rattle.td_desk.specs.Content.{empty_content}
+use Rattle.td_base.specs.Codes.{IsCountry}
+use Rattle.td_schema.specs.Tables.{IsEmptyOf}
+use Rattle.td_schema.specs.Tables.{desk_schema}
+use Rattle.typed_sql.specs.Writing.{HaveIds, HasSchema}
+use Rattle.typed_sql.specs.Typed.{AreTyped, HasNow, IsTypedRow, Typing, row_of, typed_rows}
+use Rattle.td_store_rows.specs.Columns.{meta_row, meta_typing, newest_version, holder_typing, guarantee_typing, code_typing, movement_typing, line_typing}
+use Rattle.td_store_rows.specs.MetaTable.{TurnsMeta}
+use Rattle.td_store_rows.specs.StoreTables.{HoldsContent, country_in}
+use Rattle.td_store_write.specs.Created.{AreOfEmptyDesk}
+
+-- a table without rows is typed, and has no typed row
+none_typed : {R : Type 0} (ty : Typing R) (trees : Trees) → trees ty.table.tree ≡ [] → AreTyped ty trees
+none_typed ty trees none = record {
+  ids = subst HaveIds (sym none) (record { ints = tt; apart = λ id. omega arith });
+  cells = subst (AllByRecursion (IsTypedRow ty)) (sym none) tt;
+}
+
+none_there : {R : Type 0} (ty : Typing R) (trees : Trees) → trees ty.table.tree ≡ [] → IsPermutation [] (typed_rows ty trees)
+none_there ty trees none = subst (IsPermutation []) (ap (map (row_of ty)) (sym none)) (IsPermutation-refl [])
+
+-- the trees of the empty desk: the office's row, and no other
+pub of_empty_desk : (country : List ℕ) (old new : State) → IsEmptyOf desk_schema old.now
+    → TurnsMeta (λ rows. meta_row newest_version country ∷ rows) old new → AreOfEmptyDesk country new.now.trees
+of_empty_desk country old new was turns = record {
+  meta = meta;
+  typed = record {
+    meta = now.typed;
+    holders = none_typed holder_typing b holders;
+    guarantees = none_typed guarantee_typing b guarantees;
+    codes = none_typed code_typing b codes;
+    movements = none_typed movement_typing b movements;
+    lines = none_typed line_typing b lines;
+  };
+  tables = record {
+    country = ap country_in meta;
+    holders = none_there holder_typing b holders;
+    guarantees = none_there guarantee_typing b guarantees;
+    codes = none_there code_typing b codes;
+    movements = none_there movement_typing b movements;
+    lines = none_there line_typing b lines;
+  };
+}
+  where
+    a : Trees
+    a = old.now.trees
+
+    b : Trees
+    b = new.now.trees
+
+    now : HasNow meta_typing desk_schema (meta_row newest_version country ∷ typed_rows meta_typing a) old.now new.now
+    now = turns (λ is_open. was.schema) (none_typed meta_typing a was.empty.0)
+
+    meta : typed_rows meta_typing b ≡ meta_row newest_version country ∷ []
+    meta = one_permutation (meta_row newest_version country) (typed_rows meta_typing b)
+        (subst (λ rows. IsPermutation (meta_row newest_version country ∷ map (row_of meta_typing) rows) (typed_rows meta_typing b)) was.empty.0 now.same)
+
+    holders : b 1 ≡ []
+    holders = now.others.1.0 (λ e. cc) ∙ was.empty.1.0
+
+    codes : b 2 ≡ []
+    codes = now.others.1.1.0 (λ e. cc) ∙ was.empty.1.1.0
+
+    movements : b 4 ≡ []
+    movements = now.others.1.1.1.0 (λ e. cc) ∙ was.empty.1.1.1.0
+
+    guarantees : b 8 ≡ []
+    guarantees = now.others.1.1.1.1.0 (λ e. cc) ∙ was.empty.1.1.1.1.0
+
+    lines : b 11 ≡ []
+    lines = now.others.1.1.1.1.1.0 (λ e. cc) ∙ was.empty.1.1.1.1.1.0
+
+-- under the tables' schema
+pub schema_there : (country : List ℕ) (old new : State) → IsEmptyOf desk_schema old.now
+    → TurnsMeta (λ rows. meta_row newest_version country ∷ rows) old new → new.now.schema ≡ desk_schema
+schema_there country old new was turns =
+    (turns (λ is_open. was.schema) (none_typed meta_typing old.now.trees was.empty.0)).schema
+
+-- trees that are the same
+pub left_empty : (country : List ℕ) (trees there : Trees) → trees ≡ there → AreOfEmptyDesk country there
+    → AreOfEmptyDesk country trees
+left_empty country trees there is made = subst (AreOfEmptyDesk country) (sym is) made
+
+-- and a connection to them holds the content of the empty desk
+pub holds_empty : (country : List ℕ) (s : State) → IsCountry country → HasSchema s desk_schema
+    → AreOfEmptyDesk country s.now.trees → HoldsContent (empty_content country) s
+holds_empty country s is schema trees = record {
+  schema = schema;
+  typed = trees.typed;
+  sound = record { country = is; order = tt; holders = tt };
+  tables = trees.tables;
+}

@@ -1,0 +1,30 @@
+use Rattle.std.proofs.Common.{arith}
+use Rattle.sqlite.specs.Held.{state}
+use Rattle.sqlite.specs.State.{State, HasCleanDisk}
+use Rattle.typed_sql.proofs.Leaving.{on_ok}
+use Rattle.td_store_write.proofs.Changed.{declared}
+use Rattle.td_store_write.proofs.changes.write_declared.Goals as goal
+
+pub returns-clause-written : goal.returns-clause-written
+returns-clause-written g c clean =
+    on_ok c.insert_lines.result (declared c.args.country c.args.row.now c.args.movement.now a b d e
+    (c.in_ok-set_holder.ensures.set clean_b) (c.in_ok-insert_movement.ensures.inserted clean_d))
+    (rw c.as_slice.ensures at (c.insert_lines.ensures.inserted clean))
+  where
+    a : State
+    a = state g.S.Store c.args.tx.now.conn.now
+
+    b : State
+    b = state g.S.Store c.set_holder.new.tx.conn.now
+
+    d : State
+    d = state g.S.Store c.insert_movement.new.tx.conn.now
+
+    e : State
+    e = state g.S.Store c.insert_lines.new.tx.conn.now
+
+    clean_d : HasCleanDisk d
+    clean_d = omega (arith, clean, c.insert_lines.ensures.survives.clean)
+
+    clean_b : HasCleanDisk b
+    clean_b = omega (arith, clean_d, c.insert_movement.ensures.survives.clean)

@@ -1,0 +1,9 @@
+pub mod Tables
+pub mod Gathering
+pub mod Apart
+pub mod Looking
+pub mod Changes
+pub mod Stored
+pub mod Rules
+pub mod Worked
+pub mod Laws

@@ -1,5 +1,0 @@
-use Rattle.td_tables.proofs.Changing.{changes_are_written}
-use Rattle.td_tables.proofs.laws.changes_are_written.Goals as goal
-
-pub returns : goal.returns
-returns c = changes_are_written

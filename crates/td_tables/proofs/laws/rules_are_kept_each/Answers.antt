@@ -1,5 +1,0 @@
-use Rattle.td_tables.proofs.Failing.{kept_each}
-use Rattle.td_tables.proofs.laws.rules_are_kept_each.Goals as goal
-
-pub returns : goal.returns
-returns c = kept_each

@@ -1,5 +1,0 @@
-use Rattle.std.proofs.Common.{refl}
-use Rattle.td_tables.proofs.tests.worked_by_hand.Goals as goal
-
-pub returns : goal.returns
-returns c = (refl, (refl, refl), refl)

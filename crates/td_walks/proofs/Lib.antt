@@ -1,2 +1,0 @@
-pub mod Left
-mod Answered

@@ -1,5 +1,0 @@
-use Rattle.std.proofs.Common.{inl}
-use Rattle.td_wire.proofs.stream.end_stream.Goals as goal
-
-pub returns-then-send : goal.returns-then-send
-returns-then-send g c = inl (_, c.send.ensures.sent c.if-send.true, c.part_with.ensures)

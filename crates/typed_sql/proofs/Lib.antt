@@ -1,0 +1,14 @@
+pub mod Lists
+pub mod Ids
+pub mod Queries
+pub mod Steps
+pub mod Effects
+mod Answering
+pub mod Leaving
+pub mod OnlyRead
+pub mod TypedRows
+pub mod Ordered
+pub mod Fetched
+pub mod Columns
+pub mod Left
+mod Answered

@@ -1,0 +1,89 @@
+-- What calls one after another have only read, where the tables are those of a schema.
+use Rattle.std.proofs.Common.{◌∙◌, ap, inl, refl, arith}
+use Rattle.std.specs.Prelude.{IsTrue}
+use Rattle.sqlite_schema.specs.declared.schema.Schema.{Schema}
+use Rattle.sqlite.specs.Effect.{Database}
+use Rattle.sqlite.specs.State.{State, HasCleanDisk, KeepsCommit, Survives}
+use Rattle.sqlite.proofs.Callers.{unchanged_then}
+use Rattle.sqlite.proofs.StateLemmas.{survives_then, unchanged}
+use Rattle.typed_sql.specs.Reading.{HasOnlyRead, LeavesAll, OnlyRead}
+use Rattle.typed_sql.specs.Writing.{HasSchema}
+
+-- the tables are still those of the schema
+pub still_has : {s : Schema} (a b : State) → HasSchema a s → HasOnlyRead a b → HasSchema b s
+still_has a b has read is = ap (λ (d : Database). d.schema) read.now_is ∙ has (read.was_open is)
+
+-- no call
+pub none_read : {s : Schema} (a : State) → OnlyRead s a a
+none_read a has = record { was_open = λ is. is; now_is = refl; unchanged = unchanged a }
+
+-- a call that leaves all as it was
+pub one_read : {s : Schema} (a b : State) → LeavesAll s a b → OnlyRead s a b
+one_read a b left has =
+    let one = left has in
+    record { was_open = λ is. one.0.was_open; now_is = one.0.now_is; unchanged = λ is. one }
+
+-- calls after others
+pub read_more : {s : Schema} (a b d : State) → OnlyRead s a b → OnlyRead s b d → OnlyRead s a d
+read_more a b d first second has =
+    let one = first has in
+    let two = second (still_has a b has one) in
+    record {
+      was_open = λ is. one.was_open (two.was_open is);
+      now_is = two.now_is ∙ one.now_is;
+      unchanged = λ is.
+          let before = one.unchanged is in
+          unchanged_then a b d before (two.unchanged before.0.is_open);
+    }
+
+-- calls after one that leaves all as it was, and so has shown the connection open
+pub then_read : {s : Schema} (a b d : State) → LeavesAll s a b → OnlyRead s b d → LeavesAll s a d
+then_read a b d first second has =
+    let one = first has in
+    unchanged_then a b d one ((second (still_has a b has (one_read a b first has))).unchanged one.0.is_open)
+
+-- Calls inside a transaction, each well, that only read: where the tables are those of the schema all is as it was, the transaction
+-- goes on, nothing is committed, and a crash leaves what it could leave before.
+pub record HaveRead (s : Schema) (old new : State) : Type 0 where
+  pub inside : HasCleanDisk new → IsTrue new.in_transaction
+  pub still : HasCleanDisk new → OnlyRead s old new
+  pub kept : HasCleanDisk new → KeepsCommit old new
+  pub survives : Survives old new (λ _. ⊥)
+
+-- none yet
+pub nothing_read : {s : Schema} (a : State) → (HasCleanDisk a → IsTrue a.in_transaction) → HaveRead s a a
+nothing_read a inside = record {
+  inside = inside;
+  still = λ clean. none_read a;
+  kept = λ clean. record { was_open = λ is. is; committed = λ is. refl };
+  survives = record {
+    clean = omega arith;
+    shield = λ h. h;
+    counts = omega arith;
+    limit = refl;
+    closes = λ clean is. inl is;
+    crash = λ clean db may. inl may;
+  };
+}
+
+-- one more, which itself is made of such calls
+pub reads_then : {s : Schema} (a b d : State) → HaveRead s a b → (HasCleanDisk d → OnlyRead s b d) → (HasCleanDisk d → IsTrue d.in_transaction)
+    → (HasCleanDisk d → KeepsCommit b d) → Survives b d (λ _. ⊥) → HaveRead s a d
+reads_then a b d first still inside kept survives = record {
+  inside = inside;
+  still = λ clean. read_more a b d (first.still (omega (arith, clean, survives.clean))) (still clean);
+  kept = λ clean.
+      let one = first.kept (omega (arith, clean, survives.clean)) in
+      let two = kept clean in
+      record {
+        was_open = λ is. one.was_open (two.was_open is);
+        committed = λ is. two.committed is ∙ one.committed (two.was_open is);
+      };
+  survives = survives_then a b d _ _ _ (λ _ db none. none) (λ _ db none. none) first.survives survives;
+}
+
+-- one more, which leaves all as it was
+pub read_then : {s : Schema} (a b d : State) → HaveRead s a b → (HasCleanDisk d → LeavesAll s b d) → (HasCleanDisk d → IsTrue d.in_transaction)
+    → (HasCleanDisk d → KeepsCommit b d) → Survives b d (λ _. ⊥) → HaveRead s a d
+read_then a b d first still inside kept survives =
+    reads_then a b d first (λ clean. one_read b d (still clean)) inside kept survives

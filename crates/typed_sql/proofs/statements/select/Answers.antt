@@ -1,0 +1,81 @@
+use Rattle.std.proofs.Common.{arith, ◌⊎◌, inl, inr, Err, IfErr, IsTrue, List, Ok, Result, Vec}
+use Rattle.sqlite.specs.State.{HasCleanDisk, FailsToQuery, IsTooLate, KeepsCommit, Shown, State}
+use Rattle.std.specs.Prelude.{Result, Vec, List, IfOk, OnOk}
+use Rattle.std.specs.declared.alloc.Global.{Global}
+use Rattle.sqlite.specs.declared.error.Error.{Error}
+use Rattle.sqlite_value.specs.declared.value.Value.{Value}
+use Rattle.sqlite.specs.Held.{state}
+use Rattle.sqlite.specs.Values.{bound}
+use Rattle.typed_sql.proofs.Answering.{failed_keeps, late_keeps, shown_inside, shown_keeps, reads_only, selected_as}
+use Rattle.typed_sql.specs.Reading.{OnlyReads, Selects}
+use Rattle.typed_sql.proofs.statements.select.Goals as goal
+
+pub returns-clause-selected : goal.returns-clause-selected
+returns-clause-selected g c clean = by_result c.query_all.result (c.query_all.ensures.ok clean)
+  where
+    old : State
+    old = state g.S.Store c.args.tx.now.conn.now
+
+    new : State
+    new = state g.S.Store c.query_all.new.self.conn.now
+
+    by_result : (r : Result (Vec (List Value) Global) Error)
+        → IfOk r (λ rows. Shown c.args.text.now (bound c.args.values.now) old new rows.items)
+        → IfOk r (λ rows. Selects c.args.text.now (bound c.args.values.now) old rows.items)
+    by_result (Ok rows) shown = selected_as c.args.text.now (bound c.args.values.now) old new rows.items shown
+    by_result (Err e) shown = shown
+
+pub returns-clause-still : goal.returns-clause-still
+returns-clause-still g c clean = by_result c.query_all.result (c.query_all.ensures.ok clean)
+  where
+    old : State
+    old = state g.S.Store c.args.tx.now.conn.now
+
+    new : State
+    new = state g.S.Store c.query_all.new.self.conn.now
+
+    by_result : (r : Result (Vec (List Value) Global) Error)
+        → IfOk r (λ rows. Shown c.args.text.now (bound c.args.values.now) old new rows.items)
+        → OnOk r (OnlyReads c.args.text.now old new)
+    by_result (Ok rows) shown = reads_only c.args.text.now (bound c.args.values.now) old new rows.items shown
+    by_result (Err e) shown = shown
+
+pub returns-clause-kept : goal.returns-clause-kept
+returns-clause-kept g c clean =
+    let early : HasCleanDisk old = omega (arith, clean, c.query_all.ensures.survives.clean) in
+    by_result c.query_all.result (c.requires early) (c.query_all.ensures.ok clean) (c.query_all.ensures.err clean)
+  where
+    old : State
+    old = state g.S.Store c.args.tx.now.conn.now
+
+    new : State
+    new = state g.S.Store c.query_all.new.self.conn.now
+
+    by_result : (r : Result (Vec (List Value) Global) Error) → IsTrue old.in_transaction
+        → IfOk r (λ rows. Shown c.args.text.now (bound c.args.values.now) old new rows.items)
+        → IfErr r (λ e. FailsToQuery c.args.text.now
+        (bound c.args.values.now) old new e ⊎ IsTooLate c.args.text.now (bound c.args.values.now) old new e)
+        → KeepsCommit old new
+    by_result (Ok rows) inside shown failed =
+        shown_keeps c.args.text.now (bound c.args.values.now) old new rows.items inside shown
+    by_result (Err e) inside shown (inl failed) =
+        failed_keeps c.args.text.now (bound c.args.values.now) old new e failed
+    by_result (Err e) inside shown (inr late) = late_keeps c.args.text.now (bound c.args.values.now) old new e late
+
+pub returns-clause-inside : goal.returns-clause-inside
+returns-clause-inside g c clean =
+    let early : HasCleanDisk old = omega (arith, clean, c.query_all.ensures.survives.clean) in
+    by_result c.query_all.result (c.requires early) (c.query_all.ensures.ok clean)
+  where
+    old : State
+    old = state g.S.Store c.args.tx.now.conn.now
+
+    new : State
+    new = state g.S.Store c.query_all.new.self.conn.now
+
+    by_result : (r : Result (Vec (List Value) Global) Error) → IsTrue old.in_transaction
+        → IfOk r (λ rows. Shown c.args.text.now (bound c.args.values.now) old new rows.items)
+        → OnOk r (IsTrue new.in_transaction)
+    by_result (Ok rows) inside shown =
+        shown_inside c.args.text.now (bound c.args.values.now) old new rows.items inside shown
+    by_result (Err e) inside shown = shown

@@ -1,0 +1,6 @@
+pub mod Meanings
+pub mod Writing
+pub mod Reading
+pub mod Typed
+pub mod Values
+pub mod Walked

@@ -1,0 +1,59 @@
+//! What is read of the rows that a SELECT shows, inside a transaction. It changes nothing. `DatabaseCorrupt`: a column can't
+//! be that of such a row; `OutOfMemory`: want of memory; any other error is the database's own.
+ghost use Rattle.std.specs.Prelude.{◌≡◌, IsTrue, IfOk, OnOk};
+ghost use Rattle.std.specs.Option.{option_to_list};
+ghost use Rattle.sqlite.specs.Held.{state};
+ghost use Rattle.sqlite.specs.State.{HasCleanDisk, KeepsCommit, Survives};
+ghost use Rattle.sqlite.specs.Values.{bound};
+ghost use Rattle.typed_sql.specs.Reading.{Fetches, OnlyReads};
+
+use crate::rows::{FromRow, only, read_rows};
+use crate::statements::select;
+use sqlite::{Error, Transaction};
+use sqlite_trees::store::Alter;
+use sqlite_value::value::ValueRef;
+use std::alloc::Global;
+
+/// What the rows say, each in its place. The text is a SELECT over one table, whose `?1`, `?2` .. are the values.
+pub fn fetch<S: Alter, T: FromRow>(
+    alloc: Global,
+    tx: &mut Transaction<'_, S>,
+    text: &str,
+    values: &[ValueRef<'_>],
+) -> Result<Vec<T>, Error>
+    requires { HasCleanDisk (state S.Store tx.old.conn.now) → IsTrue (state S.Store tx.old.conn.now).in_transaction }
+    ensures same_reference { tx.new.conn.ghost_name ≡ tx.old.conn.ghost_name }
+    ensures found { HasCleanDisk (state S.Store tx.new.conn.now) → IfOk result (λ found.
+        Fetches T.typed T.from text.now (bound values.now) (state S.Store tx.old.conn.now) found.items) }
+    ensures still { HasCleanDisk (state S.Store tx.new.conn.now)
+        → OnOk result (OnlyReads text.now (state S.Store tx.old.conn.now) (state S.Store tx.new.conn.now)) }
+    ensures inside { HasCleanDisk (state S.Store tx.new.conn.now) → OnOk result (IsTrue (state S.Store tx.new.conn.now).in_transaction) }
+    ensures kept { HasCleanDisk (state S.Store tx.new.conn.now)
+        → KeepsCommit (state S.Store tx.old.conn.now) (state S.Store tx.new.conn.now) }
+    ensures survives { Survives (state S.Store tx.old.conn.now) (state S.Store tx.new.conn.now) (λ _. ⊥) }
+{
+    let rows = select(tx, text, values)?;
+    read_rows(alloc, &rows)
+}
+
+/// What the row says, if one is shown. The text is a SELECT over one table, whose `?1`, `?2` .. are the values.
+/// `DatabaseCorrupt`, too, where it shows several.
+pub fn fetch_one<S: Alter, T: FromRow>(
+    alloc: Global,
+    tx: &mut Transaction<'_, S>,
+    text: &str,
+    values: &[ValueRef<'_>],
+) -> Result<Option<T>, Error>
+    requires { HasCleanDisk (state S.Store tx.old.conn.now) → IsTrue (state S.Store tx.old.conn.now).in_transaction }
+    ensures same_reference { tx.new.conn.ghost_name ≡ tx.old.conn.ghost_name }
+    ensures found { HasCleanDisk (state S.Store tx.new.conn.now) → IfOk result (λ found.
+        Fetches T.typed T.from text.now (bound values.now) (state S.Store tx.old.conn.now) (option_to_list found)) }
+    ensures still { HasCleanDisk (state S.Store tx.new.conn.now)
+        → OnOk result (OnlyReads text.now (state S.Store tx.old.conn.now) (state S.Store tx.new.conn.now)) }
+    ensures inside { HasCleanDisk (state S.Store tx.new.conn.now) → OnOk result (IsTrue (state S.Store tx.new.conn.now).in_transaction) }
+    ensures kept { HasCleanDisk (state S.Store tx.new.conn.now)
+        → KeepsCommit (state S.Store tx.old.conn.now) (state S.Store tx.new.conn.now) }
+    ensures survives { Survives (state S.Store tx.old.conn.now) (state S.Store tx.new.conn.now) (λ _. ⊥) }
+{
+    only(fetch(alloc, tx, text, values)?)
+}

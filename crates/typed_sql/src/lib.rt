@@ -1,0 +1,15 @@
+//! One statement of SQL on a table: what an INSERT of a row, an UPDATE or a DELETE of one row and a SELECT over one
+//! table did and showed, and a walk along the rows of a SELECT, of which none is kept. It knows no desk.
+#![tactic(auto)]
+
+mod cells;
+mod fetching;
+mod rows;
+mod statements;
+mod walking;
+
+pub use cells::{integer_at, is_null_at, number_at, text_at};
+pub use fetching::{fetch, fetch_one};
+pub use rows::{FromRow, only, read_rows};
+pub use statements::{delete, insert, select, update};
+pub use walking::{Walker, walk};

@@ -1,0 +1,116 @@
+//! The four statements, each inside a transaction that the caller commits. An error is the database's own, and commits
+//! nothing.
+ghost use Rattle.std.specs.Prelude.{◌≡◌, true, Ok, IsTrue, IfOk, OnOk};
+ghost use Rattle.sqlite.specs.Held.{state};
+ghost use Rattle.sqlite.specs.State.{Executes, HasCleanDisk, KeepsCommit, Shows, Survives};
+ghost use Rattle.sqlite.specs.Values.{bound};
+ghost use Rattle.typed_sql.specs.Reading.{OnlyReads, Selects};
+ghost use Rattle.typed_sql.specs.Writing.{Deletes, Inserts, Updates};
+
+use sqlite::{Error, ErrorCode, Row, Transaction};
+use sqlite_trees::store::Alter;
+use sqlite_value::value::ValueRef;
+
+/// Inserts a row. The text is an INSERT of one row into a table, whose `?1`, `?2` .. are the values.
+pub fn insert<S: Alter>(
+    tx: &mut Transaction<'_, S>,
+    text: &str,
+    values: &[ValueRef<'_>],
+) -> Result<(), Error>
+    requires { HasCleanDisk (state S.Store tx.old.conn.now) → IsTrue (state S.Store tx.old.conn.now).in_transaction }
+    ensures same_reference { tx.new.conn.ghost_name ≡ tx.old.conn.ghost_name }
+    ensures inserted { HasCleanDisk (state S.Store tx.new.conn.now)
+        → OnOk result (Inserts text.now (bound values.now) (state S.Store tx.old.conn.now) (state S.Store tx.new.conn.now)) }
+    ensures inside { HasCleanDisk (state S.Store tx.new.conn.now) → OnOk result (Shows (state S.Store tx.old.conn.now)
+        (state S.Store tx.new.conn.now) (state S.Store tx.new.conn.now).now (state S.Store tx.old.conn.now).committed true) }
+    ensures kept { HasCleanDisk (state S.Store tx.new.conn.now)
+        → KeepsCommit (state S.Store tx.old.conn.now) (state S.Store tx.new.conn.now) }
+    ensures survives { Survives (state S.Store tx.old.conn.now) (state S.Store tx.new.conn.now) (λ _. ⊥) }
+{
+    tx.execute(text, values)?;
+    Ok(())
+}
+
+// Runs a statement that has to change just one row: a count other than 1 is an error, and the caller's transaction
+// isn't to be committed then.
+fn change_one<S: Alter>(
+    tx: &mut Transaction<'_, S>,
+    text: &str,
+    values: &[ValueRef<'_>],
+) -> Result<(), Error>
+    requires { HasCleanDisk (state S.Store tx.old.conn.now) → IsTrue (state S.Store tx.old.conn.now).in_transaction }
+    ensures same_reference { tx.new.conn.ghost_name ≡ tx.old.conn.ghost_name }
+    ensures ran { HasCleanDisk (state S.Store tx.new.conn.now) → OnOk result (Executes text.now (bound values.now)
+        (state S.Store tx.old.conn.now) (state S.Store tx.new.conn.now) (Ok 1)) }
+    ensures inside { HasCleanDisk (state S.Store tx.new.conn.now) → OnOk result (Shows (state S.Store tx.old.conn.now)
+        (state S.Store tx.new.conn.now) (state S.Store tx.new.conn.now).now (state S.Store tx.old.conn.now).committed true) }
+    ensures kept { HasCleanDisk (state S.Store tx.new.conn.now)
+        → KeepsCommit (state S.Store tx.old.conn.now) (state S.Store tx.new.conn.now) }
+    ensures survives { Survives (state S.Store tx.old.conn.now) (state S.Store tx.new.conn.now) (λ _. ⊥) }
+{
+    let count = tx.execute(text, values)?;
+    if count != 1 {
+        return Err(Error::SqliteFailure(ErrorCode::DatabaseCorrupt));
+    }
+    Ok(())
+}
+
+/// Sets columns of just one row anew. The text is an UPDATE of one table, whose `?1`, `?2` .. are the values. Where it
+/// changes no row, or several, the answer is `DatabaseCorrupt`, and the caller isn't to commit.
+pub fn update<S: Alter>(
+    tx: &mut Transaction<'_, S>,
+    text: &str,
+    values: &[ValueRef<'_>],
+) -> Result<(), Error>
+    requires { HasCleanDisk (state S.Store tx.old.conn.now) → IsTrue (state S.Store tx.old.conn.now).in_transaction }
+    ensures same_reference { tx.new.conn.ghost_name ≡ tx.old.conn.ghost_name }
+    ensures updated { HasCleanDisk (state S.Store tx.new.conn.now)
+        → OnOk result (Updates text.now (bound values.now) (state S.Store tx.old.conn.now) (state S.Store tx.new.conn.now)) }
+    ensures inside { HasCleanDisk (state S.Store tx.new.conn.now) → OnOk result (Shows (state S.Store tx.old.conn.now)
+        (state S.Store tx.new.conn.now) (state S.Store tx.new.conn.now).now (state S.Store tx.old.conn.now).committed true) }
+    ensures kept { HasCleanDisk (state S.Store tx.new.conn.now)
+        → KeepsCommit (state S.Store tx.old.conn.now) (state S.Store tx.new.conn.now) }
+    ensures survives { Survives (state S.Store tx.old.conn.now) (state S.Store tx.new.conn.now) (λ _. ⊥) }
+{
+    change_one(tx, text, values)
+}
+
+/// Deletes just one row. The text is a DELETE from one table, whose `?1`, `?2` .. are the values. Where it deletes no
+/// row, or several, the answer is `DatabaseCorrupt`, and the caller isn't to commit.
+pub fn delete<S: Alter>(
+    tx: &mut Transaction<'_, S>,
+    text: &str,
+    values: &[ValueRef<'_>],
+) -> Result<(), Error>
+    requires { HasCleanDisk (state S.Store tx.old.conn.now) → IsTrue (state S.Store tx.old.conn.now).in_transaction }
+    ensures same_reference { tx.new.conn.ghost_name ≡ tx.old.conn.ghost_name }
+    ensures deleted { HasCleanDisk (state S.Store tx.new.conn.now)
+        → OnOk result (Deletes text.now (bound values.now) (state S.Store tx.old.conn.now) (state S.Store tx.new.conn.now)) }
+    ensures inside { HasCleanDisk (state S.Store tx.new.conn.now) → OnOk result (Shows (state S.Store tx.old.conn.now)
+        (state S.Store tx.new.conn.now) (state S.Store tx.new.conn.now).now (state S.Store tx.old.conn.now).committed true) }
+    ensures kept { HasCleanDisk (state S.Store tx.new.conn.now)
+        → KeepsCommit (state S.Store tx.old.conn.now) (state S.Store tx.new.conn.now) }
+    ensures survives { Survives (state S.Store tx.old.conn.now) (state S.Store tx.new.conn.now) (λ _. ⊥) }
+{
+    change_one(tx, text, values)
+}
+
+/// The rows that a text shows, which is a SELECT over one table, whose `?1`, `?2` .. are the values. It changes nothing.
+pub fn select<S: Alter>(
+    tx: &mut Transaction<'_, S>,
+    text: &str,
+    values: &[ValueRef<'_>],
+) -> Result<Vec<Row>, Error>
+    requires { HasCleanDisk (state S.Store tx.old.conn.now) → IsTrue (state S.Store tx.old.conn.now).in_transaction }
+    ensures same_reference { tx.new.conn.ghost_name ≡ tx.old.conn.ghost_name }
+    ensures selected { HasCleanDisk (state S.Store tx.new.conn.now)
+        → IfOk result (λ rows. Selects text.now (bound values.now) (state S.Store tx.old.conn.now) rows.items) }
+    ensures still { HasCleanDisk (state S.Store tx.new.conn.now)
+        → OnOk result (OnlyReads text.now (state S.Store tx.old.conn.now) (state S.Store tx.new.conn.now)) }
+    ensures inside { HasCleanDisk (state S.Store tx.new.conn.now) → OnOk result (IsTrue (state S.Store tx.new.conn.now).in_transaction) }
+    ensures kept { HasCleanDisk (state S.Store tx.new.conn.now)
+        → KeepsCommit (state S.Store tx.old.conn.now) (state S.Store tx.new.conn.now) }
+    ensures survives { Survives (state S.Store tx.old.conn.now) (state S.Store tx.new.conn.now) (λ _. ⊥) }
+{
+    tx.query_all(text, values)
+}
