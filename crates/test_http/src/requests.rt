@@ -1,4 +1,4 @@
-//! Requests, the commands that they are read as, and what is told of those that can't be read, with ample memory.
+//! Requests, and the commands that they are read as, with ample memory.
 mod acts;
 mod asked;
 mod declarations;

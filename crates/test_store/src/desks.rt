@@ -1,7 +1,7 @@
 //! Desks are made, opened, refused and closed, over a store in memory, and say what a plain desk says.
 mod alike;
-mod changes;
 mod commands;
+mod junk;
 mod long_tables;
 mod opening;
 mod words;
@@ -33,20 +33,6 @@ fn a_desk_is_made_and_closed(rt: HostRuntime) -> Result<(), Fail> {
     let meta = find_meta(&mut tx)?.ok_or("the office's row")?;
     assert!(rt; meta.version == 1);
     assert!(rt; meta.country == Some(country));
-    Ok(())
-}
-
-#[test]
-fn no_desk_is_made_over_a_table(rt: HostRuntime) -> Result<(), Fail> {
-    let country = Country::read(b"CH").ok_or("a country")?;
-    let mut conn = Connection::open_in_memory(rt.alloc())?;
-    conn.execute("CREATE TABLE notes (note TEXT NOT NULL) STRICT", &[])?;
-    conn.execute("INSERT INTO notes VALUES ('mine')", &[])?;
-    assert!(rt; conn.is_autocommit());
-    let refused = SqlDesk::create(conn, country).err().ok_or("a refusal")?;
-    assert!(rt; refused.fault == OpenFault::Store);
-    let mut conn = refused.connection;
-    assert!(rt; conn.query_all("SELECT note FROM notes", &[])?.len() == 1);
     Ok(())
 }
 

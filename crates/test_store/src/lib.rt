@@ -1,5 +1,5 @@
 //! Examples of the calls over a store in memory, each worked by hand: statements, the tables, what is read of them and written into
-//! them. The crate has tests alone: for its tests a crate is proved again, whole, and the database is compiled for each; these need
+//! them; and runs of a desk over one. The crate has tests alone: for its tests a crate is proved again, whole, and the database is compiled for each; these need
 //! none of their crates' private names.
 #![tactic(auto)]
 
@@ -7,6 +7,8 @@
 mod changes;
 #[cfg(test)]
 mod codes;
+#[cfg(test)]
+mod desks;
 #[cfg(test)]
 mod guarantees;
 #[cfg(test)]

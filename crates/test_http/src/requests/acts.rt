@@ -1,31 +1,7 @@
-//! Acts of offices on guarantees and movements, and changes of codes: bodies, and the command or the error that
-//! each of them is read as.
-use super::asked::{all_posted_as, all_refused_at};
+//! Acts of offices on guarantees and movements, and changes of codes: bodies, and the command that each of
+//! them is read as.
+use super::asked::all_posted_as;
 use std::test::Fail;
-
-const BAD_BODY: &str =
-    "HTTP/1.1 400 Bad Request\r\nContent-Type: application/json\r\nContent-Length: 20\r\n\r\n{\"error\":\"bad-body\"}";
-
-const REFERENCE: &str =
-    "HTTP/1.1 400 Bad Request\r\nContent-Type: application/json\r\nContent-Length: 41\r\n\r\n{\"error\":\"bad-field\",\"field\":\"reference\"}";
-
-const COVER: &str =
-    "HTTP/1.1 400 Bad Request\r\nContent-Type: application/json\r\nContent-Length: 37\r\n\r\n{\"error\":\"bad-field\",\"field\":\"cover\"}";
-
-const CODE: &str =
-    "HTTP/1.1 400 Bad Request\r\nContent-Type: application/json\r\nContent-Length: 36\r\n\r\n{\"error\":\"bad-field\",\"field\":\"code\"}";
-
-const LIMIT: &str =
-    "HTTP/1.1 400 Bad Request\r\nContent-Type: application/json\r\nContent-Length: 37\r\n\r\n{\"error\":\"bad-field\",\"field\":\"limit\"}";
-
-const OFFICE: &str =
-    "HTTP/1.1 400 Bad Request\r\nContent-Type: application/json\r\nContent-Length: 38\r\n\r\n{\"error\":\"bad-field\",\"field\":\"office\"}";
-
-const RESULT: &str =
-    "HTTP/1.1 400 Bad Request\r\nContent-Type: application/json\r\nContent-Length: 38\r\n\r\n{\"error\":\"bad-field\",\"field\":\"result\"}";
-
-const GROUND: &str =
-    "HTTP/1.1 400 Bad Request\r\nContent-Type: application/json\r\nContent-Length: 38\r\n\r\n{\"error\":\"bad-field\",\"field\":\"ground\"}";
 
 const AMEND: &[u8] = b"/office/guarantees/25CH0000010000014/amend";
 
@@ -41,28 +17,10 @@ const AMEND_READ: [(&str, &str); 2] = [
     ),
 ];
 
-const AMEND_REFUSED: [(&str, &str); 7] = [
-    ("{\"reference\":0,\"cover\":30}", REFERENCE),
-    ("{\"cover\":40}", REFERENCE),
-    ("{\"reference\":1,\"cover\":40}", COVER),
-    ("{\"reference\":1e6,\"cover\":30}", REFERENCE),
-    ("{\"reference\":-1,\"cover\":30}", REFERENCE),
-    ("[]", BAD_BODY),
-    ("", BAD_BODY),
-];
-
 const ADD: &[u8] = b"/holders/000001/guarantees/25CH0000010000014/codes/add";
 
 // A code that is added.
 const ADD_READ: [(&str, &str); 1] = [("{\"code\":\"ZZ99\"}", "add 000001 25CH0000010000014 ZZ99")];
-
-const ADD_REFUSED: [(&str, &str); 5] = [
-    ("{\"code\":\"ZZ9\"}", CODE),
-    ("{\"code\":\"zz99\"}", CODE),
-    ("{}", CODE),
-    ("{\"code\":1234}", CODE),
-    ("\"ZZ99\"", BAD_BODY),
-];
 
 const REMOVE: &[u8] = b"/holders/000001/guarantees/25CH0000010000014/codes/remove";
 
@@ -71,11 +29,6 @@ const REMOVE_READ: [(&str, &str); 1] = [(
     "{\"code\":\"AB12\"}",
     "remove 000001 25CH0000010000014 AB12",
 )];
-
-const REMOVE_REFUSED: [(&str, &str); 2] = [
-    ("{\"code\":null}", CODE),
-    ("{\"code\":\"AB123\"}", CODE),
-];
 
 const RELEASE: &[u8] = b"/office/movements/25CH00000100000013/ie029";
 
@@ -95,16 +48,6 @@ const RELEASE_READ: [(&str, &str); 3] = [
     ),
 ];
 
-const RELEASE_REFUSED: [(&str, &str); 7] = [
-    ("{\"limit\":\"2025-02-29\"}", LIMIT),
-    ("{\"limit\":\"2025-2-01\"}", LIMIT),
-    ("{\"limit\":\"1999-12-31\"}", LIMIT),
-    ("{\"limit\":\"2101-01-01\"}", LIMIT),
-    ("{\"limit\":20250308}", LIMIT),
-    ("{\"office\":\"DE005600\"}", LIMIT),
-    ("nothing", BAD_BODY),
-];
-
 const ARRIVE: &[u8] = b"/office/movements/25CH00000100000013/ie007";
 
 // An arrival, at an office.
@@ -113,13 +56,6 @@ const ARRIVE_READ: [(&str, &str); 1] = [(
     "arrive 25CH00000100000013 DE005600",
 )];
 
-const ARRIVE_REFUSED: [(&str, &str); 4] = [
-    ("{\"office\":\"de005600\"}", OFFICE),
-    ("{\"office\":\"DE00560\"}", OFFICE),
-    ("{\"office\":[\"DE005600\"]}", OFFICE),
-    ("{}", OFFICE),
-];
-
 const CONTROL: &[u8] = b"/office/movements/25CH00000100000013/ie018";
 
 // The result of a control.
@@ -127,13 +63,6 @@ const CONTROL_READ: [(&str, &str); 3] = [
     ("{\"result\":\"A1\"}", "control 25CH00000100000013 A1"),
     ("{\"result\":\"A2\"}", "control 25CH00000100000013 A2"),
     ("{\"result\":\"B1\"}", "control 25CH00000100000013 B1"),
-];
-
-const CONTROL_REFUSED: [(&str, &str); 4] = [
-    ("{\"result\":\"B2\"}", RESULT),
-    ("{\"result\":\"a1\"}", RESULT),
-    ("{\"result\":\"\"}", RESULT),
-    ("{\"result\":true}", RESULT),
 ];
 
 const WRITE_OFF: &[u8] = b"/office/movements/25CH00000100000013/ie045";
@@ -148,12 +77,6 @@ const WRITE_OFF_READ: [(&str, &str); 2] = [
         "{\"ground\":\"proof\"}",
         "write off 25CH00000100000013 proof",
     ),
-];
-
-const WRITE_OFF_REFUSED: [(&str, &str); 3] = [
-    ("{\"ground\":\"Proof\"}", GROUND),
-    ("{\"ground\":\"result\"}", GROUND),
-    ("{\"grounds\":\"proof\"}", GROUND),
 ];
 
 const REVOKE: &[u8] = b"/office/guarantees/25CH0000010000014/revoke";
@@ -179,20 +102,9 @@ fn acts_on_guarantees_are_read(rt: HostRuntime) -> Result<(), Fail> {
 }
 
 #[test]
-fn acts_on_guarantees_are_refused(rt: HostRuntime) -> Result<(), Fail> {
-    all_refused_at(&rt, AMEND, &AMEND_REFUSED)
-}
-
-#[test]
 fn changes_of_codes_are_read(rt: HostRuntime) -> Result<(), Fail> {
     all_posted_as(&rt, ADD, &ADD_READ)?;
     all_posted_as(&rt, REMOVE, &REMOVE_READ)
-}
-
-#[test]
-fn changes_of_codes_are_refused(rt: HostRuntime) -> Result<(), Fail> {
-    all_refused_at(&rt, ADD, &ADD_REFUSED)?;
-    all_refused_at(&rt, REMOVE, &REMOVE_REFUSED)
 }
 
 #[test]
@@ -202,12 +114,4 @@ fn acts_on_movements_are_read(rt: HostRuntime) -> Result<(), Fail> {
     all_posted_as(&rt, CONTROL, &CONTROL_READ)?;
     all_posted_as(&rt, WRITE_OFF, &WRITE_OFF_READ)?;
     all_posted_as(&rt, ENQUIRE, &ENQUIRE_READ)
-}
-
-#[test]
-fn acts_on_movements_are_refused(rt: HostRuntime) -> Result<(), Fail> {
-    all_refused_at(&rt, RELEASE, &RELEASE_REFUSED)?;
-    all_refused_at(&rt, ARRIVE, &ARRIVE_REFUSED)?;
-    all_refused_at(&rt, CONTROL, &CONTROL_REFUSED)?;
-    all_refused_at(&rt, WRITE_OFF, &WRITE_OFF_REFUSED)
 }

@@ -1,11 +1,11 @@
-//! Requests, the commands that they are read as, and what is told of those that can't be read.
+//! Requests, and the commands that they are read as.
 use http::Method;
 use std::alloc::{AllocError, Global};
 use std::process::Abort;
 use std::test::Fail;
 use td_acts::{Command, Lines};
 use td_base::AccessCode;
-use td_http::{Request, fault_bytes, read_command};
+use td_http::{Request, read_command};
 use td_movement::Line;
 
 pub(super) fn request(
@@ -34,29 +34,10 @@ pub(super) fn is_told(alloc: Global, command: &Command, want: &str) -> Result<bo
     Ok(words.as_str() == want)
 }
 
-/// Whether a request can't be read, and this is the reply.
-pub(super) fn is_refused(alloc: Global, request: &Request, want: &str) -> Result<bool, Fail> {
-    match read_command(alloc, request) {
-        Ok(_) => Ok(false),
-        Err(fault) => Ok(fault_bytes(alloc, &fault, false)?.as_slice() == want.as_bytes()),
-    }
-}
-
 /// Whether a POST with this body is read as this command, in words.
 fn is_posted_as(alloc: Global, target: &[u8], body: &str, want: &str) -> Result<bool, Fail> {
     let request = request(alloc, "POST", target, body.as_bytes())?;
     is_asked(alloc, &request, want)
-}
-
-/// Whether a POST with this body can't be read, and this is the reply.
-pub(super) fn is_refused_at(
-    alloc: Global,
-    target: &[u8],
-    body: &str,
-    want: &str,
-) -> Result<bool, Fail> {
-    let request = request(alloc, "POST", target, body.as_bytes())?;
-    is_refused(alloc, &request, want)
 }
 
 /// POSTs with these bodies are read as these commands, in words.
@@ -67,18 +48,6 @@ pub(super) fn all_posted_as(
 ) -> Result<(), Fail> {
     for (body, want) in rows {
         assert!(rt; is_posted_as(rt.alloc(), target, body, want)?);
-    }
-    Ok(())
-}
-
-/// POSTs with these bodies can't be read, and these are the replies.
-pub(super) fn all_refused_at(
-    rt: &(impl AllocGlobal + Abort),
-    target: &[u8],
-    rows: &[(&str, &str)],
-) -> Result<(), Fail> {
-    for (body, want) in rows {
-        assert!(rt; is_refused_at(rt.alloc(), target, body, want)?);
     }
     Ok(())
 }

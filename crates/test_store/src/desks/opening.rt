@@ -121,18 +121,6 @@ fn no_desk_is_opened_after_a_change_by_hand(rt: HostRuntime) -> Result<(), Fail>
 }
 
 #[test]
-fn no_desk_is_opened_over_foreign_tables(rt: HostRuntime) -> Result<(), Fail> {
-    let alloc = rt.alloc();
-    let other = Connection::open_in_memory(alloc)?;
-    let notes = "CREATE TABLE notes (note TEXT NOT NULL) STRICT";
-    assert!(rt; refused_after(alloc, other, notes)? == OpenFault::UnknownVersion);
-    let other = Connection::open_in_memory(alloc)?;
-    let meta = "CREATE TABLE meta (note TEXT NOT NULL) STRICT";
-    assert!(rt; refused_after(alloc, other, meta)? == OpenFault::Store);
-    Ok(())
-}
-
-#[test]
 fn no_desk_is_opened_over_no_table(rt: HostRuntime) -> Result<(), Fail> {
     let country = Country::read(b"CH").ok_or("a country")?;
     let conn = Connection::open_in_memory(rt.alloc())?;

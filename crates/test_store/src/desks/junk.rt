@@ -1,13 +1,27 @@
 //! Junk beside the rows of several holders: a refused opening leaves every row as it was, and where the junk is taken away, the
 //! desk shows each holder what it showed before.
-use super::super::opening::seen;
-use super::{opened, tables};
+use super::made;
+use super::opening::seen;
 use sqlite::{Connection, MemStore};
 use std::alloc::Global;
 use std::process::Abort;
 use std::test::Fail;
-use td_store::{OpenFault, Refused};
+use td_base::Country;
+use td_store::{OpenFault, Refused, SqlDesk};
 use td_table_model::Rule;
+
+/// The rows of a desk of CH. Holder 1 has two guarantees and three movements: of the first one's 1000000 cents 500000 are in use
+/// by movement 1, which is released, and 400000 by movement 2, which has arrived; of the second one's 500000 cents 200000 by
+/// movement 1. Movement 3 and the one of holder 2 are accepted, and have nothing in use. Holder 3 has nothing. Day 20148 is
+/// 2025-03-01.
+const ROWS: [&str; 6] = [
+    "INSERT INTO holders VALUES (1, 'CH1234567', 1740992400, 2, 3), (2, 'DE7654321', 1740819600, 1, 1), (3, 'FR1', 1740819600, 0, 0)",
+    "INSERT INTO guarantees1 VALUES (1, 1, '25CH0000010000014', 1000000, 50, NULL), (1, 2, '25CH0000010000023', 500000, 100, 20164), (2, 1, '25CH0000020000010', 1000000, 30, NULL)",
+    "INSERT INTO codes VALUES (1, 1, 'AB12'), (1, 1, 'CD34'), (1, 2, 'EF56'), (2, 1, 'AB12')",
+    "INSERT INTO movements VALUES (1, 1, '25CH00000100000013', 'A1', 'CH001251', 'DE005600', 20148, 'released', 20155, NULL, NULL), (1, 2, '25CH00000100000021', 'A2', 'CH001251', 'DE005600', 20148, 'arrived', 20155, 20150, 'FR000100')",
+    "INSERT INTO movements VALUES (1, 3, '25CH00000100000030', 'A3', 'CH001251', 'DE005600', 20148, 'accepted', NULL, NULL, NULL), (2, 1, '25CH00000200000019', 'A1', 'CH001251', 'DE005600', 20148, 'accepted', NULL, NULL, NULL)",
+    "INSERT INTO lines1 VALUES (1, 1, 1, 1, 500000), (1, 1, 2, 2, 200000), (1, 2, 1, 1, 400000), (1, 3, 1, 1, 100001), (2, 1, 1, 1, 600000)",
+];
 
 /// A row that is put in, the rule that it breaks, and the statement that takes it away again.
 type Junk = (&'static str, Rule, &'static str);
@@ -54,6 +68,27 @@ const TABLES: [&str; 6] = [
     "SELECT holder, serial, mrn, lrn, departure, destination, accepted, state, limit_day, arrival, actual FROM movements",
     "SELECT holder, serial, no, guarantee, cents FROM lines1",
 ];
+
+/// A database with these rows.
+fn tables(alloc: Global) -> Result<Connection<MemStore>, Fail> {
+    let mut conn = made(alloc)?.close();
+    for statement in ROWS {
+        conn.execute(statement, &[])?;
+    }
+    Ok(conn)
+}
+
+/// A desk of CH over the database, or its refusal.
+fn opened(
+    alloc: Global,
+    conn: Connection<MemStore>,
+) -> Result<Result<SqlDesk<MemStore>, Refused<MemStore>>, Fail> {
+    let country = Country::read(b"CH").ok_or("a country")?;
+    if !conn.is_autocommit() {
+        return Err("a transaction".into());
+    }
+    Ok(SqlDesk::open(alloc, conn, country))
+}
 
 /// All rows of the six tables, as a text.
 fn rows_of(alloc: Global, conn: &mut Connection<MemStore>) -> Result<String, Fail> {
