@@ -100,18 +100,6 @@ where
     assert_due(&done, due)
 }
 
-/// `transit-desk pipe` at a desk of this country, at this moment.
-pub fn words_at<'a>(country: &'a str, seconds: &'a str) -> [&'a str; 6] {
-    [
-        "transit-desk",
-        "pipe",
-        "--country",
-        country,
-        "--at",
-        seconds,
-    ]
-}
-
 /// The words of the worked rows.
 pub const WORDS: [&str; 6] = [
     "transit-desk",
@@ -121,6 +109,3 @@ pub const WORDS: [&str; 6] = [
     "--at",
     "1740819600",
 ];
-
-/// The same without a moment: the machine's clock is asked.
-pub const WORDS_WITHOUT_MOMENT: [&str; 4] = ["transit-desk", "pipe", "--country", "CH"];

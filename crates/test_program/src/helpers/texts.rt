@@ -1,7 +1,5 @@
 //! Requests and replies made of their parts.
-use super::jobs::{Due, WORDS, assert_job};
 use std::alloc::{AllocError, Global};
-use std::test::Fail;
 
 /// A front, a unit so many times, and a back.
 pub fn many(
@@ -95,12 +93,6 @@ pub fn shown(
     answer(alloc, &body)
 }
 
-/// A guarantee was opened.
-pub fn opened(alloc: Global, grn: &str) -> Result<String, AllocError> {
-    let body = format!(in alloc; "{{\"grn\":\"{grn}\"}}")?;
-    answer(alloc, &body)
-}
-
 /// A declaration was accepted.
 pub fn lodged(alloc: Global, lrn: &str, mrn: &str) -> Result<String, AllocError> {
     let body = format!(in alloc; "{{\"lrn\":\"{lrn}\",\"message\":\"IE028\",\"mrn\":\"{mrn}\"}}")?;
@@ -119,67 +111,4 @@ pub fn released(alloc: Global, mrn: &str) -> Result<String, AllocError> {
 pub fn advised(alloc: Global, mrn: &str) -> Result<String, AllocError> {
     let body = format!(in alloc; "{{\"late\":false,\"message\":\"IE006\",\"mrn\":\"{mrn}\"}}")?;
     answer(alloc, &body)
-}
-
-/// The requests of a stream, and the replies that are due to them.
-#[derive(Drop)]
-pub struct Script {
-    input: String,
-    replies: String,
-}
-
-impl Script {
-    pub fn new(alloc: Global) -> Script {
-        Script {
-            input: String::new(alloc),
-            replies: String::new(alloc),
-        }
-    }
-
-    fn add(&mut self, request: &str, reply: &str) -> Result<(), AllocError> {
-        self.input.push_str(request)?;
-        self.replies.push_str(reply)
-    }
-
-    /// The holder is registered, and shown with nothing.
-    pub fn register(&mut self, alloc: Global, holder: &str) -> Result<(), AllocError> {
-        self.add(&register(alloc, holder)?, &shown(alloc, holder, 0, 0)?)
-    }
-
-    /// The holder has a guarantee opened, under this GRN.
-    pub fn open(&mut self, alloc: Global, holder: &str, grn: &str) -> Result<(), AllocError> {
-        self.add(&open(alloc, holder)?, &opened(alloc, grn)?)
-    }
-
-    /// The holder lodges a declaration on that guarantee, which has this MRN.
-    pub fn lodge(
-        &mut self,
-        alloc: Global,
-        holder: &str,
-        lrn: &str,
-        grn: &str,
-        mrn: &str,
-    ) -> Result<(), AllocError> {
-        self.add(&lodge(alloc, holder, lrn, grn)?, &lodged(alloc, lrn, mrn)?)
-    }
-
-    /// The holder is shown with so many guarantees and movements.
-    pub fn see(
-        &mut self,
-        alloc: Global,
-        holder: &str,
-        guarantees: u32,
-        movements: u32,
-    ) -> Result<(), AllocError> {
-        self.add(
-            &see(alloc, holder)?,
-            &shown(alloc, holder, guarantees, movements)?,
-        )
-    }
-}
-
-/// These requests on one stream have these replies, and the program is done.
-pub fn assert_script(rt: &HostRuntime, script: &Script) -> Result<(), Fail> {
-    let due = Due::replies(script.replies.as_bytes());
-    assert_job(rt, &WORDS, script.input.as_bytes(), due)
 }
