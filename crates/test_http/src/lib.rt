@@ -1,5 +1,5 @@
-//! Examples of requests, answers, streams and connections, each worked by hand. The crate has tests alone: for its tests a crate
-//! is proved again, whole, and these need none of their crates' private names.
+//! Examples of requests, answers, streams and connections, each worked by hand. The crate has tests alone: for its
+//! tests a crate is proved again, whole, and these need none of their crates' private names.
 #![tactic(auto)]
 
 #[cfg(test)]

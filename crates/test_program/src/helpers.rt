@@ -1,5 +1,5 @@
-//! What the runs share: requests and the replies that are due to them, readers, writers and clocks, the program's jobs over any reader
-//! and writers in memory, and comparisons of what came with what is due.
+//! What the runs share: requests and the replies that are due to them, readers, writers and clocks, the program's jobs
+//! over any reader and writers in memory, and comparisons of what came with what is due.
 mod comparing;
 pub mod devices;
 pub mod exchanges;

@@ -12,8 +12,8 @@ const GRN: &[u8] = b"25CH0000010000014";
 
 const MRN: &[u8] = b"25CH00000100000013";
 
-// Holder 1 has two guarantees, two movements that count and one that doesn't yet; holder 2 has one guarantee, a movement that
-// counts and one that doesn't any more.
+// Holder 1 has two guarantees, two movements that count and one that doesn't yet; holder 2 has one guarantee, a
+// movement that counts and one that doesn't any more.
 const ROWS: [&str; 20] = [
     "INSERT INTO holders VALUES (1, 'CH1234567', 1740819600, 2, 3)",
     "INSERT INTO holders VALUES (2, 'CH7654321', 1740819600, 1, 2)",

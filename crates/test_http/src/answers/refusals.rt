@@ -1,4 +1,5 @@
-//! Refusals that no transcript has, byte for byte: for one of them a holder needs too many serials, the other one can't come.
+//! Refusals that no transcript has, byte for byte: for one of them a holder needs too many serials, the other one can't
+//! come.
 use super::{says, turns_away};
 use std::test::Fail;
 use td_base::{Cents, RefFault};

@@ -1,5 +1,5 @@
-//! What came is compared with what is due. Where they differ, the result is an error, which fails the test that hands it on: a `Fail`
-//! can't be dropped, so that no test lets one go by mistake.
+//! What came is compared with what is due. Where they differ, the result is an error, which fails the test that hands
+//! it on: a `Fail` can't be dropped, so that no test lets one go by mistake.
 use std::fmt::Debug;
 use std::test::Fail;
 

@@ -56,7 +56,8 @@ where
     Ok(done_over(rt, words, reader))
 }
 
-/// What the program leaves on these words, which were read, and closes the file that they name. It is the call that `main` makes.
+/// What the program leaves on these words, which were read, and closes the file that they name. It is the call that
+/// `main` makes.
 pub fn done_over<R: Read>(rt: &HostRuntime, words: Vec<String>, reader: R) -> Done
 where
     R: Drop,

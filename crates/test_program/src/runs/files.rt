@@ -1,5 +1,5 @@
-//! The program's jobs over files of the machine, in the folder that the tests run in. Each test has a file of its own there,
-//! which is gone after it.
+//! The program's jobs over files of the machine, in the folder that the tests run in. Each test has a file of its own
+//! there, which is gone after it.
 mod refused;
 mod shared;
 
@@ -9,8 +9,8 @@ use std::alloc::{AllocError, Global};
 use std::fs;
 use std::test::Fail;
 
-/// A run of the program on the file of a test: the words but for its path, each request and the reply that is due to it, and
-/// the line that is due on standard error. The status is 0 where that is none, and else 1.
+/// A run of the program on the file of a test: the words but for its path, each request and the reply that is due to
+/// it, and the line that is due on standard error. The status is 0 where that is none, and else 1.
 #[derive(Clone, Copy)]
 struct Run {
     words: &'static [&'static str],

@@ -63,7 +63,8 @@ fn done_with_room(rt: &HostRuntime, words: &[String], room: (Vec<u8>, Vec<u8>)) 
 const NO_MEMORY: &[u8] =
     b"HTTP/1.1 503 Service Unavailable\r\nContent-Type: application/json\r\nContent-Length: 21\r\nConnection: close\r\n\r\n{\"error\":\"no-memory\"}";
 
-// The status, the replies and the line: no want of memory; one before there is a desk; one for the stream, or for its request.
+// The status, the replies and the line: no want of memory; one before there is a desk; one for the stream, or for its
+// request.
 const TOLD: [(u8, &[u8], &[u8]); 3] = [
     (0, SHOWN, b""),
     (1, b"", b"transit-desk: no-memory\n"),

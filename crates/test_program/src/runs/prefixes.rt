@@ -9,7 +9,8 @@ const READ_FAULT: &[u8] = b"transit-desk: stream read-fault\n";
 
 const CUT: &[u8] = b"transit-desk: stream cut\n";
 
-// A prefix of a stream that ends there, or fails there, in one piece and byte by byte: these replies come, and this message where it ends.
+// A prefix of a stream that ends there, or fails there, in one piece and byte by byte: these replies come, and this
+// message where it ends.
 fn assert_ends(rt: &HostRuntime, prefix: &[u8], out: &[u8], errors: &[u8]) -> Result<(), Fail> {
     let due = Due {
         status: u8::from(!errors.is_empty()),

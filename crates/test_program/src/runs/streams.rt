@@ -113,7 +113,8 @@ const SHOWN: &[u8] =
 const NO_MEMORY: &[u8] =
     b"HTTP/1.1 503 Service Unavailable\r\nContent-Type: application/json\r\nContent-Length: 21\r\nConnection: close\r\n\r\n{\"error\":\"no-memory\"}";
 
-// A registration and two views: no fault; a fault at each request, which then changed nothing; and a fault before each of them was read.
+// A registration and two views: no fault; a fault at each request, which then changed nothing; and a fault before each
+// of them was read.
 const REPLIES: [&[&[u8]]; 8] = [
     &[SHOWN, SHOWN, SHOWN],
     &[NO_MEMORY, NO_HOLDER, NO_HOLDER],
@@ -184,8 +185,8 @@ fn assert_served_after_faults(alloc: Global, input: &[u8]) -> Result<(), Fail> {
     )
 }
 
-// After a fault the rest of the input is served as the next stream, at the same desk. To be run with each allocation refused in turn, where
-// one request or the stream's own buffer meets the fault, and all others have their replies.
+// After a fault the rest of the input is served as the next stream, at the same desk. To be run with each allocation
+// refused in turn, where one request or the stream's own buffer meets the fault, and all others have their replies.
 #[test]
 fn the_rest_is_served_after_a_fault(rt: HostRuntime) -> Result<(), Fail> {
     let input = many(rt.alloc(), REGISTER, SEE, 2, b"")?;

@@ -1,4 +1,5 @@
-//! What a run leaves of its input: wrong words read none of it, and a stream that is cut reads all. (What is told is in the transcripts.)
+//! What a run leaves of its input: wrong words read none of it, and a stream that is cut reads all. (What is told is in
+//! the transcripts.)
 use crate::helpers::{WORDS, assert_text, words_of};
 use sqlite::Unknown;
 use std::test::Fail;

@@ -13,7 +13,8 @@ use td_cli::{DeskFile, perform};
 /// What the client sends at once, and the replies that it then waits for.
 type Turn = (&'static [u8], &'static [u8]);
 
-/// Gives what the client sends next, a turn a read: the end comes where not all replies to the turns before were written.
+/// Gives what the client sends next, a turn a read: the end comes where not all replies to the turns before were
+/// written.
 #[derive(Drop)]
 struct Asking<'a> {
     left: &'a [Turn],

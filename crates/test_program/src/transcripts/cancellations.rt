@@ -56,7 +56,8 @@ $ pipe --country CH --at 1740819600
 < 200 {"message":"IE014","mrn":"25CH00000100000013","state":"cancelled"}
 
 == a cancellation is a change in its time
-# A cancellation moves the moment of the holder's last change, and one before it is refused, the clock before the movement's state.
+# A cancellation moves the moment of the holder's last change, and one before it is refused, the clock before the
+# movement's state.
 @ 1740819600 2025-03-01T09:00:00Z
 > PUT /office/holders/000001 {"eori":"CH1234567"}
 < 200 {"eori":"CH1234567","guarantees":0,"holder":"000001","movements":0}

@@ -4,9 +4,10 @@ use std::test::Fail;
 
 const CASES: &str = r#"
 == changes of movements' references
-# Holder 1 has two guarantees and three movements: of the first one's 1000000 cents 500000 are in use by movement 1, which is
-# released, and 400000 by movement 2, which has arrived; of the second one's 500000 cents 200000 by movement 1. Movement 3 and
-# the one of holder 2 are accepted, and have nothing in use. Holder 3 has nothing. Day 20148 is 2025-03-01.
+# Holder 1 has two guarantees and three movements: of the first one's 1000000 cents 500000 are in use by movement 1,
+# which is released, and 400000 by movement 2, which has arrived; of the second one's 500000 cents 200000 by movement 1.
+# Movement 3 and the one of holder 2 are accepted, and have nothing in use. Holder 3 has nothing. Day 20148 is
+# 2025-03-01.
 $ pipe --country CH --at 1740819600 --db FILE --new
 $ sql INSERT INTO holders VALUES (1, 'CH1234567', 1740992400, 2, 3), (2, 'DE7654321', 1740819600, 1, 1), (3, 'FR1', 1740819600, 0, 0)
 $ sql INSERT INTO guarantees1 VALUES (1, 1, '25CH0000010000014', 1000000, 50, NULL), (1, 2, '25CH0000010000023', 500000, 100, 20164), (2, 1, '25CH0000020000010', 1000000, 30, NULL)
@@ -64,9 +65,10 @@ $ check --country CH --db FILE
 <| sound\n
 
 == changes of movements' offices and days
-# Holder 1 has two guarantees and three movements: of the first one's 1000000 cents 500000 are in use by movement 1, which is
-# released, and 400000 by movement 2, which has arrived; of the second one's 500000 cents 200000 by movement 1. Movement 3 and
-# the one of holder 2 are accepted, and have nothing in use. Holder 3 has nothing. Day 20148 is 2025-03-01.
+# Holder 1 has two guarantees and three movements: of the first one's 1000000 cents 500000 are in use by movement 1,
+# which is released, and 400000 by movement 2, which has arrived; of the second one's 500000 cents 200000 by movement 1.
+# Movement 3 and the one of holder 2 are accepted, and have nothing in use. Holder 3 has nothing. Day 20148 is
+# 2025-03-01.
 $ pipe --country CH --at 1740819600 --db FILE --new
 $ sql INSERT INTO holders VALUES (1, 'CH1234567', 1740992400, 2, 3), (2, 'DE7654321', 1740819600, 1, 1), (3, 'FR1', 1740819600, 0, 0)
 $ sql INSERT INTO guarantees1 VALUES (1, 1, '25CH0000010000014', 1000000, 50, NULL), (1, 2, '25CH0000010000023', 500000, 100, 20164), (2, 1, '25CH0000020000010', 1000000, 30, NULL)
@@ -113,9 +115,10 @@ $ check --country CH --db FILE
 <| sound\n
 
 == changes of movements' states
-# Holder 1 has two guarantees and three movements: of the first one's 1000000 cents 500000 are in use by movement 1, which is
-# released, and 400000 by movement 2, which has arrived; of the second one's 500000 cents 200000 by movement 1. Movement 3 and
-# the one of holder 2 are accepted, and have nothing in use. Holder 3 has nothing. Day 20148 is 2025-03-01.
+# Holder 1 has two guarantees and three movements: of the first one's 1000000 cents 500000 are in use by movement 1,
+# which is released, and 400000 by movement 2, which has arrived; of the second one's 500000 cents 200000 by movement 1.
+# Movement 3 and the one of holder 2 are accepted, and have nothing in use. Holder 3 has nothing. Day 20148 is
+# 2025-03-01.
 $ pipe --country CH --at 1740819600 --db FILE --new
 $ sql INSERT INTO holders VALUES (1, 'CH1234567', 1740992400, 2, 3), (2, 'DE7654321', 1740819600, 1, 1), (3, 'FR1', 1740819600, 0, 0)
 $ sql INSERT INTO guarantees1 VALUES (1, 1, '25CH0000010000014', 1000000, 50, NULL), (1, 2, '25CH0000010000023', 500000, 100, 20164), (2, 1, '25CH0000020000010', 1000000, 30, NULL)

@@ -1,4 +1,4 @@
-//! A movement of nine lines of the greatest amount: the longest reply about one thing, and a release on nine guarantees.
+//! A movement of nine lines of the greatest amount: its view is the longest one, and they are released together.
 use crate::runner::assert_transcript;
 use std::test::Fail;
 

@@ -185,7 +185,8 @@ fn of_holders(alloc: Global, dice: &mut Dice, country: Country, kind: u32) -> Op
     })
 }
 
-/// The next command, some hours after this many before it, or at times before the last one or before the clock's first moment.
+/// The next command, some hours after this many before it, or at times before the last one or before the clock's first
+/// moment.
 pub fn drawn(alloc: Global, dice: &mut Dice, country: Country, before: u32) -> Option<Stamped> {
     let now = START + 20_000 * i64::from(before);
     let at = match dice.roll(60) {

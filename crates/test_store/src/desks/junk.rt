@@ -1,5 +1,5 @@
-//! Junk beside the rows of several holders: a refused opening leaves every row as it was, and where the junk is taken away, the
-//! desk shows each holder what it showed before.
+//! Junk beside the rows of several holders: a refused opening leaves every row as it was, and where the junk is taken
+//! away, the desk shows each holder what it showed before.
 use super::made;
 use super::opening::seen;
 use sqlite::{Connection, MemStore};
@@ -10,10 +10,10 @@ use td_base::Country;
 use td_store::{OpenFault, Refused, SqlDesk};
 use td_table_model::Rule;
 
-/// The rows of a desk of CH. Holder 1 has two guarantees and three movements: of the first one's 1000000 cents 500000 are in use
-/// by movement 1, which is released, and 400000 by movement 2, which has arrived; of the second one's 500000 cents 200000 by
-/// movement 1. Movement 3 and the one of holder 2 are accepted, and have nothing in use. Holder 3 has nothing. Day 20148 is
-/// 2025-03-01.
+/// The rows of a desk of CH. Holder 1 has two guarantees and three movements: of the first one's 1000000 cents 500000
+/// are in use by movement 1, which is released, and 400000 by movement 2, which has arrived; of the second one's 500000
+/// cents 200000 by movement 1. Movement 3 and the one of holder 2 are accepted, and have nothing in use. Holder 3 has
+/// nothing. Day 20148 is 2025-03-01.
 const ROWS: [&str; 6] = [
     "INSERT INTO holders VALUES (1, 'CH1234567', 1740992400, 2, 3), (2, 'DE7654321', 1740819600, 1, 1), (3, 'FR1', 1740819600, 0, 0)",
     "INSERT INTO guarantees1 VALUES (1, 1, '25CH0000010000014', 1000000, 50, NULL), (1, 2, '25CH0000010000023', 500000, 100, 20164), (2, 1, '25CH0000020000010', 1000000, 30, NULL)",

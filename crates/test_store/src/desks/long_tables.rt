@@ -49,7 +49,8 @@ fn long(alloc: Global) -> Result<SqlDesk<MemStore>, Fail> {
     Ok(desk)
 }
 
-/// A change by hand of the last row of a table, and the rule that it breaks: the code, and the GRN, are no longer well formed.
+/// A change by hand of the last row of a table, and the rule that it breaks: the code, and the GRN, are no longer well
+/// formed.
 const CHANGES: [(&str, Rule); 2] = [
     (
         "UPDATE codes SET code = 'ab12' WHERE serial = 400",

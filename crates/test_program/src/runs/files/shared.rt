@@ -1,5 +1,5 @@
-//! Files beside other things of the machine that a job needs: another program that has the file, a port that is in use, and
-//! an output that can't be written.
+//! Files beside other things of the machine that a job needs: another program that has the file, a port that is in use,
+//! and an output that can't be written.
 use super::{
     CHECK, IS_SOUND, PIPE, PIPE_NEW, Run, STORE, assert_each, assert_run, remove, words_over,
 };
