@@ -1,0 +1,54 @@
+//! Results of a control, byte for byte, in each state: a desk answers with two of them.
+use super::says;
+use std::test::Fail;
+use td_base::Mrn;
+use td_commands::{Answer, Said};
+use td_movement::State;
+
+const MRN: &[u8] = b"25CH00000100000013";
+
+/// States, and what is told of the result of a control after which a movement is in them.
+const CONTROLLED: [(State, &str); 8] = [
+    (
+        State::Accepted,
+        "HTTP/1.1 200 OK\r\nContent-Type: application/json\r\nContent-Length: 65\r\n\r\n{\"message\":\"IE018\",\"mrn\":\"25CH00000100000013\",\"state\":\"accepted\"}",
+    ),
+    (
+        State::Cancelled,
+        "HTTP/1.1 200 OK\r\nContent-Type: application/json\r\nContent-Length: 66\r\n\r\n{\"message\":\"IE018\",\"mrn\":\"25CH00000100000013\",\"state\":\"cancelled\"}",
+    ),
+    (
+        State::Released,
+        "HTTP/1.1 200 OK\r\nContent-Type: application/json\r\nContent-Length: 65\r\n\r\n{\"message\":\"IE018\",\"mrn\":\"25CH00000100000013\",\"state\":\"released\"}",
+    ),
+    (
+        State::Enquired,
+        "HTTP/1.1 200 OK\r\nContent-Type: application/json\r\nContent-Length: 65\r\n\r\n{\"message\":\"IE018\",\"mrn\":\"25CH00000100000013\",\"state\":\"enquired\"}",
+    ),
+    (
+        State::Arrived,
+        "HTTP/1.1 200 OK\r\nContent-Type: application/json\r\nContent-Length: 64\r\n\r\n{\"message\":\"IE018\",\"mrn\":\"25CH00000100000013\",\"state\":\"arrived\"}",
+    ),
+    (
+        State::Discrepant,
+        "HTTP/1.1 200 OK\r\nContent-Type: application/json\r\nContent-Length: 67\r\n\r\n{\"message\":\"IE018\",\"mrn\":\"25CH00000100000013\",\"state\":\"discrepant\"}",
+    ),
+    (
+        State::Cleared,
+        "HTTP/1.1 200 OK\r\nContent-Type: application/json\r\nContent-Length: 64\r\n\r\n{\"message\":\"IE018\",\"mrn\":\"25CH00000100000013\",\"state\":\"cleared\"}",
+    ),
+    (
+        State::WrittenOff,
+        "HTTP/1.1 200 OK\r\nContent-Type: application/json\r\nContent-Length: 68\r\n\r\n{\"message\":\"IE018\",\"mrn\":\"25CH00000100000013\",\"state\":\"written-off\"}",
+    ),
+];
+
+#[test]
+fn a_control_is_answered(rt: HostRuntime) -> Result<(), Fail> {
+    let mrn = Mrn::read(MRN)?;
+    for (state, reply) in CONTROLLED {
+        let answer = Answer::Ie018 { mrn, state };
+        says(&rt, rt.alloc(), Said::Answered(answer), reply)?;
+    }
+    Ok(())
+}

@@ -1,0 +1,6 @@
+//! Requests, and the commands that they are read as, with ample memory.
+mod acts;
+mod asked;
+mod declarations;
+mod openings;
+mod reading;

@@ -1,0 +1,168 @@
+//! Requests, and the command that each of them is read as; and faults of requests that no stream sends. (Others stand in the transcripts
+//! of test_program.)
+use super::asked::{is_asked, is_told, request};
+use http::Method;
+use std::alloc::Global;
+use std::process::Abort;
+use std::test::Fail;
+use td_base::{Grn, HolderNo, Mrn, RefFault};
+use td_http::{Request, Route, WebFault, read_command, route};
+use td_routes::{Routes, read_command_by};
+
+/// Requests that are read, and their commands.
+const READ: [(&str, &str, &str, &str); 12] = [
+    (
+        "GET",
+        "/holders/000001/movements",
+        "{\"lrn\":\"A1\"}",
+        "see 000001 movements",
+    ),
+    (
+        "GET",
+        "/holders/999999/guarantees?of=000001",
+        "",
+        "see 999999 guarantees",
+    ),
+    (
+        "PUT",
+        "/office/holders/000001",
+        "{\"eori\":\"CH1234567\"}",
+        "register 000001 CH1234567",
+    ),
+    (
+        "PUT",
+        "/office/holders/000001?a=/b?c",
+        " {\"a\":[{}],\"eori\":\"DE1\",\"eori\":\"\\u0043H1234567\"}\r\n",
+        "register 000001 CH1234567",
+    ),
+    (
+        "POST",
+        "/office/holders/999999/guarantees?a",
+        "{\"reference\":100,\"cover\":0,\"code\":\"AB12\"}",
+        "open 999999 1.00 0 AB12",
+    ),
+    ("GET", "/holders/000001", "", "see 000001"),
+    ("GET", "/holders/000001?", "not JSON", "see 000001"),
+    (
+        "GET",
+        "/holders/000001/movements/25CH00000100000013",
+        "",
+        "see 000001 movement 25CH00000100000013",
+    ),
+    (
+        "GET",
+        "/holders/000001/movements/25CH00000100000013?a=/b",
+        "not JSON",
+        "see 000001 movement 25CH00000100000013",
+    ),
+    (
+        "GET",
+        "/holders/999999/movements/99ZZABCDEFGHI00013",
+        "[]",
+        "see 999999 movement 99ZZABCDEFGHI00013",
+    ),
+    (
+        "GET",
+        "/holders/000001/guarantees/25CH0000010000014",
+        "",
+        "see 000001 guarantee 25CH0000010000014",
+    ),
+    (
+        "GET",
+        "/holders/999999/guarantees/25CH0000000000019?/x",
+        "{\"grn\":",
+        "see 999999 guarantee 25CH0000000000019",
+    ),
+];
+
+// Whether a request is read as this command, in words, also by a router that is kept.
+fn is_read_as(
+    alloc: Global,
+    routes: &mut Routes,
+    row: &(&str, &str, &str, &str),
+) -> Result<bool, Fail> {
+    let (method, target, body, want) = row;
+    let request = request(alloc, method, target.as_bytes(), body.as_bytes())?;
+    Ok(is_asked_by(alloc, routes, &request, want)? && is_asked(alloc, &request, want)?)
+}
+
+// Whether a request is read as this command, in words, by a router that is kept.
+fn is_asked_by(
+    alloc: Global,
+    routes: &mut Routes,
+    request: &Request,
+    want: &str,
+) -> Result<bool, Fail> {
+    let command = read_command_by(alloc, routes, request)?;
+    is_told(alloc, &command, want)
+}
+
+#[test]
+fn reads_commands(rt: HostRuntime) -> Result<(), Fail> {
+    let mut routes = Routes::new();
+    for row in &READ {
+        assert!(rt; is_read_as(rt.alloc(), &mut routes, row)?);
+    }
+    Ok(())
+}
+
+// Whether a method and a path have this route.
+fn has_route(alloc: Global, method: &str, path: &str, want: Route) -> Result<bool, Fail> {
+    let method = Method::from_bytes(alloc, method.as_bytes())?;
+    Ok(route(alloc, &method, path.as_bytes()) == Ok(want))
+}
+
+#[test]
+fn finds_routes(rt: HostRuntime) -> Result<(), Fail> {
+    let holder = HolderNo::new(1).ok_or("a number")?;
+    let mrn = Mrn::read(b"25CH00000100000013")?;
+    let grn = Grn::read(b"25CH0000010000014")?;
+    for (method, path, want) in &[
+        ("PUT", "/office/holders/000001", Route::Register { holder }),
+        (
+            "POST",
+            "/office/holders/000001/guarantees",
+            Route::OpenGuarantee { holder },
+        ),
+        ("POST", "/holders/000001/movements", Route::Ie015 { holder }),
+        ("GET", "/holders/000001", Route::SeeHolder { holder }),
+        (
+            "GET",
+            "/holders/000001/movements/25CH00000100000013",
+            Route::SeeMovement { holder, mrn },
+        ),
+        (
+            "GET",
+            "/holders/000001/guarantees/25CH0000010000014",
+            Route::SeeGuarantee { holder, grn },
+        ),
+    ] {
+        assert!(rt; has_route(rt.alloc(), method, path, *want)?);
+    }
+    Ok(())
+}
+
+/// Targets that the framing of a stream lets nobody send, and their faults.
+const NOT_SENT: [(&[u8], WebFault); 4] = [
+    (b"", WebFault::NoRoute),
+    (b"/holders/00000\xff", WebFault::NoRoute),
+    (b"/holders/000001?\xff", WebFault::NoRoute),
+    (
+        b"/holders/000001/guarantees/25CH000001000001 ",
+        WebFault::BadGrn(RefFault::Form),
+    ),
+];
+
+// Why a view can't be read.
+fn fault_of(alloc: Global, target: &[u8]) -> Result<Option<WebFault>, Fail> {
+    let request = request(alloc, "GET", target, b"")?;
+    Ok(read_command(alloc, &request).err())
+}
+
+#[test]
+fn tells_what_no_stream_sends(rt: HostRuntime) -> Result<(), Fail> {
+    for (target, fault) in NOT_SENT {
+        assert!(rt; fault_of(rt.alloc(), target)? == Some(fault));
+    }
+    Ok(())
+}

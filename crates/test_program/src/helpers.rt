@@ -1,0 +1,11 @@
+//! What the runs share: requests and the replies that are due to them, readers, writers and clocks, the program's jobs over any reader
+//! and writers in memory, and comparisons of what came with what is due.
+mod comparing;
+pub mod devices;
+pub mod exchanges;
+mod jobs;
+pub mod texts;
+
+pub use comparing::{assert_equal, assert_text, assert_that};
+pub use exchanges::served_at;
+pub use jobs::{Done, Due, WORDS, assert_due, assert_ended, assert_job, done_over, words_of};

@@ -1,0 +1,111 @@
+//! The program's jobs over any reader and over writers in memory: what they leave, and what they have to leave.
+use super::comparing::{assert_equal, assert_text};
+use sqlite::Unknown;
+use std::alloc::{AllocError, Global};
+use std::io::Read;
+use std::test::Fail;
+use td_base::Counted;
+use td_cli::{DeskFile, run_program};
+
+/// What a job left: its status, and what it wrote.
+#[derive(Drop)]
+pub struct Done {
+    pub status: u8,
+    pub out: Vec<u8>,
+    pub errors: Vec<u8>,
+}
+
+/// What a job has to leave.
+#[derive(Clone, Copy)]
+pub struct Due<'a> {
+    pub status: u8,
+    pub out: &'a [u8],
+    pub errors: &'a [u8],
+}
+
+impl<'a> Due<'a> {
+    /// Of a job that is done: these replies, and no message.
+    pub fn replies(out: &'a [u8]) -> Due<'a> {
+        Due {
+            status: 0,
+            out,
+            errors: b"",
+        }
+    }
+}
+
+/// These words, as a program has them.
+pub fn words_of(alloc: Global, words: &[&str]) -> Result<Vec<String>, AllocError> {
+    let mut owned = Vec::new(alloc);
+    for word in words {
+        owned.push(String::from_str(alloc, word)?)?;
+    }
+    Ok(owned)
+}
+
+/// Does the job of the words over any reader.
+pub fn perform_over<R: Read>(
+    rt: &HostRuntime,
+    words: &[&str],
+    reader: R,
+) -> Result<Done, AllocError>
+where
+    R: Drop,
+{
+    let words = words_of(rt.alloc(), words)?;
+    Ok(done_over(rt, words, reader))
+}
+
+/// What the program leaves on these words, which were read, and closes the file that they name. It is the call that `main` makes.
+pub fn done_over<R: Read>(rt: &HostRuntime, words: Vec<String>, reader: R) -> Done
+where
+    R: Drop,
+{
+    let mut file = DeskFile::new(Unknown);
+    let mut input = Counted::new(reader);
+    let mut out = Counted::new(Vec::new(rt.alloc()));
+    let mut errors = Counted::new(Vec::new(rt.alloc()));
+    let status = run_program(rt, Ok(words), &mut file, &mut input, &mut out, &mut errors);
+    file.close();
+    Done {
+        status,
+        out: out.into_inner(),
+        errors: errors.into_inner(),
+    }
+}
+
+/// The job ended with this status, and said this message.
+pub fn assert_ended(done: &Done, status: u8, errors: &[u8]) -> Result<(), Fail> {
+    assert_equal(&done.status, &status)?;
+    assert_text(&done.errors, errors)
+}
+
+/// The job left what is due.
+pub fn assert_due(done: &Done, due: Due<'_>) -> Result<(), Fail> {
+    assert_text(&done.out, due.out)?;
+    assert_ended(done, due.status, due.errors)
+}
+
+/// The job of the words over the reader leaves what is due.
+pub fn assert_job<R: Read>(
+    rt: &HostRuntime,
+    words: &[&str],
+    reader: R,
+    due: Due<'_>,
+) -> Result<(), Fail>
+where
+    R: Drop,
+{
+    let done = perform_over(rt, words, reader)?;
+    assert_due(&done, due)
+}
+
+/// The words of the worked rows.
+pub const WORDS: [&str; 6] = [
+    "transit-desk",
+    "pipe",
+    "--country",
+    "CH",
+    "--at",
+    "1740819600",
+];

@@ -1,0 +1,14 @@
+//! What the program does beside devices that fail, other programs, sockets and want of memory, in the folder that the tests run in.
+//! Expected bytes are those of the desk's formats, written out.
+mod files;
+mod heads;
+mod laws;
+mod machine_clock;
+mod many_declarations;
+mod many_releases;
+mod memory;
+mod prefixes;
+mod serving;
+mod streams;
+mod unread_input;
+mod waiting_clients;

@@ -1,0 +1,37 @@
+//! What a run leaves of its input: wrong words read none of it, and a stream that is cut reads all. (What is told is in the transcripts.)
+use crate::helpers::{WORDS, assert_text, words_of};
+use sqlite::Unknown;
+use std::test::Fail;
+use td_base::Counted;
+use td_cli::{DeskFile, run_program};
+
+const SEE: &[u8] = b"GET /holders/000001 HTTP/1.1\r\n\r\n";
+
+/// A request, and one that is cut inside its body.
+const CUT_INPUT: &[u8] =
+    b"GET /holders/000001 HTTP/1.1\r\n\r\nPOST /holders/000001/movements HTTP/1.1\r\nContent-Length: 50\r\n\r\n{\"lrn\":\"A1\",\"departure\":\"CH001251\",\"destination\":";
+
+/// The words, the input, and what has to be left of it.
+const CALLS: [(&[&str], &[u8], &[u8]); 2] = [
+    (&["transit-desk", "pipe", "--country", "ch"], SEE, SEE),
+    (&WORDS, CUT_INPUT, b""),
+];
+
+// What the program doesn't read of this input.
+fn unread<'a>(rt: &HostRuntime, words: Vec<String>, input: &'a [u8]) -> &'a [u8] {
+    let mut file = DeskFile::new(Unknown);
+    let mut input = Counted::new(input);
+    let mut out = Counted::new(Vec::new(rt.alloc()));
+    let mut errors = Counted::new(Vec::new(rt.alloc()));
+    let _status = run_program(rt, Ok(words), &mut file, &mut input, &mut out, &mut errors);
+    file.close();
+    input.into_inner()
+}
+
+#[test]
+fn wrong_words_leave_the_input(rt: HostRuntime) -> Result<(), Fail> {
+    for (words, input, left) in CALLS {
+        assert_text(unread(&rt, words_of(rt.alloc(), words)?, input), left)?;
+    }
+    Ok(())
+}

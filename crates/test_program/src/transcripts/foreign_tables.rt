@@ -1,0 +1,27 @@
+//! A file with tables of another program is no desk, and none is made in it.
+use crate::runner::assert_transcript;
+use std::test::Fail;
+
+const CASES: &str = r#"
+== no desk is made over a table of another program
+$ sql CREATE TABLE notes (note TEXT NOT NULL) STRICT
+$ sql INSERT INTO notes VALUES ('mine')
+$ pipe --country CH --at 1740819600 --db FILE --new
+! 1 transit-desk: store
+$ sql-finds 1 SELECT count(*) FROM notes WHERE note = 'mine'
+
+== no desk is opened over tables of another program
+$ sql CREATE TABLE notes (note TEXT NOT NULL) STRICT
+$ check --country CH --db FILE
+! 1 transit-desk: unknown-version
+
+== no desk is opened over another table of the same name
+$ sql CREATE TABLE meta (note TEXT NOT NULL) STRICT
+$ check --country CH --db FILE
+! 1 transit-desk: store
+"#;
+
+#[test]
+fn the_transcript_is_kept(rt: HostRuntime) -> Result<(), Fail> {
+    assert_transcript(&rt, CASES)
+}

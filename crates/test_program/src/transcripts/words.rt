@@ -1,0 +1,233 @@
+//! Words that are wrong, the line that says what was wrong, help and the version.
+use crate::runner::assert_transcript;
+use std::test::Fail;
+
+const CASES: &str = r#"
+== what was wrong is told
+$
+! 2 error: 'transit-desk' requires a subcommand but one was not provided [subcommands: serve, pipe, check, help]
+$ batch --country CH
+! 2 error: unrecognized subcommand 'batch'
+$ serve
+! 2 error: the following required arguments were not provided: --country <CC> --port <N> --connections <K>
+$ pipe --country CH --version
+! 2 error: unexpected argument '--version' found
+$ pipe --country
+! 2 error: a value is required for '--country <CC>' but none was supplied
+$ pipe --country CH --country CH
+! 2 error: the argument '--country <CC>' cannot be used multiple times
+$ pipe --country ch
+! 2 error: invalid value 'ch' for '--country <CC>': it must be two capital letters
+$ pipe --country C\n\nH
+! 2 error: invalid value 'C
+$ pipe --country -1
+! 2 error: unexpected argument '-1' found
+$ pipe --country CH --at x
+! 2 error: invalid value 'x' for '--at <SECONDS>': it must be a whole number of seconds from 0 to 9223372036854775807
+$ pipe --country CH --at -12
+! 2 error: invalid value '-12' for '--at <SECONDS>': it must be a whole number of seconds from 0 to 9223372036854775807
+$ pipe --country CH --at=-1
+! 2 error: invalid value '-1' for '--at <SECONDS>': it must be a whole number of seconds from 0 to 9223372036854775807
+$ pipe --country CH --at 9223372036854775808
+! 2 error: invalid value '9223372036854775808' for '--at <SECONDS>': it must be a whole number of seconds from 0 to 9223372036854775807
+
+== more words that are wrong
+$ serve --country CH --port 80
+! 2 error: the following required arguments were not provided: --connections <K>
+$ serve --country CH --connections 1
+! 2 error: the following required arguments were not provided: --port <N>
+$ pipe --country CH --port 80
+! 2 error: unexpected argument '--port' found
+$ pipe
+! 2 error: the following required arguments were not provided: --country <CC>
+$ pipe --country CHE
+! 2 error: invalid value 'CHE' for '--country <CC>': it must be two capital letters
+$ pipe --country CH --at -1
+! 2 error: invalid value '-1' for '--at <SECONDS>': it must be a whole number of seconds from 0 to 9223372036854775807
+$ pipe --country CH --at +1
+! 2 error: invalid value '+1' for '--at <SECONDS>': it must be a whole number of seconds from 0 to 9223372036854775807
+
+== a wrong number is told
+$ serve --country CH --port 0 --connections 1
+! 2 error: invalid value '0' for '--port <N>': it must be a whole number from 1 to 65535
+$ serve --country CH --port 65536 --connections 1
+! 2 error: invalid value '65536' for '--port <N>': it must be a whole number from 1 to 65535
+$ serve --country CH --port +80 --connections 1
+! 2 error: invalid value '+80' for '--port <N>': it must be a whole number from 1 to 65535
+$ serve --country CH --port 4294967376 --connections 1
+! 2 error: invalid value '4294967376' for '--port <N>': it must be a whole number from 1 to 65535
+$ serve --country CH --port -80 --connections 1
+! 2 error: invalid value '-80' for '--port <N>': it must be a whole number from 1 to 65535
+$ serve --country CH --port 80 --connections -1
+! 2 error: invalid value '-1' for '--connections <K>': it must be a whole number from 1 to 1000000
+$ serve --country CH --port 80 --connections 0
+! 2 error: invalid value '0' for '--connections <K>': it must be a whole number from 1 to 1000000
+$ serve --country CH --port 80 --connections 1000001
+! 2 error: invalid value '1000001' for '--connections <K>': it must be a whole number from 1 to 1000000
+$ serve --country CH --port 80 --connections one
+! 2 error: invalid value 'one' for '--connections <K>': it must be a whole number from 1 to 1000000
+
+== what was wrong on a file is told
+$ pipe --country CH --new
+! 2 error: the following required arguments were not provided: --db <FILE>
+$ pipe --country CH --db a --db a
+! 2 error: the argument '--db <FILE>' cannot be used multiple times
+$ pipe --country CH --db a --new --new
+! 2 error: the argument '--new' cannot be used multiple times
+$ pipe --country CH --db
+! 2 error: a value is required for '--db <FILE>' but none was supplied
+$ pipe --country CH --db F --new x
+! 2 error: unexpected argument 'x' found
+$ check --country CH
+! 2 error: the following required arguments were not provided: --db <FILE>
+$ check --country CH --db F --at 1
+! 2 error: unexpected argument '--at' found
+$ check --country CH --db F --new
+! 2 error: unexpected argument '--new' found
+$ check --country CH --db F --port 80
+! 2 error: unexpected argument '--port' found
+
+== wrong words do nothing
+# The request is not served, whatever the words ask for.
+$
+> GET /holders/000001
+! 2 error: 'transit-desk' requires a subcommand but one was not provided [subcommands: serve, pipe, check, help]
+$ pipe --country ch
+> GET /holders/000001
+! 2 error: invalid value 'ch' for '--country <CC>': it must be two capital letters
+$ pipe --country CH --at -1
+> GET /holders/000001
+! 2 error: invalid value '-1' for '--at <SECONDS>': it must be a whole number of seconds from 0 to 9223372036854775807
+$ serve --country CH --port 0 --connections 1
+> GET /holders/000001
+! 2 error: invalid value '0' for '--port <N>': it must be a whole number from 1 to 65535
+
+== the version is told
+$ --version
+> GET /holders/000001
+<| transit-desk 0.1\n
+$ -V
+<| transit-desk 0.1\n
+
+== the help of the program is told
+$ --help
+<| The desk of a national transit office under the Common Transit Convention\n
+<| \n
+<| Usage: transit-desk serve --country <CC> --port <N> --connections <K> [--db <FILE> [--new]] [--at <SECONDS>]\n
+<|        transit-desk pipe --country <CC> [--db <FILE> [--new]] [--at <SECONDS>]\n
+<|        transit-desk check --country <CC> --db <FILE>\n
+<| \n
+<| Commands:\n
+<|   serve  Serves connections to a port of this machine, one after another\n
+<|   pipe   Serves one stream of HTTP requests, from standard input to standard output\n
+<|   check  Tests whether a desk of the country can be opened over a file\n
+<|   help   Print this message or the help of the given subcommand(s)\n
+<| \n
+<| Options:\n
+<|   -h, --help     Print help\n
+<|   -V, --version  Print version\n
+<| \n
+<| Without --db the desk starts empty, and it is gone when the program ends. With --db its\n
+<| records stand in that file, an SQLite database; --new makes the desk's tables in it first.\n
+<| Moments are from 2000 to 2099: a request at any other is told clock-range.\n
+<| \n
+<| Examples:\n
+<|   transit-desk pipe --country CH --at 1740819600 < examples/first.http\n
+<|   transit-desk serve --country CH --port 8080 --connections 1000\n
+<|   transit-desk serve --country CH --port 8080 --connections 1000 --db desk.db --new\n
+<|   transit-desk check --country CH --db desk.db\n
+<| \n
+<| Status:\n
+<|   0  Done: the stream ended well, all connections were served, or the file is a desk's\n
+<|   1  A fault, which one line on standard error tells, as: transit-desk: stream cut\n
+<|   2  Wrong words: one line on standard error tells what was wrong\n
+
+== the help of serve tells its options
+$ serve --help
+<| Serves connections to a port of this machine, one after another\n
+<| \n
+<| Usage: transit-desk serve --country <CC> --port <N> --connections <K> [--db <FILE> [--new]] [--at <SECONDS>]\n
+<| \n
+<| Options:\n
+<|       --country <CC>     The country of the office, two capital letters\n
+<|       --db <FILE>        The file with the records, an SQLite database; else they are in memory\n
+<|       --new              Makes the desk's tables in the file first\n
+<|       --at <SECONDS>     The moment of all requests, in seconds since 1970; else the clock is asked\n
+<|       --port <N>         The port of 127.0.0.1 that is listened on, from 1 to 65535\n
+<|       --connections <K>  How many connections are served, from 1 to 1000000\n
+<|   -h, --help             Print help\n
+<| \n
+<| Without --db the desk starts empty, and it is gone when the program ends. With --db its\n
+<| records stand in that file, an SQLite database; --new makes the desk's tables in it first.\n
+<| Moments are from 2000 to 2099: a request at any other is told clock-range.\n
+<| \n
+<| Examples:\n
+<|   transit-desk pipe --country CH --at 1740819600 < examples/first.http\n
+<|   transit-desk serve --country CH --port 8080 --connections 1000\n
+<|   transit-desk serve --country CH --port 8080 --connections 1000 --db desk.db --new\n
+<|   transit-desk check --country CH --db desk.db\n
+<| \n
+<| Status:\n
+<|   0  Done: the stream ended well, all connections were served, or the file is a desk's\n
+<|   1  A fault, which one line on standard error tells, as: transit-desk: stream cut\n
+<|   2  Wrong words: one line on standard error tells what was wrong\n
+
+== the help of pipe tells its options
+$ pipe --help
+<| Serves one stream of HTTP requests, from standard input to standard output\n
+<| \n
+<| Usage: transit-desk pipe --country <CC> [--db <FILE> [--new]] [--at <SECONDS>]\n
+<| \n
+<| Options:\n
+<|       --country <CC>  The country of the office, two capital letters\n
+<|       --db <FILE>     The file with the records, an SQLite database; else they are in memory\n
+<|       --new           Makes the desk's tables in the file first\n
+<|       --at <SECONDS>  The moment of all requests, in seconds since 1970; else the clock is asked\n
+<|   -h, --help          Print help\n
+<| \n
+<| Without --db the desk starts empty, and it is gone when the program ends. With --db its\n
+<| records stand in that file, an SQLite database; --new makes the desk's tables in it first.\n
+<| Moments are from 2000 to 2099: a request at any other is told clock-range.\n
+<| \n
+<| Examples:\n
+<|   transit-desk pipe --country CH --at 1740819600 < examples/first.http\n
+<|   transit-desk serve --country CH --port 8080 --connections 1000\n
+<|   transit-desk serve --country CH --port 8080 --connections 1000 --db desk.db --new\n
+<|   transit-desk check --country CH --db desk.db\n
+<| \n
+<| Status:\n
+<|   0  Done: the stream ended well, all connections were served, or the file is a desk's\n
+<|   1  A fault, which one line on standard error tells, as: transit-desk: stream cut\n
+<|   2  Wrong words: one line on standard error tells what was wrong\n
+
+== the help of check tells its options
+$ check --help
+<| Tests whether a desk of the country can be opened over a file\n
+<| \n
+<| Usage: transit-desk check --country <CC> --db <FILE>\n
+<| \n
+<| Options:\n
+<|       --country <CC>  The country of the office, two capital letters\n
+<|       --db <FILE>     The file that is tested\n
+<|   -h, --help          Print help\n
+<| \n
+<| Without --db the desk starts empty, and it is gone when the program ends. With --db its\n
+<| records stand in that file, an SQLite database; --new makes the desk's tables in it first.\n
+<| Moments are from 2000 to 2099: a request at any other is told clock-range.\n
+<| \n
+<| Examples:\n
+<|   transit-desk pipe --country CH --at 1740819600 < examples/first.http\n
+<|   transit-desk serve --country CH --port 8080 --connections 1000\n
+<|   transit-desk serve --country CH --port 8080 --connections 1000 --db desk.db --new\n
+<|   transit-desk check --country CH --db desk.db\n
+<| \n
+<| Status:\n
+<|   0  Done: the stream ended well, all connections were served, or the file is a desk's\n
+<|   1  A fault, which one line on standard error tells, as: transit-desk: stream cut\n
+<|   2  Wrong words: one line on standard error tells what was wrong\n
+"#;
+
+#[test]
+fn the_transcript_is_kept(rt: HostRuntime) -> Result<(), Fail> {
+    assert_transcript(&rt, CASES)
+}
