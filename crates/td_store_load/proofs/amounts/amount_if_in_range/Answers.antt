@@ -40,7 +40,7 @@ returns-clause-found g c clean has movements lines =
     found : IsPermutation (filter (is_line_on c.args.holder c.args.guarantee) (typed_rows line_typing a.now.trees)) (map line_row_of c.in_ok-lines.lines.items)
     found =
         subst (λ (k : Database). IsPermutation (filter (is_line_on c.args.holder c.args.guarantee) (typed_rows line_typing k.trees)) (map line_row_of c.in_ok-lines.lines.items)) one.0.now_is
-        (c.in_ok-lines.ensures.found clean (still_has a b has one) (subst (λ (k : Database). AreTyped line_typing k.trees) (sym one.0.now_is) lines))
+        (c.in_ok-lines.ensures.found clean (still_has a b has (one_read a b (c.in_ok-serials.ensures.still clean_b) has)) (subst (λ (k : Database). AreTyped line_typing k.trees) (sym one.0.now_is) lines))
 
 pub returns-clause-still : goal.returns-clause-still
 returns-clause-still g c clean =
