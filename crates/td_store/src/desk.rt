@@ -37,7 +37,7 @@ impl<S: Alter> SqlDesk<S> {
     ghost use Rattle.std.specs.Prelude.{◌≡◌, false, IsTrue};
     ghost use Rattle.sqlite.specs.Held.{state};
     ghost use Rattle.sqlite.specs.State.{HasCleanDisk};
-    ghost use Rattle.td_store_rows.specs.StoreTables.{HoldsContent, content_in, content_in};
+    ghost use Rattle.td_store_rows.specs.StoreTables.{HoldsContent, content_in};
     ghost use Rattle.td_store.specs.Kept.{IsDeskOf, LeavesItsTables};
 
     // The desk over a connection that holds a content of that country.
@@ -69,6 +69,7 @@ impl<S: Alter> Store for SqlDesk<S> {
     ghost use Rattle.sqlite.specs.Held.{state};
     ghost use Rattle.sqlite.specs.State.{HasCleanDisk};
     ghost use Rattle.td_store.specs.Kept.{IsCalled};
+    ghost use Rattle.td_store_rows.specs.StoreTables.{content_in};
 
     ghost rows = { λ d. content_in (state S.Store d).now.trees };
 
