@@ -1,13 +1,7 @@
 -- What a clock shows.
 use Rattle.std.proofs.Common.{◌≡◌, ℤ, None, Some, ◌∙◌, refl, ap}
 use Rattle.td_cli.specs.declared.clock.FixedClock.{FixedClock}
-use Rattle.td_cli.specs.Piped.{IsMoment}
-
--- each tick of the clock is, by what is seen of the clock, one of these moments
-pub record Shows {C C' : Type 0} (ticks : C → ℤ → C → Type 0) (moments : C' → ℤ → C' → Type 0) (look : C → C') (clock : C) : Type 1 where
-  pub keeps : C → Type 0
-  pub first : keeps clock
-  pub each : (old : C) (at : ℤ) (new : C) → keeps old → ticks old at new → moments (look old) at (look new) × keeps new
+use Rattle.td_cli.specs.Clocks.{IsMoment, Shows}
 
 -- a clock shows what it ticks
 pub shows_itself : {C : Type 0} (ticks : C → ℤ → C → Type 0) (clock : C) → Shows ticks ticks (λ c. c) clock

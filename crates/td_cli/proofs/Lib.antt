@@ -1,5 +1,4 @@
 mod Clocks
-mod Streams
 mod Desks
 mod Pipes
 mod Visits

@@ -8,9 +8,9 @@ use Rattle.td_http.specs.Serving.{desk_of, IsHandledBy, IsHeadHandledBy, IsPriva
 use Rattle.td_http.proofs.Streamed.{stream_clean}
 use Rattle.td_cli.specs.Desks.{Sight, IsReady, IsHandledAt, IsHeadHandledAt, fresh_books}
 use Rattle.td_cli.specs.Piped.{IsPiped}
-use Rattle.td_cli.proofs.Clocks.{Shows, shows_itself}
-use Rattle.td_cli.proofs.Desks.{fresh_tied, handled_seen, head_seen, head_served, sight_by}
-use Rattle.td_cli.proofs.Streams.{serves_seen}
+use Rattle.td_cli.specs.StreamsSeen.{handled_seen, serves_seen}
+use Rattle.td_cli.proofs.Clocks.{shows_itself}
+use Rattle.td_cli.proofs.Desks.{fresh_tied, head_served}
 
 -- a stream that was served at a service of a desk
 pub piped_at : {D R W C : Type 0} (sight : Sight D) (remaining : R → Option (List ℕ)) (contents : W → Option (List ℕ)) (ticks : C → ℤ → C → Type 0)
@@ -37,26 +37,6 @@ piped_at sight remaining contents ticks reader reader_left writer writer_left cl
           private clean is.0 is.1 (fresh_books content) (fresh_tied content);
     }
 
--- what is seen of a stream at a desk
-pub piped_seen : {D D' R W C C' : Type 0} (sight : Sight D') (see : D → D') (begins ends : D → Type 0) (begins' ends' : D' → Type 0)
-    (remaining : R → Option (List ℕ)) (contents : W → Option (List ℕ)) (ticks : C → ℤ → C → Type 0) (moments : C' → ℤ → C' → Type 0) (look : C → C')
-    (reader reader_left : Counted R) (writer writer_left : Counted W) (clock : C) (end : StreamEnd)
-    → ((d : D) → begins d → begins' (see d)) → ((d : D) → ends d → ends' (see d)) → Shows ticks moments look clock
-    → IsPiped (sight_by see sight) begins ends remaining contents ticks reader reader_left writer writer_left clock end
-    → IsPiped sight begins' ends' remaining contents moments reader reader_left writer writer_left (look clock) end
-unfolding serves_seen
-piped_seen sight see begins ends begins' ends' remaining contents ticks moments look reader reader_left writer writer_left clock end begin close shows piped =
-    record {
-      opened = see piped.opened;
-      left = see piped.left;
-      clock_left = look piped.clock_left;
-      begun = begin piped.opened piped.begun;
-      ended = close piped.left piped.ended;
-      served = serves_seen ticks moments look (IsHandledAt (sight_by see sight)) (IsHandledAt sight) IsHeadHandledAt IsHeadHandledAt see
-          (handled_seen (λ d. d) see sight) (head_seen see) remaining reader reader_left writer writer_left clock piped.clock_left piped.opened piped.left contents shows end piped.served;
-      private = piped.private;
-    }
-
 -- the same from a desk that was handed in to the one that is handed back
 pub piped_from : {D R W C : Type 0} (sight : Sight D) (remaining : R → Option (List ℕ)) (contents : W → Option (List ℕ)) (ticks : C → ℤ → C → Type 0)
     (reader reader_left : Counted R) (writer writer_left : Counted W) (clock clock_left : C) (old new : Service D) (end : StreamEnd)
@@ -69,23 +49,3 @@ piped_from sight remaining contents ticks reader reader_left writer writer_left 
     subst (λ l. IsPiped sight (λ d. d ≡ opened) (λ d. d ≡ l) remaining contents ticks reader reader_left writer writer_left clock end) (sym was)
     (subst (λ o. IsReady sight o → IsPiped sight (λ d. d ≡ o) (λ d. d ≡ desk_of new) remaining contents ticks reader reader_left writer writer_left clock end) is
     (piped_at sight remaining contents ticks reader reader_left writer writer_left clock clock_left old new end served private) ready)
-
--- a stream at a clock is one at the moments that it shows
-pub piped_by : {D R W C C' : Type 0} (sight : Sight D) (begins ends : D → Type 0)
-    (remaining : R → Option (List ℕ)) (contents : W → Option (List ℕ)) (ticks : C → ℤ → C → Type 0) (moments : C' → ℤ → C' → Type 0) (look : C → C')
-    (reader reader_left : Counted R) (writer writer_left : Counted W) (clock : C) (end : StreamEnd) → Shows ticks moments look clock
-    → IsPiped sight begins ends remaining contents ticks reader reader_left writer writer_left clock end
-    → IsPiped sight begins ends remaining contents moments reader reader_left writer writer_left (look clock) end
-piped_by sight begins ends remaining contents ticks moments look reader reader_left writer writer_left clock end shows piped =
-    piped_seen sight (λ d. d) begins ends begins ends remaining contents ticks moments look reader reader_left writer writer_left clock end
-    (λ d is. is) (λ d is. is) shows piped
-
--- a stream at a desk that began as it was handed in began as that desk was
-pub piped_begun : {D R W C : Type 0} (sight : Sight D) (begins ends : D → Type 0) (desk : D)
-    (remaining : R → Option (List ℕ)) (contents : W → Option (List ℕ)) (ticks : C → ℤ → C → Type 0)
-    (reader reader_left : Counted R) (writer writer_left : Counted W) (clock : C) (end : StreamEnd) → begins desk
-    → IsPiped sight (λ d. d ≡ desk) ends remaining contents ticks reader reader_left writer writer_left clock end
-    → IsPiped sight begins ends remaining contents ticks reader reader_left writer writer_left clock end
-piped_begun sight begins ends desk remaining contents ticks reader reader_left writer writer_left clock end begun piped =
-    piped_seen sight (λ d. d) (λ d. d ≡ desk) ends begins ends remaining contents ticks ticks (λ t. t) reader reader_left writer writer_left clock end
-    (λ d is. subst begins (sym is) begun) (λ d is. is) (shows_itself ticks clock) piped

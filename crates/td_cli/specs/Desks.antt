@@ -29,6 +29,15 @@ over_file = record {
   has_store = Unit {0};
 }
 
+-- the sight of a desk by what is seen of it
+abbrev pub sight_by : {D D' : Type 0} → (D → D') → Sight D' → Sight D
+sight_by see sight = record {
+  content = λ d. sight.content (see d);
+  is_clean = λ d. sight.is_clean (see d);
+  is_live = λ d. sight.is_live (see d);
+  has_store = sight.has_store;
+}
+
 -- what a request does to a desk that is seen so, and a HEAD request, which leaves it as it is
 abbrev pub IsHandledAt : {D : Type 0} → Sight D → D → ℤ → Asked → Reply → D → Type 0
 IsHandledAt sight = IsHandled (λ d. d) sight.content sight.is_clean sight.is_live sight.has_store

@@ -1,6 +1,10 @@
 pub mod Statuses
+pub mod Clocks
 pub mod Desks
+pub mod AtDesk
 pub mod Piped
-pub mod Checked
 pub mod Listening
+pub mod StreamsSeen
+pub mod VisitsSeen
+pub mod Checked
 pub mod Performed

@@ -1,5 +1,5 @@
 -- Connections to a port of this machine, served at a desk.
-use Rattle.std.specs.Prelude.{◌≡◌, ◌⊎◌, ℕ, ℤ, List, ◌++◌, codes, map, string_bytes, Option, Some, Result, Ok, Err}
+use Rattle.std.specs.Prelude.{◌≡◌, ◌⊎◌, ℕ, ℤ, List, ◌++◌, codes, map, string_bytes, Option, Result, Ok, Err}
 use Rattle.std.specs.Fmt.{decimal}
 use Rattle.std.specs.Io.KnownBytes.{Appends}
 use Rattle.std.specs.declared.io.Error.{Error}
@@ -8,17 +8,15 @@ use Rattle.counted_io.specs.declared.counted.Counted.{Counted}
 use Rattle.counted_io.specs.Counted.{known_bytes}
 use Rattle.counted_io.specs.Chains.{IsCutShort}
 use Rattle.td_desk.specs.Content.{Content}
-use Rattle.td_files.specs.Found.{FileState, IsToldOf, IsUnmade}
+use Rattle.td_files.specs.Found.{FileState}
 use Rattle.td_files.specs.declared.desks.DeskFault.{DeskFault}
-use Rattle.td_files.specs.declared.desks.DeskFault.TheVariants.{Refused}
-use Rattle.td_files.specs.Faults as fault
 use Rattle.td_http.specs.Private.{IsServedOver}
 use Rattle.td_http.specs.Visits.{ServesSockets}
-use Rattle.td_cli.specs.Desks.{Sight, in_memory, over_file, BeginsEmpty, BeginsKept, BeginsMade, IsHandledAt, IsHeadHandledAt, fresh_books}
-use Rattle.td_cli.specs.Piped.{IsMoment}
+use Rattle.td_cli.specs.AtDesk.{AtDesk, IsUntouched}
+use Rattle.td_cli.specs.Clocks.{IsMoment}
+use Rattle.td_cli.specs.Desks.{Sight, IsHandledAt, IsHeadHandledAt, fresh_books}
 use Rattle.td_words.specs.declared.words.Listening.{Listening}
 use Rattle.td_words.specs.declared.words.Records.{Records}
-use Rattle.td_words.specs.declared.words.Records.TheVariants.{Memory, File, NewFile}
 use Rattle.td_cli.specs.declared.serving.PrintedLines.{PrintedLines}
 use Rattle.td_cli.specs.declared.serving.ServingEnd.{ServingEnd}
 use Rattle.td_cli.specs.declared.serving.ServingEnd.TheVariants.{Done, NoMemory, Socket, Write}
@@ -76,22 +74,11 @@ abbrev pub ServesAt : {D W : Type 0} → Sight D → (D → Type 0) → (D → T
 ServesAt sight begins ends contents at port connections writer writer_left end =
     ServesAs {C = Unit {0}} sight begins ends contents (IsMoment at) port connections writer writer_left tt end
 
--- What a serving leaves at a desk whose records stand there, in this country and at this moment or by the machine's clock: how
--- it ended, and a file shows what the desk left; or there was no desk for this fault, and nothing was printed. In memory that
--- is want of memory.
-abbrev pub IsServing : {W : Type 0} → (W → Option (List ℕ)) → Image → List ℕ → Option ℤ → Records → ℕ → ℕ
-    → Counted W → Counted W → Option FileState → Result ServingEnd DeskFault → Type 0
-IsServing contents image country at Memory port connections writer writer_left file (Ok end) =
-    ServesAt in_memory (BeginsEmpty country) (λ c. Unit {0}) contents at port connections writer writer_left end
-IsServing contents image country at (File path) port connections writer writer_left file (Ok end) =
-    (s : FileState) × (file ≡ Some s)
-    × ServesAt over_file (BeginsKept image country) (λ d. d ≡ s) contents at port connections writer writer_left end
-IsServing contents image country at (NewFile path) port connections writer writer_left file (Ok end) =
-    (s : FileState) × (file ≡ Some s)
-    × ServesAt over_file (BeginsMade image country) (λ d. d ≡ s) contents at port connections writer writer_left end
-IsServing contents image country at Memory port connections writer writer_left file (Err why) =
-    (writer_left ≡ writer) × (why ≡ Refused fault.NoMemory)
-IsServing contents image country at (File path) port connections writer writer_left file (Err why) =
-    (writer_left ≡ writer) × IsToldOf image country file why
-IsServing contents image country at (NewFile path) port connections writer writer_left file (Err why) =
-    (writer_left ≡ writer) × IsUnmade why
+-- What a serving leaves at a desk whose records stand there, in this country and at this moment or by the machine's clock:
+-- the input isn't read, and where there was a desk, this is said of how the serving ended.
+abbrev pub IsServing : {R W : Type 0} → (W → Option (List ℕ)) → Image → List ℕ → Option ℤ → Records → ℕ → ℕ
+    → Counted R → Counted R → Counted W → Counted W → Option FileState → Result ServingEnd DeskFault → Type 0
+IsServing contents image country at records port connections reader reader_left writer writer_left file end =
+    AtDesk image country records
+    (λ D sight begins ends end. (reader_left ≡ reader) × ServesAt sight begins ends contents at port connections writer writer_left end)
+    (IsUntouched reader reader_left writer writer_left) file end

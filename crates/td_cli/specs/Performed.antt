@@ -27,8 +27,8 @@ IsDone remaining contents said image (Pipe records) country at reader reader_lef
     × PipesAs remaining contents image country at records reader reader_left writer writer_left file end
     × IsEndTold said errors errors_left end status
 IsDone remaining contents said image (Serve listening records) country at reader reader_left writer writer_left errors errors_left file status =
-    (end : Result ServingEnd DeskFault) × (reader_left ≡ reader)
-    × IsServing contents image country at records listening.port listening.connections writer writer_left file end
+    (end : Result ServingEnd DeskFault)
+    × IsServing contents image country at records listening.port listening.connections reader reader_left writer writer_left file end
     × IsServingTold said errors errors_left end status
 IsDone remaining contents said image (Check path) country at reader reader_left writer writer_left errors errors_left file status =
     (reader_left ≡ reader) × IsChecked contents said image country writer writer_left errors errors_left file status

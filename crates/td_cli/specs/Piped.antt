@@ -1,18 +1,17 @@
 -- One stream of requests at a desk.
-use Rattle.std.specs.Prelude.{◌≡◌, ℕ, ℤ, List, Option, Result, None, Some, Ok, Err}
+use Rattle.std.specs.Prelude.{◌≡◌, ℕ, ℤ, List, Option, Result}
 use Rattle.sqlite_wal.specs.Recovery.{Image}
 use Rattle.counted_io.specs.declared.counted.Counted.{Counted}
 use Rattle.td_desk.specs.Content.{Content}
-use Rattle.td_files.specs.Found.{FileState, IsToldOf, IsUnmade}
+use Rattle.td_files.specs.Found.{FileState}
 use Rattle.td_files.specs.declared.desks.DeskFault.{DeskFault}
-use Rattle.td_files.specs.declared.desks.DeskFault.TheVariants.{Refused}
-use Rattle.td_files.specs.Faults as fault
 use Rattle.td_http.specs.Serving.{IsServed}
 use Rattle.http_wire.specs.declared.stream.StreamEnd.{StreamEnd}
 use Rattle.http_wire.specs.Stream.{Serves}
 use Rattle.td_words.specs.declared.words.Records.{Records}
-use Rattle.td_words.specs.declared.words.Records.TheVariants.{Memory, File, NewFile}
-use Rattle.td_cli.specs.Desks.{Sight, in_memory, over_file, BeginsEmpty, BeginsKept, BeginsMade, IsHandledAt, IsHeadHandledAt, fresh_books}
+use Rattle.td_cli.specs.AtDesk.{AtDesk, IsUntouched}
+use Rattle.td_cli.specs.Clocks.{IsMoment}
+use Rattle.td_cli.specs.Desks.{Sight, IsHandledAt, IsHeadHandledAt, fresh_books}
 
 -- A stream of requests was served at a desk that is seen so, and began and ended so: the bytes consumed are whole requests and a rest, and
 -- what was written is the replies to them and what parts with the rest. Where the desk is clean in the end, each holder's
@@ -33,38 +32,17 @@ pub record IsPiped {D R W C : Type 0} (sight : Sight D) (begins ends : D → Typ
       → (c : Content) × IsServed (sight.content opened).country (fresh_books (sight.content opened)) 0 served.run.exchanges c
       × (sight.is_live left → sight.content left ≡ c)
 
--- The moments of a job's requests: the one of the job, or, where it has none, any that the machine's clock
--- shows. What the clock itself is in between is left out.
-abbrev pub IsMoment : Option ℤ → Unit {0} → ℤ → Unit {0} → Type 0
-IsMoment (Some at) old now new = now ≡ at
-IsMoment None old now new = Unit {0}
-
 -- the same at the moments of a job
 abbrev pub IsPipedAt : {D R W : Type 0} → Sight D → (D → Type 0) → (D → Type 0) → (R → Option (List ℕ)) → (W → Option (List ℕ)) → Option ℤ
     → Counted R → Counted R → Counted W → Counted W → StreamEnd → Type 0
 IsPipedAt sight begins ends remaining contents at reader reader_left writer writer_left end =
     IsPiped {C = Unit {0}} sight begins ends remaining contents (IsMoment at) reader reader_left writer writer_left tt end
 
--- nothing was read or written
-abbrev pub IsUntouched : {R W : Type 0} → Counted R → Counted R → Counted W → Counted W → Type 0
-IsUntouched reader reader_left writer writer_left = (reader_left ≡ reader) × (writer_left ≡ writer)
-
--- What a job leaves that serves one stream at a desk whose records stand there, in this country and at this moment or by the
--- machine's clock: the stream was served, and a file shows what the desk left; or there was no desk for this fault, and both
--- sides are as they were. In memory that is want of memory.
+-- What a job leaves that serves one stream at a desk whose records stand there, in this country and at this moment or by
+-- the machine's clock: where there was a desk, the stream was served.
 abbrev pub PipesAs : {R W : Type 0} → (R → Option (List ℕ)) → (W → Option (List ℕ)) → Image → List ℕ → Option ℤ
     → Records → Counted R → Counted R → Counted W → Counted W → Option FileState → Result StreamEnd DeskFault → Type 0
-PipesAs remaining contents image country at Memory reader reader_left writer writer_left file (Ok end) =
-    IsPipedAt in_memory (BeginsEmpty country) (λ c. Unit {0}) remaining contents at reader reader_left writer writer_left end
-PipesAs remaining contents image country at (File path) reader reader_left writer writer_left file (Ok end) =
-    (s : FileState) × (file ≡ Some s)
-    × IsPipedAt over_file (BeginsKept image country) (λ d. d ≡ s) remaining contents at reader reader_left writer writer_left end
-PipesAs remaining contents image country at (NewFile path) reader reader_left writer writer_left file (Ok end) =
-    (s : FileState) × (file ≡ Some s)
-    × IsPipedAt over_file (BeginsMade image country) (λ d. d ≡ s) remaining contents at reader reader_left writer writer_left end
-PipesAs remaining contents image country at Memory reader reader_left writer writer_left file (Err why) =
-    IsUntouched reader reader_left writer writer_left × (why ≡ Refused fault.NoMemory)
-PipesAs remaining contents image country at (File path) reader reader_left writer writer_left file (Err why) =
-    IsUntouched reader reader_left writer writer_left × IsToldOf image country file why
-PipesAs remaining contents image country at (NewFile path) reader reader_left writer writer_left file (Err why) =
-    IsUntouched reader reader_left writer writer_left × IsUnmade why
+PipesAs remaining contents image country at records reader reader_left writer writer_left file end =
+    AtDesk image country records
+    (λ D sight begins ends end. IsPipedAt sight begins ends remaining contents at reader reader_left writer writer_left end)
+    (IsUntouched reader reader_left writer writer_left) file end

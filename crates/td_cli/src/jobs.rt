@@ -7,8 +7,8 @@ ghost use Rattle.td_cli.specs.Checked.{IsChecked};
 ghost use Rattle.td_cli.specs.Performed.{IsDone, IsPerformed};
 ghost use Rattle.td_cli.specs.Statuses.{IsAnswered};
 
-use crate::piping::pipe;
-use crate::serving::serve;
+use crate::at_desk::{Office, at_desk};
+use crate::piping::Piping;
 use crate::telling::{WRONG_WORDS, fault, print, tell_desk_fault, tell_end, tell_serving};
 use sqlite::Start;
 use std::io::{Read, Write};
@@ -52,13 +52,14 @@ fn do_job<S: Start, R: Read, W: Write, E: Write>(
         (option_map (λ c. shown (file_state c)) file.new.connection) result }
 {
     let Job { task, country, at } = job;
+    let office = Office { country, at };
     match task {
         Task::Serve(listening, records) => {
-            let end = serve(rt, country, at, listening, &records, file, out);
+            let end = at_desk(rt, office, &records, file, &listening, input, out);
             tell_serving(rt.alloc(), end, errors)
         }
         Task::Pipe(records) => {
-            let end = pipe(rt, country, at, &records, file, input, out);
+            let end = at_desk(rt, office, &records, file, &Piping, input, out);
             tell_end(rt.alloc(), end, errors)
         }
         Task::Check(path) => check(rt, country, &path, file, out, errors),

@@ -2,6 +2,7 @@
 //! program itself only hands the machine's own in.
 #![tactic(auto)]
 
+mod at_desk;
 mod clock;
 mod jobs;
 mod laws;

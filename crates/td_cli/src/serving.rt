@@ -1,24 +1,18 @@
 //! Connections to a port of this machine.
-ghost use Rattle.std.specs.Prelude.{◌≡◌, Some, option_map, MatchResult};
-ghost use Rattle.sqlite.specs.Files.{file_state};
-ghost use Rattle.sqlite.specs.WalFiles.{image_at};
-ghost use Rattle.td_files.specs.Found.{FileState, shown};
-ghost use Rattle.td_files.specs.declared.desks.DeskFault.TheVariants as fault;
-ghost use Rattle.td_files.specs.Faults as refused;
+ghost use Rattle.std.specs.Prelude.{◌≡◌};
 ghost use Rattle.td_http.specs.Serving.{desk_of};
-ghost use Rattle.td_cli.specs.Desks.{in_memory, over_file, BeginsEmpty, IsReady};
-ghost use Rattle.td_cli.specs.Listening.{AreLinesOf, IsServing, ServesAs, ServesAt};
+ghost use Rattle.td_cli.specs.Desks.{IsReady};
+ghost use Rattle.td_cli.specs.Listening.{AreLinesOf, ServesAs};
+ghost use Rattle.td_cli.specs.VisitsSeen.{serving_seen};
 
-use crate::clock::{FixedClock, MachineClock};
-use sqlite::Start;
+use crate::at_desk::DeskJob;
 use std::alloc::{AllocError, Global};
-use std::io::Write;
+use std::io::{Read, Write};
 use std::net::{Ipv4Addr, SocketAddr, TcpListener};
-use td_base::{Counted, Country, write_whole};
-use td_desk::{Desk, PlainDesk};
-use td_files::{DeskFault, DeskFile, FileDesk, OpenFault};
+use td_base::{Counted, write_whole};
+use td_desk::Desk;
 use td_http::{Clock, Service, serve_on};
-use td_words::{Listening, Records};
+use td_words::Listening;
 
 /// How a serving ended.
 #[derive(Clone, Copy, Debug, PartialEq, Eq)]
@@ -54,108 +48,32 @@ impl PrintedLines {
     }
 }
 
-/// Serves connections in this country at a desk whose records stand there, at this moment or by the machine's clock. Prints that
-/// the port is listened on, and in the end that all were served. An error: why there was no desk.
-pub(crate) fn serve<S: Start, W: Write>(
-    rt: &HostRuntime,
-    country: Country,
-    at: Option<i64>,
-    listening: Listening,
-    records: &Records,
-    file: &mut DeskFile<S>,
-    out: &mut Counted<W>,
-) -> Result<ServingEnd, DeskFault>
-    ensures { IsServing W.contents (image_at S.Start) country at records.now listening.port listening.connections out.old out.new
-        (option_map (λ c. shown (file_state c)) file.new.connection) result }
-{
-    match records {
-        Records::Memory => serve_in_memory(rt, country, at, listening, out),
-        Records::File(path) => {
-            let desk = file.open_desk(rt, country, path)?;
-            Ok(serve_over(rt, desk, at, listening, file, out))
-        }
-        Records::NewFile(path) => {
-            let desk = file.make_desk(rt, country, path)?;
-            Ok(serve_over(rt, desk, at, listening, file, out))
-        }
+/// The job that serves so many connections to a port. It reads no input, and prints that the port is listened on, and in
+/// the end that all were served.
+impl DeskJob for Listening {
+    type End = ServingEnd;
+
+    ghost does = { λ D R W C sight begins ends remaining contents ticks job reader reader_left writer writer_left clock end.
+        (reader_left ≡ reader) × ServesAs sight begins ends contents ticks job.port job.connections writer writer_left clock end };
+
+    ghost seen = { λ D D' R W C C' sight see begins ends begins' ends' remaining contents ticks moments look job reader reader_left writer writer_left clock end begin close shows serves.
+        (serves.0, serving_seen sight see begins ends begins' ends' contents ticks moments look job.port job.connections writer writer_left clock begin close shows end serves.1) };
+
+    fn on<D: Desk + Drop, C: Clock + Drop, R: Read, W: Write>(
+        &self,
+        rt: &HostRuntime,
+        desk: D,
+        mut clock: C,
+        _input: &mut Counted<R>,
+        out: &mut Counted<W>,
+    ) -> (ServingEnd, D) {
+        let mut service = Service::new(desk);
+        let end = serve_printing(rt, *self, &mut clock, &mut service, out);
+        (end, service.into_desk())
     }
 }
 
-// The same at a new desk in memory, which is gone after it. An error: there was no memory for the desk.
-fn serve_in_memory<W: Write>(
-    rt: &HostRuntime,
-    country: Country,
-    at: Option<i64>,
-    listening: Listening,
-    out: &mut Counted<W>,
-) -> Result<ServingEnd, DeskFault>
-    ensures { MatchResult result
-        (λ end. ServesAt in_memory (BeginsEmpty country) (λ c. Unit {0}) W.contents at listening.port listening.connections
-        out.old out.new end)
-        (λ why. (out.new ≡ out.old) × (why ≡ fault.Refused refused.NoMemory)) }
-{
-    let Ok(desk) = PlainDesk::new(rt.alloc(), country) else {
-        return Err(DeskFault::Refused(OpenFault::NoMemory));
-    };
-    let (end, _desk) = serve_at(rt, desk, at, listening, out);
-    Ok(end)
-}
-
-// The same at a desk over a file, whose connection is handed back.
-fn serve_over<S: Start, W: Write>(
-    rt: &HostRuntime,
-    desk: FileDesk<S>,
-    at: Option<i64>,
-    listening: Listening,
-    file: &mut DeskFile<S>,
-    out: &mut Counted<W>,
-) -> ServingEnd
-    ensures { IsReady over_file (shown (file_state desk)) → (s : FileState)
-        × (option_map (λ c. shown (file_state c)) file.new.connection ≡ Some s)
-        × ServesAt over_file (λ d. d ≡ shown (file_state desk)) (λ d. d ≡ s) W.contents at listening.port listening.connections
-        out.old out.new result }
-{
-    let (end, desk) = serve_at(rt, desk, at, listening, out);
-    file.keep(desk);
-    end
-}
-
-// The same at any desk, which is handed back.
-fn serve_at<W: Write, D: Desk + Drop>(
-    rt: &HostRuntime,
-    desk: D,
-    at: Option<i64>,
-    listening: Listening,
-    out: &mut Counted<W>,
-) -> (ServingEnd, D)
-    ensures { IsReady (record { content = D.content; is_clean = D.is_clean; is_live = D.is_live; has_store = D.has_store }) desk
-        → ServesAt (record { content = D.content; is_clean = D.is_clean; is_live = D.is_live; has_store = D.has_store })
-        (λ d. d ≡ desk) (λ d. d ≡ result.1) W.contents at listening.port listening.connections out.old out.new result.0 }
-{
-    match at {
-        Some(at) => serve_by(rt, desk, FixedClock { at }, listening, out),
-        None => serve_by(rt, desk, MachineClock { rt }, listening, out),
-    }
-}
-
-// The same by a clock.
-fn serve_by<W: Write, D: Desk + Drop, C: Clock + Drop>(
-    rt: &HostRuntime,
-    desk: D,
-    mut clock: C,
-    listening: Listening,
-    out: &mut Counted<W>,
-) -> (ServingEnd, D)
-    ensures { IsReady (record { content = D.content; is_clean = D.is_clean; is_live = D.is_live; has_store = D.has_store }) desk
-        → ServesAs (record { content = D.content; is_clean = D.is_clean; is_live = D.is_live; has_store = D.has_store })
-        (λ d. d ≡ desk) (λ d. d ≡ result.1) W.contents C.ticks listening.port listening.connections out.old out.new clock result.0 }
-{
-    let mut service = Service::new(desk);
-    let end = serve_printing(rt, listening, &mut clock, &mut service, out);
-    (end, service.into_desk())
-}
-
-// The same at a service.
+// Serves them at a service.
 fn serve_printing<W: Write, D: Desk + Drop, C: Clock>(
     rt: &HostRuntime,
     listening: Listening,

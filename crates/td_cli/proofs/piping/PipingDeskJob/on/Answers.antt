@@ -1,5 +1,5 @@
 use Rattle.td_cli.proofs.Pipes.{piped_from}
-use Rattle.td_cli.proofs.piping.pipe_by.Goals as goal
+use Rattle.td_cli.proofs.piping.PipingDeskJob.on.Goals as goal
 
 pub returns : goal.returns
 returns g c = λ ready.

@@ -1,4 +1,4 @@
--- What is said of a stream at a clock and a handler, said of what is seen of these two.
+-- What is said of a stream by a clock at a desk, said of what is seen of these two.
 use Rattle.std.proofs.Common.{ℕ, ◌+◌, ℤ, List, [], ◌∷◌, Option, ap, sym, subst, inl, inr}
 use Rattle.counted_io.specs.declared.counted.Counted.{Counted}
 use Rattle.http_wire.specs.declared.reply.Reply.{Reply}
@@ -6,7 +6,10 @@ use Rattle.http_wire.specs.declared.stream.StreamEnd.{StreamEnd}
 use Rattle.http_wire.specs.declared.stream.StreamEnd.TheVariants.{Closed, Asked, Served, Refused, Cut, ReadsSpent, ReadFault, WriteFault, Failed}
 use Rattle.http_wire.specs.Request as request
 use Rattle.http_wire.specs.Stream.{Exchange, Chain, Run, EndsAs, Serves, Sides, IsParting, Parting, silence, refusal, to_head, no_memory, MetEnd, LeftOpen, AskedAtReply, FailedAtReply, CutAtReply}
-use Rattle.td_cli.proofs.Clocks.{Shows}
+use Rattle.td_http.specs.Serving.{IsHandled}
+use Rattle.td_cli.specs.Clocks.{Shows}
+use Rattle.td_cli.specs.Desks.{Sight, sight_by, IsHandledAt, IsHeadHandledAt}
+use Rattle.td_cli.specs.Piped.{IsPiped}
 
 module _ {C C' H H' : Type 0} (ticks : C → ℤ → C → Type 0) (moments : C' → ℤ → C' → Type 0) (look : C → C')
     (handles : H → ℤ → request.Asked → Reply → H → Type 0) (handles' : H' → ℤ → request.Asked → Reply → H' → Type 0)
@@ -134,3 +137,40 @@ module _ {C C' H H' : Type 0} (ticks : C → ℤ → C → Type 0) (moments : C'
           memory = served.memory;
           ends = ends_seen served.run end served.ends;
         }
+
+-- what is said of a request at a desk, said of what is seen of the desk
+pub handled_seen : {S D D' : Type 0} (desk : S → D) (see : D → D') (sight : Sight D') (old : S) (at : ℤ) (asked : request.Asked) (reply : Reply) (new : S)
+    → IsHandled desk (λ d. sight.content (see d)) (λ d. sight.is_clean (see d)) (λ d. sight.is_live (see d)) sight.has_store old at asked reply new
+    → IsHandledAt sight (see (desk old)) at asked reply (see (desk new))
+handled_seen desk see sight old at asked reply new is =
+    record {
+      clean = is.clean;
+      live = is.live;
+      handled = is.handled;
+      unasked = λ why unread. ap see (is.unasked why unread);
+      store = is.store;
+    }
+
+pub head_seen : {D D' : Type 0} (see : D → D') (old : D) (target : List ℕ) (reply : Reply) (new : D) → IsHeadHandledAt old target reply new
+    → IsHeadHandledAt (see old) target reply (see new)
+head_seen see old target reply new is = record { stays = ap see is.stays; told = is.told }
+
+-- what is seen of a stream at a desk
+pub piped_seen : {D D' R W C C' : Type 0} (sight : Sight D') (see : D → D') (begins ends : D → Type 0) (begins' ends' : D' → Type 0)
+    (remaining : R → Option (List ℕ)) (contents : W → Option (List ℕ)) (ticks : C → ℤ → C → Type 0) (moments : C' → ℤ → C' → Type 0) (look : C → C')
+    (reader reader_left : Counted R) (writer writer_left : Counted W) (clock : C) (end : StreamEnd)
+    → ((d : D) → begins d → begins' (see d)) → ((d : D) → ends d → ends' (see d)) → Shows ticks moments look clock
+    → IsPiped (sight_by see sight) begins ends remaining contents ticks reader reader_left writer writer_left clock end
+    → IsPiped sight begins' ends' remaining contents moments reader reader_left writer writer_left (look clock) end
+unfolding serves_seen
+piped_seen sight see begins ends begins' ends' remaining contents ticks moments look reader reader_left writer writer_left clock end begin close shows piped =
+    record {
+      opened = see piped.opened;
+      left = see piped.left;
+      clock_left = look piped.clock_left;
+      begun = begin piped.opened piped.begun;
+      ended = close piped.left piped.ended;
+      served = serves_seen ticks moments look (IsHandledAt (sight_by see sight)) (IsHandledAt sight) IsHeadHandledAt IsHeadHandledAt see
+          (handled_seen (λ d. d) see sight) (head_seen see) remaining reader reader_left writer writer_left clock piped.clock_left piped.opened piped.left contents shows end piped.served;
+      private = piped.private;
+    }
