@@ -5,6 +5,6 @@ pub mod ReplyText
 pub mod Input
 pub mod Reading
 pub mod Replies
-pub mod Farewell
+pub mod ClosingReply
 pub mod Stream
 pub mod OneReading

@@ -5,6 +5,6 @@ pub mod AtDesk
 pub mod Piped
 pub mod Listening
 pub mod StreamsSeen
-pub mod VisitsSeen
+pub mod ConnectionsSeen
 pub mod Checked
 pub mod Performed

@@ -65,7 +65,7 @@ pub(crate) fn at_desk<S: Start, R: Read, W: Write, J: DeskJob>(
     out: &mut Counted<W>,
 ) -> Result<J::End, DeskFault>
     ensures { AtDesk (image_at S.Start) office.country records.now
-        (λ D sight begins ends end. J.does D _ _ _ sight begins ends R.remaining W.contents (IsMoment office.at) job.now
+        (λ D view begins ends end. J.does D _ _ _ view begins ends R.remaining W.contents (IsMoment office.at) job.now
         input.old input.new out.old out.new tt end)
         (IsUntouched input.old input.new out.old out.new)
         (option_map (λ c. shown (file_state c)) file.new.connection) result }

@@ -23,7 +23,7 @@ use Rattle.typed_sql.proofs.Ids.{has_own}
 use Rattle.td_store_rows.specs.Columns.{holder_typing}
 use Rattle.td_store_rows.specs.StoreTables.{tables_in}
 use Rattle.td_store_audit_rows.specs.Kept.{AreHoldersKept}
-use Rattle.td_store_audit_rows.specs.Kinds.{AllRows, HasNumber}
+use Rattle.td_store_audit_rows.specs.Untyped.{AllRows, HasNumber}
 use Rattle.td_store_audit.proofs.Checked.{IsNumbered, checked}
 use Rattle.td_store_audit.proofs.Equal.{number_ties}
 use Rattle.td_store_audit.proofs.Parents.{each_found, named_holder, named_movement}

@@ -12,7 +12,7 @@ use Rattle.td_table_model.proofs.Orders.{rises-map, rises_from_map, rises_lower}
 use Rattle.td_store_rows.specs.MovementTable.{movement_row_of, serial_of_stored}
 use Rattle.td_store_rows.specs.declared.movements.stored.MovementSerial.{MovementSerial}
 use Rattle.td_store_rows.specs.declared.movements.stored.StoredMovement.{StoredMovement}
-use Rattle.td_store_audit.specs.Handed.{is_counting_row}
+use Rattle.td_store_audit.specs.Tallies.{is_counting_row}
 
 -- those in rows
 abbrev pub serials_in : List StoredMovement → List ℕ

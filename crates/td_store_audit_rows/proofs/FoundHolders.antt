@@ -17,7 +17,7 @@ use Rattle.typed_sql.specs.Typed.{row_of, typed_rows}
 use Rattle.td_store_rows.specs.Columns.{holder_typing}
 use Rattle.td_store_audit_rows.specs.Found.{FoundHoldersTell, HasGrns, HasMrns, grn_pair, mrn_pair, raw_grn_pair, raw_mrn_pair}
 use Rattle.td_store_audit_rows.specs.Holders.{AreHoldersIn, HolderFields, NumbersRise, fields_of, fields_of_raw}
-use Rattle.td_store_audit_rows.specs.Kinds.{HasGrnCount, HasMrnCount, HasNumber}
+use Rattle.td_store_audit_rows.specs.Untyped.{HasGrnCount, HasMrnCount, HasNumber}
 use Rattle.td_store_audit_rows.specs.declared.holders.RawHolder.{RawHolder}
 use Rattle.td_store_audit_rows.proofs.Identities.{fields_tell, tell_s2}
 
