@@ -13,7 +13,7 @@ use Rattle.http_wire.specs.declared.input.TheConstants.{MOST}
 use Rattle.http_wire.specs.declared.request.Request.{Request}
 use Rattle.http_wire.specs.declared.reply.Reply.{Reply}
 use Rattle.http_wire.specs.declared.stream.StreamEnd.{StreamEnd}
-use Rattle.http_wire.specs.Request as request
+use Rattle.http_wire.specs.Wire as request
 use Rattle.http_wire.specs.ReplyText.{bytes_of, is_made}
 use Rattle.http_wire.specs.Reading.{HasRead, ReadsOn, Takes, KeepsRoom, brought}
 use Rattle.http_wire.specs.Replies.{HoldsOrSends, Adds}

@@ -1,4 +1,3 @@
-pub mod Request
 pub mod Framing
 pub mod Wire
 pub mod ReplyText

@@ -9,7 +9,7 @@ use Rattle.http_wire.specs.declared.framing.FramingError.{FramingError}
 use Rattle.http_wire.specs.declared.reply.Reply.{Reply}
 use Rattle.http_wire.specs.declared.stream.StreamEnd.{StreamEnd}
 use Rattle.http_wire.specs.declared.stream.StreamEnd.TheVariants.{Closed, Asked, Served, Refused, Cut, ReadsSpent, ReadFault, WriteFault, Failed}
-use Rattle.http_wire.specs.Request as request
+use Rattle.http_wire.specs.Wire as request
 use Rattle.http_wire.specs.ReplyText.{framing_reply, no_memory_reply, bytes_of, is_made}
 use Rattle.http_wire.specs.Reading.{Finish, brought, ended, failed, Reads, count_of}
 use Rattle.http_wire.specs.Wire.{WireRequest, wire_bytes, Splits, asks_close, IsOpen, IsRefusedFor, IsHeadRequest, BeginsServed}

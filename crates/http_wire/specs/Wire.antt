@@ -10,6 +10,17 @@ use Rattle.http_wire.specs.declared.next.Next.{Next}
 use Rattle.http_wire.specs.declared.next.Next.TheVariants.{Whole, Head, Refused, More}
 use Rattle.http_wire.specs.Framing.{body_length, closes}
 
+-- the parts of a request that an answer may depend on
+pub record Asked : Type 0 where
+  pub method : List ℕ
+  pub target : List ℕ
+  pub body : List ℕ
+  pub close : Bool
+
+-- the parts of this one
+abbrev pub asked : Request → Asked
+asked r = record { method = r.method; target = r.target.items; body = r.body.items; close = r.close }
+
 -- the names and values of a head's fields
 abbrev pub fields_of : RequestHead → List (List ℕ × List ℕ)
 fields_of h = map name_and_value h.fields

@@ -1,6 +1,6 @@
 //! Serving a stream of requests.
 ghost use Rattle.std.specs.Prelude.{◌||◌};
-ghost use Rattle.http_wire.specs.Request.{asked};
+ghost use Rattle.http_wire.specs.Wire.{asked};
 ghost use Rattle.http_wire.specs.ClosingReply.{SendsLast, ClosingReply, SendsAndParts};
 ghost use Rattle.http_wire.specs.Replies.{waiting};
 ghost use Rattle.http_wire.specs.Stream.{Serves};
@@ -48,7 +48,7 @@ pub enum StreamEnd {
 /// and what becomes of it.
 pub trait Handler {
     ghost use Rattle.std.specs.Prelude.{ℕ, ℤ, List};
-    ghost use Rattle.http_wire.specs.Request.{Asked};
+    ghost use Rattle.http_wire.specs.Wire.{Asked};
     ghost use Rattle.http_wire.specs.declared.reply.Reply.{Reply};
 
     // the old state, the moment, the request, the reply, the new state

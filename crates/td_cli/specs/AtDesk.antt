@@ -10,8 +10,7 @@ use Rattle.td_files.specs.declared.desks.DeskFault.TheVariants.{Refused}
 use Rattle.td_files.specs.Faults as fault
 use Rattle.td_words.specs.declared.words.Records.{Records}
 use Rattle.td_words.specs.declared.words.Records.TheVariants.{Memory, File, NewFile}
-use Rattle.td_cli.specs.Clocks.{Shows}
-use Rattle.td_cli.specs.Desks.{DeskView, in_memory, over_file, BeginsEmpty, BeginsKept, BeginsMade, view_by}
+use Rattle.td_cli.specs.Desks.{BeginsEmpty, BeginsKept, BeginsMade, DeskView, Shows, in_memory, over_file, view_by}
 
 -- What a job does that ends so: at a desk that is seen so, and begins and ends so; by a clock that ticks so; with an input
 -- and an output of which that much is known, as they are before it and after it.

@@ -5,10 +5,9 @@ use Rattle.std.specs.declared.io.Error.{Error}
 use Rattle.std.specs.declared.net.tcp.TcpStream.{TcpStream}
 use Rattle.counted_io.specs.declared.counted.Counted.{Counted}
 use Rattle.http_wire.specs.declared.reply.Reply.{Reply}
-use Rattle.http_wire.specs.Request.{Asked}
+use Rattle.http_wire.specs.Wire.{Asked}
 use Rattle.td_http.specs.Connections.{ServesSockets, Between, Connection, ServedConnections, IsRefused}
-use Rattle.td_cli.specs.Clocks.{Shows}
-use Rattle.td_cli.specs.Desks.{DeskView, view_by, IsHandledAt, IsHeadHandledAt}
+use Rattle.td_cli.specs.Desks.{DeskView, IsHandledAt, IsHeadHandledAt, Shows, view_by}
 use Rattle.td_cli.specs.Listening.{HasServed, ServesAs}
 use Rattle.td_cli.specs.StreamsSeen.{chain_keeps, handled_seen, head_seen, serves_seen}
 use Rattle.td_cli.specs.declared.serving.ServingEnd.{ServingEnd}

@@ -1,11 +1,11 @@
 -- What the program's jobs say of a desk: what contracts see of it, what it begins with, and what is told to each holder.
-use Rattle.std.specs.Prelude.{◌≡◌, ℕ, ℤ, Bool, true, false, List, IsTrue}
+use Rattle.std.specs.Prelude.{◌≡◌, ℕ, ℤ, Bool, true, false, List, Option, None, Some, IsTrue}
 use Rattle.sqlite_wal.specs.Recovery.{Image}
 use Rattle.td_model.specs.Book.{Book}
 use Rattle.td_desk.specs.Content.{Content, account_in, empty_content, fresh, IsSound}
 use Rattle.td_files.specs.Found.{content_in, FileState, IsClean, IsOpenedDesk, IsCreatedDesk}
 use Rattle.http_wire.specs.declared.reply.Reply.{Reply}
-use Rattle.http_wire.specs.Request.{Asked}
+use Rattle.http_wire.specs.Wire.{Asked}
 use Rattle.td_http.specs.Serving.{IsHeadReply, IsHandled}
 
 -- What contracts see of a desk: its content; whether its disk is clean, that is returned what was written while nobody else
@@ -75,3 +75,15 @@ IsReady view d = view.is_clean d → view.is_live d × IsSound (view.content d)
 abbrev pub BeginAlike : List ℕ → ℕ → Content → Content → Type 0
 BeginAlike country H one other =
     (one.country ≡ country) × (other.country ≡ country) × (account_in H one ≡ account_in H other)
+
+-- The moments of a job's requests: the one of the job, or, where it has none, any that the machine's clock
+-- shows. What the clock itself is in between is left out.
+abbrev pub IsMoment : Option ℤ → Unit {0} → ℤ → Unit {0} → Type 0
+IsMoment (Some at) old now new = now ≡ at
+IsMoment None old now new = Unit {0}
+
+-- each tick of the clock is, by what is seen of the clock, one of these moments
+pub record Shows {C C' : Type 0} (ticks : C → ℤ → C → Type 0) (moments : C' → ℤ → C' → Type 0) (look : C → C') (clock : C) : Type 1 where
+  pub keeps : C → Type 0
+  pub first : keeps clock
+  pub each : (old : C) (at : ℤ) (new : C) → keeps old → ticks old at new → moments (look old) at (look new) × keeps new

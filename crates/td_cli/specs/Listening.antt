@@ -13,8 +13,7 @@ use Rattle.td_files.specs.declared.desks.DeskFault.{DeskFault}
 use Rattle.td_http.specs.Private.{IsServedOver}
 use Rattle.td_http.specs.Connections.{ServesSockets}
 use Rattle.td_cli.specs.AtDesk.{AtDesk, IsUntouched}
-use Rattle.td_cli.specs.Clocks.{IsMoment}
-use Rattle.td_cli.specs.Desks.{DeskView, IsHandledAt, IsHeadHandledAt, fresh_books}
+use Rattle.td_cli.specs.Desks.{DeskView, IsHandledAt, IsHeadHandledAt, IsMoment, fresh_books}
 use Rattle.td_words.specs.declared.words.Listening.{Listening}
 use Rattle.td_words.specs.declared.words.Records.{Records}
 use Rattle.td_cli.specs.declared.serving.PrintedLines.{PrintedLines}

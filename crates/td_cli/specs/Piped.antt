@@ -10,8 +10,7 @@ use Rattle.http_wire.specs.declared.stream.StreamEnd.{StreamEnd}
 use Rattle.http_wire.specs.Stream.{Serves}
 use Rattle.td_words.specs.declared.words.Records.{Records}
 use Rattle.td_cli.specs.AtDesk.{AtDesk, IsUntouched}
-use Rattle.td_cli.specs.Clocks.{IsMoment}
-use Rattle.td_cli.specs.Desks.{DeskView, IsHandledAt, IsHeadHandledAt, fresh_books}
+use Rattle.td_cli.specs.Desks.{DeskView, IsHandledAt, IsHeadHandledAt, IsMoment, fresh_books}
 
 -- A stream of requests was served at a desk that is seen so, and began and ended so: the bytes consumed are whole requests and a rest, and
 -- what was written is the replies to them and what parts with the rest. Where the desk is clean in the end, each holder's

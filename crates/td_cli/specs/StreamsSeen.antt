@@ -4,11 +4,10 @@ use Rattle.counted_io.specs.declared.counted.Counted.{Counted}
 use Rattle.http_wire.specs.declared.reply.Reply.{Reply}
 use Rattle.http_wire.specs.declared.stream.StreamEnd.{StreamEnd}
 use Rattle.http_wire.specs.declared.stream.StreamEnd.TheVariants.{Closed, Asked, Served, Refused, Cut, ReadsSpent, ReadFault, WriteFault, Failed}
-use Rattle.http_wire.specs.Request as request
+use Rattle.http_wire.specs.Wire as request
 use Rattle.http_wire.specs.Stream.{Exchange, Chain, Run, EndsAs, Serves, Sides, IsEnding, Ending, silence, refusal, to_head, no_memory, MetEnd, LeftOpen, AskedAtReply, FailedAtReply, CutAtReply}
 use Rattle.td_http.specs.Serving.{IsHandled}
-use Rattle.td_cli.specs.Clocks.{Shows}
-use Rattle.td_cli.specs.Desks.{DeskView, view_by, IsHandledAt, IsHeadHandledAt}
+use Rattle.td_cli.specs.Desks.{DeskView, IsHandledAt, IsHeadHandledAt, Shows, view_by}
 use Rattle.td_cli.specs.Piped.{IsPiped}
 
 module _ {C C' H H' : Type 0} (ticks : C → ℤ → C → Type 0) (moments : C' → ℤ → C' → Type 0) (look : C → C')

@@ -7,8 +7,7 @@ ghost use Rattle.td_files.specs.Found.{FileState, shown};
 ghost use Rattle.td_files.specs.declared.desks.DeskFault.TheVariants as fault;
 ghost use Rattle.td_files.specs.Faults as refused;
 ghost use Rattle.td_cli.specs.AtDesk.{AtDesk, Doing, IsSeen, IsUntouched};
-ghost use Rattle.td_cli.specs.Clocks.{IsMoment};
-ghost use Rattle.td_cli.specs.Desks.{in_memory, over_file, BeginsEmpty, IsReady};
+ghost use Rattle.td_cli.specs.Desks.{BeginsEmpty, IsMoment, IsReady, in_memory, over_file};
 
 use crate::clock::{FixedClock, MachineClock};
 use sqlite::Start;

@@ -5,7 +5,7 @@ use Rattle.std.proofs.lemmas.Fn.{FoldsTo-push}
 use Rattle.std.proofs.lemmas.List.{length-append}
 use Rattle.std.specs.declared.io.Error.{Error}
 use Rattle.http_wire.specs.declared.reply.Reply.{Reply}
-use Rattle.http_wire.specs.Request.{Asked}
+use Rattle.http_wire.specs.Wire.{Asked}
 use Rattle.td_http.specs.Connections.{Between, Connection, IsServedConnection, ServedConnections}
 
 -- the parts, one after the other

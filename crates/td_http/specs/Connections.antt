@@ -7,7 +7,7 @@ use Rattle.counted_io.specs.declared.counted.Counted.{Counted}
 use Rattle.counted_io.specs.Counted.{calls_of, has_failed, inner_of}
 use Rattle.http_wire.specs.declared.reply.Reply.{Reply}
 use Rattle.http_wire.specs.declared.stream.StreamEnd.{StreamEnd}
-use Rattle.http_wire.specs.Request.{Asked}
+use Rattle.http_wire.specs.Wire.{Asked}
 use Rattle.http_wire.specs.Stream.{Exchange, Serves}
 use Rattle.std.specs.declared.net.tcp.TcpStream.{TcpStream}
 

@@ -11,7 +11,7 @@ use Rattle.td_fields.specs.declared.fault.WebFault.{WebFault}
 use Rattle.http_wire.specs.declared.reply.Reply.{Reply}
 use Rattle.http_wire.specs.declared.reply.Reply.TheVariants.{Made, NoMemory, Store}
 use Rattle.http_wire.specs.declared.stream.StreamEnd.{StreamEnd}
-use Rattle.http_wire.specs.Request.{Asked}
+use Rattle.http_wire.specs.Wire.{Asked}
 use Rattle.http_wire.specs.ReplyText.{bytes_of, is_made}
 use Rattle.http_wire.specs.Stream.{Exchange, Serves, Sides, question}
 use Rattle.td_http.specs.declared.service.Service.{Service}

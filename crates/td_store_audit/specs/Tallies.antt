@@ -6,8 +6,7 @@ use Rattle.sqlite_trees.specs.Tree.{Trees}
 use Rattle.sqlite.specs.State.{State}
 use Rattle.td_movement.specs.States.{is_counting}
 use Rattle.td_movement.specs.declared.movement.Movement.{Movement}
-use Rattle.td_table_model.specs.Apart.{IsApart}
-use Rattle.td_table_model.specs.Gathering.{movements_by, part, place}
+use Rattle.td_table_model.specs.Gathering.{IsApart, movements_by, part, place}
 use Rattle.td_table_model.specs.Tables.{Keyed}
 use Rattle.td_table_model.specs.declared.rule.Rule.TheVariants.{S8}
 use Rattle.typed_sql.specs.Typed.{AreTyped}

@@ -9,8 +9,7 @@ use Rattle.sqlite_value.specs.Order.{Row}
 use Rattle.td_model.specs.declared.holder_row.HolderRow.{HolderRow}
 use Rattle.td_base.specs.Codes.{IsHolderNumber}
 use Rattle.keyed_rows.specs.Rows.{Rises}
-use Rattle.td_table_model.specs.Apart.{IsApart}
-use Rattle.td_table_model.specs.Gathering.{holder_no, of_key}
+use Rattle.td_table_model.specs.Gathering.{IsApart, holder_no, of_key}
 use Rattle.td_table_model.proofs.Numbered.{map_same}
 use Rattle.td_table_model.proofs.Orders.{apart_permuted, rises_apart}
 use Rattle.typed_sql.specs.Typed.{row_of, typed_rows}

@@ -6,8 +6,7 @@ use Rattle.sqlite_trees.specs.Tree.{Trees}
 use Rattle.td_model.specs.declared.holder_row.HolderRow.{HolderRow}
 use Rattle.td_base.specs.Codes.{IsHolderNumber}
 use Rattle.td_table_model.specs.declared.rule.Rule.TheVariants.{S2}
-use Rattle.td_table_model.specs.Apart.{IsApart}
-use Rattle.td_table_model.specs.Gathering.{holder_no}
+use Rattle.td_table_model.specs.Gathering.{IsApart, holder_no}
 use Rattle.typed_sql.specs.Typed.{row_of, typed_rows}
 use Rattle.td_store_rows.specs.Columns.{holder_typing}
 use Rattle.td_store_audit_rows.specs.Holders.{AreHoldersIn, NumbersRise}

@@ -6,9 +6,8 @@ use Rattle.sqlite_trees.specs.Tree.{Trees}
 use Rattle.td_model.specs.declared.holder_row.HolderRow.{HolderRow}
 use Rattle.td_base.specs.Codes.{IsCountry, IsHolderNumber}
 use Rattle.td_table_model.specs.declared.rule.Rule.TheVariants.{S2, S3, S4, S5, S6}
-use Rattle.td_table_model.specs.Apart.{IsApart}
 use Rattle.td_table_model.specs.Rules.{Keeps, IsHolderInRange}
-use Rattle.td_table_model.specs.Gathering.{no_of, of_key, part, place}
+use Rattle.td_table_model.specs.Gathering.{IsApart, no_of, of_key, part, place}
 use Rattle.td_table_model.specs.Stored.{AreOfHolders}
 use Rattle.td_table_model.specs.Tables.{Tables}
 use Rattle.typed_sql.specs.Typed.{row_of}
