@@ -2,8 +2,6 @@
 #![tactic(auto)]
 
 mod counted;
-#[cfg(test)]
-mod tests;
 mod writing;
 
 pub use counted::Counted;

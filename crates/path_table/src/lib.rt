@@ -11,6 +11,3 @@ mod table;
 pub use laws::rows_are_found_as_by_matchit;
 pub use parts::Parts;
 pub use table::{Found, PathTable, Row};
-
-#[cfg(test)]
-mod tests;

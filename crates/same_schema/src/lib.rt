@@ -3,8 +3,6 @@
 
 mod objects;
 mod same;
-#[cfg(test)]
-mod tests;
 mod values;
 
 pub use objects::is_same_schema;

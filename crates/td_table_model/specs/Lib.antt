@@ -4,5 +4,4 @@ pub mod Looking
 pub mod Changes
 pub mod Stored
 pub mod Rules
-pub mod Worked
 pub mod Laws

@@ -4,8 +4,6 @@
 
 mod laws;
 mod rule;
-#[cfg(test)]
-mod tests;
 
 pub use laws::{
     accounts_are_in_tables, changes_are_written, content_is_of_tables, decisions_are_written,

@@ -15,6 +15,8 @@ mod money;
 #[cfg(test)]
 mod movements;
 #[cfg(test)]
+mod rows_by_key;
+#[cfg(test)]
 mod time;
 #[cfg(test)]
 mod verdicts;

@@ -7,6 +7,10 @@ mod answers;
 #[cfg(test)]
 mod connections;
 #[cfg(test)]
+mod counted_calls;
+#[cfg(test)]
+mod path_rows;
+#[cfg(test)]
 mod requests;
 #[cfg(test)]
 mod streams;

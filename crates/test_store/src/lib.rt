@@ -10,6 +10,8 @@ mod codes;
 #[cfg(test)]
 mod desks;
 #[cfg(test)]
+mod equal_schemas;
+#[cfg(test)]
 mod guarantees;
 #[cfg(test)]
 mod holders;
@@ -23,3 +25,5 @@ mod needs;
 mod schema;
 #[cfg(test)]
 mod statements;
+#[cfg(test)]
+mod table_model;

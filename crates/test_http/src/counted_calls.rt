@@ -2,7 +2,7 @@
 //! say this of any inner one: what a reader has left doesn't tell how often it was asked.
 ghost use Rattle.std.specs.Prelude.{◌≤◌, IfOk};
 
-use crate::Counted;
+use counted_io::Counted;
 use std::io;
 use std::io::{ErrorKind, Read, Write};
 use std::test::Fail;

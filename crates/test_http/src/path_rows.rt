@@ -1,5 +1,5 @@
 //! Paths, and the rows that they fit.
-use crate::{PathTable, Row, rows_are_found_as_by_matchit};
+use path_table::{PathTable, Row, rows_are_found_as_by_matchit};
 use std::process::Abort;
 use std::test::Fail;
 

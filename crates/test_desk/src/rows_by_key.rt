@@ -1,7 +1,7 @@
 //! Rows found at a concrete type.
 ghost use Rattle.keyed_rows.specs.Rows.{Rises};
 
-use crate::{Keyed, find_row, rows_below};
+use keyed_rows::{Keyed, find_row, rows_below};
 
 /// A row that is its own number.
 #[derive(Clone, Copy, Debug, PartialEq, Eq)]

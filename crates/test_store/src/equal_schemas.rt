@@ -1,5 +1,5 @@
 //! A schema is told to be the same as its copy, and another than one with a name more.
-use crate::is_same_schema;
+use same_schema::is_same_schema;
 use sqlite_items::Items;
 use sqlite_schema::code::{Op, Terms};
 use sqlite_schema::schema::{Action, Column, Index, Kind, Reference, Schema, Stamps, Table, View};

@@ -1,8 +1,8 @@
 //! Tables worked by hand, and the names of rules.
-ghost use Rattle.td_table_model.specs.Worked.{WorkedByHand};
+ghost use Rattle.test_store.specs.Worked.{WorkedByHand};
 
-use crate::rule::Rule;
 use std::test::Fail;
+use td_table_model::Rule;
 
 // What the worked tables hold, and what changes do to them.
 fn worked_by_hand()
