@@ -26,6 +26,18 @@ pub enum State {
     WrittenOff,
 }
 
+/// All states.
+const STATES: [State; 8] = [
+    State::Accepted,
+    State::Cancelled,
+    State::Released,
+    State::Enquired,
+    State::Arrived,
+    State::Discrepant,
+    State::Cleared,
+    State::WrittenOff,
+];
+
 impl State {
     /// The name that replies, result files, reports and tables give the state.
     pub fn name(self) -> &'static str
@@ -48,17 +60,12 @@ impl State {
         ensures some { IfSome result (λ state. state_name state ≡ text.now) }
         ensures none { result ≡ None → (state : State) → state_name state ≢ text.now }
     {
-        match text {
-            b"accepted" => Some(State::Accepted),
-            b"cancelled" => Some(State::Cancelled),
-            b"released" => Some(State::Released),
-            b"enquired" => Some(State::Enquired),
-            b"arrived" => Some(State::Arrived),
-            b"discrepant" => Some(State::Discrepant),
-            b"cleared" => Some(State::Cleared),
-            b"written-off" => Some(State::WrittenOff),
-            _ => None,
+        'states: for state in STATES {
+            if state.name().as_bytes() == text {
+                return Some(state);
+            }
         }
+        None
     }
 }
 
