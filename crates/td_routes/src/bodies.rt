@@ -2,7 +2,7 @@
 ghost use Rattle.std.specs.Prelude.{◌≡◌, ◌⊎◌, MatchResult, Ok, Err, option_map};
 ghost use Rattle.serde_json.specs.View.{view};
 ghost use Rattle.td_base.specs.Codes.{code_read, office_read};
-ghost use Rattle.td_routes.specs.Bodies.{command_at, command_of, object_of, terms_of, text_field};
+ghost use Rattle.td_routes.specs.Bodies.{command_at, command_of, declaration_of, object_of, opening_of, terms_of, text_field};
 ghost use Rattle.td_fields.specs.Faults.{OrNoMemory};
 ghost use Rattle.td_routes.specs.Routes.{path_of};
 ghost use Rattle.td_fields.specs.declared.fault.Field.TheVariants as field;
@@ -128,8 +128,15 @@ fn read_opening(alloc: Global, holder: HolderNo, body: &[u8]) -> Result<Command,
     ensures { OrNoMemory result (command_at body.now (route.OpenGuarantee holder)) }
 {
     let body = read_object(alloc, body)?;
-    let (reference, cover) = read_terms(&body)?;
-    let code = read_code(&body)?;
+    read_opening_in(holder, &body)
+}
+
+// The same, of the object that the body is.
+fn read_opening_in(holder: HolderNo, body: &Value) -> Result<Command, WebFault>
+    ensures { result ≡ opening_of holder (view body.now) }
+{
+    let (reference, cover) = read_terms(body)?;
+    let code = read_code(body)?;
     Ok(Command::OpenGuarantee {
         holder,
         reference,
@@ -156,10 +163,17 @@ fn read_declaration(alloc: Global, holder: HolderNo, body: &[u8]) -> Result<Comm
     ensures { OrNoMemory result (command_at body.now (route.Ie015 holder)) }
 {
     let body = read_object(alloc, body)?;
-    let lrn = lrn_in(&body).ok_or(WebFault::BadField(Field::Lrn))?;
-    let departure = read_office(&body, Field::Departure)?;
-    let destination = read_office(&body, Field::Destination)?;
-    let lines = lines_in(alloc, &body)?.ok_or(WebFault::BadField(Field::Lines))?;
+    read_declaration_in(alloc, holder, &body)
+}
+
+// The same, of the object that the body is.
+fn read_declaration_in(alloc: Global, holder: HolderNo, body: &Value) -> Result<Command, WebFault>
+    ensures { OrNoMemory result (declaration_of holder (view body.now)) }
+{
+    let lrn = lrn_in(body).ok_or(WebFault::BadField(Field::Lrn))?;
+    let departure = read_office(body, Field::Departure)?;
+    let destination = read_office(body, Field::Destination)?;
+    let lines = lines_in(alloc, body)?.ok_or(WebFault::BadField(Field::Lines))?;
     Ok(Command::Ie015 {
         holder,
         lrn,
