@@ -1,12 +1,12 @@
 -- What calls one after another have only read, where the tables are those of a schema.
 use Rattle.std.proofs.Common.{◌∙◌, ap, inl, refl, arith}
-use Rattle.std.specs.Prelude.{IsTrue}
+use Rattle.std.specs.Prelude.{Bool, true, IsTrue}
 use Rattle.sqlite_schema.specs.declared.schema.Schema.{Schema}
 use Rattle.sqlite.specs.Effect.{Database}
 use Rattle.sqlite.specs.State.{State, HasCleanDisk, KeepsCommit, Survives}
 use Rattle.sqlite.proofs.Callers.{unchanged_then}
 use Rattle.sqlite.proofs.StateLemmas.{survives_then, unchanged}
-use Rattle.typed_sql.specs.Reading.{HasOnlyRead, LeavesAll, OnlyRead}
+use Rattle.typed_sql.specs.Reading.{HasOnlyRead, LeavesAll, OnlyRead, Reads}
 use Rattle.typed_sql.specs.Writing.{HasSchema}
 
 -- the tables are still those of the schema
@@ -87,3 +87,43 @@ pub read_then : {s : Schema} (a b d : State) → HaveRead s a b → (HasCleanDis
     → (HasCleanDisk d → KeepsCommit b d) → Survives b d (λ _. ⊥) → HaveRead s a d
 read_then a b d first still inside kept survives =
     reads_then a b d first (λ clean. one_read b d (still clean)) inside kept survives
+
+-- no call
+pub reads_nothing : {s : Schema} {w : Bool} (a : State) → (HasCleanDisk a → IsTrue a.in_transaction) → Reads s w a a
+reads_nothing a inside = record {
+  still = λ clean well. none_read a;
+  inside = λ clean well. inside clean;
+  kept = λ clean. record { was_open = λ is. is; committed = λ is. refl };
+  survives = record {
+    clean = omega arith;
+    shield = λ h. h;
+    counts = omega arith;
+    limit = refl;
+    closes = λ clean is. inl is;
+    crash = λ clean db may. inl may;
+  };
+}
+
+-- calls after calls that ended well
+pub reads_on : {s : Schema} {w : Bool} {a b d : State} → Reads s true a b → Reads s w b d → Reads s w a d
+reads_on {s} {w} {a} {b} {d} first second = record {
+  still = λ clean well. read_more a b d (first.still (omega (arith, clean, second.survives.clean)) refl) (second.still clean well);
+  inside = λ clean well. second.inside clean well;
+  kept = λ clean.
+      let one = first.kept (omega (arith, clean, second.survives.clean)) in
+      let two = second.kept clean in
+      record {
+        was_open = λ is. one.was_open (two.was_open is);
+        committed = λ is. two.committed is ∙ one.committed (two.was_open is);
+      };
+  survives = survives_then a b d _ _ _ (λ _ db none. none) (λ _ db none. none) first.survives second.survives;
+}
+
+-- calls that ended well, whatever came of them
+pub reads_well : {s : Schema} {w : Bool} {a b : State} → Reads s true a b → Reads s w a b
+reads_well first = record {
+  still = λ clean well. first.still clean refl;
+  inside = λ clean well. first.inside clean refl;
+  kept = first.kept;
+  survives = first.survives;
+}

@@ -9,7 +9,7 @@ use Rattle.sqlite_sql.specs.Term.{Term, eval_all}
 use Rattle.sqlite_schema.specs.declared.schema.Schema.{Schema}
 use Rattle.sqlite.specs.Given.{IsPlain}
 use Rattle.sqlite.specs.Listing.{understood}
-use Rattle.sqlite.specs.State.{State, IsUnchanged}
+use Rattle.sqlite.specs.State.{State, HasCleanDisk, IsUnchanged, KeepsCommit, Survives}
 use Rattle.typed_sql.specs.Meanings.{MeansSelect}
 use Rattle.typed_sql.specs.Writing.{HasSchema, passes}
 
@@ -58,3 +58,11 @@ pub record HasOnlyRead (old new : State) : Type 0 where
 -- so they have where the tables are those of the schema
 abbrev pub OnlyRead : Schema → State → State → Type 0
 OnlyRead s old new = HasSchema old s → HasOnlyRead old new
+
+-- Calls inside a transaction that only read: where they ended well, all is as it was and the transaction goes on, if the tables are
+-- those of the schema; however they ended, nothing is committed, and a crash leaves what it could leave before.
+pub record Reads (s : Schema) (well : Bool) (old new : State) : Type 0 where
+  pub still : HasCleanDisk new → IsTrue well → OnlyRead s old new
+  pub inside : HasCleanDisk new → IsTrue well → IsTrue new.in_transaction
+  pub kept : HasCleanDisk new → KeepsCommit old new
+  pub survives : Survives old new (λ _. ⊥)
