@@ -9,7 +9,7 @@ use Rattle.counted_io.proofs.Chaining.{wrote_on, wrote_appends}
 use Rattle.http_wire.specs.declared.reply.Reply.{Reply}
 use Rattle.http_wire.specs.declared.stream.StreamEnd.{StreamEnd}
 use Rattle.http_wire.specs.declared.stream.StreamEnd.TheVariants.{Asked, Served, WriteFault, Failed}
-use Rattle.http_wire.specs.Farewell.{SendsLast}
+use Rattle.http_wire.specs.ClosingReply.{SendsLast}
 use Rattle.http_wire.specs.Reading.{HasRead, brought}
 use Rattle.http_wire.specs.Replies.{Adds}
 use Rattle.http_wire.specs.ReplyText.{bytes_of, is_made}
@@ -17,7 +17,7 @@ use Rattle.http_wire.specs.Wire.{Splits}
 use Rattle.http_wire.specs.Stream.{Exchange, Chain, replies_of, wires_of, silence, Sides, Run, GoesOn, EndedBy, IsCalledFor}
 use Rattle.http_wire.proofs.Needs.{IsLeftOver, left_at_end}
 use Rattle.http_wire.proofs.Sending.{IsHeld, Broken, broken, held_from, cut_front, cut_behind, cut_nothing, wrote_made}
-use Rattle.http_wire.proofs.Serving.{Words, IsServed, Serving, Gathering, Handled, replies_sent, replies_on, waits_push, no_parting, count_push, all_sent}
+use Rattle.http_wire.proofs.Serving.{Words, IsServed, Serving, Gathering, Handled, replies_sent, replies_on, waits_push, no_ending, count_push, all_sent}
 
 -- requests after each of which the stream went on are ended by the last of them
 all_ended : (before : List Exchange) (first : Exchange) (after : List Exchange) → All GoesOn (before ++ first ∷ after)
@@ -55,12 +55,12 @@ cut_at {k = k} {old = old} {now = now} {unread = unread} {left = left} s writer 
     let are : s.sent ++ s.late ≡ (s.sent ++ b.before) ++ b.first ∷ b.after = ap (λ (es : List Exchange). s.sent ++ es) b.are ∙ sym (append_assoc s.sent b.before (b.first ∷ b.after)) in
     let last = s.ended (s.sent ++ b.before) b.first b.after are in
     record {
-      run = record { given = s.given; exchanges = s.sent ++ s.late; rest = unread; handler = now.handler; parting = silence; written = written; reads = 100000 - left; pieces = s.read.pieces };
+      run = record { given = s.given; exchanges = s.sent ++ s.late; rest = unread; handler = now.handler; ending = silence; written = written; reads = 100000 - left; pieces = s.read.pieces };
       consumed = s.read.consumed;
       reading = s.reading;
       at_most = s.few;
       chain = s.chain;
-      parting = refl;
+      ending = refl;
       appended = wrote_appends k.contents old.writer writer written false wrote;
       whole = λ other. absurd (other refl);
       counted = s.read.counted;
@@ -176,7 +176,7 @@ abbrev run_of : {R W C H : Type 0} {k : Words R W C H}
     → Handled k old now unread waits room left served close reply → Run H
 run_of {now = now} {unread = unread} {left = left} h =
     let es = (h.sent ++ h.late) ++ h.last ∷ [] in
-    record { given = h.given; exchanges = es; rest = unread; handler = now.handler; parting = silence; written = replies_of es; reads = 100000 - left; pieces = h.read.pieces }
+    record { given = h.given; exchanges = es; rest = unread; handler = now.handler; ending = silence; written = replies_of es; reads = 100000 - left; pieces = h.read.pieces }
 
 -- all replies were written whole, and the last one is a fixed one
 pub fixed_reply : {R W C H : Type 0} {k : Words R W C H}
@@ -193,9 +193,9 @@ fixed_reply {k = k} {old = old} h few writer wrote fixed =
       reading = h.reading;
       at_most = let n = count_push (h.sent ++ h.late) h.last in omega arith;
       chain = h.chain;
-      parting = refl;
+      ending = refl;
       appended = wrote_appends k.contents old.writer writer (replies_of es) true wrote;
-      whole = λ _. no_parting es;
+      whole = λ _. no_ending es;
       counted = h.read.counted;
       reads_at_most = omega arith;
       given_is = h.read.given_is;
@@ -222,9 +222,9 @@ asked_reply {k = k} {old = old} h few writer wrote made asks =
       reading = h.reading;
       at_most = let n = count_push (h.sent ++ h.late) h.last in omega arith;
       chain = h.chain;
-      parting = refl;
+      ending = refl;
       appended = wrote_appends k.contents old.writer writer (replies_of es) true wrote;
-      whole = λ _. no_parting es;
+      whole = λ _. no_ending es;
       counted = h.read.counted;
       reads_at_most = omega arith;
       given_is = h.read.given_is;
@@ -253,14 +253,14 @@ all_served {k = k} {old = old} {now = now} {unread = unread} {left = left} s all
     let some : 0 < length (wires_of s.exchanges) = let same = length-map s.exchanges (λ (e : Exchange). e.wire) in omega arith in
     let over = left_at_end s.read.pieces s.given unread (wires_of s.exchanges) s.over s.read.given_is s.reading some in
     record {
-      run = record { given = s.given; exchanges = s.exchanges; rest = unread; handler = now.handler; parting = silence; written = replies_of s.exchanges; reads = 100000 - left; pieces = s.read.pieces };
+      run = record { given = s.given; exchanges = s.exchanges; rest = unread; handler = now.handler; ending = silence; written = replies_of s.exchanges; reads = 100000 - left; pieces = s.read.pieces };
       consumed = s.read.consumed;
       reading = s.reading;
       at_most = omega arith;
       chain = s.chain;
-      parting = refl;
+      ending = refl;
       appended = wrote_appends k.contents old.writer now.writer (replies_of s.exchanges) true s.wrote;
-      whole = λ _. no_parting s.exchanges;
+      whole = λ _. no_ending s.exchanges;
       counted = s.read.counted;
       reads_at_most = omega arith;
       given_is = s.read.given_is;

@@ -8,7 +8,7 @@ use Rattle.httparse.specs.declared.spans.RequestSpans.{RequestSpans}
 use Rattle.httparse.specs.Spans.{AreFieldsAt, IsRequestWithin, IsRequestAt}
 use Rattle.httparse.proofs.GrammarLemmas.{ReadsRequest-append}
 use Rattle.http_wire.specs.Framing.{body_length}
-use Rattle.http_wire.specs.Wire.{HasHead, IsHeadMethod, IsOpen, IsOpenBelow, IsWire, wire_bytes, fields_of}
+use Rattle.http_wire.specs.Wire.{HasHead, IsHeadMethod, IsOpen, IsOpenBelow, IsWireRequest, wire_bytes, fields_of}
 
 -- a head that stands in the window stands in the buffer, and the rest follows it
 head_in : (buf : List ℕ) (n len : ℕ) (h : RequestHead) (rest : List ℕ) → ReadsRequest (take n buf) h rest
@@ -92,6 +92,6 @@ wire_len buf len n h is long =
 
 -- what the parser found, and the body behind it, are a request on the wire
 pub wire_of : (buf : List ℕ) (len n : ℕ) (h : RequestHead) → HasHead buf h (drop len buf) → ¬ (IsHeadMethod h)
-    → body_length (fields_of h) ≡ Ok n → n ≤ length buf - len → IsWire (record { head = h; body = take n (drop len buf) })
+    → body_length (fields_of h) ≡ Ok n → n ≤ length buf - len → IsWireRequest (record { head = h; body = take n (drop len buf) })
 wire_of buf len n h has method says long =
     record { head = has.good; method = method; body = says ∙ ap Ok (sym (body_len buf len n long)) }

@@ -8,7 +8,7 @@ mod Readings
 mod Sending
 mod Serving
 mod Ends
-mod Farewells
+mod ClosingReplies
 mod Unique
 mod Standings
 mod Needs

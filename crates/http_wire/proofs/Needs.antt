@@ -8,7 +8,7 @@ use Rattle.std.specs.List.{concat, flat_map}
 use Rattle.http_wire.specs.OneReading.{unfinished}
 use Rattle.http_wire.specs.Reading.{IsNeeded}
 use Rattle.http_wire.specs.Stream.{HasNotReadOn, IsCalledFor}
-use Rattle.http_wire.specs.Wire.{Wire, IsWire, wire_bytes, IsOpen, Splits}
+use Rattle.http_wire.specs.Wire.{WireRequest, IsWireRequest, wire_bytes, IsOpen, Splits}
 use Rattle.http_wire.proofs.Unique.{first_of}
 use Rattle.http_wire.proofs.Standings.{front_of, standing_no_wire, empty_no_wire}
 
@@ -17,7 +17,7 @@ abbrev pub IsLeftOver : List (List ℕ) → List ℕ → Type 0
 IsLeftOver pieces unread = ((pieces ≡ []) × (unread ≡ [])) ⊎ HasNotReadOn pieces unread
 
 -- a request that came whole by a piece has some of it
-some_of : (stood last rest : List ℕ) (w : Wire) → IsOpen stood → IsWire w → stood ++ last ≡ wire_bytes w ++ rest → length rest < length last
+some_of : (stood last rest : List ℕ) (w : WireRequest) → IsOpen stood → IsWireRequest w → stood ++ last ≡ wire_bytes w ++ rest → length rest < length last
 some_of stood last rest w still wire whole =
     let sizes : length stood + length last ≡ length (wire_bytes w) + length rest =
     sym (length-append stood last) ∙ (ap length whole ∙ length-append (wire_bytes w) rest) in
@@ -37,8 +37,8 @@ apart stood more ps before last is are =
     ∙ sym (append_assoc stood (concat before) last)
 
 -- no read was made once a request had come whole
-pub left_after : (xs ps : List (List ℕ)) (unread more rest : List ℕ) (w : Wire) → IsLeftOver xs unread → IsNeeded unread ps → concat ps ≡ more
-    → IsWire w → unread ++ more ≡ wire_bytes w ++ rest → HasNotReadOn (xs ++ ps) rest
+pub left_after : (xs ps : List (List ℕ)) (unread more rest : List ℕ) (w : WireRequest) → IsLeftOver xs unread → IsNeeded unread ps → concat ps ≡ more
+    → IsWireRequest w → unread ++ more ≡ wire_bytes w ++ rest → HasNotReadOn (xs ++ ps) rest
 left_after xs ps unread more rest w old (inr h) is wire whole =
     record {
       before = xs ++ h.0;
@@ -89,9 +89,9 @@ called_for xs ps unread more old (inl none) is = by_old old
         }))
 
 -- where requests were answered, something was read
-pub left_at_end : (xs : List (List ℕ)) (given unread : List ℕ) (ws : List Wire) → IsLeftOver xs unread → concat xs ≡ given → Splits given ws unread
+pub left_at_end : (xs : List (List ℕ)) (given unread : List ℕ) (ws : List WireRequest) → IsLeftOver xs unread → concat xs ≡ given → Splits given ws unread
     → 0 < length ws → HasNotReadOn xs unread
 left_at_end xs given unread ws (inr h) is splits some = h
 left_at_end xs given unread [] (inl none) is splits some = absurd (let never : ⊥ = omega arith in never)
 left_at_end xs given unread (w ∷ ws) (inl none) is splits some =
-    absurd (empty_no_wire w (flat_map wire_bytes ws ++ unread) (All-head IsWire w ws splits.each) (sym (sym is ∙ ap concat none.0) ∙ first_of given w ws unread splits))
+    absurd (empty_no_wire w (flat_map wire_bytes ws ++ unread) (All-head IsWireRequest w ws splits.each) (sym (sym is ∙ ap concat none.0) ∙ first_of given w ws unread splits))

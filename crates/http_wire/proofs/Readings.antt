@@ -12,8 +12,8 @@ use Rattle.counted_io.specs.Chains.{IsRead, Brings, Brought}
 use Rattle.counted_io.specs.Counted.{calls_of, known_bytes, HasMade, one_more}
 use Rattle.counted_io.proofs.Calls.{made_none, made_more, made_on}
 use Rattle.counted_io.proofs.Chaining.{FoldsTo-append}
-use Rattle.http_wire.specs.declared.reading.Stop.{Stop}
-use Rattle.http_wire.specs.declared.reading.Stop.TheVariants.{Closed, Cut, ReadsSpent, ReadFault, NoMemory, Refused, Head, WriteFault}
+use Rattle.http_wire.specs.declared.reading.StopCause.{StopCause}
+use Rattle.http_wire.specs.declared.reading.StopCause.TheVariants.{Closed, Cut, ReadsSpent, ReadFault, NoMemory, Refused, Head, WriteFault}
 use Rattle.http_wire.specs.Reading.{HasRead, ReadsOn, StopsAs, Finish, brought, ended, failed, LastRead, count_of, IsNeeded, KeepsRoom}
 use Rattle.http_wire.specs.Wire.{IsOpen}
 
@@ -176,7 +176,7 @@ pub room_first : (a x : ℕ) → KeepsRoom a a x x
 room_first a x = record { kept = omega arith; whole = λ fell. absurd (let never : ⊥ = omega arith in never) }
 
 -- what holds of a stop holds where there were more reads before
-StopsAs-earlier : {R : Type 0} (remaining : R → Option (List ℕ)) (new : Counted R) (x y z a b : ℕ) (rest : List ℕ) (stop : Stop)
+StopsAs-earlier : {R : Type 0} (remaining : R → Option (List ℕ)) (new : Counted R) (x y z a b : ℕ) (rest : List ℕ) (stop : StopCause)
     → y ≤ x → KeepsRoom a b x y → StopsAs remaining new y z b rest stop → StopsAs remaining new x z a rest stop
 StopsAs-earlier remaining new x y z a b rest Closed more room h = (h.0, record { end = h.1.end; read = let r = h.1.read in omega arith })
 StopsAs-earlier remaining new x y z a b rest Cut more room h = (h.0, h.1, record { end = h.2.end; read = let r = h.2.read in omega arith })
@@ -193,7 +193,7 @@ StopsAs-earlier remaining new x y z a b rest (Head target) more room h = h
 StopsAs-earlier remaining new x y z a b rest WriteFault more room h = h
 
 -- a stop after two readings
-pub StopsAs-after : {R : Type 0} (remaining : R → Option (List ℕ)) (new : Counted R) (x y z a b : ℕ) (bytes mid given more : List ℕ) (stop : Stop)
+pub StopsAs-after : {R : Type 0} (remaining : R → Option (List ℕ)) (new : Counted R) (x y z a b : ℕ) (bytes mid given more : List ℕ) (stop : StopCause)
     → y ≤ x → KeepsRoom a b x y → mid ≡ bytes ++ given → StopsAs remaining new y z b (mid ++ more) stop → StopsAs remaining new x z a (bytes ++ (given ++ more)) stop
 StopsAs-after remaining new x y z a b bytes mid given more stop earlier room is h =
     subst (λ (rest : List ℕ). StopsAs remaining new x z a rest stop) (ap (λ (b : List ℕ). b ++ more) is ∙ append_assoc bytes given more)

@@ -12,8 +12,8 @@ use Rattle.counted_io.specs.Counted.{calls_of, known_bytes, HasMade}
 use Rattle.counted_io.specs.Chains.{TakesSome, Wrote, IsCutShort, MadeWrites}
 use Rattle.counted_io.proofs.Calls.{made_none, made_more, made_on}
 use Rattle.counted_io.proofs.Chaining.{wrote_on, wrote_appends}
-use Rattle.http_wire.specs.declared.reading.Stop.{Stop}
-use Rattle.http_wire.specs.declared.reading.Stop.TheVariants.{Closed, Cut, ReadsSpent, ReadFault, NoMemory, Refused, Head, WriteFault}
+use Rattle.http_wire.specs.declared.reading.StopCause.{StopCause}
+use Rattle.http_wire.specs.declared.reading.StopCause.TheVariants.{Closed, Cut, ReadsSpent, ReadFault, NoMemory, Refused, Head, WriteFault}
 use Rattle.http_wire.specs.Replies.{HoldsOrSends, SendsBefore}
 use Rattle.http_wire.specs.ReplyText.{bytes_of}
 use Rattle.http_wire.specs.Wire.{wire_bytes}
@@ -96,7 +96,7 @@ cuts_on contents old now new waits left x y (inl h) cut = (rw (sym h.0, sym h.1)
 cuts_on contents old now new waits left x y (inr h) cut = absurd (cut_nothing contents now new left h.1 cut)
 
 -- what became of those that wait, where it was no write that stopped the reading
-pub sends_before : {W : Type 0} (contents : W → Option (List ℕ)) (old new : Counted W) (waits left : List ℕ) (x y : ℕ) (why : Stop) → why ≢ WriteFault
+pub sends_before : {W : Type 0} (contents : W → Option (List ℕ)) (old new : Counted W) (waits left : List ℕ) (x y : ℕ) (why : StopCause) → why ≢ WriteFault
     → HoldsOrSends contents old new waits left x y → SendsBefore contents old new waits left x y why
 sends_before contents old new waits left x y Closed other h = h
 sends_before contents old new waits left x y Cut other h = h

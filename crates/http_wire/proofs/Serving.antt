@@ -13,12 +13,12 @@ use Rattle.http_wire.specs.declared.input.TheConstants.{MOST}
 use Rattle.http_wire.specs.declared.request.Request.{Request}
 use Rattle.http_wire.specs.declared.reply.Reply.{Reply}
 use Rattle.http_wire.specs.declared.stream.StreamEnd.{StreamEnd}
-use Rattle.http_wire.specs.Request as request
+use Rattle.http_wire.specs.Wire as request
 use Rattle.http_wire.specs.ReplyText.{bytes_of, is_made}
 use Rattle.http_wire.specs.Reading.{HasRead, ReadsOn, Takes, KeepsRoom, brought}
 use Rattle.http_wire.specs.Replies.{HoldsOrSends, Adds}
-use Rattle.http_wire.specs.Wire.{Wire, IsWire, IsRequestOn, wire_bytes, Splits, asks_close}
-use Rattle.http_wire.specs.Stream.{Exchange, question, Chain, wires_of, replies_of, HasNotReadOn, GoesOn, silence, parting_bytes, Sides, Serves}
+use Rattle.http_wire.specs.Wire.{WireRequest, IsWireRequest, IsRequestOn, wire_bytes, Splits, asks_close}
+use Rattle.http_wire.specs.Stream.{Exchange, question, Chain, wires_of, replies_of, HasNotReadOn, GoesOn, silence, ending_bytes, Sides, Serves}
 use Rattle.http_wire.proofs.Needs.{IsLeftOver, left_after}
 use Rattle.http_wire.proofs.Readings.{HasRead-trans, read_none}
 use Rattle.http_wire.proofs.Sending.{IsHeld, held_more}
@@ -48,7 +48,7 @@ Chain-push ticks handles n old mid (x ∷ es) e clock handler chain tick answer 
 
 -- the bytes of one request more
 Splits-push : (given more unread rest : List ℕ) (es : List Exchange) (e : Exchange) → Splits given (wires_of es) unread
-    → unread ++ more ≡ wire_bytes e.wire ++ rest → IsWire e.wire → Splits (given ++ more) (wires_of (es ++ e ∷ [])) rest
+    → unread ++ more ≡ wire_bytes e.wire ++ rest → IsWireRequest e.wire → Splits (given ++ more) (wires_of (es ++ e ∷ [])) rest
 Splits-push given more unread rest es e splits next wire =
     let grown : wires_of (es ++ e ∷ []) ≡ wires_of es ++ e.wire ∷ [] = map-append (λ (x : Exchange). x.wire) es (e ∷ []) in
     let bytes : flat_map wire_bytes (wires_of es ++ e.wire ∷ []) ≡ flat_map wire_bytes (wires_of es) ++ wire_bytes e.wire =
@@ -59,11 +59,11 @@ Splits-push given more unread rest es e splits next wire =
           ∙ (append_assoc (flat_map wire_bytes (wires_of es)) unread more
           ∙ (ap (λ (b : List ℕ). flat_map wire_bytes (wires_of es) ++ b) next
           ∙ (sym (append_assoc (flat_map wire_bytes (wires_of es)) (wire_bytes e.wire) rest) ∙ ap (λ (b : List ℕ). b ++ rest) (sym bytes))));
-      each = All-append IsWire (wires_of es) (e.wire ∷ []) splits.each (All-cons IsWire e.wire [] wire (All-nil IsWire));
+      each = All-append IsWireRequest (wires_of es) (e.wire ∷ []) splits.each (All-cons IsWireRequest e.wire [] wire (All-nil IsWireRequest));
     })
 
 -- the bytes that were read on are left
-pub Splits-more : (given more unread : List ℕ) (wires : List Wire) → Splits given wires unread → Splits (given ++ more) wires (unread ++ more)
+pub Splits-more : (given more unread : List ℕ) (wires : List WireRequest) → Splits given wires unread → Splits (given ++ more) wires (unread ++ more)
 Splits-more given more unread wires splits =
     record { whole = ap (λ (b : List ℕ). b ++ more) splits.whole ∙ append_assoc (flat_map wire_bytes wires) unread more; each = splits.each }
 
@@ -133,7 +133,7 @@ gathering_first k old unread waits room none empty =
       over = inl (refl, none);
       held = tt;
       roomy = λ fell. absurd (let never : ⊥ = omega arith in never);
-      reading = record { whole = sym none; each = All-nil IsWire };
+      reading = record { whole = sym none; each = All-nil IsWireRequest };
       chain = refl;
       wrote = wrote_nothing k.contents old.writer;
       each = All-nil GoesOn;
@@ -184,7 +184,7 @@ pub record Handled {R W C H : Type 0} (k : Words R W C H)
   pub asks : asks_close last.wire.head ≡ close
 
 -- what is asked by the request that was taken, and by its wire
-asked_is : (served : ℕ) (w : Wire) (r : Request) → IsRequestOn w r
+asked_is : (served : ℕ) (w : WireRequest) (r : Request) → IsRequestOn w r
     → record (request.asked r) { close = r.close || (served + 1 == 1000) } ≡ question served w
 asked_is served w r is =
     λ i. record { method = is.method i; target = is.target i; body = is.body i; close = is.close i || (served + 1 == 1000) }
@@ -295,8 +295,8 @@ replies_sent contents old now new sent late e waits reply are is before after =
     rw text (wrote_on contents old now new _ _ true before after)
 
 -- where nothing is written after the replies
-pub no_parting : (es : List Exchange) → replies_of es ≡ replies_of es ++ parting_bytes silence
-no_parting es = sym (append-nil (replies_of es))
+pub no_ending : (es : List Exchange) → replies_of es ≡ replies_of es ++ ending_bytes silence
+no_ending es = sym (append-nil (replies_of es))
 
 -- the reply was added, and the handler goes on
 pub goes_on : {R W C H : Type 0} {k : Words R W C H}

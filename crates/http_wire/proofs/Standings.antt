@@ -9,7 +9,7 @@ use Rattle.http_wire.specs.declared.framing.FramingError.{FramingError}
 use Rattle.http_wire.specs.declared.framing.FramingError.TheVariants.{BadHead, HeadTooLarge, TransferEncoding, BadLength, BodyTooLarge}
 use Rattle.http_wire.specs.Framing.{body_length}
 use Rattle.http_wire.specs.Wire.{wire_bytes, fields_of, HasHead, IsBadHead, IsHeadTooLarge, HasBadBody, IsRefusedFor, IsHeadRequest, IsHeadOpen, IsOpen}
-use Rattle.http_wire.specs.OneReading.{HasNoWire, Standing, unfinished, refused, head_for, StandsIn, IsUnsettled}
+use Rattle.http_wire.specs.OneReading.{HasNoWireRequest, Standing, unfinished, refused, head_for, StandsIn, IsUnsettled}
 use Rattle.http_wire.proofs.Unique.{one_head, wire_head, same_length}
 
 -- a list that is no longer than the other's front is its front
@@ -51,21 +51,21 @@ said_too : (bytes : List ℕ) (h k : RequestHead) (r q : List ℕ) (said : Resul
 said_too bytes h k r q said x y says = ap (λ g. body_length (fields_of g)) (one_head bytes h k r q x y).0 ∙ says
 
 -- what a head can't be said of has no request in front
-no_head_no_wire : (bytes : List ℕ) → ((h : RequestHead) (rest : List ℕ) → HasHead bytes h rest → ⊥) → HasNoWire bytes
+no_head_no_wire : (bytes : List ℕ) → ((h : RequestHead) (rest : List ℕ) → HasHead bytes h rest → ⊥) → HasNoWireRequest bytes
 no_head_no_wire bytes none w more is at = none w.head (w.body ++ more) (wire_head bytes w more is at)
 
-fault_no_wire : (bytes : List ℕ) (e : FramingError) → HasBadBody bytes e → HasNoWire bytes
+fault_no_wire : (bytes : List ℕ) (e : FramingError) → HasBadBody bytes e → HasNoWireRequest bytes
 fault_no_wire bytes e bad w more is at =
     no_both _ _ e is.body (said_too bytes w.head bad.0 _ _ _ (wire_head bytes w more is at) bad.2 bad.3)
 
-refused_no_wire : (bytes : List ℕ) (e : FramingError) → IsRefusedFor e bytes → HasNoWire bytes
+refused_no_wire : (bytes : List ℕ) (e : FramingError) → IsRefusedFor e bytes → HasNoWireRequest bytes
 refused_no_wire bytes BadHead bad = no_head_no_wire bytes (λ h rest has. bad_no_head bytes h rest bad has)
 refused_no_wire bytes HeadTooLarge large = no_head_no_wire bytes (λ h rest has. large_no_head bytes h rest large has)
 refused_no_wire bytes TransferEncoding bad = fault_no_wire bytes _ bad
 refused_no_wire bytes BadLength bad = fault_no_wire bytes _ bad
 refused_no_wire bytes BodyTooLarge bad = fault_no_wire bytes _ bad
 
-open_no_wire : (bytes : List ℕ) → IsOpen bytes → HasNoWire bytes
+open_no_wire : (bytes : List ℕ) → IsOpen bytes → HasNoWireRequest bytes
 open_no_wire bytes (inl opened) = no_head_no_wire bytes (λ h rest has. open_no_head bytes h rest opened has)
 open_no_wire bytes (inr (h, rest, n, has, method, says, short)) =
     λ w more is at.
@@ -75,18 +75,18 @@ open_no_wire bytes (inr (h, rest, n, has, method, says, short)) =
     let whole : length w.body + length more ≡ length rest = sym (length-append w.body more) ∙ ap length same.1 in
     omega arith
 
-head_no_wire : (bytes target : List ℕ) → IsHeadRequest target bytes → HasNoWire bytes
+head_no_wire : (bytes target : List ℕ) → IsHeadRequest target bytes → HasNoWireRequest bytes
 head_no_wire bytes target (h, rest, n, has, method, path, says) =
     λ w more is at. is.method (ap (λ g. g.method) (one_head bytes w.head h _ _ (wire_head bytes w more is at) has).0 ∙ method)
 
 -- no request stands in front of what a stream ends with
-pub standing_no_wire : (bytes : List ℕ) (s : Standing) → StandsIn bytes s → HasNoWire bytes
+pub standing_no_wire : (bytes : List ℕ) (s : Standing) → StandsIn bytes s → HasNoWireRequest bytes
 standing_no_wire bytes unfinished stands = open_no_wire bytes stands
 standing_no_wire bytes (refused e) stands = refused_no_wire bytes e stands
 standing_no_wire bytes (head_for target) stands = head_no_wire bytes target stands
 
 -- a head is some bytes long
-pub empty_no_wire : HasNoWire []
+pub empty_no_wire : HasNoWireRequest []
 unfolding print_request
 empty_no_wire w more is at =
     let none : 0 ≡ length (wire_bytes w ++ more) = ap length at in

@@ -1,10 +1,9 @@
-pub mod Request
 pub mod Framing
 pub mod Wire
 pub mod ReplyText
 pub mod Input
 pub mod Reading
 pub mod Replies
-pub mod Farewell
+pub mod ClosingReply
 pub mod Stream
 pub mod OneReading

@@ -3,11 +3,11 @@ use Rattle.std.specs.Prelude.{◌≡◌, ◌⊎◌, ℕ, List, ◌++◌, take}
 use Rattle.httparse.specs.Grammar.{EndsInTarget}
 use Rattle.httparse.specs.Spans.{RequestExceeds}
 use Rattle.http_wire.specs.declared.framing.FramingError.{FramingError}
-use Rattle.http_wire.specs.Wire.{Wire, IsWire, wire_bytes, IsOpen, IsRefusedFor, IsHeadRequest}
+use Rattle.http_wire.specs.Wire.{WireRequest, IsWireRequest, wire_bytes, IsOpen, IsRefusedFor, IsHeadRequest}
 
 -- no request stands in front
-abbrev pub HasNoWire : List ℕ → Type 0
-HasNoWire rest = (w : Wire) (more : List ℕ) → IsWire w → ¬ (rest ≡ wire_bytes w ++ more)
+abbrev pub HasNoWireRequest : List ℕ → Type 0
+HasNoWireRequest rest = (w : WireRequest) (more : List ℕ) → IsWireRequest w → ¬ (rest ≡ wire_bytes w ++ more)
 
 -- a request that isn't whole yet, nothing that is served, or the head of a HEAD request for a target
 pub data Standing : Type 0 where

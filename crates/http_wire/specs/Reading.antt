@@ -7,9 +7,9 @@ use Rattle.counted_io.specs.Counted.{calls_of, has_failed, known_bytes, HasMade}
 use Rattle.counted_io.specs.Chains.{IsRead, Brought}
 use Rattle.http_wire.specs.declared.input.TheConstants.{MOST}
 use Rattle.http_wire.specs.declared.request.Request.{Request}
-use Rattle.http_wire.specs.declared.reading.Stop.{Stop}
-use Rattle.http_wire.specs.declared.reading.Stop.TheVariants.{Closed, Cut, ReadsSpent, ReadFault, NoMemory, Refused, Head, WriteFault}
-use Rattle.http_wire.specs.Wire.{Wire, IsWire, IsRequestOn, wire_bytes, IsOpen, IsRefusedFor, IsHeadRequest, BeginsServed}
+use Rattle.http_wire.specs.declared.reading.StopCause.{StopCause}
+use Rattle.http_wire.specs.declared.reading.StopCause.TheVariants.{Closed, Cut, ReadsSpent, ReadFault, NoMemory, Refused, Head, WriteFault}
+use Rattle.http_wire.specs.Wire.{WireRequest, IsWireRequest, IsRequestOn, wire_bytes, IsOpen, IsRefusedFor, IsHeadRequest, BeginsServed}
 
 -- How reads came to an end: each of them brought bytes; or the last one found the end of the input; or the
 -- last one failed.
@@ -68,7 +68,7 @@ pub record HasEnded {R : Type 0} (remaining : R → Option (List ℕ)) (new : Co
   pub read : after < before
 
 -- how the reads finish where the reading stops so
-abbrev pub finish_of : Stop → Finish
+abbrev pub finish_of : StopCause → Finish
 finish_of Closed = ended
 finish_of Cut = ended
 finish_of ReadsSpent = brought
@@ -79,14 +79,14 @@ finish_of (Head target) = brought
 finish_of WriteFault = brought
 
 -- and where it goes on
-abbrev pub finish_by : {X : Type 0} → Result X Stop → Finish
+abbrev pub finish_by : {X : Type 0} → Result X StopCause → Finish
 finish_by (Ok x) = brought
 finish_by (Err stop) = finish_of stop
 
 -- Why no request was taken, where rest is what is left of the stream, the reads left fell, and the buffer had
 -- this room at first. Memory is missing for the buffer before the first read of a stream, or for a request
 -- that is served.
-abbrev pub StopsAs : {R : Type 0} → (R → Option (List ℕ)) → Counted R → ℕ → ℕ → ℕ → List ℕ → Stop → Type 0
+abbrev pub StopsAs : {R : Type 0} → (R → Option (List ℕ)) → Counted R → ℕ → ℕ → ℕ → List ℕ → StopCause → Type 0
 StopsAs remaining new before after room rest Closed = (rest ≡ []) × HasEnded remaining new before after
 StopsAs remaining new before after room rest Cut = (0 < length rest) × IsOpen rest × HasEnded remaining new before after
 StopsAs remaining new before after room rest ReadsSpent = IsOpen rest × (after ≡ 0)
@@ -104,7 +104,7 @@ pub record KeepsRoom (old new : ℕ) (before after : ℕ) : Type 0 where
 
 -- the bytes are this request and then rest
 pub record Takes (bytes rest : List ℕ) (r : Request) : Type 0 where
-  pub wire : Wire
-  pub is_wire : IsWire wire
+  pub wire : WireRequest
+  pub is_wire : IsWireRequest wire
   pub request : IsRequestOn wire r
   pub whole : bytes ≡ wire_bytes wire ++ rest

@@ -2,8 +2,8 @@
 use Rattle.std.specs.Prelude.{◌≡◌, ◌⊎◌, ℕ, ◌<◌, ◌≤◌, true, List, [], ◌++◌, length, Option, vec_capacity}
 use Rattle.counted_io.specs.declared.counted.Counted.{Counted}
 use Rattle.counted_io.specs.Chains.{Wrote, IsCutShort}
-use Rattle.http_wire.specs.declared.reading.Stop.{Stop}
-use Rattle.http_wire.specs.declared.reading.Stop.TheVariants.{Closed, Cut, ReadsSpent, ReadFault, NoMemory, Refused, Head, WriteFault}
+use Rattle.http_wire.specs.declared.reading.StopCause.{StopCause}
+use Rattle.http_wire.specs.declared.reading.StopCause.TheVariants.{Closed, Cut, ReadsSpent, ReadFault, NoMemory, Refused, Head, WriteFault}
 use Rattle.http_wire.specs.declared.replies.Replies.{Replies}
 
 -- their bytes, one reply after another
@@ -27,7 +27,7 @@ HoldsOrSends contents old new waits left before after =
     ((new ≡ old) × (left ≡ waits) × (after ≡ before)) ⊎ (Wrote contents old new waits true × (left ≡ []))
 
 -- What became of them where no request was taken. Where a write failed no read was made, and none waits.
-abbrev pub SendsBefore : {W : Type 0} → (W → Option (List ℕ)) → Counted W → Counted W → List ℕ → List ℕ → ℕ → ℕ → Stop → Type 0
+abbrev pub SendsBefore : {W : Type 0} → (W → Option (List ℕ)) → Counted W → Counted W → List ℕ → List ℕ → ℕ → ℕ → StopCause → Type 0
 SendsBefore contents old new waits left before after Closed = HoldsOrSends contents old new waits left before after
 SendsBefore contents old new waits left before after Cut = HoldsOrSends contents old new waits left before after
 SendsBefore contents old new waits left before after ReadsSpent = HoldsOrSends contents old new waits left before after

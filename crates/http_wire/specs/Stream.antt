@@ -9,19 +9,19 @@ use Rattle.http_wire.specs.declared.framing.FramingError.{FramingError}
 use Rattle.http_wire.specs.declared.reply.Reply.{Reply}
 use Rattle.http_wire.specs.declared.stream.StreamEnd.{StreamEnd}
 use Rattle.http_wire.specs.declared.stream.StreamEnd.TheVariants.{Closed, Asked, Served, Refused, Cut, ReadsSpent, ReadFault, WriteFault, Failed}
-use Rattle.http_wire.specs.Request as request
+use Rattle.http_wire.specs.Wire as request
 use Rattle.http_wire.specs.ReplyText.{framing_reply, no_memory_reply, bytes_of, is_made}
 use Rattle.http_wire.specs.Reading.{Finish, brought, ended, failed, Reads, count_of}
-use Rattle.http_wire.specs.Wire.{Wire, wire_bytes, Splits, asks_close, IsOpen, IsRefusedFor, IsHeadRequest, BeginsServed}
+use Rattle.http_wire.specs.Wire.{WireRequest, wire_bytes, Splits, asks_close, IsOpen, IsRefusedFor, IsHeadRequest, BeginsServed}
 
 -- a request on the wire, the moment at which it was handled, and the reply
 pub record Exchange : Type 0 where
-  pub wire : Wire
+  pub wire : WireRequest
   pub at : ℤ
   pub reply : Reply
 
 -- what the handler is asked by a request that comes after so many: at the thousandth, to close
-abbrev pub question : ℕ → Wire → request.Asked
+abbrev pub question : ℕ → WireRequest → request.Asked
 question before w =
     record {
       method = w.head.method;
@@ -40,7 +40,7 @@ Chain {C} {H} ticks handles before old (e ∷ es) new =
     × Chain ticks handles (before + 1) (clock, handler) es new
 
 -- the requests, and the bytes of the replies
-abbrev pub wires_of : List Exchange → List Wire
+abbrev pub wires_of : List Exchange → List WireRequest
 wires_of es = map (λ e. e.wire) es
 
 abbrev pub replies_of : List Exchange → List ℕ
@@ -52,25 +52,25 @@ pub record GoesOn (e : Exchange) : Type 0 where
   pub asks : asks_close e.wire.head ≡ false
 
 -- what is written after the replies: nothing, or the reply to what is no whole request
-pub data Parting : Type 0 where
-  silence : Parting
-  refusal : FramingError → Parting
-  to_head : List ℕ → Reply → Parting
-  no_memory : Parting
+pub data Ending : Type 0 where
+  silence : Ending
+  refusal : FramingError → Ending
+  to_head : List ℕ → Reply → Ending
+  no_memory : Ending
 
 -- its bytes
-abbrev pub parting_bytes : Parting → List ℕ
-parting_bytes silence = []
-parting_bytes (refusal e) = framing_reply e
-parting_bytes (to_head target reply) = bytes_of reply
-parting_bytes no_memory = no_memory_reply
+abbrev pub ending_bytes : Ending → List ℕ
+ending_bytes silence = []
+ending_bytes (refusal e) = framing_reply e
+ending_bytes (to_head target reply) = bytes_of reply
+ending_bytes no_memory = no_memory_reply
 
 -- it answers what the rest begins with, and leads from one state of the handler to another
-abbrev pub IsParting : {H : Type 0} → (H → List ℕ → Reply → H → Type 0) → H → H → List ℕ → Parting → Type 0
-IsParting heads old new rest silence = new ≡ old
-IsParting heads old new rest (refusal e) = (new ≡ old) × IsRefusedFor e rest
-IsParting heads old new rest (to_head target reply) = heads old target reply new × IsHeadRequest target rest
-IsParting heads old new rest no_memory = (new ≡ old) × ((rest ≡ []) ⊎ BeginsServed rest)
+abbrev pub IsEnding : {H : Type 0} → (H → List ℕ → Reply → H → Type 0) → H → H → List ℕ → Ending → Type 0
+IsEnding heads old new rest silence = new ≡ old
+IsEnding heads old new rest (refusal e) = (new ≡ old) × IsRefusedFor e rest
+IsEnding heads old new rest (to_head target reply) = heads old target reply new × IsHeadRequest target rest
+IsEnding heads old new rest no_memory = (new ≡ old) × ((rest ≡ []) ⊎ BeginsServed rest)
 
 -- the sides of a stream: where it is read, where replies are written, who tells the time, who answers
 pub record Sides (R W C H : Type 0) : Type 0 where
@@ -87,7 +87,7 @@ pub record Run (H : Type 0) : Type 0 where
   pub exchanges : List Exchange
   pub rest : List ℕ
   pub handler : H
-  pub parting : Parting
+  pub ending : Ending
   pub written : List ℕ
   pub reads : ℕ
   pub pieces : List (List ℕ)
@@ -132,7 +132,7 @@ is_whole Failed = true
 is_whole WriteFault = false
 
 -- where memory is missed after the replies, it is for the buffer, before any read, or for a request that is served
-abbrev pub MissesMemory : Parting → ℕ → List ℕ → Type 0
+abbrev pub MissesMemory : Ending → ℕ → List ℕ → Type 0
 MissesMemory silence reads rest = ⊤
 MissesMemory (refusal e) reads rest = ⊤
 MissesMemory (to_head target reply) reads rest = ⊤
@@ -152,21 +152,21 @@ pub record EndedBy (es : List Exchange) (last : Exchange) : Type 0 where
 -- the input ended, and nothing was written for what was left of it
 pub record MetEnd {H : Type 0} (left : Option (List ℕ)) (run : Run H) : Type 0 where
   pub on : WentOn run.exchanges
-  pub silent : run.parting ≡ silence
+  pub silent : run.ending ≡ silence
   pub end : IsAtEnd left
   pub read : 0 < run.reads
 
 -- what was left was no whole request yet, and nothing was written for it
 pub record LeftOpen {H : Type 0} (run : Run H) : Type 0 where
   pub on : WentOn run.exchanges
-  pub silent : run.parting ≡ silence
+  pub silent : run.ending ≡ silence
   pub still : IsOpen run.rest
 
 -- the last request asked to close, and had a reply of the handler
 pub record AskedAtReply {H : Type 0} (run : Run H) : Type 0 where
   pub last : Exchange
   pub ended : EndedBy run.exchanges last
-  pub silent : run.parting ≡ silence
+  pub silent : run.ending ≡ silence
   pub made : is_made last.reply ≡ true
   pub asks : asks_close last.wire.head ≡ true
   pub left : HasNotReadOn run.pieces run.rest
@@ -175,19 +175,19 @@ pub record AskedAtReply {H : Type 0} (run : Run H) : Type 0 where
 pub record FailedAtReply {H : Type 0} (run : Run H) : Type 0 where
   pub last : Exchange
   pub ended : EndedBy run.exchanges last
-  pub silent : run.parting ≡ silence
+  pub silent : run.ending ≡ silence
   pub fixed : is_made last.reply ≡ false
   pub left : HasNotReadOn run.pieces run.rest
 
 -- what was written last refuses what was left
-abbrev pub Refuses : Parting → Type 0
+abbrev pub Refuses : Ending → Type 0
 Refuses silence = ⊥
 Refuses (refusal e) = ⊤
 Refuses (to_head target reply) = is_made reply ≡ true
 Refuses no_memory = ⊥
 
 -- what was written last is a fixed reply of a fault
-abbrev pub Fails : Parting → Type 0
+abbrev pub Fails : Ending → Type 0
 Fails silence = ⊥
 Fails (refusal e) = ⊥
 Fails (to_head target reply) = is_made reply ≡ false
@@ -210,12 +210,12 @@ pub record CutAtReply {H : Type 0} (run : Run H) : Type 0 where
   pub left : HasNotReadOn run.pieces (flat_map wire_bytes (wires_of after) ++ run.rest)
   pub last : Exchange
   pub ended : EndedBy run.exchanges last
-  pub silent : run.parting ≡ silence
+  pub silent : run.ending ≡ silence
 
 -- what is written after the replies wasn't written whole, and the replies were
-pub record CutAtParting {H : Type 0} (run : Run H) : Type 0 where
+pub record CutAtEnding {H : Type 0} (run : Run H) : Type 0 where
   pub on : WentOn run.exchanges
-  pub breaks : BreaksOff (replies_of run.exchanges) (parting_bytes run.parting) run.written
+  pub breaks : BreaksOff (replies_of run.exchanges) (ending_bytes run.ending) run.written
 
 -- what each way to end says
 abbrev pub EndsAs : {R W C H : Type 0} → (R → Option (List ℕ)) → Sides R W C H → Sides R W C H → Run H
@@ -226,12 +226,12 @@ EndsAs remaining old new run ReadsSpent = LeftOpen run × (run.reads ≡ 100000)
 EndsAs remaining old new run ReadFault = LeftOpen run × (has_failed new.reader ≡ true) × (0 < run.reads)
 EndsAs remaining old new run Asked = AskedAtReply run
 EndsAs remaining old new run Served =
-    All GoesOn run.exchanges × (length run.exchanges ≡ 1000) × (run.parting ≡ silence)
+    All GoesOn run.exchanges × (length run.exchanges ≡ 1000) × (run.ending ≡ silence)
     × HasNotReadOn run.pieces run.rest
-EndsAs remaining old new run Refused = WentOn run.exchanges × Refuses run.parting
-EndsAs remaining old new run Failed = FailedAtReply run ⊎ (WentOn run.exchanges × Fails run.parting)
+EndsAs remaining old new run Refused = WentOn run.exchanges × Refuses run.ending
+EndsAs remaining old new run Failed = FailedAtReply run ⊎ (WentOn run.exchanges × Fails run.ending)
 EndsAs remaining old new run WriteFault =
-    (has_failed new.writer ≡ true) × MadeWrites old.writer new.writer false × (CutAtReply run ⊎ CutAtParting run)
+    (has_failed new.writer ≡ true) × MadeWrites old.writer new.writer false × (CutAtReply run ⊎ CutAtEnding run)
 
 -- The stream was served: the bytes consumed are whole requests and a rest, each request had one tick of the
 -- clock and one reply of the handler, and the replies were written in order and nothing else but what parts
@@ -246,9 +246,9 @@ pub record Serves {R W C H : Type 0} (remaining : R → Option (List ℕ)) (cont
   pub reading : Splits run.given (wires_of run.exchanges) run.rest
   pub at_most : length run.exchanges ≤ 1000
   pub chain : Chain ticks handles 0 (old.clock, old.handler) run.exchanges (new.clock, run.handler)
-  pub parting : IsParting heads run.handler new.handler run.rest run.parting
+  pub ending : IsEnding heads run.handler new.handler run.rest run.ending
   pub appended : Appends (known_bytes contents old.writer) (known_bytes contents new.writer) run.written
-  pub whole : end ≢ WriteFault → run.written ≡ replies_of run.exchanges ++ parting_bytes run.parting
+  pub whole : end ≢ WriteFault → run.written ≡ replies_of run.exchanges ++ ending_bytes run.ending
   pub counted : HasMade run.reads (calls_of old.reader) (calls_of new.reader)
   pub reads_at_most : run.reads ≤ 100000
   pub given_is : concat run.pieces ≡ run.given
@@ -256,5 +256,5 @@ pub record Serves {R W C H : Type 0} (remaining : R → Option (List ℕ)) (cont
   pub read : Reads remaining old.reader new.reader run.pieces (finish_at end)
   pub needed : IsCalledFor run.pieces run.rest
   pub wrote : Wrote contents old.writer new.writer run.written (is_whole end)
-  pub memory : MissesMemory run.parting run.reads run.rest
+  pub memory : MissesMemory run.ending run.reads run.rest
   pub ends : EndsAs remaining old new run end

@@ -10,6 +10,17 @@ use Rattle.http_wire.specs.declared.next.Next.{Next}
 use Rattle.http_wire.specs.declared.next.Next.TheVariants.{Whole, Head, Refused, More}
 use Rattle.http_wire.specs.Framing.{body_length, closes}
 
+-- the parts of a request that an answer may depend on
+pub record Asked : Type 0 where
+  pub method : List ℕ
+  pub target : List ℕ
+  pub body : List ℕ
+  pub close : Bool
+
+-- the parts of this one
+abbrev pub asked : Request → Asked
+asked r = record { method = r.method; target = r.target.items; body = r.body.items; close = r.close }
+
 -- the names and values of a head's fields
 abbrev pub fields_of : RequestHead → List (List ℕ × List ℕ)
 fields_of h = map name_and_value h.fields
@@ -29,27 +40,27 @@ pub record IsGoodHead (h : RequestHead) : Type 0 where
   pub size : length (print_request h) ≤ 8192
 
 -- a request as it is sent: a head and a body
-pub record Wire : Type 0 where
+pub record WireRequest : Type 0 where
   pub head : RequestHead
   pub body : List ℕ
 
 -- its bytes
-abbrev pub wire_bytes : Wire → List ℕ
+abbrev pub wire_bytes : WireRequest → List ℕ
 wire_bytes w = print_request w.head ++ w.body
 
 -- the head is a good one, not of a HEAD request, and the body has the length that the head says
-pub record IsWire (w : Wire) : Type 0 where
+pub record IsWireRequest (w : WireRequest) : Type 0 where
   pub head : IsGoodHead w.head
   pub method : ¬ (IsHeadMethod w.head)
   pub body : body_length (fields_of w.head) ≡ Ok (length w.body)
 
 -- the bytes are whole requests, one after another, and then a rest
-pub record Splits (bytes : List ℕ) (wires : List Wire) (rest : List ℕ) : Type 0 where
+pub record Splits (bytes : List ℕ) (wires : List WireRequest) (rest : List ℕ) : Type 0 where
   pub whole : bytes ≡ flat_map wire_bytes wires ++ rest
-  pub each : All IsWire wires
+  pub each : All IsWireRequest wires
 
 -- the parts of a request are those of the wire
-pub record IsRequestOn (w : Wire) (r : Request) : Type 0 where
+pub record IsRequestOn (w : WireRequest) (r : Request) : Type 0 where
   pub method : r.method ≡ w.head.method
   pub target : r.target.items ≡ w.head.target
   pub body : r.body.items ≡ w.body
@@ -123,14 +134,14 @@ pub record IsOpenBelow (n : ℕ) (bytes : List ℕ) : Type 0 where
 -- a request stands in front that is served: a whole one, or the head of a HEAD request
 abbrev pub BeginsServed : List ℕ → Type 0
 BeginsServed bytes =
-    ((w : Wire) × (rest : List ℕ) × IsWire w × (bytes ≡ wire_bytes w ++ rest))
+    ((w : WireRequest) × (rest : List ℕ) × IsWireRequest w × (bytes ≡ wire_bytes w ++ rest))
     ⊎ ((target : List ℕ) × IsHeadRequest target bytes)
 
 -- the bytes begin with this request, of so many bytes
 pub record BeginsWith (bytes : List ℕ) (len : ℕ) (r : Request) : Type 0 where
-  pub wire : Wire
+  pub wire : WireRequest
   pub rest : List ℕ
-  pub is_wire : IsWire wire
+  pub is_wire : IsWireRequest wire
   pub request : IsRequestOn wire r
   pub bytes_are : bytes ≡ wire_bytes wire ++ rest
   pub len_is : len ≡ length (wire_bytes wire)

@@ -1,8 +1,7 @@
 //! The next request at the front of the bytes that were read.
 ghost use Rattle.std.specs.Prelude.{◌≡◌, ◌≤◌, length, Ok, None, IfOk, IfSome, OnErr};
 ghost use Rattle.httparse.specs.Grammar.{IsToken};
-ghost use Rattle.http_wire.specs.Request.{asked};
-ghost use Rattle.http_wire.specs.Wire.{IsBadHead, IsNext, BeginsServed};
+ghost use Rattle.http_wire.specs.Wire.{BeginsServed, IsBadHead, IsNext, asked};
 
 use crate::framing::{FramingError, asks_close, read_body_length};
 use crate::request::Request;

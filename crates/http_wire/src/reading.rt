@@ -4,7 +4,7 @@ ghost use Rattle.http_wire.specs.Input.{unread, room_of};
 ghost use Rattle.http_wire.specs.Wire.{IsOpenBelow};
 ghost use Rattle.http_wire.specs.Reading.{ReadsOn, StopsAs, Takes, KeepsRoom, finish_by};
 ghost use Rattle.http_wire.specs.Replies.{waiting, HoldsOrSends, SendsBefore};
-ghost use Rattle.http_wire.specs.declared.reading.Stop.TheVariants.{WriteFault};
+ghost use Rattle.http_wire.specs.declared.reading.StopCause.TheVariants.{WriteFault};
 
 use crate::framing::FramingError;
 use crate::input::{Input, Piece};
@@ -17,7 +17,7 @@ use std::io::{Read, Write};
 
 /// Why no further request was taken from a stream.
 #[derive(Drop)]
-pub enum Stop {
+pub enum StopCause {
     /// The input ended before a request.
     Closed,
     /// The input ended inside a request.
@@ -42,7 +42,7 @@ fn read_up_to<R: Read>(
     reads: &mut u32,
     wanted: usize,
     _replies: &Replies,
-) -> Result<(), Stop>
+) -> Result<(), StopCause>
     requires wanted { IsOpenBelow wanted (unread input.old) }
     requires none { waiting _replies.now ≡ [] }
     ensures read { (given : List ℕ)
@@ -55,17 +55,17 @@ fn read_up_to<R: Read>(
 {
     while input.len() < wanted {
         if *reads == 0 {
-            return Err(Stop::ReadsSpent);
+            return Err(StopCause::ReadsSpent);
         }
         let Ok(piece) = input.fill(reader) else {
-            return Err(Stop::NoMemory);
+            return Err(StopCause::NoMemory);
         };
         *reads -= 1;
         match piece {
             Piece::Bytes => {}
-            Piece::Fault => return Err(Stop::ReadFault),
-            Piece::End if input.len() == 0 => return Err(Stop::Closed),
-            Piece::End => return Err(Stop::Cut),
+            Piece::Fault => return Err(StopCause::ReadFault),
+            Piece::End if input.len() == 0 => return Err(StopCause::Closed),
+            Piece::End => return Err(StopCause::Cut),
         }
     }
     Ok(())
@@ -80,7 +80,7 @@ pub fn read_request<R: Read, W: Write>(
     reads: &mut u32,
     writer: &mut Counted<W>,
     replies: &mut Replies,
-) -> Result<Request, Stop>
+) -> Result<Request, StopCause>
     ensures read { (given : List ℕ)
         × ReadsOn R.remaining reader.old reader.new (unread input.old) given reads.old reads.new (finish_by result)
         × MatchResult result
@@ -98,12 +98,12 @@ pub fn read_request<R: Read, W: Write>(
                 input.take(len);
                 return Ok(request);
             }
-            Ok(Next::Head(target)) => return Err(Stop::Head(target)),
-            Ok(Next::Refused(e)) => return Err(Stop::Refused(e)),
-            Err(_) => return Err(Stop::NoMemory),
+            Ok(Next::Head(target)) => return Err(StopCause::Head(target)),
+            Ok(Next::Refused(e)) => return Err(StopCause::Refused(e)),
+            Err(_) => return Err(StopCause::NoMemory),
         };
         if !replies.send(writer) {
-            return Err(Stop::WriteFault);
+            return Err(StopCause::WriteFault);
         }
         read_up_to(input, reader, reads, wanted, replies)?;
     }

@@ -1,13 +1,13 @@
 //! Serving a stream of requests.
 ghost use Rattle.std.specs.Prelude.{◌||◌};
-ghost use Rattle.http_wire.specs.Request.{asked};
-ghost use Rattle.http_wire.specs.Farewell.{SendsLast, Farewell, SendsAndParts};
+ghost use Rattle.http_wire.specs.Wire.{asked};
+ghost use Rattle.http_wire.specs.ClosingReply.{SendsLast, ClosingReply, SendsAndParts};
 ghost use Rattle.http_wire.specs.Replies.{waiting};
 ghost use Rattle.http_wire.specs.Stream.{Serves};
 
 use crate::clock::Clock;
 use crate::input::Input;
-use crate::reading::{Stop, read_request};
+use crate::reading::{StopCause, read_request};
 use crate::replies::Replies;
 use crate::reply::Reply;
 use crate::request::Request;
@@ -48,7 +48,7 @@ pub enum StreamEnd {
 /// and what becomes of it.
 pub trait Handler {
     ghost use Rattle.std.specs.Prelude.{ℕ, ℤ, List};
-    ghost use Rattle.http_wire.specs.Request.{Asked};
+    ghost use Rattle.http_wire.specs.Wire.{Asked};
     ghost use Rattle.http_wire.specs.declared.reply.Reply.{Reply};
 
     // the old state, the moment, the request, the reply, the new state
@@ -98,31 +98,31 @@ fn part_with<W: Write, H: Handler>(
     alloc: Global,
     writer: &mut Counted<W>,
     handler: &mut H,
-    stop: Stop,
+    stop: StopCause,
 ) -> StreamEnd
-    ensures { Farewell W.contents H.handles_head writer.old writer.new handler.old handler.new stop result }
+    ensures { ClosingReply W.contents H.handles_head writer.old writer.new handler.old handler.new stop result }
 {
     match stop {
-        Stop::Closed => StreamEnd::Closed,
-        Stop::Cut => StreamEnd::Cut,
-        Stop::ReadsSpent => StreamEnd::ReadsSpent,
-        Stop::ReadFault => StreamEnd::ReadFault,
-        Stop::WriteFault => StreamEnd::WriteFault,
-        Stop::NoMemory => {
+        StopCause::Closed => StreamEnd::Closed,
+        StopCause::Cut => StreamEnd::Cut,
+        StopCause::ReadsSpent => StreamEnd::ReadsSpent,
+        StopCause::ReadFault => StreamEnd::ReadFault,
+        StopCause::WriteFault => StreamEnd::WriteFault,
+        StopCause::NoMemory => {
             if write_whole(writer, Reply::NoMemory.as_bytes()) {
                 StreamEnd::Failed
             } else {
                 StreamEnd::WriteFault
             }
         }
-        Stop::Refused(e) => {
+        StopCause::Refused(e) => {
             if write_whole(writer, e.reply()) {
                 StreamEnd::Refused
             } else {
                 StreamEnd::WriteFault
             }
         }
-        Stop::Head(target) => {
+        StopCause::Head(target) => {
             let reply = handler.head(alloc, &target);
             if !write_whole(writer, reply.as_bytes()) {
                 StreamEnd::WriteFault
@@ -141,7 +141,7 @@ fn end_stream<W: Write, H: Handler>(
     writer: &mut Counted<W>,
     handler: &mut H,
     replies: &mut Replies,
-    stop: Stop,
+    stop: StopCause,
 ) -> StreamEnd
     ensures { SendsAndParts W.contents H.handles_head writer.old writer.new (waiting replies.old) handler.old handler.new stop result }
 {

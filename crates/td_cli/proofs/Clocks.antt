@@ -1,7 +1,7 @@
 -- What a clock shows.
 use Rattle.std.proofs.Common.{◌≡◌, ℤ, None, Some, ◌∙◌, refl, ap}
 use Rattle.td_cli.specs.declared.clock.FixedClock.{FixedClock}
-use Rattle.td_cli.specs.Clocks.{IsMoment, Shows}
+use Rattle.td_cli.specs.Desks.{IsMoment, Shows}
 
 -- a clock shows what it ticks
 pub shows_itself : {C : Type 0} (ticks : C → ℤ → C → Type 0) (clock : C) → Shows ticks ticks (λ c. c) clock

@@ -1,5 +1,5 @@
 mod Clocks
 mod Desks
 mod Pipes
-mod Visits
+mod ServedConnections
 mod Agreeing

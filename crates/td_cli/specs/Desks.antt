@@ -1,27 +1,27 @@
 -- What the program's jobs say of a desk: what contracts see of it, what it begins with, and what is told to each holder.
-use Rattle.std.specs.Prelude.{◌≡◌, ℕ, ℤ, Bool, true, false, List, IsTrue}
+use Rattle.std.specs.Prelude.{◌≡◌, ℕ, ℤ, Bool, true, false, List, Option, None, Some, IsTrue}
 use Rattle.sqlite_wal.specs.Recovery.{Image}
 use Rattle.td_model.specs.Book.{Book}
 use Rattle.td_desk.specs.Content.{Content, account_in, empty_content, fresh, IsSound}
-use Rattle.td_files.specs.Found.{content_in, FileState, IsClean, IsKeptDesk, IsMadeDesk}
+use Rattle.td_files.specs.Found.{content_in, FileState, IsClean, IsOpenedDesk, IsCreatedDesk}
 use Rattle.http_wire.specs.declared.reply.Reply.{Reply}
-use Rattle.http_wire.specs.Request.{Asked}
+use Rattle.http_wire.specs.Wire.{Asked}
 use Rattle.td_http.specs.Serving.{IsHeadReply, IsHandled}
 
 -- What contracts see of a desk: its content; whether its disk is clean, that is returned what was written while nobody else
 -- wrote; whether no fault has shut it; and whether a store stands behind it.
-pub record Sight (D : Type 0) : Type 1 where
+pub record DeskView (D : Type 0) : Type 1 where
   pub content : D → Content
   pub is_clean : D → Type 0
   pub is_live : D → Type 0
   pub has_store : Type 0
 
 -- a desk in memory is seen by its content, which is always clean and live
-abbrev pub in_memory : Sight Content
+abbrev pub in_memory : DeskView Content
 in_memory = record { content = λ c. c; is_clean = λ c. Unit {0}; is_live = λ c. Unit {0}; has_store = ⊥ }
 
 -- a desk over a file is seen by what its connection shows
-abbrev pub over_file : Sight FileState
+abbrev pub over_file : DeskView FileState
 over_file = record {
   content = λ s. content_in s.now.trees;
   is_clean = IsClean;
@@ -29,18 +29,18 @@ over_file = record {
   has_store = Unit {0};
 }
 
--- the sight of a desk by what is seen of it
-abbrev pub sight_by : {D D' : Type 0} → (D → D') → Sight D' → Sight D
-sight_by see sight = record {
-  content = λ d. sight.content (see d);
-  is_clean = λ d. sight.is_clean (see d);
-  is_live = λ d. sight.is_live (see d);
-  has_store = sight.has_store;
+-- the view of a desk by what is seen of it
+abbrev pub view_by : {D D' : Type 0} → (D → D') → DeskView D' → DeskView D
+view_by see view = record {
+  content = λ d. view.content (see d);
+  is_clean = λ d. view.is_clean (see d);
+  is_live = λ d. view.is_live (see d);
+  has_store = view.has_store;
 }
 
 -- what a request does to a desk that is seen so, and a HEAD request, which leaves it as it is
-abbrev pub IsHandledAt : {D : Type 0} → Sight D → D → ℤ → Asked → Reply → D → Type 0
-IsHandledAt sight = IsHandled (λ d. d) sight.content sight.is_clean sight.is_live sight.has_store
+abbrev pub IsHandledAt : {D : Type 0} → DeskView D → D → ℤ → Asked → Reply → D → Type 0
+IsHandledAt view = IsHandled (λ d. d) view.content view.is_clean view.is_live view.has_store
 
 pub record IsHeadHandledAt {D : Type 0} (old : D) (target : List ℕ) (reply : Reply) (new : D) : Type 0 where
   pub stays : new ≡ old
@@ -56,11 +56,11 @@ BeginsEmpty country c = c ≡ empty_content country
 
 -- one over a file has what the file held, as far as its disk is clean
 abbrev pub BeginsKept : Image → List ℕ → FileState → Type 0
-BeginsKept image country s = IsClean s → IsKeptDesk image country s
+BeginsKept image country s = IsClean s → IsOpenedDesk image country s
 
 -- and where the file was new it is empty
 abbrev pub BeginsMade : Image → List ℕ → FileState → Type 0
-BeginsMade image country s = IsClean s → IsMadeDesk image country s
+BeginsMade image country s = IsClean s → IsCreatedDesk image country s
 
 -- either of the two
 abbrev pub BeginsIn : Bool → Image → List ℕ → FileState → Type 0
@@ -68,10 +68,22 @@ BeginsIn false = BeginsKept
 BeginsIn true = BeginsMade
 
 -- a desk that can serve: as far as it is clean no fault has shut it, and its content is sound
-abbrev pub IsReady : {D : Type 0} → Sight D → D → Type 0
-IsReady sight d = sight.is_clean d → sight.is_live d × IsSound (sight.content d)
+abbrev pub IsReady : {D : Type 0} → DeskView D → D → Type 0
+IsReady view d = view.is_clean d → view.is_live d × IsSound (view.content d)
 
 -- two desks of one country that have the same of H
 abbrev pub BeginAlike : List ℕ → ℕ → Content → Content → Type 0
 BeginAlike country H one other =
     (one.country ≡ country) × (other.country ≡ country) × (account_in H one ≡ account_in H other)
+
+-- The moments of a job's requests: the one of the job, or, where it has none, any that the machine's clock
+-- shows. What the clock itself is in between is left out.
+abbrev pub IsMoment : Option ℤ → Unit {0} → ℤ → Unit {0} → Type 0
+IsMoment (Some at) old now new = now ≡ at
+IsMoment None old now new = Unit {0}
+
+-- each tick of the clock is, by what is seen of the clock, one of these moments
+pub record Shows {C C' : Type 0} (ticks : C → ℤ → C → Type 0) (moments : C' → ℤ → C' → Type 0) (look : C → C') (clock : C) : Type 1 where
+  pub keeps : C → Type 0
+  pub first : keeps clock
+  pub each : (old : C) (at : ℤ) (new : C) → keeps old → ticks old at new → moments (look old) at (look new) × keeps new

@@ -1,10 +1,8 @@
 pub mod Statuses
-pub mod Clocks
 pub mod Desks
 pub mod AtDesk
 pub mod Piped
 pub mod Listening
 pub mod StreamsSeen
-pub mod VisitsSeen
-pub mod Checked
+pub mod ConnectionsSeen
 pub mod Performed

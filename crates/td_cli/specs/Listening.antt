@@ -11,10 +11,9 @@ use Rattle.td_desk.specs.Content.{Content}
 use Rattle.td_files.specs.Found.{FileState}
 use Rattle.td_files.specs.declared.desks.DeskFault.{DeskFault}
 use Rattle.td_http.specs.Private.{IsServedOver}
-use Rattle.td_http.specs.Visits.{ServesSockets}
+use Rattle.td_http.specs.Connections.{ServesSockets}
 use Rattle.td_cli.specs.AtDesk.{AtDesk, IsUntouched}
-use Rattle.td_cli.specs.Clocks.{IsMoment}
-use Rattle.td_cli.specs.Desks.{Sight, IsHandledAt, IsHeadHandledAt, fresh_books}
+use Rattle.td_cli.specs.Desks.{DeskView, IsHandledAt, IsHeadHandledAt, IsMoment, fresh_books}
 use Rattle.td_words.specs.declared.words.Listening.{Listening}
 use Rattle.td_words.specs.declared.words.Records.{Records}
 use Rattle.td_cli.specs.declared.serving.PrintedLines.{PrintedLines}
@@ -38,7 +37,7 @@ AreLinesOf listening lines =
 -- the desk is clean in the end, to each holder the bytes of the replies, over all connections, are those of that holder's own
 -- machine, from a book that opens with what the desk had of the holder at first; and where no fault has shut it, its content
 -- is the one after them. Where the answer is an error, no further connection came.
-pub record HasServed {D W C : Type 0} (sight : Sight D) (begins ends : D → Type 0) (contents : W → Option (List ℕ)) (ticks : C → ℤ → C → Type 0)
+pub record HasServed {D W C : Type 0} (view : DeskView D) (begins ends : D → Type 0) (contents : W → Option (List ℕ)) (ticks : C → ℤ → C → Type 0)
     (port connections : ℕ) (writer writer_left : Counted W) (clock : C) (answer : Result Unit Error) : Type 0 where
   pub listening : Appends (known_bytes contents writer) (known_bytes contents writer_left) (listening_line port)
   pub opened : D
@@ -46,33 +45,33 @@ pub record HasServed {D W C : Type 0} (sight : Sight D) (begins ends : D → Typ
   pub clock_left : C
   pub begun : begins opened
   pub ended : ends left
-  pub served : ServesSockets ticks (IsHandledAt sight) IsHeadHandledAt clock opened clock_left left connections answer
-  pub private : sight.is_clean left
-      → (c : Content) × IsServedOver (sight.content opened).country (fresh_books (sight.content opened))
-      (map (λ visit. visit.exchanges) served.visits) c
-      × (sight.is_live left → sight.content left ≡ c)
+  pub served : ServesSockets ticks (IsHandledAt view) IsHeadHandledAt clock opened clock_left left connections answer
+  pub private : view.is_clean left
+      → (c : Content) × IsServedOver (view.content opened).country (fresh_books (view.content opened))
+      (map (λ connection. connection.exchanges) served.all_served) c
+      × (view.is_live left → view.content left ≡ c)
 
 -- What a serving at a desk leaves that ended so. Without memory for what is printed, and where the port couldn't be listened on,
 -- nothing was printed; all connections were served where that is printed in the end, or couldn't be.
-abbrev pub ServesAs : {D W C : Type 0} → Sight D → (D → Type 0) → (D → Type 0) → (W → Option (List ℕ)) → (C → ℤ → C → Type 0) → ℕ → ℕ
+abbrev pub ServesAs : {D W C : Type 0} → DeskView D → (D → Type 0) → (D → Type 0) → (W → Option (List ℕ)) → (C → ℤ → C → Type 0) → ℕ → ℕ
     → Counted W → Counted W → C → ServingEnd → Type 0
-ServesAs {W = W} sight begins ends contents ticks port connections writer writer_left clock Done =
-    (said : Counted W) × HasServed sight begins ends contents ticks port connections writer said clock (Ok tt)
+ServesAs {W = W} view begins ends contents ticks port connections writer writer_left clock Done =
+    (said : Counted W) × HasServed view begins ends contents ticks port connections writer said clock (Ok tt)
     × Appends (known_bytes contents said) (known_bytes contents writer_left) (served_line connections)
-ServesAs sight begins ends contents ticks port connections writer writer_left clock NoMemory = writer_left ≡ writer
-ServesAs sight begins ends contents ticks port connections writer writer_left clock Socket =
+ServesAs view begins ends contents ticks port connections writer writer_left clock NoMemory = writer_left ≡ writer
+ServesAs view begins ends contents ticks port connections writer writer_left clock Socket =
     (writer_left ≡ writer)
-    ⊎ ((why : Error) × HasServed sight begins ends contents ticks port connections writer writer_left clock (Err why))
-ServesAs {W = W} sight begins ends contents ticks port connections writer writer_left clock Write =
+    ⊎ ((why : Error) × HasServed view begins ends contents ticks port connections writer writer_left clock (Err why))
+ServesAs {W = W} view begins ends contents ticks port connections writer writer_left clock Write =
     IsCutShort contents writer writer_left (listening_line port)
-    ⊎ ((said : Counted W) × HasServed sight begins ends contents ticks port connections writer said clock (Ok tt)
+    ⊎ ((said : Counted W) × HasServed view begins ends contents ticks port connections writer said clock (Ok tt)
     × IsCutShort contents said writer_left (served_line connections))
 
 -- the same at the moments of a job
-abbrev pub ServesAt : {D W : Type 0} → Sight D → (D → Type 0) → (D → Type 0) → (W → Option (List ℕ)) → Option ℤ → ℕ → ℕ
+abbrev pub ServesAt : {D W : Type 0} → DeskView D → (D → Type 0) → (D → Type 0) → (W → Option (List ℕ)) → Option ℤ → ℕ → ℕ
     → Counted W → Counted W → ServingEnd → Type 0
-ServesAt sight begins ends contents at port connections writer writer_left end =
-    ServesAs {C = Unit {0}} sight begins ends contents (IsMoment at) port connections writer writer_left tt end
+ServesAt view begins ends contents at port connections writer writer_left end =
+    ServesAs {C = Unit {0}} view begins ends contents (IsMoment at) port connections writer writer_left tt end
 
 -- What a serving leaves at a desk whose records stand there, in this country and at this moment or by the machine's clock:
 -- the input isn't read, and where there was a desk, this is said of how the serving ended.
@@ -80,5 +79,5 @@ abbrev pub IsServing : {R W : Type 0} → (W → Option (List ℕ)) → Image �
     → Counted R → Counted R → Counted W → Counted W → Option FileState → Result ServingEnd DeskFault → Type 0
 IsServing contents image country at records port connections reader reader_left writer writer_left file end =
     AtDesk image country records
-    (λ D sight begins ends end. (reader_left ≡ reader) × ServesAt sight begins ends contents at port connections writer writer_left end)
+    (λ D view begins ends end. (reader_left ≡ reader) × ServesAt view begins ends contents at port connections writer writer_left end)
     (IsUntouched reader reader_left writer writer_left) file end

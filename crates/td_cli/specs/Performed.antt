@@ -1,11 +1,11 @@
 -- What the program does with its words, its input and its outputs.
-use Rattle.std.specs.Prelude.{◌≡◌, ◌≢◌, ◌⊎◌, ℕ, ℤ, List, codes, Option, Result}
+use Rattle.std.specs.Prelude.{◌≡◌, ◌≢◌, ◌⊎◌, ℕ, ℤ, List, codes, Option, Some, Result}
 use Rattle.std.specs.IoError.{error_kind}
 use Rattle.std.specs.declared.io.Error.{Error}
 use Rattle.std.specs.declared.io.ErrorKind.TheVariants.{OutOfMemory}
 use Rattle.sqlite_wal.specs.Recovery.{Image}
 use Rattle.counted_io.specs.declared.counted.Counted.{Counted}
-use Rattle.td_files.specs.Found.{FileState}
+use Rattle.td_files.specs.Found.{FileState, IsToldOf}
 use Rattle.td_files.specs.declared.desks.DeskFault.{DeskFault}
 use Rattle.http_wire.specs.declared.stream.StreamEnd.{StreamEnd}
 use Rattle.td_words.specs.declared.words.NoJob.{NoJob}
@@ -13,10 +13,20 @@ use Rattle.td_words.specs.declared.words.Task.{Task}
 use Rattle.td_words.specs.declared.words.Task.TheVariants.{Serve, Pipe, Check}
 use Rattle.td_words.specs.Words.{AsksFor}
 use Rattle.td_cli.specs.declared.serving.ServingEnd.{ServingEnd}
-use Rattle.td_cli.specs.Checked.{IsChecked}
+use Rattle.td_cli.specs.Desks.{BeginsKept}
 use Rattle.td_cli.specs.Piped.{PipesAs}
 use Rattle.td_cli.specs.Listening.{IsServing}
-use Rattle.td_cli.specs.Statuses.{IsAnswered, IsEndTold, IsServingTold, IsTold}
+use Rattle.td_cli.specs.Statuses.{IsAnswered, IsEndTold, IsFaultTold, IsPrinted, IsServingTold, IsTold}
+
+-- A file that held this was tested, and what was found was told: it is sound where a desk of the country was opened over it,
+-- which the file then shows, and else why none was.
+abbrev pub IsChecked : {W E : Type 0} → (W → Option (List ℕ)) → (E → Option (List ℕ)) → Image → List ℕ
+    → Counted W → Counted W → Counted E → Counted E → Option FileState → ℕ → Type 0
+IsChecked contents said image country out out_left errors errors_left file status =
+    ((s : FileState) × (file ≡ Some s) × BeginsKept image country s
+    × IsPrinted contents said out out_left errors errors_left (codes "sound\n") status)
+    ⊎ ((why : DeskFault) × IsToldOf image country file why × (out_left ≡ out)
+    × IsFaultTold said errors errors_left why status)
 
 -- A task was done, in this country and at this moment or by the machine's clock, and how it ended was told: one stream from the
 -- input to the first writer; connections, for which the input isn't read; or a file was tested, of which the image is what it held. The file is what a connection to it shows then.

@@ -10,14 +10,13 @@ use Rattle.http_wire.specs.declared.stream.StreamEnd.{StreamEnd}
 use Rattle.http_wire.specs.Stream.{Serves}
 use Rattle.td_words.specs.declared.words.Records.{Records}
 use Rattle.td_cli.specs.AtDesk.{AtDesk, IsUntouched}
-use Rattle.td_cli.specs.Clocks.{IsMoment}
-use Rattle.td_cli.specs.Desks.{Sight, IsHandledAt, IsHeadHandledAt, fresh_books}
+use Rattle.td_cli.specs.Desks.{DeskView, IsHandledAt, IsHeadHandledAt, IsMoment, fresh_books}
 
 -- A stream of requests was served at a desk that is seen so, and began and ended so: the bytes consumed are whole requests and a rest, and
 -- what was written is the replies to them and what parts with the rest. Where the desk is clean in the end, each holder's
 -- requests had the replies of that holder's own machine, from a book that opens with what the desk had of the holder at first;
 -- and where no fault has shut it, its content is the one after them.
-pub record IsPiped {D R W C : Type 0} (sight : Sight D) (begins ends : D → Type 0)
+pub record IsPiped {D R W C : Type 0} (view : DeskView D) (begins ends : D → Type 0)
     (remaining : R → Option (List ℕ)) (contents : W → Option (List ℕ)) (ticks : C → ℤ → C → Type 0)
     (reader reader_left : Counted R) (writer writer_left : Counted W) (clock : C) (end : StreamEnd) : Type 0 where
   pub opened : D
@@ -25,18 +24,18 @@ pub record IsPiped {D R W C : Type 0} (sight : Sight D) (begins ends : D → Typ
   pub clock_left : C
   pub begun : begins opened
   pub ended : ends left
-  pub served : Serves remaining contents ticks (IsHandledAt sight) IsHeadHandledAt
+  pub served : Serves remaining contents ticks (IsHandledAt view) IsHeadHandledAt
       (record { reader = reader; writer = writer; clock = clock; handler = opened })
       (record { reader = reader_left; writer = writer_left; clock = clock_left; handler = left }) end
-  pub private : sight.is_clean left
-      → (c : Content) × IsServed (sight.content opened).country (fresh_books (sight.content opened)) 0 served.run.exchanges c
-      × (sight.is_live left → sight.content left ≡ c)
+  pub private : view.is_clean left
+      → (c : Content) × IsServed (view.content opened).country (fresh_books (view.content opened)) 0 served.run.exchanges c
+      × (view.is_live left → view.content left ≡ c)
 
 -- the same at the moments of a job
-abbrev pub IsPipedAt : {D R W : Type 0} → Sight D → (D → Type 0) → (D → Type 0) → (R → Option (List ℕ)) → (W → Option (List ℕ)) → Option ℤ
+abbrev pub IsPipedAt : {D R W : Type 0} → DeskView D → (D → Type 0) → (D → Type 0) → (R → Option (List ℕ)) → (W → Option (List ℕ)) → Option ℤ
     → Counted R → Counted R → Counted W → Counted W → StreamEnd → Type 0
-IsPipedAt sight begins ends remaining contents at reader reader_left writer writer_left end =
-    IsPiped {C = Unit {0}} sight begins ends remaining contents (IsMoment at) reader reader_left writer writer_left tt end
+IsPipedAt view begins ends remaining contents at reader reader_left writer writer_left end =
+    IsPiped {C = Unit {0}} view begins ends remaining contents (IsMoment at) reader reader_left writer writer_left tt end
 
 -- What a job leaves that serves one stream at a desk whose records stand there, in this country and at this moment or by
 -- the machine's clock: where there was a desk, the stream was served.
@@ -44,5 +43,5 @@ abbrev pub PipesAs : {R W : Type 0} → (R → Option (List ℕ)) → (W → Opt
     → Records → Counted R → Counted R → Counted W → Counted W → Option FileState → Result StreamEnd DeskFault → Type 0
 PipesAs remaining contents image country at records reader reader_left writer writer_left file end =
     AtDesk image country records
-    (λ D sight begins ends end. IsPipedAt sight begins ends remaining contents at reader reader_left writer writer_left end)
+    (λ D view begins ends end. IsPipedAt view begins ends remaining contents at reader reader_left writer writer_left end)
     (IsUntouched reader reader_left writer writer_left) file end

@@ -4,11 +4,10 @@ use Rattle.counted_io.specs.declared.counted.Counted.{Counted}
 use Rattle.http_wire.specs.declared.reply.Reply.{Reply}
 use Rattle.http_wire.specs.declared.stream.StreamEnd.{StreamEnd}
 use Rattle.http_wire.specs.declared.stream.StreamEnd.TheVariants.{Closed, Asked, Served, Refused, Cut, ReadsSpent, ReadFault, WriteFault, Failed}
-use Rattle.http_wire.specs.Request as request
-use Rattle.http_wire.specs.Stream.{Exchange, Chain, Run, EndsAs, Serves, Sides, IsParting, Parting, silence, refusal, to_head, no_memory, MetEnd, LeftOpen, AskedAtReply, FailedAtReply, CutAtReply}
+use Rattle.http_wire.specs.Wire as request
+use Rattle.http_wire.specs.Stream.{Exchange, Chain, Run, EndsAs, Serves, Sides, IsEnding, Ending, silence, refusal, to_head, no_memory, MetEnd, LeftOpen, AskedAtReply, FailedAtReply, CutAtReply}
 use Rattle.td_http.specs.Serving.{IsHandled}
-use Rattle.td_cli.specs.Clocks.{Shows}
-use Rattle.td_cli.specs.Desks.{Sight, sight_by, IsHandledAt, IsHeadHandledAt}
+use Rattle.td_cli.specs.Desks.{DeskView, IsHandledAt, IsHeadHandledAt, Shows, view_by}
 use Rattle.td_cli.specs.Piped.{IsPiped}
 
 module _ {C C' H H' : Type 0} (ticks : C → ℤ → C → Type 0) (moments : C' → ℤ → C' → Type 0) (look : C → C')
@@ -40,11 +39,11 @@ module _ {C C' H H' : Type 0} (ticks : C → ℤ → C → Type 0) (moments : C'
       let tick = each old.0 e.at chain.0 kept chain.2 in
       chain_keeps keeps each (before + 1) (chain.0, chain.1) new es tick.1 chain.4
 
-  pub parting_seen : (old new : H) (rest : List ℕ) (parting : Parting) → IsParting heads old new rest parting → IsParting heads' (see old) (see new) rest parting
-  parting_seen old new rest silence is = ap see is
-  parting_seen old new rest (refusal e) is = (ap see is.0, is.1)
-  parting_seen old new rest (to_head target reply) is = (carries_head old target reply new is.0, is.1)
-  parting_seen old new rest no_memory is = (ap see is.0, is.1)
+  pub ending_seen : (old new : H) (rest : List ℕ) (ending : Ending) → IsEnding heads old new rest ending → IsEnding heads' (see old) (see new) rest ending
+  ending_seen old new rest silence is = ap see is
+  ending_seen old new rest (refusal e) is = (ap see is.0, is.1)
+  ending_seen old new rest (to_head target reply) is = (carries_head old target reply new is.0, is.1)
+  ending_seen old new rest no_memory is = (ap see is.0, is.1)
 
   abbrev pub run_seen : Run H → Run H'
   run_seen run =
@@ -53,7 +52,7 @@ module _ {C C' H H' : Type 0} (ticks : C → ℤ → C → Type 0) (moments : C'
         exchanges = run.exchanges;
         rest = run.rest;
         handler = see run.handler;
-        parting = run.parting;
+        ending = run.ending;
         written = run.written;
         reads = run.reads;
         pieces = run.pieces;
@@ -124,7 +123,7 @@ module _ {C C' H H' : Type 0} (ticks : C → ℤ → C → Type 0) (moments : C'
           reading = served.reading;
           at_most = served.at_most;
           chain = chain_seen shows.keeps shows.each 0 (clock, handler) (clock_left, served.run.handler) served.run.exchanges shows.first served.chain;
-          parting = parting_seen served.run.handler handler_left served.run.rest served.run.parting served.parting;
+          ending = ending_seen served.run.handler handler_left served.run.rest served.run.ending served.ending;
           appended = served.appended;
           whole = served.whole;
           counted = served.counted;
@@ -139,10 +138,10 @@ module _ {C C' H H' : Type 0} (ticks : C → ℤ → C → Type 0) (moments : C'
         }
 
 -- what is said of a request at a desk, said of what is seen of the desk
-pub handled_seen : {S D D' : Type 0} (desk : S → D) (see : D → D') (sight : Sight D') (old : S) (at : ℤ) (asked : request.Asked) (reply : Reply) (new : S)
-    → IsHandled desk (λ d. sight.content (see d)) (λ d. sight.is_clean (see d)) (λ d. sight.is_live (see d)) sight.has_store old at asked reply new
-    → IsHandledAt sight (see (desk old)) at asked reply (see (desk new))
-handled_seen desk see sight old at asked reply new is =
+pub handled_seen : {S D D' : Type 0} (desk : S → D) (see : D → D') (view : DeskView D') (old : S) (at : ℤ) (asked : request.Asked) (reply : Reply) (new : S)
+    → IsHandled desk (λ d. view.content (see d)) (λ d. view.is_clean (see d)) (λ d. view.is_live (see d)) view.has_store old at asked reply new
+    → IsHandledAt view (see (desk old)) at asked reply (see (desk new))
+handled_seen desk see view old at asked reply new is =
     record {
       clean = is.clean;
       live = is.live;
@@ -156,21 +155,21 @@ pub head_seen : {D D' : Type 0} (see : D → D') (old : D) (target : List ℕ) (
 head_seen see old target reply new is = record { stays = ap see is.stays; told = is.told }
 
 -- what is seen of a stream at a desk
-pub piped_seen : {D D' R W C C' : Type 0} (sight : Sight D') (see : D → D') (begins ends : D → Type 0) (begins' ends' : D' → Type 0)
+pub piped_seen : {D D' R W C C' : Type 0} (view : DeskView D') (see : D → D') (begins ends : D → Type 0) (begins' ends' : D' → Type 0)
     (remaining : R → Option (List ℕ)) (contents : W → Option (List ℕ)) (ticks : C → ℤ → C → Type 0) (moments : C' → ℤ → C' → Type 0) (look : C → C')
     (reader reader_left : Counted R) (writer writer_left : Counted W) (clock : C) (end : StreamEnd)
     → ((d : D) → begins d → begins' (see d)) → ((d : D) → ends d → ends' (see d)) → Shows ticks moments look clock
-    → IsPiped (sight_by see sight) begins ends remaining contents ticks reader reader_left writer writer_left clock end
-    → IsPiped sight begins' ends' remaining contents moments reader reader_left writer writer_left (look clock) end
+    → IsPiped (view_by see view) begins ends remaining contents ticks reader reader_left writer writer_left clock end
+    → IsPiped view begins' ends' remaining contents moments reader reader_left writer writer_left (look clock) end
 unfolding serves_seen
-piped_seen sight see begins ends begins' ends' remaining contents ticks moments look reader reader_left writer writer_left clock end begin close shows piped =
+piped_seen view see begins ends begins' ends' remaining contents ticks moments look reader reader_left writer writer_left clock end begin close shows piped =
     record {
       opened = see piped.opened;
       left = see piped.left;
       clock_left = look piped.clock_left;
       begun = begin piped.opened piped.begun;
       ended = close piped.left piped.ended;
-      served = serves_seen ticks moments look (IsHandledAt (sight_by see sight)) (IsHandledAt sight) IsHeadHandledAt IsHeadHandledAt see
-          (handled_seen (λ d. d) see sight) (head_seen see) remaining reader reader_left writer writer_left clock piped.clock_left piped.opened piped.left contents shows end piped.served;
+      served = serves_seen ticks moments look (IsHandledAt (view_by see view)) (IsHandledAt view) IsHeadHandledAt IsHeadHandledAt see
+          (handled_seen (λ d. d) see view) (head_seen see) remaining reader reader_left writer writer_left clock piped.clock_left piped.opened piped.left contents shows end piped.served;
       private = piped.private;
     }

@@ -7,8 +7,7 @@ ghost use Rattle.td_files.specs.Found.{FileState, shown};
 ghost use Rattle.td_files.specs.declared.desks.DeskFault.TheVariants as fault;
 ghost use Rattle.td_files.specs.Faults as refused;
 ghost use Rattle.td_cli.specs.AtDesk.{AtDesk, Doing, IsSeen, IsUntouched};
-ghost use Rattle.td_cli.specs.Clocks.{IsMoment};
-ghost use Rattle.td_cli.specs.Desks.{in_memory, over_file, BeginsEmpty, IsReady};
+ghost use Rattle.td_cli.specs.Desks.{BeginsEmpty, IsMoment, IsReady, in_memory, over_file};
 
 use crate::clock::{FixedClock, MachineClock};
 use sqlite::Start;
@@ -65,7 +64,7 @@ pub(crate) fn at_desk<S: Start, R: Read, W: Write, J: DeskJob>(
     out: &mut Counted<W>,
 ) -> Result<J::End, DeskFault>
     ensures { AtDesk (image_at S.Start) office.country records.now
-        (λ D sight begins ends end. J.does D _ _ _ sight begins ends R.remaining W.contents (IsMoment office.at) job.now
+        (λ D view begins ends end. J.does D _ _ _ view begins ends R.remaining W.contents (IsMoment office.at) job.now
         input.old input.new out.old out.new tt end)
         (IsUntouched input.old input.new out.old out.new)
         (option_map (λ c. shown (file_state c)) file.new.connection) result }

@@ -3,8 +3,7 @@ ghost use Rattle.std.specs.Prelude.{◌≡◌, map, option_map, string_bytes};
 ghost use Rattle.sqlite.specs.Files.{file_state};
 ghost use Rattle.sqlite.specs.WalFiles.{image_at};
 ghost use Rattle.td_files.specs.Found.{shown};
-ghost use Rattle.td_cli.specs.Checked.{IsChecked};
-ghost use Rattle.td_cli.specs.Performed.{IsDone, IsPerformed};
+ghost use Rattle.td_cli.specs.Performed.{IsChecked, IsDone, IsPerformed};
 ghost use Rattle.td_cli.specs.Statuses.{IsAnswered};
 
 use crate::at_desk::{Office, at_desk};

@@ -4,8 +4,7 @@ ghost use Rattle.std.specs.declared.io.Error.{Error};
 ghost use Rattle.sqlite_wal.specs.Recovery.{Image};
 ghost use Rattle.counted_io.specs.declared.counted.Counted.{Counted};
 ghost use Rattle.td_files.specs.Found.{FileState, IsClean};
-ghost use Rattle.td_cli.specs.Clocks.{IsMoment};
-ghost use Rattle.td_cli.specs.Desks.{in_memory, over_file, BeginAlike, BeginsEmpty, BeginsIn};
+ghost use Rattle.td_cli.specs.Desks.{BeginAlike, BeginsEmpty, BeginsIn, IsMoment, in_memory, over_file};
 ghost use Rattle.td_cli.specs.Listening.{HasServed};
 ghost use Rattle.td_cli.specs.Piped.{IsPipedAt};
 ghost use Rattle.td_http.specs.ConnectionLaws.{TellAlikeOver};
@@ -59,8 +58,8 @@ pub fn agreeing_servings_tell_the_same<W: Write, OtherW: Write>()
         port connections writer writer_left tt answer)
         → (other : HasServed {C = Unit {0}} in_memory (BeginsEmpty country) (λ c. Unit {0}) OtherW.contents (IsMoment other_at)
         other_port other_connections other_writer other_writer_left tt other_answer)
-        → TellAlikeOver country H (map (λ visit. visit.exchanges) one.served.visits)
-        (map (λ visit. visit.exchanges) other.served.visits) }
+        → TellAlikeOver country H (map (λ connection. connection.exchanges) one.served.all_served)
+        (map (λ connection. connection.exchanges) other.served.all_served) }
 {}
 
 /// The same of two servings over files, whose desks began with the same of a holder, where the files' disks are clean in the
@@ -76,6 +75,6 @@ pub fn agreeing_servings_over_files_tell_the_same<W: Write, OtherW: Write>()
         other_port other_connections other_writer other_writer_left tt other_answer)
         → IsClean file → IsClean other_file
         → BeginAlike country H (over_file.content one.opened) (over_file.content other.opened)
-        → TellAlikeOver country H (map (λ visit. visit.exchanges) one.served.visits)
-        (map (λ visit. visit.exchanges) other.served.visits) }
+        → TellAlikeOver country H (map (λ connection. connection.exchanges) one.served.all_served)
+        (map (λ connection. connection.exchanges) other.served.all_served) }
 {}

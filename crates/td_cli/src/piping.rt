@@ -14,11 +14,11 @@ pub(crate) struct Piping;
 impl DeskJob for Piping {
     type End = StreamEnd;
 
-    ghost does = { λ D R W C sight begins ends remaining contents ticks job reader reader_left writer writer_left clock end.
-        IsPiped sight begins ends remaining contents ticks reader reader_left writer writer_left clock end };
+    ghost does = { λ D R W C view begins ends remaining contents ticks job reader reader_left writer writer_left clock end.
+        IsPiped view begins ends remaining contents ticks reader reader_left writer writer_left clock end };
 
-    ghost seen = { λ D D' R W C C' sight see begins ends begins' ends' remaining contents ticks moments look job.
-        piped_seen sight see begins ends begins' ends' remaining contents ticks moments look };
+    ghost seen = { λ D D' R W C C' view see begins ends begins' ends' remaining contents ticks moments look job.
+        piped_seen view see begins ends begins' ends' remaining contents ticks moments look };
 
     fn on<D: Desk + Drop, C: Clock + Drop, R: Read, W: Write>(
         &self,

@@ -3,7 +3,7 @@ ghost use Rattle.std.specs.Prelude.{◌≡◌};
 ghost use Rattle.td_http.specs.Serving.{desk_of};
 ghost use Rattle.td_cli.specs.Desks.{IsReady};
 ghost use Rattle.td_cli.specs.Listening.{AreLinesOf, ServesAs};
-ghost use Rattle.td_cli.specs.VisitsSeen.{serving_seen};
+ghost use Rattle.td_cli.specs.ConnectionsSeen.{serving_seen};
 
 use crate::at_desk::DeskJob;
 use std::alloc::{AllocError, Global};
@@ -53,11 +53,11 @@ impl PrintedLines {
 impl DeskJob for Listening {
     type End = ServingEnd;
 
-    ghost does = { λ D R W C sight begins ends remaining contents ticks job reader reader_left writer writer_left clock end.
-        (reader_left ≡ reader) × ServesAs sight begins ends contents ticks job.port job.connections writer writer_left clock end };
+    ghost does = { λ D R W C view begins ends remaining contents ticks job reader reader_left writer writer_left clock end.
+        (reader_left ≡ reader) × ServesAs view begins ends contents ticks job.port job.connections writer writer_left clock end };
 
-    ghost seen = { λ D D' R W C C' sight see begins ends begins' ends' remaining contents ticks moments look job reader reader_left writer writer_left clock end begin close shows serves.
-        (serves.0, serving_seen sight see begins ends begins' ends' contents ticks moments look job.port job.connections writer writer_left clock begin close shows end serves.1) };
+    ghost seen = { λ D D' R W C C' view see begins ends begins' ends' remaining contents ticks moments look job reader reader_left writer writer_left clock end begin close shows serves.
+        (serves.0, serving_seen view see begins ends begins' ends' contents ticks moments look job.port job.connections writer writer_left clock begin close shows end serves.1) };
 
     fn on<D: Desk + Drop, C: Clock + Drop, R: Read, W: Write>(
         &self,

@@ -5,7 +5,7 @@ use Rattle.td_model.specs.declared.holder_row.HolderRow.{HolderRow}
 use Rattle.td_acts.specs.declared.rows.Change.{Change}
 use Rattle.td_acts.specs.declared.rows.Change.TheVariants as change
 use Rattle.td_commands.specs.declared.command.Stamped.{Stamped}
-use Rattle.td_model.specs.Account.{Account, HolderRows, account_with, ReferencesDiffer}
+use Rattle.td_model.specs.Account.{Account, HolderRows, ReferencesDiffer, account_with, holder_key}
 use Rattle.td_model.specs.Book.{account_of}
 use Rattle.td_acts.specs.Changes.{account_after, row_in, rows_after, rows_or_new}
 use Rattle.td_commands.specs.Commands.{owner_of, IsProper}
@@ -16,7 +16,6 @@ use Rattle.td_model.specs.Sound.{AreHolderRows}
 use Rattle.td_acts.proofs.AcceptedRows.{nobody_writes}
 use Rattle.td_acts.proofs.Following.{follows_on, row_after, nothing_without_row}
 use Rattle.td_acts.proofs.Growing.{account_said_after}
-use Rattle.td_holder_memory.specs.Key.{holder_key}
 use Rattle.td_desk.specs.Content.{Content, account_in, rows_of, fresh, content_after, content_after_row, IsSound}
 use Rattle.keyed_rows.specs.Rows.{put_row}
 use Rattle.td_desk.specs.Weighing.{account_for, owner_account, Carries}

@@ -1,8 +1,7 @@
 -- In sound rows no two references of a holder are alike.
-use Rattle.td_model.specs.Account.{ReferencesDiffer}
+use Rattle.td_model.specs.Account.{ReferencesDiffer, holder_key}
 use Rattle.td_model.specs.Sound.{AreHolderRows}
 use Rattle.td_acts.proofs.Differing.{differ_with}
-use Rattle.td_holder_memory.specs.Key.{holder_key}
 use Rattle.td_desk.specs.Content.{Content, account_in, rows_of, IsSound}
 use Rattle.keyed_rows.proofs.Putting.{All-row_at}
 use Rattle.std.proofs.Common.{ℕ}

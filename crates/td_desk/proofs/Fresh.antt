@@ -2,11 +2,10 @@
 use Rattle.std.proofs.Common.{◌≡◌, ℕ, List, Option, Some, None, refl}
 use Rattle.std.specs.Prelude.{IfSome}
 use Rattle.td_commands.specs.declared.command.Command.{Command}
-use Rattle.td_model.specs.Account.{HolderRows, account_with, IsAccountOf}
+use Rattle.td_model.specs.Account.{HolderRows, IsAccountOf, account_with, holder_key}
 use Rattle.td_model.specs.Book.{account_of}
 use Rattle.td_commands.specs.Commands.{owner_of}
 use Rattle.td_acts.proofs.Growing.{account_fresh_book}
-use Rattle.td_holder_memory.specs.Key.{holder_key}
 use Rattle.td_desk.specs.Content.{Content, account_in, rows_of, fresh}
 use Rattle.td_desk.specs.Weighing.{account_for, owner_account, kept_for, kept_of}
 use Rattle.keyed_rows.proofs.Putting.{row_at_has}

@@ -4,9 +4,8 @@ use Rattle.std.specs.Prelude.{insert, OnOk, OnErr}
 use Rattle.std.specs.declared.alloc.AllocError.{AllocError}
 use Rattle.td_model.specs.declared.holder_row.HolderRow.{HolderRow}
 use Rattle.td_acts.specs.declared.rows.Change.{Change}
-use Rattle.td_model.specs.Account.{HolderRows}
+use Rattle.td_model.specs.Account.{HolderRows, holder_key}
 use Rattle.td_acts.specs.Changes.{row_in, rows_after, rows_or_new}
-use Rattle.td_holder_memory.specs.Key.{holder_key}
 use Rattle.keyed_rows.specs.Rows.{Rises, row_at, put_row}
 use Rattle.td_acts.proofs.Following.{row_after}
 use Rattle.keyed_rows.proofs.Putting.{Rises-put_row}

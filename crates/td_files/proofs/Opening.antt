@@ -17,7 +17,7 @@ use Rattle.td_store.specs.declared.refused.OpenFault.{OpenFault}
 use Rattle.td_store.specs.declared.refused.OpenFault.TheVariants.{UnknownVersion, NeedsMigration, OtherCountry, Damaged, Store, NoMemory}
 use Rattle.td_files.specs.declared.desks.DeskFault.{DeskFault}
 use Rattle.td_files.specs.declared.desks.DeskFault.TheVariants.{Refused}
-use Rattle.td_files.specs.Found.{FileState, IsClean, IsFoundIn, IsKeptDesk, IsRefusedFor, IsToldOf, IsUnmade, shown}
+use Rattle.td_files.specs.Found.{FileState, IsClean, IsFoundIn, IsOpenedDesk, IsRefusedFor, IsToldOf, IsUnmade, shown}
 use Rattle.td_store_rows.specs.Columns.{newest_version}
 
 -- no fault is forgotten
@@ -38,7 +38,7 @@ found_there image s opens finds =
 -- a desk that was opened over it
 pub kept_there : (image : Image) (country : List ℕ) (found s : State) → IsFoundIn image found.now → s.now ≡ found.now → IsTrue s.is_open
     → HoldsContent (content_in s.now.trees) s → (content_in s.now.trees).country ≡ country → HasOfficeRow newest_version country s.now.trees
-    → IsKeptDesk image country (shown s)
+    → IsOpenedDesk image country (shown s)
 kept_there image country found s is same live holds country_is office =
     record {
       live = live;

@@ -36,7 +36,7 @@ pub record IsFoundIn (image : Image) (db : Database) : Type 0 where
 
 -- A desk was opened over what the file held: its tables are a store's, and hold sound content of this country; and the office's
 -- own row says the newest version of the tables.
-pub record IsKeptDesk (image : Image) (country : List ℕ) (s : FileState) : Type 0 where
+pub record IsOpenedDesk (image : Image) (country : List ℕ) (s : FileState) : Type 0 where
   pub live : IsTrue s.is_open
   pub found : IsFoundIn image s.now
   pub schema : s.now.schema ≡ desk_schema
@@ -44,7 +44,7 @@ pub record IsKeptDesk (image : Image) (country : List ℕ) (s : FileState) : Typ
   pub country_is : (content_in s.now.trees).country ≡ country
 
 -- A desk was made: the file held no table, and the desk is empty, which is sound.
-pub record IsMadeDesk (image : Image) (country : List ℕ) (s : FileState) : Type 0 where
+pub record IsCreatedDesk (image : Image) (country : List ℕ) (s : FileState) : Type 0 where
   pub live : IsTrue s.is_open
   pub before : Database
   pub found : IsFoundIn image before

@@ -2,7 +2,7 @@
 ghost use Rattle.std.specs.Prelude.{◌≡◌, Some, IfOk, IfErr, option_map};
 ghost use Rattle.sqlite.specs.Files.{file_state};
 ghost use Rattle.sqlite.specs.WalFiles.{image_at};
-ghost use Rattle.td_files.specs.Found.{IsClean, IsKeptDesk, IsMadeDesk, IsToldOf, IsUnmade, shown};
+ghost use Rattle.td_files.specs.Found.{IsClean, IsOpenedDesk, IsCreatedDesk, IsToldOf, IsUnmade, shown};
 ghost use Rattle.td_files.specs.declared.desks.DeskFault.TheVariants as fault;
 
 use crate::files::{OneFile, open_file};
@@ -58,7 +58,7 @@ impl<S: Start> OneFile<S, FileStore<FileFrom<S>>> {
         country: Country,
         path: &str,
     ) -> Result<FileDesk<S>, DeskFault>
-        ensures kept { IfOk result (λ desk. IsClean (shown (file_state desk)) → IsKeptDesk (image_at S.Start) country (shown (file_state desk))) }
+        ensures kept { IfOk result (λ desk. IsClean (shown (file_state desk)) → IsOpenedDesk (image_at S.Start) country (shown (file_state desk))) }
         ensures fault { IfErr result (IsToldOf (image_at S.Start) country (option_map (λ c. shown (file_state c)) self.new.connection)) }
     {
         let Some(start) = self.start.take() else {
@@ -83,7 +83,7 @@ impl<S: Start> OneFile<S, FileStore<FileFrom<S>>> {
         country: Country,
         path: &str,
     ) -> Result<FileDesk<S>, DeskFault>
-        ensures made { IfOk result (λ desk. IsClean (shown (file_state desk)) → IsMadeDesk (image_at S.Start) country (shown (file_state desk))) }
+        ensures made { IfOk result (λ desk. IsClean (shown (file_state desk)) → IsCreatedDesk (image_at S.Start) country (shown (file_state desk))) }
         ensures fault { IfErr result IsUnmade }
     {
         empty_desk_is_tied();

@@ -1,2 +1,1 @@
-pub mod Key
 pub mod Places

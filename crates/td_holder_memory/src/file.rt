@@ -27,7 +27,7 @@ pub struct HolderFile {
 }
 
 impl Model for HolderFile {
-    ghost use Rattle.td_model.specs.Account.{HolderRows};
+    ghost use Rattle.td_model.specs.Account.{HolderRows, holder_key};
 
     ghost Value = { HolderRows };
 
@@ -35,8 +35,6 @@ impl Model for HolderFile {
 }
 
 impl Keyed for HolderFile {
-    ghost use Rattle.td_holder_memory.specs.Key.{holder_key};
-
     ghost key_of = { holder_key };
 
     fn key(&self) -> u32 {

@@ -14,15 +14,15 @@ use Rattle.td_fields.specs.declared.fault.WebFault.{WebFault}
 use Rattle.http_wire.specs.declared.reply.Reply.{Reply}
 use Rattle.http_wire.specs.declared.reply.Reply.TheVariants.{Made, NoMemory, Store}
 use Rattle.td_answers.specs.Answers.{said_reply}
-use Rattle.http_wire.specs.Request.{Asked}
+use Rattle.http_wire.specs.Wire.{Asked}
 use Rattle.http_wire.specs.ReplyText.{bytes_of, is_made}
 use Rattle.http_wire.specs.Stream.{Exchange, question}
 use Rattle.td_http.specs.declared.service.Service.{Service}
-use Rattle.td_http.specs.Serving.{desk_of, IsPrivate, Demand, command_in, heard_by, heard_in, told_by, told_in, machine_replies, fixed_reply, IsServed, IsServedAlone}
+use Rattle.td_http.specs.Serving.{desk_of, IsPrivate, HolderRequest, command_in, heard_by, heard_in, told_by, told_in, machine_replies, fixed_reply, IsServed, IsServedAlone}
 use Rattle.td_http.specs.Laws.{asked_by, asked_in, replies_by, replies_in, fault_told, TellAlike, IsDeskOf, IsRequestAt}
 
 -- the requests that did not fail
-abbrev pub still : List Demand → List Bool → List Demand
+abbrev pub still : List HolderRequest → List Bool → List HolderRequest
 still [] made = []
 still (r ∷ rs) [] = []
 still (r ∷ rs) (true ∷ made) = r ∷ still rs made
@@ -49,9 +49,9 @@ flags_are [] = refl
 flags_are (reply ∷ replies) = rw (made_is reply, flags_are replies) refl
 
 -- one exchange
-still_first : (b : Bool) (r : Demand) (reply : Reply) (later heard : List Demand) (replies : List Reply) → heard ≡ still later (map is_made replies)
+still_first : (b : Bool) (r : HolderRequest) (reply : Reply) (later heard : List HolderRequest) (replies : List Reply) → heard ≡ still later (map is_made replies)
     → (if is_made reply then (if b then r ∷ [] else []) else []) ++ heard ≡ still ((if b then r ∷ [] else []) ++ later) (map is_made ((if b then reply ∷ [] else []) ++ replies))
-still_first true r (Made bytes) later heard replies same = ap (λ (rs : List Demand). r ∷ rs) same
+still_first true r (Made bytes) later heard replies same = ap (λ (rs : List HolderRequest). r ∷ rs) same
 still_first true r NoMemory later heard replies same = same
 still_first true r Store later heard replies same = same
 still_first false r (Made bytes) later heard replies same = same
@@ -63,7 +63,7 @@ heard_split : (country : List ℕ) (H : ℕ) (command : Command) (at : ℤ) (clo
 heard_split country H command at close true = refl
 heard_split country H command at close false = refl
 
-still_by : (country : List ℕ) (H : ℕ) (asked : Result Command WebFault) (at : ℤ) (close : Bool) (reply : Reply) (later heard : List Demand) (replies : List Reply)
+still_by : (country : List ℕ) (H : ℕ) (asked : Result Command WebFault) (at : ℤ) (close : Bool) (reply : Reply) (later heard : List HolderRequest) (replies : List Reply)
     → heard ≡ still later (map is_made replies)
     → heard_by country H asked at close (is_made reply) ++ heard ≡ still (asked_by country H asked at close ++ later) (map is_made (replies_by country H asked reply ++ replies))
 still_by country H (Ok command) at close reply later heard replies same =
@@ -71,7 +71,7 @@ still_by country H (Ok command) at close reply later heard replies same =
 still_by country H (Err why) at close reply later heard replies same = same
 
 -- what did not fail of what was asked, and then later
-pub heard_then : (country : List ℕ) (H before : ℕ) (es : List Exchange) (later heard : List Demand) (replies : List Reply) → heard ≡ still later (map is_made replies)
+pub heard_then : (country : List ℕ) (H before : ℕ) (es : List Exchange) (later heard : List HolderRequest) (replies : List Reply) → heard ≡ still later (map is_made replies)
     → heard_in country H before es ++ heard ≡ still (asked_in country H before es ++ later) (map is_made (replies_in country H before es ++ replies))
 heard_then country H before [] later heard replies same = same
 heard_then country H before (e ∷ es) later heard replies same =
@@ -120,13 +120,13 @@ bytes_then country H before (e ∷ es) told replies same =
     (bytes_then country H (before + 1) es told replies same))
 
 -- What a holder of this book was told, who asked so: where nothing failed, what the holder's machine says.
-pub record IsToldOf (H : ℕ) (book : Book) (asked heard : List Demand) (replies : List Reply) (told : List (List ℕ)) : Type 0 where
+pub record IsToldOf (H : ℕ) (book : Book) (asked heard : List HolderRequest) (replies : List Reply) (told : List (List ℕ)) : Type 0 where
   pub answers : told ≡ machine_replies H book heard
   pub still_heard : heard ≡ still asked (map is_made replies)
   pub all_bytes : map bytes_of replies ≡ filled (map fault_told replies) told
 
 -- a holder of one book, who was told twice
-module _ {H : ℕ} {book other_book : Book} {asked heard other_asked other_heard : List Demand} {replies other_replies : List Reply} {told other_told : List (List ℕ)}
+module _ {H : ℕ} {book other_book : Book} {asked heard other_asked other_heard : List HolderRequest} {replies other_replies : List Reply} {told other_told : List (List ℕ)}
     (same : book ≡ other_book) (one : IsToldOf H book asked heard replies told) (other : IsToldOf H other_book other_asked other_heard other_replies other_told) where
   pub told_as : heard ≡ other_heard → told ≡ other_told
   told_as alike = one.answers ∙ (rw (same, alike) refl) ∙ sym other.answers

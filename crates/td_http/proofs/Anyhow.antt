@@ -3,26 +3,26 @@ use Rattle.std.proofs.Common.{◌≡◌, ℕ, ◌<◌, ℤ, List, [], ◌∷◌,
 use Rattle.std.specs.Prelude.{MatchResult}
 use Rattle.std.specs.declared.io.Error.{Error}
 use Rattle.http_wire.specs.declared.reply.Reply.{Reply}
-use Rattle.http_wire.specs.Request.{Asked}
-use Rattle.td_http.specs.Visits.{Between, Visit, Visited, IsRefused, beside}
+use Rattle.http_wire.specs.Wire.{Asked}
+use Rattle.td_http.specs.Connections.{Between, Connection, ServedConnections, IsRefused, beside}
 
 -- the clock and the handler alone
 abbrev without_source : {L C H : Type 0} → Between L C H → Between (Unit {0}) C H
 without_source b = beside b.clock b.handler
 
 -- connections one after another, where the source is left out
-pub visited_anyhow : {R W C H L : Type 0} (remaining : R → Option (List ℕ)) (contents : W → Option (List ℕ))
+pub were_served_anyhow : {R W C H L : Type 0} (remaining : R → Option (List ℕ)) (contents : W → Option (List ℕ))
     (gives takes : L → R → W → L → Type 0) (ticks : C → ℤ → C → Type 0)
     (handles : H → ℤ → Asked → Reply → H → Type 0) (heads : H → List ℕ → Reply → H → Type 0)
-    (visits : List (Visit R W)) (old new : Between L C H)
-    → Visited remaining contents gives takes ticks handles heads old visits new
-    → Visited remaining contents (λ _ _ _ _. Unit {0}) (λ _ _ _ _. Unit {0}) ticks handles heads
-    (without_source old) visits (without_source new)
-visited_anyhow remaining contents gives takes ticks handles heads [] old new visited =
-    ap without_source visited
-visited_anyhow remaining contents gives takes ticks handles heads (visit ∷ visits) old new visited =
-    let is = visited.1 in (
-      without_source visited.0,
+    (all_served : List (Connection R W)) (old new : Between L C H)
+    → ServedConnections remaining contents gives takes ticks handles heads old all_served new
+    → ServedConnections remaining contents (λ _ _ _ _. Unit {0}) (λ _ _ _ _. Unit {0}) ticks handles heads
+    (without_source old) all_served (without_source new)
+were_served_anyhow remaining contents gives takes ticks handles heads [] old new were_served =
+    ap without_source were_served
+were_served_anyhow remaining contents gives takes ticks handles heads (connection ∷ all_served) old new were_served =
+    let is = were_served.1 in (
+      without_source were_served.0,
       record {
         busy = tt;
         came = tt;
@@ -32,17 +32,17 @@ visited_anyhow remaining contents gives takes ticks handles heads (visit ∷ vis
         exchanges = is.exchanges;
         went = tt;
       },
-      visited_anyhow remaining contents gives takes ticks handles heads visits visited.0 new visited.2,
+      were_served_anyhow remaining contents gives takes ticks handles heads all_served were_served.0 new were_served.2,
     )
 
 -- how they ended
-pub ended_anyhow : {R W C H L : Type 0} (refuses : L → Error → L → Type 0) (visits : List (Visit R W))
+pub ended_anyhow : {R W C H L : Type 0} (refuses : L → Error → L → Type 0) (all_served : List (Connection R W))
     (last new : Between L C H) (count : ℕ) (answer : Result Unit Error)
-    → MatchResult answer (λ _. (length visits ≡ count) × (new ≡ last))
-    (λ why. (length visits < count) × IsRefused refuses last why new)
-    → MatchResult answer (λ _. (length visits ≡ count) × (without_source new ≡ without_source last))
-    (λ why. (length visits < count)
+    → MatchResult answer (λ _. (length all_served ≡ count) × (new ≡ last))
+    (λ why. (length all_served < count) × IsRefused refuses last why new)
+    → MatchResult answer (λ _. (length all_served ≡ count) × (without_source new ≡ without_source last))
+    (λ why. (length all_served < count)
     × IsRefused (λ _ _ _. Unit {0}) (without_source last) why (without_source new))
-ended_anyhow refuses visits last new count (Ok done) ended = (ended.0, ap without_source ended.1)
-ended_anyhow refuses visits last new count (Err why) ended =
+ended_anyhow refuses all_served last new count (Ok done) ended = (ended.0, ap without_source ended.1)
+ended_anyhow refuses all_served last new count (Err why) ended =
     (ended.0, record { refused = tt; clock = ended.1.clock; handler = ended.1.handler })

@@ -1,4 +1,4 @@
--- What two visits of connections, one after another, tell one holder.
+-- What two lists of connections, one after another, tell one holder.
 use Rattle.std.proofs.Common.{◌≡◌, ℕ, List, [], ◌∷◌, map, refl, subst}
 use Rattle.td_model.specs.Book.{Book}
 use Rattle.td_desk.specs.Content.{Content}

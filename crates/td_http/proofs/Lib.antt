@@ -3,7 +3,7 @@ pub mod Served
 pub mod Streamed
 mod Alone
 pub mod Alike
-mod Visits
+mod ServedConnections
 pub mod Private
 mod Anyhow
 pub mod ConnectionsAlike

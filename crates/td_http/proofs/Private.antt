@@ -8,14 +8,14 @@ use Rattle.td_desk.specs.Content.{Content, IsSound}
 use Rattle.td_desk.specs.Runs.{IsTied}
 use Rattle.http_wire.specs.Stream.{Exchange}
 use Rattle.td_http.specs.declared.service.Service.{Service}
-use Rattle.td_http.specs.Serving.{desk_of, IsHandledBy, IsHeadHandledBy, Demand, FaultsAreTold, NobodysAreTold, commands_of, heard_in, machine_replies, IsServed}
+use Rattle.td_http.specs.Serving.{desk_of, IsHandledBy, IsHeadHandledBy, HolderRequest, FaultsAreTold, NobodysAreTold, commands_of, heard_in, machine_replies, IsServed}
 use Rattle.td_http.proofs.Served.{machine_book-++}
 use Rattle.td_http.proofs.Streamed.{stream_clean, stream_served}
-use Rattle.td_http.specs.Visits.{Between, Visit, IsVisit, Visited}
+use Rattle.td_http.specs.Connections.{Between, Connection, IsServedConnection, ServedConnections}
 use Rattle.td_http.specs.Private.{heard_over, IsServedOver, IsPrivateOver}
 
 -- a machine's replies to one list and then another
-machine_replies-++ : (H : ℕ) (book : Book) (xs ys : List Demand)
+machine_replies-++ : (H : ℕ) (book : Book) (xs ys : List HolderRequest)
     → machine_replies H book (xs ++ ys)
     ≡ machine_replies H book xs ++ machine_replies H (machine_book H book (commands_of xs)) ys
 machine_replies-++ H book [] ys = refl
@@ -33,7 +33,7 @@ module _ (country : List ℕ) (books : ℕ → Book) (es : List Exchange) (strea
   books_are H =
       let heard = heard_in country H 0 es in
       let later = heard_over country H streams in
-      sym (ap (machine_book H (books H)) (map-append (λ (r : Demand). r.0) heard later)
+      sym (ap (machine_book H (books H)) (map-append (λ (r : HolderRequest). r.0) heard later)
       ∙ machine_book-++ H (books H) (commands_of heard) (commands_of later))
 
   served_over : (mid new : Content) → IsServed country books 0 es mid
@@ -68,79 +68,79 @@ module _ {R W C D L : Type 0} (remaining : R → Option (List ℕ)) (contents : 
     (gives takes : L → R → W → L → Type 0) (ticks : C → ℤ → C → Type 0)
     (content : D → Content) (is_clean is_live : D → Type 0) (has_store : Type 0) where
   -- connections at a service of the desk
-  abbrev Served : Between L C (Service D) → List (Visit R W) → Between L C (Service D) → Type 0
-  Served = Visited remaining contents gives takes ticks
+  abbrev Served : Between L C (Service D) → List (Connection R W) → Between L C (Service D) → Type 0
+  Served = ServedConnections remaining contents gives takes ticks
       (IsHandledBy content is_clean is_live has_store) IsHeadHandledBy
 
   -- one of them
-  abbrev OneServed : Between L C (Service D) → Visit R W → Between L C (Service D) → Type 0
-  OneServed = IsVisit remaining contents gives takes ticks
+  abbrev OneServed : Between L C (Service D) → Connection R W → Between L C (Service D) → Type 0
+  OneServed = IsServedConnection remaining contents gives takes ticks
       (IsHandledBy content is_clean is_live has_store) IsHeadHandledBy
 
   -- their requests with their replies
-  abbrev streams_of : List (Visit R W) → List (List Exchange)
-  streams_of visits = map (λ (visit : Visit R W). visit.exchanges) visits
+  abbrev streams_of : List (Connection R W) → List (List Exchange)
+  streams_of all_served = map (λ (connection : Connection R W). connection.exchanges) all_served
 
   -- where no fault has shut the desk before, these are its rows
   abbrev Shows : Between L C (Service D) → Content → Type 0
   Shows b rows = is_live (desk_of b.handler) → content (desk_of b.handler) ≡ rows
 
   -- a connection that leaves a clean desk found it clean
-  visit_clean : (old : Between L C (Service D)) (visit : Visit R W) (new : Between L C (Service D))
-      → OneServed old visit new → is_clean (desk_of new.handler) → is_clean (desk_of old.handler)
-  visit_clean old visit new is clean =
+  connection_clean : (old : Between L C (Service D)) (connection : Connection R W) (new : Between L C (Service D))
+      → OneServed old connection new → is_clean (desk_of new.handler) → is_clean (desk_of old.handler)
+  connection_clean old connection new is clean =
       let run = is.served.run in
       stream_clean ticks content is_clean is_live has_store old.clock new.clock old.handler run.handler
-      new.handler run.exchanges run.rest run.parting is.served.chain is.served.parting clean
+      new.handler run.exchanges run.rest run.ending is.served.chain is.served.ending clean
 
   -- one connection from any rows that are tied to books
-  visit_served : (old : Between L C (Service D)) (visit : Visit R W) (new : Between L C (Service D))
-      → OneServed old visit new → is_clean (desk_of new.handler)
+  connection_served : (old : Between L C (Service D)) (connection : Connection R W) (new : Between L C (Service D))
+      → OneServed old connection new → is_clean (desk_of new.handler)
       → (country : List ℕ) (books : ℕ → Book) (rows : Content)
       → rows.country ≡ country → IsSound rows → IsTied rows books → Shows old rows
-      → (c : Content) × IsServed country books 0 visit.exchanges c × Shows new c
-  visit_served old visit new is clean country books rows same_country sound tied same =
+      → (c : Content) × IsServed country books 0 connection.exchanges c × Shows new c
+  connection_served old connection new is clean country books rows same_country sound tied same =
       let run = is.served.run in
       let served = stream_served ticks content is_clean is_live has_store old.clock new.clock old.handler
-      run.handler new.handler run.exchanges run.rest run.parting is.served.chain is.served.parting clean
+      run.handler new.handler run.exchanges run.rest run.ending is.served.chain is.served.ending clean
       country books rows same_country sound tied same in
       (served.0, rw is.exchanges served.1, served.2)
 
   -- connections that leave a clean desk found it clean
-  pub visits_clean : (visits : List (Visit R W)) (old new : Between L C (Service D))
-      → Served old visits new → is_clean (desk_of new.handler) → is_clean (desk_of old.handler)
-  visits_clean [] old new visited clean =
-      subst (λ (b : Between L C (Service D)). is_clean (desk_of b.handler)) (sym visited) clean
-  visits_clean (visit ∷ visits) old new visited clean =
-      visit_clean old visit visited.0 visited.1 (visits_clean visits visited.0 new visited.2 clean)
+  pub connections_clean : (all_served : List (Connection R W)) (old new : Between L C (Service D))
+      → Served old all_served new → is_clean (desk_of new.handler) → is_clean (desk_of old.handler)
+  connections_clean [] old new were_served clean =
+      subst (λ (b : Between L C (Service D)). is_clean (desk_of b.handler)) (sym were_served) clean
+  connections_clean (connection ∷ all_served) old new were_served clean =
+      connection_clean old connection were_served.0 were_served.1 (connections_clean all_served were_served.0 new were_served.2 clean)
 
   -- Connections from any rows that are tied to books. Before them a fault may have shut the desk: then rows
   -- is the content up to that.
-  visits_served : (visits : List (Visit R W)) (old new : Between L C (Service D))
-      → Served old visits new → is_clean (desk_of new.handler)
+  connections_served : (all_served : List (Connection R W)) (old new : Between L C (Service D))
+      → Served old all_served new → is_clean (desk_of new.handler)
       → (country : List ℕ) (books : ℕ → Book) (rows : Content)
       → rows.country ≡ country → IsSound rows → IsTied rows books → Shows old rows
-      → (c : Content) × IsServedOver country books (streams_of visits) c × Shows new c
-  visits_served [] old new visited clean country books rows same_country sound tied same = (
+      → (c : Content) × IsServedOver country books (streams_of all_served) c × Shows new c
+  connections_served [] old new were_served clean country books rows same_country sound tied same = (
     rows,
     served_nothing country books rows same_country sound tied,
-    subst (λ (b : Between L C (Service D)). Shows b rows) visited same,
+    subst (λ (b : Between L C (Service D)). Shows b rows) were_served same,
   )
-  visits_served (visit ∷ visits) old new visited clean country books rows same_country sound tied same =
-      let mid = visited.0 in
-      let mid_clean = visits_clean visits mid new visited.2 clean in
-      let first = visit_served old visit mid visited.1 mid_clean country books rows same_country sound tied
+  connections_served (connection ∷ all_served) old new were_served clean country books rows same_country sound tied same =
+      let mid = were_served.0 in
+      let mid_clean = connections_clean all_served mid new were_served.2 clean in
+      let first = connection_served old connection mid were_served.1 mid_clean country books rows same_country sound tied
       same in
-      let later = visits_served visits mid new visited.2 clean country
-      (books_after country books visit.exchanges) first.0 first.1.country_stays first.1.sound first.1.tied
+      let later = connections_served all_served mid new were_served.2 clean country
+      (books_after country books connection.exchanges) first.0 first.1.country_stays first.1.sound first.1.tied
       first.2 in
-      let streams = streams_of visits in
-      (later.0, served_over country books visit.exchanges streams first.0 later.0 first.1 later.1, later.2)
+      let streams = streams_of all_served in
+      (later.0, served_over country books connection.exchanges streams first.0 later.0 first.1 later.1, later.2)
 
   -- connections from the content of the desk
-  pub visits_private : (visits : List (Visit R W)) (old new : Between L C (Service D))
-      → Served old visits new
-      → IsPrivateOver content is_clean is_live old.handler new.handler (streams_of visits)
-  visits_private visits old new visited = λ clean live sound books tied.
+  pub connections_private : (all_served : List (Connection R W)) (old new : Between L C (Service D))
+      → Served old all_served new
+      → IsPrivateOver content is_clean is_live old.handler new.handler (streams_of all_served)
+  connections_private all_served old new were_served = λ clean live sound books tied.
       let rows = content (desk_of old.handler) in
-      visits_served visits old new visited clean rows.country books rows refl sound tied (λ _. refl)
+      connections_served all_served old new were_served clean rows.country books rows refl sound tied (λ _. refl)

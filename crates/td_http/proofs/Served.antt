@@ -18,7 +18,7 @@ use Rattle.td_desk.specs.Runs.{IsRun, IsStep, IsTied, is_holder, heard}
 use Rattle.td_desk.proofs.Turns.{run_more}
 use Rattle.td_fields.specs.declared.fault.WebFault.{WebFault}
 use Rattle.http_wire.specs.declared.reply.Reply.{Reply}
-use Rattle.http_wire.specs.Request.{Asked}
+use Rattle.http_wire.specs.Wire.{Asked}
 use Rattle.http_wire.specs.ReplyText.{bytes_of, is_made}
 use Rattle.http_wire.specs.Stream.{Exchange, Chain, question}
 use Rattle.td_answers.specs.Answers.{said_reply}

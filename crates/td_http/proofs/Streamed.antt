@@ -5,22 +5,22 @@ use Rattle.td_desk.specs.Content.{Content, IsSound}
 use Rattle.td_desk.specs.Runs.{IsTied}
 use Rattle.td_http.specs.declared.service.Service.{Service}
 use Rattle.td_http.specs.Serving.{desk_of, IsHandledBy, IsHeadHandledBy, IsPrivate, IsServed}
-use Rattle.http_wire.specs.Stream.{Exchange, Chain, Parting, silence, refusal, to_head, no_memory, IsParting}
+use Rattle.http_wire.specs.Stream.{Exchange, Chain, Ending, silence, refusal, to_head, no_memory, IsEnding}
 use Rattle.td_http.proofs.Served.{chain_clean, chain_served}
 
 -- what parts with the rest leaves the desk as it is
-parting_stays : {D : Type 0} (old new : Service D) (rest : List ℕ) (parting : Parting) → IsParting IsHeadHandledBy old new rest parting → desk_of new ≡ desk_of old
-parting_stays old new rest silence is = ap desk_of is
-parting_stays old new rest (refusal e) is = ap desk_of is.0
-parting_stays old new rest (to_head target reply) is = is.0.stays
-parting_stays old new rest no_memory is = ap desk_of is.0
+ending_stays : {D : Type 0} (old new : Service D) (rest : List ℕ) (ending : Ending) → IsEnding IsHeadHandledBy old new rest ending → desk_of new ≡ desk_of old
+ending_stays old new rest silence is = ap desk_of is
+ending_stays old new rest (refusal e) is = ap desk_of is.0
+ending_stays old new rest (to_head target reply) is = is.0.stays
+ending_stays old new rest no_memory is = ap desk_of is.0
 
 -- a stream's chain of requests, and what parted with the rest
 module _ {C D : Type 0} (ticks : C → ℤ → C → Type 0) (content : D → Content) (is_clean is_live : D → Type 0) (has_store : Type 0)
-    (old_clock new_clock : C) (old mid new : Service D) (es : List Exchange) (rest : List ℕ) (parting : Parting)
-    (chain : Chain ticks (IsHandledBy content is_clean is_live has_store) 0 (old_clock, old) es (new_clock, mid)) (parted : IsParting IsHeadHandledBy mid new rest parting) where
+    (old_clock new_clock : C) (old mid new : Service D) (es : List Exchange) (rest : List ℕ) (ending : Ending)
+    (chain : Chain ticks (IsHandledBy content is_clean is_live has_store) 0 (old_clock, old) es (new_clock, mid)) (parted : IsEnding IsHeadHandledBy mid new rest ending) where
   stays : desk_of new ≡ desk_of mid
-  stays = parting_stays mid new rest parting parted
+  stays = ending_stays mid new rest ending parted
 
   -- a stream that ends clean was clean from the beginning
   pub stream_clean : is_clean (desk_of new) → is_clean (desk_of old)

@@ -1,4 +1,4 @@
--- What two visits of connections, one after another, tell one holder.
+-- What two lists of connections, one after another, tell one holder.
 use Rattle.std.specs.Prelude.{◌≡◌, ℕ, ℤ, List, map, Option, Result}
 use Rattle.std.specs.List.{flat_map}
 use Rattle.std.specs.declared.io.Error.{Error}
@@ -9,13 +9,13 @@ use Rattle.http_wire.specs.ReplyText.{bytes_of, is_made}
 use Rattle.http_wire.specs.Stream.{Exchange}
 use Rattle.td_http.specs.declared.service.Service.{Service}
 use Rattle.td_http.specs.Laws.{asked_in, replies_in, fault_told, IsDeskOf}
-use Rattle.td_http.specs.Serving.{desk_of, IsHandledBy, IsHeadHandledBy, Demand}
-use Rattle.td_http.specs.Visits.{Between, ServesConnections}
+use Rattle.td_http.specs.Serving.{desk_of, IsHandledBy, IsHeadHandledBy, HolderRequest}
+use Rattle.td_http.specs.Connections.{Between, ServesConnections}
 use Rattle.td_http.specs.Private.{heard_over, told_over, IsPrivateOver}
 
 -- H's commands over all streams, in their order, whether they failed or not: each with its moment, and whether
 -- its reply has to tell that the stream stops
-abbrev pub asked_over : List ℕ → ℕ → List (List Exchange) → List Demand
+abbrev pub asked_over : List ℕ → ℕ → List (List Exchange) → List HolderRequest
 asked_over country H streams = flat_map (asked_in country H 0) streams
 
 -- the replies to them
@@ -72,4 +72,4 @@ pub record AreServedAt {R W C D L : Type 0} (remaining : R → Option (List ℕ)
   pub served : ServesConnections remaining contents gives takes refuses ticks
       (IsHandledBy content is_clean is_live has_store) IsHeadHandledBy old new count answer
   pub private : IsPrivateOver content is_clean is_live old.handler new.handler
-      (map (λ visit. visit.exchanges) served.visits)
+      (map (λ connection. connection.exchanges) served.all_served)

@@ -11,21 +11,21 @@ use Rattle.td_fields.specs.declared.fault.WebFault.{WebFault}
 use Rattle.http_wire.specs.declared.reply.Reply.{Reply}
 use Rattle.http_wire.specs.declared.reply.Reply.TheVariants.{Made, NoMemory, Store}
 use Rattle.http_wire.specs.declared.stream.StreamEnd.{StreamEnd}
-use Rattle.http_wire.specs.Request.{Asked}
+use Rattle.http_wire.specs.Wire.{Asked}
 use Rattle.http_wire.specs.ReplyText.{bytes_of, is_made}
 use Rattle.http_wire.specs.Stream.{Exchange, Serves, Sides, question}
 use Rattle.td_http.specs.declared.service.Service.{Service}
-use Rattle.td_http.specs.Serving.{desk_of, IsHandledBy, IsHeadHandledBy, IsPrivate, IsPrivateAlone, Demand, command_in, heard_in, told_in}
+use Rattle.td_http.specs.Serving.{desk_of, IsHandledBy, IsHeadHandledBy, IsPrivate, IsPrivateAlone, HolderRequest, command_in, heard_in, told_in}
 
 -- H's commands among the exchanges that come after so many, whether they failed or not: each with its
 -- moment, and whether its reply has to tell that the stream stops
-abbrev pub asked_by : List ℕ → ℕ → Result Command WebFault → ℤ → Bool → List Demand
+abbrev pub asked_by : List ℕ → ℕ → Result Command WebFault → ℤ → Bool → List HolderRequest
 asked_by country H (Ok command) at close =
     if is_holder H (owner_of country command) then (record { at = at; command = command }, close) ∷ []
     else []
 asked_by country H (Err why) at close = []
 
-abbrev pub asked_in : List ℕ → ℕ → ℕ → List Exchange → List Demand
+abbrev pub asked_in : List ℕ → ℕ → ℕ → List Exchange → List HolderRequest
 asked_in country H before [] = []
 asked_in country H before (e ∷ es) =
     asked_by country H (command_in (question before e.wire)) e.at (question before e.wire).close

@@ -7,11 +7,11 @@ use Rattle.td_desk.specs.Content.{Content, IsSound}
 use Rattle.td_desk.specs.Runs.{IsTied}
 use Rattle.http_wire.specs.Stream.{Exchange}
 use Rattle.td_http.specs.declared.service.Service.{Service}
-use Rattle.td_http.specs.Serving.{desk_of, Demand, FaultsAreTold, NobodysAreTold, commands_of, heard_in, machine_replies, told_in}
+use Rattle.td_http.specs.Serving.{desk_of, HolderRequest, FaultsAreTold, NobodysAreTold, commands_of, heard_in, machine_replies, told_in}
 
 -- H's requests over all streams, in their order: those that can be read and whose reply isn't a fixed one of
 -- a fault
-abbrev pub heard_over : List ℕ → ℕ → List (List Exchange) → List Demand
+abbrev pub heard_over : List ℕ → ℕ → List (List Exchange) → List HolderRequest
 heard_over country H streams = flat_map (heard_in country H 0) streams
 
 -- the bytes of the replies to them

@@ -16,7 +16,7 @@ use Rattle.td_desk.specs.Runs.{IsOutcomeOf, IsStep, IsTied, is_holder}
 use Rattle.td_fields.specs.declared.fault.WebFault.{WebFault}
 use Rattle.http_wire.specs.declared.reply.Reply.{Reply}
 use Rattle.http_wire.specs.declared.reply.Reply.TheVariants.{Made, NoMemory, Store}
-use Rattle.http_wire.specs.Request.{Asked}
+use Rattle.http_wire.specs.Wire.{Asked}
 use Rattle.http_wire.specs.ReplyText.{bytes_of, is_made, head_text}
 use Rattle.td_answers.specs.Answers.{said_reply, fault_reply}
 use Rattle.td_routes.specs.Bodies.{command_of}
@@ -63,18 +63,18 @@ pub record IsHandled {S D : Type 0} (desk : S → D) (content : D → Content) (
 
 -- a demand: the command that a holder's request asks, its moment, and whether the reply tells that the stream
 -- stops
-abbrev pub Demand : Type 0
-Demand = Stamped × Bool
+abbrev pub HolderRequest : Type 0
+HolderRequest = Stamped × Bool
 
 -- H's requests among the exchanges that come after so many: those that can be read and whose reply isn't a
 -- fixed one of a fault
-abbrev pub heard_by : List ℕ → ℕ → Result Command WebFault → ℤ → Bool → Bool → List Demand
+abbrev pub heard_by : List ℕ → ℕ → Result Command WebFault → ℤ → Bool → Bool → List HolderRequest
 heard_by country H (Ok command) at close true =
     if is_holder H (owner_of country command) then (record { at = at; command = command }, close) ∷ [] else []
 heard_by country H (Ok command) at close false = []
 heard_by country H (Err why) at close made = []
 
-abbrev pub heard_in : List ℕ → ℕ → ℕ → List Exchange → List Demand
+abbrev pub heard_in : List ℕ → ℕ → ℕ → List Exchange → List HolderRequest
 heard_in country H before [] = []
 heard_in country H before (e ∷ es) =
     heard_by country H (command_in (question before e.wire)) e.at (question before e.wire).close
@@ -93,11 +93,11 @@ told_in country H before (e ∷ es) =
     ++ told_in country H (before + 1) es
 
 -- the commands of requests
-abbrev pub commands_of : List Demand → List Stamped
+abbrev pub commands_of : List HolderRequest → List Stamped
 commands_of list = map (λ r. r.0) list
 
 -- the replies of H's own machine to a list of H's requests
-abbrev pub machine_replies : ℕ → Book → List Demand → List (List ℕ)
+abbrev pub machine_replies : ℕ → Book → List HolderRequest → List (List ℕ)
 machine_replies H book [] = []
 machine_replies H book (r ∷ list) =
     said_reply (verdict H book r.0.at r.0.command) r.1 ∷ machine_replies H (book_after H book r.0) list

@@ -4,7 +4,7 @@ ghost use Rattle.std.specs.declared.io.Error.{Error};
 ghost use Rattle.td_model.specs.Book.{Book};
 ghost use Rattle.td_http.specs.declared.service.Service.{Service};
 ghost use Rattle.td_http.specs.ConnectionLaws.{AreServedAt, TellAlikeOver};
-ghost use Rattle.td_http.specs.Visits.{Between};
+ghost use Rattle.td_http.specs.Connections.{Between};
 
 use crate::Clock;
 use crate::connections::Connections;
@@ -34,6 +34,6 @@ pub fn agreeing_connections_tell_the_same<
         OtherL.refuses OtherC.ticks OtherD.content OtherD.is_clean OtherD.is_live OtherD.has_store
         country others other_old other_new other_count other_answer)
         → books H ≡ others H
-        → TellAlikeOver country H (map (λ visit. visit.exchanges) one.served.visits)
-        (map (λ visit. visit.exchanges) other.served.visits) }
+        → TellAlikeOver country H (map (λ connection. connection.exchanges) one.served.all_served)
+        (map (λ connection. connection.exchanges) other.served.all_served) }
 {}

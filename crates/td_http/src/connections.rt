@@ -1,6 +1,6 @@
 //! Connections served one after another.
 ghost use Rattle.std.specs.Prelude.{map};
-ghost use Rattle.td_http.specs.Visits.{ServesConnections, ServesNext};
+ghost use Rattle.td_http.specs.Connections.{ServesConnections, ServesNext};
 ghost use Rattle.td_http.specs.Private.{IsPrivateOver};
 ghost use Rattle.td_http.specs.Serving.{IsHandledBy, IsHeadHandledBy};
 
@@ -80,7 +80,7 @@ pub fn serve_connections<L: Connections, C: Clock, D: Desk + Drop>(
         (record { source = connections.old; clock = clock.old; handler = service.old })
         (record { source = connections.new; clock = clock.new; handler = service.new }) count result)
         × IsPrivateOver D.content D.is_clean D.is_live service.old service.new
-        (map (λ visit. visit.exchanges) served.visits) }
+        (map (λ connection. connection.exchanges) served.all_served) }
 {
     for _ in 0..count {
         serve_next(alloc, connections, clock, service)?;

@@ -5,7 +5,7 @@ ghost use Rattle.td_model.specs.Book.{Book};
 ghost use Rattle.td_commands.specs.Commands.{owner_of};
 ghost use Rattle.http_wire.specs.declared.reply.Reply.{Reply};
 ghost use Rattle.http_wire.specs.declared.stream.StreamEnd.{StreamEnd};
-ghost use Rattle.http_wire.specs.Request.{Asked};
+ghost use Rattle.http_wire.specs.Wire.{Asked};
 ghost use Rattle.http_wire.specs.ReplyText.{bytes_of};
 ghost use Rattle.http_wire.specs.Stream.{Sides};
 ghost use Rattle.td_http.specs.declared.service.Service.{Service};

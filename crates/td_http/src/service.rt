@@ -7,7 +7,7 @@ ghost use Rattle.td_commands.specs.declared.said.Said.{Said};
 ghost use Rattle.td_desk.specs.declared.fault.Fault.TheVariants as fault;
 ghost use Rattle.td_desk.specs.declared.running.Outcome.TheVariants as outcome;
 ghost use Rattle.td_desk.specs.Runs.{IsOutcomeOf, IsStep};
-ghost use Rattle.http_wire.specs.Request.{asked};
+ghost use Rattle.http_wire.specs.Wire.{asked};
 ghost use Rattle.td_http.specs.Serving.{fixed_reply, IsCausedBy, IsReplyTo, IsFaultReply, HandledAs};
 ghost use Rattle.td_answers.specs.Answers.{said_reply};
 

@@ -1,6 +1,6 @@
 //! Connections that come to a listening socket.
 ghost use Rattle.std.specs.Prelude.{map};
-ghost use Rattle.td_http.specs.Visits.{ServesSockets};
+ghost use Rattle.td_http.specs.Connections.{ServesSockets};
 ghost use Rattle.td_http.specs.Private.{IsPrivateOver};
 ghost use Rattle.td_http.specs.Serving.{IsHandledBy, IsHeadHandledBy};
 
@@ -77,7 +77,7 @@ pub fn serve_on<C: Clock, D: Desk + Drop>(
         (IsHandledBy D.content D.is_clean D.is_live D.has_store) IsHeadHandledBy
         clock.old service.old clock.new service.new connections result)
         × IsPrivateOver D.content D.is_clean D.is_live service.old service.new
-        (map (λ visit. visit.exchanges) served.visits) }
+        (map (λ connection. connection.exchanges) served.all_served) }
 {
     let mut incoming = Incoming { listener };
     serve_connections(alloc, &mut incoming, connections, clock, service)

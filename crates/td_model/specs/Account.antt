@@ -26,6 +26,10 @@ pub record HolderRows : Type 0 where
   pub guarantees : List Guarantee
   pub movements : List Movement
 
+-- the number under which they stand: the holder's own
+abbrev pub holder_key : HolderRows → ℕ
+holder_key h = h.row.holder
+
 -- the account of a holder with these rows, or of a number that isn't registered
 abbrev pub account_with : List ℕ → Option HolderRows → Account
 account_with country found = record {

@@ -8,7 +8,7 @@ use Rattle.sqlite.specs.State.{State}
 use Rattle.td_desk.specs.Content.{Content}
 use Rattle.td_table_model.specs.Tables.{AreTablesOf}
 use Rattle.td_store_rows.specs.StoreTables.{AreAllTyped, HoldsContent, tables_in, content_in}
-use Rattle.td_store.specs.Kept.{AreAfterDecision, LeavesItsTables}
+use Rattle.td_store.specs.Kept.{AreAfterDecision, CrashLeavesShown}
 use Rattle.td_store.specs.Laws.{AcknowledgedIsKept, AcknowledgedIsKeptMeanwhile, HaveTablesOf}
 use Rattle.td_store.proofs.Holding.{content_held}
 
@@ -21,7 +21,7 @@ same_tables c s trees holds same = record {
 }
 
 -- and so have those that a crash leaves, where it leaves exactly the connection's
-left_tables : (c : Content) (s : State) (trees : Trees) → HoldsContent c s → IsTrue s.is_open → LeavesItsTables s
+left_tables : (c : Content) (s : State) (trees : Trees) → HoldsContent c s → IsTrue s.is_open → CrashLeavesShown s
     → s.may_leave trees → HaveTablesOf c trees
 left_tables c s trees holds is_open leaves left = same_tables c s trees holds ((leaves is_open trees).0 left)
 

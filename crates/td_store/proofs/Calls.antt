@@ -10,26 +10,26 @@ use Rattle.td_desk.specs.Weighing.{IsDecision}
 use Rattle.td_schema.specs.Tables.{desk_schema}
 use Rattle.typed_sql.specs.Writing.{HasSchema}
 use Rattle.td_store_write.specs.Carried.{CarriesChange, MayLeave}
-use Rattle.td_store.specs.Kept.{IsCalled, IsDeskOf, LeavesAsIs, LeavesItsTables, LeavesTrees, MayLeaveAfter}
+use Rattle.td_store.specs.Kept.{CallEffect, IsDeskOf, CrashKeepsOpenTrees, CrashLeavesShown, CrashKeepsTrees, MayLeaveAfter}
 use Rattle.td_store_rows.specs.StoreTables.{content_in}
 use Rattle.td_store.proofs.Holding.{decided_there, desk_after, desk_still, holds_own, left_after, left_by_fault, left_by_read, written}
 
 -- a connection that is a desk's after the call has the tables of its content
-pub called : (country : List ℕ) (a b : State) → IsDeskOf country b → Survives a b (MayLeaveAfter a) → LeavesItsTables b → IsCalled a b
+pub called : (country : List ℕ) (a b : State) → IsDeskOf country b → Survives a b (MayLeaveAfter a) → CrashLeavesShown b → CallEffect a b
 called country a b desk during after = record { during = during; after = after; holds = holds_own country b desk }
 
 -- a call that read, from a to b
-module _ (country : List ℕ) (a b : State) (desk : IsDeskOf country a) (survives : Survives a b (LeavesTrees a)) where
+module _ (country : List ℕ) (a b : State) (desk : IsDeskOf country a) (survives : Survives a b (CrashKeepsTrees a)) where
   clean_reading : HasCleanDisk b → HasCleanDisk a
   clean_reading clean = omega (arith, clean, survives.clean)
 
   pub left_reading : Survives a b (MayLeaveAfter a)
   left_reading =
-      survives_weaker a b (LeavesTrees a) (MayLeaveAfter a)
+      survives_weaker a b (CrashKeepsTrees a) (MayLeaveAfter a)
       (λ clean trees left. left_by_read country a trees desk (clean_reading clean) left) survives
 
   pub read_called : (HasCleanDisk b → IsTrue b.is_open → IsTrue a.is_open)
-      → (HasCleanDisk b → IsTrue b.is_open → HasSchema a desk_schema → b.now ≡ a.now) → LeavesItsTables b → IsCalled a b
+      → (HasCleanDisk b → IsTrue b.is_open → HasSchema a desk_schema → b.now ≡ a.now) → CrashLeavesShown b → CallEffect a b
   read_called live same after =
       called country a b (desk_still country a b desk clean_reading live same) left_reading after
 
@@ -37,7 +37,7 @@ module _ (country : List ℕ) (a b : State) (desk : IsDeskOf country a) (survive
 module _ (country : List ℕ) (a b e : State) (desk : IsDeskOf country a) (failed : Survives a b (MayLeaveAfter a))
     (live : HasCleanDisk b → IsTrue b.is_open → IsTrue a.is_open)
     (same : HasCleanDisk b → IsTrue b.is_open → HasSchema a desk_schema → b.now ≡ a.now)
-    (asked : Survives b e (LeavesAsIs b))
+    (asked : Survives b e (CrashKeepsOpenTrees b))
     (still : HasCleanDisk e → IsTrue e.is_open → IsTrue b.is_open)
     (equal : HasCleanDisk e → IsTrue e.is_open → HasSchema b desk_schema → e.now ≡ b.now) where
   clean_first : HasCleanDisk b → HasCleanDisk a
@@ -51,13 +51,13 @@ module _ (country : List ℕ) (a b e : State) (desk : IsDeskOf country a) (faile
 
   left_asking : Survives a e (MayLeaveAfter a)
   left_asking =
-      survives_then a b e (MayLeaveAfter a) (LeavesAsIs b) (MayLeaveAfter a) (λ clean trees left. left)
+      survives_then a b e (MayLeaveAfter a) (CrashKeepsOpenTrees b) (MayLeaveAfter a) (λ clean trees left. left)
       (λ clean trees left.
       let clean_b = clean_then clean in
       left_by_fault country a b trees desk (clean_first clean_b) (live clean_b) (same clean_b) left)
       failed asked
 
-  pub fault_called : LeavesItsTables e → IsCalled a e
+  pub fault_called : CrashLeavesShown e → CallEffect a e
   fault_called after = called country a e desk_asked left_asking after
 
 -- a call that carried a change, from a to b
@@ -90,5 +90,5 @@ module _ (country : List ℕ) (change : Change) (a b : State) (desk : IsDeskOf c
         let d = decided_there country change a desk (clean_before clean) is (decided (clean_before clean) is) in
         written country change a d.0 d.1 b (carries clean)
 
-    pub carry_called : LeavesItsTables b → IsCalled a b
+    pub carry_called : CrashLeavesShown b → CallEffect a b
     carry_called after = called country a b desk_carried left_carrying after

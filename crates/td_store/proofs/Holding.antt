@@ -19,7 +19,7 @@ use Rattle.td_schema.specs.Tables.{desk_schema}
 use Rattle.typed_sql.specs.Writing.{HasSchema}
 use Rattle.td_store_rows.specs.StoreTables.{AreAllTyped, HoldsContent, tables_in, content_in}
 use Rattle.td_store_write.specs.Carried.{CarriesChange, IsDecidedOver, MayLeave}
-use Rattle.td_store.specs.Kept.{IsDeskOf, LeavesAsIs, LeavesTrees, MayLeaveAfter}
+use Rattle.td_store.specs.Kept.{IsDeskOf, CrashKeepsOpenTrees, CrashKeepsTrees, MayLeaveAfter}
 
 -- the content that a connection holds is that of its trees
 pub content_held : (c : Content) (s : State) → HoldsContent c s → content_in s.now.trees ≡ c
@@ -119,13 +119,13 @@ module _ (country : List ℕ) (change : Change) (a : State) (c : Content) (decid
 
 -- what a crash leaves of a call that reads
 pub left_by_read : (country : List ℕ) (a : State) (trees : Trees) → IsDeskOf country a → HasCleanDisk a
-    → LeavesTrees a trees → MayLeaveAfter a trees
+    → CrashKeepsTrees a trees → MayLeaveAfter a trees
 left_by_read country a trees desk clean left is = inl (left (schema_there country a desk clean))
 
 -- and of a question that comes after a call that failed
 pub left_by_fault : (country : List ℕ) (a b : State) (trees : Trees) → IsDeskOf country a → HasCleanDisk a
     → (IsTrue b.is_open → IsTrue a.is_open) → (IsTrue b.is_open → HasSchema a desk_schema → b.now ≡ a.now)
-    → LeavesAsIs b trees → MayLeaveAfter a trees
+    → CrashKeepsOpenTrees b trees → MayLeaveAfter a trees
 left_by_fault country a b trees desk clean live same left is =
     let has = schema_there country a desk clean in
     let found = left (λ now. ap (λ (d : Database). d.schema) (same now has) ∙ has (live now)) in

@@ -16,12 +16,12 @@ IsDeskOf country s =
     HasCleanDisk s → IsTrue s.is_open → (c : Content) × HoldsContent c s × (c.country ≡ country)
 
 -- over a store's tables these trees are as they were
-abbrev pub LeavesTrees : State → Trees → Type 0
-LeavesTrees s trees = HasSchema s desk_schema → trees ≡ s.now.trees
+abbrev pub CrashKeepsTrees : State → Trees → Type 0
+CrashKeepsTrees s trees = HasSchema s desk_schema → trees ≡ s.now.trees
 
 -- and the connection to them was open
-abbrev pub LeavesAsIs : State → Trees → Type 0
-LeavesAsIs s trees = HasSchema s desk_schema → IsTrue s.is_open × (trees ≡ s.now.trees)
+abbrev pub CrashKeepsOpenTrees : State → Trees → Type 0
+CrashKeepsOpenTrees s trees = HasSchema s desk_schema → IsTrue s.is_open × (trees ≡ s.now.trees)
 
 -- the trees have the tables after a decision on this content
 pub record AreAfterDecision (c : Content) (trees : Trees) : Type 0 where
@@ -38,14 +38,14 @@ MayLeaveAfter s trees =
 
 -- While no fault has shut the connection, a crash leaves exactly the trees that it shows. (Where its disk isn't clean, it shows
 -- as shut.)
-abbrev pub LeavesItsTables : State → Type 0
-LeavesItsTables s = IsTrue s.is_open → (trees : Trees) → s.may_leave trees ↔ (trees ≡ s.now.trees)
+abbrev pub CrashLeavesShown : State → Type 0
+CrashLeavesShown s = IsTrue s.is_open → (trees : Trees) → s.may_leave trees ↔ (trees ≡ s.now.trees)
 
 -- a call of a desk took its connection from one state to the other
-pub record IsCalled (old new : State) : Type 0 where
+pub record CallEffect (old new : State) : Type 0 where
   -- no fault is forgotten; and what a crash during the call adds to what one could leave before
   pub during : Survives old new (MayLeaveAfter old)
   -- what a crash leaves after it
-  pub after : LeavesItsTables new
+  pub after : CrashLeavesShown new
   -- as far as the disk is clean and no fault has shut it, the connection has the tables of its content
   pub holds : HasCleanDisk new → IsTrue new.is_open → HoldsContent (content_in new.now.trees) new

@@ -7,7 +7,7 @@ use Rattle.sqlite.specs.State.{State, HasCleanDisk}
 use Rattle.td_desk.specs.Content.{Content}
 use Rattle.td_table_model.specs.Tables.{AreTablesOf}
 use Rattle.td_store_rows.specs.StoreTables.{AreAllTyped, HoldsContent, tables_in, content_in}
-use Rattle.td_store.specs.Kept.{AreAfterDecision, IsCalled, LeavesItsTables}
+use Rattle.td_store.specs.Kept.{AreAfterDecision, CallEffect, CrashLeavesShown}
 
 -- the trees have the tables of this content, and hold it
 pub record HaveTablesOf (c : Content) (trees : Trees) : Type 0 where
@@ -25,7 +25,7 @@ pub record ShowsContent (c : Content) (s : State) : Type 0 where
 -- where the call answered Ok to it, and of the same where later calls changed no row.
 abbrev pub AcknowledgedIsKept : {S : Type 0} → Ghosts S → Type 0
 AcknowledgedIsKept {S} g =
-    (old new : Held S) (c : Content) → IsCalled (state g old) (state g new) → ShowsContent c (state g new)
+    (old new : Held S) (c : Content) → CallEffect (state g old) (state g new) → ShowsContent c (state g new)
     → (trees : Trees) → (state g new).may_leave trees → HaveTablesOf c trees
 
 -- And so it is throughout the next call, whatever becomes of that: where a desk has the tables of a content, and a crash leaves
@@ -33,5 +33,5 @@ AcknowledgedIsKept {S} g =
 abbrev pub AcknowledgedIsKeptMeanwhile : {S : Type 0} → Ghosts S → Type 0
 AcknowledgedIsKeptMeanwhile {S} g =
     (desk new : Held S) (c : Content) → IsTrue (state g desk).is_open → HoldsContent c (state g desk)
-    → LeavesItsTables (state g desk) → IsCalled (state g desk) (state g new) → HasCleanDisk (state g new)
+    → CrashLeavesShown (state g desk) → CallEffect (state g desk) (state g new) → HasCleanDisk (state g new)
     → (trees : Trees) → (state g new).may_leave trees → HaveTablesOf c trees ⊎ AreAfterDecision c trees

@@ -11,7 +11,7 @@ use Rattle.typed_sql.specs.Typed.{AreTyped, typed_rows}
 use Rattle.td_store_rows.specs.Columns.{meta_row, meta_typing, newest_version}
 use Rattle.td_store_rows.specs.MetaTable.{stored_of}
 use Rattle.td_store_rows.specs.declared.meta.stored.StoredMeta.{StoredMeta}
-use Rattle.td_store_audit_rows.specs.Kinds.{IsFirstBrokenRaw}
+use Rattle.td_store_audit_rows.specs.Untyped.{IsFirstBrokenUntyped}
 use Rattle.td_store_audit_rows.specs.Ids.{HaveAllIds}
 use Rattle.td_store_audit_rows.specs.Laws.{AreKept}
 use Rattle.td_store_rows.specs.StoreTables.{HoldSoundContent}
@@ -42,7 +42,7 @@ IsOfAnother country trees =
 
 -- the tables break this rule first; where the office's own row is typed, it says version 1 and this country
 pub record AreDamaged (country : List ℕ) (rule : Rule) (trees : Trees) : Type 0 where
-  pub first : IsFirstBrokenRaw trees rule
+  pub first : IsFirstBrokenUntyped trees rule
   pub office : AreTyped meta_typing trees → HasOfficeRow newest_version country trees
 
 -- they hold sound content, and the office's own row says version 1 and this country

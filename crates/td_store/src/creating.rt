@@ -8,7 +8,7 @@ ghost use Rattle.td_schema.specs.Tables.{no_schema};
 ghost use Rattle.td_store_rows.specs.StoreTables.{HoldsContent, content_in};
 ghost use Rattle.td_store_write.specs.Created.{AreOfEmptyDesk};
 ghost use Rattle.td_store.specs.declared.refused.OpenFault.TheVariants as fault;
-ghost use Rattle.td_store.specs.Kept.{LeavesItsTables};
+ghost use Rattle.td_store.specs.Kept.{CrashLeavesShown};
 
 use crate::desk::SqlDesk;
 use crate::faults::open_fault_of;
@@ -48,8 +48,8 @@ impl<S: Alter> SqlDesk<S> {
         ensures ended { IfErr result (λ refused. refused.connection.in_transaction ≡ false) }
         ensures crash { MatchResult result (λ desk. Survives (state S.Store conn) (state S.Store desk) (AreOfEmptyDesk country))
             (λ refused. Survives (state S.Store conn) (state S.Store refused.connection) (AreOfEmptyDesk country)) }
-        ensures settled { MatchResult result (λ desk. LeavesItsTables (state S.Store desk))
-            (λ refused. LeavesItsTables (state S.Store refused.connection)) }
+        ensures settled { MatchResult result (λ desk. CrashLeavesShown (state S.Store desk))
+            (λ refused. CrashLeavesShown (state S.Store refused.connection)) }
     {
         if !is_blank(&conn) {
             see_settled(&conn);

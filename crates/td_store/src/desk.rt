@@ -38,7 +38,7 @@ impl<S: Alter> SqlDesk<S> {
     ghost use Rattle.sqlite.specs.Held.{state};
     ghost use Rattle.sqlite.specs.State.{HasCleanDisk};
     ghost use Rattle.td_store_rows.specs.StoreTables.{HoldsContent, content_in};
-    ghost use Rattle.td_store.specs.Kept.{IsDeskOf, LeavesItsTables};
+    ghost use Rattle.td_store.specs.Kept.{IsDeskOf, CrashLeavesShown};
 
     // The desk over a connection that holds a content of that country.
     pub(crate) fn over(conn: Connection<S>, country: Country) -> Self
@@ -56,7 +56,7 @@ impl<S: Alter> SqlDesk<S> {
         ensures ended { result.in_transaction ≡ false }
         ensures holds { HasCleanDisk (state S.Store result) → IsTrue (state S.Store result).is_open
             → HoldsContent (content_in (state S.Store result).now.trees) (state S.Store result) }
-        ensures settled { LeavesItsTables (state S.Store result) }
+        ensures settled { CrashLeavesShown (state S.Store result) }
     {
         let SqlDesk { country: _, conn } = self;
         see_settled(&conn);
@@ -68,7 +68,7 @@ impl<S: Alter> Store for SqlDesk<S> {
     ghost use Rattle.std.specs.Prelude.{IsTrue};
     ghost use Rattle.sqlite.specs.Held.{state};
     ghost use Rattle.sqlite.specs.State.{HasCleanDisk};
-    ghost use Rattle.td_store.specs.Kept.{IsCalled};
+    ghost use Rattle.td_store.specs.Kept.{CallEffect};
     ghost use Rattle.td_store_rows.specs.StoreTables.{content_in};
 
     ghost rows = { λ d. content_in (state S.Store d).now.trees };
@@ -81,7 +81,7 @@ impl<S: Alter> Store for SqlDesk<S> {
 
     // No fault is forgotten; a crash during a call leaves what it could leave before, the tables as they were, or those after a
     // decision on their content; and after it exactly the tables that the desk shows, if no fault has shut it.
-    ghost asked = { λ old _ new. IsCalled (state S.Store old) (state S.Store new) };
+    ghost asked = { λ old _ new. CallEffect (state S.Store old) (state S.Store new) };
 
     fn office(&self) -> Country {
         self.country

@@ -6,7 +6,7 @@ ghost use Rattle.td_desk.specs.declared.fault.Fault.TheVariants as fault;
 ghost use Rattle.td_schema.specs.Tables.{desk_schema};
 ghost use Rattle.typed_sql.specs.Writing.{HasSchema};
 ghost use Rattle.td_store.specs.declared.refused.OpenFault.TheVariants as open_fault;
-ghost use Rattle.td_store.specs.Kept.{LeavesAsIs};
+ghost use Rattle.td_store.specs.Kept.{CrashKeepsOpenTrees};
 
 use crate::refused::OpenFault;
 use sqlite::{Connection, Error, ErrorCode};
@@ -22,7 +22,7 @@ fn answers<S: Alter>(conn: &mut Connection<S>) -> bool
     ensures shown { HasCleanDisk (state S.Store conn.new) → IsTrue result → IsTrue (state S.Store conn.new).is_open }
     ensures same { HasCleanDisk (state S.Store conn.new) → IsTrue (state S.Store conn.new).is_open
         → HasSchema (state S.Store conn.old) desk_schema → (state S.Store conn.new).now ≡ (state S.Store conn.old).now }
-    ensures crash { Survives (state S.Store conn.old) (state S.Store conn.new) (LeavesAsIs (state S.Store conn.old)) }
+    ensures crash { Survives (state S.Store conn.old) (state S.Store conn.new) (CrashKeepsOpenTrees (state S.Store conn.old)) }
 {
     let _settled = conn.is_autocommit();
     let mut tx = conn.transaction();
@@ -42,7 +42,7 @@ pub(crate) fn fault_of<S: Alter>(conn: &mut Connection<S>, error: &Error) -> Fau
     ensures memory { HasCleanDisk (state S.Store conn.new) → result ≡ Fault.NoMemory → IsTrue (state S.Store conn.new).is_open }
     ensures same { HasCleanDisk (state S.Store conn.new) → IsTrue (state S.Store conn.new).is_open
         → HasSchema (state S.Store conn.old) desk_schema → (state S.Store conn.new).now ≡ (state S.Store conn.old).now }
-    ensures crash { Survives (state S.Store conn.old) (state S.Store conn.new) (LeavesAsIs (state S.Store conn.old)) }
+    ensures crash { Survives (state S.Store conn.old) (state S.Store conn.new) (CrashKeepsOpenTrees (state S.Store conn.old)) }
 {
     if matches!(error, Error::SqliteFailure(ErrorCode::OutOfMemory)) && answers(conn) {
         return Fault::NoMemory;

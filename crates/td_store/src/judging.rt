@@ -4,7 +4,7 @@ ghost use Rattle.sqlite.specs.Held.{state};
 ghost use Rattle.sqlite.specs.State.{HasCleanDisk, Survives};
 ghost use Rattle.td_schema.specs.Tables.{desk_schema};
 ghost use Rattle.typed_sql.specs.Writing.{HasSchema};
-ghost use Rattle.td_store.specs.Kept.{LeavesTrees};
+ghost use Rattle.td_store.specs.Kept.{CrashKeepsTrees};
 ghost use Rattle.td_store.specs.declared.refused.OpenFault.TheVariants as fault;
 ghost use Rattle.td_store.specs.Opened.{LacksMeta, TellsDatabase, TellsOfficeIn, TellsRows, TellsRules, TellsTables};
 
@@ -37,7 +37,7 @@ fn fault_of_office<S: Alter>(
         → IfOk result (TellsOfficeIn country (state S.Store conn.old).now.trees) }
     ensures same { HasCleanDisk (state S.Store conn.new) → IsTrue (state S.Store conn.new).is_open
         → (state S.Store conn.new).now ≡ (state S.Store conn.old).now }
-    ensures crash { Survives (state S.Store conn.old) (state S.Store conn.new) (LeavesTrees (state S.Store conn.old)) }
+    ensures crash { Survives (state S.Store conn.old) (state S.Store conn.new) (CrashKeepsTrees (state S.Store conn.old)) }
 {
     let _settled = conn.is_autocommit();
     let mut tx = conn.transaction();
@@ -63,7 +63,7 @@ fn broken_rule<S: Alter>(
         → IfOk result (TellsRules readable (state S.Store conn.old).now.trees) }
     ensures same { HasCleanDisk (state S.Store conn.new) → IsTrue (state S.Store conn.new).is_open
         → (state S.Store conn.new).now ≡ (state S.Store conn.old).now }
-    ensures crash { Survives (state S.Store conn.old) (state S.Store conn.new) (LeavesTrees (state S.Store conn.old)) }
+    ensures crash { Survives (state S.Store conn.old) (state S.Store conn.new) (CrashKeepsTrees (state S.Store conn.old)) }
 {
     let _settled = conn.is_autocommit();
     database_keeps(conn);
@@ -89,7 +89,7 @@ fn fault_of_rows<S: Alter>(
         → IfOk result (TellsRows (state S.Store conn.old).now.trees) }
     ensures same { HasCleanDisk (state S.Store conn.new) → IsTrue (state S.Store conn.new).is_open
         → (state S.Store conn.new).now ≡ (state S.Store conn.old).now }
-    ensures crash { Survives (state S.Store conn.old) (state S.Store conn.new) (LeavesTrees (state S.Store conn.old)) }
+    ensures crash { Survives (state S.Store conn.old) (state S.Store conn.new) (CrashKeepsTrees (state S.Store conn.old)) }
 {
     let readable = readable_tables(conn)?;
     let broken = broken_rule(alloc, conn, readable)?;
@@ -113,7 +113,7 @@ fn fault_in<S: Alter>(
         → IfOk result (TellsTables country (state S.Store conn.old).now.trees) }
     ensures same { HasCleanDisk (state S.Store conn.new) → IsTrue (state S.Store conn.new).is_open
         → (state S.Store conn.new).now ≡ (state S.Store conn.old).now }
-    ensures crash { Survives (state S.Store conn.old) (state S.Store conn.new) (LeavesTrees (state S.Store conn.old)) }
+    ensures crash { Survives (state S.Store conn.old) (state S.Store conn.new) (CrashKeepsTrees (state S.Store conn.old)) }
 {
     let _letters = country.as_bytes();
     kept_rules_mean_content();
@@ -145,7 +145,7 @@ fn fault_of_database<S: Alter>(
     ensures told { HasCleanDisk (state S.Store conn.new) → IfOk result (TellsDatabase country (state S.Store conn.old).now) }
     ensures same { HasCleanDisk (state S.Store conn.new) → IsTrue (state S.Store conn.new).is_open
         → (state S.Store conn.new).now ≡ (state S.Store conn.old).now }
-    ensures crash { Survives (state S.Store conn.old) (state S.Store conn.new) (LeavesTrees (state S.Store conn.old)) }
+    ensures crash { Survives (state S.Store conn.old) (state S.Store conn.new) (CrashKeepsTrees (state S.Store conn.old)) }
 {
     if !has_store_tables(alloc, conn)? {
         return Ok(Some(OpenFault::Store));
@@ -172,7 +172,7 @@ pub(crate) fn refusal<S: Alter>(
         → (result ≡ Some fault.UnknownVersion) × (conn.new ≡ conn.old) }
     ensures same { HasCleanDisk (state S.Store conn.new) → IsTrue (state S.Store conn.new).is_open
         → (state S.Store conn.new).now ≡ (state S.Store conn.old).now }
-    ensures crash { Survives (state S.Store conn.old) (state S.Store conn.new) (LeavesTrees (state S.Store conn.old)) }
+    ensures crash { Survives (state S.Store conn.old) (state S.Store conn.new) (CrashKeepsTrees (state S.Store conn.old)) }
 {
     if lacks_meta(conn) {
         return Some(OpenFault::UnknownVersion);

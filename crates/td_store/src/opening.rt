@@ -7,7 +7,7 @@ ghost use Rattle.td_table_model.specs.declared.rule.Rule.{Rule};
 ghost use Rattle.td_schema.specs.Tables.{desk_schema};
 ghost use Rattle.td_store_rows.specs.StoreTables.{HoldsContent, content_in};
 ghost use Rattle.td_store.specs.declared.refused.OpenFault.TheVariants as fault;
-ghost use Rattle.td_store.specs.Kept.{LeavesItsTables, LeavesTrees};
+ghost use Rattle.td_store.specs.Kept.{CrashLeavesShown, CrashKeepsTrees};
 ghost use Rattle.td_store.specs.Opened.{AreDamaged, HasOfficeRow, IsOfAnother, IsOfVersion, LacksMeta};
 ghost use Rattle.td_store_rows.specs.Columns.{newest_version};
 
@@ -60,10 +60,10 @@ impl<S: Alter> SqlDesk<S> {
         ensures handed { IfErr result (λ refused. HasCleanDisk (state S.Store refused.connection)
             → IsTrue (state S.Store refused.connection).is_open → (state S.Store refused.connection).now ≡ (state S.Store conn).now) }
         ensures ended { IfErr result (λ refused. refused.connection.in_transaction ≡ false) }
-        ensures crash { MatchResult result (λ desk. Survives (state S.Store conn) (state S.Store desk) (LeavesTrees (state S.Store conn)))
-            (λ refused. Survives (state S.Store conn) (state S.Store refused.connection) (LeavesTrees (state S.Store conn))) }
-        ensures settled { MatchResult result (λ desk. LeavesItsTables (state S.Store desk))
-            (λ refused. LeavesItsTables (state S.Store refused.connection)) }
+        ensures crash { MatchResult result (λ desk. Survives (state S.Store conn) (state S.Store desk) (CrashKeepsTrees (state S.Store conn)))
+            (λ refused. Survives (state S.Store conn) (state S.Store refused.connection) (CrashKeepsTrees (state S.Store conn))) }
+        ensures settled { MatchResult result (λ desk. CrashLeavesShown (state S.Store desk))
+            (λ refused. CrashLeavesShown (state S.Store refused.connection)) }
     {
         content_keeps_rules();
         match refusal(alloc, &mut conn, country) {

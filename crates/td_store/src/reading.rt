@@ -9,7 +9,7 @@ ghost use Rattle.td_desk.specs.Weighing.{kept_for};
 ghost use Rattle.td_schema.specs.Tables.{desk_schema};
 ghost use Rattle.typed_sql.specs.Writing.{HasSchema};
 ghost use Rattle.td_store_rows.specs.StoreTables.{HoldsContent};
-ghost use Rattle.td_store.specs.Kept.{LeavesTrees};
+ghost use Rattle.td_store.specs.Kept.{CrashKeepsTrees};
 
 use sqlite::{Connection, Error};
 use sqlite_trees::store::Alter;
@@ -37,7 +37,7 @@ pub(crate) fn read<S: Alter>(
         → IsLoaded (kept_for owner c) (need_said needs.now) loaded) }
     ensures same { HasCleanDisk (state S.Store conn.new) → IsTrue (state S.Store conn.new).is_open
         → HasSchema (state S.Store conn.old) desk_schema → (state S.Store conn.new).now ≡ (state S.Store conn.old).now }
-    ensures crash { Survives (state S.Store conn.old) (state S.Store conn.new) (LeavesTrees (state S.Store conn.old)) }
+    ensures crash { Survives (state S.Store conn.old) (state S.Store conn.new) (CrashKeepsTrees (state S.Store conn.old)) }
 {
     let _settled = conn.is_autocommit();
     let mut tx = conn.transaction();

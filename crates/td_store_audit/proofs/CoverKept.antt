@@ -24,24 +24,24 @@ use Rattle.typed_sql.specs.Typed.{AreTyped}
 use Rattle.td_store_rows.specs.Columns.{guarantee_typing, movement_typing, line_typing}
 use Rattle.td_store_rows.specs.StoreTables.{tables_in}
 use Rattle.td_store_audit_rows.specs.Found.{FoundHoldersTell}
-use Rattle.td_store_audit_rows.specs.Kinds.{KeepsRaw}
+use Rattle.td_store_audit_rows.specs.Untyped.{KeepsUntyped}
 use Rattle.td_store_audit_rows.specs.declared.holders.RawHolder.{RawHolder}
 use Rattle.td_store_audit.specs.Auditable.{IsAuditable, KeepsBefore}
-use Rattle.td_store_audit.specs.Handed.{AreCounting, AreItsLines, IsCoverAuditable, IsHandedOn, raw_holder_of, movements_in}
+use Rattle.td_store_audit.specs.Tallies.{AreCounting, AreItsLines, IsCoverAuditable, IsHandedOn, raw_holder_of, movements_in}
 use Rattle.td_store_audit.specs.InFile.{AreTypedApart, IsHolderCoveredInFile, IsRowCovered, TellsWhere}
-use Rattle.td_store_audit.specs.declared.handed.HolderParts.{HolderParts}
+use Rattle.td_store_audit.specs.declared.tallies.HolderLines.{HolderLines}
 use Rattle.td_store_audit.proofs.HoldersTold.{holders_tell, of_pairs}
 use Rattle.td_store_audit.proofs.InUse.{found_by_own, used_is}
 
 -- the tables are typed, where the rules before S8 are kept
 module _ (trees : Trees) (country : List ℕ) (holders : List RawHolder) (known : IsAuditable trees country holders) (before : KeepsBefore trees S8) where
-  guarantees_kept : KeepsRaw trees S3
+  guarantees_kept : KeepsUntyped trees S3
   guarantees_kept = before S3 (omega arith)
 
-  movements_kept : KeepsRaw trees S5
+  movements_kept : KeepsUntyped trees S5
   movements_kept = before S5 (omega arith)
 
-  lines_kept : KeepsRaw trees S6
+  lines_kept : KeepsUntyped trees S6
   lines_kept = before S6 (omega arith)
 
   pub guarantees_typed : AreTypedApart guarantee_typing trees
@@ -115,7 +115,7 @@ module _ (law : FoundHoldersTell) (trees : Trees) (country : List ℕ) (holders 
   abbrev AreCovered : ℕ → Type 0
   AreCovered H = AllByRecursion (IsRowCovered trees) (guarantees_by H t)
 
-  pub kept_each : KeepsRaw trees S8 ↔ AllByRecursion (IsHolderCoveredInFile trees) holders
+  pub kept_each : KeepsUntyped trees S8 ↔ AllByRecursion (IsHolderCoveredInFile trees) holders
   kept_each =
       let pairs = of_pairs holder_no (λ (h : RawHolder). h.holder) AreCovered t.holders holders (holders_tell law trees country holders known).same in (
         λ keeps. pairs.0 (all_both IsKnown (IsHolderCovered t) (λ row. AreCovered (holder_no row)) covered t.holders all_known keeps.1),
@@ -123,7 +123,7 @@ module _ (law : FoundHoldersTell) (trees : Trees) (country : List ℕ) (holders 
       )
 
 -- what was handed on of each holder is so
-all_handed_on : (trees : Trees) (country : List ℕ) (handed : List HolderParts) → IsCoverAuditable country handed trees → AllByRecursion (IsHandedOn trees) handed
+all_handed_on : (trees : Trees) (country : List ℕ) (handed : List HolderLines) → IsCoverAuditable country handed trees → AllByRecursion (IsHandedOn trees) handed
 all_handed_on trees country handed is =
     all_both (λ h. AreCounting trees (movements_in h)) (AreItsLines trees) (IsHandedOn trees)
     (λ h counting lines. record {
@@ -134,9 +134,9 @@ all_handed_on trees country handed is =
     }) handed is.counting is.lines
 
 -- so it is told
-pub told_cover : (a : State) (handed : List HolderParts) → FoundHoldersTell → (result : Result Bool Error)
+pub told_cover : (a : State) (handed : List HolderLines) → FoundHoldersTell → (result : Result Bool Error)
     → IfOk result (TellsWhere (λ trees. AllByRecursion (IsHandedOn trees) handed) (λ trees. AllByRecursion (λ h. IsHolderCoveredInFile trees (raw_holder_of h)) handed) a)
-    → IfOk result (λ keeps. (country : List ℕ) → TellsWhere (IsCoverAuditable country handed) (λ trees. KeepsRaw trees S8) a keeps)
+    → IfOk result (λ keeps. (country : List ℕ) → TellsWhere (IsCoverAuditable country handed) (λ trees. KeepsUntyped trees S8) a keeps)
 told_cover a handed law (Err e) each = each
 told_cover a handed law (Ok told) each = λ country has is.
     let trees = a.now.trees in

@@ -19,7 +19,7 @@ use Rattle.td_store_rows.specs.StoreTables.{tables_in}
 use Rattle.td_store_audit_rows.specs.InPlace.{AreGuaranteesInPlace, IsGuaranteeInPlace}
 use Rattle.td_store_audit_rows.specs.Fields.{AreGuaranteeFields}
 use Rattle.td_store_audit_rows.specs.Found.{FoundHoldersTell, HasGrns, grn_pair, raw_grn_pair}
-use Rattle.td_store_audit_rows.specs.Kinds.{AllRows, HasGrnCount, KeepsRaw}
+use Rattle.td_store_audit_rows.specs.Untyped.{AllRows, HasGrnCount, KeepsUntyped}
 use Rattle.td_store_audit_rows.specs.Scans.{IsReadRow, TellsRead}
 use Rattle.td_store_audit_rows.specs.Told.{GuaranteesAreRead}
 use Rattle.td_store_audit_rows.specs.declared.holders.RawHolder.{RawHolder}
@@ -35,7 +35,7 @@ module _ (law : FoundHoldersTell) (trees : Trees) (country : List ℕ) (holders 
   t = tables_in trees
 
   -- where S3 is kept each row is read
-  pub kept_read : GuaranteesAreRead → KeepsRaw trees S1 → KeepsRaw trees S3 → AreAllRead trees
+  pub kept_read : GuaranteesAreRead → KeepsUntyped trees S1 → KeepsUntyped trees S3 → AreAllRead trees
   kept_read read first keeps =
       let keyed = known.kept.guarantees keeps.0.1 in
       read trees (owners law trees country holders known first) keyed.owned keyed.apart keeps
@@ -82,7 +82,7 @@ module _ (law : FoundHoldersTell) (trees : Trees) (country : List ℕ) (holders 
     }
 
     -- the counts of rows that keep S3 are in range
-    counted : KeepsRaw trees S3 → AllByRecursion HasGrns holders
+    counted : KeepsUntyped trees S3 → AllByRecursion HasGrns holders
     counted keeps =
         let told = holders_tell law trees country holders known in
         told.grn_kinds.0
@@ -97,7 +97,7 @@ module _ (law : FoundHoldersTell) (trees : Trees) (country : List ℕ) (holders 
     of_tables : (h : RawHolder) → HasGuaranteesInPlace country trees h → IsInPlace (raw_grn_pair h)
     of_tables h is = subst (λ c. AreGuaranteesInPlace c (raw_grn_pair h).1 (guarantees_by h.holder t)) (sym known.country_is) is.1
 
-    pub kept_each : KeepsRaw trees S3 ↔ AllByRecursion (HasGuaranteesInPlace country trees) holders
+    pub kept_each : KeepsUntyped trees S3 ↔ AllByRecursion (HasGuaranteesInPlace country trees) holders
     kept_each =
         let told = holders_tell law trees country holders known in (
           λ keeps.

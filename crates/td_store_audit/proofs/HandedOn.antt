@@ -20,11 +20,11 @@ use Rattle.td_store_rows.specs.declared.lines.stored.StoredLine.{StoredLine}
 use Rattle.td_store_rows.specs.StoreTables.{tables_in}
 use Rattle.td_store_load.specs.InUse.{total_on}
 use Rattle.td_store_load.proofs.Counted.{of_holder}
-use Rattle.td_store_audit.specs.Handed.{IsCoveredBy, IsHandedOn, is_counting_row}
+use Rattle.td_store_audit.specs.Tallies.{IsCoveredBy, IsHandedOn, is_counting_row}
 use Rattle.td_store_audit.specs.InFile.{IsRowCovered}
-use Rattle.td_store_audit.specs.declared.handed.HolderParts.{HolderParts}
+use Rattle.td_store_audit.specs.declared.tallies.HolderLines.{HolderLines}
 
-module _ (trees : Trees) (h : HolderParts) (is : IsHandedOn trees h) where
+module _ (trees : Trees) (h : HolderLines) (is : IsHandedOn trees h) where
   abbrev H : ℕ
   H = h.movements.raw.holder
 

@@ -14,8 +14,7 @@ use Rattle.sqlite_schema.specs.Rules.{Obeys, passes}
 use Rattle.td_model.specs.declared.holder_row.HolderRow.{HolderRow}
 use Rattle.td_base.specs.Codes.{IsHolderNumber}
 use Rattle.td_schema.specs.Tables.{desk_schema}
-use Rattle.td_table_model.specs.Apart.{IsApart}
-use Rattle.td_table_model.specs.Gathering.{holder_no}
+use Rattle.td_table_model.specs.Gathering.{IsApart, holder_no}
 use Rattle.typed_sql.specs.Writing.{HaveIds}
 use Rattle.typed_sql.specs.Typed.{row_of, typed_rows}
 use Rattle.typed_sql.specs.Values.{number_in, number_value}
@@ -23,7 +22,7 @@ use Rattle.typed_sql.proofs.Ids.{has_own}
 use Rattle.td_store_rows.specs.Columns.{holder_typing}
 use Rattle.td_store_rows.specs.StoreTables.{tables_in}
 use Rattle.td_store_audit_rows.specs.Kept.{AreHoldersKept}
-use Rattle.td_store_audit_rows.specs.Kinds.{AllRows, HasNumber}
+use Rattle.td_store_audit_rows.specs.Untyped.{AllRows, HasNumber}
 use Rattle.td_store_audit.proofs.Checked.{IsNumbered, checked}
 use Rattle.td_store_audit.proofs.Equal.{number_ties}
 use Rattle.td_store_audit.proofs.Parents.{each_found, named_holder, named_movement}

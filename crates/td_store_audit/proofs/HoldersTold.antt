@@ -12,7 +12,7 @@ use Rattle.td_model.specs.declared.holder_row.HolderRow.{HolderRow}
 use Rattle.td_table_model.specs.declared.rule.Rule.TheVariants.{S1}
 use Rattle.td_store_rows.specs.StoreTables.{tables_in}
 use Rattle.td_store_audit_rows.specs.Found.{FoundHoldersTell, HasFieldsOfS2, TellOfHolders}
-use Rattle.td_store_audit_rows.specs.Kinds.{KeepsRaw}
+use Rattle.td_store_audit_rows.specs.Untyped.{KeepsUntyped}
 use Rattle.td_store_audit_rows.specs.Told.{HaveOwners}
 use Rattle.td_store_audit_rows.specs.declared.holders.RawHolder.{RawHolder}
 use Rattle.td_store_audit.specs.Auditable.{IsAuditable}
@@ -43,5 +43,5 @@ module _ (law : FoundHoldersTell) (trees : Trees) (country : List ℕ) (holders 
   pub holders_tell : TellOfHolders trees holders
   holders_tell = law trees holders known.holders_are known.order
 
-  pub owners : KeepsRaw trees S1 → HaveOwners (tables_in trees)
+  pub owners : KeepsUntyped trees S1 → HaveOwners (tables_in trees)
   owners first = record { numbers = holders_tell.numbers; country = first.1 }

@@ -18,8 +18,7 @@ use Rattle.td_guarantee.specs.declared.guarantee.Guarantee.{Guarantee}
 use Rattle.td_guarantee.specs.Usage.{cents_on, movement_on, used_on}
 use Rattle.td_movement.specs.States.{is_counting}
 use Rattle.td_model.specs.declared.holder_row.HolderRow.{HolderRow}
-use Rattle.td_table_model.specs.Apart.{IsApart, IsNumbered}
-use Rattle.td_table_model.specs.Gathering.{grn_by, guarantees_by, line_from, lines_by, movements_by, no_of, of_key, owner, part, place, with_lines}
+use Rattle.td_table_model.specs.Gathering.{IsApart, IsNumbered, grn_by, guarantees_by, line_from, lines_by, movements_by, no_of, of_key, owner, part, place, with_lines}
 use Rattle.td_table_model.specs.Looking.{cents_of, counting_rows, lines_in_use, lines_of_row}
 use Rattle.td_table_model.specs.Rules.{AreLinesInRange, HasGuarantees, HasLines, IsGuaranteeInRange, named_by}
 use Rattle.td_table_model.specs.Tables.{Keyed, LineCells, Tables, guarantee_no}

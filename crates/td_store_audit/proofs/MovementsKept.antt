@@ -19,7 +19,7 @@ use Rattle.td_store_rows.specs.StoreTables.{tables_in}
 use Rattle.td_store_audit_rows.specs.InPlace.{AreMovementsInPlace, IsMovementInPlace}
 use Rattle.td_store_audit_rows.specs.Fields.{AreMovementFields}
 use Rattle.td_store_audit_rows.specs.Found.{FoundHoldersTell, HasMrns, mrn_pair, raw_mrn_pair}
-use Rattle.td_store_audit_rows.specs.Kinds.{AllRows, HasMrnCount, KeepsRaw}
+use Rattle.td_store_audit_rows.specs.Untyped.{AllRows, HasMrnCount, KeepsUntyped}
 use Rattle.td_store_audit_rows.specs.Scans.{IsReadRow, TellsRead}
 use Rattle.td_store_audit_rows.specs.Told.{MovementsAreRead}
 use Rattle.td_store_audit_rows.specs.declared.holders.RawHolder.{RawHolder}
@@ -35,7 +35,7 @@ module _ (law : FoundHoldersTell) (trees : Trees) (country : List ℕ) (holders 
   t = tables_in trees
 
   -- where S5 is kept each row is read
-  pub kept_read : MovementsAreRead → KeepsRaw trees S1 → KeepsRaw trees S5 → AreAllRead trees
+  pub kept_read : MovementsAreRead → KeepsUntyped trees S1 → KeepsUntyped trees S5 → AreAllRead trees
   kept_read read first keeps =
       let keyed = known.kept.movements keeps.0.1 in
       read trees (owners law trees country holders known first) keyed.owned keyed.apart keeps
@@ -84,7 +84,7 @@ module _ (law : FoundHoldersTell) (trees : Trees) (country : List ℕ) (holders 
     }
 
     -- the counts of rows that keep S5 are in range
-    counted : KeepsRaw trees S5 → AllByRecursion HasMrns holders
+    counted : KeepsUntyped trees S5 → AllByRecursion HasMrns holders
     counted keeps =
         let told = holders_tell law trees country holders known in
         told.mrn_kinds.0
@@ -99,7 +99,7 @@ module _ (law : FoundHoldersTell) (trees : Trees) (country : List ℕ) (holders 
     of_tables : (h : RawHolder) → HasMovementsInPlace country trees h → IsInPlace (raw_mrn_pair h)
     of_tables h is = subst (λ c. AreMovementsInPlace c (raw_mrn_pair h).1 (movements_by h.holder t)) (sym known.country_is) is.1
 
-    pub kept_each : KeepsRaw trees S5 ↔ AllByRecursion (HasMovementsInPlace country trees) holders
+    pub kept_each : KeepsUntyped trees S5 ↔ AllByRecursion (HasMovementsInPlace country trees) holders
     kept_each =
         let told = holders_tell law trees country holders known in (
           λ keeps.

@@ -16,7 +16,7 @@ use Rattle.typed_sql.specs.Typed.{row_of, typed_rows}
 use Rattle.td_store_rows.specs.Columns.{holder_typing}
 use Rattle.td_store_rows.specs.StoreTables.{tables_in}
 use Rattle.td_store_audit_rows.specs.Holders.{AreHoldersIn, HolderFields, fields_of, fields_of_raw}
-use Rattle.td_store_audit_rows.specs.Kinds.{AllRows, HasGrnCount, HasMrnCount}
+use Rattle.td_store_audit_rows.specs.Untyped.{AllRows, HasGrnCount, HasMrnCount}
 use Rattle.td_store_audit_rows.specs.Told.{HolderFieldsTell}
 use Rattle.td_store_audit_rows.specs.declared.holders.RawHolder.{RawHolder}
 use Rattle.td_store_audit.specs.InPlace.{AreAllLinesInPlace, AreCodesInPlace}

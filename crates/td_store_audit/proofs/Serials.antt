@@ -5,14 +5,13 @@ use Rattle.std.proofs.lemmas.List.{map-append, take_more}
 use Rattle.std.proofs.lemmas.List.Elements.{filter-append}
 use Rattle.keyed_rows.specs.Rows.{Rises}
 use Rattle.td_movement.specs.declared.movement.Movement.{Movement}
-use Rattle.td_table_model.specs.Apart.{IsNumbered}
-use Rattle.td_table_model.specs.Gathering.{place}
+use Rattle.td_table_model.specs.Gathering.{IsNumbered, place}
 use Rattle.td_table_model.specs.Tables.{Keyed}
 use Rattle.td_table_model.proofs.Orders.{rises-map, rises_from_map, rises_lower}
 use Rattle.td_store_rows.specs.MovementTable.{movement_row_of, serial_of_stored}
 use Rattle.td_store_rows.specs.declared.movements.stored.MovementSerial.{MovementSerial}
 use Rattle.td_store_rows.specs.declared.movements.stored.StoredMovement.{StoredMovement}
-use Rattle.td_store_audit.specs.Handed.{is_counting_row}
+use Rattle.td_store_audit.specs.Tallies.{is_counting_row}
 
 -- those in rows
 abbrev pub serials_in : List StoredMovement → List ℕ

@@ -19,7 +19,7 @@ use Rattle.td_store_rows.specs.Columns.{holder_typing, guarantee_typing, code_ty
 use Rattle.td_store_rows.specs.StoreTables.{tables_in}
 use Rattle.td_store_audit_rows.specs.Ids.{HaveAllIds}
 use Rattle.td_store_audit_rows.specs.Kept.{AreCodesKept, AreGuaranteesKept, AreLinesKept, AreMovementsKept}
-use Rattle.td_store_audit_rows.specs.Kinds.{AllRows}
+use Rattle.td_store_audit_rows.specs.Untyped.{AllRows}
 use Rattle.td_store_audit.proofs.HoldersKept.{owned, owned_through}
 use Rattle.td_store_audit.proofs.Keyed.{all_three, numbers_equal, of_three, of_two, texts_equal}
 use Rattle.td_store_audit.proofs.Ruled.{HasParent, both, code_keys, codes_named, guarantee_keys, guarantees_named, line_keys, lines_named, lrn_keys, movement_keys, movements_named}

@@ -11,8 +11,7 @@ use Rattle.td_movement.specs.declared.movement.Movement.{Movement}
 use Rattle.td_model.specs.declared.holder_row.HolderRow.{HolderRow}
 use Rattle.td_commands.specs.Lines.{IsLineAmount}
 use Rattle.td_store_audit_rows.specs.InPlace.{AreLinesInPlace, IsLineInPlace}
-use Rattle.td_table_model.specs.Apart.{IsApart, IsNumbered}
-use Rattle.td_table_model.specs.Gathering.{guarantees_by, lines_by, movements_by, no_of, of_key, owner, part, place}
+use Rattle.td_table_model.specs.Gathering.{IsApart, IsNumbered, guarantees_by, lines_by, movements_by, no_of, of_key, owner, part, place}
 use Rattle.td_table_model.specs.Rules.{AreLinesInRange, HasCodes, HasGuarantees, HasLines, HasMovements, count_of_codes, named_by}
 use Rattle.td_table_model.specs.Tables.{Keyed, LineCells, Tables}
 use Rattle.td_table_model.proofs.Rebuilt.{numbered_within}

@@ -10,17 +10,17 @@ use Rattle.td_table_model.specs.declared.rule.Rule.TheVariants.{S5, S6, S7, S8}
 use Rattle.typed_sql.specs.Typed.{AreTyped}
 use Rattle.td_store_rows.specs.Columns.{line_typing, movement_typing}
 use Rattle.td_store_audit_rows.specs.Fields.{AreLineFields, AreMovementFields}
-use Rattle.td_store_audit_rows.specs.Kinds.{IsFirstBrokenRaw, KeepsRaw}
+use Rattle.td_store_audit_rows.specs.Untyped.{IsFirstBrokenUntyped, KeepsUntyped}
 use Rattle.td_store_audit_rows.specs.Scans.{TellsRead}
 use Rattle.td_store_audit_rows.specs.declared.holders.RawHolder.{RawHolder}
 use Rattle.td_store_audit_rows.specs.declared.tables.Readable.{Readable}
 use Rattle.td_store_audit.specs.Auditable.{IsAuditable, TellsRule}
 use Rattle.td_store_audit.specs.Broken.{IsNextRule, TellsBroken}
-use Rattle.td_store_audit.specs.Handed.{AreAllCounting, AreAllLines, AreCounting, AreItsLines, IsCoverAuditable, raw_holder_of, movements_in, raw_of}
+use Rattle.td_store_audit.specs.Tallies.{AreAllCounting, AreAllLines, AreCounting, AreItsLines, IsCoverAuditable, raw_holder_of, movements_in, raw_of}
 use Rattle.td_store_audit.specs.InFile.{IsSoWhere, TellsWhere}
 use Rattle.td_store_audit.specs.Premises.{AreLinesAuditable}
-use Rattle.td_store_audit.specs.declared.handed.HolderMovements.{HolderMovements}
-use Rattle.td_store_audit.specs.declared.handed.HolderParts.{HolderParts}
+use Rattle.td_store_audit.specs.declared.tallies.CountingSerials.{CountingSerials}
+use Rattle.td_store_audit.specs.declared.tallies.HolderLines.{HolderLines}
 use Rattle.td_store_audit.proofs.CoverKept.{lines_typed, movements_typed}
 use Rattle.td_store_audit.proofs.Reading.{so_before}
 use Rattle.td_store_audit.proofs.Succession.{all_kept, broken_here, kept_on, lines_next, table_next, told_before}
@@ -37,41 +37,41 @@ module _ (country : List ℕ) (holders : List RawHolder) (readable : Readable) (
 
   -- the rules before S5 are kept, and it is told whether it is
   movements_told : (keeps : Bool) → (TellsRead movement_typing AreMovementFields a.now.trees readable.movements → TellsRule S5 country holders a keeps)
-      → TellsWhere Q (λ trees. KeepsRaw trees S5) a keeps
+      → TellsWhere Q (λ trees. KeepsUntyped trees S5) a keeps
   movements_told keeps told =
       told_before country holders readable Q a S5 first keeps a (none_read a)
       (table_next country holders readable a S5 keeps (λ has next. told next.office.told.movements))
 
   pub movements_broken : (TellsRead movement_typing AreMovementFields a.now.trees readable.movements → TellsRule S5 country holders a false)
-      → IsSoWhere Q (λ trees. IsFirstBrokenRaw trees S5) a
+      → IsSoWhere Q (λ trees. IsFirstBrokenUntyped trees S5) a
   movements_broken told = broken_here country holders readable Q a S5 first false (movements_told false told) refl
 
   -- it is kept, and the next is told of what was read after it
-  module _ (counting : List HolderMovements) (of_holders : map raw_of counting ≡ holders)
+  module _ (counting : List CountingSerials) (of_holders : map raw_of counting ≡ holders)
       (told : TellsRead movement_typing AreMovementFields a.now.trees readable.movements → TellsRule S5 country holders a true) (b : State) (read : OnlyRead desk_schema a b) where
     after_movements : IsSoWhere Q (IsNextRule S6 country holders readable) a
     after_movements = kept_on country holders readable Q a S5 first true (movements_told true told) refl S6 refl
 
     abbrev TellsLines : Bool → Type 0
     TellsLines keeps =
-        AreLinesAuditable b (map raw_of counting) → TellsRead line_typing AreLineFields b.now.trees readable.lines → IsTrue keeps ↔ KeepsRaw b.now.trees S6
+        AreLinesAuditable b (map raw_of counting) → TellsRead line_typing AreLineFields b.now.trees readable.lines → IsTrue keeps ↔ KeepsUntyped b.now.trees S6
 
-    lines_told : (keeps : Bool) → TellsLines keeps → TellsWhere Q (λ trees. KeepsRaw trees S6) a keeps
+    lines_told : (keeps : Bool) → TellsLines keeps → TellsWhere Q (λ trees. KeepsUntyped trees S6) a keeps
     lines_told keeps tells =
         told_before country holders readable Q a S6 after_movements keeps b read
         (lines_next country holders readable b keeps
-        (subst (λ hs. AreLinesAuditable b hs → TellsRead line_typing AreLineFields b.now.trees readable.lines → IsTrue keeps ↔ KeepsRaw b.now.trees S6) of_holders tells))
+        (subst (λ hs. AreLinesAuditable b hs → TellsRead line_typing AreLineFields b.now.trees readable.lines → IsTrue keeps ↔ KeepsUntyped b.now.trees S6) of_holders tells))
 
-    pub lines_broken : TellsLines false → IsSoWhere Q (λ trees. IsFirstBrokenRaw trees S6) a
+    pub lines_broken : TellsLines false → IsSoWhere Q (λ trees. IsFirstBrokenUntyped trees S6) a
     lines_broken tells = broken_here country holders readable Q a S6 after_movements false (lines_told false tells) refl
 
     -- so is this one
-    module _ (handed : List HolderParts) (of_counting : map movements_in handed ≡ counting) (tells : TellsLines true)
+    module _ (handed : List HolderLines) (of_counting : map movements_in handed ≡ counting) (tells : TellsLines true)
         (counted : AreAllCounting a counting) (found : AreAllLines b handed) (d : State) (read_on : OnlyRead desk_schema a d) where
       after_lines : IsSoWhere Q (IsNextRule S7 country holders readable) a
       after_lines = kept_on country holders readable Q a S6 after_movements true (lines_told true tells) refl S7 refl
 
-      amounts_told : TellsWhere Q (λ trees. KeepsRaw trees S7) a true
+      amounts_told : TellsWhere Q (λ trees. KeepsUntyped trees S7) a true
       amounts_told has so = (λ t. (tt, tt), λ keeps. refl)
 
       after_amounts : IsSoWhere Q (IsNextRule S8 country holders readable) a
@@ -93,14 +93,14 @@ module _ (country : List ℕ) (holders : List RawHolder) (readable : Readable) (
                 (lines_typed trees country holders next.office.known next.before);
           }
 
-      cover_told : (keeps : Bool) → TellsWhere (IsCoverAuditable country handed) (λ trees. KeepsRaw trees S8) d keeps → TellsWhere Q (λ trees. KeepsRaw trees S8) a keeps
+      cover_told : (keeps : Bool) → TellsWhere (IsCoverAuditable country handed) (λ trees. KeepsUntyped trees S8) d keeps → TellsWhere Q (λ trees. KeepsUntyped trees S8) a keeps
       cover_told keeps says has so =
-          so_before (IsCoverAuditable country handed) (λ trees. IsTrue keeps ↔ KeepsRaw trees S8) a d read_on says has (known has so)
+          so_before (IsCoverAuditable country handed) (λ trees. IsTrue keeps ↔ KeepsUntyped trees S8) a d read_on says has (known has so)
 
-      pub cover_broken : (keeps : Bool) → keeps ≡ false → TellsWhere (IsCoverAuditable country handed) (λ trees. KeepsRaw trees S8) d keeps
-          → IsSoWhere Q (λ trees. IsFirstBrokenRaw trees S8) a
+      pub cover_broken : (keeps : Bool) → keeps ≡ false → TellsWhere (IsCoverAuditable country handed) (λ trees. KeepsUntyped trees S8) d keeps
+          → IsSoWhere Q (λ trees. IsFirstBrokenUntyped trees S8) a
       cover_broken keeps is says = broken_here country holders readable Q a S8 after_amounts keeps (cover_told keeps says) is
 
-      pub none_broken : (keeps : Bool) → IsTrue keeps → TellsWhere (IsCoverAuditable country handed) (λ trees. KeepsRaw trees S8) d keeps
+      pub none_broken : (keeps : Bool) → IsTrue keeps → TellsWhere (IsCoverAuditable country handed) (λ trees. KeepsUntyped trees S8) d keeps
           → IsSoWhere Q (λ trees. TellsBroken trees None) a
       none_broken keeps is says = all_kept country holders readable Q a S8 after_amounts keeps (cover_told keeps says) is refl

@@ -9,7 +9,7 @@ use Rattle.td_schema.specs.Tables.{desk_schema}
 use Rattle.typed_sql.specs.Writing.{HasSchema}
 use Rattle.td_store_rows.specs.StoreTables.{tables_in}
 use Rattle.td_store_audit_rows.specs.Holders.{AreHoldersIn, NumbersRise}
-use Rattle.td_store_audit_rows.specs.Kinds.{KeepsRaw}
+use Rattle.td_store_audit_rows.specs.Untyped.{KeepsUntyped}
 use Rattle.td_store_audit_rows.specs.Laws.{AreKept}
 use Rattle.td_store_audit_rows.specs.declared.holders.RawHolder.{RawHolder}
 
@@ -22,15 +22,15 @@ pub record IsAuditable (trees : Trees) (country : List ℕ) (holders : List RawH
 
 -- the rules before it are kept
 abbrev pub KeepsBefore : Trees → Rule → Type 0
-KeepsBefore trees rule = (other : Rule) → rule_no other < rule_no rule → KeepsRaw trees other
+KeepsBefore trees rule = (other : Rule) → rule_no other < rule_no rule → KeepsUntyped trees other
 
 -- where they are, it is told whether the tables keep the rule as they stand in the file
 abbrev pub TellsRule : Rule → List ℕ → List RawHolder → State → Bool → Type 0
 TellsRule rule country holders state keeps =
     HasSchema state desk_schema → IsAuditable state.now.trees country holders → KeepsBefore state.now.trees rule
-    → IsTrue keeps ↔ KeepsRaw state.now.trees rule
+    → IsTrue keeps ↔ KeepsUntyped state.now.trees rule
 
 -- of S2 the holders tell it alone, whatever tables they are of
 abbrev pub TellsS2 : List RawHolder → Bool → Type 0
 TellsS2 holders keeps =
-    (trees : Trees) → AreHoldersIn trees holders → NumbersRise holders → IsTrue keeps ↔ KeepsRaw trees S2
+    (trees : Trees) → AreHoldersIn trees holders → NumbersRise holders → IsTrue keeps ↔ KeepsUntyped trees S2

@@ -9,7 +9,7 @@ use Rattle.td_table_model.specs.declared.rule.Rule.{Rule}
 use Rattle.td_table_model.specs.declared.rule.Rule.TheVariants.{S1}
 use Rattle.td_store_rows.specs.StoreTables.{tables_in}
 use Rattle.td_store_audit_rows.specs.Ids.{HaveAllIds}
-use Rattle.td_store_audit_rows.specs.Kinds.{IsFirstBrokenRaw, KeepsRaw}
+use Rattle.td_store_audit_rows.specs.Untyped.{IsFirstBrokenUntyped, KeepsUntyped}
 use Rattle.td_store_audit_rows.specs.Laws.{AreKept}
 use Rattle.td_store_audit_rows.specs.Scans.{TellReadable}
 use Rattle.td_store_audit_rows.specs.declared.holders.RawHolder.{RawHolder}
@@ -18,8 +18,8 @@ use Rattle.td_store_audit.specs.Auditable.{IsAuditable, KeepsBefore}
 
 -- the first rule that the tables break as they stand, or none
 abbrev pub TellsBroken : Trees → Option Rule → Type 0
-TellsBroken trees None = (rule : Rule) → KeepsRaw trees rule
-TellsBroken trees (Some rule) = IsFirstBrokenRaw trees rule
+TellsBroken trees None = (rule : Rule) → KeepsUntyped trees rule
+TellsBroken trees (Some rule) = IsFirstBrokenUntyped trees rule
 
 -- where the rowids of the tables are integers, no two the same, a database keeps of them what it does
 abbrev pub KeepsItsTables : State → Type 0
@@ -40,13 +40,13 @@ ShowsCountry rows (Some country) = IsOffice rows country × IsCountry country
 
 -- the tables keep S1, and this is the country; or they don't
 abbrev pub TellsCountry : Trees → Option (List ℕ) → Type 0
-TellsCountry trees None = ¬ KeepsRaw trees S1
-TellsCountry trees (Some country) = KeepsRaw trees S1 × ((tables_in trees).country ≡ country)
+TellsCountry trees None = ¬ KeepsUntyped trees S1
+TellsCountry trees (Some country) = KeepsUntyped trees S1 × ((tables_in trees).country ≡ country)
 
 -- what the rules after S1 are asked by, and which tables can be read row by row
 pub record HasOffice (country : List ℕ) (holders : List RawHolder) (readable : Readable) (trees : Trees) : Type 0 where
   pub known : IsAuditable trees country holders
-  pub keeps : KeepsRaw trees S1
+  pub keeps : KeepsUntyped trees S1
   pub told : TellReadable readable trees
 
 -- and one of them, where the rules before it are kept

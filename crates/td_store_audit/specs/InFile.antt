@@ -4,8 +4,7 @@ use Rattle.std.specs.List.{AllByRecursion, sum_by}
 use Rattle.sqlite_trees.specs.Tree.{Trees}
 use Rattle.sqlite.specs.State.{State}
 use Rattle.td_guarantee.specs.declared.guarantee.Guarantee.{Guarantee}
-use Rattle.td_table_model.specs.Apart.{IsApart}
-use Rattle.td_table_model.specs.Gathering.{guarantees_by, movements_by, part, place}
+use Rattle.td_table_model.specs.Gathering.{IsApart, guarantees_by, movements_by, part, place}
 use Rattle.td_table_model.specs.Looking.{cents_of, lines_in_use}
 use Rattle.td_table_model.specs.Tables.{Keyed}
 use Rattle.td_schema.specs.Tables.{desk_schema}

@@ -1,8 +1,7 @@
 -- One holder's codes and lines that keep the rules of sound tables: those of each guarantee, and of each movement.
 use Rattle.std.specs.Prelude.{◌≡◌, ◌≢◌, ℕ, ◌≤◌, ◌<◌, List, get_or, length}
 use Rattle.sqlite_trees.specs.Tree.{IsAscending}
-use Rattle.td_table_model.specs.Apart.{IsApart}
-use Rattle.td_table_model.specs.Gathering.{in_order, no_of, of_key, place}
+use Rattle.td_table_model.specs.Gathering.{IsApart, in_order, no_of, of_key, place}
 use Rattle.td_table_model.specs.Tables.{Keyed, LineCells}
 use Rattle.td_store_audit_rows.specs.InPlace.{AreLinesInPlace, BelongTo}
 use Rattle.td_guarantee.specs.Codes.{most_codes}

@@ -10,7 +10,7 @@ use Rattle.td_store_rows.specs.Columns.{holder_typing, guarantee_typing, code_ty
 use Rattle.td_store_rows.specs.StoreTables.{tables_in}
 use Rattle.td_store_audit_rows.specs.Ids.{HaveAllIds}
 use Rattle.td_store_audit_rows.specs.Kept.{AreCodesKept, AreGuaranteesKept, AreHoldersKept, AreLinesKept, AreMovementsKept}
-use Rattle.td_store_audit_rows.specs.Kinds.{AllRows, HasNumber}
+use Rattle.td_store_audit_rows.specs.Untyped.{AllRows, HasNumber}
 use Rattle.td_store_audit_rows.specs.Laws.{AreKept}
 
 -- a database with a store's tables keeps this of their rows, where their rowids are integers and no two are the same

@@ -5,4 +5,4 @@ pub mod InPlace
 pub mod Found
 pub mod Premises
 pub mod Broken
-pub mod Handed
+pub mod Tallies

@@ -13,7 +13,7 @@ use Rattle.td_table_model.specs.Stored.{AreOfHolders}
 use Rattle.td_store_rows.specs.Columns.{code_typing, line_typing}
 use Rattle.td_store_rows.specs.StoreTables.{tables_in}
 use Rattle.td_store_audit_rows.specs.Holders.{AreHoldersIn, NumbersRise}
-use Rattle.td_store_audit_rows.specs.Kinds.{AllRows, KeepsRaw}
+use Rattle.td_store_audit_rows.specs.Untyped.{AllRows, KeepsUntyped}
 use Rattle.td_store_audit_rows.specs.declared.holders.RawHolder.{RawHolder}
 use Rattle.td_store_audit.specs.InPlace.{AreAllLinesInPlace, AreCodesInPlace, AreNumbersApart}
 
@@ -23,7 +23,7 @@ pub record AreHoldersAuditable (state : State) (found : List RawHolder) : Type 0
   pub holders : AreHoldersIn state.now.trees found
   pub order : NumbersRise found
   pub country : HasCountry (tables_in state.now.trees)
-  pub guarantees : KeepsRaw state.now.trees S3
+  pub guarantees : KeepsUntyped state.now.trees S3
 
 -- beside that, what the database keeps of codes: their rowids, and that each is of a holder who is there
 pub record AreCodesAuditable (state : State) (found : List RawHolder) : Type 0 where
@@ -41,7 +41,7 @@ pub record AreLinesAuditable (state : State) (found : List RawHolder) : Type 0 w
       → AreOfHolders (tables_in state.now.trees).holders (tables_in state.now.trees).lines
   pub apart : AllRows line_typing (IsTypedRow line_typing) state.now.trees
       → (H : ℕ) → AreNumbersApart (part H (tables_in state.now.trees).lines)
-  pub movements : KeepsRaw state.now.trees S5
+  pub movements : KeepsUntyped state.now.trees S5
 
 -- The holder's count of guarantees can be read, and the holder's codes are in their places by it.
 abbrev pub HasCodesInPlace : Trees → RawHolder → Type 0

@@ -4,13 +4,13 @@ ghost use Rattle.std.specs.List.{AllByRecursion};
 ghost use Rattle.sqlite.specs.Held.{state};
 ghost use Rattle.sqlite.specs.State.{HasCleanDisk, KeepsCommit, Survives};
 ghost use Rattle.td_table_model.specs.declared.rule.Rule.TheVariants.{S8};
-ghost use Rattle.td_store_audit_rows.specs.Kinds.{KeepsRaw};
-ghost use Rattle.td_store_audit.specs.Handed.{IsCoverAuditable, IsCoveredBy, IsHandedOn, raw_holder_of};
+ghost use Rattle.td_store_audit_rows.specs.Untyped.{KeepsUntyped};
+ghost use Rattle.td_store_audit.specs.Tallies.{IsCoverAuditable, IsCoveredBy, IsHandedOn, raw_holder_of};
 ghost use Rattle.td_store_audit.specs.InFile.{IsHolderCoveredInFile, TellsWhere};
 ghost use Rattle.typed_sql.specs.Reading.{OnlyRead};
 ghost use Rattle.td_schema.specs.Tables.{desk_schema};
 
-use crate::handed::HolderParts;
+use crate::tallies::HolderLines;
 use sqlite::{Error, Transaction};
 use sqlite_trees::store::Alter;
 use std::alloc::Global;
@@ -24,13 +24,13 @@ use td_store_rows::{StoredGuarantee, guarantees_of};
 pub(crate) fn cover_keeps_rule<S: Alter>(
     alloc: Global,
     tx: &mut Transaction<'_, S>,
-    handed: &[HolderParts],
+    handed: &[HolderLines],
 ) -> Result<bool, Error>
     requires { HasCleanDisk (state S.Store tx.old.conn.now) → IsTrue (state S.Store tx.old.conn.now).in_transaction }
     ensures same_reference { tx.new.conn.ghost_name ≡ tx.old.conn.ghost_name }
     ensures told { HasCleanDisk (state S.Store tx.new.conn.now)
         → IfOk result (λ keeps. (country : List ℕ)
-        → TellsWhere (IsCoverAuditable country handed.now) (λ trees. KeepsRaw trees S8) (state S.Store tx.old.conn.now) keeps) }
+        → TellsWhere (IsCoverAuditable country handed.now) (λ trees. KeepsUntyped trees S8) (state S.Store tx.old.conn.now) keeps) }
     ensures still { HasCleanDisk (state S.Store tx.new.conn.now)
         → OnOk result (OnlyRead desk_schema (state S.Store tx.old.conn.now) (state S.Store tx.new.conn.now)) }
     ensures inside { HasCleanDisk (state S.Store tx.new.conn.now) → OnOk result (IsTrue (state S.Store tx.new.conn.now).in_transaction) }
@@ -46,7 +46,7 @@ pub(crate) fn cover_keeps_rule<S: Alter>(
 fn all_holders_covered<S: Alter>(
     alloc: Global,
     tx: &mut Transaction<'_, S>,
-    handed: &[HolderParts],
+    handed: &[HolderLines],
 ) -> Result<bool, Error>
     requires { HasCleanDisk (state S.Store tx.old.conn.now) → IsTrue (state S.Store tx.old.conn.now).in_transaction }
     ensures same_reference { tx.new.conn.ghost_name ≡ tx.old.conn.ghost_name }
@@ -72,7 +72,7 @@ fn all_holders_covered<S: Alter>(
 fn is_holder_covered<S: Alter>(
     alloc: Global,
     tx: &mut Transaction<'_, S>,
-    parts: &HolderParts,
+    parts: &HolderLines,
 ) -> Result<bool, Error>
     requires { HasCleanDisk (state S.Store tx.old.conn.now) → IsTrue (state S.Store tx.old.conn.now).in_transaction }
     ensures same_reference { tx.new.conn.ghost_name ≡ tx.old.conn.ghost_name }
@@ -90,7 +90,7 @@ fn is_holder_covered<S: Alter>(
 }
 
 // Whether each of the guarantees in rows is, by the holder's lines and the movements that count.
-fn all_rows_covered(parts: &HolderParts, rows: &[StoredGuarantee]) -> bool
+fn all_rows_covered(parts: &HolderLines, rows: &[StoredGuarantee]) -> bool
     ensures { IsTrue result ↔ AllByRecursion (IsCoveredBy parts.now) rows.now }
 {
     'rows: for row in rows {
@@ -102,7 +102,7 @@ fn all_rows_covered(parts: &HolderParts, rows: &[StoredGuarantee]) -> bool
 }
 
 // Whether the guarantee in a row is.
-fn is_row_covered(parts: &HolderParts, row: &StoredGuarantee) -> bool
+fn is_row_covered(parts: &HolderLines, row: &StoredGuarantee) -> bool
     ensures { IsTrue result ↔ IsCoveredBy parts.now row.now }
 {
     let reference = row.guarantee.reference.get();

@@ -11,13 +11,13 @@ mod connection;
 mod cover;
 mod finding;
 mod guarantees;
-mod handed;
 mod holders;
 mod laws;
 mod lines;
 mod lines_in_place;
 mod movements;
 mod office;
+mod tallies;
 mod texts;
 
 pub use audit::first_broken;

@@ -13,15 +13,15 @@ ghost use Rattle.td_table_model.specs.declared.rule.Rule.TheVariants.{S6};
 ghost use Rattle.td_table_model.specs.Gathering.{part};
 ghost use Rattle.td_store_audit_rows.specs.Fields.{AreLineFields};
 ghost use Rattle.td_store_audit_rows.specs.Scans.{TellsRead};
-ghost use Rattle.td_store_audit_rows.specs.Kinds.{KeepsRaw};
+ghost use Rattle.td_store_audit_rows.specs.Untyped.{KeepsUntyped};
 ghost use Rattle.td_store_audit.specs.Found.{is_of_holder};
-ghost use Rattle.td_store_audit.specs.Handed.{AreAllLines, movements_in, raw_of};
+ghost use Rattle.td_store_audit.specs.Tallies.{AreAllLines, movements_in, raw_of};
 ghost use Rattle.td_store_audit.specs.InPlace.{AreNumbersApart};
 ghost use Rattle.td_store_audit.specs.Premises.{AreLinesAuditable, HasLinesInPlace};
 
 use crate::finding::lines_of_holder;
-use crate::handed::{HolderMovements, HolderParts};
 use crate::lines_in_place::all_lines_are_in_place;
+use crate::tallies::{CountingSerials, HolderLines};
 use sqlite::{Error, Transaction};
 use sqlite_trees::store::Alter;
 use std::alloc::Global;
@@ -68,8 +68,8 @@ fn kept_lines<S: Alter>(
 fn all_kept_lines<S: Alter>(
     alloc: Global,
     tx: &mut Transaction<'_, S>,
-    counting: Vec<HolderMovements>,
-) -> Result<Option<Vec<HolderParts>>, Error>
+    counting: Vec<CountingSerials>,
+) -> Result<Option<Vec<HolderLines>>, Error>
     requires { HasCleanDisk (state S.Store tx.old.conn.now) → IsTrue (state S.Store tx.old.conn.now).in_transaction }
     ensures same_reference { tx.new.conn.ghost_name ≡ tx.old.conn.ghost_name }
     ensures told { HasCleanDisk (state S.Store tx.new.conn.now)
@@ -92,7 +92,7 @@ fn all_kept_lines<S: Alter>(
         let Some(lines) = kept_lines(alloc, tx, &movements.raw)? else {
             return Ok(None);
         };
-        handed.push(HolderParts { movements, lines })?;
+        handed.push(HolderLines { movements, lines })?;
     }
     Ok(Some(handed))
 }
@@ -105,14 +105,14 @@ fn all_kept_lines<S: Alter>(
 pub(crate) fn lines_keep_rule<S: Alter>(
     alloc: Global,
     tx: &mut Transaction<'_, S>,
-    counting: Vec<HolderMovements>,
+    counting: Vec<CountingSerials>,
     are_read: bool,
-) -> Result<Option<Vec<HolderParts>>, Error>
+) -> Result<Option<Vec<HolderLines>>, Error>
     requires { HasCleanDisk (state S.Store tx.old.conn.now) → IsTrue (state S.Store tx.old.conn.now).in_transaction }
     ensures same_reference { tx.new.conn.ghost_name ≡ tx.old.conn.ghost_name }
     ensures told { HasCleanDisk (state S.Store tx.new.conn.now)
         → IfOk result (λ found. AreLinesAuditable (state S.Store tx.old.conn.now) (map raw_of counting.items)
-        → TellsRead line_typing AreLineFields (state S.Store tx.old.conn.now).now.trees are_read → IsTrue (is_some found) ↔ KeepsRaw (state S.Store tx.old.conn.now).now.trees S6) }
+        → TellsRead line_typing AreLineFields (state S.Store tx.old.conn.now).now.trees are_read → IsTrue (is_some found) ↔ KeepsUntyped (state S.Store tx.old.conn.now).now.trees S6) }
     ensures movements { IfOk result (λ found. IfSome found (λ each. map movements_in each.items ≡ counting.items)) }
     ensures handed { HasCleanDisk (state S.Store tx.new.conn.now)
         → IfOk result (λ found. IfSome found (λ each. AreAllLines (state S.Store tx.old.conn.now) each.items)) }

@@ -10,12 +10,12 @@ ghost use Rattle.td_table_model.specs.declared.rule.Rule.TheVariants.{S5};
 ghost use Rattle.td_store_audit_rows.specs.Fields.{AreMovementFields};
 ghost use Rattle.td_store_audit_rows.specs.Scans.{TellsRead};
 ghost use Rattle.td_store_audit.specs.Auditable.{TellsRule};
-ghost use Rattle.td_store_audit.specs.Handed.{AreAllCounting, AreCounting, is_counting_row, raw_of};
+ghost use Rattle.td_store_audit.specs.Tallies.{AreAllCounting, AreCounting, is_counting_row, raw_of};
 ghost use Rattle.td_store_audit.specs.InFile.{AreTypedApart, HasMovementsInPlace, IsSoWhere, TellsWhere};
 ghost use Rattle.typed_sql.specs.Reading.{OnlyRead};
 ghost use Rattle.td_schema.specs.Tables.{desk_schema};
 
-use crate::handed::HolderMovements;
+use crate::tallies::CountingSerials;
 use sqlite::{Error, Transaction};
 use sqlite_trees::store::Alter;
 use std::alloc::{AllocError, Global};
@@ -35,7 +35,7 @@ pub(crate) fn movements_keep_rule<S: Alter>(
     country: Country,
     holders: &[RawHolder],
     are_read: bool,
-) -> Result<Option<Vec<HolderMovements>>, Error>
+) -> Result<Option<Vec<CountingSerials>>, Error>
     requires { HasCleanDisk (state S.Store tx.old.conn.now) → IsTrue (state S.Store tx.old.conn.now).in_transaction }
     ensures same_reference { tx.new.conn.ghost_name ≡ tx.old.conn.ghost_name }
     ensures told { HasCleanDisk (state S.Store tx.new.conn.now)
@@ -65,7 +65,7 @@ fn all_kept_movements<S: Alter>(
     tx: &mut Transaction<'_, S>,
     country: Country,
     holders: &[RawHolder],
-) -> Result<Option<Vec<HolderMovements>>, Error>
+) -> Result<Option<Vec<CountingSerials>>, Error>
     requires { HasCleanDisk (state S.Store tx.old.conn.now) → IsTrue (state S.Store tx.old.conn.now).in_transaction }
     ensures same_reference { tx.new.conn.ghost_name ≡ tx.old.conn.ghost_name }
     ensures told { HasCleanDisk (state S.Store tx.new.conn.now)
@@ -97,7 +97,7 @@ fn kept_movements<S: Alter>(
     tx: &mut Transaction<'_, S>,
     country: Country,
     raw: &RawHolder,
-) -> Result<Option<HolderMovements>, Error>
+) -> Result<Option<CountingSerials>, Error>
     requires { HasCleanDisk (state S.Store tx.old.conn.now) → IsTrue (state S.Store tx.old.conn.now).in_transaction }
     ensures same_reference { tx.new.conn.ghost_name ≡ tx.old.conn.ghost_name }
     ensures told { HasCleanDisk (state S.Store tx.new.conn.now)
@@ -121,7 +121,7 @@ fn kept_movements<S: Alter>(
         return Ok(None);
     }
     let serials = counting_in(alloc, &rows)?;
-    Ok(Some(HolderMovements { raw: *raw, serials }))
+    Ok(Some(CountingSerials { raw: *raw, serials }))
 }
 
 // The serials of the movements in rows that count, in their order. `AllocError`: want of memory.

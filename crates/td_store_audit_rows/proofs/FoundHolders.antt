@@ -9,15 +9,14 @@ use Rattle.sqlite_value.specs.Order.{Row}
 use Rattle.td_model.specs.declared.holder_row.HolderRow.{HolderRow}
 use Rattle.td_base.specs.Codes.{IsHolderNumber}
 use Rattle.keyed_rows.specs.Rows.{Rises}
-use Rattle.td_table_model.specs.Apart.{IsApart}
-use Rattle.td_table_model.specs.Gathering.{holder_no, of_key}
+use Rattle.td_table_model.specs.Gathering.{IsApart, holder_no, of_key}
 use Rattle.td_table_model.proofs.Numbered.{map_same}
 use Rattle.td_table_model.proofs.Orders.{apart_permuted, rises_apart}
 use Rattle.typed_sql.specs.Typed.{row_of, typed_rows}
 use Rattle.td_store_rows.specs.Columns.{holder_typing}
 use Rattle.td_store_audit_rows.specs.Found.{FoundHoldersTell, HasGrns, HasMrns, grn_pair, mrn_pair, raw_grn_pair, raw_mrn_pair}
 use Rattle.td_store_audit_rows.specs.Holders.{AreHoldersIn, HolderFields, NumbersRise, fields_of, fields_of_raw}
-use Rattle.td_store_audit_rows.specs.Kinds.{HasGrnCount, HasMrnCount, HasNumber}
+use Rattle.td_store_audit_rows.specs.Untyped.{HasGrnCount, HasMrnCount, HasNumber}
 use Rattle.td_store_audit_rows.specs.declared.holders.RawHolder.{RawHolder}
 use Rattle.td_store_audit_rows.proofs.Identities.{fields_tell, tell_s2}
 

@@ -14,7 +14,7 @@ use Rattle.typed_sql.specs.Values.{number_in, text_in}
 use Rattle.td_table_model.specs.Rules.{IsHolderInRange}
 use Rattle.std.specs.Prelude.{IsSome}
 use Rattle.td_store_audit_rows.specs.Holders.{fields_of}
-use Rattle.td_store_audit_rows.specs.Kinds.{HasIdentity}
+use Rattle.td_store_audit_rows.specs.Untyped.{HasIdentity}
 use Rattle.td_store_audit_rows.specs.Told.{FieldsTell, HolderFieldsTell, HoldersTellS2}
 use Rattle.td_store_audit_rows.proofs.Fields.{eori_field, holder_field, moment_field, serial_field}
 use Rattle.td_store_audit_rows.proofs.Raw.{number_read, text_read}

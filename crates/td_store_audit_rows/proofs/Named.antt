@@ -5,8 +5,7 @@ use Rattle.std.specs.Bool.{Decides}
 use Rattle.std.specs.Prelude.{◌||◌, ◌==◌, ◌&&◌, nat_le}
 use Rattle.std.specs.List.{list_all, list_any}
 use Rattle.td_base.proofs.Decided.{le_decided}
-use Rattle.td_table_model.specs.Apart.{IsApart}
-use Rattle.td_table_model.specs.Gathering.{place}
+use Rattle.td_table_model.specs.Gathering.{IsApart, place}
 use Rattle.td_table_model.specs.Tables.{Keyed}
 use Rattle.td_store_audit_rows.specs.InPlace.{BelongTo}
 

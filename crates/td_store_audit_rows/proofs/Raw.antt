@@ -20,7 +20,7 @@ use Rattle.typed_sql.specs.Typed.{IsTypedRow, row_of}
 use Rattle.typed_sql.specs.Values.{number_in, number_value, text_in}
 use Rattle.td_store_rows.specs.Columns.{meta_typing, holder_typing}
 use Rattle.td_store_rows.specs.StoreTables.{AreAllTyped, country_in, tables_in}
-use Rattle.td_store_audit_rows.specs.Kinds.{AreOfKind, HasGrnCount, HasIdentity, HasMrnCount, HasNumber, IsNumber, IsText}
+use Rattle.td_store_audit_rows.specs.Untyped.{HasColumnTypes, HasGrnCount, HasIdentity, HasMrnCount, HasNumber, IsNumber, IsText}
 use Rattle.td_store_audit_rows.specs.Laws.{AreKept, ContentKeepsRules, KeptRulesMeanContent}
 
 -- what is a number, or a text, is read as that
@@ -43,7 +43,7 @@ holders_typed [] number identity grns mrns = tt
 holders_typed (r ∷ rows) number identity grns mrns =
     (holder_typed r number.0 identity.0 grns.0 mrns.0, holders_typed rows number.1 identity.1 grns.1 mrns.1)
 
-all_typed : (trees : Trees) → AreKept trees → ((rule : Rule) → AreOfKind rule trees) → AreAllTyped trees
+all_typed : (trees : Trees) → AreKept trees → ((rule : Rule) → HasColumnTypes rule trees) → AreAllTyped trees
 all_typed trees kept kinds = record {
   meta = record { ids = kept.ids.meta; cells = (kinds S1).1 };
   holders = record {
@@ -92,7 +92,7 @@ one_row (r ∷ rows) most is = omega (arith, most)
 
 -- the columns of typed rows are of their kinds
 kinds_kept : (trees : Trees) → AreAllTyped trees → length (trees meta_typing.table.tree) ≤ 1 → IsCountry (tables_in trees).country
-    → (rule : Rule) → AreOfKind rule trees
+    → (rule : Rule) → HasColumnTypes rule trees
 kinds_kept trees typed most country S1 = (one_row (trees meta_typing.table.tree) most country, typed.meta.cells)
 kinds_kept trees typed most country S2 =
     all_weaker (IsTypedRow holder_typing) HasIdentity

@@ -15,8 +15,7 @@ use Rattle.td_time.specs.Days.{year_of}
 use Rattle.td_movement.specs.declared.movement.Movement.{Movement}
 use Rattle.td_model.specs.declared.holder_row.HolderRow.{HolderRow}
 use Rattle.td_commands.specs.Lines.{IsLineAmount}
-use Rattle.td_table_model.specs.Apart.{IsApart}
-use Rattle.td_table_model.specs.Gathering.{guarantees_by, holder_no, in_order, lines_by, movements_by, no_of, of_key, owner, part, place}
+use Rattle.td_table_model.specs.Gathering.{IsApart, guarantees_by, holder_no, in_order, lines_by, movements_by, no_of, of_key, owner, part, place}
 use Rattle.td_table_model.specs.Rules.{AreLinesInRange, HasCodes, HasGuarantees, HasLines, HasMovements, IsGuaranteeInRange, IsMovementInRange, named_by}
 use Rattle.td_table_model.specs.Stored.{AreOfHolders}
 use Rattle.td_table_model.specs.Tables.{Keyed, LineCells, Tables}

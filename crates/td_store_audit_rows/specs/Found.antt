@@ -6,12 +6,11 @@ use Rattle.sqlite_trees.specs.Tree.{Trees}
 use Rattle.td_model.specs.declared.holder_row.HolderRow.{HolderRow}
 use Rattle.td_base.specs.Codes.{IsHolderNumber}
 use Rattle.td_table_model.specs.declared.rule.Rule.TheVariants.{S2}
-use Rattle.td_table_model.specs.Apart.{IsApart}
-use Rattle.td_table_model.specs.Gathering.{holder_no}
+use Rattle.td_table_model.specs.Gathering.{IsApart, holder_no}
 use Rattle.typed_sql.specs.Typed.{row_of, typed_rows}
 use Rattle.td_store_rows.specs.Columns.{holder_typing}
 use Rattle.td_store_audit_rows.specs.Holders.{AreHoldersIn, NumbersRise}
-use Rattle.td_store_audit_rows.specs.Kinds.{AllRows, HasGrnCount, HasMrnCount, HasNumber, KeepsRaw}
+use Rattle.td_store_audit_rows.specs.Untyped.{AllRows, HasGrnCount, HasMrnCount, HasNumber, KeepsUntyped}
 use Rattle.td_store_audit_rows.specs.declared.holders.RawHolder.{RawHolder}
 
 -- a holder's number with the count of guarantees, and with that of movements; 0 where there is no count
@@ -44,7 +43,7 @@ pub record TellOfHolders (trees : Trees) (found : List RawHolder) : Type 0 where
   pub numbers : AllByRecursion (λ (row : HolderRow). IsHolderNumber row.holder) (typed_rows holder_typing trees)
   pub apart : IsApart holder_no (typed_rows holder_typing trees)
   pub same : IsPermutation (map holder_no (typed_rows holder_typing trees)) (map (λ (h : RawHolder). h.holder) found)
-  pub identity : KeepsRaw trees S2 ↔ AllByRecursion HasFieldsOfS2 found
+  pub identity : KeepsUntyped trees S2 ↔ AllByRecursion HasFieldsOfS2 found
   pub grn_kinds : AllRows holder_typing (λ r. HasGrnCount r × ((row_of holder_typing r).grn_count < 2 ^ 32)) trees
       ↔ AllByRecursion HasGrns found
   pub mrn_kinds : AllRows holder_typing (λ r. HasMrnCount r × ((row_of holder_typing r).mrn_count < 2 ^ 32)) trees

@@ -7,8 +7,7 @@ use Rattle.td_guarantee.specs.declared.guarantee.Guarantee.{Guarantee}
 use Rattle.td_movement.specs.declared.movement.Movement.{Movement}
 use Rattle.td_movement.specs.Status.{HasDaysOf}
 use Rattle.td_commands.specs.Lines.{IsLineAmount}
-use Rattle.td_table_model.specs.Apart.{IsApart, IsNumbered}
-use Rattle.td_table_model.specs.Gathering.{no_of, place}
+use Rattle.td_table_model.specs.Gathering.{IsApart, IsNumbered, no_of, place}
 use Rattle.td_table_model.specs.Rules.{named_by}
 use Rattle.td_table_model.specs.Tables.{Keyed, LineCells}
 use Rattle.td_movement.specs.Lines.{most_lines}

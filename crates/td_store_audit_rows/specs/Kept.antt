@@ -5,8 +5,7 @@ use Rattle.td_base.specs.Codes.{IsHolderNumber}
 use Rattle.td_guarantee.specs.declared.guarantee.Guarantee.{Guarantee}
 use Rattle.td_movement.specs.declared.movement.Movement.{Movement}
 use Rattle.td_model.specs.declared.holder_row.HolderRow.{HolderRow}
-use Rattle.td_table_model.specs.Apart.{IsApart, IsTextApart}
-use Rattle.td_table_model.specs.Gathering.{holder_no, no_of, of_key, part, place}
+use Rattle.td_table_model.specs.Gathering.{IsApart, IsTextApart, holder_no, no_of, of_key, part, place}
 use Rattle.td_table_model.specs.Stored.{AreOfHolders}
 use Rattle.td_table_model.specs.Tables.{Keyed, Tables}
 

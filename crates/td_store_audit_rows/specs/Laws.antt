@@ -9,7 +9,7 @@ use Rattle.td_store_rows.specs.Columns.{meta_typing, holder_typing, guarantee_ty
 use Rattle.td_store_rows.specs.StoreTables.{AreAllTyped, tables_in, HoldSoundContent}
 use Rattle.td_store_audit_rows.specs.Ids.{HaveAllIds}
 use Rattle.td_store_audit_rows.specs.Kept.{AreCodesKept, AreGuaranteesKept, AreHoldersKept, AreLinesKept, AreMovementsKept}
-use Rattle.td_store_audit_rows.specs.Kinds.{AllRows, HasNumber, KeepsRaw}
+use Rattle.td_store_audit_rows.specs.Untyped.{AllRows, HasNumber, KeepsUntyped}
 
 -- What the database itself keeps of the tables: the rowids, the holders' numbers, and of each other table whose rows are typed
 -- its keys and references.
@@ -24,10 +24,10 @@ pub record AreKept (trees : Trees) : Type 0 where
 
 -- tables that keep each rule as they stand hold sound content
 abbrev pub KeptRulesMeanContent : Type 0
-KeptRulesMeanContent = (trees : Trees) → AreKept trees → ((rule : Rule) → KeepsRaw trees rule) → HoldSoundContent trees
+KeptRulesMeanContent = (trees : Trees) → AreKept trees → ((rule : Rule) → KeepsUntyped trees rule) → HoldSoundContent trees
 
 -- and typed tables of sound content, in which the office has one row at most, keep each rule as they stand
 abbrev pub ContentKeepsRules : Type 0
 ContentKeepsRules =
     (trees : Trees) (c : Content) → AreAllTyped trees → length (trees meta_typing.table.tree) ≤ 1 → IsSound c
-    → AreTablesOf (tables_in trees) c → (rule : Rule) → KeepsRaw trees rule
+    → AreTablesOf (tables_in trees) c → (rule : Rule) → KeepsUntyped trees rule

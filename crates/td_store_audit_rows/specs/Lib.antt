@@ -1,4 +1,4 @@
-pub mod Kinds
+pub mod Untyped
 pub mod Kept
 pub mod Ids
 pub mod Laws

@@ -15,7 +15,7 @@ use Rattle.td_schema.specs.Fields.{amount_in, code_in, cover_in, day_in, grn_in,
 use Rattle.sqlite_trees.specs.Tree.{Trees}
 use Rattle.td_store_rows.specs.Columns.{code_typing, guarantee_typing, line_typing, movement_typing}
 use Rattle.td_store_audit_rows.specs.Fields.{AreCodeFields, AreGuaranteeFields, AreLineFields, AreMovementFields}
-use Rattle.td_store_audit_rows.specs.Kinds.{AllRows}
+use Rattle.td_store_audit_rows.specs.Untyped.{AllRows}
 use Rattle.td_store_audit_rows.specs.declared.tables.Readable.{Readable}
 
 -- the columns that a statement shows of a row first, after its rowid, are a holder's number and a serial

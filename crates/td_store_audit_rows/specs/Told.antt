@@ -6,9 +6,8 @@ use Rattle.sqlite_trees.specs.Tree.{Trees}
 use Rattle.td_model.specs.declared.holder_row.HolderRow.{HolderRow}
 use Rattle.td_base.specs.Codes.{IsCountry, IsHolderNumber}
 use Rattle.td_table_model.specs.declared.rule.Rule.TheVariants.{S2, S3, S4, S5, S6}
-use Rattle.td_table_model.specs.Apart.{IsApart}
 use Rattle.td_table_model.specs.Rules.{Keeps, IsHolderInRange}
-use Rattle.td_table_model.specs.Gathering.{no_of, of_key, part, place}
+use Rattle.td_table_model.specs.Gathering.{IsApart, no_of, of_key, part, place}
 use Rattle.td_table_model.specs.Stored.{AreOfHolders}
 use Rattle.td_table_model.specs.Tables.{Tables}
 use Rattle.typed_sql.specs.Typed.{row_of}
@@ -16,7 +15,7 @@ use Rattle.td_store_rows.specs.Columns.{holder_typing, guarantee_typing, code_ty
 use Rattle.td_store_rows.specs.StoreTables.{tables_in}
 use Rattle.td_store_audit_rows.specs.Fields.{AreCodeFields, AreGuaranteeFields, AreLineFields, AreMovementFields}
 use Rattle.td_store_audit_rows.specs.Holders.{fields_of}
-use Rattle.td_store_audit_rows.specs.Kinds.{AllRows, HasGrnCount, HasIdentity, HasMrnCount, HasNumber, KeepsRaw}
+use Rattle.td_store_audit_rows.specs.Untyped.{AllRows, HasGrnCount, HasIdentity, HasMrnCount, HasNumber, KeepsUntyped}
 use Rattle.td_store_audit_rows.specs.Scans.{IsReadRow}
 
 -- the fields of a holder's row are there exactly where its columns are of their kinds and in range: a count has 32 bits
@@ -40,7 +39,7 @@ HolderFieldsTell = (r : Row) → FieldsTell r × FieldsAreThose r
 -- so S2 is kept exactly where each holder's EORI and moment are there
 abbrev pub HoldersTellS2 : Type 0
 HoldersTellS2 =
-    (trees : Trees) → KeepsRaw trees S2
+    (trees : Trees) → KeepsUntyped trees S2
     ↔ AllRows holder_typing (λ r. IsSome (fields_of r).eori × IsSome (fields_of r).last_at) trees
 
 -- what a rule is asked after: the holders' numbers are in range, and the country is one
@@ -52,20 +51,20 @@ pub record HaveOwners (t : Tables) : Type 0 where
 abbrev pub GuaranteesAreRead : Type 0
 GuaranteesAreRead =
     (trees : Trees) → HaveOwners (tables_in trees) → AreOfHolders (tables_in trees).holders (tables_in trees).guarantees
-    → ((H : ℕ) → IsApart place (part H (tables_in trees).guarantees)) → KeepsRaw trees S3
+    → ((H : ℕ) → IsApart place (part H (tables_in trees).guarantees)) → KeepsUntyped trees S3
     → AllRows guarantee_typing (IsReadRow guarantee_typing AreGuaranteeFields) trees
 
 -- where S4 is kept, and S3 was, each row of codes is read
 abbrev pub CodesAreRead : Type 0
 CodesAreRead =
     (trees : Trees) → HaveOwners (tables_in trees) → AreOfHolders (tables_in trees).holders (tables_in trees).codes
-    → Keeps (tables_in trees) S3 → KeepsRaw trees S4 → AllRows code_typing (IsReadRow code_typing AreCodeFields) trees
+    → Keeps (tables_in trees) S3 → KeepsUntyped trees S4 → AllRows code_typing (IsReadRow code_typing AreCodeFields) trees
 
 -- where S5 is kept each row of movements is read, if each is of a holder that is there, and no two of one have one serial
 abbrev pub MovementsAreRead : Type 0
 MovementsAreRead =
     (trees : Trees) → HaveOwners (tables_in trees) → AreOfHolders (tables_in trees).holders (tables_in trees).movements
-    → ((H : ℕ) → IsApart place (part H (tables_in trees).movements)) → KeepsRaw trees S5
+    → ((H : ℕ) → IsApart place (part H (tables_in trees).movements)) → KeepsUntyped trees S5
     → AllRows movement_typing (IsReadRow movement_typing AreMovementFields) trees
 
 -- where S6 is kept, and S3 and S5 were, each row of lines is read, if no two lines of a movement have one number
@@ -73,5 +72,5 @@ abbrev pub LinesAreRead : Type 0
 LinesAreRead =
     (trees : Trees) → HaveOwners (tables_in trees) → AreOfHolders (tables_in trees).holders (tables_in trees).lines
     → ((H n : ℕ) → IsApart no_of (of_key place n (part H (tables_in trees).lines)))
-    → Keeps (tables_in trees) S3 → Keeps (tables_in trees) S5 → KeepsRaw trees S6
+    → Keeps (tables_in trees) S3 → Keeps (tables_in trees) S5 → KeepsUntyped trees S6
     → AllRows line_typing (IsReadRow line_typing AreLineFields) trees

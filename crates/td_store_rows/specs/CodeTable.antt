@@ -4,8 +4,7 @@ use Rattle.sqlite.specs.State.{State}
 use Rattle.std.specs.List.{AllByRecursion}
 use Rattle.sqlite_trees.specs.Tree.{Trees}
 use Rattle.td_base.specs.Codes.{IsAccessCode}
-use Rattle.td_table_model.specs.Apart.{IsTextApart}
-use Rattle.td_table_model.specs.Gathering.{code_rank, in_order, of_key, part, place}
+use Rattle.td_table_model.specs.Gathering.{IsTextApart, code_rank, in_order, of_key, part, place}
 use Rattle.td_table_model.specs.Tables.{Keyed}
 use Rattle.td_schema.specs.Tables.{desk_schema}
 use Rattle.typed_sql.specs.Typed.{AreThose, AreTyped, Turns, typed_rows}

@@ -5,8 +5,7 @@ use Rattle.std.specs.Str.{bytes_eq}
 use Rattle.td_guarantee.specs.declared.guarantee.Guarantee.{Guarantee}
 use Rattle.td_acts.specs.Changes.{with_terms}
 use Rattle.td_acts.specs.declared.rows.NewTerms.{NewTerms}
-use Rattle.td_table_model.specs.Apart.{IsApart}
-use Rattle.td_table_model.specs.Gathering.{in_order, place}
+use Rattle.td_table_model.specs.Gathering.{IsApart, in_order, place}
 use Rattle.td_table_model.specs.Tables.{Keyed}
 use Rattle.td_schema.specs.Tables.{desk_schema}
 use Rattle.typed_sql.specs.Typed.{AreThose, AreTyped, Turns, typed_rows}

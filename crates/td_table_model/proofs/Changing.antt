@@ -17,11 +17,10 @@ use Rattle.td_acts.specs.declared.rows.NewStatus.{NewStatus}
 use Rattle.td_acts.specs.declared.rows.NewTerms.{NewTerms}
 use Rattle.td_acts.specs.declared.rows.Change.{Change}
 use Rattle.td_acts.specs.declared.rows.Change.TheVariants as change
-use Rattle.td_model.specs.Account.{HolderRows, at_grn, coded, uncoded, guarantee_by_grn}
+use Rattle.td_model.specs.Account.{HolderRows, at_grn, coded, guarantee_by_grn, holder_key, uncoded}
 use Rattle.td_acts.specs.Changes.{with_terms, moved, row_in, rows_after, rows_or_new}
 use Rattle.td_model.specs.Sound.{AreHolderRows, AllNumbered, IsGuaranteeRow}
 use Rattle.td_model.specs.Table.{stands}
-use Rattle.td_holder_memory.specs.Key.{holder_key}
 use Rattle.td_desk.specs.Content.{Content, rows_of, content_after, content_after_row, IsSound}
 use Rattle.td_table_model.specs.Tables.{Keyed, Tables, AreTablesOf, numbered, guarantee_row, guarantee_no, code_row, code_rows, movement_row, line_rows, guarantees_in, code_rows_of, movements_in, line_rows_of}
 use Rattle.td_table_model.specs.Gathering.{owner, holder_no, content_of}

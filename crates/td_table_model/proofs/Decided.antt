@@ -16,13 +16,12 @@ use Rattle.td_model.specs.declared.holder_row.HolderRow.{HolderRow}
 use Rattle.td_acts.specs.declared.rows.Verdict.{Verdict}
 use Rattle.td_acts.specs.declared.rows.Change.{Change}
 use Rattle.td_acts.specs.declared.rows.Change.TheVariants as change
-use Rattle.td_model.specs.Account.{Account, HolderRows, guarantee_by_grn}
+use Rattle.td_model.specs.Account.{Account, HolderRows, guarantee_by_grn, holder_key}
 use Rattle.td_model.specs.Machine.{is_accepted_at}
 use Rattle.td_acts.specs.Deciding.{change_of, change_in, decision_on}
 use Rattle.td_model.specs.Table.{stands}
 use Rattle.td_acts.proofs.Accepted.{IsFor, named_facts, passed}
 use Rattle.td_acts.proofs.AcceptedRows.{change_in_is_for, moment_is, nobody_writes}
-use Rattle.td_holder_memory.specs.Key.{holder_key}
 use Rattle.td_desk.specs.Content.{Content, rows_of, account_in, content_after, IsSound}
 use Rattle.td_desk.specs.Weighing.{account_for, owner_account, IsDecision}
 use Rattle.td_desk.proofs.Carrying.{carries}

@@ -15,9 +15,8 @@ use Rattle.td_guarantee.specs.Usage.{cents_on, lines_on, movement_on, used_on}
 use Rattle.td_movement.specs.declared.line.Line.{Line}
 use Rattle.td_movement.specs.declared.movement.Movement.{Movement}
 use Rattle.td_movement.specs.States.{is_counting}
-use Rattle.td_model.specs.Account.{HolderRows, guarantee_by_grn}
+use Rattle.td_model.specs.Account.{HolderRows, guarantee_by_grn, holder_key}
 use Rattle.td_model.specs.Sound.{AreHolderRows, IsMovementRow}
-use Rattle.td_holder_memory.specs.Key.{holder_key}
 use Rattle.td_desk.specs.Content.{Content, account_in, rows_of, IsSound}
 use Rattle.td_table_model.specs.Tables.{Keyed, LineCells, Tables, AreTablesOf, numbered, guarantee_row, guarantee_no, movement_row, line_row, line_rows, movements_in, line_rows_of}
 use Rattle.td_table_model.specs.Gathering.{of_key, owner, place, part}

@@ -8,7 +8,6 @@ use Rattle.std.proofs.lemmas.List.{length-map}
 use Rattle.sqlite_trees.proofs.ListLemmas.{filter-map, all_of, all_weaker, all-flat_map, all-map, all_from_map, all-permutation, IsPermutation-filter}
 use Rattle.keyed_rows.specs.Rows.{row_at}
 use Rattle.keyed_rows.proofs.Putting.{All-row_at}
-use Rattle.td_table_model.specs.Apart.{IsApart, IsTextApart}
 use Rattle.std.specs.Ordering.{nat_cmp}
 use Rattle.std.specs.declared.cmp.Ordering.TheVariants.{Less, Equal}
 use Rattle.std.specs.Cmp.Lexicographic.{slice_cmp}
@@ -19,12 +18,11 @@ use Rattle.td_guarantee.specs.declared.guarantee.Guarantee.{Guarantee}
 use Rattle.td_guarantee.specs.Codes.{AreAscending}
 use Rattle.td_movement.specs.declared.movement.Movement.{Movement}
 use Rattle.td_model.specs.declared.holder_row.HolderRow.{HolderRow}
-use Rattle.td_model.specs.Account.{HolderRows}
+use Rattle.td_model.specs.Account.{HolderRows, holder_key}
 use Rattle.td_model.specs.Sound.{AreHolderRows, IsGuaranteeRow}
-use Rattle.td_holder_memory.specs.Key.{holder_key}
 use Rattle.td_desk.specs.Content.{Content, IsSound}
 use Rattle.td_table_model.specs.Tables.{Keyed, Tables, AreTablesOf, numbered, guarantee_row, code_row, code_rows, movement_row, line_rows, guarantees_in, code_rows_of, movements_in, line_rows_of}
-use Rattle.td_table_model.specs.Gathering.{of_key, owner, place, no_of, holder_no, part}
+use Rattle.td_table_model.specs.Gathering.{IsApart, IsTextApart, holder_no, no_of, of_key, owner, part, place}
 use Rattle.td_table_model.specs.Stored.{AreStored, AreOfHolders}
 use Rattle.td_table_model.proofs.Orders.{apart_permuted, rises_apart, rises-map, each_found, found_in_order}
 use Rattle.td_table_model.proofs.Grouped.{flat_of}

@@ -6,7 +6,6 @@ use Rattle.std.proofs.lemmas.List.{length-map}
 use Rattle.std.proofs.lemmas.List.Sorted.{length_permutation}
 use Rattle.sqlite_trees.proofs.ListLemmas.{all_of, all_weaker, all_both, all-flat_map, all-map, all_from_map, all-permutation, all-get_or, IsPermutation-filter}
 use Rattle.keyed_rows.specs.Rows.{row_at}
-use Rattle.td_table_model.specs.Apart.{IsApart}
 use Rattle.std.proofs.lemmas.List.Elements.{recursion_from_All}
 use Rattle.td_base.specs.Codes.{IsAccessCode, IsCountry}
 use Rattle.td_guarantee.specs.declared.guarantee.Guarantee.{Guarantee}
@@ -18,7 +17,7 @@ use Rattle.td_model.specs.Sound.{AreHolderRows, IsGuaranteeRow, IsMovementRow, I
 use Rattle.td_acts.proofs.Joined.{AllPairs-map}
 use Rattle.td_desk.specs.Content.{Content, IsSound}
 use Rattle.td_table_model.specs.Tables.{Keyed, LineCells, Tables, AreTablesOf, numbered, guarantee_row, guarantee_no, code_row, code_rows, movement_row, line_row, line_rows, guarantees_in, code_rows_of, movements_in, line_rows_of}
-use Rattle.td_table_model.specs.Gathering.{of_key, place, no_of, part, guarantees_by, movements_by, lines_by}
+use Rattle.td_table_model.specs.Gathering.{IsApart, guarantees_by, lines_by, movements_by, no_of, of_key, part, place}
 use Rattle.td_table_model.specs.Rules.{IsGuaranteeInRange, HasGuarantees, HasCodes, IsMovementInRange, HasMovements, AreLinesInRange, HasLines, KeepsRules, KeepRules, count_of_codes, named_by}
 use Rattle.td_table_model.proofs.Orders.{each_found}
 use Rattle.td_table_model.proofs.Grouped.{flat_each}

@@ -8,16 +8,14 @@ use Rattle.std.proofs.lemmas.List.Sorted.{IsPermutation-sym, length_permutation}
 use Rattle.sqlite_trees.proofs.ListLemmas.{all-permutation, IsPermutation-filter}
 use Rattle.keyed_rows.specs.Rows.{row_at}
 use Rattle.keyed_rows.proofs.Putting.{row_at_has, All-row_at}
-use Rattle.td_table_model.specs.Apart.{IsApart, IsTextApart}
 use Rattle.td_guarantee.specs.declared.guarantee.Guarantee.{Guarantee}
 use Rattle.td_movement.specs.declared.movement.Movement.{Movement}
-use Rattle.td_model.specs.Account.{HolderRows, ReferencesDiffer}
+use Rattle.td_model.specs.Account.{HolderRows, ReferencesDiffer, holder_key}
 use Rattle.td_model.specs.Sound.{AreHolderRows}
-use Rattle.td_holder_memory.specs.Key.{holder_key}
 use Rattle.td_desk.specs.Content.{Content, account_in, rows_of, IsSound}
 use Rattle.td_desk.proofs.Differing.{references_differ}
 use Rattle.td_table_model.specs.Tables.{Keyed, Tables, AreTablesOf, guarantees_in, movements_in}
-use Rattle.td_table_model.specs.Gathering.{in_order, owner, place, holder_no, part, guarantees_by, movements_by, with_codes, with_lines}
+use Rattle.td_table_model.specs.Gathering.{IsApart, IsTextApart, guarantees_by, holder_no, in_order, movements_by, owner, part, place, with_codes, with_lines}
 use Rattle.td_table_model.specs.Stored.{AreStored}
 use Rattle.td_table_model.specs.Looking.{account_by, AreFoundIn}
 use Rattle.td_table_model.proofs.Orders.{found_in_order, in_order_permutes}

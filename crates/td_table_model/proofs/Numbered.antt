@@ -2,7 +2,7 @@
 use Rattle.std.proofs.Common.{◌≡◌, ℕ, suc, ◌+◌, List, [], ◌∷◌, ◌++◌, length, map, refl, ◌∙◌, ap, ap₂, arith}
 use Rattle.std.specs.List.{AllByRecursion}
 use Rattle.keyed_rows.specs.Rows.{Rises}
-use Rattle.td_table_model.specs.Apart.{IsNumbered}
+use Rattle.td_table_model.specs.Gathering.{IsNumbered}
 use Rattle.td_table_model.proofs.Orders.{rises_lower}
 use Rattle.td_model.specs.Sound.{AllNumbered}
 use Rattle.td_table_model.specs.Tables.{numbered}

@@ -9,8 +9,7 @@ use Rattle.std.specs.Ordering.{is_lt, nat_cmp}
 use Rattle.sqlite_trees.proofs.ListLemmas.{all_weaker, all_both, along_permutation, IsPermutation-filter}
 use Rattle.keyed_rows.specs.Rows.{row_at, Rises, put_row}
 use Rattle.keyed_rows.proofs.Putting.{Rises-put_row, row_at-put_row_same, row_at-put_row_other}
-use Rattle.td_table_model.specs.Apart.{IsApart}
-use Rattle.td_table_model.specs.Gathering.{in_order, of_key}
+use Rattle.td_table_model.specs.Gathering.{IsApart, in_order, of_key}
 
 module _ {R : Type 0} (key : R → ℕ) where
   -- rows in order rise

@@ -5,8 +5,7 @@ use Rattle.sqlite_trees.proofs.ListLemmas.{all_of, all-flat_map, all-map}
 use Rattle.keyed_rows.specs.Rows.{Rises}
 use Rattle.td_guarantee.specs.declared.guarantee.Guarantee.{Guarantee}
 use Rattle.td_movement.specs.declared.movement.Movement.{Movement}
-use Rattle.td_model.specs.Account.{HolderRows}
-use Rattle.td_holder_memory.specs.Key.{holder_key}
+use Rattle.td_model.specs.Account.{HolderRows, holder_key}
 use Rattle.td_table_model.specs.Tables.{numbered, guarantee_row, code_row, code_rows, movement_row, line_row, line_rows, guarantees_in, code_rows_of, movements_in, line_rows_of}
 use Rattle.td_model.specs.Sound.{AreCodes}
 use Rattle.td_base.specs.Codes.{IsAccessCode}

@@ -7,7 +7,7 @@ use Rattle.std.proofs.lemmas.Bool.Decides.{nat_tests}
 use Rattle.std.proofs.lemmas.List.Sorted.{length_permutation}
 use Rattle.std.proofs.lemmas.Slice.Eq.{bytes_eq-Decides}
 use Rattle.sqlite_trees.proofs.ListLemmas.{all_weaker, all-get_or, filter_none, IsPermutation-filter}
-use Rattle.td_table_model.specs.Apart.{IsApart, IsTextApart}
+use Rattle.td_table_model.specs.Gathering.{IsApart, IsTextApart}
 
 module _ {X : Type 0} (R : X → X → Type 0) where
   -- pairs with one more in front

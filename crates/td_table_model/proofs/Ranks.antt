@@ -7,7 +7,6 @@ use Rattle.std.proofs.lemmas.Bool.Decides.{nat_tests}
 use Rattle.std.proofs.lemmas.Slice.Eq.{bytes_eq-Decides}
 use Rattle.sqlite_trees.proofs.ListLemmas.{all_weaker, all_both, all-filter, filter_same}
 use Rattle.keyed_rows.specs.Rows.{Rises}
-use Rattle.td_table_model.specs.Apart.{IsApart, IsTextApart}
 use Rattle.td_table_model.proofs.Orders.{rises_above}
 use Rattle.std.specs.Ordering.{nat_cmp, ordering_then}
 use Rattle.std.specs.declared.cmp.Ordering.{Ordering}
@@ -22,7 +21,7 @@ use Rattle.std.proofs.lemmas.Cmp.{nat_list_cmp_total}
 use Rattle.std.proofs.lemmas.Map.Text.{is_eq-slice_cmp}
 use Rattle.std.specs.Cmp.{both_ways}
 use Rattle.td_table_model.specs.Tables.{Keyed}
-use Rattle.td_table_model.specs.Gathering.{text_rank, code_rank, of_key}
+use Rattle.td_table_model.specs.Gathering.{IsApart, IsTextApart, code_rank, of_key, text_rank}
 use Rattle.td_table_model.proofs.Grouped.{of_key_has}
 
 abbrev cmp : List ℕ → List ℕ → Ordering

@@ -4,11 +4,10 @@ use Rattle.std.specs.List.{AllByRecursion}
 use Rattle.std.proofs.lemmas.List.Sorted.{IsPermutation-refl, IsPermutation-append}
 use Rattle.sqlite_trees.proofs.ListLemmas.{map-map, flat_map-map, all_weaker}
 use Rattle.keyed_rows.proofs.Putting.{All-put_row}
-use Rattle.td_table_model.specs.Apart.{IsNumbered}
 use Rattle.td_table_model.proofs.Numbered.{map_same}
 use Rattle.td_model.specs.Sound.{AllNumbered}
 use Rattle.td_table_model.specs.Tables.{numbered}
-use Rattle.td_table_model.specs.Gathering.{in_order}
+use Rattle.td_table_model.specs.Gathering.{IsNumbered, in_order}
 
 module _ {R X : Type 0} (key : R → ℕ) (back : R → X) where
   -- the elements with their numbers are the rows' keys with what was made of them

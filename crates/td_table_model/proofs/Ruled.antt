@@ -7,7 +7,6 @@ use Rattle.std.proofs.lemmas.List.Sorted.{IsPermutation-sym, IsPermutation-trans
 use Rattle.sqlite_trees.proofs.ListLemmas.{map-map, flat_map-map, all_weaker, all_both, all-filter}
 use Rattle.keyed_rows.specs.Rows.{row_at}
 use Rattle.keyed_rows.proofs.Putting.{row_at_has, All-row_at}
-use Rattle.td_table_model.specs.Apart.{IsApart, IsNumbered}
 use Rattle.td_base.specs.Codes.{IsCountry, IsHolderNumber, IsAccessCode}
 use Rattle.td_base.specs.References.{serial_of, greatest_grn_serial}
 use Rattle.td_base.proofs.MadeReferences.{made_serial_is}
@@ -16,7 +15,7 @@ use Rattle.td_movement.specs.declared.movement.Movement.{Movement}
 use Rattle.td_model.specs.declared.holder_row.HolderRow.{HolderRow}
 use Rattle.td_model.specs.Account.{HolderRows}
 use Rattle.td_table_model.specs.Tables.{Keyed, LineCells, Tables, AreTablesOf, numbered, guarantee_row, guarantee_no, code_row, code_rows, movement_row, line_row, line_rows, guarantees_in, code_rows_of, movements_in, line_rows_of}
-use Rattle.td_table_model.specs.Gathering.{in_order, of_key, owner, place, no_of, code_rank, holder_no, part, guarantees_by, codes_by, movements_by, lines_by, grn_by, with_codes, with_lines, line_from, gathered, content_of}
+use Rattle.td_table_model.specs.Gathering.{IsApart, IsNumbered, code_rank, codes_by, content_of, gathered, grn_by, guarantees_by, holder_no, in_order, line_from, lines_by, movements_by, no_of, of_key, owner, part, place, with_codes, with_lines}
 use Rattle.td_table_model.specs.Stored.{AreStored, AreOfHolders}
 use Rattle.td_table_model.specs.Rules.{KeepsRules, KeepRules, IsGuaranteeInRange, AreLinesInRange}
 use Rattle.td_table_model.proofs.Orders.{in_order_rises, in_order_permutes, found_in_order}

@@ -9,7 +9,6 @@ use Rattle.std.proofs.lemmas.List.Sorted.{length_permutation}
 use Rattle.std.proofs.lemmas.Slice.Eq.{bytes_eq-Decides}
 use Rattle.sqlite_trees.proofs.ListLemmas.{all_weaker, all_both, all-filter, all-map, all-get_or}
 use Rattle.keyed_rows.specs.Rows.{row_at}
-use Rattle.td_table_model.specs.Apart.{IsApart}
 use Rattle.std.proofs.lemmas.List.Elements.{All-from_recursion}
 use Rattle.td_base.specs.Codes.{IsAccessCode, IsCountry, IsHolderNumber}
 use Rattle.td_base.specs.References.{grn_text, mrn_text}
@@ -22,13 +21,12 @@ use Rattle.td_movement.specs.declared.state.State.TheVariants.{Accepted, Cancell
 use Rattle.td_movement.specs.Status.{HasDaysOf, IsStatus}
 use Rattle.td_commands.specs.Lines.{IsLineAmount}
 use Rattle.td_model.specs.declared.holder_row.HolderRow.{HolderRow}
-use Rattle.td_model.specs.Account.{guarantee_by_grn}
+use Rattle.td_model.specs.Account.{guarantee_by_grn, holder_key}
 use Rattle.td_model.specs.Sound.{AreCodes, AreMovementLines, IsGuaranteeRow, IsMovementRow, AreHolderRows}
 use Rattle.td_acts.proofs.Joined.{AllPairs-map}
-use Rattle.td_holder_memory.specs.Key.{holder_key}
 use Rattle.td_desk.specs.Content.{IsSound}
 use Rattle.td_table_model.specs.Tables.{Keyed, LineCells, Tables, guarantee_no}
-use Rattle.td_table_model.specs.Gathering.{in_order, of_key, owner, place, no_of, code_rank, text_rank, holder_no, part, guarantees_by, codes_by, movements_by, lines_by, grn_by, with_codes, with_lines, line_from, gathered, content_of}
+use Rattle.td_table_model.specs.Gathering.{IsApart, code_rank, codes_by, content_of, gathered, grn_by, guarantees_by, holder_no, in_order, line_from, lines_by, movements_by, no_of, of_key, owner, part, place, text_rank, with_codes, with_lines}
 use Rattle.td_table_model.specs.Stored.{AreStored}
 use Rattle.td_table_model.specs.Rules.{KeepsRules, KeepRules, IsGuaranteeInRange, IsMovementInRange, AreLinesInRange, count_of_codes, named_by}
 use Rattle.td_table_model.proofs.Orders.{in_order_rises, in_order_permutes, rises-map}

@@ -1,6 +1,7 @@
 -- The content that tables hold: each holder's rows brought in order of their keys and put together.
-use Rattle.std.specs.Prelude.{ℕ, ◌+◌, ◌*◌, ◌==◌, List, [], ◌∷◌, map, filter}
+use Rattle.std.specs.Prelude.{◌≡◌, ℕ, ◌+◌, ◌*◌, ◌≤◌, ◌==◌, List, [], ◌∷◌, length, map, filter}
 use Rattle.std.specs.List.{fold}
+use Rattle.std.specs.Str.{bytes_eq}
 use Rattle.std.specs.Option.{option_map_or}
 use Rattle.keyed_rows.specs.Rows.{row_at, put_row}
 use Rattle.td_guarantee.specs.declared.guarantee.Guarantee.{Guarantee}
@@ -85,3 +86,16 @@ gathered t row = record {
 -- the content that the tables hold
 abbrev pub content_of : Tables → Content
 content_of t = record { country = t.country; holders = map (gathered t) (in_order holder_no t.holders) }
+
+-- no two have one number
+abbrev pub IsApart : {R : Type 0} → (R → ℕ) → List R → Type 0
+IsApart key rows = (k : ℕ) → length (of_key key k rows) ≤ 1
+
+-- no two have one text
+abbrev pub IsTextApart : {R : Type 0} → (R → List ℕ) → List R → Type 0
+IsTextApart key rows = (k : List ℕ) → length (filter (λ r. bytes_eq (key r) k) rows) ≤ 1
+
+-- they are numbered from the one after n on, and none is left out
+abbrev pub IsNumbered : {R : Type 0} → (R → ℕ) → ℕ → List R → Type 0
+IsNumbered key n [] = Unit {0}
+IsNumbered key n (r ∷ rows) = (key r ≡ n + 1) × IsNumbered key (n + 1) rows

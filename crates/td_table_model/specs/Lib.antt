@@ -1,6 +1,5 @@
 pub mod Tables
 pub mod Gathering
-pub mod Apart
 pub mod Looking
 pub mod Changes
 pub mod Stored

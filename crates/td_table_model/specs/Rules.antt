@@ -15,8 +15,7 @@ use Rattle.td_commands.specs.Lines.{IsLineAmount}
 use Rattle.td_model.specs.declared.holder_row.HolderRow.{HolderRow}
 use Rattle.td_model.specs.Sound.{IsCovered, IsMrnOf, IsGrnOf}
 use Rattle.td_table_model.specs.Tables.{Keyed, LineCells, Tables}
-use Rattle.td_table_model.specs.Gathering.{of_key, part, place, no_of, guarantees_by, movements_by, lines_by, gathered}
-use Rattle.td_table_model.specs.Apart.{IsApart, IsNumbered}
+use Rattle.td_table_model.specs.Gathering.{IsApart, IsNumbered, gathered, guarantees_by, lines_by, movements_by, no_of, of_key, part, place}
 use Rattle.td_table_model.specs.Stored.{AreStored}
 use Rattle.td_guarantee.specs.Codes.{most_codes}
 use Rattle.td_movement.specs.Lines.{most_lines}

@@ -7,8 +7,7 @@ use Rattle.td_guarantee.specs.declared.guarantee.Guarantee.{Guarantee}
 use Rattle.td_movement.specs.declared.movement.Movement.{Movement}
 use Rattle.td_model.specs.declared.holder_row.HolderRow.{HolderRow}
 use Rattle.td_table_model.specs.Tables.{Keyed, Tables}
-use Rattle.td_table_model.specs.Gathering.{of_key, part, holder_no, owner, place, no_of}
-use Rattle.td_table_model.specs.Apart.{IsApart, IsTextApart}
+use Rattle.td_table_model.specs.Gathering.{IsApart, IsTextApart, holder_no, no_of, of_key, owner, part, place}
 
 -- the rows of a table are of holders that are there
 abbrev pub AreOfHolders : {X : Type 0} → List HolderRow → List (Keyed X) → Type 0

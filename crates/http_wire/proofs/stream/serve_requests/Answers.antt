@@ -2,7 +2,7 @@ use Rattle.std.proofs.Common.{arith, sym, rules, SFits, w64}
 use Rattle.std.proofs.lemmas.Int.{to_z-of_z}
 use Rattle.http_wire.proofs.Serving.{Handled, sides, gathering_first, handled, goes_on}
 use Rattle.http_wire.proofs.Ends.{cut_reply, ends_fixed, ends_asked, served_all}
-use Rattle.http_wire.proofs.Farewells.{stopped}
+use Rattle.http_wire.proofs.ClosingReplies.{stopped}
 use Rattle.http_wire.specs.Input.{unread, room_of}
 use Rattle.http_wire.specs.Replies.{waiting}
 use Rattle.http_wire.proofs.stream.serve_requests.Given.{Over}

@@ -8,5 +8,5 @@ pub returns : goal.returns
 returns g c = λ country H at other_at image other_image is_new is_other_new file other_file port connections other_port other_connections answer other_answer writer writer_left other_writer other_writer_left one other clean other_clean alike.
     let served = one.private (subst IsClean (sym one.ended) clean) in
     let other_served = other.private (subst IsClean (sym other.ended) other_clean) in
-    lists_alike country H (over_file.content one.opened) (over_file.content other.opened) (map (λ visit. visit.exchanges) one.served.visits) (map (λ visit. visit.exchanges) other.served.visits)
+    lists_alike country H (over_file.content one.opened) (over_file.content other.opened) (map (λ connection. connection.exchanges) one.served.all_served) (map (λ connection. connection.exchanges) other.served.all_served)
     served.0 other_served.0 alike served.1 other_served.1

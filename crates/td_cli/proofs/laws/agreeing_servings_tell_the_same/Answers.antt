@@ -6,5 +6,5 @@ pub returns : goal.returns
 returns g c = λ country H at other_at port connections other_port other_connections answer other_answer writer writer_left other_writer other_writer_left one other.
     let served = one.private tt in
     let other_served = other.private tt in
-    lists_alike country H one.opened other.opened (map (λ visit. visit.exchanges) one.served.visits) (map (λ visit. visit.exchanges) other.served.visits)
+    lists_alike country H one.opened other.opened (map (λ connection. connection.exchanges) one.served.all_served) (map (λ connection. connection.exchanges) other.served.all_served)
     served.0 other_served.0 (empty_alike country H one.opened other.opened one.begun other.begun) served.1 other_served.1

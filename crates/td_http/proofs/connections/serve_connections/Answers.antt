@@ -1,11 +1,11 @@
 use Rattle.std.proofs.Common.{arith, refl, []}
 use Rattle.td_http.specs.Serving.{IsHandledBy, IsHeadHandledBy}
-use Rattle.td_http.proofs.Visits.{between, answer_is, serving_more}
-use Rattle.td_http.proofs.Private.{visits_private}
+use Rattle.td_http.proofs.ServedConnections.{between, answer_is, serving_more}
+use Rattle.td_http.proofs.Private.{connections_private}
 use Rattle.td_http.proofs.connections.serve_connections.Goals as goal
 
 pub loop-init : goal.loop-init
-loop-init g c = record { visits = []; visited = refl; counted = refl }
+loop-init g c = record { all_served = []; were_served = refl; counted = refl }
 
 pub loop-preserved : goal.loop-preserved
 loop-preserved g c =
@@ -30,10 +30,10 @@ returns-in_err-serve_next g c =
     let told = answer_is c.from_residual.result c.in_err-serve_next.field-0.0 c.from_residual.ensures.1 in
     let old = between c.args.connections.now c.args.clock.now c.args.service.now in
     let last = between c.loop.connections c.loop.clock c.loop.service in (
-      record { visits = serving.visits; last = last; visited = serving.visited; ended = rw told (omega arith, refused) },
-      rw refused.handler (visits_private g.L.Reader.Read.remaining g.L.Writer.Write.contents source.gives
+      record { all_served = serving.all_served; last = last; were_served = serving.were_served; ended = rw told (omega arith, refused) },
+      rw refused.handler (connections_private g.L.Reader.Read.remaining g.L.Writer.Write.contents source.gives
           source.takes g.C.Clock.ticks desk.content desk.is_clean desk.is_live desk.has_store
-          serving.visits old last serving.visited),
+          serving.all_served old last serving.were_served),
     )
 
 pub returns : goal.returns
@@ -46,8 +46,8 @@ returns g c =
     let within = c.loop.auto.counter-end in
     let old = between c.args.connections.now c.args.clock.now c.args.service.now in
     let last = between c.loop.connections c.loop.clock c.loop.service in (
-      record { visits = serving.visits; last = last; visited = serving.visited; ended = (omega arith, refl {a = last}) },
-      visits_private g.L.Reader.Read.remaining g.L.Writer.Write.contents source.gives source.takes
+      record { all_served = serving.all_served; last = last; were_served = serving.were_served; ended = (omega arith, refl {a = last}) },
+      connections_private g.L.Reader.Read.remaining g.L.Writer.Write.contents source.gives source.takes
           g.C.Clock.ticks desk.content desk.is_clean desk.is_live desk.has_store
-          serving.visits old last serving.visited,
+          serving.all_served old last serving.were_served,
     )

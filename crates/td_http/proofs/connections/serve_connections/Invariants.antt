@@ -1,5 +1,5 @@
 use Rattle.td_http.specs.Serving.{IsHandledBy, IsHeadHandledBy}
-use Rattle.td_http.proofs.Visits.{Serving}
+use Rattle.td_http.proofs.ServedConnections.{Serving}
 use Rattle.td_http.proofs.connections.serve_connections.Given as goal
 
 abbrev pub invariant-loop : goal.invariant-loop

@@ -1,8 +1,8 @@
 use Rattle.std.proofs.Common.{None}
 use Rattle.td_http.specs.Serving.{IsHandledBy, IsHeadHandledBy}
-use Rattle.td_http.specs.Visits.{beside}
-use Rattle.td_http.proofs.Visits.{between}
-use Rattle.td_http.proofs.Anyhow.{visited_anyhow, ended_anyhow}
+use Rattle.td_http.specs.Connections.{beside}
+use Rattle.td_http.proofs.ServedConnections.{between}
+use Rattle.td_http.proofs.Anyhow.{were_served_anyhow, ended_anyhow}
 use Rattle.td_http.proofs.sockets.serve_on.Goals as goal
 
 pub returns : goal.returns
@@ -13,12 +13,12 @@ returns g c =
     let old = between _ c.args.clock.now c.args.service.now in
     let new = between call.new.connections call.new.clock call.new.service in (
       record {
-        visits = served.visits;
+        all_served = served.all_served;
         last = beside served.last.clock served.last.handler;
-        visited = visited_anyhow (λ _. None) (λ _. None) (λ _ _ _ _. Unit {0}) (λ _ _ _ _. Unit {0})
+        were_served = were_served_anyhow (λ _. None) (λ _. None) (λ _ _ _ _. Unit {0}) (λ _ _ _ _. Unit {0})
             g.C.Clock.ticks (IsHandledBy desk.content desk.is_clean desk.is_live desk.has_store) IsHeadHandledBy
-            served.visits old served.last served.visited;
-        ended = ended_anyhow (λ _ _ _. Unit {0}) served.visits served.last new c.args.connections call.result
+            served.all_served old served.last served.were_served;
+        ended = ended_anyhow (λ _ _ _. Unit {0}) served.all_served served.last new c.args.connections call.result
             served.ended;
       },
       call.ensures.1,

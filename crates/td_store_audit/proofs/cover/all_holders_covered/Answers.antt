@@ -5,7 +5,7 @@ use Rattle.std.specs.Prelude.{◌↔◌, IsTrue}
 use Rattle.std.specs.List.{AllByRecursion}
 use Rattle.sqlite.specs.Held.{state}
 use Rattle.sqlite.specs.State.{State, HasCleanDisk}
-use Rattle.td_store_audit.specs.Handed.{IsHandedOn, raw_holder_of}
+use Rattle.td_store_audit.specs.Tallies.{IsHandedOn, raw_holder_of}
 use Rattle.td_store_audit.specs.InFile.{IsHolderCoveredInFile, TellsWhere}
 use Rattle.td_store_audit.proofs.Reading.{so_before}
 use Rattle.td_store_audit.proofs.Walking.{one_more, one_of_all}

@@ -2,7 +2,7 @@ use Rattle.std.proofs.Common.{◌≡◌, take}
 use Rattle.std.specs.List.{AllByRecursion}
 use Rattle.sqlite.specs.Held.{state}
 use Rattle.sqlite.specs.State.{HasCleanDisk}
-use Rattle.td_store_audit.specs.Handed.{IsHandedOn, raw_holder_of}
+use Rattle.td_store_audit.specs.Tallies.{IsHandedOn, raw_holder_of}
 use Rattle.td_store_audit.specs.InFile.{IsHolderCoveredInFile, IsSoWhere}
 use Rattle.td_store_audit.proofs.cover.all_holders_covered.Given as goal
 use Rattle.typed_sql.proofs.OnlyRead.{HaveRead}

@@ -2,7 +2,7 @@ use Rattle.std.proofs.Common.{◌∙◌, refl, subst, sym}
 use Rattle.std.proofs.lemmas.List.{take_all}
 use Rattle.std.proofs.lemmas.Bool.{false≢true}
 use Rattle.std.specs.List.{AllByRecursion}
-use Rattle.td_store_audit.specs.Handed.{IsCoveredBy}
+use Rattle.td_store_audit.specs.Tallies.{IsCoveredBy}
 use Rattle.td_store_audit.proofs.Walking.{one_more, one_of_all}
 use Rattle.td_store_audit.proofs.cover.all_rows_covered.Goals as goal
 

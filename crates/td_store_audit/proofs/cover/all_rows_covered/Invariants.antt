@@ -1,6 +1,6 @@
 use Rattle.std.proofs.Common.{take}
 use Rattle.std.specs.List.{AllByRecursion}
-use Rattle.td_store_audit.specs.Handed.{IsCoveredBy}
+use Rattle.td_store_audit.specs.Tallies.{IsCoveredBy}
 use Rattle.td_store_audit.proofs.cover.all_rows_covered.Given as goal
 
 -- those before are covered

@@ -2,7 +2,7 @@ use Rattle.typed_sql.specs.Typed.{IsTypedRow}
 use Rattle.td_store_rows.specs.Columns.{code_typing}
 use Rattle.td_store_rows.specs.StoreTables.{tables_in}
 use Rattle.td_store_audit_rows.specs.Kept.{AreCodesKept}
-use Rattle.td_store_audit_rows.specs.Kinds.{AllRows}
+use Rattle.td_store_audit_rows.specs.Untyped.{AllRows}
 use Rattle.td_store_audit.proofs.Live.{schema_keeps}
 use Rattle.td_store_audit.proofs.Tables.{codes_kept}
 use Rattle.td_store_audit.proofs.laws.schema_keeps_codes.Goals as goal

@@ -1,7 +1,7 @@
 use Rattle.td_store_rows.specs.Columns.{holder_typing}
 use Rattle.td_store_rows.specs.StoreTables.{tables_in}
 use Rattle.td_store_audit_rows.specs.Kept.{AreHoldersKept}
-use Rattle.td_store_audit_rows.specs.Kinds.{AllRows, HasNumber}
+use Rattle.td_store_audit_rows.specs.Untyped.{AllRows, HasNumber}
 use Rattle.td_store_audit.proofs.HoldersKept.{holders_kept}
 use Rattle.td_store_audit.proofs.Live.{schema_keeps}
 use Rattle.td_store_audit.proofs.laws.schema_keeps_holders.Goals as goal

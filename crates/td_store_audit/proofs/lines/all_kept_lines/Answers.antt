@@ -14,11 +14,11 @@ use Rattle.typed_sql.specs.Typed.{AreTyped, typed_rows}
 use Rattle.typed_sql.specs.Writing.{HasSchema}
 use Rattle.td_store_rows.specs.Columns.{line_typing}
 use Rattle.td_table_model.specs.Gathering.{part}
-use Rattle.td_store_audit.specs.Handed.{AreItsLines, movements_in, raw_of}
+use Rattle.td_store_audit.specs.Tallies.{AreItsLines, movements_in, raw_of}
 use Rattle.td_store_audit.specs.InPlace.{AreNumbersApart}
 use Rattle.td_store_audit.specs.Premises.{HasLinesInPlace}
-use Rattle.td_store_audit.specs.declared.handed.HolderMovements.{HolderMovements}
-use Rattle.td_store_audit.specs.declared.handed.HolderParts.{HolderParts}
+use Rattle.td_store_audit.specs.declared.tallies.CountingSerials.{CountingSerials}
+use Rattle.td_store_audit.specs.declared.tallies.HolderLines.{HolderLines}
 use Rattle.td_store_audit.proofs.Walking.{one_made, one_more, one_of_all, one_put}
 use Rattle.td_store_audit.proofs.lines.all_kept_lines.Goals as goal
 use Rattle.typed_sql.proofs.OnlyRead.{read_then, still_has}
@@ -49,13 +49,13 @@ holders-preserved g c = (
     clean_b : HasCleanDisk d → HasCleanDisk b
     clean_b clean = omega (arith, clean, c.kept_lines.ensures.survives.clean)
 
-    items : List HolderMovements
+    items : List CountingSerials
     items = c.args.counting.items
 
-    x : HolderMovements
+    x : CountingSerials
     x = c.in-Some.movements
 
-    parts : HolderParts
+    parts : HolderLines
     parts = record { movements = x; lines = c.in-Some-2.lines }
 
     turn : (length c.holders.yielded < length items) × (x ≡ get_or items (length c.holders.yielded) x)
@@ -94,10 +94,10 @@ returns-in_default-clause-told g c clean has typed apart = (
     clean_b : HasCleanDisk b
     clean_b = omega (arith, clean, c.kept_lines.ensures.survives.clean)
 
-    items : List HolderMovements
+    items : List CountingSerials
     items = c.args.counting.items
 
-    x : HolderMovements
+    x : CountingSerials
     x = c.in-Some.movements
 
     turn : (length c.holders.yielded < length items) × (x ≡ get_or items (length c.holders.yielded) x)

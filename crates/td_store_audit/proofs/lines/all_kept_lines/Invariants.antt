@@ -7,7 +7,7 @@ use Rattle.typed_sql.specs.Typed.{AreTyped, typed_rows}
 use Rattle.typed_sql.specs.Writing.{HasSchema}
 use Rattle.td_store_rows.specs.Columns.{line_typing}
 use Rattle.td_table_model.specs.Gathering.{part}
-use Rattle.td_store_audit.specs.Handed.{AreAllLines, movements_in, raw_of}
+use Rattle.td_store_audit.specs.Tallies.{AreAllLines, movements_in, raw_of}
 use Rattle.td_store_audit.specs.InPlace.{AreNumbersApart}
 use Rattle.td_store_audit.specs.Premises.{HasLinesInPlace}
 use Rattle.td_store_audit.proofs.lines.all_kept_lines.Given as goal

@@ -10,7 +10,7 @@ use Rattle.typed_sql.specs.Typed.{AreTyped, IsTypedRow}
 use Rattle.td_store_rows.specs.Columns.{line_typing}
 use Rattle.td_store_audit_rows.specs.Fields.{AreLineFields}
 use Rattle.td_store_audit_rows.specs.Scans.{IsReadRow}
-use Rattle.td_store_audit.specs.Handed.{raw_of}
+use Rattle.td_store_audit.specs.Tallies.{raw_of}
 use Rattle.td_store_audit.specs.Premises.{HasLinesInPlace}
 use Rattle.td_store_audit.proofs.Told.{lines_read, lines_rule}
 use Rattle.td_store_audit.proofs.lines.lines_keep_rule.Goals as goal

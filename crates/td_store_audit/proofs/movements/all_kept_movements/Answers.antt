@@ -6,7 +6,7 @@ use Rattle.std.specs.List.{AllByRecursion}
 use Rattle.sqlite.specs.Held.{state}
 use Rattle.sqlite.specs.State.{State, HasCleanDisk}
 use Rattle.td_store_rows.specs.Columns.{movement_typing}
-use Rattle.td_store_audit.specs.Handed.{AreCounting, raw_of}
+use Rattle.td_store_audit.specs.Tallies.{AreCounting, raw_of}
 use Rattle.td_store_audit.specs.InFile.{AreTypedApart, HasMovementsInPlace, IsSoWhere, TellsWhere}
 use Rattle.td_store_audit.proofs.Reading.{so_before}
 use Rattle.td_store_audit.proofs.Walking.{one_made, one_more, one_of_all, one_put}

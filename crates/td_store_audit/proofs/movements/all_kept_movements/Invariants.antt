@@ -3,7 +3,7 @@ use Rattle.std.specs.List.{AllByRecursion}
 use Rattle.sqlite.specs.Held.{state}
 use Rattle.sqlite.specs.State.{HasCleanDisk}
 use Rattle.td_store_rows.specs.Columns.{movement_typing}
-use Rattle.td_store_audit.specs.Handed.{AreAllCounting, raw_of}
+use Rattle.td_store_audit.specs.Tallies.{AreAllCounting, raw_of}
 use Rattle.td_store_audit.specs.InFile.{AreTypedApart, HasMovementsInPlace, IsSoWhere}
 use Rattle.td_store_audit.proofs.movements.all_kept_movements.Given as goal
 use Rattle.typed_sql.proofs.OnlyRead.{HaveRead}

@@ -1,6 +1,5 @@
 use Rattle.std.proofs.Common.{◌∙◌, List, map, ap, subst}
-use Rattle.td_table_model.specs.Apart.{IsNumbered}
-use Rattle.td_table_model.specs.Gathering.{place}
+use Rattle.td_table_model.specs.Gathering.{IsNumbered, place}
 use Rattle.td_store_rows.specs.MovementTable.{movement_row_of}
 use Rattle.td_store_rows.specs.declared.movements.stored.StoredMovement.{StoredMovement}
 use Rattle.td_store_audit.proofs.Serials.{serials_in, serials_rise}

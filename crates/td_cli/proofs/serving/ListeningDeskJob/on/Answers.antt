@@ -1,5 +1,5 @@
 use Rattle.std.proofs.Common.{refl}
-use Rattle.td_cli.proofs.Visits.{serving_from}
+use Rattle.td_cli.proofs.ServedConnections.{serving_from}
 use Rattle.td_cli.proofs.serving.ListeningDeskJob.on.Goals as goal
 
 pub returns : goal.returns

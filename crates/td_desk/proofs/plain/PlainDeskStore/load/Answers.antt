@@ -1,9 +1,8 @@
 use Rattle.std.proofs.Common.{◌≡◌, ℕ, Option, Some, None, sym, ◌∙◌, ap, subst}
 use Rattle.std.specs.Prelude.{option_map}
-use Rattle.td_model.specs.Account.{Account, account_with}
+use Rattle.td_model.specs.Account.{Account, account_with, holder_key}
 use Rattle.td_acts.specs.Deciding.{IsLoaded}
 use Rattle.td_commands.specs.Commands.{need_said}
-use Rattle.td_holder_memory.specs.Key.{holder_key}
 use Rattle.td_desk.specs.Plain.{plain_content}
 use Rattle.keyed_rows.specs.Rows.{row_at}
 use Rattle.td_desk.specs.Weighing.{kept_for}

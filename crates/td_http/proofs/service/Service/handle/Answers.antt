@@ -1,5 +1,5 @@
 use Rattle.std.proofs.Common.{refl, rules}
-use Rattle.http_wire.specs.Request.{asked}
+use Rattle.http_wire.specs.Wire.{asked}
 use Rattle.td_http.specs.Serving.{command_in}
 use Rattle.td_http.proofs.Alone.{handled_alone}
 use Rattle.td_http.proofs.Handling.{unread_handled, unread_stores_nothing}

@@ -5,8 +5,8 @@ use Rattle.std.proofs.lemmas.Fn.{FoldsTo-push}
 use Rattle.std.proofs.lemmas.List.{length-append}
 use Rattle.std.specs.declared.io.Error.{Error}
 use Rattle.http_wire.specs.declared.reply.Reply.{Reply}
-use Rattle.http_wire.specs.Request.{Asked}
-use Rattle.td_http.specs.Visits.{Between, Visit, IsVisit, Visited}
+use Rattle.http_wire.specs.Wire.{Asked}
+use Rattle.td_http.specs.Connections.{Between, Connection, IsServedConnection, ServedConnections}
 
 -- the parts, one after the other
 abbrev pub between : {L C H : Type 0} → L → C → H → Between L C H
@@ -23,23 +23,23 @@ pub record Serving {R W C H L : Type 0} (remaining : R → Option (List ℕ)) (c
     (gives takes : L → R → W → L → Type 0) (ticks : C → ℤ → C → Type 0)
     (handles : H → ℤ → Asked → Reply → H → Type 0) (heads : H → List ℕ → Reply → H → Type 0)
     (old now : Between L C H) (count : ℕ) : Type 0 where
-  pub visits : List (Visit R W)
-  pub visited : Visited remaining contents gives takes ticks handles heads old visits now
-  pub counted : length visits ≡ count
+  pub all_served : List (Connection R W)
+  pub were_served : ServedConnections remaining contents gives takes ticks handles heads old all_served now
+  pub counted : length all_served ≡ count
 
 -- one more
 pub serving_more : {R W C H L : Type 0} (remaining : R → Option (List ℕ)) (contents : W → Option (List ℕ))
     (gives takes : L → R → W → L → Type 0) (ticks : C → ℤ → C → Type 0)
     (handles : H → ℤ → Asked → Reply → H → Type 0) (heads : H → List ℕ → Reply → H → Type 0)
-    (old now new : Between L C H) (count : ℕ) (visit : Visit R W)
+    (old now new : Between L C H) (count : ℕ) (connection : Connection R W)
     → Serving remaining contents gives takes ticks handles heads old now count
-    → IsVisit remaining contents gives takes ticks handles heads now visit new
+    → IsServedConnection remaining contents gives takes ticks handles heads now connection new
     → Serving remaining contents gives takes ticks handles heads old new (count + 1)
-serving_more remaining contents gives takes ticks handles heads old now new count visit before is =
+serving_more remaining contents gives takes ticks handles heads old now new count connection before is =
     let counted = before.counted in
     record {
-      visits = before.visits ++ visit ∷ [];
-      visited = FoldsTo-push (IsVisit remaining contents gives takes ticks handles heads)
-          old before.visits now visit new before.visited is;
-      counted = length-append before.visits (visit ∷ []) ∙ ap (λ (n : ℕ). n + 1) counted;
+      all_served = before.all_served ++ connection ∷ [];
+      were_served = FoldsTo-push (IsServedConnection remaining contents gives takes ticks handles heads)
+          old before.all_served now connection new before.were_served is;
+      counted = length-append before.all_served (connection ∷ []) ∙ ap (λ (n : ℕ). n + 1) counted;
     }

@@ -2,8 +2,8 @@
 use Rattle.std.specs.Prelude.{◌≡◌, ◌⊎◌, ℕ, true, false, if◌then◌else◌, List, Option}
 use Rattle.counted_io.specs.declared.counted.Counted.{Counted}
 use Rattle.counted_io.specs.Chains.{Wrote, IsCutShort, MadeWrites}
-use Rattle.http_wire.specs.declared.reading.Stop.{Stop}
-use Rattle.http_wire.specs.declared.reading.Stop.TheVariants as stop
+use Rattle.http_wire.specs.declared.reading.StopCause.{StopCause}
+use Rattle.http_wire.specs.declared.reading.StopCause.TheVariants as stop
 use Rattle.http_wire.specs.declared.reply.Reply.{Reply}
 use Rattle.http_wire.specs.declared.stream.StreamEnd.{StreamEnd}
 use Rattle.http_wire.specs.declared.stream.StreamEnd.TheVariants.{Closed, Refused, Cut, ReadsSpent, ReadFault, WriteFault, Failed}
@@ -17,24 +17,24 @@ SendsLast contents old new message good end =
     ⊎ ((end ≡ WriteFault) × IsCutShort contents old new message × MadeWrites old new false)
 
 -- what each stop of the reading leads to
-abbrev pub Farewell : {W H : Type 0} → (W → Option (List ℕ)) → (H → List ℕ → Reply → H → Type 0) → Counted W
-    → Counted W → H → H → Stop → StreamEnd → Type 0
-Farewell contents heads old new before after stop.Closed end = (end ≡ Closed) × (new ≡ old) × (after ≡ before)
-Farewell contents heads old new before after stop.Cut end = (end ≡ Cut) × (new ≡ old) × (after ≡ before)
-Farewell contents heads old new before after stop.ReadsSpent end = (end ≡ ReadsSpent) × (new ≡ old) × (after ≡ before)
-Farewell contents heads old new before after stop.ReadFault end = (end ≡ ReadFault) × (new ≡ old) × (after ≡ before)
-Farewell contents heads old new before after stop.NoMemory end =
+abbrev pub ClosingReply : {W H : Type 0} → (W → Option (List ℕ)) → (H → List ℕ → Reply → H → Type 0) → Counted W
+    → Counted W → H → H → StopCause → StreamEnd → Type 0
+ClosingReply contents heads old new before after stop.Closed end = (end ≡ Closed) × (new ≡ old) × (after ≡ before)
+ClosingReply contents heads old new before after stop.Cut end = (end ≡ Cut) × (new ≡ old) × (after ≡ before)
+ClosingReply contents heads old new before after stop.ReadsSpent end = (end ≡ ReadsSpent) × (new ≡ old) × (after ≡ before)
+ClosingReply contents heads old new before after stop.ReadFault end = (end ≡ ReadFault) × (new ≡ old) × (after ≡ before)
+ClosingReply contents heads old new before after stop.NoMemory end =
     SendsLast contents old new no_memory_reply Failed end × (after ≡ before)
-Farewell contents heads old new before after (stop.Refused e) end =
+ClosingReply contents heads old new before after (stop.Refused e) end =
     SendsLast contents old new (framing_reply e) Refused end × (after ≡ before)
-Farewell contents heads old new before after (stop.Head target) end =
+ClosingReply contents heads old new before after (stop.Head target) end =
     (reply : Reply) × heads before target.items reply after
     × SendsLast contents old new (bytes_of reply) (if is_made reply then Refused else Failed) end
-Farewell contents heads old new before after stop.WriteFault end = (end ≡ WriteFault) × (new ≡ old) × (after ≡ before)
+ClosingReply contents heads old new before after stop.WriteFault end = (end ≡ WriteFault) × (new ≡ old) × (after ≡ before)
 
 -- the same where replies wait, which go first
 abbrev pub SendsAndParts : {W H : Type 0} → (W → Option (List ℕ)) → (H → List ℕ → Reply → H → Type 0) → Counted W
-    → Counted W → List ℕ → H → H → Stop → StreamEnd → Type 0
+    → Counted W → List ℕ → H → H → StopCause → StreamEnd → Type 0
 SendsAndParts {W} contents heads old new waits before after stop end =
-    ((mid : Counted W) × Wrote contents old mid waits true × Farewell contents heads mid new before after stop end)
+    ((mid : Counted W) × Wrote contents old mid waits true × ClosingReply contents heads mid new before after stop end)
     ⊎ ((end ≡ WriteFault) × IsCutShort contents old new waits × (after ≡ before))

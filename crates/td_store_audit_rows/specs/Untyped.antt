@@ -39,21 +39,21 @@ abbrev pub HasMrnCount : Row → Type 0
 HasMrnCount r = IsNumber (column r 5)
 
 -- The columns that the rule speaks of are of their kinds, in each row: of S1 in the office's own row, which is there once.
-abbrev pub AreOfKind : Rule → Trees → Type 0
-AreOfKind S1 trees = (length (trees meta_typing.table.tree) ≡ 1) × AllRows meta_typing (IsTypedRow meta_typing) trees
-AreOfKind S2 trees = AllRows holder_typing HasIdentity trees
-AreOfKind S3 trees = AllRows holder_typing HasGrnCount trees × AllRows guarantee_typing (IsTypedRow guarantee_typing) trees
-AreOfKind S4 trees = AllRows code_typing (IsTypedRow code_typing) trees
-AreOfKind S5 trees = AllRows holder_typing HasMrnCount trees × AllRows movement_typing (IsTypedRow movement_typing) trees
-AreOfKind S6 trees = AllRows line_typing (IsTypedRow line_typing) trees
-AreOfKind S7 trees = Unit {0}
-AreOfKind S8 trees = Unit {0}
+abbrev pub HasColumnTypes : Rule → Trees → Type 0
+HasColumnTypes S1 trees = (length (trees meta_typing.table.tree) ≡ 1) × AllRows meta_typing (IsTypedRow meta_typing) trees
+HasColumnTypes S2 trees = AllRows holder_typing HasIdentity trees
+HasColumnTypes S3 trees = AllRows holder_typing HasGrnCount trees × AllRows guarantee_typing (IsTypedRow guarantee_typing) trees
+HasColumnTypes S4 trees = AllRows code_typing (IsTypedRow code_typing) trees
+HasColumnTypes S5 trees = AllRows holder_typing HasMrnCount trees × AllRows movement_typing (IsTypedRow movement_typing) trees
+HasColumnTypes S6 trees = AllRows line_typing (IsTypedRow line_typing) trees
+HasColumnTypes S7 trees = Unit {0}
+HasColumnTypes S8 trees = Unit {0}
 
 -- the tables keep the rule as they stand: a column of another kind breaks it
-abbrev pub KeepsRaw : Trees → Rule → Type 0
-KeepsRaw trees rule = AreOfKind rule trees × Keeps (tables_in trees) rule
+abbrev pub KeepsUntyped : Trees → Rule → Type 0
+KeepsUntyped trees rule = HasColumnTypes rule trees × Keeps (tables_in trees) rule
 
 -- it is the first that they break
-pub record IsFirstBrokenRaw (trees : Trees) (rule : Rule) : Type 0 where
-  pub broken : ¬ KeepsRaw trees rule
-  pub before : (other : Rule) → rule_no other < rule_no rule → KeepsRaw trees other
+pub record IsFirstBrokenUntyped (trees : Trees) (rule : Rule) : Type 0 where
+  pub broken : ¬ KeepsUntyped trees rule
+  pub before : (other : Rule) → rule_no other < rule_no rule → KeepsUntyped trees other

@@ -5,16 +5,16 @@ use Rattle.counted_io.specs.declared.counted.Counted.{Counted}
 use Rattle.counted_io.specs.Chains.{Wrote, IsCutShort}
 use Rattle.counted_io.proofs.Chaining.{wrote_nothing, wrote_on, wrote_appends}
 use Rattle.http_wire.specs.declared.input.TheConstants.{MOST}
-use Rattle.http_wire.specs.declared.reading.Stop.{Stop}
-use Rattle.http_wire.specs.declared.reading.Stop.TheVariants as stop
+use Rattle.http_wire.specs.declared.reading.StopCause.{StopCause}
+use Rattle.http_wire.specs.declared.reading.StopCause.TheVariants as stop
 use Rattle.http_wire.specs.declared.stream.StreamEnd.{StreamEnd}
 use Rattle.http_wire.specs.declared.stream.StreamEnd.TheVariants.{Closed, Refused, Cut, ReadsSpent, ReadFault, WriteFault, Failed}
 use Rattle.http_wire.specs.ReplyText.{is_made}
 use Rattle.http_wire.specs.Reading.{Finish, HasRead, ReadsOn, StopsAs, brought, ended, failed, finish_of}
 use Rattle.http_wire.specs.Replies.{HoldsOrSends, SendsBefore}
 use Rattle.http_wire.specs.Wire.{BeginsServed}
-use Rattle.http_wire.specs.Farewell.{SendsLast, Farewell, SendsAndParts}
-use Rattle.http_wire.specs.Stream.{replies_of, Parting, silence, refusal, to_head, no_memory, parting_bytes, IsParting, MissesMemory, finish_at, is_whole, Sides, Run, WentOn, EndsAs}
+use Rattle.http_wire.specs.ClosingReply.{SendsLast, ClosingReply, SendsAndParts}
+use Rattle.http_wire.specs.Stream.{replies_of, Ending, silence, refusal, to_head, no_memory, ending_bytes, IsEnding, MissesMemory, finish_at, is_whole, Sides, Run, WentOn, EndsAs}
 use Rattle.http_wire.proofs.Needs.{called_for}
 use Rattle.http_wire.proofs.Readings.{HasRead-trans}
 use Rattle.http_wire.proofs.Ends.{cut_between}
@@ -24,31 +24,31 @@ use Rattle.http_wire.proofs.Serving.{Words, IsServed, Serving, Gathering, all_se
 -- the run that ends after some more bytes, with so much written of what parts with them
 abbrev run_after : {R W C H : Type 0} {k : Words R W C H}
     {old now : Sides R W C H} {unread : List ℕ} {room left served : ℕ}
-    → Serving k old now unread room left served → List (List ℕ) → List ℕ → ℕ → Parting → List ℕ → Run H
-run_after {now = now} {unread = unread} s pieces more fewer parting tail =
-    record { given = s.given ++ more; exchanges = s.exchanges; rest = unread ++ more; handler = now.handler; parting = parting; written = replies_of s.exchanges ++ tail; reads = 100000 - fewer; pieces = s.read.pieces ++ pieces }
+    → Serving k old now unread room left served → List (List ℕ) → List ℕ → ℕ → Ending → List ℕ → Run H
+run_after {now = now} {unread = unread} s pieces more fewer ending tail =
+    record { given = s.given ++ more; exchanges = s.exchanges; rest = unread ++ more; handler = now.handler; ending = ending; written = replies_of s.exchanges ++ tail; reads = 100000 - fewer; pieces = s.read.pieces ++ pieces }
 
 -- the stream, where its end is known
 finish : {R W C H : Type 0} {k : Words R W C H}
     {old now : Sides R W C H} {unread : List ℕ} {room left served : ℕ} → (s : Serving k old now unread room left served) → served < 1000
     → (end : StreamEnd) (reader : Counted R) (more : List ℕ) (fewer : ℕ) → (reads : ReadsOn k.remaining now.reader reader unread more left fewer (finish_at end))
-    → (writer : Counted W) (handler : H) (parting : Parting) → IsParting k.heads now.handler handler (unread ++ more) parting
-    → MissesMemory parting (100000 - fewer) (unread ++ more)
-    → (tail : List ℕ) → Wrote k.contents now.writer writer tail (is_whole end) → (end ≢ WriteFault → tail ≡ parting_bytes parting)
-    → EndsAs k.remaining old (record { reader = reader; writer = writer; clock = now.clock; handler = handler }) (run_after s reads.read.pieces more fewer parting tail) end
+    → (writer : Counted W) (handler : H) (ending : Ending) → IsEnding k.heads now.handler handler (unread ++ more) ending
+    → MissesMemory ending (100000 - fewer) (unread ++ more)
+    → (tail : List ℕ) → Wrote k.contents now.writer writer tail (is_whole end) → (end ≢ WriteFault → tail ≡ ending_bytes ending)
+    → EndsAs k.remaining old (record { reader = reader; writer = writer; clock = now.clock; handler = handler }) (run_after s reads.read.pieces more fewer ending tail) end
     → IsServed k old (record { reader = reader; writer = writer; clock = now.clock; handler = handler }) end
 unfolding HasRead-trans
-finish {k = k} {old = old} {now = now} {unread = unread} s few end reader more fewer reads writer handler parting parts memory tail sent whole ends =
+finish {k = k} {old = old} {now = now} {unread = unread} s few end reader more fewer reads writer handler ending parts memory tail sent whole ends =
     let read = HasRead-trans _ _ _ _ _ _ _ _ _ _ s.read reads.read in
     let count = s.count in
     let wrote = wrote_on k.contents old.writer now.writer writer (replies_of s.exchanges) tail (is_whole end) s.wrote sent in
     record {
-      run = run_after s reads.read.pieces more fewer parting tail;
+      run = run_after s reads.read.pieces more fewer ending tail;
       consumed = read.consumed;
       reading = Splits-more s.given more unread _ s.reading;
       at_most = omega arith;
       chain = s.chain;
-      parting = parts;
+      ending = parts;
       appended = wrote_appends k.contents old.writer writer (replies_of s.exchanges ++ tail) (is_whole end) wrote;
       whole = λ other. ap (λ (b : List ℕ). replies_of s.exchanges ++ b) (whole other);
       counted = read.counted;
@@ -66,19 +66,19 @@ finish {k = k} {old = old} {now = now} {unread = unread} s few end reader more f
 sent_last : {R W C H : Type 0} {k : Words R W C H}
     {old now : Sides R W C H} {unread : List ℕ} {room left served : ℕ} → (s : Serving k old now unread room left served) → served < 1000
     → (good end : StreamEnd) (reader : Counted R) (more : List ℕ) (fewer : ℕ) → (reads : ReadsOn k.remaining now.reader reader unread more left fewer (finish_at good))
-    → (writer : Counted W) (handler : H) (parting : Parting) → IsParting k.heads now.handler handler (unread ++ more) parting
-    → MissesMemory parting (100000 - fewer) (unread ++ more)
+    → (writer : Counted W) (handler : H) (ending : Ending) → IsEnding k.heads now.handler handler (unread ++ more) ending
+    → MissesMemory ending (100000 - fewer) (unread ++ more)
     → finish_at good ≡ brought → is_whole good ≡ true
-    → EndsAs k.remaining old (record { reader = reader; writer = writer; clock = now.clock; handler = handler }) (run_after s reads.read.pieces more fewer parting (parting_bytes parting)) good
-    → SendsLast k.contents now.writer writer (parting_bytes parting) good end
+    → EndsAs k.remaining old (record { reader = reader; writer = writer; clock = now.clock; handler = handler }) (run_after s reads.read.pieces more fewer ending (ending_bytes ending)) good
+    → SendsLast k.contents now.writer writer (ending_bytes ending) good end
     → IsServed k old (record { reader = reader; writer = writer; clock = now.clock; handler = handler }) end
-sent_last {k = k} {now = now} s few good end reader more fewer reads writer handler parting parts memory brings whole other (inl h) =
-    rw h.0 (finish s few good reader more fewer reads writer handler parting parts memory _
-    (subst (λ (b : Bool). Wrote k.contents now.writer writer (parting_bytes parting) b) (sym whole) h.1) (λ _. refl) other)
-sent_last {k = k} {now = now} {unread = unread} {left = left} s few good end reader more fewer reads writer handler parting parts memory brings whole other (inr h) =
+sent_last {k = k} {now = now} s few good end reader more fewer reads writer handler ending parts memory brings whole other (inl h) =
+    rw h.0 (finish s few good reader more fewer reads writer handler ending parts memory _
+    (subst (λ (b : Bool). Wrote k.contents now.writer writer (ending_bytes ending) b) (sym whole) h.1) (λ _. refl) other)
+sent_last {k = k} {now = now} {unread = unread} {left = left} s few good end reader more fewer reads writer handler ending parts memory brings whole other (inr h) =
     let count = s.count in
     rw h.0 (finish s few WriteFault reader more fewer (subst (λ (f : Finish). ReadsOn k.remaining now.reader reader unread more left fewer f) brings reads)
-    writer handler parting parts memory _ h.1.wrote (λ no. absurd (no refl)) (
+    writer handler ending parts memory _ h.1.wrote (λ no. absurd (no refl)) (
       h.1.failed,
       wrote_made k.contents _ _ _ false (wrote_on k.contents _ _ _ _ _ false s.wrote h.1.wrote),
       inr (record {
@@ -90,9 +90,9 @@ sent_last {k = k} {now = now} {unread = unread} {left = left} s few good end rea
 -- what is left of the stream, and how it ends, for each stop of the reading itself, where no reply waits
 parted : {R W C H : Type 0} {k : Words R W C H}
     {old now : Sides R W C H} {unread : List ℕ} {room left served : ℕ} → Serving k old now unread room left served → served < 1000
-    → (why : Stop) → why ≢ stop.WriteFault → (reader : Counted R) (more : List ℕ) (fewer : ℕ) → ReadsOn k.remaining now.reader reader unread more left fewer (finish_of why)
+    → (why : StopCause) → why ≢ stop.WriteFault → (reader : Counted R) (more : List ℕ) (fewer : ℕ) → ReadsOn k.remaining now.reader reader unread more left fewer (finish_of why)
     → (writer : Counted W) (handler : H) (end : StreamEnd) → StopsAs k.remaining reader left fewer room (unread ++ more) why
-    → Farewell k.contents k.heads now.writer writer now.handler handler why end
+    → ClosingReply k.contents k.heads now.writer writer now.handler handler why end
     → IsServed k old (record { reader = reader; writer = writer; clock = now.clock; handler = handler }) end
 parted {k = k} {now = now} s few stop.Closed other reader more fewer reads writer handler end why f =
     let spent = s.read.spent in
@@ -173,7 +173,7 @@ cut_here {k = k} {now = now} {left = left} s few reader more fewer finish reads 
 -- what is left of the stream where replies wait, or were written before a read
 parted_after : {R W C H : Type 0} {k : Words R W C H}
     {old now : Sides R W C H} {unread waits : List ℕ} {room left served : ℕ} → Gathering k old now unread waits room left served → served < 1000
-    → (why : Stop) → why ≢ stop.WriteFault → (reader : Counted R) (more : List ℕ) (fewer : ℕ) → ReadsOn k.remaining now.reader reader unread more left fewer (finish_of why)
+    → (why : StopCause) → why ≢ stop.WriteFault → (reader : Counted R) (more : List ℕ) (fewer : ℕ) → ReadsOn k.remaining now.reader reader unread more left fewer (finish_of why)
     → StopsAs k.remaining reader left fewer room (unread ++ more) why
     → (mid : Counted W) (kept : List ℕ) → HoldsOrSends k.contents now.writer mid waits kept left fewer
     → (writer : Counted W) (handler : H) (end : StreamEnd) → SendsAndParts k.contents k.heads mid writer kept now.handler handler why end
@@ -188,7 +188,7 @@ parted_after {k = k} {now = now} {waits = waits} {left = left} s few why other r
 -- what is left of the stream, and how it ends
 pub stopped : {R W C H : Type 0} {k : Words R W C H}
     {old now : Sides R W C H} {unread waits : List ℕ} {room left served : ℕ} → Gathering k old now unread waits room left served → served < 1000
-    → (why : Stop) (reader : Counted R) (more : List ℕ) (fewer : ℕ) → ReadsOn k.remaining now.reader reader unread more left fewer (finish_of why)
+    → (why : StopCause) (reader : Counted R) (more : List ℕ) (fewer : ℕ) → ReadsOn k.remaining now.reader reader unread more left fewer (finish_of why)
     → StopsAs k.remaining reader left fewer room (unread ++ more) why
     → (mid : Counted W) (kept : List ℕ) → SendsBefore k.contents now.writer mid waits kept left fewer why
     → (writer : Counted W) (handler : H) (end : StreamEnd) → SendsAndParts k.contents k.heads mid writer kept now.handler handler why end

@@ -7,13 +7,13 @@ use Rattle.counted_io.specs.declared.counted.Counted.{Counted}
 use Rattle.counted_io.specs.Counted.{calls_of, has_failed, inner_of}
 use Rattle.http_wire.specs.declared.reply.Reply.{Reply}
 use Rattle.http_wire.specs.declared.stream.StreamEnd.{StreamEnd}
-use Rattle.http_wire.specs.Request.{Asked}
+use Rattle.http_wire.specs.Wire.{Asked}
 use Rattle.http_wire.specs.Stream.{Exchange, Serves}
 use Rattle.std.specs.declared.net.tcp.TcpStream.{TcpStream}
 
 -- what a connection that was served left: its two sides as they came and as they were handed back, how its
 -- stream ended, and its requests with their replies
-pub record Visit (R W : Type 0) : Type 0 where
+pub record Connection (R W : Type 0) : Type 0 where
   pub reader : Counted R
   pub writer : Counted W
   pub reader_left : Counted R
@@ -30,34 +30,34 @@ pub record Between (L C H : Type 0) : Type 0 where
 -- One connection was served. The source gave its two sides, on which no call had been made; one stream was
 -- served on them, from the clock and the handler that the connection before had left, whatever its end; and
 -- the source took back the sides as the stream left them.
-pub record IsVisit {R W C H L : Type 0}
+pub record IsServedConnection {R W C H L : Type 0}
     (remaining : R → Option (List ℕ)) (contents : W → Option (List ℕ))
     (gives takes : L → R → W → L → Type 0) (ticks : C → ℤ → C → Type 0)
     (handles : H → ℤ → Asked → Reply → H → Type 0) (heads : H → List ℕ → Reply → H → Type 0)
-    (old : Between L C H) (visit : Visit R W) (new : Between L C H) : Type 0 where
+    (old : Between L C H) (connection : Connection R W) (new : Between L C H) : Type 0 where
   pub busy : L
-  pub came : gives old.source (inner_of visit.reader) (inner_of visit.writer) busy
-  pub unread : (calls_of visit.reader ≡ 0) × (has_failed visit.reader ≡ false)
-  pub unwritten : (calls_of visit.writer ≡ 0) × (has_failed visit.writer ≡ false)
+  pub came : gives old.source (inner_of connection.reader) (inner_of connection.writer) busy
+  pub unread : (calls_of connection.reader ≡ 0) × (has_failed connection.reader ≡ false)
+  pub unwritten : (calls_of connection.writer ≡ 0) × (has_failed connection.writer ≡ false)
   pub served : Serves remaining contents ticks handles heads
-      (record { reader = visit.reader; writer = visit.writer; clock = old.clock; handler = old.handler })
+      (record { reader = connection.reader; writer = connection.writer; clock = old.clock; handler = old.handler })
       (record {
-        reader = visit.reader_left;
-        writer = visit.writer_left;
+        reader = connection.reader_left;
+        writer = connection.writer_left;
         clock = new.clock;
         handler = new.handler;
       })
-      visit.end
-  pub exchanges : visit.exchanges ≡ served.run.exchanges
-  pub went : takes busy (inner_of visit.reader_left) (inner_of visit.writer_left) new.source
+      connection.end
+  pub exchanges : connection.exchanges ≡ served.run.exchanges
+  pub went : takes busy (inner_of connection.reader_left) (inner_of connection.writer_left) new.source
 
 -- connections that were served one after another, each from what the one before left
-abbrev pub Visited : {R W C H L : Type 0} → (R → Option (List ℕ)) → (W → Option (List ℕ))
+abbrev pub ServedConnections : {R W C H L : Type 0} → (R → Option (List ℕ)) → (W → Option (List ℕ))
     → (L → R → W → L → Type 0) → (L → R → W → L → Type 0) → (C → ℤ → C → Type 0)
     → (H → ℤ → Asked → Reply → H → Type 0) → (H → List ℕ → Reply → H → Type 0)
-    → Between L C H → List (Visit R W) → Between L C H → Type 0
-Visited remaining contents gives takes ticks handles heads old visits new =
-    FoldsTo (IsVisit remaining contents gives takes ticks handles heads) old visits new
+    → Between L C H → List (Connection R W) → Between L C H → Type 0
+ServedConnections remaining contents gives takes ticks handles heads old all_served new =
+    FoldsTo (IsServedConnection remaining contents gives takes ticks handles heads) old all_served new
 
 -- the source had no connection, for that reason; the clock and the handler stay
 pub record IsRefused {C H L : Type 0} (refuses : L → Error → L → Type 0)
@@ -73,7 +73,7 @@ abbrev pub ServesNext : {R W C H L : Type 0} → (R → Option (List ℕ)) → (
     → Between L C H → Between L C H → Result Unit Error → Type 0
 ServesNext {R = R} {W = W} remaining contents gives takes refuses ticks handles heads old new answer =
     MatchResult answer
-    (λ _. (visit : Visit R W) × IsVisit remaining contents gives takes ticks handles heads old visit new)
+    (λ _. (connection : Connection R W) × IsServedConnection remaining contents gives takes ticks handles heads old connection new)
     (λ why. IsRefused refuses old why new)
 
 -- So many connections were asked for. Where the answer is Ok all of them were served, and nothing else was
@@ -83,12 +83,12 @@ pub record ServesConnections {R W C H L : Type 0}
     (gives takes : L → R → W → L → Type 0) (refuses : L → Error → L → Type 0) (ticks : C → ℤ → C → Type 0)
     (handles : H → ℤ → Asked → Reply → H → Type 0) (heads : H → List ℕ → Reply → H → Type 0)
     (old new : Between L C H) (count : ℕ) (answer : Result Unit Error) : Type 0 where
-  pub visits : List (Visit R W)
+  pub all_served : List (Connection R W)
   pub last : Between L C H
-  pub visited : Visited remaining contents gives takes ticks handles heads old visits last
+  pub were_served : ServedConnections remaining contents gives takes ticks handles heads old all_served last
   pub ended : MatchResult answer
-      (λ _. (length visits ≡ count) × (new ≡ last))
-      (λ why. (length visits < count) × IsRefused refuses last why new)
+      (λ _. (length all_served ≡ count) × (new ≡ last))
+      (λ why. (length all_served < count) × IsRefused refuses last why new)
 
 -- the clock and the handler alone: of a listening socket nothing is known
 abbrev pub beside : {C H : Type 0} → C → H → Between (Unit {0}) C H

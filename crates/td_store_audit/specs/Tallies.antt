@@ -6,8 +6,7 @@ use Rattle.sqlite_trees.specs.Tree.{Trees}
 use Rattle.sqlite.specs.State.{State}
 use Rattle.td_movement.specs.States.{is_counting}
 use Rattle.td_movement.specs.declared.movement.Movement.{Movement}
-use Rattle.td_table_model.specs.Apart.{IsApart}
-use Rattle.td_table_model.specs.Gathering.{movements_by, part, place}
+use Rattle.td_table_model.specs.Gathering.{IsApart, movements_by, part, place}
 use Rattle.td_table_model.specs.Tables.{Keyed}
 use Rattle.td_table_model.specs.declared.rule.Rule.TheVariants.{S8}
 use Rattle.typed_sql.specs.Typed.{AreTyped}
@@ -20,17 +19,17 @@ use Rattle.td_store_load.specs.InUse.{total_on}
 use Rattle.td_store_audit_rows.specs.declared.holders.RawHolder.{RawHolder}
 use Rattle.td_store_audit.specs.Auditable.{IsAuditable, KeepsBefore}
 use Rattle.td_store_audit.specs.InFile.{AreTypedApart, IsSoWhere}
-use Rattle.td_store_audit.specs.declared.handed.HolderMovements.{HolderMovements}
-use Rattle.td_store_audit.specs.declared.handed.HolderParts.{HolderParts}
+use Rattle.td_store_audit.specs.declared.tallies.CountingSerials.{CountingSerials}
+use Rattle.td_store_audit.specs.declared.tallies.HolderLines.{HolderLines}
 
 -- whose movements they are, and which movements the lines are of
-abbrev pub raw_of : HolderMovements → RawHolder
+abbrev pub raw_of : CountingSerials → RawHolder
 raw_of h = h.raw
 
-abbrev pub movements_in : HolderParts → HolderMovements
+abbrev pub movements_in : HolderLines → CountingSerials
 movements_in h = h.movements
 
-abbrev pub raw_holder_of : HolderParts → RawHolder
+abbrev pub raw_holder_of : HolderLines → RawHolder
 raw_holder_of h = h.movements.raw
 
 -- whether the movement in a row counts against its guarantees
@@ -38,33 +37,33 @@ abbrev pub is_counting_row : Keyed Movement → Bool
 is_counting_row m = is_counting m.row.state
 
 -- these are the serials of the holder's movements that count, in their order
-abbrev pub AreCounting : Trees → HolderMovements → Type 0
+abbrev pub AreCounting : Trees → CountingSerials → Type 0
 AreCounting trees h = map serial_of_stored h.serials.items ≡ map place (filter is_counting_row (movements_by h.raw.holder (tables_in trees)))
 
 -- these are the holder's lines
-abbrev pub AreItsLines : Trees → HolderParts → Type 0
+abbrev pub AreItsLines : Trees → HolderLines → Type 0
 AreItsLines trees h = IsPermutation (part h.movements.raw.holder (tables_in trees).lines) (map line_row_of h.lines.items)
 
 -- so they are of each holder, where the tables that they are of are typed
-abbrev pub AreAllCounting : State → List HolderMovements → Type 0
+abbrev pub AreAllCounting : State → List CountingSerials → Type 0
 AreAllCounting state handed = IsSoWhere (AreTypedApart movement_typing) (λ trees. AllByRecursion (AreCounting trees) handed) state
 
-abbrev pub AreAllLines : State → List HolderParts → Type 0
+abbrev pub AreAllLines : State → List HolderLines → Type 0
 AreAllLines state handed = IsSoWhere (AreTyped line_typing) (λ trees. AllByRecursion (AreItsLines trees) handed) state
 
 -- what was handed on of a holder is so, and the holder's guarantees are typed
-pub record IsHandedOn (trees : Trees) (h : HolderParts) : Type 0 where
+pub record IsHandedOn (trees : Trees) (h : HolderLines) : Type 0 where
   pub guarantees : AreTypedApart guarantee_typing trees
   pub apart : IsApart place (part h.movements.raw.holder (tables_in trees).movements)
   pub counting : AreCounting trees h.movements
   pub lines : AreItsLines trees h
 
 -- by it what is in use on the guarantee in a row is at most its reference amount
-abbrev pub IsCoveredBy : HolderParts → StoredGuarantee → Type 0
+abbrev pub IsCoveredBy : HolderLines → StoredGuarantee → Type 0
 IsCoveredBy h g = total_on g.serial h.movements.serials.items h.lines.items ≤ g.guarantee.reference
 
 -- the rules before S8 are kept, and what was handed on of each holder is so
-pub record IsCoverAuditable (country : List ℕ) (handed : List HolderParts) (trees : Trees) : Type 0 where
+pub record IsCoverAuditable (country : List ℕ) (handed : List HolderLines) (trees : Trees) : Type 0 where
   pub known : IsAuditable trees country (map raw_holder_of handed)
   pub before : KeepsBefore trees S8
   pub counting : AllByRecursion (λ h. AreCounting trees (movements_in h)) handed

@@ -7,7 +7,7 @@ use td_store_rows::{MovementSerial, StoredLine};
 
 /// A holder, and the serials of the holder's movements that count against their guarantees, in ascending order.
 #[derive(Drop)]
-pub(crate) struct HolderMovements {
+pub(crate) struct CountingSerials {
     pub raw: RawHolder,
     pub serials: Vec<MovementSerial>,
     ghost order: { Rises serial_of_stored 0 serials.items } by { Rises-prop serial_of_stored 0 serials.items },
@@ -15,7 +15,7 @@ pub(crate) struct HolderMovements {
 
 /// That, and all lines of the holder's movements.
 #[derive(Drop)]
-pub(crate) struct HolderParts {
-    pub movements: HolderMovements,
+pub(crate) struct HolderLines {
+    pub movements: CountingSerials,
     pub lines: Vec<StoredLine>,
 }
