@@ -1,13 +1,13 @@
 -- What follows on a call that was well; and a text that doesn't write leaves all as it was.
 use Rattle.std.proofs.Common.{Err, List, Ok, OnOk, Result, ℕ}
 use Rattle.std.proofs.lemmas.Bool.{false≢true}
-use Rattle.std.specs.Prelude.{IfOk, is_ok, IsTrue}
+use Rattle.std.specs.Prelude.{IfOk, is_ok}
 use Rattle.sqlite_schema.specs.declared.schema.Schema.{Schema}
 use Rattle.sqlite.specs.Given.{IsPlain}
 use Rattle.sqlite.specs.Listing.{understood}
-use Rattle.sqlite.specs.State.{State, HasCleanDisk, KeepsCommit, Survives}
+use Rattle.sqlite.specs.State.{State, HasCleanDisk}
 use Rattle.typed_sql.proofs.OnlyRead.{one_read}
-use Rattle.typed_sql.specs.Reading.{LeavesAll, OnlyReads, Reads}
+use Rattle.typed_sql.specs.Reading.{LeavesAll, OnlyReads, Reads, StaysInside}
 
 -- what holds whatever a call answered
 pub any_ok : {T E P : Type 0} (r : Result T E) → P → OnOk r P
@@ -34,18 +34,14 @@ pub stays_ok : {T E : Type 0} (s : Schema) (text : List ℕ) → IsPlain (unders
 stays_ok s text plain old new r h = on_ok r (stays s text plain old new) h
 
 -- a statement that doesn't write has only read
-pub reads_by : {T E : Type 0} (s : Schema) (text : List ℕ) → IsPlain (understood s text) → (old new : State) (r : Result T E)
-    → (HasCleanDisk new → OnOk r (OnlyReads text old new)) → (HasCleanDisk new → OnOk r (IsTrue new.in_transaction))
-    → (HasCleanDisk new → KeepsCommit old new) → Survives old new (λ _. ⊥) → Reads s (is_ok r) old new
-reads_by s text plain old new (Ok x) still inside kept survives = record {
+pub reads_by : {T E : Type 0} (s : Schema) (text : List ℕ) → IsPlain (understood s text) → (old new : State)
+    (r : Result T E) → (HasCleanDisk new → OnOk r (OnlyReads text old new)) → StaysInside (is_ok r) old new
+    → Reads s (is_ok r) old new
+reads_by s text plain old new (Ok x) still within = record {
   still = λ clean well. one_read old new (stays s text plain old new (still clean));
-  inside = λ clean well. inside clean;
-  kept = kept;
-  survives = survives;
+  within = within;
 }
-reads_by s text plain old new (Err e) still inside kept survives = record {
+reads_by s text plain old new (Err e) still within = record {
   still = λ clean well. absurd (false≢true well);
-  inside = λ clean well. absurd (false≢true well);
-  kept = kept;
-  survives = survives;
+  within = within;
 }

@@ -59,10 +59,18 @@ pub record HasOnlyRead (old new : State) : Type 0 where
 abbrev pub OnlyRead : Schema → State → State → Type 0
 OnlyRead s old new = HasSchema old s → HasOnlyRead old new
 
--- Calls inside a transaction that only read: where they ended well, all is as it was and the transaction goes on, if the tables are
--- those of the schema; however they ended, nothing is committed, and a crash leaves what it could leave before.
-pub record Reads (s : Schema) (well : Bool) (old new : State) : Type 0 where
-  pub still : HasCleanDisk new → IsTrue well → OnlyRead s old new
+-- the caller's transaction is open, as far as the disk is clean
+abbrev pub IsInside : State → Type 0
+IsInside s = HasCleanDisk s → IsTrue s.in_transaction
+
+-- A call inside a transaction: where it ended well the transaction goes on; however it ended, nothing is committed, and a
+-- crash leaves what it could leave before.
+pub record StaysInside (well : Bool) (old new : State) : Type 0 where
   pub inside : HasCleanDisk new → IsTrue well → IsTrue new.in_transaction
   pub kept : HasCleanDisk new → KeepsCommit old new
   pub survives : Survives old new (λ _. ⊥)
+
+-- one that only reads: where it ended well, all is as it was, if the tables are those of the schema
+pub record Reads (s : Schema) (well : Bool) (old new : State) : Type 0 where
+  pub still : HasCleanDisk new → IsTrue well → OnlyRead s old new
+  pub within : StaysInside well old new
