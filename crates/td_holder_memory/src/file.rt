@@ -27,7 +27,7 @@ pub struct HolderFile {
 }
 
 impl Model for HolderFile {
-    ghost use Rattle.td_model.specs.Account.{HolderRows, holder_key};
+    ghost use Rattle.td_model.specs.Account.{HolderRows};
 
     ghost Value = { HolderRows };
 
@@ -35,6 +35,8 @@ impl Model for HolderFile {
 }
 
 impl Keyed for HolderFile {
+    ghost use Rattle.td_model.specs.Account.{holder_key};
+
     ghost key_of = { holder_key };
 
     fn key(&self) -> u32 {
