@@ -1,10 +1,10 @@
 //! What is looked up in the table of codes. It changes nothing. `DatabaseCorrupt`: a row is no code's; `OutOfMemory`: want
 //! of memory; any other error is the database's own.
-ghost use Rattle.std.specs.Prelude.{◌≡◌, IsTrue, IfOk, is_ok};
+ghost use Rattle.std.specs.Prelude.{◌≡◌, IfOk, is_ok};
 ghost use Rattle.sqlite.specs.Held.{state};
 ghost use Rattle.sqlite.specs.State.{HasCleanDisk};
 ghost use Rattle.td_schema.specs.Tables.{desk_schema};
-ghost use Rattle.typed_sql.specs.Reading.{Reads};
+ghost use Rattle.typed_sql.specs.Reading.{IsInside, Reads};
 ghost use Rattle.td_store_rows.specs.CodeTable.{AreByCode, AreCodes, is_code_of_guarantee};
 
 use crate::codes::stored::StoredCode;
@@ -22,7 +22,7 @@ pub fn codes_of<S: Alter>(
     holder: HolderNo,
     serial: u32,
 ) -> Result<Vec<StoredCode>, Error>
-    requires { HasCleanDisk (state S.Store tx.old.conn.now) → IsTrue (state S.Store tx.old.conn.now).in_transaction }
+    requires { IsInside (state S.Store tx.old.conn.now) }
     ensures same_reference { tx.new.conn.ghost_name ≡ tx.old.conn.ghost_name }
     ensures found { HasCleanDisk (state S.Store tx.new.conn.now)
         → IfOk result (λ found. AreCodes (is_code_of_guarantee holder serial) (state S.Store tx.old.conn.now) found.items) }

@@ -32,5 +32,4 @@ returns-clause-order g c clean =
 
 pub returns-clause-reads : goal.returns-clause-reads
 returns-clause-reads g c =
-    reads_by desk_schema OF_GUARANTEE.now of_guarantee_means.plain _ _ c.fetch.result
-    (λ clean. c.fetch.ensures.still clean) (λ clean. c.fetch.ensures.inside clean) (λ clean. c.fetch.ensures.kept clean) c.fetch.ensures.survives
+    reads_by desk_schema OF_GUARANTEE.now of_guarantee_means.plain _ _ c.fetch.result c.fetch.ensures.still c.fetch.ensures.within
