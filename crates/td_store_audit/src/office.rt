@@ -1,9 +1,9 @@
 //! S1: the office's own row is there, and its country is two capital letters.
-ghost use Rattle.std.specs.Prelude.{◌≡◌, [], ◌∷◌, IfOk, OnOk, is_ok};
+ghost use Rattle.std.specs.Prelude.{◌≡◌, [], ◌∷◌, IsTrue, IfOk, OnOk, is_ok};
 ghost use Rattle.sqlite.specs.Held.{state};
 ghost use Rattle.sqlite.specs.State.{HasCleanDisk};
 ghost use Rattle.td_schema.specs.Tables.{desk_schema};
-ghost use Rattle.typed_sql.specs.Reading.{IsInside, LeavesAll, StaysInside};
+ghost use Rattle.typed_sql.specs.Reading.{IsInside, Reads};
 ghost use Rattle.typed_sql.specs.Writing.{HasSchema};
 ghost use Rattle.td_store_audit.specs.Broken.{ShowsCountry, TellsCountry};
 
@@ -24,9 +24,9 @@ pub(crate) fn office_country<S: Alter>(
     ensures told { HasCleanDisk (state S.Store tx.new.conn.now)
         → IfOk result (λ country. HasSchema (state S.Store tx.old.conn.now) desk_schema
         → TellsCountry (state S.Store tx.old.conn.now).now.trees country) }
-    ensures still { HasCleanDisk (state S.Store tx.new.conn.now)
-        → OnOk result (LeavesAll desk_schema (state S.Store tx.old.conn.now) (state S.Store tx.new.conn.now)) }
-    ensures within { StaysInside (is_ok result) (state S.Store tx.old.conn.now) (state S.Store tx.new.conn.now) }
+    ensures reads { Reads desk_schema (is_ok result) (state S.Store tx.old.conn.now) (state S.Store tx.new.conn.now) }
+    ensures was_open { HasCleanDisk (state S.Store tx.new.conn.now)
+        → OnOk result (HasSchema (state S.Store tx.old.conn.now) desk_schema → IsTrue (state S.Store tx.old.conn.now).is_open) }
 {
     let rows = select(tx, OFFICE, &[])?;
     only_country(&rows)

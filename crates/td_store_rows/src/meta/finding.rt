@@ -1,9 +1,10 @@
 //! What is looked up in the table `meta`. It changes nothing.
-ghost use Rattle.std.specs.Prelude.{◌≡◌, IfOk, is_ok};
+ghost use Rattle.std.specs.Prelude.{◌≡◌, IsTrue, IfOk, OnOk, is_ok};
 ghost use Rattle.sqlite.specs.Held.{state};
 ghost use Rattle.sqlite.specs.State.{HasCleanDisk};
 ghost use Rattle.td_schema.specs.Tables.{desk_schema};
 ghost use Rattle.typed_sql.specs.Reading.{IsInside, Reads};
+ghost use Rattle.typed_sql.specs.Writing.{HasSchema};
 ghost use Rattle.td_store_rows.specs.MetaTable.{IsTheMeta};
 
 use crate::meta::stored::{StoredMeta, only_meta};
@@ -19,6 +20,8 @@ pub fn find_meta<S: Alter>(tx: &mut Transaction<'_, S>) -> Result<Option<StoredM
     ensures found { HasCleanDisk (state S.Store tx.new.conn.now)
         → IfOk result (IsTheMeta (state S.Store tx.old.conn.now)) }
     ensures reads { Reads desk_schema (is_ok result) (state S.Store tx.old.conn.now) (state S.Store tx.new.conn.now) }
+    ensures was_open { HasCleanDisk (state S.Store tx.new.conn.now)
+        → OnOk result (HasSchema (state S.Store tx.old.conn.now) desk_schema → IsTrue (state S.Store tx.old.conn.now).is_open) }
 {
     let rows = typed_sql::select(tx, FIND, &[])?;
     only_meta(rows)
