@@ -36,12 +36,6 @@ read_more a b d first second has =
           unchanged_then a b d before (two.unchanged before.0.is_open);
     }
 
--- calls after one that leaves all as it was, and so has shown the connection open
-pub then_read : {s : Schema} (a b d : State) → LeavesAll s a b → OnlyRead s b d → LeavesAll s a d
-then_read a b d first second has =
-    let one = first has in
-    unchanged_then a b d one ((second (still_has a b has (one_read a b first has))).unchanged one.0.is_open)
-
 -- no call inside a transaction
 pub stays_nothing : {w : Bool} {a : State} → IsInside a → StaysInside w a a
 stays_nothing inside = record {
@@ -78,10 +72,6 @@ stays_well first = record {
   kept = first.kept;
   survives = first.survives;
 }
-
--- no call that reads
-pub reads_nothing : {s : Schema} {w : Bool} {a : State} → IsInside a → Reads s w a a
-reads_nothing {s} {w} {a} inside = record { still = λ clean well. none_read a; within = stays_nothing inside }
 
 -- calls that read after calls that read and ended well
 pub reads_on : {s : Schema} {w : Bool} {a b d : State} → Reads s true a b → Reads s w b d → Reads s w a d

@@ -9,7 +9,7 @@ use Rattle.td_store_load.specs.Loaded.{IsOfTables}
 use Rattle.td_store_load.proofs.Found.{next_of}
 use Rattle.td_store_load.proofs.movements.all_with_lines.Goals as goal
 use Rattle.typed_sql.specs.Reading.{Reads}
-use Rattle.typed_sql.proofs.OnlyRead.{reads_on}
+use Rattle.typed_sql.proofs.OnlyRead.{reads_on, reads_well}
 use Rattle.td_schema.specs.Tables.{desk_schema}
 
 pub rows-preserved : goal.rows-preserved
@@ -43,3 +43,6 @@ rows-preserved g c = (
     -- what is loaded by a copy of the row is what the row says
     of_row : {m : Movement} → IsOfTables (λ t. with_lines t (movement_row_of stored)) b m → IsOfTables (λ t. with_lines t (movement_row_of c.row-item.result)) b m
     of_row {m} = subst (λ (r : StoredMovement). IsOfTables (λ t. with_lines t (movement_row_of r)) b m) (ap (λ (m : Movement). record c.row-item.result { movement = m }) c.in_ok-copy.ensures)
+
+pub returns-in_err-push-clause-reads : goal.returns-in_err-push-clause-reads
+returns-in_err-push-clause-reads g c = reads_well (reads_on c.rows.invariant.1 c.in_ok-movement.ensures.reads)

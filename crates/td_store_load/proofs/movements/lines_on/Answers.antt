@@ -6,7 +6,7 @@ use Rattle.td_table_model.specs.Gathering.{line_from}
 use Rattle.td_store_load.proofs.Found.{next_of}
 use Rattle.td_store_load.proofs.movements.lines_on.Goals as goal
 use Rattle.typed_sql.specs.Reading.{Reads}
-use Rattle.typed_sql.proofs.OnlyRead.{reads_on}
+use Rattle.typed_sql.proofs.OnlyRead.{reads_on, reads_well}
 use Rattle.td_schema.specs.Tables.{desk_schema}
 
 pub rows-preserved : goal.rows-preserved
@@ -33,3 +33,6 @@ rows-preserved g c = (
 
     clean_b : HasCleanDisk d → HasCleanDisk b
     clean_b clean = omega (arith, clean, c.line_on.ensures.reads.within.survives.clean)
+
+pub returns-in_err-push-clause-reads : goal.returns-in_err-push-clause-reads
+returns-in_err-push-clause-reads g c = reads_well (reads_on c.rows.invariant.1 c.in_ok-line.ensures.reads)
