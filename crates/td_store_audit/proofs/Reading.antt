@@ -1,10 +1,11 @@
 -- What was told of a store's file is so before the calls that told it, since they only read.
-use Rattle.std.proofs.Common.{subst, sym}
+use Rattle.std.proofs.Common.{Err, Ok, OnOk, Result, refl, subst, sym}
+use Rattle.std.specs.Prelude.{is_ok, IsTrue}
 use Rattle.sqlite_trees.specs.Tree.{Trees}
 use Rattle.sqlite.specs.Effect.{Database}
-use Rattle.sqlite.specs.State.{State}
+use Rattle.sqlite.specs.State.{State, HasCleanDisk}
 use Rattle.td_schema.specs.Tables.{desk_schema}
-use Rattle.typed_sql.specs.Reading.{OnlyRead}
+use Rattle.typed_sql.specs.Reading.{OnlyRead, Reads, StaysInside}
 use Rattle.typed_sql.proofs.OnlyRead.{still_has}
 use Rattle.td_store_audit.specs.InFile.{IsSoWhere}
 
@@ -14,3 +15,14 @@ so_before Q P a b read so has where_so =
     let one = read has in
     subst (λ (d : Database). P d.trees) one.now_is
     (so (still_has a b has one) (subst (λ (d : Database). Q d.trees) (sym one.now_is) where_so))
+
+-- what one clause says of a call, said clause by clause
+pub still_ok : {T E : Type 0} {a b : State} (r : Result T E) → Reads desk_schema (is_ok r) a b → HasCleanDisk b
+    → OnOk r (OnlyRead desk_schema a b)
+still_ok (Ok x) reads clean = reads.still clean refl
+still_ok (Err e) reads clean = tt
+
+pub inside_ok : {T E : Type 0} {a b : State} (r : Result T E) → StaysInside (is_ok r) a b → HasCleanDisk b
+    → OnOk r (IsTrue b.in_transaction)
+inside_ok (Ok x) within clean = within.inside clean refl
+inside_ok (Err e) within clean = tt

@@ -1,13 +1,13 @@
 //! S8: on each guarantee the amount in use is at most the reference amount.
-ghost use Rattle.std.specs.Prelude.{◌≡◌, ◌↔◌, ℕ, List, IsTrue, IfOk, OnOk};
+ghost use Rattle.std.specs.Prelude.{◌≡◌, ◌↔◌, ℕ, List, IsTrue, IfOk, is_ok};
 ghost use Rattle.std.specs.List.{AllByRecursion};
 ghost use Rattle.sqlite.specs.Held.{state};
-ghost use Rattle.sqlite.specs.State.{HasCleanDisk, KeepsCommit, Survives};
+ghost use Rattle.sqlite.specs.State.{HasCleanDisk};
 ghost use Rattle.td_table_model.specs.declared.rule.Rule.TheVariants.{S8};
 ghost use Rattle.td_store_audit_rows.specs.Untyped.{KeepsUntyped};
 ghost use Rattle.td_store_audit.specs.Tallies.{IsCoverAuditable, IsCoveredBy, IsHandedOn, raw_holder_of};
 ghost use Rattle.td_store_audit.specs.InFile.{IsHolderCoveredInFile, TellsWhere};
-ghost use Rattle.typed_sql.specs.Reading.{OnlyRead};
+ghost use Rattle.typed_sql.specs.Reading.{IsInside, Reads};
 ghost use Rattle.td_schema.specs.Tables.{desk_schema};
 
 use crate::tallies::HolderLines;
@@ -26,17 +26,12 @@ pub(crate) fn cover_keeps_rule<S: Alter>(
     tx: &mut Transaction<'_, S>,
     handed: &[HolderLines],
 ) -> Result<bool, Error>
-    requires { HasCleanDisk (state S.Store tx.old.conn.now) → IsTrue (state S.Store tx.old.conn.now).in_transaction }
+    requires { IsInside (state S.Store tx.old.conn.now) }
     ensures same_reference { tx.new.conn.ghost_name ≡ tx.old.conn.ghost_name }
     ensures told { HasCleanDisk (state S.Store tx.new.conn.now)
         → IfOk result (λ keeps. (country : List ℕ)
         → TellsWhere (IsCoverAuditable country handed.now) (λ trees. KeepsUntyped trees S8) (state S.Store tx.old.conn.now) keeps) }
-    ensures still { HasCleanDisk (state S.Store tx.new.conn.now)
-        → OnOk result (OnlyRead desk_schema (state S.Store tx.old.conn.now) (state S.Store tx.new.conn.now)) }
-    ensures inside { HasCleanDisk (state S.Store tx.new.conn.now) → OnOk result (IsTrue (state S.Store tx.new.conn.now).in_transaction) }
-    ensures kept { HasCleanDisk (state S.Store tx.new.conn.now)
-        → KeepsCommit (state S.Store tx.old.conn.now) (state S.Store tx.new.conn.now) }
-    ensures survives { Survives (state S.Store tx.old.conn.now) (state S.Store tx.new.conn.now) (λ _. ⊥) }
+    ensures reads { Reads desk_schema (is_ok result) (state S.Store tx.old.conn.now) (state S.Store tx.new.conn.now) }
 {
     found_holders_tell();
     all_holders_covered(alloc, tx, handed)
@@ -48,17 +43,12 @@ fn all_holders_covered<S: Alter>(
     tx: &mut Transaction<'_, S>,
     handed: &[HolderLines],
 ) -> Result<bool, Error>
-    requires { HasCleanDisk (state S.Store tx.old.conn.now) → IsTrue (state S.Store tx.old.conn.now).in_transaction }
+    requires { IsInside (state S.Store tx.old.conn.now) }
     ensures same_reference { tx.new.conn.ghost_name ≡ tx.old.conn.ghost_name }
     ensures told { HasCleanDisk (state S.Store tx.new.conn.now)
         → IfOk result (TellsWhere (λ trees. AllByRecursion (IsHandedOn trees) handed.now)
         (λ trees. AllByRecursion (λ h. IsHolderCoveredInFile trees (raw_holder_of h)) handed.now) (state S.Store tx.old.conn.now)) }
-    ensures still { HasCleanDisk (state S.Store tx.new.conn.now)
-        → OnOk result (OnlyRead desk_schema (state S.Store tx.old.conn.now) (state S.Store tx.new.conn.now)) }
-    ensures inside { HasCleanDisk (state S.Store tx.new.conn.now) → OnOk result (IsTrue (state S.Store tx.new.conn.now).in_transaction) }
-    ensures kept { HasCleanDisk (state S.Store tx.new.conn.now)
-        → KeepsCommit (state S.Store tx.old.conn.now) (state S.Store tx.new.conn.now) }
-    ensures survives { Survives (state S.Store tx.old.conn.now) (state S.Store tx.new.conn.now) (λ _. ⊥) }
+    ensures reads { Reads desk_schema (is_ok result) (state S.Store tx.old.conn.now) (state S.Store tx.new.conn.now) }
 {
     'holders: for parts in handed {
         if !is_holder_covered(alloc, tx, parts)? {
@@ -74,16 +64,11 @@ fn is_holder_covered<S: Alter>(
     tx: &mut Transaction<'_, S>,
     parts: &HolderLines,
 ) -> Result<bool, Error>
-    requires { HasCleanDisk (state S.Store tx.old.conn.now) → IsTrue (state S.Store tx.old.conn.now).in_transaction }
+    requires { IsInside (state S.Store tx.old.conn.now) }
     ensures same_reference { tx.new.conn.ghost_name ≡ tx.old.conn.ghost_name }
     ensures told { HasCleanDisk (state S.Store tx.new.conn.now)
         → IfOk result (TellsWhere (λ trees. IsHandedOn trees parts.now) (λ trees. IsHolderCoveredInFile trees (raw_holder_of parts.now)) (state S.Store tx.old.conn.now)) }
-    ensures still { HasCleanDisk (state S.Store tx.new.conn.now)
-        → OnOk result (OnlyRead desk_schema (state S.Store tx.old.conn.now) (state S.Store tx.new.conn.now)) }
-    ensures inside { HasCleanDisk (state S.Store tx.new.conn.now) → OnOk result (IsTrue (state S.Store tx.new.conn.now).in_transaction) }
-    ensures kept { HasCleanDisk (state S.Store tx.new.conn.now)
-        → KeepsCommit (state S.Store tx.old.conn.now) (state S.Store tx.new.conn.now) }
-    ensures survives { Survives (state S.Store tx.old.conn.now) (state S.Store tx.new.conn.now) (λ _. ⊥) }
+    ensures reads { Reads desk_schema (is_ok result) (state S.Store tx.old.conn.now) (state S.Store tx.new.conn.now) }
 {
     let rows = guarantees_of(alloc, tx, parts.movements.raw.holder)?;
     Ok(all_rows_covered(parts, &rows))

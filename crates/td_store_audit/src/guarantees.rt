@@ -1,5 +1,5 @@
 //! S3: each holder's guarantees have the serials from 1 to their count in the holder's row, and their columns are in range.
-ghost use Rattle.std.specs.Prelude.{◌≡◌, IsTrue, IfOk, OnOk};
+ghost use Rattle.std.specs.Prelude.{◌≡◌, IsTrue, IfOk, OnOk, is_ok};
 ghost use Rattle.std.specs.List.{AllByRecursion};
 ghost use Rattle.sqlite.specs.Held.{state};
 ghost use Rattle.sqlite.specs.State.{HasCleanDisk, KeepsCommit, Survives};
@@ -9,7 +9,7 @@ ghost use Rattle.td_store_audit_rows.specs.Fields.{AreGuaranteeFields};
 ghost use Rattle.td_store_audit_rows.specs.Scans.{TellsRead};
 ghost use Rattle.td_store_audit.specs.Auditable.{TellsRule};
 ghost use Rattle.td_store_audit.specs.InFile.{AreTypedApart, HasGuaranteesInPlace, TellsWhere};
-ghost use Rattle.typed_sql.specs.Reading.{OnlyRead};
+ghost use Rattle.typed_sql.specs.Reading.{IsInside, OnlyRead, Reads};
 ghost use Rattle.td_schema.specs.Tables.{desk_schema};
 
 use sqlite::{Error, Transaction};
@@ -58,17 +58,12 @@ fn all_have_guarantees<S: Alter>(
     country: Country,
     holders: &[RawHolder],
 ) -> Result<bool, Error>
-    requires { HasCleanDisk (state S.Store tx.old.conn.now) → IsTrue (state S.Store tx.old.conn.now).in_transaction }
+    requires { IsInside (state S.Store tx.old.conn.now) }
     ensures same_reference { tx.new.conn.ghost_name ≡ tx.old.conn.ghost_name }
     ensures told { HasCleanDisk (state S.Store tx.new.conn.now)
         → IfOk result (TellsWhere (AreTypedApart guarantee_typing) (λ trees. AllByRecursion (HasGuaranteesInPlace country trees) holders.now)
         (state S.Store tx.old.conn.now)) }
-    ensures still { HasCleanDisk (state S.Store tx.new.conn.now)
-        → OnOk result (OnlyRead desk_schema (state S.Store tx.old.conn.now) (state S.Store tx.new.conn.now)) }
-    ensures inside { HasCleanDisk (state S.Store tx.new.conn.now) → OnOk result (IsTrue (state S.Store tx.new.conn.now).in_transaction) }
-    ensures kept { HasCleanDisk (state S.Store tx.new.conn.now)
-        → KeepsCommit (state S.Store tx.old.conn.now) (state S.Store tx.new.conn.now) }
-    ensures survives { Survives (state S.Store tx.old.conn.now) (state S.Store tx.new.conn.now) (λ _. ⊥) }
+    ensures reads { Reads desk_schema (is_ok result) (state S.Store tx.old.conn.now) (state S.Store tx.new.conn.now) }
 {
     'holders: for raw in holders {
         if !has_guarantees(alloc, tx, country, raw)? {
@@ -85,16 +80,11 @@ fn has_guarantees<S: Alter>(
     country: Country,
     raw: &RawHolder,
 ) -> Result<bool, Error>
-    requires { HasCleanDisk (state S.Store tx.old.conn.now) → IsTrue (state S.Store tx.old.conn.now).in_transaction }
+    requires { IsInside (state S.Store tx.old.conn.now) }
     ensures same_reference { tx.new.conn.ghost_name ≡ tx.old.conn.ghost_name }
     ensures told { HasCleanDisk (state S.Store tx.new.conn.now)
         → IfOk result (TellsWhere (AreTypedApart guarantee_typing) (λ trees. HasGuaranteesInPlace country trees raw.now) (state S.Store tx.old.conn.now)) }
-    ensures still { HasCleanDisk (state S.Store tx.new.conn.now)
-        → OnOk result (OnlyRead desk_schema (state S.Store tx.old.conn.now) (state S.Store tx.new.conn.now)) }
-    ensures inside { HasCleanDisk (state S.Store tx.new.conn.now) → OnOk result (IsTrue (state S.Store tx.new.conn.now).in_transaction) }
-    ensures kept { HasCleanDisk (state S.Store tx.new.conn.now)
-        → KeepsCommit (state S.Store tx.old.conn.now) (state S.Store tx.new.conn.now) }
-    ensures survives { Survives (state S.Store tx.old.conn.now) (state S.Store tx.new.conn.now) (λ _. ⊥) }
+    ensures reads { Reads desk_schema (is_ok result) (state S.Store tx.old.conn.now) (state S.Store tx.new.conn.now) }
 {
     let Some(count) = raw.grn_count else {
         return Ok(false);

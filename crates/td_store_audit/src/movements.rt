@@ -1,8 +1,8 @@
 //! S5: each holder's movements have the serials from 1 to their count in the holder's row, and their columns are in range.
-ghost use Rattle.std.specs.Prelude.{◌≡◌, filter, is_some, map, IsTrue, IfOk, IfSome, OnOk};
+ghost use Rattle.std.specs.Prelude.{◌≡◌, filter, is_some, map, IfOk, IfSome, is_ok};
 ghost use Rattle.std.specs.List.{AllByRecursion};
 ghost use Rattle.sqlite.specs.Held.{state};
-ghost use Rattle.sqlite.specs.State.{HasCleanDisk, KeepsCommit, Survives};
+ghost use Rattle.sqlite.specs.State.{HasCleanDisk};
 ghost use Rattle.td_store_rows.specs.Columns.{movement_typing};
 ghost use Rattle.td_store_rows.specs.MovementTable.{movement_row_of, serial_of_stored};
 ghost use Rattle.td_table_model.specs.Gathering.{place};
@@ -12,7 +12,7 @@ ghost use Rattle.td_store_audit_rows.specs.Scans.{TellsRead};
 ghost use Rattle.td_store_audit.specs.Auditable.{TellsRule};
 ghost use Rattle.td_store_audit.specs.Tallies.{AreAllCounting, AreCounting, is_counting_row, raw_of};
 ghost use Rattle.td_store_audit.specs.InFile.{AreTypedApart, HasMovementsInPlace, IsSoWhere, TellsWhere};
-ghost use Rattle.typed_sql.specs.Reading.{OnlyRead};
+ghost use Rattle.typed_sql.specs.Reading.{IsInside, Reads};
 ghost use Rattle.td_schema.specs.Tables.{desk_schema};
 
 use crate::tallies::CountingSerials;
@@ -36,7 +36,7 @@ pub(crate) fn movements_keep_rule<S: Alter>(
     holders: &[RawHolder],
     are_read: bool,
 ) -> Result<Option<Vec<CountingSerials>>, Error>
-    requires { HasCleanDisk (state S.Store tx.old.conn.now) → IsTrue (state S.Store tx.old.conn.now).in_transaction }
+    requires { IsInside (state S.Store tx.old.conn.now) }
     ensures same_reference { tx.new.conn.ghost_name ≡ tx.old.conn.ghost_name }
     ensures told { HasCleanDisk (state S.Store tx.new.conn.now)
         → IfOk result (λ found. TellsRead movement_typing AreMovementFields (state S.Store tx.old.conn.now).now.trees are_read
@@ -44,12 +44,7 @@ pub(crate) fn movements_keep_rule<S: Alter>(
     ensures holders { IfOk result (λ found. IfSome found (λ each. map raw_of each.items ≡ holders.now)) }
     ensures handed { HasCleanDisk (state S.Store tx.new.conn.now)
         → IfOk result (λ found. IfSome found (λ each. AreAllCounting (state S.Store tx.old.conn.now) each.items)) }
-    ensures still { HasCleanDisk (state S.Store tx.new.conn.now)
-        → OnOk result (OnlyRead desk_schema (state S.Store tx.old.conn.now) (state S.Store tx.new.conn.now)) }
-    ensures inside { HasCleanDisk (state S.Store tx.new.conn.now) → OnOk result (IsTrue (state S.Store tx.new.conn.now).in_transaction) }
-    ensures kept { HasCleanDisk (state S.Store tx.new.conn.now)
-        → KeepsCommit (state S.Store tx.old.conn.now) (state S.Store tx.new.conn.now) }
-    ensures survives { Survives (state S.Store tx.old.conn.now) (state S.Store tx.new.conn.now) (λ _. ⊥) }
+    ensures reads { Reads desk_schema (is_ok result) (state S.Store tx.old.conn.now) (state S.Store tx.new.conn.now) }
 {
     found_holders_tell();
     kept_rules_are_read();
@@ -66,7 +61,7 @@ fn all_kept_movements<S: Alter>(
     country: Country,
     holders: &[RawHolder],
 ) -> Result<Option<Vec<CountingSerials>>, Error>
-    requires { HasCleanDisk (state S.Store tx.old.conn.now) → IsTrue (state S.Store tx.old.conn.now).in_transaction }
+    requires { IsInside (state S.Store tx.old.conn.now) }
     ensures same_reference { tx.new.conn.ghost_name ≡ tx.old.conn.ghost_name }
     ensures told { HasCleanDisk (state S.Store tx.new.conn.now)
         → IfOk result (λ found. TellsWhere (AreTypedApart movement_typing) (λ trees. AllByRecursion (HasMovementsInPlace country trees) holders.now)
@@ -74,12 +69,7 @@ fn all_kept_movements<S: Alter>(
     ensures holders { IfOk result (λ found. IfSome found (λ each. map raw_of each.items ≡ holders.now)) }
     ensures handed { HasCleanDisk (state S.Store tx.new.conn.now)
         → IfOk result (λ found. IfSome found (λ each. AreAllCounting (state S.Store tx.old.conn.now) each.items)) }
-    ensures still { HasCleanDisk (state S.Store tx.new.conn.now)
-        → OnOk result (OnlyRead desk_schema (state S.Store tx.old.conn.now) (state S.Store tx.new.conn.now)) }
-    ensures inside { HasCleanDisk (state S.Store tx.new.conn.now) → OnOk result (IsTrue (state S.Store tx.new.conn.now).in_transaction) }
-    ensures kept { HasCleanDisk (state S.Store tx.new.conn.now)
-        → KeepsCommit (state S.Store tx.old.conn.now) (state S.Store tx.new.conn.now) }
-    ensures survives { Survives (state S.Store tx.old.conn.now) (state S.Store tx.new.conn.now) (λ _. ⊥) }
+    ensures reads { Reads desk_schema (is_ok result) (state S.Store tx.old.conn.now) (state S.Store tx.new.conn.now) }
 {
     let mut handed = Vec::with_capacity(alloc, holders.len())?;
     'holders: for raw in holders {
@@ -98,7 +88,7 @@ fn kept_movements<S: Alter>(
     country: Country,
     raw: &RawHolder,
 ) -> Result<Option<CountingSerials>, Error>
-    requires { HasCleanDisk (state S.Store tx.old.conn.now) → IsTrue (state S.Store tx.old.conn.now).in_transaction }
+    requires { IsInside (state S.Store tx.old.conn.now) }
     ensures same_reference { tx.new.conn.ghost_name ≡ tx.old.conn.ghost_name }
     ensures told { HasCleanDisk (state S.Store tx.new.conn.now)
         → IfOk result (λ found. TellsWhere (AreTypedApart movement_typing) (λ trees. HasMovementsInPlace country trees raw.now)
@@ -106,12 +96,7 @@ fn kept_movements<S: Alter>(
     ensures holder { IfOk result (λ found. IfSome found (λ h. raw_of h ≡ raw.now)) }
     ensures handed { HasCleanDisk (state S.Store tx.new.conn.now)
         → IfOk result (λ found. IfSome found (λ h. IsSoWhere (AreTypedApart movement_typing) (λ trees. AreCounting trees h) (state S.Store tx.old.conn.now))) }
-    ensures still { HasCleanDisk (state S.Store tx.new.conn.now)
-        → OnOk result (OnlyRead desk_schema (state S.Store tx.old.conn.now) (state S.Store tx.new.conn.now)) }
-    ensures inside { HasCleanDisk (state S.Store tx.new.conn.now) → OnOk result (IsTrue (state S.Store tx.new.conn.now).in_transaction) }
-    ensures kept { HasCleanDisk (state S.Store tx.new.conn.now)
-        → KeepsCommit (state S.Store tx.old.conn.now) (state S.Store tx.new.conn.now) }
-    ensures survives { Survives (state S.Store tx.old.conn.now) (state S.Store tx.new.conn.now) (λ _. ⊥) }
+    ensures reads { Reads desk_schema (is_ok result) (state S.Store tx.old.conn.now) (state S.Store tx.new.conn.now) }
 {
     let Some(count) = raw.mrn_count else {
         return Ok(None);

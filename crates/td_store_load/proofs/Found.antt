@@ -22,7 +22,7 @@ use Rattle.td_table_model.proofs.KeepingRules.{keep_rules}
 use Rattle.td_table_model.proofs.Looked.{account_is, are_found}
 use Rattle.td_table_model.proofs.Told.{references_tell}
 use Rattle.td_schema.specs.Tables.{desk_schema}
-use Rattle.typed_sql.specs.Reading.{LeavesAll, OnlyRead}
+use Rattle.typed_sql.specs.Reading.{OnlyRead}
 use Rattle.td_store_rows.specs.CodeTable.{AreByCode, code_row_of as row_of_code}
 use Rattle.td_store_rows.specs.declared.codes.stored.StoredCode.{StoredCode}
 use Rattle.td_store_rows.specs.GuaranteeTable.{IsTheGuarantee, has_grn, has_serial, guarantee_row_of as row_of_guarantee}
@@ -35,7 +35,6 @@ use Rattle.td_store_rows.specs.StoreTables.{HoldsContent, tables_in}
 use Rattle.td_store_load.specs.Loaded.{IsOfTables, code_of}
 use Rattle.td_store_load.proofs.Reading.{said_before}
 use Rattle.td_store_load.proofs.Whole.{code_forms, codes_ascend, found_alone, grn_alone, next_code}
-use Rattle.typed_sql.proofs.OnlyRead.{one_read}
 
 -- the next of codes in ascending order
 pub next_put : (rows : List StoredCode) (i : ℕ) (d row : StoredCode) → i < length rows → row ≡ get_or rows i d → AreAscending (map code_of rows)
@@ -74,24 +73,24 @@ next_of f a b rows i d row found x within is left before next content holds =
     ∙ sym (map-append (f t) (take i rows) (get_or rows i d ∷ [])) ∙ ap (map (f t)) (sym (take_more rows i d within))
 
 -- a movement with its lines
-pub whole_movement : (a b : State) (stored : StoredMovement) (rows : List StoredLine) (lines : List Line) → AreByNumber stored.holder stored.serial a rows → LeavesAll desk_schema a b
+pub whole_movement : (a b : State) (stored : StoredMovement) (rows : List StoredLine) (lines : List Line) → AreByNumber stored.holder stored.serial a rows → OnlyRead desk_schema a b
     → IsOfTables (λ t. map (λ r. line_from t (row_of_line r)) rows) b lines → IsOfTables (λ t. with_lines t (row_of_movement stored)) a (record stored.movement { lines = lines })
 whole_movement a b stored rows lines order still each content holds =
     let t : Tables = tables_in a.now.trees in
     let keep : KeepRules t = keep_rules t content holds.sound holds.tables in
     let found : map row_of_line rows ≡ lines_by stored.holder stored.serial t = order holds.schema holds.typed.lines (keep.stored.lines stored.holder stored.serial) in
     ap (λ (l : List Line). record stored.movement { lines = l })
-    (said_before (λ t. map (λ r. line_from t (row_of_line r)) rows) a b lines (one_read a b still) each content holds
+    (said_before (λ t. map (λ r. line_from t (row_of_line r)) rows) a b lines still each content holds
     ∙ sym (map-map (line_from t) row_of_line rows) ∙ ap (map (line_from t)) found)
 
 -- all movements of a holder
-pub all_movements : (a b : State) (H : ℕ) (rows : List StoredMovement) (movements : List Movement) → AreBySerial (is_of H) a rows → LeavesAll desk_schema a b
+pub all_movements : (a b : State) (H : ℕ) (rows : List StoredMovement) (movements : List Movement) → AreBySerial (is_of H) a rows → OnlyRead desk_schema a b
     → IsOfTables (λ t. map (λ r. with_lines t (row_of_movement r)) rows) b movements → (content : Content) → HoldsContent content a → movements ≡ (account_in H content).movements
 all_movements a b H rows movements order still each content holds =
     let t : Tables = tables_in a.now.trees in
     let keep : KeepRules t = keep_rules t content holds.sound holds.tables in
     let found : map row_of_movement rows ≡ movements_by H t = order holds.schema holds.typed.movements (keep.stored.movements H) in
-    said_before (λ t. map (λ r. with_lines t (row_of_movement r)) rows) a b movements (one_read a b still) each content holds
+    said_before (λ t. map (λ r. with_lines t (row_of_movement r)) rows) a b movements still each content holds
     ∙ sym (map-map (with_lines t) row_of_movement rows) ∙ ap (map (with_lines t)) found
     ∙ ap (λ (account : Account). account.movements) (sym (account_is t content holds.sound holds.tables H))
 

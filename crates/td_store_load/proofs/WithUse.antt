@@ -24,7 +24,7 @@ use Rattle.td_table_model.proofs.Numbered.{map_same}
 use Rattle.td_table_model.proofs.Rebuilt.{all_in_order}
 use Rattle.td_table_model.proofs.Told.{tell_keys}
 use Rattle.td_schema.specs.Tables.{desk_schema}
-use Rattle.typed_sql.specs.Reading.{LeavesAll}
+use Rattle.typed_sql.specs.Reading.{OnlyRead}
 use Rattle.td_store_rows.specs.GuaranteeTable.{AreBySerial, is_of, guarantee_row_of}
 use Rattle.td_store_rows.specs.declared.guarantees.stored.StoredGuarantee.{StoredGuarantee}
 use Rattle.td_store_rows.specs.StoreTables.{HoldsContent, tables_in}
@@ -32,7 +32,6 @@ use Rattle.td_store_load.specs.InUse.{IsInUse}
 use Rattle.td_store_load.specs.Loaded.{IsOfTables}
 use Rattle.td_store_load.proofs.Reading.{said_before}
 use Rattle.td_store_load.specs.Needed.{entry_from, with_use}
-use Rattle.typed_sql.proofs.OnlyRead.{one_read}
 
 -- what is found is found among more
 found_in_more : (grn : List ℕ) (g : Guarantee) (gs : List Guarantee) → IsSome (guarantee_by_grn grn gs) → IsSome (guarantee_by_grn grn (g ∷ gs))
@@ -115,12 +114,12 @@ module _ (a : State) (H : ℕ) (content : Content) (holds : HoldsContent content
       (all_both (λ r. owner r ≡ H) IsTold (λ r. (owner r ≡ H) × IsTold r) (λ r is tells. (is, tells)) (guarantees_by H t) own told) there
 
   -- all guarantees of the holder, and the amounts in use on them
-  pub all_entries : (b : State) (rows : List StoredGuarantee) (entries : List (Guarantee × ℕ)) → AreBySerial (is_of H) a rows → LeavesAll desk_schema a b
+  pub all_entries : (b : State) (rows : List StoredGuarantee) (entries : List (Guarantee × ℕ)) → AreBySerial (is_of H) a rows → OnlyRead desk_schema a b
       → IsOfTables (λ t. map (λ r. entry_from t (guarantee_row_of r)) rows) b entries → entries ≡ map (with_use account) account.guarantees
   all_entries b rows entries order still each =
       let keep : KeepRules t = keep_rules t content holds.sound holds.tables in
       let found : map guarantee_row_of rows ≡ guarantees_by H t = order holds.schema holds.typed.guarantees (keep.stored.guarantees H) in
-      said_before (λ t. map (λ r. entry_from t (guarantee_row_of r)) rows) a b entries (one_read a b still) each content holds
+      said_before (λ t. map (λ r. entry_from t (guarantee_row_of r)) rows) a b entries still each content holds
       ∙ sym (map-map (entry_from t) guarantee_row_of rows) ∙ ap (map (entry_from t)) found
       ∙ map_same (entry_from t) (λ r. with_use account (with_codes t r)) (guarantees_by H t) rows_used
       ∙ sym (map-map (with_use account) (with_codes t) (guarantees_by H t)) ∙ ap (map (with_use account)) (sym guarantees_are)

@@ -1,13 +1,13 @@
 //! Movements with their lines. `DatabaseCorrupt`: a row is no such row, there are several where there can be one, or the
 //! guarantee of a line isn't there; `OutOfMemory`: want of memory; any other error is the database's own.
-ghost use Rattle.std.specs.Prelude.{◌≡◌, map, IsTrue, IfOk, OnOk};
+ghost use Rattle.std.specs.Prelude.{◌≡◌, map, IfOk, is_ok};
 ghost use Rattle.sqlite.specs.Held.{state};
-ghost use Rattle.sqlite.specs.State.{HasCleanDisk, KeepsCommit, Survives};
+ghost use Rattle.sqlite.specs.State.{HasCleanDisk};
 ghost use Rattle.td_model.specs.Account.{movement_by_lrn, movement_by_mrn};
 ghost use Rattle.td_desk.specs.Content.{Content, account_in};
 ghost use Rattle.td_schema.specs.Tables.{desk_schema};
 ghost use Rattle.td_table_model.specs.Gathering.{line_from, with_lines};
-ghost use Rattle.typed_sql.specs.Reading.{LeavesAll, OnlyRead};
+ghost use Rattle.typed_sql.specs.Reading.{IsInside, Reads};
 ghost use Rattle.td_store_rows.specs.LineTable.{line_row_of as row_of_line};
 ghost use Rattle.td_store_rows.specs.MovementTable.{movement_row_of};
 ghost use Rattle.td_store_load.specs.Loaded.{IsOfContent, IsOfTables};
@@ -28,16 +28,11 @@ fn line_on<S: Alter>(
     tx: &mut Transaction<'_, S>,
     row: &StoredLine,
 ) -> Result<Line, Error>
-    requires { HasCleanDisk (state S.Store tx.old.conn.now) → IsTrue (state S.Store tx.old.conn.now).in_transaction }
+    requires { IsInside (state S.Store tx.old.conn.now) }
     ensures same_reference { tx.new.conn.ghost_name ≡ tx.old.conn.ghost_name }
     ensures line { HasCleanDisk (state S.Store tx.new.conn.now)
         → IfOk result (IsOfTables (λ t. line_from t (row_of_line row.now)) (state S.Store tx.old.conn.now)) }
-    ensures still { HasCleanDisk (state S.Store tx.new.conn.now)
-        → OnOk result (LeavesAll desk_schema (state S.Store tx.old.conn.now) (state S.Store tx.new.conn.now)) }
-    ensures inside { HasCleanDisk (state S.Store tx.new.conn.now) → OnOk result (IsTrue (state S.Store tx.new.conn.now).in_transaction) }
-    ensures kept { HasCleanDisk (state S.Store tx.new.conn.now)
-        → KeepsCommit (state S.Store tx.old.conn.now) (state S.Store tx.new.conn.now) }
-    ensures survives { Survives (state S.Store tx.old.conn.now) (state S.Store tx.new.conn.now) (λ _. ⊥) }
+    ensures reads { Reads desk_schema (is_ok result) (state S.Store tx.old.conn.now) (state S.Store tx.new.conn.now) }
 {
     let found = find_by_serial(alloc, tx, row.holder, row.guarantee)?;
     let Some(stored) = &found else {
@@ -55,17 +50,12 @@ fn lines_on<S: Alter>(
     tx: &mut Transaction<'_, S>,
     rows: &[StoredLine],
 ) -> Result<Vec<Line>, Error>
-    requires { HasCleanDisk (state S.Store tx.old.conn.now) → IsTrue (state S.Store tx.old.conn.now).in_transaction }
+    requires { IsInside (state S.Store tx.old.conn.now) }
     ensures same_reference { tx.new.conn.ghost_name ≡ tx.old.conn.ghost_name }
     ensures lines { HasCleanDisk (state S.Store tx.new.conn.now)
         → IfOk result (λ lines. IsOfTables (λ t. map (λ l. line_from t (row_of_line l)) rows.now)
         (state S.Store tx.old.conn.now) lines.items) }
-    ensures still { HasCleanDisk (state S.Store tx.new.conn.now)
-        → OnOk result (OnlyRead desk_schema (state S.Store tx.old.conn.now) (state S.Store tx.new.conn.now)) }
-    ensures inside { HasCleanDisk (state S.Store tx.new.conn.now) → OnOk result (IsTrue (state S.Store tx.new.conn.now).in_transaction) }
-    ensures kept { HasCleanDisk (state S.Store tx.new.conn.now)
-        → KeepsCommit (state S.Store tx.old.conn.now) (state S.Store tx.new.conn.now) }
-    ensures survives { Survives (state S.Store tx.old.conn.now) (state S.Store tx.new.conn.now) (λ _. ⊥) }
+    ensures reads { Reads desk_schema (is_ok result) (state S.Store tx.old.conn.now) (state S.Store tx.new.conn.now) }
 {
     let mut lines = Vec::with_capacity(alloc, rows.len())?;
     'rows: for row in rows {
@@ -81,16 +71,11 @@ pub fn movement_with_lines<S: Alter>(
     tx: &mut Transaction<'_, S>,
     stored: StoredMovement,
 ) -> Result<Movement, Error>
-    requires { HasCleanDisk (state S.Store tx.old.conn.now) → IsTrue (state S.Store tx.old.conn.now).in_transaction }
+    requires { IsInside (state S.Store tx.old.conn.now) }
     ensures same_reference { tx.new.conn.ghost_name ≡ tx.old.conn.ghost_name }
     ensures whole { HasCleanDisk (state S.Store tx.new.conn.now)
         → IfOk result (IsOfTables (λ t. with_lines t (movement_row_of stored)) (state S.Store tx.old.conn.now)) }
-    ensures still { HasCleanDisk (state S.Store tx.new.conn.now)
-        → OnOk result (LeavesAll desk_schema (state S.Store tx.old.conn.now) (state S.Store tx.new.conn.now)) }
-    ensures inside { HasCleanDisk (state S.Store tx.new.conn.now) → OnOk result (IsTrue (state S.Store tx.new.conn.now).in_transaction) }
-    ensures kept { HasCleanDisk (state S.Store tx.new.conn.now)
-        → KeepsCommit (state S.Store tx.old.conn.now) (state S.Store tx.new.conn.now) }
-    ensures survives { Survives (state S.Store tx.old.conn.now) (state S.Store tx.new.conn.now) (λ _. ⊥) }
+    ensures reads { Reads desk_schema (is_ok result) (state S.Store tx.old.conn.now) (state S.Store tx.new.conn.now) }
 {
     let rows = lines_of(alloc, tx, stored.holder, stored.serial)?;
     let lines = lines_on(alloc, tx, &rows)?;
@@ -107,17 +92,12 @@ pub fn load_movement_by_mrn<S: Alter>(
     holder: HolderNo,
     mrn: &Mrn,
 ) -> Result<Option<Movement>, Error>
-    requires { HasCleanDisk (state S.Store tx.old.conn.now) → IsTrue (state S.Store tx.old.conn.now).in_transaction }
+    requires { IsInside (state S.Store tx.old.conn.now) }
     ensures same_reference { tx.new.conn.ghost_name ≡ tx.old.conn.ghost_name }
     ensures found { HasCleanDisk (state S.Store tx.new.conn.now)
         → IfOk result (IsOfContent country (λ c. movement_by_mrn mrn.now (account_in holder c).movements)
         (state S.Store tx.old.conn.now)) }
-    ensures still { HasCleanDisk (state S.Store tx.new.conn.now)
-        → OnOk result (LeavesAll desk_schema (state S.Store tx.old.conn.now) (state S.Store tx.new.conn.now)) }
-    ensures inside { HasCleanDisk (state S.Store tx.new.conn.now) → OnOk result (IsTrue (state S.Store tx.new.conn.now).in_transaction) }
-    ensures kept { HasCleanDisk (state S.Store tx.new.conn.now)
-        → KeepsCommit (state S.Store tx.old.conn.now) (state S.Store tx.new.conn.now) }
-    ensures survives { Survives (state S.Store tx.old.conn.now) (state S.Store tx.new.conn.now) (λ _. ⊥) }
+    ensures reads { Reads desk_schema (is_ok result) (state S.Store tx.old.conn.now) (state S.Store tx.new.conn.now) }
 {
     let serial = mrn.serial(country).unwrap_or(0);
     let Some(stored) = find_by_mrn(alloc, tx, holder, serial, mrn)? else {
@@ -133,17 +113,12 @@ pub fn load_movement_by_lrn<S: Alter>(
     holder: HolderNo,
     lrn: &Lrn,
 ) -> Result<Option<Movement>, Error>
-    requires { HasCleanDisk (state S.Store tx.old.conn.now) → IsTrue (state S.Store tx.old.conn.now).in_transaction }
+    requires { IsInside (state S.Store tx.old.conn.now) }
     ensures same_reference { tx.new.conn.ghost_name ≡ tx.old.conn.ghost_name }
     ensures found { HasCleanDisk (state S.Store tx.new.conn.now)
         → IfOk result (λ found. (c : Content) → HoldsContent c (state S.Store tx.old.conn.now)
         → found ≡ movement_by_lrn lrn.now (account_in holder c).movements) }
-    ensures still { HasCleanDisk (state S.Store tx.new.conn.now)
-        → OnOk result (LeavesAll desk_schema (state S.Store tx.old.conn.now) (state S.Store tx.new.conn.now)) }
-    ensures inside { HasCleanDisk (state S.Store tx.new.conn.now) → OnOk result (IsTrue (state S.Store tx.new.conn.now).in_transaction) }
-    ensures kept { HasCleanDisk (state S.Store tx.new.conn.now)
-        → KeepsCommit (state S.Store tx.old.conn.now) (state S.Store tx.new.conn.now) }
-    ensures survives { Survives (state S.Store tx.old.conn.now) (state S.Store tx.new.conn.now) (λ _. ⊥) }
+    ensures reads { Reads desk_schema (is_ok result) (state S.Store tx.old.conn.now) (state S.Store tx.new.conn.now) }
 {
     let Some(stored) = find_by_lrn(alloc, tx, holder, lrn)? else {
         return Ok(None);
@@ -157,17 +132,12 @@ pub fn load_all_movements<S: Alter>(
     tx: &mut Transaction<'_, S>,
     holder: HolderNo,
 ) -> Result<Vec<Movement>, Error>
-    requires { HasCleanDisk (state S.Store tx.old.conn.now) → IsTrue (state S.Store tx.old.conn.now).in_transaction }
+    requires { IsInside (state S.Store tx.old.conn.now) }
     ensures same_reference { tx.new.conn.ghost_name ≡ tx.old.conn.ghost_name }
     ensures found { HasCleanDisk (state S.Store tx.new.conn.now)
         → IfOk result (λ found. (c : Content) → HoldsContent c (state S.Store tx.old.conn.now)
         → found.items ≡ (account_in holder c).movements) }
-    ensures still { HasCleanDisk (state S.Store tx.new.conn.now)
-        → OnOk result (LeavesAll desk_schema (state S.Store tx.old.conn.now) (state S.Store tx.new.conn.now)) }
-    ensures inside { HasCleanDisk (state S.Store tx.new.conn.now) → OnOk result (IsTrue (state S.Store tx.new.conn.now).in_transaction) }
-    ensures kept { HasCleanDisk (state S.Store tx.new.conn.now)
-        → KeepsCommit (state S.Store tx.old.conn.now) (state S.Store tx.new.conn.now) }
-    ensures survives { Survives (state S.Store tx.old.conn.now) (state S.Store tx.new.conn.now) (λ _. ⊥) }
+    ensures reads { Reads desk_schema (is_ok result) (state S.Store tx.old.conn.now) (state S.Store tx.new.conn.now) }
 {
     let rows = movements_of(alloc, tx, holder)?;
     all_with_lines(alloc, tx, &rows)
@@ -179,17 +149,12 @@ fn all_with_lines<S: Alter>(
     tx: &mut Transaction<'_, S>,
     rows: &[StoredMovement],
 ) -> Result<Vec<Movement>, Error>
-    requires { HasCleanDisk (state S.Store tx.old.conn.now) → IsTrue (state S.Store tx.old.conn.now).in_transaction }
+    requires { IsInside (state S.Store tx.old.conn.now) }
     ensures same_reference { tx.new.conn.ghost_name ≡ tx.old.conn.ghost_name }
     ensures whole { HasCleanDisk (state S.Store tx.new.conn.now)
         → IfOk result (λ found. IsOfTables (λ t. map (λ m. with_lines t (movement_row_of m)) rows.now)
         (state S.Store tx.old.conn.now) found.items) }
-    ensures still { HasCleanDisk (state S.Store tx.new.conn.now)
-        → OnOk result (OnlyRead desk_schema (state S.Store tx.old.conn.now) (state S.Store tx.new.conn.now)) }
-    ensures inside { HasCleanDisk (state S.Store tx.new.conn.now) → OnOk result (IsTrue (state S.Store tx.new.conn.now).in_transaction) }
-    ensures kept { HasCleanDisk (state S.Store tx.new.conn.now)
-        → KeepsCommit (state S.Store tx.old.conn.now) (state S.Store tx.new.conn.now) }
-    ensures survives { Survives (state S.Store tx.old.conn.now) (state S.Store tx.new.conn.now) (λ _. ⊥) }
+    ensures reads { Reads desk_schema (is_ok result) (state S.Store tx.old.conn.now) (state S.Store tx.new.conn.now) }
 {
     let mut movements = Vec::with_capacity(alloc, rows.len())?;
     'rows: for row in rows {

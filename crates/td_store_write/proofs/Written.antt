@@ -1,62 +1,40 @@
 -- What statements one after another have written, each well.
-use Rattle.std.proofs.Common.{◌≡◌, ◌∙◌, ℕ, zero, suc, ◌+◌, ◌<◌, List, [], ◌∷◌, ◌++◌, length, map, take, get_or, inl, refl, sym, ap, subst, arith, IsPermutation}
+use Rattle.std.proofs.Common.{◌≡◌, ◌∙◌, ℕ, zero, suc, ◌+◌, ◌<◌, List, [], ◌∷◌, ◌++◌, length, map, take, get_or, true, refl, sym, ap, subst, arith, IsPermutation}
 use Rattle.std.proofs.lemmas.List.{take_more, map-append, append_assoc}
 use Rattle.std.proofs.lemmas.List.Sorted.{IsPermutation-middle}
-use Rattle.std.specs.Prelude.{IsTrue}
-use Rattle.sqlite.specs.State.{State, HasCleanDisk, KeepsCommit, Survives}
-use Rattle.sqlite.proofs.StateLemmas.{survives_then}
+use Rattle.sqlite.specs.State.{State, HasCleanDisk}
 use Rattle.td_table_model.specs.Tables.{Tables, numbered}
 use Rattle.td_table_model.specs.Changes.{HaveSameRows}
+use Rattle.typed_sql.specs.Reading.{IsInside, StaysInside}
+use Rattle.typed_sql.proofs.OnlyRead.{stays_nothing, stays_on}
 use Rattle.td_store_rows.specs.StoreTables.{TurnsTables}
 use Rattle.td_store_rows.proofs.Chained.{RespectsRows, turned_as, turned_nothing, turned_then}
 
 pub record HasWritten (f : Tables → Tables) (old new : State) : Type 0 where
-  pub inside : HasCleanDisk new → IsTrue new.in_transaction
   pub tables : HasCleanDisk new → TurnsTables f old new
-  pub kept : HasCleanDisk new → KeepsCommit old new
-  pub survives : Survives old new (λ _. ⊥)
+  pub within : StaysInside true old new
 
 -- nothing yet
-pub nothing_written : (f : Tables → Tables) → ((t : Tables) → HaveSameRows (f t) t) → (a : State)
-    → (HasCleanDisk a → IsTrue a.in_transaction) → HasWritten f a a
-nothing_written f same a inside = record {
-  inside = inside;
-  tables = λ clean. turned_nothing f same a;
-  kept = λ clean. record { was_open = λ is. is; committed = λ is. refl };
-  survives = record {
-    clean = omega arith;
-    shield = λ h. h;
-    counts = omega arith;
-    limit = refl;
-    closes = λ clean is. inl is;
-    crash = λ clean db may. inl may;
-  };
-}
+pub nothing_written : (f : Tables → Tables) → ((t : Tables) → HaveSameRows (f t) t) → (a : State) → IsInside a
+    → HasWritten f a a
+nothing_written f same a inside = record { tables = λ clean. turned_nothing f same a; within = stays_nothing inside }
 
 -- a statement more
 pub written_then : (f g : Tables → Tables) → RespectsRows g → (a b d : State) → HasWritten f a b → HasWritten g b d
     → HasWritten (λ t. g (f t)) a d
 written_then f g respects a b d first second = record {
-  inside = second.inside;
-  tables = λ clean. turned_then f g respects a b d (first.tables (omega (arith, clean, second.survives.clean))) (second.tables clean);
-  kept = λ clean.
-      let one = first.kept (omega (arith, clean, second.survives.clean)) in
-      let two = second.kept clean in
-      record {
-        was_open = λ is. one.was_open (two.was_open is);
-        committed = λ is. two.committed is ∙ one.committed (two.was_open is);
-      };
-  survives = survives_then a b d _ _ _ (λ _ db none. none) (λ _ db none. none) first.survives second.survives;
+  tables = λ clean.
+      turned_then f g respects a b d (first.tables (omega (arith, clean, second.within.survives.clean)))
+      (second.tables clean);
+  within = stays_on first.within second.within;
 }
 
 -- what was written, said otherwise
 pub written_as : (f g : Tables → Tables) → ((t : Tables) → HaveSameRows (g t) (f t)) → (old new : State)
     → HasWritten f old new → HasWritten g old new
 written_as f g same old new written = record {
-  inside = written.inside;
   tables = λ clean. turned_as f g old new same (written.tables clean);
-  kept = written.kept;
-  survives = written.survives;
+  within = written.within;
 }
 
 -- a row that is put before those that are there, and the next of a list that is put with the ones before it

@@ -1,12 +1,13 @@
 //! A change of a holder's rows, written. An error is the database's own, and commits nothing.
-ghost use Rattle.std.specs.Prelude.{◌≡◌, ◌∷◌, ◌++◌, not, map, filter, IsTrue, OnOk};
+ghost use Rattle.std.specs.Prelude.{◌≡◌, ◌∷◌, ◌++◌, not, map, filter, OnOk, is_ok};
 ghost use Rattle.sqlite.specs.Held.{state};
-ghost use Rattle.sqlite.specs.State.{HasCleanDisk, KeepsCommit, Survives};
+ghost use Rattle.sqlite.specs.State.{HasCleanDisk};
 ghost use Rattle.td_acts.specs.declared.rows.Change.{Change};
 ghost use Rattle.td_acts.specs.declared.rows.Change.TheVariants as change;
 ghost use Rattle.td_table_model.specs.Tables.{Tables, code_row, guarantee_no, guarantee_row, line_rows, movement_row};
 ghost use Rattle.td_table_model.specs.Changes.{is_code_of, tables_after, with_row};
 ghost use Rattle.td_table_model.specs.Looking.{movement_no};
+ghost use Rattle.typed_sql.specs.Reading.{IsInside, StaysInside};
 ghost use Rattle.td_store_rows.specs.CodeTable.{code_row_of};
 ghost use Rattle.td_store_rows.specs.StoreTables.{TurnsTables};
 ghost use Rattle.td_store_write.specs.Written.{WritesChange, status_by_key, terms_by_key};
@@ -29,14 +30,11 @@ pub fn write_change<S: Alter>(
     country: Country,
     change: &Change,
 ) -> Result<(), Error>
-    requires { HasCleanDisk (state S.Store tx.old.conn.now) → IsTrue (state S.Store tx.old.conn.now).in_transaction }
+    requires { IsInside (state S.Store tx.old.conn.now) }
     ensures same_reference { tx.new.conn.ghost_name ≡ tx.old.conn.ghost_name }
     ensures written { HasCleanDisk (state S.Store tx.new.conn.now) → OnOk result (WritesChange country change.now
         (state S.Store tx.old.conn.now) (state S.Store tx.new.conn.now)) }
-    ensures inside { HasCleanDisk (state S.Store tx.new.conn.now) → OnOk result (IsTrue (state S.Store tx.new.conn.now).in_transaction) }
-    ensures kept { HasCleanDisk (state S.Store tx.new.conn.now)
-        → KeepsCommit (state S.Store tx.old.conn.now) (state S.Store tx.new.conn.now) }
-    ensures survives { Survives (state S.Store tx.old.conn.now) (state S.Store tx.new.conn.now) (λ _. ⊥) }
+    ensures within { StaysInside (is_ok result) (state S.Store tx.old.conn.now) (state S.Store tx.new.conn.now) }
 {
     match change {
         Change::Nothing => Ok(()),
@@ -56,15 +54,12 @@ fn write_opened<S: Alter>(
     row: &HolderRow,
     guarantee: &Guarantee,
 ) -> Result<(), Error>
-    requires { HasCleanDisk (state S.Store tx.old.conn.now) → IsTrue (state S.Store tx.old.conn.now).in_transaction }
+    requires { IsInside (state S.Store tx.old.conn.now) }
     ensures same_reference { tx.new.conn.ghost_name ≡ tx.old.conn.ghost_name }
     ensures written { HasCleanDisk (state S.Store tx.new.conn.now) → OnOk result (TurnsTables
         (tables_after (change.Opened row.now guarantee.now))
         (state S.Store tx.old.conn.now) (state S.Store tx.new.conn.now)) }
-    ensures inside { HasCleanDisk (state S.Store tx.new.conn.now) → OnOk result (IsTrue (state S.Store tx.new.conn.now).in_transaction) }
-    ensures kept { HasCleanDisk (state S.Store tx.new.conn.now)
-        → KeepsCommit (state S.Store tx.old.conn.now) (state S.Store tx.new.conn.now) }
-    ensures survives { Survives (state S.Store tx.old.conn.now) (state S.Store tx.new.conn.now) (λ _. ⊥) }
+    ensures within { StaysInside (is_ok result) (state S.Store tx.old.conn.now) (state S.Store tx.new.conn.now) }
 {
     set_holder(tx, row)?;
     insert_guarantee(tx, row.holder, row.grn_count, guarantee)?;
@@ -78,7 +73,7 @@ fn write_declared<S: Alter>(
     row: &HolderRow,
     movement: &Movement,
 ) -> Result<(), Error>
-    requires { HasCleanDisk (state S.Store tx.old.conn.now) → IsTrue (state S.Store tx.old.conn.now).in_transaction }
+    requires { IsInside (state S.Store tx.old.conn.now) }
     ensures same_reference { tx.new.conn.ghost_name ≡ tx.old.conn.ghost_name }
     ensures written { HasCleanDisk (state S.Store tx.new.conn.now) → OnOk result (TurnsTables
         (λ t. record t {
@@ -87,10 +82,7 @@ fn write_declared<S: Alter>(
           lines = line_rows country row.now.holder (row.now.mrn_count, movement.now) ++ t.lines;
         })
         (state S.Store tx.old.conn.now) (state S.Store tx.new.conn.now)) }
-    ensures inside { HasCleanDisk (state S.Store tx.new.conn.now) → OnOk result (IsTrue (state S.Store tx.new.conn.now).in_transaction) }
-    ensures kept { HasCleanDisk (state S.Store tx.new.conn.now)
-        → KeepsCommit (state S.Store tx.old.conn.now) (state S.Store tx.new.conn.now) }
-    ensures survives { Survives (state S.Store tx.old.conn.now) (state S.Store tx.new.conn.now) (λ _. ⊥) }
+    ensures within { StaysInside (is_ok result) (state S.Store tx.old.conn.now) (state S.Store tx.new.conn.now) }
 {
     set_holder(tx, row)?;
     insert_movement(tx, row.holder, row.mrn_count, movement)?;
@@ -110,7 +102,7 @@ fn write_moved<S: Alter>(
     row: &HolderRow,
     status: &NewStatus,
 ) -> Result<(), Error>
-    requires { HasCleanDisk (state S.Store tx.old.conn.now) → IsTrue (state S.Store tx.old.conn.now).in_transaction }
+    requires { IsInside (state S.Store tx.old.conn.now) }
     ensures same_reference { tx.new.conn.ghost_name ≡ tx.old.conn.ghost_name }
     ensures written { HasCleanDisk (state S.Store tx.new.conn.now) → OnOk result (TurnsTables
         (λ t. record t {
@@ -118,10 +110,7 @@ fn write_moved<S: Alter>(
           movements = map (status_by_key row.now.holder (movement_no country status.now.mrn) status.now) t.movements;
         })
         (state S.Store tx.old.conn.now) (state S.Store tx.new.conn.now)) }
-    ensures inside { HasCleanDisk (state S.Store tx.new.conn.now) → OnOk result (IsTrue (state S.Store tx.new.conn.now).in_transaction) }
-    ensures kept { HasCleanDisk (state S.Store tx.new.conn.now)
-        → KeepsCommit (state S.Store tx.old.conn.now) (state S.Store tx.new.conn.now) }
-    ensures survives { Survives (state S.Store tx.old.conn.now) (state S.Store tx.new.conn.now) (λ _. ⊥) }
+    ensures within { StaysInside (is_ok result) (state S.Store tx.old.conn.now) (state S.Store tx.new.conn.now) }
 {
     set_holder(tx, row)?;
     let serial = status.mrn.serial(country).unwrap_or(0);
@@ -135,7 +124,7 @@ fn write_terms<S: Alter>(
     row: &HolderRow,
     terms: &NewTerms,
 ) -> Result<(), Error>
-    requires { HasCleanDisk (state S.Store tx.old.conn.now) → IsTrue (state S.Store tx.old.conn.now).in_transaction }
+    requires { IsInside (state S.Store tx.old.conn.now) }
     ensures same_reference { tx.new.conn.ghost_name ≡ tx.old.conn.ghost_name }
     ensures written { HasCleanDisk (state S.Store tx.new.conn.now) → OnOk result (TurnsTables
         (λ t. record t {
@@ -143,10 +132,7 @@ fn write_terms<S: Alter>(
           guarantees = map (terms_by_key row.now.holder (guarantee_no country terms.now.grn) terms.now) t.guarantees;
         })
         (state S.Store tx.old.conn.now) (state S.Store tx.new.conn.now)) }
-    ensures inside { HasCleanDisk (state S.Store tx.new.conn.now) → OnOk result (IsTrue (state S.Store tx.new.conn.now).in_transaction) }
-    ensures kept { HasCleanDisk (state S.Store tx.new.conn.now)
-        → KeepsCommit (state S.Store tx.old.conn.now) (state S.Store tx.new.conn.now) }
-    ensures survives { Survives (state S.Store tx.old.conn.now) (state S.Store tx.new.conn.now) (λ _. ⊥) }
+    ensures within { StaysInside (is_ok result) (state S.Store tx.old.conn.now) (state S.Store tx.new.conn.now) }
 {
     set_holder(tx, row)?;
     let serial = terms.grn.serial(country).unwrap_or(0);
@@ -161,7 +147,7 @@ fn add_code<S: Alter>(
     grn: &Grn,
     code: AccessCode,
 ) -> Result<(), Error>
-    requires { HasCleanDisk (state S.Store tx.old.conn.now) → IsTrue (state S.Store tx.old.conn.now).in_transaction }
+    requires { IsInside (state S.Store tx.old.conn.now) }
     ensures same_reference { tx.new.conn.ghost_name ≡ tx.old.conn.ghost_name }
     ensures written { HasCleanDisk (state S.Store tx.new.conn.now) → OnOk result (TurnsTables
         (λ t. record t {
@@ -169,10 +155,7 @@ fn add_code<S: Alter>(
           codes = code_row row.now.holder (guarantee_no country grn.now) code ∷ t.codes;
         })
         (state S.Store tx.old.conn.now) (state S.Store tx.new.conn.now)) }
-    ensures inside { HasCleanDisk (state S.Store tx.new.conn.now) → OnOk result (IsTrue (state S.Store tx.new.conn.now).in_transaction) }
-    ensures kept { HasCleanDisk (state S.Store tx.new.conn.now)
-        → KeepsCommit (state S.Store tx.old.conn.now) (state S.Store tx.new.conn.now) }
-    ensures survives { Survives (state S.Store tx.old.conn.now) (state S.Store tx.new.conn.now) (λ _. ⊥) }
+    ensures within { StaysInside (is_ok result) (state S.Store tx.old.conn.now) (state S.Store tx.new.conn.now) }
 {
     set_holder(tx, row)?;
     insert_code(tx, &code_of(country, row, grn, code))
@@ -186,7 +169,7 @@ fn remove_code<S: Alter>(
     grn: &Grn,
     code: AccessCode,
 ) -> Result<(), Error>
-    requires { HasCleanDisk (state S.Store tx.old.conn.now) → IsTrue (state S.Store tx.old.conn.now).in_transaction }
+    requires { IsInside (state S.Store tx.old.conn.now) }
     ensures same_reference { tx.new.conn.ghost_name ≡ tx.old.conn.ghost_name }
     ensures written { HasCleanDisk (state S.Store tx.new.conn.now) → OnOk result (TurnsTables
         (λ t. record t {
@@ -194,10 +177,7 @@ fn remove_code<S: Alter>(
           codes = filter (λ r. not (is_code_of row.now.holder (guarantee_no country grn.now) code r)) t.codes;
         })
         (state S.Store tx.old.conn.now) (state S.Store tx.new.conn.now)) }
-    ensures inside { HasCleanDisk (state S.Store tx.new.conn.now) → OnOk result (IsTrue (state S.Store tx.new.conn.now).in_transaction) }
-    ensures kept { HasCleanDisk (state S.Store tx.new.conn.now)
-        → KeepsCommit (state S.Store tx.old.conn.now) (state S.Store tx.new.conn.now) }
-    ensures survives { Survives (state S.Store tx.old.conn.now) (state S.Store tx.new.conn.now) (λ _. ⊥) }
+    ensures within { StaysInside (is_ok result) (state S.Store tx.old.conn.now) (state S.Store tx.new.conn.now) }
 {
     set_holder(tx, row)?;
     delete_code(tx, &code_of(country, row, grn, code))

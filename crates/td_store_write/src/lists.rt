@@ -1,8 +1,9 @@
 //! The codes of a new guarantee, and the lines of a new movement. An error is the database's own, and commits nothing.
-ghost use Rattle.std.specs.Prelude.{◌≡◌, ◌++◌, map, IsTrue, OnOk};
+ghost use Rattle.std.specs.Prelude.{◌≡◌, ◌++◌, map, OnOk, is_ok};
 ghost use Rattle.sqlite.specs.Held.{state};
-ghost use Rattle.sqlite.specs.State.{HasCleanDisk, KeepsCommit, Survives};
+ghost use Rattle.sqlite.specs.State.{HasCleanDisk};
 ghost use Rattle.td_table_model.specs.Tables.{code_row, line_row, numbered};
+ghost use Rattle.typed_sql.specs.Reading.{IsInside, StaysInside};
 ghost use Rattle.td_store_rows.specs.StoreTables.{TurnsTables};
 
 use sqlite::{Error, ErrorCode, Transaction};
@@ -18,15 +19,12 @@ pub fn insert_codes<S: Alter>(
     serial: u32,
     codes: &[AccessCode],
 ) -> Result<(), Error>
-    requires { HasCleanDisk (state S.Store tx.old.conn.now) → IsTrue (state S.Store tx.old.conn.now).in_transaction }
+    requires { IsInside (state S.Store tx.old.conn.now) }
     ensures same_reference { tx.new.conn.ghost_name ≡ tx.old.conn.ghost_name }
     ensures inserted { HasCleanDisk (state S.Store tx.new.conn.now) → OnOk result (TurnsTables
         (λ t. record t { codes = map (code_row holder serial) codes.now ++ t.codes })
         (state S.Store tx.old.conn.now) (state S.Store tx.new.conn.now)) }
-    ensures inside { HasCleanDisk (state S.Store tx.new.conn.now) → OnOk result (IsTrue (state S.Store tx.new.conn.now).in_transaction) }
-    ensures kept { HasCleanDisk (state S.Store tx.new.conn.now)
-        → KeepsCommit (state S.Store tx.old.conn.now) (state S.Store tx.new.conn.now) }
-    ensures survives { Survives (state S.Store tx.old.conn.now) (state S.Store tx.new.conn.now) (λ _. ⊥) }
+    ensures within { StaysInside (is_ok result) (state S.Store tx.old.conn.now) (state S.Store tx.new.conn.now) }
 {
     'codes: for code in codes {
         let code = *code;
@@ -51,15 +49,12 @@ pub fn insert_lines<S: Alter>(
     serial: u32,
     lines: &[Line],
 ) -> Result<(), Error>
-    requires { HasCleanDisk (state S.Store tx.old.conn.now) → IsTrue (state S.Store tx.old.conn.now).in_transaction }
+    requires { IsInside (state S.Store tx.old.conn.now) }
     ensures same_reference { tx.new.conn.ghost_name ≡ tx.old.conn.ghost_name }
     ensures inserted { HasCleanDisk (state S.Store tx.new.conn.now) → OnOk result (TurnsTables
         (λ t. record t { lines = map (line_row country holder serial) (numbered 0 lines.now) ++ t.lines })
         (state S.Store tx.old.conn.now) (state S.Store tx.new.conn.now)) }
-    ensures inside { HasCleanDisk (state S.Store tx.new.conn.now) → OnOk result (IsTrue (state S.Store tx.new.conn.now).in_transaction) }
-    ensures kept { HasCleanDisk (state S.Store tx.new.conn.now)
-        → KeepsCommit (state S.Store tx.old.conn.now) (state S.Store tx.new.conn.now) }
-    ensures survives { Survives (state S.Store tx.old.conn.now) (state S.Store tx.new.conn.now) (λ _. ⊥) }
+    ensures within { StaysInside (is_ok result) (state S.Store tx.old.conn.now) (state S.Store tx.new.conn.now) }
 {
     'lines: for (at, line) in lines.iter().enumerate() {
         let Ok(no) = u32::try_from(at + 1) else {

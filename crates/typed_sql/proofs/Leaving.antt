@@ -1,11 +1,13 @@
 -- What follows on a call that was well; and a text that doesn't write leaves all as it was.
 use Rattle.std.proofs.Common.{Err, List, Ok, OnOk, Result, ℕ}
-use Rattle.std.specs.Prelude.{IfOk}
+use Rattle.std.proofs.lemmas.Bool.{false≢true}
+use Rattle.std.specs.Prelude.{IfOk, is_ok, true}
 use Rattle.sqlite_schema.specs.declared.schema.Schema.{Schema}
 use Rattle.sqlite.specs.Given.{IsPlain}
 use Rattle.sqlite.specs.Listing.{understood}
-use Rattle.sqlite.specs.State.{State}
-use Rattle.typed_sql.specs.Reading.{LeavesAll, OnlyReads}
+use Rattle.sqlite.specs.State.{State, HasCleanDisk}
+use Rattle.typed_sql.proofs.OnlyRead.{one_read}
+use Rattle.typed_sql.specs.Reading.{LeavesAll, OnlyReads, Reads, StaysInside}
 
 -- what holds whatever a call answered
 pub any_ok : {T E P : Type 0} (r : Result T E) → P → OnOk r P
@@ -30,3 +32,21 @@ stays s text plain old new h has = h s has plain
 pub stays_ok : {T E : Type 0} (s : Schema) (text : List ℕ) → IsPlain (understood s text) → (old new : State)
     (r : Result T E) → OnOk r (OnlyReads text old new) → OnOk r (LeavesAll s old new)
 stays_ok s text plain old new r h = on_ok r (stays s text plain old new) h
+
+-- a statement that doesn't write and was well has only read
+pub reads_ok : (s : Schema) (text : List ℕ) → IsPlain (understood s text) → (old new : State)
+    → (HasCleanDisk new → OnlyReads text old new) → StaysInside true old new → Reads s true old new
+reads_ok s text plain old new still within = record {
+  still = λ clean well. one_read old new (stays s text plain old new (still clean));
+  within = within;
+}
+
+-- and so it has whatever came of it
+pub reads_by : {T E : Type 0} (s : Schema) (text : List ℕ) → IsPlain (understood s text) → (old new : State)
+    (r : Result T E) → (HasCleanDisk new → OnOk r (OnlyReads text old new)) → StaysInside (is_ok r) old new
+    → Reads s (is_ok r) old new
+reads_by s text plain old new (Ok x) still within = reads_ok s text plain old new still within
+reads_by s text plain old new (Err e) still within = record {
+  still = λ clean well. absurd (false≢true well);
+  within = within;
+}

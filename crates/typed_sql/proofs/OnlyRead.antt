@@ -1,12 +1,12 @@
 -- What calls one after another have only read, where the tables are those of a schema.
 use Rattle.std.proofs.Common.{◌∙◌, ap, inl, refl, arith}
-use Rattle.std.specs.Prelude.{IsTrue}
+use Rattle.std.specs.Prelude.{Bool, true, IsTrue}
 use Rattle.sqlite_schema.specs.declared.schema.Schema.{Schema}
 use Rattle.sqlite.specs.Effect.{Database}
-use Rattle.sqlite.specs.State.{State, HasCleanDisk, KeepsCommit, Survives}
+use Rattle.sqlite.specs.State.{State}
 use Rattle.sqlite.proofs.Callers.{unchanged_then}
 use Rattle.sqlite.proofs.StateLemmas.{survives_then, unchanged}
-use Rattle.typed_sql.specs.Reading.{HasOnlyRead, LeavesAll, OnlyRead}
+use Rattle.typed_sql.specs.Reading.{HasOnlyRead, IsInside, LeavesAll, OnlyRead, Reads, StaysInside}
 use Rattle.typed_sql.specs.Writing.{HasSchema}
 
 -- the tables are still those of the schema
@@ -36,25 +36,10 @@ read_more a b d first second has =
           unchanged_then a b d before (two.unchanged before.0.is_open);
     }
 
--- calls after one that leaves all as it was, and so has shown the connection open
-pub then_read : {s : Schema} (a b d : State) → LeavesAll s a b → OnlyRead s b d → LeavesAll s a d
-then_read a b d first second has =
-    let one = first has in
-    unchanged_then a b d one ((second (still_has a b has (one_read a b first has))).unchanged one.0.is_open)
-
--- Calls inside a transaction, each well, that only read: where the tables are those of the schema all is as it was, the transaction
--- goes on, nothing is committed, and a crash leaves what it could leave before.
-pub record HaveRead (s : Schema) (old new : State) : Type 0 where
-  pub inside : HasCleanDisk new → IsTrue new.in_transaction
-  pub still : HasCleanDisk new → OnlyRead s old new
-  pub kept : HasCleanDisk new → KeepsCommit old new
-  pub survives : Survives old new (λ _. ⊥)
-
--- none yet
-pub nothing_read : {s : Schema} (a : State) → (HasCleanDisk a → IsTrue a.in_transaction) → HaveRead s a a
-nothing_read a inside = record {
-  inside = inside;
-  still = λ clean. none_read a;
+-- no call inside a transaction
+pub stays_nothing : {w : Bool} {a : State} → IsInside a → StaysInside w a a
+stays_nothing inside = record {
+  inside = λ clean well. inside clean;
   kept = λ clean. record { was_open = λ is. is; committed = λ is. refl };
   survives = record {
     clean = omega arith;
@@ -66,24 +51,36 @@ nothing_read a inside = record {
   };
 }
 
--- one more, which itself is made of such calls
-pub reads_then : {s : Schema} (a b d : State) → HaveRead s a b → (HasCleanDisk d → OnlyRead s b d) → (HasCleanDisk d → IsTrue d.in_transaction)
-    → (HasCleanDisk d → KeepsCommit b d) → Survives b d (λ _. ⊥) → HaveRead s a d
-reads_then a b d first still inside kept survives = record {
-  inside = inside;
-  still = λ clean. read_more a b d (first.still (omega (arith, clean, survives.clean))) (still clean);
+-- calls after calls that ended well
+pub stays_on : {w : Bool} {a b d : State} → StaysInside true a b → StaysInside w b d → StaysInside w a d
+stays_on {w} {a} {b} {d} first second = record {
+  inside = second.inside;
   kept = λ clean.
-      let one = first.kept (omega (arith, clean, survives.clean)) in
-      let two = kept clean in
+      let one = first.kept (omega (arith, clean, second.survives.clean)) in
+      let two = second.kept clean in
       record {
         was_open = λ is. one.was_open (two.was_open is);
         committed = λ is. two.committed is ∙ one.committed (two.was_open is);
       };
-  survives = survives_then a b d _ _ _ (λ _ db none. none) (λ _ db none. none) first.survives survives;
+  survives = survives_then a b d _ _ _ (λ _ db none. none) (λ _ db none. none) first.survives second.survives;
 }
 
--- one more, which leaves all as it was
-pub read_then : {s : Schema} (a b d : State) → HaveRead s a b → (HasCleanDisk d → LeavesAll s b d) → (HasCleanDisk d → IsTrue d.in_transaction)
-    → (HasCleanDisk d → KeepsCommit b d) → Survives b d (λ _. ⊥) → HaveRead s a d
-read_then a b d first still inside kept survives =
-    reads_then a b d first (λ clean. one_read b d (still clean)) inside kept survives
+-- calls that ended well, whatever is answered after them
+pub stays_well : {w : Bool} {a b : State} → StaysInside true a b → StaysInside w a b
+stays_well first = record {
+  inside = λ clean well. first.inside clean refl;
+  kept = first.kept;
+  survives = first.survives;
+}
+
+-- calls that read after calls that read and ended well
+pub reads_on : {s : Schema} {w : Bool} {a b d : State} → Reads s true a b → Reads s w b d → Reads s w a d
+reads_on {s} {w} {a} {b} {d} first second = record {
+  still = λ clean well.
+      read_more a b d (first.still (omega (arith, clean, second.within.survives.clean)) refl) (second.still clean well);
+  within = stays_on first.within second.within;
+}
+
+-- calls that read and ended well, whatever is answered after them
+pub reads_well : {s : Schema} {w : Bool} {a b : State} → Reads s true a b → Reads s w a b
+reads_well first = record { still = λ clean well. first.still clean refl; within = stays_well first.within }

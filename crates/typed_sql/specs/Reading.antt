@@ -9,7 +9,7 @@ use Rattle.sqlite_sql.specs.Term.{Term, eval_all}
 use Rattle.sqlite_schema.specs.declared.schema.Schema.{Schema}
 use Rattle.sqlite.specs.Given.{IsPlain}
 use Rattle.sqlite.specs.Listing.{understood}
-use Rattle.sqlite.specs.State.{State, IsUnchanged}
+use Rattle.sqlite.specs.State.{State, HasCleanDisk, IsUnchanged, KeepsCommit, Survives}
 use Rattle.typed_sql.specs.Meanings.{MeansSelect}
 use Rattle.typed_sql.specs.Writing.{HasSchema, passes}
 
@@ -58,3 +58,19 @@ pub record HasOnlyRead (old new : State) : Type 0 where
 -- so they have where the tables are those of the schema
 abbrev pub OnlyRead : Schema → State → State → Type 0
 OnlyRead s old new = HasSchema old s → HasOnlyRead old new
+
+-- the caller's transaction is open, as far as the disk is clean
+abbrev pub IsInside : State → Type 0
+IsInside s = HasCleanDisk s → IsTrue s.in_transaction
+
+-- A call inside a transaction: where it ended well the transaction goes on; however it ended, nothing is committed, and a
+-- crash leaves what it could leave before.
+pub record StaysInside (well : Bool) (old new : State) : Type 0 where
+  pub inside : HasCleanDisk new → IsTrue well → IsTrue new.in_transaction
+  pub kept : HasCleanDisk new → KeepsCommit old new
+  pub survives : Survives old new (λ _. ⊥)
+
+-- one that only reads: where it ended well, all is as it was, if the tables are those of the schema
+pub record Reads (s : Schema) (well : Bool) (old new : State) : Type 0 where
+  pub still : HasCleanDisk new → IsTrue well → OnlyRead s old new
+  pub within : StaysInside well old new

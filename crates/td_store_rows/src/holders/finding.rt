@@ -1,10 +1,10 @@
 //! What is looked up in the table of holders. It changes nothing. `DatabaseCorrupt`: the row is no holder's, or there are
 //! several; `OutOfMemory`: want of memory; any other error is the database's own.
-ghost use Rattle.std.specs.Prelude.{◌≡◌, IsTrue, IfOk, OnOk};
+ghost use Rattle.std.specs.Prelude.{◌≡◌, IfOk, is_ok};
 ghost use Rattle.sqlite.specs.Held.{state};
-ghost use Rattle.sqlite.specs.State.{HasCleanDisk, KeepsCommit, Survives};
+ghost use Rattle.sqlite.specs.State.{HasCleanDisk};
 ghost use Rattle.td_schema.specs.Tables.{desk_schema};
-ghost use Rattle.typed_sql.specs.Reading.{LeavesAll};
+ghost use Rattle.typed_sql.specs.Reading.{IsInside, Reads};
 ghost use Rattle.td_store_rows.specs.HolderTable.{IsTheHolder};
 
 use crate::holders::stored::StoredHolder;
@@ -22,16 +22,11 @@ pub fn find_holder<S: Alter>(
     tx: &mut Transaction<'_, S>,
     holder: HolderNo,
 ) -> Result<Option<HolderRow>, Error>
-    requires { HasCleanDisk (state S.Store tx.old.conn.now) → IsTrue (state S.Store tx.old.conn.now).in_transaction }
+    requires { IsInside (state S.Store tx.old.conn.now) }
     ensures same_reference { tx.new.conn.ghost_name ≡ tx.old.conn.ghost_name }
     ensures found { HasCleanDisk (state S.Store tx.new.conn.now)
         → IfOk result (IsTheHolder holder (state S.Store tx.old.conn.now)) }
-    ensures still { HasCleanDisk (state S.Store tx.new.conn.now)
-        → OnOk result (LeavesAll desk_schema (state S.Store tx.old.conn.now) (state S.Store tx.new.conn.now)) }
-    ensures inside { HasCleanDisk (state S.Store tx.new.conn.now) → OnOk result (IsTrue (state S.Store tx.new.conn.now).in_transaction) }
-    ensures kept { HasCleanDisk (state S.Store tx.new.conn.now)
-        → KeepsCommit (state S.Store tx.old.conn.now) (state S.Store tx.new.conn.now) }
-    ensures survives { Survives (state S.Store tx.old.conn.now) (state S.Store tx.new.conn.now) (λ _. ⊥) }
+    ensures reads { Reads desk_schema (is_ok result) (state S.Store tx.old.conn.now) (state S.Store tx.new.conn.now) }
 {
     let found: Option<StoredHolder> = typed_sql::fetch_one(
         alloc,

@@ -1,10 +1,10 @@
 //! What is looked up in the table of lines. It changes nothing. `DatabaseCorrupt`: a row is no line's; `OutOfMemory`: want
 //! of memory; any other error is the database's own.
-ghost use Rattle.std.specs.Prelude.{◌≡◌, IsTrue, IfOk, OnOk};
+ghost use Rattle.std.specs.Prelude.{◌≡◌, IfOk, is_ok};
 ghost use Rattle.sqlite.specs.Held.{state};
-ghost use Rattle.sqlite.specs.State.{HasCleanDisk, KeepsCommit, Survives};
+ghost use Rattle.sqlite.specs.State.{HasCleanDisk};
 ghost use Rattle.td_schema.specs.Tables.{desk_schema};
-ghost use Rattle.typed_sql.specs.Reading.{LeavesAll};
+ghost use Rattle.typed_sql.specs.Reading.{IsInside, Reads};
 ghost use Rattle.td_store_rows.specs.LineTable.{AreByNumber, AreLines, is_line_of, is_line_on};
 
 use crate::lines::stored::StoredLine;
@@ -22,18 +22,13 @@ pub fn lines_of<S: Alter>(
     holder: HolderNo,
     serial: u32,
 ) -> Result<Vec<StoredLine>, Error>
-    requires { HasCleanDisk (state S.Store tx.old.conn.now) → IsTrue (state S.Store tx.old.conn.now).in_transaction }
+    requires { IsInside (state S.Store tx.old.conn.now) }
     ensures same_reference { tx.new.conn.ghost_name ≡ tx.old.conn.ghost_name }
     ensures found { HasCleanDisk (state S.Store tx.new.conn.now)
         → IfOk result (λ found. AreLines (is_line_of holder serial) (state S.Store tx.old.conn.now) found.items) }
     ensures order { HasCleanDisk (state S.Store tx.new.conn.now)
         → IfOk result (λ found. AreByNumber holder serial (state S.Store tx.old.conn.now) found.items) }
-    ensures still { HasCleanDisk (state S.Store tx.new.conn.now)
-        → OnOk result (LeavesAll desk_schema (state S.Store tx.old.conn.now) (state S.Store tx.new.conn.now)) }
-    ensures inside { HasCleanDisk (state S.Store tx.new.conn.now) → OnOk result (IsTrue (state S.Store tx.new.conn.now).in_transaction) }
-    ensures kept { HasCleanDisk (state S.Store tx.new.conn.now)
-        → KeepsCommit (state S.Store tx.old.conn.now) (state S.Store tx.new.conn.now) }
-    ensures survives { Survives (state S.Store tx.old.conn.now) (state S.Store tx.new.conn.now) (λ _. ⊥) }
+    ensures reads { Reads desk_schema (is_ok result) (state S.Store tx.old.conn.now) (state S.Store tx.new.conn.now) }
 {
     typed_sql::fetch(alloc, tx, OF_MOVEMENT, &serial_key(holder, serial))
 }
@@ -45,16 +40,11 @@ pub fn lines_on<S: Alter>(
     holder: HolderNo,
     guarantee: u32,
 ) -> Result<Vec<StoredLine>, Error>
-    requires { HasCleanDisk (state S.Store tx.old.conn.now) → IsTrue (state S.Store tx.old.conn.now).in_transaction }
+    requires { IsInside (state S.Store tx.old.conn.now) }
     ensures same_reference { tx.new.conn.ghost_name ≡ tx.old.conn.ghost_name }
     ensures found { HasCleanDisk (state S.Store tx.new.conn.now)
         → IfOk result (λ found. AreLines (is_line_on holder guarantee) (state S.Store tx.old.conn.now) found.items) }
-    ensures still { HasCleanDisk (state S.Store tx.new.conn.now)
-        → OnOk result (LeavesAll desk_schema (state S.Store tx.old.conn.now) (state S.Store tx.new.conn.now)) }
-    ensures inside { HasCleanDisk (state S.Store tx.new.conn.now) → OnOk result (IsTrue (state S.Store tx.new.conn.now).in_transaction) }
-    ensures kept { HasCleanDisk (state S.Store tx.new.conn.now)
-        → KeepsCommit (state S.Store tx.old.conn.now) (state S.Store tx.new.conn.now) }
-    ensures survives { Survives (state S.Store tx.old.conn.now) (state S.Store tx.new.conn.now) (λ _. ⊥) }
+    ensures reads { Reads desk_schema (is_ok result) (state S.Store tx.old.conn.now) (state S.Store tx.new.conn.now) }
 {
     typed_sql::fetch(alloc, tx, ON_GUARANTEE, &serial_key(holder, guarantee))
 }

@@ -1,8 +1,9 @@
 //! What is written into the table `meta`. An error is the database's own, and commits nothing.
-ghost use Rattle.std.specs.Prelude.{◌≡◌, ◌∷◌, true, IsTrue, OnOk};
+ghost use Rattle.std.specs.Prelude.{◌≡◌, ◌∷◌, true, OnOk, is_ok};
 ghost use Rattle.sqlite.specs.Held.{state};
-ghost use Rattle.sqlite.specs.State.{HasCleanDisk, KeepsCommit, Shows, Survives};
+ghost use Rattle.sqlite.specs.State.{HasCleanDisk, Shows};
 ghost use Rattle.sqlite.specs.Values.{bound};
+ghost use Rattle.typed_sql.specs.Reading.{IsInside, StaysInside};
 ghost use Rattle.td_store_rows.specs.Columns.{meta_cells, meta_row};
 ghost use Rattle.td_store_rows.specs.MetaTable.{TurnsMeta};
 
@@ -26,16 +27,14 @@ pub fn insert_meta<S: Alter>(
     version: u32,
     country: Country,
 ) -> Result<(), Error>
-    requires { HasCleanDisk (state S.Store tx.old.conn.now) → IsTrue (state S.Store tx.old.conn.now).in_transaction }
+    requires { IsInside (state S.Store tx.old.conn.now) }
     ensures same_reference { tx.new.conn.ghost_name ≡ tx.old.conn.ghost_name }
     ensures inserted { HasCleanDisk (state S.Store tx.new.conn.now)
         → OnOk result (TurnsMeta (λ rows. meta_row version country ∷ rows)
         (state S.Store tx.old.conn.now) (state S.Store tx.new.conn.now)) }
     ensures inside { HasCleanDisk (state S.Store tx.new.conn.now) → OnOk result (Shows (state S.Store tx.old.conn.now)
         (state S.Store tx.new.conn.now) (state S.Store tx.new.conn.now).now (state S.Store tx.old.conn.now).committed true) }
-    ensures kept { HasCleanDisk (state S.Store tx.new.conn.now)
-        → KeepsCommit (state S.Store tx.old.conn.now) (state S.Store tx.new.conn.now) }
-    ensures survives { Survives (state S.Store tx.old.conn.now) (state S.Store tx.new.conn.now) (λ _. ⊥) }
+    ensures within { StaysInside (is_ok result) (state S.Store tx.old.conn.now) (state S.Store tx.new.conn.now) }
 {
     typed_sql::insert(tx, INSERT, &columns(version, &country))
 }

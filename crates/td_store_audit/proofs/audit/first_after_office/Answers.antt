@@ -48,7 +48,7 @@ returns-clause-told g c clean =
     d = state g.S.Store c.codes_keep_rule.new.tx.conn.now
 
     clean_d : HasCleanDisk d
-    clean_d = omega (arith, clean, c.first_of_movements.ensures.survives.clean)
+    clean_d = omega (arith, clean, c.first_of_movements.ensures.reads.within.survives.clean)
 
     clean_m : HasCleanDisk m
     clean_m = omega (arith, clean_d, c.codes_keep_rule.ensures.survives.clean)

@@ -1,4 +1,4 @@
-use Rattle.std.proofs.Common.{◌∙◌, ◌∷◌, [], arith, get_or, subst, sym, take}
+use Rattle.std.proofs.Common.{◌∙◌, ◌∷◌, [], arith, get_or, subst, sym, take, refl}
 use Rattle.std.specs.List.{AllByRecursion}
 use Rattle.std.proofs.lemmas.List.{take_more}
 use Rattle.sqlite.specs.Effect.{Database}
@@ -9,14 +9,14 @@ use Rattle.typed_sql.specs.Typed.{AreTyped}
 use Rattle.td_store_rows.specs.Columns.{code_typing}
 use Rattle.td_store_audit.specs.Premises.{HasCodesInPlace}
 use Rattle.td_store_audit.proofs.codes.all_have_codes.Goals as goal
-use Rattle.typed_sql.proofs.OnlyRead.{read_then, still_has}
+use Rattle.typed_sql.proofs.OnlyRead.{reads_on, still_has}
 
 pub holders-preserved : goal.holders-preserved
 holders-preserved g c = (
   c.has_codes.ensures.same_reference ∙ c.holders.invariant.0,
-  read_then a b d c.holders.invariant.1 c.in_ok-has_codes.ensures.still c.in_ok-has_codes.ensures.inside c.has_codes.ensures.kept c.has_codes.ensures.survives,
+  reads_on c.holders.invariant.1 c.in_ok-has_codes.ensures.reads,
   λ clean has typed.
-      let read = c.holders.invariant.1.still (clean_b clean) has in
+      let read = c.holders.invariant.1.still (clean_b clean) refl has in
       let here : HasCodesInPlace b.now.trees c.raw-item.result =
       (c.in_ok-has_codes.ensures.told clean (still_has a b has read) (subst (λ (e : Database). AreTyped code_typing e.trees) (sym read.now_is) typed)).0 c.if-not-branch.false in
       subst (AllByRecursion (HasCodesInPlace a.now.trees)) (sym (take_more c.args.holders.now c.holders.raw-index c.raw-item.result c.holders-test.true))
@@ -35,4 +35,4 @@ holders-preserved g c = (
     d = state g.S.Store c.has_codes.new.tx.conn.now
 
     clean_b : HasCleanDisk d → HasCleanDisk b
-    clean_b clean = omega (arith, clean, c.has_codes.ensures.survives.clean)
+    clean_b clean = omega (arith, clean, c.has_codes.ensures.reads.within.survives.clean)

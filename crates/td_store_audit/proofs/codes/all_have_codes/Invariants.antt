@@ -1,4 +1,4 @@
-use Rattle.std.proofs.Common.{◌≡◌, take}
+use Rattle.std.proofs.Common.{◌≡◌, take, true}
 use Rattle.std.specs.List.{AllByRecursion}
 use Rattle.sqlite.specs.Held.{state}
 use Rattle.sqlite.specs.State.{HasCleanDisk}
@@ -8,13 +8,13 @@ use Rattle.typed_sql.specs.Writing.{HasSchema}
 use Rattle.td_store_rows.specs.Columns.{code_typing}
 use Rattle.td_store_audit.specs.Premises.{HasCodesInPlace}
 use Rattle.td_store_audit.proofs.codes.all_have_codes.Given as goal
-use Rattle.typed_sql.proofs.OnlyRead.{HaveRead}
+use Rattle.typed_sql.specs.Reading.{Reads}
 
 -- the holders before have theirs in place
 abbrev pub invariant-holders : goal.invariant-holders
 invariant-holders g l =
     (l.tx.conn.ghost_name ≡ l.initial.tx.conn.ghost_name)
-    × HaveRead desk_schema (state g.S.Store l.initial.tx.conn.now) (state g.S.Store l.tx.conn.now)
+    × Reads desk_schema true (state g.S.Store l.initial.tx.conn.now) (state g.S.Store l.tx.conn.now)
     × (HasCleanDisk (state g.S.Store l.tx.conn.now) → HasSchema (state g.S.Store l.initial.tx.conn.now) desk_schema
     → AreTyped code_typing (state g.S.Store l.initial.tx.conn.now).now.trees
     → AllByRecursion (HasCodesInPlace (state g.S.Store l.initial.tx.conn.now).now.trees) (take l.raw-index l.holders))

@@ -12,6 +12,7 @@ use Rattle.td_store_audit_rows.specs.Fields.{AreCodeFields}
 use Rattle.td_store_audit_rows.specs.Scans.{IsReadRow}
 use Rattle.td_store_audit.specs.Premises.{HasCodesInPlace}
 use Rattle.td_store_audit.proofs.Told.{codes_read, codes_rule}
+use Rattle.td_store_audit.proofs.Reading.{inside_ok, still_ok}
 use Rattle.td_store_audit.proofs.codes.codes_keep_rule.Goals as goal
 
 -- a row can't be read, so the rule isn't kept
@@ -38,3 +39,9 @@ returns-clause-told g c clean =
     let rule = codes_rule c.holder_fields_tell.ensures.fields a c.args.holders.now auditable read in
     (λ t. rule.0 (said.0 t), λ k. said.1 (rule.1 k)))
     (c.all_have_codes.ensures.told clean) (c.all_have_codes.ensures.told clean)
+
+pub returns-clause-still : goal.returns-clause-still
+returns-clause-still g c = still_ok c.all_have_codes.result c.all_have_codes.ensures.reads
+
+pub returns-clause-inside : goal.returns-clause-inside
+returns-clause-inside g c = inside_ok c.all_have_codes.result c.all_have_codes.ensures.reads.within

@@ -1,4 +1,4 @@
-use Rattle.std.proofs.Common.{◌∙◌, arith, refl, subst, sym}
+use Rattle.std.proofs.Common.{◌∙◌, arith, refl, subst, sym, true}
 use Rattle.std.proofs.lemmas.List.{take_all}
 use Rattle.std.proofs.lemmas.Bool.{false≢true}
 use Rattle.std.specs.Prelude.{◌↔◌, IsTrue}
@@ -10,7 +10,8 @@ use Rattle.td_store_audit.specs.InFile.{IsHolderCoveredInFile, TellsWhere}
 use Rattle.td_store_audit.proofs.Reading.{so_before}
 use Rattle.td_store_audit.proofs.Walking.{one_more, one_of_all}
 use Rattle.td_store_audit.proofs.cover.all_holders_covered.Goals as goal
-use Rattle.typed_sql.proofs.OnlyRead.{HaveRead, reads_then}
+use Rattle.typed_sql.specs.Reading.{Reads}
+use Rattle.typed_sql.proofs.OnlyRead.{reads_on}
 use Rattle.td_schema.specs.Tables.{desk_schema}
 
 pub holders-preserved : goal.holders-preserved
@@ -31,16 +32,16 @@ holders-preserved g c = (
     d : State
     d = state g.S.Store c.is_holder_covered.new.tx.conn.now
 
-    more : HaveRead desk_schema a d
-    more = reads_then a b d c.holders.invariant.1 c.in_ok-is_holder_covered.ensures.still c.in_ok-is_holder_covered.ensures.inside c.is_holder_covered.ensures.kept c.is_holder_covered.ensures.survives
+    more : Reads desk_schema true a d
+    more = reads_on c.holders.invariant.1 c.in_ok-is_holder_covered.ensures.reads
 
     clean_b : HasCleanDisk d → HasCleanDisk b
-    clean_b clean = omega (arith, clean, c.is_holder_covered.ensures.survives.clean)
+    clean_b clean = omega (arith, clean, c.is_holder_covered.ensures.reads.within.survives.clean)
 
     told : HasCleanDisk d → TellsWhere (λ trees. AllByRecursion (IsHandedOn trees) c.args.handed.now) (λ trees. IsHolderCoveredInFile trees (raw_holder_of c.parts-item.result)) a c.in_ok-is_holder_covered.field-0
     told clean has so =
         so_before (λ trees. IsHandedOn trees c.parts-item.result) (λ trees. IsTrue c.in_ok-is_holder_covered.field-0 ↔ IsHolderCoveredInFile trees (raw_holder_of c.parts-item.result)) a b
-        (c.holders.invariant.1.still (clean_b clean)) (c.in_ok-is_holder_covered.ensures.told clean) has
+        (c.holders.invariant.1.still (clean_b clean) refl) (c.in_ok-is_holder_covered.ensures.told clean) has
         (one_of_all (IsHandedOn a.now.trees) c.args.handed.now c.holders.parts-index c.parts-item.result c.holders-test.true c.parts-item.is so)
 
 -- one of them isn't
@@ -59,12 +60,12 @@ returns-then-not-branch-clause-told g c clean has so = (
     b = state g.S.Store c.holders.tx.conn.now
 
     clean_b : HasCleanDisk b
-    clean_b = omega (arith, clean, c.is_holder_covered.ensures.survives.clean)
+    clean_b = omega (arith, clean, c.is_holder_covered.ensures.reads.within.survives.clean)
 
     told : TellsWhere (λ trees. AllByRecursion (IsHandedOn trees) c.args.handed.now) (λ trees. IsHolderCoveredInFile trees (raw_holder_of c.parts-item.result)) a c.in_ok-is_holder_covered.field-0
     told has so =
         so_before (λ trees. IsHandedOn trees c.parts-item.result) (λ trees. IsTrue c.in_ok-is_holder_covered.field-0 ↔ IsHolderCoveredInFile trees (raw_holder_of c.parts-item.result)) a b
-        (c.holders.invariant.1.still clean_b) (c.in_ok-is_holder_covered.ensures.told clean) has
+        (c.holders.invariant.1.still clean_b refl) (c.in_ok-is_holder_covered.ensures.told clean) has
         (one_of_all (IsHandedOn a.now.trees) c.args.handed.now c.holders.parts-index c.parts-item.result c.holders-test.true c.parts-item.is so)
 
 pub returns-clause-told : goal.returns-clause-told

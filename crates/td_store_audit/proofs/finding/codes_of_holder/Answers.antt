@@ -11,6 +11,7 @@ use Rattle.td_store_audit.proofs.Meanings.{by_three, code_terms, codes_mean, hol
 use Rattle.td_store_audit.proofs.Ordering.{code_passes, codes_compared}
 use Rattle.td_store_audit.specs.Found.{code_order, is_of_holder}
 use Rattle.td_store_audit.specs.declared.texts.TheConstants.{CODES_OF_HOLDER}
+use Rattle.td_store_audit.proofs.Reading.{inside_ok}
 use Rattle.td_store_audit.proofs.finding.codes_of_holder.Goals as goal
 
 pub returns-clause-found : goal.returns-clause-found
@@ -28,3 +29,6 @@ returns-clause-order g c clean =
 pub returns-clause-still : goal.returns-clause-still
 returns-clause-still g c clean =
     stays_ok desk_schema CODES_OF_HOLDER.now codes_mean.plain _ _ c.fetch.result (c.fetch.ensures.still clean)
+
+pub returns-clause-inside : goal.returns-clause-inside
+returns-clause-inside g c = inside_ok c.fetch.result c.fetch.ensures.within

@@ -11,6 +11,7 @@ use Rattle.td_store_audit.proofs.Meanings.{by_three, line_terms, lines_mean, hol
 use Rattle.td_store_audit.proofs.Ordering.{line_passes, lines_compared}
 use Rattle.td_store_audit.specs.Found.{line_order, is_of_holder}
 use Rattle.td_store_audit.specs.declared.texts.TheConstants.{LINES_OF_HOLDER}
+use Rattle.td_store_audit.proofs.Reading.{inside_ok}
 use Rattle.td_store_audit.proofs.finding.lines_of_holder.Goals as goal
 
 pub returns-clause-found : goal.returns-clause-found
@@ -28,3 +29,6 @@ returns-clause-order g c clean =
 pub returns-clause-still : goal.returns-clause-still
 returns-clause-still g c clean =
     stays_ok desk_schema LINES_OF_HOLDER.now lines_mean.plain _ _ c.fetch.result (c.fetch.ensures.still clean)
+
+pub returns-clause-inside : goal.returns-clause-inside
+returns-clause-inside g c = inside_ok c.fetch.result c.fetch.ensures.within

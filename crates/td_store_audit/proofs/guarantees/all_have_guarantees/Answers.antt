@@ -1,4 +1,4 @@
-use Rattle.std.proofs.Common.{◌∙◌, arith, refl, subst, sym}
+use Rattle.std.proofs.Common.{◌∙◌, arith, refl, subst, sym, true}
 use Rattle.std.proofs.lemmas.List.{take_all}
 use Rattle.std.proofs.lemmas.Bool.{false≢true}
 use Rattle.std.specs.Prelude.{◌↔◌, IsTrue}
@@ -10,7 +10,8 @@ use Rattle.td_store_audit.specs.InFile.{AreTypedApart, HasGuaranteesInPlace, Tel
 use Rattle.td_store_audit.proofs.Reading.{so_before}
 use Rattle.td_store_audit.proofs.Walking.{one_more, one_of_all}
 use Rattle.td_store_audit.proofs.guarantees.all_have_guarantees.Goals as goal
-use Rattle.typed_sql.proofs.OnlyRead.{HaveRead, reads_then}
+use Rattle.typed_sql.specs.Reading.{Reads}
+use Rattle.typed_sql.proofs.OnlyRead.{reads_on}
 use Rattle.td_schema.specs.Tables.{desk_schema}
 
 pub holders-preserved : goal.holders-preserved
@@ -31,14 +32,14 @@ holders-preserved g c = (
     d : State
     d = state g.S.Store c.has_guarantees.new.tx.conn.now
 
-    more : HaveRead desk_schema a d
-    more = reads_then a b d c.holders.invariant.1 c.in_ok-has_guarantees.ensures.still c.in_ok-has_guarantees.ensures.inside c.has_guarantees.ensures.kept c.has_guarantees.ensures.survives
+    more : Reads desk_schema true a d
+    more = reads_on c.holders.invariant.1 c.in_ok-has_guarantees.ensures.reads
 
     clean_b : HasCleanDisk d → HasCleanDisk b
-    clean_b clean = omega (arith, clean, c.has_guarantees.ensures.survives.clean)
+    clean_b clean = omega (arith, clean, c.has_guarantees.ensures.reads.within.survives.clean)
 
     told : HasCleanDisk d → TellsWhere (AreTypedApart guarantee_typing) (λ trees. HasGuaranteesInPlace c.args.country trees c.raw-item.result) a c.in_ok-has_guarantees.field-0
-    told clean = so_before (AreTypedApart guarantee_typing) (λ trees. IsTrue c.in_ok-has_guarantees.field-0 ↔ HasGuaranteesInPlace c.args.country trees c.raw-item.result) a b (c.holders.invariant.1.still (clean_b clean)) (c.in_ok-has_guarantees.ensures.told clean)
+    told clean = so_before (AreTypedApart guarantee_typing) (λ trees. IsTrue c.in_ok-has_guarantees.field-0 ↔ HasGuaranteesInPlace c.args.country trees c.raw-item.result) a b (c.holders.invariant.1.still (clean_b clean) refl) (c.in_ok-has_guarantees.ensures.told clean)
 
 -- one of them hasn't
 pub returns-then-not-branch-clause-told : goal.returns-then-not-branch-clause-told
@@ -56,12 +57,12 @@ returns-then-not-branch-clause-told g c clean has so = (
     b = state g.S.Store c.holders.tx.conn.now
 
     clean_b : HasCleanDisk b
-    clean_b = omega (arith, clean, c.has_guarantees.ensures.survives.clean)
+    clean_b = omega (arith, clean, c.has_guarantees.ensures.reads.within.survives.clean)
 
     told : TellsWhere (AreTypedApart guarantee_typing) (λ trees. HasGuaranteesInPlace c.args.country trees c.raw-item.result) a c.in_ok-has_guarantees.field-0
     told =
         so_before (AreTypedApart guarantee_typing) (λ trees. IsTrue c.in_ok-has_guarantees.field-0 ↔ HasGuaranteesInPlace c.args.country trees c.raw-item.result) a b
-        (c.holders.invariant.1.still clean_b) (c.in_ok-has_guarantees.ensures.told clean)
+        (c.holders.invariant.1.still clean_b refl) (c.in_ok-has_guarantees.ensures.told clean)
 
 pub returns-clause-told : goal.returns-clause-told
 returns-clause-told g c clean has so = (

@@ -1,4 +1,4 @@
-use Rattle.std.proofs.Common.{◌≡◌, ◌∙◌, ◌<◌, ◌≤◌, ℕ, List, get_or, length, map, take, ap, arith, refl, subst, sym}
+use Rattle.std.proofs.Common.{◌≡◌, ◌∙◌, ◌<◌, ◌≤◌, ℕ, List, get_or, length, map, take, ap, arith, refl, subst, sym, true}
 use Rattle.std.proofs.lemmas.Bool.{false≢true}
 use Rattle.std.proofs.lemmas.Iterator.Adapters.{YieldsList-from_vec}
 use Rattle.std.proofs.lemmas.Iterator.Consumers.{YieldsList-end, YieldsList-turn}
@@ -21,12 +21,12 @@ use Rattle.td_store_audit.specs.declared.tallies.CountingSerials.{CountingSerial
 use Rattle.td_store_audit.specs.declared.tallies.HolderLines.{HolderLines}
 use Rattle.td_store_audit.proofs.Walking.{one_made, one_more, one_of_all, one_put}
 use Rattle.td_store_audit.proofs.lines.all_kept_lines.Goals as goal
-use Rattle.typed_sql.proofs.OnlyRead.{read_then, still_has}
+use Rattle.typed_sql.proofs.OnlyRead.{reads_on, still_has}
 
 pub holders-preserved : goal.holders-preserved
 holders-preserved g c = (
   c.kept_lines.ensures.same_reference ∙ c.holders.invariant.0,
-  read_then a b d c.holders.invariant.1 c.in_ok-lines.ensures.still c.in_ok-lines.ensures.inside c.kept_lines.ensures.kept c.kept_lines.ensures.survives,
+  reads_on c.holders.invariant.1 c.in_ok-lines.ensures.reads,
   λ clean has typed apart.
       subst (λ n. AllByRecursion (λ h. HasLinesInPlace a.now.trees (raw_of h)) (take n items)) (sym (length_push c.holders.yielded x))
       (one_more (λ h. HasLinesInPlace a.now.trees (raw_of h)) items (length c.holders.yielded) x turn.0 turn.1
@@ -47,7 +47,7 @@ holders-preserved g c = (
     d = state g.S.Store c.kept_lines.new.tx.conn.now
 
     clean_b : HasCleanDisk d → HasCleanDisk b
-    clean_b clean = omega (arith, clean, c.kept_lines.ensures.survives.clean)
+    clean_b clean = omega (arith, clean, c.kept_lines.ensures.reads.within.survives.clean)
 
     items : List CountingSerials
     items = c.args.counting.items
@@ -64,14 +64,14 @@ holders-preserved g c = (
     told : HasCleanDisk d → HasSchema a desk_schema → AreTyped line_typing a.now.trees
         → ((H : ℕ) → AreNumbersApart (part H (typed_rows line_typing a.now.trees))) → IsTrue (is_some c.in_ok-lines.field-0) ↔ HasLinesInPlace a.now.trees x.raw
     told clean has typed apart =
-        let read = c.holders.invariant.1.still (clean_b clean) has in
+        let read = c.holders.invariant.1.still (clean_b clean) refl has in
         subst (λ (e : Database). IsTrue (is_some c.in_ok-lines.field-0) ↔ HasLinesInPlace e.trees x.raw) read.now_is
         (c.in_ok-lines.ensures.told clean (still_has a b has read) (subst (λ (e : Database). AreTyped line_typing e.trees) (sym read.now_is) typed)
         (subst (λ (e : Database). AreNumbersApart (part x.raw.holder (typed_rows line_typing e.trees))) (sym read.now_is) (apart x.raw.holder)))
 
     its : HasCleanDisk d → HasSchema a desk_schema → AreTyped line_typing a.now.trees → AreItsLines a.now.trees parts
     its clean has typed =
-        let read = c.holders.invariant.1.still (clean_b clean) has in
+        let read = c.holders.invariant.1.still (clean_b clean) refl has in
         subst (λ (e : Database). AreItsLines e.trees parts) read.now_is
         ((rw c.in-Some-2.is at (c.in_ok-lines.ensures.handed clean)) (still_has a b has read) (subst (λ (e : Database). AreTyped line_typing e.trees) (sym read.now_is) typed))
 
@@ -92,7 +92,7 @@ returns-in_default-clause-told g c clean has typed apart = (
     b = state g.S.Store c.holders.tx.conn.now
 
     clean_b : HasCleanDisk b
-    clean_b = omega (arith, clean, c.kept_lines.ensures.survives.clean)
+    clean_b = omega (arith, clean, c.kept_lines.ensures.reads.within.survives.clean)
 
     items : List CountingSerials
     items = c.args.counting.items
@@ -107,7 +107,7 @@ returns-in_default-clause-told g c clean has typed apart = (
 
     told : IsTrue (is_some c.in_ok-lines.field-0) ↔ HasLinesInPlace a.now.trees x.raw
     told =
-        let read = c.holders.invariant.1.still clean_b has in
+        let read = c.holders.invariant.1.still clean_b refl has in
         subst (λ (e : Database). IsTrue (is_some c.in_ok-lines.field-0) ↔ HasLinesInPlace e.trees x.raw) read.now_is
         (c.in_ok-lines.ensures.told clean (still_has a b has read) (subst (λ (e : Database). AreTyped line_typing e.trees) (sym read.now_is) typed)
         (subst (λ (e : Database). AreNumbersApart (part x.raw.holder (typed_rows line_typing e.trees))) (sym read.now_is) (apart x.raw.holder)))

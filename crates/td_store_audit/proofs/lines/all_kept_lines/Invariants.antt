@@ -1,4 +1,4 @@
-use Rattle.std.proofs.Common.{◌≡◌, ℕ, length, map, take}
+use Rattle.std.proofs.Common.{◌≡◌, ℕ, length, map, take, true}
 use Rattle.std.specs.List.{AllByRecursion}
 use Rattle.sqlite.specs.Held.{state}
 use Rattle.sqlite.specs.State.{HasCleanDisk}
@@ -11,13 +11,13 @@ use Rattle.td_store_audit.specs.Tallies.{AreAllLines, movements_in, raw_of}
 use Rattle.td_store_audit.specs.InPlace.{AreNumbersApart}
 use Rattle.td_store_audit.specs.Premises.{HasLinesInPlace}
 use Rattle.td_store_audit.proofs.lines.all_kept_lines.Given as goal
-use Rattle.typed_sql.proofs.OnlyRead.{HaveRead}
+use Rattle.typed_sql.specs.Reading.{Reads}
 
 -- the holders before have theirs in place, and what was handed on of them is theirs
 abbrev pub invariant-holders : goal.invariant-holders
 invariant-holders g l =
     (l.tx.conn.ghost_name ≡ l.initial.tx.conn.ghost_name)
-    × HaveRead desk_schema (state g.S.Store l.initial.tx.conn.now) (state g.S.Store l.tx.conn.now)
+    × Reads desk_schema true (state g.S.Store l.initial.tx.conn.now) (state g.S.Store l.tx.conn.now)
     × (HasCleanDisk (state g.S.Store l.tx.conn.now) → HasSchema (state g.S.Store l.initial.tx.conn.now) desk_schema
     → AreTyped line_typing (state g.S.Store l.initial.tx.conn.now).now.trees
     → ((H : ℕ) → AreNumbersApart (part H (typed_rows line_typing (state g.S.Store l.initial.tx.conn.now).now.trees)))

@@ -1,4 +1,4 @@
-use Rattle.std.proofs.Common.{◌∙◌, ap, arith, refl, subst, sym}
+use Rattle.std.proofs.Common.{◌∙◌, ap, arith, refl, subst, sym, true}
 use Rattle.std.proofs.lemmas.List.{take_all}
 use Rattle.std.proofs.lemmas.Bool.{false≢true}
 use Rattle.std.specs.Prelude.{◌↔◌, IsTrue, is_some}
@@ -11,7 +11,8 @@ use Rattle.td_store_audit.specs.InFile.{AreTypedApart, HasMovementsInPlace, IsSo
 use Rattle.td_store_audit.proofs.Reading.{so_before}
 use Rattle.td_store_audit.proofs.Walking.{one_made, one_more, one_of_all, one_put}
 use Rattle.td_store_audit.proofs.movements.all_kept_movements.Goals as goal
-use Rattle.typed_sql.proofs.OnlyRead.{HaveRead, reads_then}
+use Rattle.typed_sql.specs.Reading.{Reads}
+use Rattle.typed_sql.proofs.OnlyRead.{reads_on}
 use Rattle.td_schema.specs.Tables.{desk_schema}
 
 pub holders-preserved : goal.holders-preserved
@@ -37,17 +38,17 @@ holders-preserved g c = (
     d : State
     d = state g.S.Store c.kept_movements.new.tx.conn.now
 
-    more : HaveRead desk_schema a d
-    more = reads_then a b d c.holders.invariant.1 c.in_ok-movements.ensures.still c.in_ok-movements.ensures.inside c.kept_movements.ensures.kept c.kept_movements.ensures.survives
+    more : Reads desk_schema true a d
+    more = reads_on c.holders.invariant.1 c.in_ok-movements.ensures.reads
 
     clean_b : HasCleanDisk d → HasCleanDisk b
-    clean_b clean = omega (arith, clean, c.kept_movements.ensures.survives.clean)
+    clean_b clean = omega (arith, clean, c.kept_movements.ensures.reads.within.survives.clean)
 
     told : HasCleanDisk d → TellsWhere (AreTypedApart movement_typing) (λ trees. HasMovementsInPlace c.args.country trees c.raw-item.result) a (is_some c.in_ok-movements.field-0)
-    told clean = so_before (AreTypedApart movement_typing) (λ trees. IsTrue (is_some c.in_ok-movements.field-0) ↔ HasMovementsInPlace c.args.country trees c.raw-item.result) a b (c.holders.invariant.1.still (clean_b clean)) (c.in_ok-movements.ensures.told clean)
+    told clean = so_before (AreTypedApart movement_typing) (λ trees. IsTrue (is_some c.in_ok-movements.field-0) ↔ HasMovementsInPlace c.args.country trees c.raw-item.result) a b (c.holders.invariant.1.still (clean_b clean) refl) (c.in_ok-movements.ensures.told clean)
 
     counting : HasCleanDisk d → IsSoWhere (AreTypedApart movement_typing) (λ trees. AreCounting trees c.in-Some.movements) a
-    counting clean = so_before (AreTypedApart movement_typing) (λ trees. AreCounting trees c.in-Some.movements) a b (c.holders.invariant.1.still (clean_b clean)) (rw c.in-Some.is at (c.in_ok-movements.ensures.handed clean))
+    counting clean = so_before (AreTypedApart movement_typing) (λ trees. AreCounting trees c.in-Some.movements) a b (c.holders.invariant.1.still (clean_b clean) refl) (rw c.in-Some.is at (c.in_ok-movements.ensures.handed clean))
 
 -- one of them hasn't
 pub returns-in_default-clause-told : goal.returns-in_default-clause-told
@@ -65,12 +66,12 @@ returns-in_default-clause-told g c clean has so = (
     b = state g.S.Store c.holders.tx.conn.now
 
     clean_b : HasCleanDisk b
-    clean_b = omega (arith, clean, c.kept_movements.ensures.survives.clean)
+    clean_b = omega (arith, clean, c.kept_movements.ensures.reads.within.survives.clean)
 
     told : TellsWhere (AreTypedApart movement_typing) (λ trees. HasMovementsInPlace c.args.country trees c.raw-item.result) a (is_some c.in_ok-movements.field-0)
     told =
         so_before (AreTypedApart movement_typing) (λ trees. IsTrue (is_some c.in_ok-movements.field-0) ↔ HasMovementsInPlace c.args.country trees c.raw-item.result) a b
-        (c.holders.invariant.1.still clean_b) (c.in_ok-movements.ensures.told clean)
+        (c.holders.invariant.1.still clean_b refl) (c.in_ok-movements.ensures.told clean)
 
 pub returns-clause-told : goal.returns-clause-told
 returns-clause-told g c clean has so = (

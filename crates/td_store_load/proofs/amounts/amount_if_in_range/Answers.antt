@@ -1,10 +1,11 @@
-use Rattle.std.proofs.Common.{◌∙◌, ap₂, arith, map, subst, sym, IsPermutation}
+use Rattle.std.proofs.Common.{◌∙◌, ap₂, arith, map, subst, sym, IsPermutation, refl}
 use Rattle.std.specs.Prelude.{SomeIff, filter}
 use Rattle.keyed_rows.specs.Rows.{Rises}
 use Rattle.sqlite.specs.Effect.{Database}
 use Rattle.sqlite.specs.Held.{state}
-use Rattle.sqlite.specs.State.{State, HasCleanDisk, IsUnchanged}
+use Rattle.sqlite.specs.State.{State, HasCleanDisk}
 use Rattle.td_base.specs.Money.{IsCents}
+use Rattle.typed_sql.specs.Reading.{HasOnlyRead}
 use Rattle.typed_sql.specs.Typed.{AreTyped, typed_rows}
 use Rattle.td_store_rows.specs.MovementTable.{serial_of_stored}
 use Rattle.td_store_rows.specs.Columns.{line_typing}
@@ -13,7 +14,7 @@ use Rattle.td_store_rows.specs.StoreTables.{tables_in}
 use Rattle.td_store_load.specs.InUse.{total_on}
 use Rattle.td_store_load.proofs.Counted.{of_guarantee}
 use Rattle.td_store_load.proofs.amounts.amount_if_in_range.Goals as goal
-use Rattle.typed_sql.proofs.OnlyRead.{one_read, still_has, then_read}
+use Rattle.typed_sql.proofs.OnlyRead.{reads_on, still_has}
 
 pub returns-clause-found : goal.returns-clause-found
 returns-clause-found g c clean has movements lines =
@@ -29,21 +30,18 @@ returns-clause-found g c clean has movements lines =
     b = state g.S.Store c.counting_serials.new.tx.conn.now
 
     clean_b : HasCleanDisk b
-    clean_b = omega (arith, clean, c.lines_on.ensures.survives.clean)
+    clean_b = omega (arith, clean, c.lines_on.ensures.reads.within.survives.clean)
 
     rises : Rises serial_of_stored 0 c.in_ok-serials.serials.items
     rises = subst (Rises serial_of_stored 0) c.deref.ensures.value (c.rise.ensures.0 c.if-not-rise.false)
 
-    one : IsUnchanged a b
-    one = c.in_ok-serials.ensures.still clean_b has
+    one : HasOnlyRead a b
+    one = c.in_ok-serials.ensures.reads.still clean_b refl has
 
     found : IsPermutation (filter (is_line_on c.args.holder c.args.guarantee) (typed_rows line_typing a.now.trees)) (map line_row_of c.in_ok-lines.lines.items)
     found =
-        subst (λ (k : Database). IsPermutation (filter (is_line_on c.args.holder c.args.guarantee) (typed_rows line_typing k.trees)) (map line_row_of c.in_ok-lines.lines.items)) one.0.now_is
-        (c.in_ok-lines.ensures.found clean (still_has a b has (one_read a b (c.in_ok-serials.ensures.still clean_b) has)) (subst (λ (k : Database). AreTyped line_typing k.trees) (sym one.0.now_is) lines))
+        subst (λ (k : Database). IsPermutation (filter (is_line_on c.args.holder c.args.guarantee) (typed_rows line_typing k.trees)) (map line_row_of c.in_ok-lines.lines.items)) one.now_is
+        (c.in_ok-lines.ensures.found clean (still_has a b has one) (subst (λ (k : Database). AreTyped line_typing k.trees) (sym one.now_is) lines))
 
-pub returns-clause-still : goal.returns-clause-still
-returns-clause-still g c clean =
-    then_read (state g.S.Store c.args.tx.now.conn.now) (state g.S.Store c.counting_serials.new.tx.conn.now) (state g.S.Store c.lines_on.new.tx.conn.now)
-    (c.in_ok-serials.ensures.still (omega (arith, clean, c.lines_on.ensures.survives.clean)))
-    (one_read (state g.S.Store c.counting_serials.new.tx.conn.now) (state g.S.Store c.lines_on.new.tx.conn.now) (c.in_ok-lines.ensures.still clean))
+pub returns-clause-reads : goal.returns-clause-reads
+returns-clause-reads g c = reads_on c.in_ok-serials.ensures.reads c.in_ok-lines.ensures.reads

@@ -5,7 +5,6 @@ use Rattle.sqlite.specs.declared.error.Error.TheVariants.{SqliteFailure}
 use Rattle.sqlite.specs.declared.error.ErrorCode.TheVariants.{DatabaseCorrupt}
 use Rattle.sqlite.specs.Held.{state}
 use Rattle.sqlite.specs.State.{State}
-use Rattle.typed_sql.proofs.Leaving.{any_ok}
 use Rattle.td_store_load.specs.InUse.{IsInUse, IsInUseIfInRange}
 use Rattle.td_store_load.proofs.amounts.amount_in_use.Goals as goal
 
@@ -19,6 +18,3 @@ returns-clause-found g c clean = rw c.ok_or.ensures.value (by_found c.in_ok-amou
         → IfOk (ok_or found (SqliteFailure DatabaseCorrupt)) (IsInUse c.args.holder c.args.guarantee old)
     by_found (Some cents) is = λ has movements lines. (is has movements lines).1
     by_found None is = tt
-
-pub returns-clause-still : goal.returns-clause-still
-returns-clause-still g c clean = any_ok c.ok_or.result (c.in_ok-amount_if_in_range.ensures.still clean)

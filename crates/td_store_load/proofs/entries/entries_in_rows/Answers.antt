@@ -1,11 +1,12 @@
-use Rattle.std.proofs.Common.{◌∙◌, arith}
+use Rattle.std.proofs.Common.{◌∙◌, arith, refl, true}
 use Rattle.sqlite.specs.Held.{state}
 use Rattle.sqlite.specs.State.{State, HasCleanDisk}
 use Rattle.td_store_rows.specs.GuaranteeTable.{guarantee_row_of}
 use Rattle.td_store_load.proofs.Found.{next_of}
 use Rattle.td_store_load.specs.Needed.{entry_from}
 use Rattle.td_store_load.proofs.entries.entries_in_rows.Goals as goal
-use Rattle.typed_sql.proofs.OnlyRead.{HaveRead, read_then}
+use Rattle.typed_sql.specs.Reading.{Reads}
+use Rattle.typed_sql.proofs.OnlyRead.{reads_on, reads_well}
 use Rattle.td_schema.specs.Tables.{desk_schema}
 
 pub rows-preserved : goal.rows-preserved
@@ -15,7 +16,7 @@ rows-preserved g c = (
   λ clean content holds.
       c.in_ok-push.ensures.items
       ∙ next_of (λ t r. entry_from t (guarantee_row_of r)) a b c.args.rows.now c.rows.row-index _ c.row-item.result c.rows.entries.items c.in_ok-entry.entry c.rows-test.true c.row-item.is
-      (c.rows.invariant.1.still (clean_b clean)) (c.rows.invariant.2 (clean_b clean)) (c.in_ok-entry.ensures.entry clean) content holds,
+      (c.rows.invariant.1.still (clean_b clean) refl) (c.rows.invariant.2 (clean_b clean)) (c.in_ok-entry.ensures.entry clean) content holds,
 )
   where
     a : State
@@ -27,8 +28,11 @@ rows-preserved g c = (
     d : State
     d = state g.S.Store c.entry_in_row.new.tx.conn.now
 
-    more : HaveRead desk_schema a d
-    more = read_then a b d c.rows.invariant.1 c.in_ok-entry.ensures.still c.in_ok-entry.ensures.inside c.entry_in_row.ensures.kept c.entry_in_row.ensures.survives
+    more : Reads desk_schema true a d
+    more = reads_on c.rows.invariant.1 c.in_ok-entry.ensures.reads
 
     clean_b : HasCleanDisk d → HasCleanDisk b
-    clean_b clean = omega (arith, clean, c.entry_in_row.ensures.survives.clean)
+    clean_b clean = omega (arith, clean, c.entry_in_row.ensures.reads.within.survives.clean)
+
+pub returns-in_err-push-clause-reads : goal.returns-in_err-push-clause-reads
+returns-in_err-push-clause-reads g c = reads_well (reads_on c.rows.invariant.1 c.in_ok-entry.ensures.reads)

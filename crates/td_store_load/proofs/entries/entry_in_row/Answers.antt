@@ -1,4 +1,4 @@
-use Rattle.std.proofs.Common.{ap, ap₂, arith, subst}
+use Rattle.std.proofs.Common.{ap, ap₂, arith, subst, refl}
 use Rattle.sqlite.specs.Held.{state}
 use Rattle.sqlite.specs.State.{State, HasCleanDisk}
 use Rattle.td_guarantee.specs.declared.guarantee.Guarantee.{Guarantee}
@@ -7,12 +7,12 @@ use Rattle.td_store_rows.specs.declared.guarantees.stored.StoredGuarantee.{Store
 use Rattle.td_table_model.specs.Gathering.{with_codes}
 use Rattle.td_store_load.specs.Loaded.{IsOfTables}
 use Rattle.td_store_load.proofs.Reading.{said_before}
+use Rattle.typed_sql.proofs.OnlyRead.{reads_on}
 use Rattle.td_store_load.proofs.entries.entry_in_row.Goals as goal
-use Rattle.typed_sql.proofs.OnlyRead.{one_read, then_read}
 
 pub returns-clause-entry : goal.returns-clause-entry
 returns-clause-entry g c clean content holds =
-    ap₂ (λ guarantee cents. (guarantee, cents)) (said_before (λ t. with_codes t (guarantee_row_of c.args.row.now)) a b _ (one_read a b (c.in_ok-used.ensures.still clean_b)) whole content holds)
+    ap₂ (λ guarantee cents. (guarantee, cents)) (said_before (λ t. with_codes t (guarantee_row_of c.args.row.now)) a b _ (c.in_ok-used.ensures.reads.still clean_b refl) whole content holds)
     (c.in_ok-used.ensures.found clean_b holds.schema holds.typed.movements holds.typed.lines)
   where
     a : State
@@ -22,15 +22,11 @@ returns-clause-entry g c clean content holds =
     b = state g.S.Store c.amount_in_use.new.tx.conn.now
 
     clean_b : HasCleanDisk b
-    clean_b = omega (arith, clean, c.guarantee_with_codes.ensures.survives.clean)
+    clean_b = omega (arith, clean, c.guarantee_with_codes.ensures.reads.within.survives.clean)
 
     whole : IsOfTables (λ t. with_codes t (guarantee_row_of c.args.row.now)) b c.in_ok-guarantee.guarantee
     whole = subst (λ (r : StoredGuarantee). IsOfTables (λ t. with_codes t (guarantee_row_of r)) b c.in_ok-guarantee.guarantee)
         (ap (λ (copy : Guarantee). record c.args.row.now { guarantee = copy }) c.in_ok-copy.ensures) (c.in_ok-guarantee.ensures.whole clean)
 
-pub returns-clause-still : goal.returns-clause-still
-returns-clause-still g c clean =
-    let a : State = state g.S.Store c.args.tx.now.conn.now in
-    let b : State = state g.S.Store c.amount_in_use.new.tx.conn.now in
-    let d : State = state g.S.Store c.guarantee_with_codes.new.tx.conn.now in
-    then_read a b d (c.in_ok-used.ensures.still (omega (arith, clean, c.guarantee_with_codes.ensures.survives.clean))) (one_read b d (c.in_ok-guarantee.ensures.still clean))
+pub returns-clause-reads : goal.returns-clause-reads
+returns-clause-reads g c = reads_on c.in_ok-used.ensures.reads c.in_ok-guarantee.ensures.reads

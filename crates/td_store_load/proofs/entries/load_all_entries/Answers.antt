@@ -1,19 +1,19 @@
-use Rattle.std.proofs.Common.{List, arith, map, subst}
+use Rattle.std.proofs.Common.{List, arith, map, subst, refl}
 use Rattle.sqlite.specs.Held.{state}
 use Rattle.sqlite.specs.State.{State, HasCleanDisk}
 use Rattle.td_store_rows.specs.GuaranteeTable.{guarantee_row_of}
 use Rattle.td_store_rows.specs.declared.guarantees.stored.StoredGuarantee.{StoredGuarantee}
-use Rattle.typed_sql.proofs.Leaving.{if_both, on_ok}
+use Rattle.typed_sql.proofs.Leaving.{if_both}
 use Rattle.td_store_load.specs.Loaded.{IsOfTables}
 use Rattle.td_store_load.specs.Needed.{entry_from}
 use Rattle.td_store_load.proofs.WithUse.{all_entries}
+use Rattle.typed_sql.proofs.OnlyRead.{reads_on}
 use Rattle.td_store_load.proofs.entries.load_all_entries.Goals as goal
-use Rattle.typed_sql.proofs.OnlyRead.{one_read, then_read}
 
 pub returns-clause-found : goal.returns-clause-found
 returns-clause-found g c clean =
     if_both c.entries_in_rows.result
-    (λ found each same content holds. all_entries a c.args.holder content holds b c.in_ok-rows.rows.items found.items (c.in_ok-rows.ensures.order clean_b) (c.in_ok-rows.ensures.still clean_b)
+    (λ found each same content holds. all_entries a c.args.holder content holds b c.in_ok-rows.rows.items found.items (c.in_ok-rows.ensures.order clean_b) (c.in_ok-rows.ensures.reads.still clean_b refl)
     (subst (λ (rows : List StoredGuarantee). IsOfTables (λ t. map (λ r. entry_from t (guarantee_row_of r)) rows) b found.items) c.deref.ensures.value each))
     (c.entries_in_rows.ensures.entries clean) (c.entries_in_rows.ensures.entries clean)
   where
@@ -24,13 +24,7 @@ returns-clause-found g c clean =
     b = state g.S.Store c.guarantees_of.new.tx.conn.now
 
     clean_b : HasCleanDisk b
-    clean_b = omega (arith, clean, c.entries_in_rows.ensures.survives.clean)
+    clean_b = omega (arith, clean, c.entries_in_rows.ensures.reads.within.survives.clean)
 
-pub returns-clause-still : goal.returns-clause-still
-returns-clause-still g c clean =
-    let a : State = state g.S.Store c.args.tx.now.conn.now in
-    let b : State = state g.S.Store c.guarantees_of.new.tx.conn.now in
-    let d : State = state g.S.Store c.entries_in_rows.new.tx.conn.now in
-    on_ok c.entries_in_rows.result
-    (λ left. one_read a d (then_read a b d (c.in_ok-rows.ensures.still (omega (arith, clean, c.entries_in_rows.ensures.survives.clean))) left))
-    (c.entries_in_rows.ensures.still clean)
+pub returns-clause-reads : goal.returns-clause-reads
+returns-clause-reads g c = reads_on c.in_ok-rows.ensures.reads c.entries_in_rows.ensures.reads

@@ -1,4 +1,4 @@
-use Rattle.std.proofs.Common.{◌≡◌, ◌∷◌, [], ◌++◌, ◌+◌, ℕ, List, None, Option, Some, take, sym, ◌∙◌, ap, subst, arith}
+use Rattle.std.proofs.Common.{◌≡◌, ◌∷◌, [], ◌++◌, ◌+◌, ℕ, List, None, Option, Some, take, sym, ◌∙◌, ap, subst, arith, refl, true}
 use Rattle.std.specs.Prelude.{filter_map}
 use Rattle.std.proofs.lemmas.List.{take_all, take_more, append-nil}
 use Rattle.sqlite.specs.Held.{state}
@@ -12,7 +12,8 @@ use Rattle.td_store_load.specs.Loaded.{IsOfContent}
 use Rattle.td_store_load.proofs.Reading.{content_before}
 use Rattle.td_store_load.proofs.entries.load_entries_of.Goals as goal
 use Rattle.td_store_load.proofs.entries.load_entries_of.Goals.{in-Some+in_ok-push, in_default}
-use Rattle.typed_sql.proofs.OnlyRead.{HaveRead, read_then}
+use Rattle.typed_sql.specs.Reading.{Reads}
+use Rattle.typed_sql.proofs.OnlyRead.{reads_on, reads_well}
 use Rattle.td_schema.specs.Tables.{desk_schema}
 
 pub lines-preserved : goal.lines-preserved
@@ -27,8 +28,8 @@ lines-preserved g c = (c.load_entry.ensures.same_reference ∙ c.lines.invariant
     d : State
     d = state g.S.Store c.load_entry.new.tx.conn.now
 
-    more : HaveRead desk_schema a d
-    more = read_then a b d c.lines.invariant.1 c.in_ok-entry.ensures.still c.in_ok-entry.ensures.inside c.load_entry.ensures.kept c.load_entry.ensures.survives
+    more : Reads desk_schema true a d
+    more = reads_on c.lines.invariant.1 c.in_ok-entry.ensures.reads
 
     seek : Content → Line → Option (Guarantee × ℕ)
     seek content line = entry_in (account_in c.args.holder content) line.grn
@@ -46,10 +47,10 @@ lines-preserved g c = (c.load_entry.ensures.same_reference ∙ c.lines.invariant
     one_line = take_more items n line c.lines-test.true ∙ ap (λ s. take n items ++ s ∷ []) (sym c.line-item.is)
 
     clean_b : HasCleanDisk d → HasCleanDisk b
-    clean_b clean = omega (arith, clean, c.load_entry.ensures.survives.clean)
+    clean_b clean = omega (arith, clean, c.load_entry.ensures.reads.within.survives.clean)
 
     told : HasCleanDisk d → IsOfContent c.args.country (λ content. seek content line) a c.in_ok-entry.field-0
-    told clean = content_before c.args.country (λ content. seek content line) a b c.in_ok-entry.field-0 (c.lines.invariant.1.still (clean_b clean)) (c.in_ok-entry.ensures.found clean)
+    told clean = content_before c.args.country (λ content. seek content line) a b c.in_ok-entry.field-0 (c.lines.invariant.1.still (clean_b clean) refl) (c.in_ok-entry.ensures.found clean)
 
     next : HasCleanDisk d → IsOfContent c.args.country (λ content. filter_map (seek content) (take (n + 1) items)) a c.match-branch-2.found.items
     next clean content holds at =
@@ -68,3 +69,6 @@ pub returns-clause-found : goal.returns-clause-found
 returns-clause-found g c clean content holds at =
     c.lines.invariant.2 clean content holds at
     ∙ ap (filter_map (λ l. entry_in (account_in c.args.holder content) l.grn)) (take_all c.lines.line-index c.args.lines.now c.lines-test.false)
+
+pub returns-in_err-push-clause-reads : goal.returns-in_err-push-clause-reads
+returns-in_err-push-clause-reads g c = reads_well (reads_on c.lines.invariant.1 c.in_ok-entry.ensures.reads)

@@ -1,4 +1,4 @@
-use Rattle.std.proofs.Common.{◌≡◌, ◌∷◌, [], ◌++◌, ◌+◌, ◌<◌, ◌≤◌, ℕ, List, None, Option, Some, length, map, take, get_or, sym, ◌∙◌, ap, subst, arith}
+use Rattle.std.proofs.Common.{◌≡◌, ◌∷◌, [], ◌++◌, ◌+◌, ◌<◌, ◌≤◌, ℕ, List, None, Option, Some, length, map, take, get_or, sym, ◌∙◌, ap, subst, arith, refl, true}
 use Rattle.std.specs.Prelude.{filter_map}
 use Rattle.std.proofs.lemmas.List.{take_all, take_more, append-nil, map-append}
 use Rattle.sqlite.specs.Held.{state}
@@ -11,7 +11,8 @@ use Rattle.td_store_load.specs.Loaded.{IsOfContent}
 use Rattle.td_store_load.proofs.Reading.{content_before}
 use Rattle.td_store_load.proofs.guarantees.load_guarantees_of.Goals as goal
 use Rattle.td_store_load.proofs.guarantees.load_guarantees_of.Goals.{in-Some+in_ok-push, in_default}
-use Rattle.typed_sql.proofs.OnlyRead.{HaveRead, read_then}
+use Rattle.typed_sql.specs.Reading.{Reads}
+use Rattle.typed_sql.proofs.OnlyRead.{reads_on, reads_well}
 use Rattle.td_schema.specs.Tables.{desk_schema}
 
 pub lines-preserved : goal.lines-preserved
@@ -26,8 +27,8 @@ lines-preserved g c = (c.load_guarantee.ensures.same_reference ∙ c.lines.invar
     d : State
     d = state g.S.Store c.load_guarantee.new.tx.conn.now
 
-    more : HaveRead desk_schema a d
-    more = read_then a b d c.lines.invariant.1 c.in_ok-guarantee.ensures.still c.in_ok-guarantee.ensures.inside c.load_guarantee.ensures.kept c.load_guarantee.ensures.survives
+    more : Reads desk_schema true a d
+    more = reads_on c.lines.invariant.1 c.in_ok-guarantee.ensures.reads
 
     seek : Content → Line × List ℕ → Option Guarantee
     seek content = look (account_in c.args.holder content).guarantees
@@ -54,10 +55,10 @@ lines-preserved g c = (c.load_guarantee.ensures.same_reference ∙ c.lines.invar
     before = map (λ e. e.0) c.lines.found.items
 
     clean_b : HasCleanDisk d → HasCleanDisk b
-    clean_b clean = omega (arith, clean, c.load_guarantee.ensures.survives.clean)
+    clean_b clean = omega (arith, clean, c.load_guarantee.ensures.reads.within.survives.clean)
 
     told : HasCleanDisk d → IsOfContent c.args.country (λ content. seek content line) a c.in_ok-guarantee.field-0
-    told clean = content_before c.args.country (λ content. seek content line) a b c.in_ok-guarantee.field-0 (c.lines.invariant.1.still (clean_b clean)) (c.in_ok-guarantee.ensures.found clean)
+    told clean = content_before c.args.country (λ content. seek content line) a b c.in_ok-guarantee.field-0 (c.lines.invariant.1.still (clean_b clean) refl) (c.in_ok-guarantee.ensures.found clean)
 
     next : HasCleanDisk d → IsOfContent c.args.country (λ content. filter_map (seek content) (take (n + 1) items)) a (map (λ e. e.0) c.match-branch-2.found.items)
     next clean content holds at =
@@ -77,3 +78,6 @@ returns-clause-found g c clean content holds at =
     c.lines.invariant.2 clean content holds at
     ∙ ap (filter_map (look (account_in c.args.holder content).guarantees))
     (take_all c.lines.line-index c.args.lines.now (subst (λ (l : List (Line × List ℕ)). length l ≤ c.lines.line-index) c.as_slice-line-items.ensures.value c.lines-test.false))
+
+pub returns-in_err-push-clause-reads : goal.returns-in_err-push-clause-reads
+returns-in_err-push-clause-reads g c = reads_well (reads_on c.lines.invariant.1 c.in_ok-guarantee.ensures.reads)

@@ -1,4 +1,4 @@
-use Rattle.std.proofs.Common.{◌∙◌, ap, arith, subst}
+use Rattle.std.proofs.Common.{◌∙◌, ap, arith, subst, refl, true}
 use Rattle.td_movement.specs.declared.movement.Movement.{Movement}
 use Rattle.td_store_rows.specs.declared.movements.stored.StoredMovement.{StoredMovement}
 use Rattle.sqlite.specs.Held.{state}
@@ -8,7 +8,8 @@ use Rattle.td_table_model.specs.Gathering.{with_lines}
 use Rattle.td_store_load.specs.Loaded.{IsOfTables}
 use Rattle.td_store_load.proofs.Found.{next_of}
 use Rattle.td_store_load.proofs.movements.all_with_lines.Goals as goal
-use Rattle.typed_sql.proofs.OnlyRead.{HaveRead, read_then}
+use Rattle.typed_sql.specs.Reading.{Reads}
+use Rattle.typed_sql.proofs.OnlyRead.{reads_on, reads_well}
 use Rattle.td_schema.specs.Tables.{desk_schema}
 
 pub rows-preserved : goal.rows-preserved
@@ -18,7 +19,7 @@ rows-preserved g c = (
   λ clean content holds.
       c.in_ok-push.ensures.items
       ∙ next_of (λ t r. with_lines t (movement_row_of r)) a b c.args.rows.now c.rows.row-index _ c.row-item.result c.rows.movements.items c.in_ok-movement.movement c.rows-test.true c.row-item.is
-      (c.rows.invariant.1.still (clean_b clean)) (c.rows.invariant.2 (clean_b clean)) (of_row (c.in_ok-movement.ensures.whole clean)) content holds,
+      (c.rows.invariant.1.still (clean_b clean) refl) (c.rows.invariant.2 (clean_b clean)) (of_row (c.in_ok-movement.ensures.whole clean)) content holds,
 )
   where
     stored : StoredMovement
@@ -33,12 +34,15 @@ rows-preserved g c = (
     d : State
     d = state g.S.Store c.movement_with_lines.new.tx.conn.now
 
-    more : HaveRead desk_schema a d
-    more = read_then a b d c.rows.invariant.1 c.in_ok-movement.ensures.still c.in_ok-movement.ensures.inside c.movement_with_lines.ensures.kept c.movement_with_lines.ensures.survives
+    more : Reads desk_schema true a d
+    more = reads_on c.rows.invariant.1 c.in_ok-movement.ensures.reads
 
     clean_b : HasCleanDisk d → HasCleanDisk b
-    clean_b clean = omega (arith, clean, c.movement_with_lines.ensures.survives.clean)
+    clean_b clean = omega (arith, clean, c.movement_with_lines.ensures.reads.within.survives.clean)
 
     -- what is loaded by a copy of the row is what the row says
     of_row : {m : Movement} → IsOfTables (λ t. with_lines t (movement_row_of stored)) b m → IsOfTables (λ t. with_lines t (movement_row_of c.row-item.result)) b m
     of_row {m} = subst (λ (r : StoredMovement). IsOfTables (λ t. with_lines t (movement_row_of r)) b m) (ap (λ (m : Movement). record c.row-item.result { movement = m }) c.in_ok-copy.ensures)
+
+pub returns-in_err-push-clause-reads : goal.returns-in_err-push-clause-reads
+returns-in_err-push-clause-reads g c = reads_well (reads_on c.rows.invariant.1 c.in_ok-movement.ensures.reads)

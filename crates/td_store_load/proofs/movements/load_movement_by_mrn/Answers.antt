@@ -1,4 +1,4 @@
-use Rattle.std.proofs.Common.{◌∙◌, None, Some, Option, ap, arith, subst, sym}
+use Rattle.std.proofs.Common.{◌∙◌, None, Some, Option, ap, arith, subst, sym, refl}
 use Rattle.sqlite.specs.Held.{state}
 use Rattle.sqlite.specs.State.{State, HasCleanDisk}
 use Rattle.td_store_rows.specs.MovementTable.{IsTheMovement, has_mrn, movement_row_of}
@@ -7,8 +7,8 @@ use Rattle.td_table_model.specs.Gathering.{with_lines}
 use Rattle.td_table_model.specs.Looking.{movement_no}
 use Rattle.td_store_load.proofs.Found.{by_mrn}
 use Rattle.td_store_load.proofs.Reading.{said_before}
+use Rattle.typed_sql.proofs.OnlyRead.{reads_on}
 use Rattle.td_store_load.proofs.movements.load_movement_by_mrn.Goals as goal
-use Rattle.typed_sql.proofs.OnlyRead.{one_read}
 
 pub returns-in_default-clause-found : goal.returns-in_default-clause-found
 returns-in_default-clause-found g c clean content holds at = sym (by_mrn a c.args.holder content holds c.args.country c.args.mrn.now at None found)
@@ -22,7 +22,7 @@ returns-in_default-clause-found g c clean content holds at = sym (by_mrn a c.arg
 
 pub returns-clause-found : goal.returns-clause-found
 returns-clause-found g c clean content holds at =
-    ap Some (said_before (λ t. with_lines t (movement_row_of c.in-Some.stored)) a b _ (one_read a b (c.in_ok-stored.ensures.still clean_b)) (c.in_ok-movement_with_lines.ensures.whole clean) content holds)
+    ap Some (said_before (λ t. with_lines t (movement_row_of c.in-Some.stored)) a b _ (c.in_ok-stored.ensures.reads.still clean_b refl) (c.in_ok-movement_with_lines.ensures.whole clean) content holds)
     ∙ sym (by_mrn a c.args.holder content holds c.args.country c.args.mrn.now at (Some c.in-Some.stored) found)
   where
     a : State
@@ -32,8 +32,11 @@ returns-clause-found g c clean content holds at =
     b = state g.S.Store c.find_by_mrn.new.tx.conn.now
 
     clean_b : HasCleanDisk b
-    clean_b = omega (arith, clean, c.movement_with_lines.ensures.survives.clean)
+    clean_b = omega (arith, clean, c.movement_with_lines.ensures.reads.within.survives.clean)
 
     found : IsTheMovement (has_mrn c.args.holder (movement_no c.args.country c.args.mrn.now) c.args.mrn.now) a (Some c.in-Some.stored)
     found = subst (λ (o : Option StoredMovement). IsTheMovement (has_mrn c.args.holder (movement_no c.args.country c.args.mrn.now) c.args.mrn.now) a o) c.in-Some.is
         (rw (c.unwrap_or-serial.ensures, c.serial.ensures) at (c.in_ok-stored.ensures.found clean_b))
+
+pub returns-clause-reads : goal.returns-clause-reads
+returns-clause-reads g c = reads_on c.in_ok-stored.ensures.reads c.in_ok-movement_with_lines.ensures.reads

@@ -1,4 +1,4 @@
-use Rattle.std.proofs.Common.{List, arith, map, subst, sym}
+use Rattle.std.proofs.Common.{List, arith, map, subst, sym, refl}
 use Rattle.sqlite.specs.Held.{state}
 use Rattle.sqlite.specs.State.{State, HasCleanDisk}
 use Rattle.td_store_rows.specs.LineTable.{line_row_of as row_of_line}
@@ -8,13 +8,13 @@ use Rattle.td_store_rows.specs.MovementTable.{movement_row_of}
 use Rattle.td_table_model.specs.Gathering.{line_from, with_lines}
 use Rattle.td_store_load.specs.Loaded.{IsOfTables}
 use Rattle.td_store_load.proofs.Found.{whole_movement}
+use Rattle.typed_sql.proofs.OnlyRead.{reads_on}
 use Rattle.td_store_load.proofs.movements.movement_with_lines.Goals as goal
-use Rattle.typed_sql.proofs.OnlyRead.{then_read}
 
 pub returns-clause-whole : goal.returns-clause-whole
 returns-clause-whole g c clean =
     subst (λ (l : List Line). IsOfTables (λ t. with_lines t (movement_row_of c.args.stored)) a (record c.args.stored.movement { lines = l })) (sym c.new.ensures)
-    (whole_movement a b c.args.stored c.in_ok-rows.rows.items c.in_ok-lines.lines.items (c.in_ok-rows.ensures.order clean_b) (c.in_ok-rows.ensures.still clean_b)
+    (whole_movement a b c.args.stored c.in_ok-rows.rows.items c.in_ok-lines.lines.items (c.in_ok-rows.ensures.order clean_b) (c.in_ok-rows.ensures.reads.still clean_b refl)
     (subst (λ (rows : List StoredLine). IsOfTables (λ t. map (λ r. line_from t (row_of_line r)) rows) b c.in_ok-lines.lines.items) c.deref.ensures.value (c.in_ok-lines.ensures.lines clean)))
   where
     a : State
@@ -24,9 +24,7 @@ returns-clause-whole g c clean =
     b = state g.S.Store c.lines_of.new.tx.conn.now
 
     clean_b : HasCleanDisk b
-    clean_b = omega (arith, clean, c.lines_on.ensures.survives.clean)
+    clean_b = omega (arith, clean, c.lines_on.ensures.reads.within.survives.clean)
 
-pub returns-clause-still : goal.returns-clause-still
-returns-clause-still g c clean =
-    then_read (state g.S.Store c.args.tx.now.conn.now) (state g.S.Store c.lines_of.new.tx.conn.now) (state g.S.Store c.lines_on.new.tx.conn.now)
-    (c.in_ok-rows.ensures.still (omega (arith, clean, c.lines_on.ensures.survives.clean))) (c.in_ok-lines.ensures.still clean)
+pub returns-clause-reads : goal.returns-clause-reads
+returns-clause-reads g c = reads_on c.in_ok-rows.ensures.reads c.in_ok-lines.ensures.reads

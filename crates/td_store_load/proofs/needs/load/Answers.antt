@@ -1,4 +1,4 @@
-use Rattle.std.proofs.Common.{None, Option, Some, arith, subst, sym}
+use Rattle.std.proofs.Common.{None, Option, Some, arith, subst, sym, refl}
 use Rattle.sqlite.specs.Held.{state}
 use Rattle.sqlite.specs.State.{State, HasCleanDisk}
 use Rattle.td_model.specs.declared.holder_row.HolderRow.{HolderRow}
@@ -10,7 +10,6 @@ use Rattle.td_store_rows.specs.HolderTable.{IsTheHolder}
 use Rattle.typed_sql.proofs.Leaving.{if_both}
 use Rattle.td_store_load.proofs.Owner.{loaded_for, nothing_loaded}
 use Rattle.td_store_load.proofs.needs.load.Goals as goal
-use Rattle.typed_sql.proofs.OnlyRead.{one_read}
 
 -- nobody owns the command
 pub returns-in_default-clause-loaded : goal.returns-in_default-clause-loaded
@@ -31,7 +30,7 @@ pub returns-clause-loaded : goal.returns-clause-loaded
 returns-clause-loaded g c clean =
     if_both c.load_for.result
     (λ loaded says same content holds at. subst (λ o. IsLoaded (kept_for o content) (need_said c.args.needs.now) loaded) (sym c.in-Some.is)
-    (loaded_for a b c.in-Some.holder c.args.country c.in-Some-2.row (need_said c.args.needs.now) loaded row (one_read a b (c.in_ok-row.ensures.still clean_b)) says content holds at))
+    (loaded_for a b c.in-Some.holder c.args.country c.in-Some-2.row (need_said c.args.needs.now) loaded row (c.in_ok-row.ensures.reads.still clean_b refl) says content holds at))
     (c.load_for.ensures.loaded clean) (c.load_for.ensures.loaded clean)
   where
     a : State
@@ -41,7 +40,7 @@ returns-clause-loaded g c clean =
     b = state g.S.Store c.find_holder.new.tx.conn.now
 
     clean_b : HasCleanDisk b
-    clean_b = omega (arith, clean, c.load_for.ensures.survives.clean)
+    clean_b = omega (arith, clean, c.load_for.ensures.reads.within.survives.clean)
 
     row : IsTheHolder c.in-Some.holder a (Some c.in-Some-2.row)
     row = subst (λ (o : Option HolderRow). IsTheHolder c.in-Some.holder a o) c.in-Some-2.is (c.in_ok-row.ensures.found clean_b)

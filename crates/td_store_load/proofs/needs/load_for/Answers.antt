@@ -5,7 +5,6 @@ use Rattle.sqlite.specs.State.{State}
 use Rattle.td_commands.specs.Commands.{need_said}
 use Rattle.td_store_load.specs.Needed.{IsLoadedFor}
 use Rattle.td_store_load.proofs.needs.load_for.Goals as goal
-use Rattle.typed_sql.proofs.OnlyRead.{nothing_read}
 
 pub returns-in-Nothing-clause-loaded : goal.returns-in-Nothing-clause-loaded
 returns-in-Nothing-clause-loaded g c clean content holds at row = record {
@@ -13,10 +12,6 @@ returns-in-Nothing-clause-loaded g c clean content holds at row = record {
   holder = c.row_alone.ensures.row ∙ sym row;
   things = rw c.in-Nothing.is tt;
 }
-
-pub returns-in-Nothing-clause-still : goal.returns-in-Nothing-clause-still
-returns-in-Nothing-clause-still g c clean =
-    (nothing_read (state g.S.Store c.args.tx.now.conn.now) c.requires).still clean
 
 pub returns-in-Lodging-clause-loaded : goal.returns-in-Lodging-clause-loaded
 returns-in-Lodging-clause-loaded g c clean =

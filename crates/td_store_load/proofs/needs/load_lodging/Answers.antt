@@ -1,4 +1,4 @@
-use Rattle.std.proofs.Common.{◌∙◌, Some, ap, arith, sym}
+use Rattle.std.proofs.Common.{◌∙◌, Some, ap, arith, sym, refl}
 use Rattle.std.specs.Prelude.{option_to_list}
 use Rattle.sqlite.specs.Held.{state}
 use Rattle.sqlite.specs.State.{State, HasCleanDisk}
@@ -6,26 +6,22 @@ use Rattle.td_acts.specs.declared.rows.Loaded.{Loaded}
 use Rattle.td_desk.specs.Content.{account_in}
 use Rattle.td_holder_memory.proofs.Loading.{lodging_looked_up}
 use Rattle.td_store_load.proofs.Reading.{held_after}
+use Rattle.typed_sql.proofs.OnlyRead.{reads_on}
 use Rattle.td_store_load.proofs.needs.load_lodging.Goals as goal
-use Rattle.typed_sql.proofs.OnlyRead.{one_read, then_read}
 
 pub returns-clause-loaded : goal.returns-clause-loaded
 returns-clause-loaded g c clean content holds at row =
     let a : State = state g.S.Store c.args.tx.now.conn.now in
     let b : State = state g.S.Store c.load_movement_by_lrn.new.tx.conn.now in
-    let clean_b : HasCleanDisk b = omega (arith, clean, c.load_guarantees_of.ensures.survives.clean) in
+    let clean_b : HasCleanDisk b = omega (arith, clean, c.load_guarantees_of.ensures.reads.within.survives.clean) in
     let loaded : Loaded = record { country = c.args.country; holder = Some c.args.row; movements = c.in_ok-movements.movements; guarantees = c.in_ok-guarantees.guarantees } in
     record {
       country = sym at;
       holder = sym row;
       things = lodging_looked_up (account_in c.args.row.holder content) loaded c.args.lrn.now c.args.lines.now
           (c.in_ok-movements.ensures ∙ ap option_to_list (c.in_ok-found.ensures.found clean_b content holds))
-          (c.in_ok-guarantees.ensures.found clean content (held_after content a b (one_read a b (c.in_ok-found.ensures.still clean_b)) holds) at);
+          (c.in_ok-guarantees.ensures.found clean content (held_after content a b (c.in_ok-found.ensures.reads.still clean_b refl) holds) at);
     }
 
-pub returns-clause-still : goal.returns-clause-still
-returns-clause-still g c clean =
-    let a : State = state g.S.Store c.args.tx.now.conn.now in
-    let b : State = state g.S.Store c.load_movement_by_lrn.new.tx.conn.now in
-    let d : State = state g.S.Store c.load_guarantees_of.new.tx.conn.now in
-    one_read a d (then_read a b d (c.in_ok-found.ensures.still (omega (arith, clean, c.load_guarantees_of.ensures.survives.clean))) (c.in_ok-guarantees.ensures.still clean))
+pub returns-clause-reads : goal.returns-clause-reads
+returns-clause-reads g c = reads_on c.in_ok-found.ensures.reads c.in_ok-guarantees.ensures.reads

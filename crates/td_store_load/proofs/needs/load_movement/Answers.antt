@@ -5,7 +5,6 @@ use Rattle.td_acts.specs.declared.rows.Loaded.{Loaded}
 use Rattle.td_desk.specs.Content.{account_in}
 use Rattle.td_holder_memory.proofs.Loading.{movement_looked_up}
 use Rattle.td_store_load.proofs.needs.load_movement.Goals as goal
-use Rattle.typed_sql.proofs.OnlyRead.{one_read}
 
 pub returns-clause-loaded : goal.returns-clause-loaded
 returns-clause-loaded g c clean content holds at row =
@@ -16,7 +15,3 @@ returns-clause-loaded g c clean content holds at row =
       things = movement_looked_up (account_in c.args.row.holder content) loaded c.args.mrn.now
           (c.in_ok-loaded.ensures ∙ ap option_to_list (c.in_ok-found.ensures.found clean content holds at));
     }
-
-pub returns-clause-still : goal.returns-clause-still
-returns-clause-still g c clean =
-    one_read (state g.S.Store c.args.tx.now.conn.now) (state g.S.Store c.load_movement_by_mrn.new.tx.conn.now) (c.in_ok-found.ensures.still clean)

@@ -1,4 +1,4 @@
-use Rattle.std.proofs.Common.{◌≡◌, ◌∙◌, None, Option, Some, ap, arith, subst, sym}
+use Rattle.std.proofs.Common.{◌≡◌, ◌∙◌, None, Option, Some, ap, arith, subst, sym, refl}
 use Rattle.std.specs.Prelude.{option_to_list, filter_map, IfSome}
 use Rattle.sqlite.specs.Held.{state}
 use Rattle.sqlite.specs.State.{State, HasCleanDisk}
@@ -8,8 +8,8 @@ use Rattle.td_model.specs.Account.{Account, entry_in, movement_by_mrn}
 use Rattle.td_desk.specs.Content.{account_in}
 use Rattle.td_holder_memory.proofs.Loading.{release_looked_up}
 use Rattle.td_store_load.proofs.Reading.{held_after}
+use Rattle.typed_sql.proofs.OnlyRead.{reads_on}
 use Rattle.td_store_load.proofs.needs.load_release.Goals as goal
-use Rattle.typed_sql.proofs.OnlyRead.{one_read, then_read}
 
 pub returns-in_default-clause-loaded : goal.returns-in_default-clause-loaded
 returns-in_default-clause-loaded g c clean content holds at row =
@@ -28,7 +28,7 @@ returns-clause-loaded g c clean content holds at row = record {
   holder = sym row;
   things = release_looked_up account loaded c.args.mrn.now (c.in_ok-movements.ensures.items ∙ ap option_to_list some)
       (subst (λ (o : Option Movement). IfSome o (λ m. c.in_ok-guarantees.guarantees.items ≡ filter_map (λ l. entry_in account l.grn) m.lines)) some
-      (c.in_ok-guarantees.ensures.found clean content (held_after content a b (one_read a b (c.in_ok-found.ensures.still clean_b)) holds) at
+      (c.in_ok-guarantees.ensures.found clean content (held_after content a b (c.in_ok-found.ensures.reads.still clean_b refl) holds) at
       ∙ ap (filter_map (λ l. entry_in account l.grn)) c.as_slice.ensures));
 }
   where
@@ -39,7 +39,7 @@ returns-clause-loaded g c clean content holds at row = record {
     b = state g.S.Store c.load_movement_by_mrn.new.tx.conn.now
 
     clean_b : HasCleanDisk b
-    clean_b = omega (arith, clean, c.load_entries_of.ensures.survives.clean)
+    clean_b = omega (arith, clean, c.load_entries_of.ensures.reads.within.survives.clean)
 
     account : Account
     account = account_in c.args.row.holder content
@@ -50,13 +50,5 @@ returns-clause-loaded g c clean content holds at row = record {
     some : Some c.in-Some.found ≡ movement_by_mrn c.args.mrn.now account.movements
     some = sym c.in-Some.is ∙ c.in_ok-found.ensures.found clean_b content holds at
 
-pub returns-in_default-clause-still : goal.returns-in_default-clause-still
-returns-in_default-clause-still g c clean =
-    one_read (state g.S.Store c.args.tx.now.conn.now) (state g.S.Store c.load_movement_by_mrn.new.tx.conn.now) (c.in_ok-found.ensures.still clean)
-
-pub returns-clause-still : goal.returns-clause-still
-returns-clause-still g c clean =
-    let a : State = state g.S.Store c.args.tx.now.conn.now in
-    let b : State = state g.S.Store c.load_movement_by_mrn.new.tx.conn.now in
-    let d : State = state g.S.Store c.load_entries_of.new.tx.conn.now in
-    one_read a d (then_read a b d (c.in_ok-found.ensures.still (omega (arith, clean, c.load_entries_of.ensures.survives.clean))) (c.in_ok-guarantees.ensures.still clean))
+pub returns-clause-reads : goal.returns-clause-reads
+returns-clause-reads g c = reads_on c.in_ok-found.ensures.reads c.in_ok-guarantees.ensures.reads

@@ -31,7 +31,7 @@ returns-clause-crash g c =
     let b : State = state g.S.Store c.write_change.new.tx.conn.now in
     let e : State = state g.S.Store c.conn-2-1.given.0 in
     let ended : Survives b e (λ db. db ≡ b.now.trees) = search rules in
-    let written : Survives a b (λ _. ⊥) = rw c.transaction-tx.ensures.begun at c.write_change.ensures.survives in
+    let written : Survives a b (λ _. ⊥) = rw c.transaction-tx.ensures.begun at c.write_change.ensures.within.survives in
     survives_begin g.S.Store c.args.conn.now e (MayLeave c.args.country c.args.change.now o)
     (survives_then a b e (λ _. ⊥) (λ db. db ≡ b.now.trees) (MayLeave c.args.country c.args.change.now o)
     (λ clean db none. absurd none)

@@ -21,4 +21,4 @@ returns-clause-written g c clean =
     d = state g.S.Store c.insert_code.new.tx.conn.now
 
     clean_b : HasCleanDisk b
-    clean_b = omega (arith, clean, c.insert_code.ensures.survives.clean)
+    clean_b = omega (arith, clean, c.insert_code.ensures.within.survives.clean)

@@ -25,4 +25,4 @@ returns-clause-written g c clean =
     d = state g.S.Store c.delete_code.new.tx.conn.now
 
     clean_b : HasCleanDisk b
-    clean_b = omega (arith, clean, c.delete_code.ensures.survives.clean)
+    clean_b = omega (arith, clean, c.delete_code.ensures.within.survives.clean)

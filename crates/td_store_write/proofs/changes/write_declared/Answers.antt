@@ -24,7 +24,7 @@ returns-clause-written g c clean =
     e = state g.S.Store c.insert_lines.new.tx.conn.now
 
     clean_d : HasCleanDisk d
-    clean_d = omega (arith, clean, c.insert_lines.ensures.survives.clean)
+    clean_d = omega (arith, clean, c.insert_lines.ensures.within.survives.clean)
 
     clean_b : HasCleanDisk b
-    clean_b = omega (arith, clean_d, c.insert_movement.ensures.survives.clean)
+    clean_b = omega (arith, clean_d, c.insert_movement.ensures.within.survives.clean)

@@ -21,4 +21,4 @@ returns-clause-written g c clean =
     d = state g.S.Store c.set_status.new.tx.conn.now
 
     clean_b : HasCleanDisk b
-    clean_b = omega (arith, clean, c.set_status.ensures.survives.clean)
+    clean_b = omega (arith, clean, c.set_status.ensures.within.survives.clean)

@@ -23,7 +23,7 @@ returns-clause-written g c clean =
     e = state g.S.Store c.insert_codes.new.tx.conn.now
 
     clean_d : HasCleanDisk d
-    clean_d = omega (arith, clean, c.insert_codes.ensures.survives.clean)
+    clean_d = omega (arith, clean, c.insert_codes.ensures.within.survives.clean)
 
     clean_b : HasCleanDisk b
-    clean_b = omega (arith, clean_d, c.insert_guarantee.ensures.survives.clean)
+    clean_b = omega (arith, clean_d, c.insert_guarantee.ensures.within.survives.clean)

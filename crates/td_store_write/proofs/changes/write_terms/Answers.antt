@@ -21,4 +21,4 @@ returns-clause-written g c clean =
     d = state g.S.Store c.set_terms.new.tx.conn.now
 
     clean_b : HasCleanDisk b
-    clean_b = omega (arith, clean, c.set_terms.ensures.survives.clean)
+    clean_b = omega (arith, clean, c.set_terms.ensures.within.survives.clean)

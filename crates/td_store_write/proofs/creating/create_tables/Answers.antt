@@ -23,7 +23,7 @@ returns-clause-created g c clean =
     let e : State = state g.S.Store c.conn-2-1.given.0 in
     let ended : Survives d e (λ db. db ≡ d.now.trees) = search rules in
     let clean_d : HasCleanDisk d = omega (arith, clean, ended.clean) in
-    let clean_b : HasCleanDisk b = omega (arith, clean_d, c.insert_meta.ensures.survives.clean) in
+    let clean_b : HasCleanDisk b = omega (arith, clean_d, c.insert_meta.ensures.within.survives.clean) in
     let made : IsEmptyOf no_schema a.now → IsEmptyOf desk_schema b.now =
     rw c.transaction-tx.ensures.begun at (c.in_ok-make_tables.ensures.made clean_b) in
     let put : TurnsMeta (λ rows. meta_row newest_version c.args.country ∷ rows) b d = c.in_ok-insert_meta.ensures.inserted clean_d in
@@ -42,15 +42,15 @@ returns-clause-crash g c =
     let d : State = state g.S.Store c.insert_meta.new.tx.conn.now in
     let e : State = state g.S.Store c.conn-2-1.given.0 in
     let ended : Survives d e (λ db. db ≡ d.now.trees) = search rules in
-    let begun : Survives a b (λ _. ⊥) = rw c.transaction-tx.ensures.begun at c.make_tables.ensures.survives in
+    let begun : Survives a b (λ _. ⊥) = rw c.transaction-tx.ensures.begun at c.make_tables.ensures.within.survives in
     let written : Survives a d (λ _. ⊥) =
-    survives_then a b d (λ _. ⊥) (λ _. ⊥) (λ _. ⊥) (λ _ db none. none) (λ _ db none. none) begun c.insert_meta.ensures.survives in
+    survives_then a b d (λ _. ⊥) (λ _. ⊥) (λ _. ⊥) (λ _ db none. none) (λ _ db none. none) begun c.insert_meta.ensures.within.survives in
     survives_begin g.S.Store c.args.conn.now e (MayLeaveEmpty c.args.country o)
     (survives_then a d e (λ _. ⊥) (λ db. db ≡ d.now.trees) (MayLeaveEmpty c.args.country o)
     (λ clean db none. absurd none)
     (λ clean db is none.
     let clean_d : HasCleanDisk d = omega (arith, clean, ended.clean) in
-    let clean_b : HasCleanDisk b = omega (arith, clean_d, c.insert_meta.ensures.survives.clean) in
+    let clean_b : HasCleanDisk b = omega (arith, clean_d, c.insert_meta.ensures.within.survives.clean) in
     let made : IsEmptyOf no_schema a.now → IsEmptyOf desk_schema b.now =
     rw c.transaction-tx.ensures.begun at (c.in_ok-make_tables.ensures.made clean_b) in
     left_empty c.args.country db d.now.trees is

@@ -34,10 +34,8 @@ codes-preserved g c = (c.insert_code.ensures.same_reference ∙ c.codes.invarian
 
     inserted : HasWritten next b d
     inserted = record {
-      inside = λ clean. (c.in_ok-insert_code.ensures.inside clean).mode;
+      within = c.in_ok-insert_code.ensures.within;
       tables = λ clean has typed. codes_turned b d has typed (λ rows. row c.code-item.result ∷ rows) (c.in_ok-insert_code.ensures.inserted clean);
-      kept = c.insert_code.ensures.kept;
-      survives = c.insert_code.ensures.survives;
     }
 
     both : HasWritten (λ t. next (first t)) a d

@@ -45,10 +45,8 @@ lines-preserved g c = (c.insert_line.ensures.same_reference ∙ c.lines.invarian
 
     inserted : HasWritten next b d
     inserted = record {
-      inside = λ clean. (c.in_ok-insert_line.ensures.inside clean).mode;
+      within = c.in_ok-insert_line.ensures.within;
       tables = λ clean has typed. lines_turned b d has typed (λ rows. row this ∷ rows) (rw (c.unwrap_or.ensures, c.serial.ensures, no) at (c.in_ok-insert_line.ensures.inserted clean));
-      kept = c.insert_line.ensures.kept;
-      survives = c.insert_line.ensures.survives;
     }
 
     both : HasWritten (λ t. next (first t)) a d

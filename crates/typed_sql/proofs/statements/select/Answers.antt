@@ -1,6 +1,7 @@
 use Rattle.std.proofs.Common.{arith, ◌⊎◌, inl, inr, Err, IfErr, IsTrue, List, Ok, Result, Vec}
 use Rattle.sqlite.specs.State.{HasCleanDisk, FailsToQuery, IsTooLate, KeepsCommit, Shown, State}
-use Rattle.std.specs.Prelude.{Result, Vec, List, IfOk, OnOk}
+use Rattle.std.proofs.lemmas.Bool.{false≢true}
+use Rattle.std.specs.Prelude.{IfOk, OnOk, is_ok}
 use Rattle.std.specs.declared.alloc.Global.{Global}
 use Rattle.sqlite.specs.declared.error.Error.{Error}
 use Rattle.sqlite_value.specs.declared.value.Value.{Value}
@@ -40,10 +41,12 @@ returns-clause-still g c clean = by_result c.query_all.result (c.query_all.ensur
     by_result (Ok rows) shown = reads_only c.args.text.now (bound c.args.values.now) old new rows.items shown
     by_result (Err e) shown = shown
 
-pub returns-clause-kept : goal.returns-clause-kept
-returns-clause-kept g c clean =
-    let early : HasCleanDisk old = omega (arith, clean, c.query_all.ensures.survives.clean) in
-    by_result c.query_all.result (c.requires early) (c.query_all.ensures.ok clean) (c.query_all.ensures.err clean)
+pub returns-clause-within : goal.returns-clause-within
+returns-clause-within g c = record {
+  inside = λ clean well. goes_on c.query_all.result (c.requires (early clean)) (c.query_all.ensures.ok clean) well;
+  kept = λ clean. keeps c.query_all.result (c.requires (early clean)) (c.query_all.ensures.ok clean) (c.query_all.ensures.err clean);
+  survives = c.query_all.ensures.survives;
+}
   where
     old : State
     old = state g.S.Store c.args.tx.now.conn.now
@@ -51,31 +54,23 @@ returns-clause-kept g c clean =
     new : State
     new = state g.S.Store c.query_all.new.self.conn.now
 
-    by_result : (r : Result (Vec (List Value) Global) Error) → IsTrue old.in_transaction
+    early : HasCleanDisk new → HasCleanDisk old
+    early clean = omega (arith, clean, c.query_all.ensures.survives.clean)
+
+    goes_on : (r : Result (Vec (List Value) Global) Error) → IsTrue old.in_transaction
+        → IfOk r (λ rows. Shown c.args.text.now (bound c.args.values.now) old new rows.items)
+        → IsTrue (is_ok r) → IsTrue new.in_transaction
+    goes_on (Ok rows) inside shown well =
+        shown_inside c.args.text.now (bound c.args.values.now) old new rows.items inside shown
+    goes_on (Err e) inside shown well = absurd (false≢true well)
+
+    keeps : (r : Result (Vec (List Value) Global) Error) → IsTrue old.in_transaction
         → IfOk r (λ rows. Shown c.args.text.now (bound c.args.values.now) old new rows.items)
         → IfErr r (λ e. FailsToQuery c.args.text.now
         (bound c.args.values.now) old new e ⊎ IsTooLate c.args.text.now (bound c.args.values.now) old new e)
         → KeepsCommit old new
-    by_result (Ok rows) inside shown failed =
+    keeps (Ok rows) inside shown failed =
         shown_keeps c.args.text.now (bound c.args.values.now) old new rows.items inside shown
-    by_result (Err e) inside shown (inl failed) =
+    keeps (Err e) inside shown (inl failed) =
         failed_keeps c.args.text.now (bound c.args.values.now) old new e failed
-    by_result (Err e) inside shown (inr late) = late_keeps c.args.text.now (bound c.args.values.now) old new e late
-
-pub returns-clause-inside : goal.returns-clause-inside
-returns-clause-inside g c clean =
-    let early : HasCleanDisk old = omega (arith, clean, c.query_all.ensures.survives.clean) in
-    by_result c.query_all.result (c.requires early) (c.query_all.ensures.ok clean)
-  where
-    old : State
-    old = state g.S.Store c.args.tx.now.conn.now
-
-    new : State
-    new = state g.S.Store c.query_all.new.self.conn.now
-
-    by_result : (r : Result (Vec (List Value) Global) Error) → IsTrue old.in_transaction
-        → IfOk r (λ rows. Shown c.args.text.now (bound c.args.values.now) old new rows.items)
-        → OnOk r (IsTrue new.in_transaction)
-    by_result (Ok rows) inside shown =
-        shown_inside c.args.text.now (bound c.args.values.now) old new rows.items inside shown
-    by_result (Err e) inside shown = shown
+    keeps (Err e) inside shown (inr late) = late_keeps c.args.text.now (bound c.args.values.now) old new e late

@@ -4,7 +4,7 @@ use Rattle.sqlite.specs.Held.{state}
 use Rattle.sqlite_value.specs.declared.value.Value.TheVariants.{Text}
 use Rattle.td_schema.specs.Tables.{desk_schema}
 use Rattle.typed_sql.proofs.Fetched.{one_fetched}
-use Rattle.typed_sql.proofs.Leaving.{stays_ok}
+use Rattle.typed_sql.proofs.Leaving.{reads_by}
 use Rattle.typed_sql.specs.Values.{number_value}
 use Rattle.td_store_rows.specs.Columns.{guarantee_typing}
 use Rattle.td_store_rows.specs.GuaranteeTable.{has_grn, guarantee_row_of}
@@ -20,6 +20,6 @@ returns-clause-found g c clean =
     _ c.grn_values.ensures by_grn_means (λ r is. grn_passes r is c.args.holder c.args.serial c.args.grn.now []) (λ r. refl)
     (state g.S.Store c.args.tx.now.conn.now) c.fetch_one.result (c.fetch_one.ensures.found clean)
 
-pub returns-clause-still : goal.returns-clause-still
-returns-clause-still g c clean =
-    stays_ok desk_schema BY_GRN.now by_grn_means.plain _ _ c.fetch_one.result (c.fetch_one.ensures.still clean)
+pub returns-clause-reads : goal.returns-clause-reads
+returns-clause-reads g c =
+    reads_by desk_schema BY_GRN.now by_grn_means.plain _ _ c.fetch_one.result c.fetch_one.ensures.still c.fetch_one.ensures.within

@@ -3,7 +3,7 @@ use Rattle.std.specs.Prelude.{[], ◌∷◌}
 use Rattle.sqlite.specs.Held.{state}
 use Rattle.td_schema.specs.Tables.{desk_schema}
 use Rattle.typed_sql.proofs.Fetched.{one_fetched}
-use Rattle.typed_sql.proofs.Leaving.{stays_ok}
+use Rattle.typed_sql.proofs.Leaving.{reads_by}
 use Rattle.typed_sql.specs.Values.{number_value}
 use Rattle.td_store_rows.specs.Columns.{guarantee_typing}
 use Rattle.td_store_rows.specs.GuaranteeTable.{has_serial, guarantee_row_of}
@@ -19,6 +19,6 @@ returns-clause-found g c clean =
     _ c.serial_key.ensures by_serial_means (λ r is. serial_passes r is c.args.holder c.args.serial) (λ r. refl)
     (state g.S.Store c.args.tx.now.conn.now) c.fetch_one.result (c.fetch_one.ensures.found clean)
 
-pub returns-clause-still : goal.returns-clause-still
-returns-clause-still g c clean =
-    stays_ok desk_schema BY_SERIAL.now by_serial_means.plain _ _ c.fetch_one.result (c.fetch_one.ensures.still clean)
+pub returns-clause-reads : goal.returns-clause-reads
+returns-clause-reads g c =
+    reads_by desk_schema BY_SERIAL.now by_serial_means.plain _ _ c.fetch_one.result c.fetch_one.ensures.still c.fetch_one.ensures.within

@@ -4,7 +4,7 @@ use Rattle.std.specs.Option.{option_to_list}
 use Rattle.sqlite.specs.Held.{state}
 use Rattle.td_schema.specs.Tables.{desk_schema}
 use Rattle.typed_sql.proofs.Fetched.{one_fetched}
-use Rattle.typed_sql.proofs.Leaving.{stays}
+use Rattle.typed_sql.proofs.Leaving.{reads_ok}
 use Rattle.typed_sql.specs.Typed.{typed_rows}
 use Rattle.typed_sql.specs.Values.{number_value}
 use Rattle.td_store_rows.proofs.HolderMeanings.{all_columns, by_number_means, number_tests}
@@ -24,5 +24,6 @@ returns-clause-found g c clean has typed =
     (passes_number c.args.holder []) (λ r. refl) (state g.S.Store c.args.tx.now.conn.now) (Ok c.in_ok-found.found)
     (c.in_ok-found.ensures.found clean) has typed)
 
-pub returns-clause-still : goal.returns-clause-still
-returns-clause-still g c clean = stays desk_schema BY_NUMBER.now by_number_means.plain _ _ (c.in_ok-found.ensures.still clean)
+pub returns-clause-reads : goal.returns-clause-reads
+returns-clause-reads g c =
+    reads_ok desk_schema BY_NUMBER.now by_number_means.plain _ _ c.in_ok-found.ensures.still c.in_ok-found.ensures.within

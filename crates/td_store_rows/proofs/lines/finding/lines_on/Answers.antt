@@ -3,7 +3,7 @@ use Rattle.std.specs.Prelude.{[], ◌∷◌}
 use Rattle.sqlite.specs.Held.{state}
 use Rattle.td_schema.specs.Tables.{desk_schema}
 use Rattle.typed_sql.proofs.Fetched.{those_fetched}
-use Rattle.typed_sql.proofs.Leaving.{stays_ok}
+use Rattle.typed_sql.proofs.Leaving.{reads_by}
 use Rattle.typed_sql.specs.Values.{number_value}
 use Rattle.td_store_rows.proofs.LineMeanings.{all_columns, guarantee_tests, on_guarantee_means}
 use Rattle.td_store_rows.proofs.LineStatements.{guarantee_passes}
@@ -19,6 +19,6 @@ returns-clause-found g c clean =
     c.serial_key.ensures on_guarantee_means (guarantee_passes c.args.holder c.args.guarantee) (λ r. refl)
     (state g.S.Store c.args.tx.now.conn.now) c.fetch.result (c.fetch.ensures.found clean)
 
-pub returns-clause-still : goal.returns-clause-still
-returns-clause-still g c clean =
-    stays_ok desk_schema ON_GUARANTEE.now on_guarantee_means.plain _ _ c.fetch.result (c.fetch.ensures.still clean)
+pub returns-clause-reads : goal.returns-clause-reads
+returns-clause-reads g c =
+    reads_by desk_schema ON_GUARANTEE.now on_guarantee_means.plain _ _ c.fetch.result c.fetch.ensures.still c.fetch.ensures.within

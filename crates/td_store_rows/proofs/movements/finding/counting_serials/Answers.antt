@@ -1,6 +1,6 @@
 use Rattle.sqlite.specs.Held.{state}
 use Rattle.td_schema.specs.Tables.{desk_schema}
-use Rattle.typed_sql.proofs.Leaving.{stays_ok}
+use Rattle.typed_sql.proofs.Leaving.{reads_by}
 use Rattle.td_store_rows.proofs.MovementMeanings.{counting_means}
 use Rattle.td_store_rows.proofs.MovementSerials.{serials_fetched, serials_in_order}
 use Rattle.td_store_rows.specs.declared.movements.texts.TheConstants.{COUNTING_SERIALS}
@@ -14,6 +14,6 @@ pub returns-clause-order : goal.returns-clause-order
 returns-clause-order g c clean =
     serials_in_order c.args.holder _ c.holder_key.ensures (state g.S.Store c.args.tx.now.conn.now) c.fetch.result (c.fetch.ensures.found clean)
 
-pub returns-clause-still : goal.returns-clause-still
-returns-clause-still g c clean =
-    stays_ok desk_schema COUNTING_SERIALS.now counting_means.plain _ _ c.fetch.result (c.fetch.ensures.still clean)
+pub returns-clause-reads : goal.returns-clause-reads
+returns-clause-reads g c =
+    reads_by desk_schema COUNTING_SERIALS.now counting_means.plain _ _ c.fetch.result c.fetch.ensures.still c.fetch.ensures.within

@@ -4,7 +4,7 @@ use Rattle.sqlite.specs.Held.{state}
 use Rattle.sqlite_value.specs.declared.value.Value.TheVariants.{Text}
 use Rattle.td_schema.specs.Tables.{desk_schema}
 use Rattle.typed_sql.proofs.Fetched.{one_fetched}
-use Rattle.typed_sql.proofs.Leaving.{stays_ok}
+use Rattle.typed_sql.proofs.Leaving.{reads_by}
 use Rattle.typed_sql.specs.Values.{number_value}
 use Rattle.td_store_rows.proofs.MovementMeanings.{all_columns, by_lrn_means, lrn_tests}
 use Rattle.td_store_rows.proofs.MovementStatements.{lrn_passes}
@@ -20,6 +20,6 @@ returns-clause-found g c clean =
     c.lrn_values.ensures by_lrn_means (λ r is. lrn_passes r is c.args.holder c.args.lrn.now) (λ r. refl)
     (state g.S.Store c.args.tx.now.conn.now) c.fetch_one.result (c.fetch_one.ensures.found clean)
 
-pub returns-clause-still : goal.returns-clause-still
-returns-clause-still g c clean =
-    stays_ok desk_schema BY_LRN.now by_lrn_means.plain _ _ c.fetch_one.result (c.fetch_one.ensures.still clean)
+pub returns-clause-reads : goal.returns-clause-reads
+returns-clause-reads g c =
+    reads_by desk_schema BY_LRN.now by_lrn_means.plain _ _ c.fetch_one.result c.fetch_one.ensures.still c.fetch_one.ensures.within

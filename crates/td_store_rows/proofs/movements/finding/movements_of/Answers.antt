@@ -3,7 +3,7 @@ use Rattle.std.specs.Prelude.{[], ◌∷◌}
 use Rattle.sqlite.specs.Held.{state}
 use Rattle.td_schema.specs.Tables.{desk_schema}
 use Rattle.typed_sql.proofs.Fetched.{in_order_fetched, those_fetched}
-use Rattle.typed_sql.proofs.Leaving.{if_both, stays_ok}
+use Rattle.typed_sql.proofs.Leaving.{if_both, reads_by}
 use Rattle.typed_sql.specs.Values.{number_value}
 use Rattle.td_store_rows.proofs.MovementMeanings.{all_columns, by_serial, holder_tests, of_holder_means}
 use Rattle.td_store_rows.proofs.MovementStatements.{by_serials, compared, holder_passes}
@@ -31,6 +31,6 @@ returns-clause-order g c clean =
     (λ a b. nat_cmp (place a) (place b)) (compared c.args.holder (is_of c.args.holder) (λ m is. is))
     c.fetch.result (c.fetch.ensures.found clean))
 
-pub returns-clause-still : goal.returns-clause-still
-returns-clause-still g c clean =
-    stays_ok desk_schema OF_HOLDER.now of_holder_means.plain _ _ c.fetch.result (c.fetch.ensures.still clean)
+pub returns-clause-reads : goal.returns-clause-reads
+returns-clause-reads g c =
+    reads_by desk_schema OF_HOLDER.now of_holder_means.plain _ _ c.fetch.result c.fetch.ensures.still c.fetch.ensures.within
