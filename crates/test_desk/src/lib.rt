@@ -7,6 +7,8 @@ mod commands;
 #[cfg(test)]
 mod desks;
 #[cfg(test)]
+mod examples;
+#[cfg(test)]
 mod guarantees;
 #[cfg(test)]
 mod holder_files;
