@@ -168,10 +168,12 @@ fn an_enquiry_waits_for_seven_days(rt: HostRuntime) {
 
 // What is overdue, in words.
 fn words_of(alloc: Global, due: Option<Overdue>) -> Result<String, AllocError> {
+    let Some(due) = due else {
+        return String::from_str(alloc, "nothing");
+    };
     match due {
-        None => String::from_str(alloc, "nothing"),
-        Some(Overdue::Arrival(day)) => format!(in alloc; "arrival {day}"),
-        Some(Overdue::Control(day)) => format!(in alloc; "control {day}"),
+        Overdue::Arrival(day) => format!(in alloc; "arrival {day}"),
+        Overdue::Control(day) => format!(in alloc; "control {day}"),
     }
 }
 

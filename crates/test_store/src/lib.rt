@@ -10,6 +10,8 @@ mod codes;
 #[cfg(test)]
 mod desks;
 #[cfg(test)]
+mod examples;
+#[cfg(test)]
 mod guarantees;
 #[cfg(test)]
 mod holders;
