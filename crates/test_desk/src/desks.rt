@@ -2,36 +2,37 @@
 mod lodging;
 mod store;
 
+use crate::examples::{AT, country, eori, holder};
 use std::alloc::{AllocError, Global};
 use std::process::Abort;
-use std::test::Fail;
 use store::{FaultyStore, run_stored};
 use td_acts::{Answer, Command, Said, Stamped};
-use td_base::{Country, Eori, HolderNo, Mrn};
 use td_desk::{Desk, Outcome, PlainDesk, run};
-use td_movement::State;
 
-const AT: i64 = 1_740_819_600;
-
-fn country() -> Option<Country> {
-    Country::read(b"CH")
+fn register(rt: &impl Abort, number: u32, text: &[u8], at: i64) -> Stamped {
+    let command = Command::Register {
+        holder: holder(rt, number),
+        eori: eori(rt, text),
+    };
+    Stamped { at, command }
 }
 
-fn register(number: u32, eori: &[u8], at: i64) -> Option<Stamped> {
-    let holder = HolderNo::new(number)?;
-    let eori = Eori::read(eori)?;
-    Some(Stamped {
-        at,
-        command: Command::Register { holder, eori },
-    })
-}
-
-fn see(number: u32, at: i64) -> Option<Stamped> {
-    let holder = HolderNo::new(number)?;
-    Some(Stamped {
+fn see(rt: &impl Abort, number: u32, at: i64) -> Stamped {
+    let holder = holder(rt, number);
+    Stamped {
         at,
         command: Command::SeeHolder { holder },
-    })
+    }
+}
+
+/// A desk of CH without holders.
+fn plain_desk(rt: &(impl AllocGlobal + Abort)) -> PlainDesk {
+    PlainDesk::new(rt.alloc(), country(rt)).expect(rt, "memory")
+}
+
+/// The same over a store that serves so many calls.
+fn stored_desk(rt: &(impl AllocGlobal + Abort), good_calls: u32) -> FaultyStore {
+    FaultyStore::new(rt.alloc(), country(rt), good_calls).expect(rt, "memory")
 }
 
 /// What is said, in words.
@@ -42,6 +43,7 @@ fn words_of(alloc: Global, said: &Said) -> Result<String, AllocError> {
     }
 }
 
+// The answers that are given here; the others have their words at the verdicts.
 fn answer_words(alloc: Global, answer: &Answer) -> Result<String, AllocError> {
     match answer {
         Answer::Holder {
@@ -51,67 +53,72 @@ fn answer_words(alloc: Global, answer: &Answer) -> Result<String, AllocError> {
             movements,
         } => format!(in alloc; "holder {holder} {eori} {guarantees} {movements}"),
         Answer::Opened { grn } => format!(in alloc; "opened {grn}"),
-        Answer::Revoked { ends, grn } => format!(in alloc; "revoked {grn} {ends}"),
         Answer::Ie028 { lrn, mrn } => format!(in alloc; "IE028 {lrn} {mrn}"),
-        Answer::Ie014 { mrn } => format!(in alloc; "IE014 {mrn}"),
-        Answer::Ie029 { limit, mrn } => format!(in alloc; "IE029 {mrn} {limit}"),
-        Answer::Ie006 { late, mrn } => format!(in alloc; "IE006 {mrn} {late}"),
-        Answer::Ie018 { mrn, state } => moved_words(alloc, "IE018", mrn, *state),
-        Answer::Ie045 { mrn } => format!(in alloc; "IE045 {mrn}"),
-        Answer::Ie140 { mrn } => format!(in alloc; "IE140 {mrn}"),
         Answer::Movement(movement) => {
-            let lrn = movement.lrn;
-            let words = moved_words(alloc, "movement", &movement.mrn, movement.state)?;
-            format!(in alloc; "{words} {lrn}")
+            let (mrn, lrn, state) = (movement.mrn, movement.lrn, movement.state.name());
+            format!(in alloc; "movement {mrn} {state} {lrn}")
         }
-        Answer::Movements(list) => counted(alloc, list.as_slice().len(), "movements"),
         Answer::Guarantee(guarantee, used) => {
-            let grn = guarantee.grn;
-            let reference = guarantee.reference;
+            let (grn, reference) = (guarantee.grn, guarantee.reference);
             format!(in alloc; "guarantee {grn} {reference} {used}")
         }
-        Answer::Guarantees(list) => counted(alloc, list.as_slice().len(), "guarantees"),
+        _ => String::from_str(alloc, "another answer"),
     }
 }
 
-fn moved_words(alloc: Global, what: &str, mrn: &Mrn, state: State) -> Result<String, AllocError> {
-    let state = state.name();
-    format!(in alloc; "{what} {mrn} {state}")
+fn outcome_words(alloc: Global, outcome: &Outcome) -> Result<String, AllocError> {
+    match outcome {
+        Outcome::Said(said) => words_of(alloc, said),
+        Outcome::Failed(fault) => format!(in alloc; "{fault}"),
+    }
 }
 
-fn counted(alloc: Global, count: usize, of: &str) -> Result<String, AllocError> {
-    format!(in alloc; "{count} {of}")
+fn assert_outcome(rt: &(impl AllocGlobal + Abort), outcome: &Outcome, want: &str) {
+    let words = outcome_words(rt.alloc(), outcome).expect(rt, "memory");
+    assert_eq!(rt; words.as_str(), want);
 }
 
 /// Each outcome is what is wanted, in words.
-fn assert_said(
-    rt: &(impl AllocGlobal + Abort),
-    outcomes: &[Outcome],
-    wanted: &[&str],
-) -> Result<(), Fail> {
+fn assert_said(rt: &(impl AllocGlobal + Abort), outcomes: &[Outcome], wanted: &[&str]) {
     assert_eq!(rt; outcomes.len(), wanted.len());
-    for (outcome, want) in outcomes.iter().zip(wanted.iter()) {
-        let words = match outcome {
-            Outcome::Said(said) => words_of(rt.alloc(), said)?,
-            Outcome::Failed(fault) => format!(in rt.alloc(); "{fault}")?,
-        };
-        assert_eq!(rt; words.as_str(), *want);
+    for (outcome, want) in outcomes.iter().zip(wanted) {
+        assert_outcome(rt, outcome, want);
     }
-    Ok(())
+}
+
+/// What is said to the commands at a plain desk is what is wanted.
+fn assert_run(
+    rt: &(impl AllocGlobal + Abort),
+    desk: &mut PlainDesk,
+    list: &[Stamped],
+    wanted: &[&str],
+) {
+    let outcomes = run(rt.alloc(), desk, list).expect(rt, "memory");
+    assert_said(rt, &outcomes, wanted);
+}
+
+/// The same at a desk over a store.
+fn assert_stored(
+    rt: &(impl AllocGlobal + Abort),
+    desk: &mut FaultyStore,
+    list: &[Stamped],
+    wanted: &[&str],
+) {
+    let outcomes = run_stored(rt.alloc(), desk, list).expect(rt, "memory");
+    assert_said(rt, &outcomes, wanted);
 }
 
 // Two holders with one EORI, registered, registered again and shown; one who isn't; and a moment out of range.
-fn list(alloc: Global) -> Result<Vec<Stamped>, Fail> {
-    let list = vec![in alloc;
-        register(2, b"CH1234567", AT).ok_or("eori")?,
-        see(1, AT).ok_or("holder")?,
-        register(1, b"CH1234567", AT - 1).ok_or("eori")?,
-        register(2, b"DE9", AT + 5).ok_or("eori")?,
-        see(2, AT).ok_or("holder")?,
-        see(1, 946_684_799).ok_or("holder")?,
-        see(1, 946_684_800).ok_or("holder")?,
-    ]?;
-    Ok(list)
+fn list(rt: &impl Abort) -> [Stamped; 7] {
+    [
+        register(rt, 2, b"CH1234567", AT),
+        see(rt, 1, AT),
+        register(rt, 1, b"CH1234567", AT - 1),
+        register(rt, 2, b"DE9", AT + 5),
+        see(rt, 2, AT),
+        see(rt, 1, 946_684_799),
+        see(rt, 1, 946_684_800),
+    ]
 }
 
 /// What is said to each.
@@ -126,53 +133,66 @@ const WANTED: [&str; 7] = [
 ];
 
 #[test]
-fn runs_on_the_plain_desk(rt: HostRuntime) -> Result<(), Fail> {
-    let alloc = rt.alloc();
-    let mut desk = PlainDesk::new(alloc, country().ok_or("country")?)?;
+fn runs_on_the_plain_desk(rt: HostRuntime) {
+    let mut desk = plain_desk(&rt);
     assert_eq!(rt; desk.country().as_bytes(), b"CH".as_slice());
-    let outcomes = run(alloc, &mut desk, &list(alloc)?)?;
-    assert_said(&rt, &outcomes, &WANTED)
+    assert_run(&rt, &mut desk, &list(&rt), &WANTED);
+}
+
+// What changes something is decided, and waived.
+fn assert_waived(rt: &(impl AllocGlobal + Abort), desk: &mut PlainDesk, stamped: &Stamped) {
+    let decision = desk.weigh(rt.alloc(), stamped.at, &stamped.command);
+    let decision = decision.expect(rt, "memory");
+    assert!(rt; decision.changes());
+    decision.waive();
+}
+
+// What changes nothing is decided and carried, and says this both times.
+fn assert_carried(
+    rt: &(impl AllocGlobal + Abort),
+    desk: &mut PlainDesk,
+    stamped: &Stamped,
+    want: &str,
+) {
+    let decision = desk.weigh(rt.alloc(), stamped.at, &stamped.command);
+    let decision = decision.expect(rt, "memory");
+    assert!(rt; !decision.changes() && is_said(rt, decision.said(), want));
+    let said = desk.carry(rt.alloc(), decision).expect(rt, "memory");
+    assert!(rt; is_said(rt, &said, want));
+}
+
+fn is_said(rt: &(impl AllocGlobal + Abort), said: &Said, want: &str) -> bool {
+    words_of(rt.alloc(), said).expect(rt, "memory").as_str() == want
 }
 
 #[test]
-fn decisions_are_weighed_waived_and_carried(rt: HostRuntime) -> Result<(), Fail> {
-    let alloc = rt.alloc();
-    let mut desk = PlainDesk::new(alloc, country().ok_or("country")?)?;
-    let first = register(1, b"CH1234567", AT).ok_or("eori")?;
-    let decision = desk.weigh(alloc, first.at, &first.command)?;
-    assert!(rt; decision.changes());
-    decision.waive();
-    let view = see(1, AT).ok_or("holder")?;
-    let decision = desk.weigh(alloc, view.at, &view.command)?;
-    assert!(rt; !decision.changes());
-    let words = words_of(alloc, decision.said());
-    let said = desk.carry(alloc, decision)?;
-    assert_eq!(rt; words?.as_str(), "no-holder");
-    assert_eq!(rt; words_of(alloc, &said)?.as_str(), "no-holder");
-    Ok(())
+fn decisions_are_weighed_waived_and_carried(rt: HostRuntime) {
+    let mut desk = plain_desk(&rt);
+    assert_waived(&rt, &mut desk, &register(&rt, 1, b"CH1234567", AT));
+    assert_carried(&rt, &mut desk, &see(&rt, 1, AT), "no-holder");
 }
 
-// The store serves so many calls, and is shut from then on: what was said before it stands, and the rest fails.
-fn assert_shut(
-    rt: &(impl AllocGlobal + Abort),
-    good_calls: u32,
-    answered: usize,
-) -> Result<(), Fail> {
-    let alloc = rt.alloc();
-    let mut desk = FaultyStore::new(alloc, country().ok_or("country")?, good_calls)?;
-    let outcomes = run_stored(alloc, &mut desk, &list(alloc)?)?;
+/// What is wanted where so many are answered, and the store is shut from then on.
+fn wanted_until(answered: usize) -> [&'static str; 7] {
     let mut wanted = WANTED;
     for at in answered..wanted.len() {
         wanted[at] = "store";
     }
-    assert_said(rt, &outcomes, &wanted)
+    wanted
 }
 
+// The store serves so many calls, and is shut from then on: what was said before it stands, and the rest fails.
+fn assert_shut(rt: &(impl AllocGlobal + Abort), good_calls: u32, answered: usize) {
+    let mut desk = stored_desk(rt, good_calls);
+    assert_stored(rt, &mut desk, &list(rt), &wanted_until(answered));
+}
+
+/// How many are answered where the store serves 0, 1, 2 calls and so on.
+const ANSWERED: [usize; 12] = [0, 0, 1, 2, 2, 3, 4, 5, 6, 7, 7, 7];
+
 #[test]
-fn runs_over_a_store_that_fails(rt: HostRuntime) -> Result<(), Fail> {
-    let answered = [0, 0, 1, 2, 2, 3, 4, 5, 6, 7, 7, 7];
-    for (good_calls, count) in answered.iter().enumerate() {
-        assert_shut(&rt, good_calls as u32, *count)?;
+fn runs_over_a_store_that_fails(rt: HostRuntime) {
+    for (good_calls, answered) in ANSWERED.iter().enumerate() {
+        assert_shut(&rt, good_calls as u32, *answered);
     }
-    Ok(())
 }

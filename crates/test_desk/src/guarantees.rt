@@ -1,158 +1,144 @@
 //! Terms, and amounts in use.
-use std::alloc::Global;
-use std::test::Fail;
-use td_base::{AccessCode, Cents, Cover, Day, Grn, Lrn, Mrn, OfficeNo};
+use crate::examples::{
+    GRN, MRN, SECOND_GRN, cents, code, cover, day, grn, guarantee, line, movement,
+};
+use std::process::Abort;
+use td_base::{AccessCode, Day};
 use td_guarantee::*;
-use td_movement::{Line, Movement, MovementLines, State};
-
-const FIRST: &[u8] = b"25CH0000010000014";
-
-const SECOND: &[u8] = b"25CH0000010000023";
+use td_movement::{Movement, State};
 
 // A movement of two lines: so many cents on the first guarantee, and one on the second.
-fn movement(alloc: Global, state: State, cents: u64) -> Result<Movement, Fail> {
-    let lines = vec![in alloc;
-        Line {
-            grn: Grn::read(FIRST)?,
-            cents: Cents::new(cents).ok_or("an amount")?
-        },
-        Line {
-            grn: Grn::read(SECOND)?,
-            cents: Cents::new(1).ok_or("an amount")?
-        },
-    ]?;
-    Ok(Movement {
-        mrn: Mrn::read(b"25CH00000100000013")?,
-        lrn: Lrn::read(b"A1").ok_or("an LRN")?,
-        departure: OfficeNo::read(b"CH001251").ok_or("an office")?,
-        destination: OfficeNo::read(b"DE005600").ok_or("an office")?,
-        accepted: Day::read(b"2025-03-01").ok_or("a day")?,
-        state,
-        limit: None,
-        arrival: None,
-        actual: None,
-        lines: MovementLines::new(lines),
-    })
+fn with_lines(rt: &(impl AllocGlobal + Abort), state: State, number: u64) -> Movement {
+    let first = line(rt, GRN, number);
+    let second = line(rt, SECOND_GRN, 1);
+    let lines = vec![in rt.alloc(); first, second].expect(rt, "memory");
+    let lodged = movement(rt, MRN, b"A1", lines);
+    Movement { state, ..lodged }
 }
 
-// What movements have in use on the first guarantee, in cents.
-fn used(movements: &[Movement]) -> Result<Option<u64>, Fail> {
-    Ok(in_use(movements, &Grn::read(FIRST)?).map(|cents| cents.get()))
+// What movements have in use on a guarantee, in cents.
+fn used(rt: &impl Abort, movements: &[Movement], on: &[u8]) -> Option<u64> {
+    in_use(movements, &grn(rt, on)).map(|cents| cents.get())
 }
+
+// A movement of 500 cents in a state has so much in use, and on the other guarantee a cent for each 500.
+fn assert_used(rt: &(impl AllocGlobal + Abort), state: State, want: u64) {
+    let movements = [with_lines(rt, state, 500)];
+    let both = (used(rt, &movements, GRN), used(rt, &movements, SECOND_GRN));
+    assert!(rt; both == (Some(want), Some(want / 500)), "{state:?}");
+}
+
+const COUNTING: [(State, u64); 8] = [
+    (State::Accepted, 0),
+    (State::Cancelled, 0),
+    (State::Released, 500),
+    (State::Enquired, 500),
+    (State::Arrived, 500),
+    (State::Discrepant, 500),
+    (State::Cleared, 500),
+    (State::WrittenOff, 0),
+];
 
 #[test]
-fn counting_movements_are_in_use(rt: HostRuntime) -> Result<(), Fail> {
-    let alloc = rt.alloc();
-    let rows = [
-        (State::Accepted, 0),
-        (State::Cancelled, 0),
-        (State::Released, 500),
-        (State::Enquired, 500),
-        (State::Arrived, 500),
-        (State::Discrepant, 500),
-        (State::Cleared, 500),
-        (State::WrittenOff, 0),
-    ];
-    for (state, want) in rows {
-        let movements = vec![in alloc; movement(alloc, state, 500)?]?;
-        assert_eq!(rt; used(&movements)?, Some(want), "{state:?}");
-        let other = in_use(&movements, &Grn::read(SECOND)?).ok_or("an amount")?;
-        assert_eq!(rt; other.get(), want / 500, "{state:?}");
+fn counting_movements_are_in_use(rt: HostRuntime) {
+    for (state, want) in &COUNTING {
+        assert_used(&rt, *state, *want);
     }
-    Ok(())
 }
 
 #[test]
-fn amounts_in_use_are_added_up(rt: HostRuntime) -> Result<(), Fail> {
-    let alloc = rt.alloc();
-    assert_eq!(rt; used(&[])?, Some(0));
+fn amounts_in_use_are_added_up(rt: HostRuntime) {
     let most = 1_000_000_000_000_000;
-    let movements = vec![in alloc;
-        movement(alloc, State::Released, most - 1)?,
-        movement(alloc, State::Accepted, 7)?,
-        movement(alloc, State::Cleared, 1)?,
-    ]?;
-    assert_eq!(rt; used(&movements)?, Some(most));
-    let movements = vec![in alloc;
-        movement(alloc, State::Released, most)?,
-        movement(alloc, State::Cleared, 1)?,
-    ]?;
-    assert_eq!(rt; used(&movements)?, None);
-    Ok(())
+    assert_eq!(rt; used(&rt, &[], GRN), Some(0));
+    let movements = [
+        with_lines(&rt, State::Released, most - 1),
+        with_lines(&rt, State::Accepted, 7),
+        with_lines(&rt, State::Cleared, 1),
+    ];
+    assert_eq!(rt; used(&rt, &movements, GRN), Some(most));
+    let movements = [
+        with_lines(&rt, State::Released, most),
+        with_lines(&rt, State::Cleared, 1),
+    ];
+    assert_eq!(rt; used(&rt, &movements, GRN), None);
 }
 
+/// A reference amount, what is in use, an amount, and whether it fits.
+const FITS: [(u64, u64, u64, bool); 4] = [
+    (1_000_000, 500_000, 500_000, true),
+    (1_000_000, 500_000, 500_001, false),
+    (1_000_000, 1_000_000, 1, false),
+    (1_000_000_000_000_000, 1_000_000_000_000_000, 0, true),
+];
+
 #[test]
-fn equality_fits(rt: HostRuntime) -> Result<(), Fail> {
-    for (reference, used, cents, fit) in [
-        (1_000_000, 500_000, 500_000, true),
-        (1_000_000, 500_000, 500_001, false),
-        (1_000_000, 1_000_000, 1, false),
-        (1_000_000_000_000_000, 1_000_000_000_000_000, 0, true),
-    ] {
-        let reference = Cents::new(reference).ok_or("an amount")?;
-        let used = Cents::new(used).ok_or("an amount")?;
-        let cents = Cents::new(cents).ok_or("an amount")?;
-        assert_eq!(rt; fits(reference, used, cents), fit);
+fn equality_fits(rt: HostRuntime) {
+    for (reference, used, amount, fit) in &FITS {
+        let room = fits(
+            cents(&rt, *reference),
+            cents(&rt, *used),
+            cents(&rt, *amount),
+        );
+        assert!(rt; room == *fit, "{reference} {used} {amount}");
     }
-    Ok(())
 }
 
+/// A reference amount, a cover, and the guaranteed amount.
+const GUARANTEED: [(u64, u64, u64); 4] = [
+    (1, 30, 1),
+    (1, 0, 0),
+    (1_000_000, 50, 500_000),
+    (2_000_001, 30, 600_001),
+];
+
 #[test]
-fn the_guaranteed_amount_is_rounded_up(rt: HostRuntime) -> Result<(), Fail> {
-    for (reference, cover, share) in [
-        (1, 30, 1),
-        (1, 0, 0),
-        (1_000_000, 50, 500_000),
-        (2_000_001, 30, 600_001),
-    ] {
-        let reference = Cents::new(reference).ok_or("an amount")?;
-        let cover = Cover::new(cover).ok_or("a cover")?;
-        assert_eq!(rt; guaranteed(reference, cover).get(), share);
+fn the_guaranteed_amount_is_rounded_up(rt: HostRuntime) {
+    for (reference, percent, share) in &GUARANTEED {
+        let amount = guaranteed(cents(&rt, *reference), cover(&rt, *percent));
+        assert!(rt; amount.get() == *share, "{reference} {percent}");
     }
-    Ok(())
+}
+
+/// A day, and whether a guarantee whose end is 2025-03-17 is over then.
+const OVER: [(&[u8], bool); 3] = [
+    (b"2025-03-16", false),
+    (b"2025-03-17", true),
+    (b"2025-03-18", true),
+];
+
+// Whether a guarantee with this end is over on that day, and one without an end isn't.
+fn is_over(end: Day, day: Day) -> bool {
+    ended(Some(end), day) && !ended(None, day)
 }
 
 #[test]
-fn a_guarantee_ends_from_its_end_day_on(rt: HostRuntime) -> Result<(), Fail> {
-    let end = Day::read(b"2025-03-17").ok_or("a day")?;
-    for (day, over) in [
-        (b"2025-03-16", false),
-        (b"2025-03-17", true),
-        (b"2025-03-18", true),
-    ] {
-        let day = Day::read(day).ok_or("a day")?;
-        assert_eq!(rt; ended(Some(end), day), over);
-        assert!(rt; !ended(None, day));
+fn a_guarantee_ends_from_its_end_day_on(rt: HostRuntime) {
+    let end = day(&rt, b"2025-03-17");
+    for (text, over) in &OVER {
+        assert!(rt; is_over(end, day(&rt, text)) == *over);
     }
-    Ok(())
+}
+
+// Whether the codes are those of the copied guarantee.
+fn are_copied(rt: &impl Abort, codes: &Codes) -> bool {
+    codes.has(&code(rt, b"AB12")) && !codes.has(&code(rt, b"ZZZZ"))
 }
 
 #[test]
-fn guarantees_are_copied_with_their_codes(rt: HostRuntime) -> Result<(), Fail> {
-    let alloc = rt.alloc();
-    let code = AccessCode::read(b"AB12").ok_or("a code")?;
-    let guarantee = Guarantee {
-        grn: Grn::read(FIRST)?,
-        reference: Cents::new(1_000_000).ok_or("an amount")?,
-        cover: Cover::new(50).ok_or("a cover")?,
-        ends: None,
-        codes: Codes::one(alloc, code),
-    };
-    let copy = guarantee.copy(alloc)?;
-    assert_eq!(rt; copy.grn, guarantee.grn);
-    assert!(rt; copy.codes.has(&code));
-    assert!(rt; !copy.codes.has(&AccessCode::read(b"ZZZZ").ok_or("a code")?));
-    let movement = movement(alloc, State::Released, 5)?.copy(alloc)?;
-    assert_eq!(rt; movement.lines.as_slice().len(), 2);
-    Ok(())
+fn guarantees_are_copied_with_their_codes(rt: HostRuntime) {
+    let copy = guarantee(&rt, GRN).copy(rt.alloc()).expect(&rt, "memory");
+    assert!(rt; copy.grn == grn(&rt, GRN) && are_copied(&rt, &copy.codes));
+    let lodged = with_lines(&rt, State::Released, 5);
+    let copy = lodged.copy(rt.alloc()).expect(&rt, "memory");
+    assert_eq!(rt; copy.lines.as_slice().len(), 2);
 }
 
 // The codes BBBB, DDDD and FFFF.
-fn three_codes(alloc: Global) -> Result<Codes, Fail> {
-    let mut codes = Codes::one(alloc, AccessCode::read(b"DDDD").ok_or("a code")?);
-    codes.add(AccessCode::read(b"FFFF").ok_or("a code")?)?;
-    codes.add(AccessCode::read(b"BBBB").ok_or("a code")?)?;
-    Ok(codes)
+fn three_codes(rt: &(impl AllocGlobal + Abort)) -> Codes {
+    let mut codes = Codes::one(rt.alloc(), code(rt, b"DDDD"));
+    codes.add(code(rt, b"FFFF")).expect(rt, "memory");
+    codes.add(code(rt, b"BBBB")).expect(rt, "memory");
+    codes
 }
 
 // They are just these, in this order.
@@ -161,42 +147,49 @@ fn are(codes: &Codes, texts: &[&[u8]]) -> bool {
     codes.len() == texts.len() && pairs.all(|(code, text)| code.as_bytes() == *text)
 }
 
-#[test]
-fn codes_are_put_in_their_places(rt: HostRuntime) -> Result<(), Fail> {
-    let alloc = rt.alloc();
-    let rows: [(&[u8], &[&[u8]]); 7] = [
-        (b"AAAA", &[b"AAAA", b"BBBB", b"DDDD", b"FFFF"]),
-        (b"BBBB", &[b"BBBB", b"DDDD", b"FFFF"]),
-        (b"CCCC", &[b"BBBB", b"CCCC", b"DDDD", b"FFFF"]),
-        (b"DDDD", &[b"BBBB", b"DDDD", b"FFFF"]),
-        (b"EEEE", &[b"BBBB", b"DDDD", b"EEEE", b"FFFF"]),
-        (b"FFFF", &[b"BBBB", b"DDDD", b"FFFF"]),
-        (b"GGGG", &[b"BBBB", b"DDDD", b"FFFF", b"GGGG"]),
-    ];
-    for (code, want) in rows {
-        let mut codes = three_codes(alloc)?;
-        codes.add(AccessCode::read(code).ok_or("a code")?)?;
-        assert!(rt; are(&codes, want));
-    }
-    Ok(())
+/// A code, and what is there after it was added to the three.
+const ADDED: [(&[u8], &[&[u8]]); 7] = [
+    (b"AAAA", &[b"AAAA", b"BBBB", b"DDDD", b"FFFF"]),
+    (b"BBBB", &[b"BBBB", b"DDDD", b"FFFF"]),
+    (b"CCCC", &[b"BBBB", b"CCCC", b"DDDD", b"FFFF"]),
+    (b"DDDD", &[b"BBBB", b"DDDD", b"FFFF"]),
+    (b"EEEE", &[b"BBBB", b"DDDD", b"EEEE", b"FFFF"]),
+    (b"FFFF", &[b"BBBB", b"DDDD", b"FFFF"]),
+    (b"GGGG", &[b"BBBB", b"DDDD", b"FFFF", b"GGGG"]),
+];
+
+fn with_code(rt: &(impl AllocGlobal + Abort), added: AccessCode) -> Codes {
+    let mut codes = three_codes(rt);
+    codes.add(added).expect(rt, "memory");
+    codes
 }
 
 #[test]
-fn codes_are_taken_out_alone(rt: HostRuntime) -> Result<(), Fail> {
-    let alloc = rt.alloc();
-    let rows: [(&[u8], &[&[u8]]); 5] = [
-        (b"AAAA", &[b"BBBB", b"DDDD", b"FFFF"]),
-        (b"BBBB", &[b"DDDD", b"FFFF"]),
-        (b"CCCC", &[b"BBBB", b"DDDD", b"FFFF"]),
-        (b"DDDD", &[b"BBBB", b"FFFF"]),
-        (b"FFFF", &[b"BBBB", b"DDDD"]),
-    ];
-    for (code, want) in rows {
-        let mut codes = three_codes(alloc)?;
-        let code = AccessCode::read(code).ok_or("a code")?;
-        codes.remove(&code);
-        codes.remove(&code);
-        assert!(rt; are(&codes, want));
+fn codes_are_put_in_their_places(rt: HostRuntime) {
+    for (text, want) in &ADDED {
+        assert!(rt; are(&with_code(&rt, code(&rt, text)), want));
     }
-    Ok(())
+}
+
+/// A code, and what is there after it was taken out of the three, twice.
+const REMOVED: [(&[u8], &[&[u8]]); 5] = [
+    (b"AAAA", &[b"BBBB", b"DDDD", b"FFFF"]),
+    (b"BBBB", &[b"DDDD", b"FFFF"]),
+    (b"CCCC", &[b"BBBB", b"DDDD", b"FFFF"]),
+    (b"DDDD", &[b"BBBB", b"FFFF"]),
+    (b"FFFF", &[b"BBBB", b"DDDD"]),
+];
+
+fn without_code(rt: &(impl AllocGlobal + Abort), code: &AccessCode) -> Codes {
+    let mut codes = three_codes(rt);
+    codes.remove(code);
+    codes.remove(code);
+    codes
+}
+
+#[test]
+fn codes_are_taken_out_alone(rt: HostRuntime) {
+    for (text, want) in &REMOVED {
+        assert!(rt; are(&without_code(&rt, &code(&rt, text)), want));
+    }
 }

@@ -1,11 +1,20 @@
-//! Examples of the calls below the desk and of the desk itself, each worked by hand. The crate has tests alone: for its
-//! tests a crate is proved again, whole, and these need none of their crates' private names.
+//! Examples of the calls below the desk, of the desk, of requests, answers, streams and connections, and of the words,
+//! each worked by hand, where no transcript can show them. The crate has tests alone: for its tests a crate is proved
+//! again, whole, and these need none of their crates' private names.
 #![tactic(auto)]
 
 #[cfg(test)]
+mod answers;
+#[cfg(test)]
 mod commands;
 #[cfg(test)]
+mod connections;
+#[cfg(test)]
+mod counted_calls;
+#[cfg(test)]
 mod desks;
+#[cfg(test)]
+mod examples;
 #[cfg(test)]
 mod guarantees;
 #[cfg(test)]
@@ -15,7 +24,13 @@ mod money;
 #[cfg(test)]
 mod movements;
 #[cfg(test)]
+mod path_rows;
+#[cfg(test)]
+mod requests;
+#[cfg(test)]
 mod rows_by_key;
+#[cfg(test)]
+mod streams;
 #[cfg(test)]
 mod time;
 #[cfg(test)]

@@ -1,20 +1,23 @@
 //! What the words ask for. (Wrong words, help and the version stand in the transcripts of test_program.)
-use std::alloc::{AllocError, Global};
+use crate::examples::country;
 use std::process::Abort;
-use std::test::Fail;
-use td_base::Country;
-use td_words::{Job, Listening, NoJob, Records, Task, read_words};
+use td_words::{Job, Listening, Records, Task, read_words};
 
-fn owned(alloc: Global, words: &[&str]) -> Result<Vec<String>, AllocError> {
-    let mut owned = Vec::new(alloc);
+fn owned(rt: &(impl AllocGlobal + Abort), words: &[&str]) -> Vec<String> {
+    let mut owned = Vec::new(rt.alloc());
     for word in words {
-        owned.push(String::from_str(alloc, word)?)?;
+        let word = word.to_string(rt.alloc()).expect(rt, "memory");
+        owned.push(word).expect(rt, "memory");
     }
-    Ok(owned)
+    owned
 }
 
-fn job(alloc: Global, words: &[&str]) -> Result<Result<Job, NoJob>, AllocError> {
-    Ok(read_words(alloc, &owned(alloc, words)?))
+// Whether the words ask for that job.
+fn is_asked(rt: &(impl AllocGlobal + Abort), words: &[&str], wanted: &Job) -> bool {
+    match read_words(rt.alloc(), &owned(rt, words)) {
+        Ok(job) => job == *wanted,
+        Err(_) => false,
+    }
 }
 
 /// The words that ask for so many connections to this port.
@@ -56,28 +59,23 @@ const STREAMS: [(&[&str], Option<i64>); 3] = [
     ),
 ];
 
-fn assert_job(
-    rt: &(impl AllocGlobal + Abort),
-    words: &[&str],
-    wanted: Option<Job>,
-) -> Result<(), Fail> {
-    let asked = job(rt.alloc(), words)?.ok();
-    assert!(rt; wanted.is_some() && asked == wanted);
-    Ok(())
+/// The words ask for this task in Switzerland, and for that moment.
+fn assert_job(rt: &(impl AllocGlobal + Abort), words: &[&str], task: Task, at: Option<i64>) {
+    let country = country(rt);
+    let wanted = Job { task, country, at };
+    assert!(rt; is_asked(rt, words, &wanted));
 }
 
-/// The job in Switzerland.
-fn job_of(task: Task, at: Option<i64>) -> Option<Job> {
-    let country = Country::read(b"CH")?;
-    Some(Job { task, country, at })
+/// A file's name as the words have it.
+fn path(rt: &(impl AllocGlobal + Abort), name: &str) -> String {
+    name.to_string(rt.alloc()).expect(rt, "memory")
 }
 
 #[test]
-fn a_stream_is_asked_for(rt: HostRuntime) -> Result<(), Fail> {
-    for (words, at) in STREAMS {
-        assert_job(&rt, words, job_of(Task::Pipe(Records::Memory), at))?;
+fn a_stream_is_asked_for(rt: HostRuntime) {
+    for (words, at) in &STREAMS {
+        assert_job(&rt, words, Task::Pipe(Records::Memory), *at);
     }
-    Ok(())
 }
 
 /// A port and a number of connections as words, and as numbers.
@@ -87,12 +85,15 @@ const LISTENINGS: [(&str, &str, u16, u32); 2] = [
 ];
 
 #[test]
-fn connections_are_asked_for(rt: HostRuntime) -> Result<(), Fail> {
-    for (words, more, port, connections) in LISTENINGS {
-        let task = Task::Serve(Listening { port, connections }, Records::Memory);
-        assert_job(&rt, &serve_words(words, more), job_of(task, None))?;
+fn connections_are_asked_for(rt: HostRuntime) {
+    for (words, more, port, connections) in &LISTENINGS {
+        let listening = Listening {
+            port: *port,
+            connections: *connections,
+        };
+        let task = Task::Serve(listening, Records::Memory);
+        assert_job(&rt, &serve_words(words, more), task, None);
     }
-    Ok(())
 }
 
 /// Words of a desk whose records stand in a file that is kept.
@@ -109,12 +110,11 @@ const KEPT: [(&[&str], &str); 3] = [
 ];
 
 #[test]
-fn a_kept_file_is_asked_for(rt: HostRuntime) -> Result<(), Fail> {
-    for (words, path) in KEPT {
-        let records = Records::File(String::from_str(rt.alloc(), path)?);
-        assert_job(&rt, words, job_of(Task::Pipe(records), None))?;
+fn a_kept_file_is_asked_for(rt: HostRuntime) {
+    for (words, name) in &KEPT {
+        let task = Task::Pipe(Records::File(path(&rt, name)));
+        assert_job(&rt, words, task, None);
     }
-    Ok(())
 }
 
 /// Words of a desk whose tables are made first.
@@ -143,12 +143,11 @@ const MADE: [&[&str]; 2] = [
 ];
 
 #[test]
-fn a_new_file_is_asked_for(rt: HostRuntime) -> Result<(), Fail> {
-    for words in MADE {
-        let records = Records::NewFile(String::from_str(rt.alloc(), "desk.db")?);
-        assert_job(&rt, words, job_of(Task::Pipe(records), Some(7)))?;
+fn a_new_file_is_asked_for(rt: HostRuntime) {
+    for words in &MADE {
+        let task = Task::Pipe(Records::NewFile(path(&rt, "desk.db")));
+        assert_job(&rt, words, task, Some(7));
     }
-    Ok(())
 }
 
 /// Words that serve one connection over a file; without the last one the file is kept.
@@ -167,35 +166,29 @@ const SERVED_FILE: [&str; 11] = [
 ];
 
 #[test]
-fn connections_to_a_file_are_asked_for(rt: HostRuntime) -> Result<(), Fail> {
+fn connections_to_a_file_are_asked_for(rt: HostRuntime) {
     let listening = Listening {
         port: 80,
         connections: 1,
     };
-    let made = Records::NewFile(String::from_str(rt.alloc(), "desk.db")?);
-    assert_job(
-        &rt,
-        &SERVED_FILE,
-        job_of(Task::Serve(listening, made), None),
-    )?;
-    let kept = Records::File(String::from_str(rt.alloc(), "desk.db")?);
-    assert_job(
-        &rt,
-        &SERVED_FILE[..10],
-        job_of(Task::Serve(listening, kept), None),
-    )
+    let made = Task::Serve(listening, Records::NewFile(path(&rt, "desk.db")));
+    assert_job(&rt, &SERVED_FILE, made, None);
+    let kept = Task::Serve(listening, Records::File(path(&rt, "desk.db")));
+    assert_job(&rt, &SERVED_FILE[..10], kept, None);
 }
 
+/// Words that test a file.
+const CHECKED: [&str; 6] = [
+    "transit-desk",
+    "check",
+    "--country",
+    "CH",
+    "--db",
+    "desk.db",
+];
+
 #[test]
-fn a_test_of_a_file_is_asked_for(rt: HostRuntime) -> Result<(), Fail> {
-    let words = [
-        "transit-desk",
-        "check",
-        "--country",
-        "CH",
-        "--db",
-        "desk.db",
-    ];
-    let path = String::from_str(rt.alloc(), "desk.db")?;
-    assert_job(&rt, &words, job_of(Task::Check(path), None))
+fn a_test_of_a_file_is_asked_for(rt: HostRuntime) {
+    let task = Task::Check(path(&rt, "desk.db"));
+    assert_job(&rt, &CHECKED, task, None);
 }

@@ -1,81 +1,13 @@
 //! The tables are made, and each kind of change is carried into them, in a store in memory.
+use crate::examples::{GRN, MRN, code, country, day, grn, guarantee, line, movement, mrn, row};
 use sqlite::{Connection, Error, ErrorCode, MemStore};
-use std::alloc::Global;
-use std::test::Fail;
+use std::process::Abort;
 use td_acts::{Change, HolderRow, NewStatus, NewTerms};
-use td_base::{
-    AccessCode, Cents, Country, Cover, Day, Eori, Grn, HolderNo, Lrn, Moment, Mrn, OfficeNo,
-};
-use td_guarantee::{Codes, Guarantee};
-use td_movement::{Line, Movement, MovementLines, State};
+use td_base::{AccessCode, Country, Day, Grn, Mrn};
+use td_guarantee::Guarantee;
+use td_movement::{Movement, State};
 use td_store_rows::{codes_of, find_by_grn, find_by_mrn, find_holder, find_meta, lines_of};
 use td_store_write::{carry_change, create_tables};
-
-const GRN: &[u8] = b"25CH0000010000014";
-
-const MRN: &[u8] = b"25CH00000100000013";
-
-/// The row of holder 1 after so many guarantees and movements.
-fn row(grn_count: u32, mrn_count: u32) -> Option<HolderRow> {
-    Some(HolderRow {
-        holder: HolderNo::new(1)?,
-        eori: Eori::read(b"CH1234567")?,
-        last_at: Moment::new(1_740_819_600).ok()?,
-        grn_count,
-        mrn_count,
-    })
-}
-
-/// A guarantee of 10,000.00 at half cover, with the code AB12.
-fn guarantee(alloc: Global) -> Option<Guarantee> {
-    Some(Guarantee {
-        grn: Grn::read(GRN).ok()?,
-        reference: Cents::new(1_000_000)?,
-        cover: Cover::new(50)?,
-        ends: None,
-        codes: Codes::one(alloc, AccessCode::read(b"AB12")?),
-    })
-}
-
-/// The line of 5,000.00 on it.
-fn line() -> Option<Line> {
-    Some(Line {
-        grn: Grn::read(GRN).ok()?,
-        cents: Cents::new(500_000)?,
-    })
-}
-
-/// A movement with these lines that was accepted on 1 March 2025.
-fn movement(lines: Vec<Line>) -> Option<Movement> {
-    Some(Movement {
-        mrn: Mrn::read(MRN).ok()?,
-        lrn: Lrn::read(b"A1")?,
-        departure: OfficeNo::read(b"CH001251")?,
-        destination: OfficeNo::read(b"DE005600")?,
-        accepted: Day::read(b"2025-03-01")?,
-        state: State::Accepted,
-        limit: None,
-        arrival: None,
-        actual: None,
-        lines: MovementLines::new(lines),
-    })
-}
-
-/// The first changes of holder 1: registered, a guarantee opened and a movement declared on it.
-fn carry_first(
-    conn: &mut Connection<MemStore>,
-    alloc: Global,
-    country: Country,
-) -> Result<(), Fail> {
-    let lines = vec![in alloc; line().ok_or("a line")?]?;
-    let movement = movement(lines).ok_or("a movement")?;
-    let guarantee = guarantee(alloc).ok_or("a guarantee")?;
-    let row = |grns, mrns| row(grns, mrns).ok_or("a row");
-    carry(conn, country, &Change::Registered(row(0, 0)?))?;
-    carry(conn, country, &Change::Opened(row(1, 0)?, guarantee))?;
-    carry(conn, country, &Change::Declared(row(1, 1)?, movement))?;
-    Ok(())
-}
 
 /// Carries a change where no transaction is begun.
 fn carry(conn: &mut Connection<MemStore>, country: Country, change: &Change) -> Result<(), Error> {
@@ -85,104 +17,146 @@ fn carry(conn: &mut Connection<MemStore>, country: Country, change: &Change) -> 
     Ok(())
 }
 
-/// A store in memory with the tables of an office.
-fn made(alloc: Global, country: Country) -> Result<Connection<MemStore>, Error> {
-    let mut conn = Connection::open_in_memory(alloc)?;
-    if conn.is_autocommit() {
-        create_tables(&mut conn, country)?;
-    }
-    Ok(conn)
+/// A change that is carried.
+fn carried(rt: &(impl AllocGlobal + Abort), conn: &mut Connection<MemStore>, change: &Change) {
+    carry(conn, country(rt), change).expect(rt, "a change");
 }
 
-#[test]
-fn what_is_declared_and_moved_is_there(rt: HostRuntime) -> Result<(), Fail> {
+/// The movement of a line of 5,000.00.
+fn lodged(rt: &(impl AllocGlobal + Abort)) -> Movement {
+    let lines = vec![in rt.alloc(); line(rt)].expect(rt, "memory");
+    movement(rt, lines)
+}
+
+/// The first changes of holder 1: registered, a guarantee opened and a movement declared on it.
+fn carry_first(rt: &(impl AllocGlobal + Abort), conn: &mut Connection<MemStore>) {
+    carried(rt, conn, &Change::Registered(row(rt, 1, 0, 0)));
+    carried(
+        rt,
+        conn,
+        &Change::Opened(row(rt, 1, 1, 0), guarantee(rt, GRN)),
+    );
+    carried(rt, conn, &Change::Declared(row(rt, 1, 1, 1), lodged(rt)));
+}
+
+/// A store in memory with the tables of an office.
+fn made(rt: &(impl AllocGlobal + Abort)) -> Connection<MemStore> {
+    let mut conn = Connection::open_in_memory(rt.alloc()).expect(rt, "a database");
+    assert!(rt; conn.is_autocommit());
+    create_tables(&mut conn, country(rt)).expect(rt, "tables");
+    conn
+}
+
+fn is_released(movement: &Movement, limit: Day) -> bool {
+    movement.state == State::Released && movement.limit == Some(limit)
+}
+
+// The movement is released until that day, and has its line, and the holder's row is this one.
+fn assert_moved(
+    rt: &(impl AllocGlobal + Abort),
+    conn: &mut Connection<MemStore>,
+    row: &HolderRow,
+    mrn: &Mrn,
+    limit: Day,
+) {
     let alloc = rt.alloc();
-    let country = Country::read(b"CH").ok_or("a country")?;
-    let mrn = Mrn::read(MRN)?;
-    let mut conn = made(alloc, country)?;
-    carry_first(&mut conn, alloc, country)?;
-    let limit = Day::read(b"2025-03-09");
-    let released = NewStatus {
-        limit,
-        ..NewStatus::of(mrn, State::Released)
-    };
-    let row = row(1, 1).ok_or("a row")?;
-    carry(&mut conn, country, &Change::Moved(row, released))?;
     assert!(rt; conn.is_autocommit());
     let mut tx = conn.transaction();
-    let found = find_by_mrn(alloc, &mut tx, row.holder, 1, &mrn)?;
-    let movement = found.ok_or("the movement")?.movement;
-    assert!(rt; movement.state == State::Released);
-    assert!(rt; movement.limit == limit);
-    let lines = lines_of(alloc, &mut tx, row.holder, 1)?;
+    let found = find_by_mrn(alloc, &mut tx, row.holder, 1, mrn).expect(rt, "a row");
+    assert!(rt; is_released(&found.expect(rt, "the movement").movement, limit));
+    let lines = lines_of(alloc, &mut tx, row.holder, 1).expect(rt, "lines");
     assert!(rt; lines.len() == 1);
     assert!(rt; lines[0].no == 1 && lines[0].guarantee == 1);
-    let holder = find_holder(alloc, &mut tx, row.holder)?;
-    assert!(rt; holder == Some(row));
-    Ok(())
+    assert!(rt; find_holder(alloc, &mut tx, row.holder) == Ok(Some(*row)));
 }
 
 #[test]
-fn terms_and_codes_are_set(rt: HostRuntime) -> Result<(), Fail> {
+fn what_is_declared_and_moved_is_there(rt: HostRuntime) {
+    let (mrn, limit, row) = (mrn(&rt, MRN), day(&rt, b"2025-03-09"), row(&rt, 1, 1, 1));
+    let mut conn = made(&rt);
+    carry_first(&rt, &mut conn);
+    let released = NewStatus {
+        limit: Some(limit),
+        ..NewStatus::of(mrn, State::Released)
+    };
+    carried(&rt, &mut conn, &Change::Moved(row, released));
+    assert_moved(&rt, &mut conn, &row, &mrn, limit);
+}
+
+fn is_ended(guarantee: &Guarantee, end: Day) -> bool {
+    guarantee.ends == Some(end) && guarantee.reference.get() == 1_000_000
+}
+
+// The guarantee ends on that day, and has this code alone.
+fn assert_set(
+    rt: &(impl AllocGlobal + Abort),
+    conn: &mut Connection<MemStore>,
+    row: &HolderRow,
+    grn: &Grn,
+    left: (Day, AccessCode),
+) {
     let alloc = rt.alloc();
-    let country = Country::read(b"CH").ok_or("a country")?;
-    let grn = Grn::read(GRN)?;
-    let first = AccessCode::read(b"AB12").ok_or("a code")?;
-    let second = AccessCode::read(b"CD34").ok_or("a code")?;
-    let row = row(1, 1).ok_or("a row")?;
-    let mut conn = made(alloc, country)?;
-    carry_first(&mut conn, alloc, country)?;
-    let ends = Day::read(b"2025-03-17");
+    let (end, code) = left;
+    assert!(rt; conn.is_autocommit());
+    let mut tx = conn.transaction();
+    let found = find_by_grn(alloc, &mut tx, row.holder, 1, grn).expect(rt, "a row");
+    assert!(rt; is_ended(&found.expect(rt, "the guarantee").guarantee, end));
+    let codes = codes_of(alloc, &mut tx, row.holder, 1).expect(rt, "codes");
+    assert!(rt; codes.len() == 1);
+    assert!(rt; codes[0].code == code);
+}
+
+#[test]
+fn terms_and_codes_are_set(rt: HostRuntime) {
+    let (grn, end, row) = (grn(&rt, GRN), day(&rt, b"2025-03-17"), row(&rt, 1, 1, 1));
+    let (first, second) = (code(&rt, b"AB12"), code(&rt, b"CD34"));
+    let mut conn = made(&rt);
+    carry_first(&rt, &mut conn);
     let terms = NewTerms {
-        ends,
+        ends: Some(end),
         ..NewTerms::of(grn)
     };
-    carry(&mut conn, country, &Change::TermsSet(row, terms))?;
-    carry(&mut conn, country, &Change::CodeAdded(row, grn, second))?;
-    carry(&mut conn, country, &Change::CodeRemoved(row, grn, first))?;
+    carried(&rt, &mut conn, &Change::TermsSet(row, terms));
+    carried(&rt, &mut conn, &Change::CodeAdded(row, grn, second));
+    carried(&rt, &mut conn, &Change::CodeRemoved(row, grn, first));
+    assert_set(&rt, &mut conn, &row, &grn, (end, second));
+}
+
+// A declaration of a movement without lines.
+fn bare(rt: &(impl AllocGlobal + Abort)) -> Change {
+    Change::Declared(row(rt, 1, 1, 1), movement(rt, Vec::new(rt.alloc())))
+}
+
+// The movement that was lodged first is there, with its line.
+fn assert_lodged(rt: &(impl AllocGlobal + Abort), conn: &mut Connection<MemStore>) {
+    let (alloc, mrn, row) = (rt.alloc(), mrn(rt, MRN), row(rt, 1, 1, 1));
     assert!(rt; conn.is_autocommit());
     let mut tx = conn.transaction();
-    let found = find_by_grn(alloc, &mut tx, row.holder, 1, &grn)?;
-    let guarantee = found.ok_or("the guarantee")?.guarantee;
-    assert!(rt; guarantee.ends == ends);
-    assert!(rt; guarantee.reference.get() == 1_000_000);
-    let codes = codes_of(alloc, &mut tx, row.holder, 1)?;
-    assert!(rt; codes.len() == 1);
-    assert!(rt; codes[0].code == second);
-    Ok(())
+    let found = find_by_mrn(alloc, &mut tx, row.holder, 1, &mrn).expect(rt, "a row");
+    assert!(rt; found.is_some());
+    let lines = lines_of(alloc, &mut tx, row.holder, 1).expect(rt, "lines");
+    assert!(rt; lines.len() == 1);
 }
 
 #[test]
-fn nothing_is_left_of_a_change_that_fails(rt: HostRuntime) -> Result<(), Fail> {
-    let alloc = rt.alloc();
-    let country = Country::read(b"CH").ok_or("a country")?;
-    let mrn = Mrn::read(MRN)?;
-    let row = row(1, 1).ok_or("a row")?;
-    let mut conn = made(alloc, country)?;
-    let declared = movement(Vec::new(alloc)).ok_or("a movement")?;
-    let unknown = carry(&mut conn, country, &Change::Declared(row, declared));
+fn nothing_is_left_of_a_change_that_fails(rt: HostRuntime) {
+    let country = country(&rt);
+    let mut conn = made(&rt);
+    let unknown = carry(&mut conn, country, &bare(&rt));
     assert!(rt; unknown == Err(Error::SqliteFailure(ErrorCode::DatabaseCorrupt)));
-    carry_first(&mut conn, alloc, country)?;
-    let again = movement(Vec::new(alloc)).ok_or("a movement")?;
-    assert!(rt; carry(&mut conn, country, &Change::Declared(row, again)).is_err());
-    assert!(rt; conn.is_autocommit());
-    let mut tx = conn.transaction();
-    assert!(rt; find_by_mrn(alloc, &mut tx, row.holder, 1, &mrn)?.is_some());
-    assert!(rt; lines_of(alloc, &mut tx, row.holder, 1)?.len() == 1);
-    Ok(())
+    carry_first(&rt, &mut conn);
+    assert!(rt; carry(&mut conn, country, &bare(&rt)).is_err());
+    assert_lodged(&rt, &mut conn);
 }
 
 #[test]
-fn tables_are_made_once(rt: HostRuntime) -> Result<(), Fail> {
-    let alloc = rt.alloc();
-    let country = Country::read(b"CH").ok_or("a country")?;
-    let other = Country::read(b"DE").ok_or("a country")?;
-    let mut conn = made(alloc, country)?;
+fn tables_are_made_once(rt: HostRuntime) {
+    let other = Country::read(b"DE").expect(&rt, "a country");
+    let mut conn = made(&rt);
     assert!(rt; conn.is_autocommit());
     assert!(rt; create_tables(&mut conn, other).is_err());
     let mut tx = conn.transaction();
-    let meta = find_meta(&mut tx)?.ok_or("the office's row")?;
-    assert!(rt; meta.version == 1);
-    assert!(rt; meta.country == Some(country));
-    Ok(())
+    let meta = find_meta(&mut tx).expect(&rt, "a row");
+    let meta = meta.expect(&rt, "the office's row");
+    assert!(rt; meta.version == 1 && meta.country == Some(country(&rt)));
 }

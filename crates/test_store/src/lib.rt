@@ -12,6 +12,8 @@ mod desks;
 #[cfg(test)]
 mod equal_schemas;
 #[cfg(test)]
+mod examples;
+#[cfg(test)]
 mod guarantees;
 #[cfg(test)]
 mod holders;

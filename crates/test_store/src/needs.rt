@@ -1,16 +1,13 @@
 //! Each shape of needs is loaded, and amounts in use are read, from a store in memory.
-use sqlite::{Connection, Error, MemStore};
-use std::alloc::{AllocError, Global};
-use std::test::Fail;
+use crate::examples::{GRN, MRN, code, country, grn, holder, line, lrn, mrn, with_rows};
+use sqlite::{Connection, MemStore};
+use std::alloc::AllocError;
+use std::process::Abort;
 use td_acts::{Lines, Loaded, Needs};
-use td_base::{AccessCode, Cents, Country, Grn, HolderNo, Lrn, Mrn};
-use td_movement::Line;
-use td_schema::make_tables;
+use td_base::{Cents, HolderNo};
+use td_guarantee::Guarantee;
+use td_movement::Movement;
 use td_store_load::{amount_in_use, load};
-
-const GRN: &[u8] = b"25CH0000010000014";
-
-const MRN: &[u8] = b"25CH00000100000013";
 
 // Holder 1 has two guarantees, two movements that count and one that doesn't yet; holder 2 has one guarantee, a
 // movement that counts and one that doesn't any more.
@@ -37,70 +34,80 @@ const ROWS: [&str; 20] = [
     "INSERT INTO lines1 VALUES (2, 2, 1, 1, 9)",
 ];
 
-/// A store in memory with the tables and these rows.
-fn with_rows(alloc: Global) -> Result<Connection<MemStore>, Error> {
-    let mut conn = Connection::open_in_memory(alloc)?;
-    if conn.is_autocommit() {
-        let mut tx = conn.transaction();
-        make_tables(&mut tx)?;
-        tx.commit()?;
+fn push_movements(words: &mut String, movements: &[Movement]) -> Result<(), AllocError> {
+    for movement in movements {
+        write!(
+            words,
+            "{} {} ",
+            movement.mrn,
+            movement.lines.as_slice().len()
+        )?;
     }
-    for text in ROWS {
-        conn.execute(text, &[])?;
-    }
-    Ok(conn)
+    Ok(())
 }
 
-/// The references of what was loaded, how many lines and codes there are, and the amounts in use.
-fn words_of(alloc: Global, loaded: &Loaded) -> Result<String, AllocError> {
-    let mut words = String::new(alloc);
-    for movement in &loaded.movements {
-        let word = format!(in alloc; "{} {} ", movement.mrn, movement.lines.as_slice().len())?;
-        words.push_str(&word)?;
+fn push_guarantees(
+    words: &mut String,
+    guarantees: &[(Guarantee, Cents)],
+) -> Result<(), AllocError> {
+    for (guarantee, used) in guarantees {
+        write!(words, "{} {} {used} ", guarantee.grn, guarantee.codes.len())?;
     }
-    for (guarantee, used) in &loaded.guarantees {
-        let word = format!(in alloc; "{} {} {used} ", guarantee.grn, guarantee.codes.len())?;
-        words.push_str(&word)?;
-    }
-    Ok(words)
+    Ok(())
 }
 
-/// What is loaded of a holder's number, in words; `-` where no holder is registered under it.
-fn loaded(
-    alloc: Global,
+/// The references of what was loaded, how many lines and codes there are, and the amounts in use; `-` where no holder is
+/// registered.
+fn push_words(words: &mut String, loaded: &Loaded) -> Result<(), AllocError> {
+    match loaded.holder {
+        None => words.push_str("-"),
+        Some(_) => {
+            push_movements(words, &loaded.movements)?;
+            push_guarantees(words, &loaded.guarantees)
+        }
+    }
+}
+
+/// This is loaded of a holder's number, in words.
+fn assert_loaded(
+    rt: &(impl AllocGlobal + Abort),
     conn: &mut Connection<MemStore>,
     owner: Option<HolderNo>,
     needs: &Needs<'_>,
-) -> Result<String, Fail> {
-    let country = Country::read(b"CH").ok_or("a country")?;
-    if !conn.is_autocommit() {
-        return Err("a transaction is begun".into());
-    }
+    want: &str,
+) {
+    let mut words = String::new(rt.alloc());
+    assert!(rt; conn.is_autocommit());
     let mut tx = conn.transaction();
-    let loaded = load(alloc, &mut tx, country, owner, needs)?;
-    if loaded.holder.is_none() {
-        return Ok(String::from_str(alloc, "-")?);
-    }
-    Ok(words_of(alloc, &loaded)?)
+    let loaded = load(rt.alloc(), &mut tx, country(rt), owner, needs).expect(rt, "rows");
+    push_words(&mut words, &loaded).expect(rt, "memory");
+    assert_eq!(rt; words.as_str(), want);
+}
+
+/// This is loaded of holders 1 and 2, and nothing of holder 3, who isn't registered, and of nobody.
+fn assert_each(
+    rt: &(impl AllocGlobal + Abort),
+    conn: &mut Connection<MemStore>,
+    needs: &Needs<'_>,
+    first: &str,
+    second: &str,
+) {
+    assert_loaded(rt, conn, HolderNo::new(1), needs, first);
+    assert_loaded(rt, conn, HolderNo::new(2), needs, second);
+    assert_loaded(rt, conn, HolderNo::new(3), needs, "-");
+    assert_loaded(rt, conn, None, needs, "-");
 }
 
 /// The line of 5,000.00 on the first guarantee of holder 1, as it is declared.
-fn lines(alloc: Global) -> Result<Lines, Fail> {
-    let line = Line {
-        grn: Grn::read(GRN)?,
-        cents: Cents::new(500_000).ok_or("an amount")?,
-    };
-    let code = AccessCode::read(b"AB12").ok_or("a code")?;
-    Ok(Lines::new(vec![in alloc; (line, code)]?).ok_or("lines")?)
+fn lines(rt: &(impl AllocGlobal + Abort)) -> Lines {
+    let items = vec![in rt.alloc(); (line(rt), code(rt, b"AB12"))].expect(rt, "memory");
+    Lines::new(items).expect(rt, "lines")
 }
 
 #[test]
-fn each_need_is_loaded_of_its_owner(rt: HostRuntime) -> Result<(), Fail> {
-    let alloc = rt.alloc();
-    let lines = lines(alloc)?;
-    let lrn = Lrn::read(b"A2").ok_or("an LRN")?;
-    let mrn = Mrn::read(MRN)?;
-    let grn = Grn::read(GRN)?;
+fn each_need_is_loaded_of_its_owner(rt: HostRuntime) {
+    let lines = lines(&rt);
+    let (lrn, mrn, grn) = (lrn(&rt, b"A2"), mrn(&rt, MRN), grn(&rt, GRN));
     let rows: [(Needs<'_>, &str, &str); 7] = [
         (Needs::Nothing, "", ""),
         (
@@ -126,36 +133,38 @@ fn each_need_is_loaded_of_its_owner(rt: HostRuntime) -> Result<(), Fail> {
             "25CH0000020000010 1 0.70 ",
         ),
     ];
-    let mut conn = with_rows(alloc)?;
+    let mut conn = with_rows(&rt, &ROWS);
     for (needs, first, second) in &rows {
-        let of_first = loaded(alloc, &mut conn, HolderNo::new(1), needs)?;
-        assert_eq!(rt; of_first.as_str(), *first);
-        let of_second = loaded(alloc, &mut conn, HolderNo::new(2), needs)?;
-        assert_eq!(rt; of_second.as_str(), *second);
-        let unregistered = loaded(alloc, &mut conn, HolderNo::new(3), needs)?;
-        assert_eq!(rt; unregistered.as_str(), "-");
-        let of_nobody = loaded(alloc, &mut conn, None, needs)?;
-        assert_eq!(rt; of_nobody.as_str(), "-");
+        assert_each(&rt, &mut conn, needs, first, second);
     }
-    Ok(())
+}
+
+/// A holder's number and a guarantee's serial, and the cents in use on it.
+const IN_USE: [(u32, u32, u64); 5] = [
+    (1, 1, 400),
+    (1, 2, 20_000),
+    (1, 3, 0),
+    (2, 1, 70),
+    (3, 1, 0),
+];
+
+fn assert_in_use(
+    rt: &(impl AllocGlobal + Abort),
+    conn: &mut Connection<MemStore>,
+    holder: HolderNo,
+    guarantee: u32,
+    cents: u64,
+) {
+    assert!(rt; conn.is_autocommit());
+    let mut tx = conn.transaction();
+    let amount = amount_in_use(rt.alloc(), &mut tx, holder, guarantee).expect(rt, "rows");
+    assert!(rt; amount.get() == cents, "{holder} {guarantee}");
 }
 
 #[test]
-fn what_counts_on_a_guarantee_is_in_use(rt: HostRuntime) -> Result<(), Fail> {
-    let alloc = rt.alloc();
-    let mut conn = with_rows(alloc)?;
-    for (holder, guarantee, cents) in [
-        (1, 1, 400),
-        (1, 2, 20_000),
-        (1, 3, 0),
-        (2, 1, 70),
-        (3, 1, 0),
-    ] {
-        let holder = HolderNo::new(holder).expect(&rt, "a number");
-        assert!(rt; conn.is_autocommit());
-        let mut tx = conn.transaction();
-        let amount = amount_in_use(alloc, &mut tx, holder, guarantee)?;
-        assert_eq!(rt; amount.get(), cents);
+fn what_counts_on_a_guarantee_is_in_use(rt: HostRuntime) {
+    let mut conn = with_rows(&rt, &ROWS);
+    for (number, guarantee, cents) in &IN_USE {
+        assert_in_use(&rt, &mut conn, holder(&rt, *number), *guarantee, *cents);
     }
-    Ok(())
 }

@@ -1,19 +1,6 @@
 //! The tables are made once, with their keys and checks.
-use sqlite::{Connection, Error, MemStore};
-use std::alloc::Global;
-use std::test::Fail;
+use crate::examples::with_tables;
 use td_schema::make_tables;
-
-/// A database in memory with the tables.
-fn with_tables(alloc: Global) -> Result<Connection<MemStore>, Error> {
-    let mut conn = Connection::open_in_memory(alloc)?;
-    if conn.is_autocommit() {
-        let mut tx = conn.transaction();
-        make_tables(&mut tx)?;
-        tx.commit()?;
-    }
-    Ok(conn)
-}
 
 /// Statements, one after another, and whether each is taken.
 const STATEMENTS: [(&str, bool); 16] = [
@@ -63,19 +50,17 @@ const STATEMENTS: [(&str, bool); 16] = [
 ];
 
 #[test]
-fn rows_that_break_a_key_or_a_check_are_refused(rt: HostRuntime) -> Result<(), Fail> {
-    let mut conn = with_tables(rt.alloc())?;
-    for (text, taken) in STATEMENTS {
-        assert!(rt; conn.execute(text, &[]).is_ok() == taken);
+fn rows_that_break_a_key_or_a_check_are_refused(rt: HostRuntime) {
+    let mut conn = with_tables(&rt);
+    for (text, taken) in &STATEMENTS {
+        assert!(rt; conn.execute(text, &[]).is_ok() == *taken, "{text}");
     }
-    Ok(())
 }
 
 #[test]
-fn tables_are_made_once(rt: HostRuntime) -> Result<(), Fail> {
-    let mut conn = with_tables(rt.alloc())?;
+fn tables_are_made_once(rt: HostRuntime) {
+    let mut conn = with_tables(&rt);
     assert!(rt; conn.is_autocommit());
     let mut tx = conn.transaction();
     assert!(rt; make_tables(&mut tx).is_err());
-    Ok(())
 }

@@ -2,7 +2,7 @@
 use sqlite::{Connection, Error, ErrorCode, MemStore, Row};
 use sqlite_value::value::ValueRef;
 use std::alloc::Global;
-use std::test::Fail;
+use std::process::Abort;
 use typed_sql::{
     FromRow, delete, fetch, fetch_one, insert, integer_at, is_null_at, number_at, select, text_at,
     update,
@@ -19,153 +19,148 @@ const DISCHARGE: &str = "DELETE FROM crew WHERE ship = ?1 AND name = ?2";
 
 const OF_SHIP: &str = "SELECT name, rank FROM crew WHERE ship = ?1 ORDER BY ship, name";
 
+fn add(rt: &impl Abort, conn: &mut Connection<MemStore>, of_crew: [ValueRef<'_>; 3]) {
+    assert!(rt; conn.is_autocommit());
+    let mut tx = conn.transaction();
+    insert(&mut tx, ADD, &of_crew).expect(rt, "one of the crew");
+    tx.commit().expect(rt, "a commit");
+}
+
 /// A database in memory with the table, and three rows in it.
-fn with_crew(alloc: Global) -> Result<Connection<MemStore>, Error> {
-    let mut conn = Connection::open_in_memory(alloc)?;
-    conn.execute(TABLE, &[])?;
-    if conn.is_autocommit() {
-        let mut tx = conn.transaction();
-        insert(
-            &mut tx,
-            ADD,
-            &[ValueRef::Int(1), ValueRef::Text(b"Mio"), ValueRef::Int(4)],
-        )?;
-        insert(
-            &mut tx,
-            ADD,
-            &[ValueRef::Int(1), ValueRef::Text(b"Ana"), ValueRef::Null],
-        )?;
-        insert(
-            &mut tx,
-            ADD,
-            &[ValueRef::Int(2), ValueRef::Text(b"Ana"), ValueRef::Int(1)],
-        )?;
-        tx.commit()?;
+fn with_crew(rt: &(impl AllocGlobal + Abort)) -> Connection<MemStore> {
+    let mut conn = Connection::open_in_memory(rt.alloc()).expect(rt, "a database");
+    conn.execute(TABLE, &[]).expect(rt, "a table");
+    add(
+        rt,
+        &mut conn,
+        [ValueRef::Int(1), ValueRef::Text(b"Mio"), ValueRef::Int(4)],
+    );
+    add(
+        rt,
+        &mut conn,
+        [ValueRef::Int(1), ValueRef::Text(b"Ana"), ValueRef::Null],
+    );
+    add(
+        rt,
+        &mut conn,
+        [ValueRef::Int(2), ValueRef::Text(b"Ana"), ValueRef::Int(1)],
+    );
+    conn
+}
+
+fn is_named(row: &Row, name: &str) -> bool {
+    match row.get::<String>(0) {
+        Ok(text) => text.as_str() == name,
+        Err(_) => false,
     }
-    Ok(conn)
+}
+
+fn has_rank(row: &Row, rank: i64) -> bool {
+    row.get::<i64>(1) == Ok(rank)
+}
+
+fn has_no_rank(row: &Row) -> bool {
+    row.get::<Option<i64>>(1) == Ok(None)
 }
 
 #[test]
-fn rows_are_shown_in_order(rt: HostRuntime) -> Result<(), Fail> {
-    let mut conn = with_crew(rt.alloc())?;
+fn rows_are_shown_in_order(rt: HostRuntime) {
+    let mut conn = with_crew(&rt);
     assert!(rt; conn.is_autocommit());
     let mut tx = conn.transaction();
-    let rows = select(&mut tx, OF_SHIP, &[ValueRef::Int(1)])?;
+    let rows = select(&mut tx, OF_SHIP, &[ValueRef::Int(1)]).expect(&rt, "rows");
     assert!(rt; rows.len() == 2);
-    assert!(rt; rows[0].get::<String>(0)?.as_str() == "Ana");
-    assert!(rt; rows[0].get::<Option<i64>>(1)?.is_none());
-    assert!(rt; rows[1].get::<i64>(1)? == 4);
-    Ok(())
+    assert!(rt; is_named(&rows[0], "Ana") && has_no_rank(&rows[0]) && has_rank(&rows[1], 4));
 }
 
 #[test]
-fn one_row_is_set_anew(rt: HostRuntime) -> Result<(), Fail> {
-    let mut conn = with_crew(rt.alloc())?;
+fn one_row_is_set_anew(rt: HostRuntime) {
+    let mut conn = with_crew(&rt);
     assert!(rt; conn.is_autocommit());
     let mut tx = conn.transaction();
-    update(
-        &mut tx,
-        PROMOTE,
-        &[ValueRef::Int(1), ValueRef::Text(b"Ana"), ValueRef::Int(3)],
-    )?;
-    update(
-        &mut tx,
-        PROMOTE,
-        &[ValueRef::Int(1), ValueRef::Text(b"Mio"), ValueRef::Null],
-    )?;
-    let rows = select(&mut tx, OF_SHIP, &[ValueRef::Int(1)])?;
+    let to_three = [ValueRef::Int(1), ValueRef::Text(b"Ana"), ValueRef::Int(3)];
+    update(&mut tx, PROMOTE, &to_three).expect(&rt, "an update");
+    let as_it_was = [ValueRef::Int(1), ValueRef::Text(b"Mio"), ValueRef::Null];
+    update(&mut tx, PROMOTE, &as_it_was).expect(&rt, "an update");
+    let rows = select(&mut tx, OF_SHIP, &[ValueRef::Int(1)]).expect(&rt, "rows");
     assert!(rt; rows.len() == 2);
-    assert!(rt; rows[0].get::<i64>(1)? == 3);
-    assert!(rt; rows[1].get::<i64>(1)? == 4);
-    Ok(())
+    assert!(rt; has_rank(&rows[0], 3) && has_rank(&rows[1], 4));
 }
 
 #[test]
-fn one_row_is_deleted(rt: HostRuntime) -> Result<(), Fail> {
-    let mut conn = with_crew(rt.alloc())?;
+fn one_row_is_deleted(rt: HostRuntime) {
+    let mut conn = with_crew(&rt);
     assert!(rt; conn.is_autocommit());
     let mut tx = conn.transaction();
-    delete(
-        &mut tx,
-        DISCHARGE,
-        &[ValueRef::Int(1), ValueRef::Text(b"Ana")],
-    )?;
-    let left = select(&mut tx, OF_SHIP, &[ValueRef::Int(1)])?;
-    let others = select(&mut tx, OF_SHIP, &[ValueRef::Int(2)])?;
-    assert!(rt; left.len() == 1);
-    assert!(rt; others.len() == 1);
-    Ok(())
+    let ana = [ValueRef::Int(1), ValueRef::Text(b"Ana")];
+    delete(&mut tx, DISCHARGE, &ana).expect(&rt, "a deletion");
+    let left = select(&mut tx, OF_SHIP, &[ValueRef::Int(1)]).expect(&rt, "rows");
+    let others = select(&mut tx, OF_SHIP, &[ValueRef::Int(2)]).expect(&rt, "rows");
+    assert!(rt; left.len() == 1 && others.len() == 1);
+}
+
+const CORRUPT: Error = Error::SqliteFailure(ErrorCode::DatabaseCorrupt);
+
+#[test]
+fn an_update_of_no_row_is_an_error(rt: HostRuntime) {
+    let mut conn = with_crew(&rt);
+    assert!(rt; conn.is_autocommit());
+    let mut tx = conn.transaction();
+    let nobody = [ValueRef::Int(3), ValueRef::Text(b"Ana"), ValueRef::Int(3)];
+    assert!(rt; update(&mut tx, PROMOTE, &nobody) == Err(CORRUPT));
 }
 
 #[test]
-fn an_update_of_no_row_is_an_error(rt: HostRuntime) -> Result<(), Fail> {
-    let mut conn = with_crew(rt.alloc())?;
+fn a_deletion_of_several_rows_is_an_error(rt: HostRuntime) {
+    let mut conn = with_crew(&rt);
     assert!(rt; conn.is_autocommit());
     let mut tx = conn.transaction();
-    let none = update(
-        &mut tx,
-        PROMOTE,
-        &[ValueRef::Int(3), ValueRef::Text(b"Ana"), ValueRef::Int(3)],
-    );
-    assert!(rt; none == Err(Error::SqliteFailure(ErrorCode::DatabaseCorrupt)));
-    Ok(())
+    assert!(rt; delete(&mut tx, "DELETE FROM crew", &[]) == Err(CORRUPT));
 }
 
 #[test]
-fn a_deletion_of_several_rows_is_an_error(rt: HostRuntime) -> Result<(), Fail> {
-    let mut conn = with_crew(rt.alloc())?;
+fn a_row_with_a_taken_key_is_refused(rt: HostRuntime) {
+    let mut conn = with_crew(&rt);
     assert!(rt; conn.is_autocommit());
     let mut tx = conn.transaction();
-    let several = delete(&mut tx, "DELETE FROM crew", &[]);
-    assert!(rt; several == Err(Error::SqliteFailure(ErrorCode::DatabaseCorrupt)));
-    Ok(())
+    let again = [ValueRef::Int(1), ValueRef::Text(b"Mio"), ValueRef::Null];
+    assert!(rt; insert(&mut tx, ADD, &again).is_err());
+}
+
+// The first row's name, and that it has no rank.
+fn is_ana(row: &Row) -> bool {
+    text_at(row, 0) == Some(b"Ana".as_slice()) && is_null_at(row, 1)
+}
+
+// What isn't there is null, and a text is no integer.
+fn is_fourth(row: &Row) -> bool {
+    let numbers = (number_at(row, 1), number_at(row, 0));
+    let integers = (integer_at(row, 1), integer_at(row, 0), integer_at(row, 2));
+    numbers == (Some(4), None)
+        && integers == (Some(4), None, None)
+        && is_null_at(row, 2)
+        && !is_null_at(row, 1)
 }
 
 #[test]
-fn a_row_with_a_taken_key_is_refused(rt: HostRuntime) -> Result<(), Fail> {
-    let mut conn = with_crew(rt.alloc())?;
+fn columns_are_read(rt: HostRuntime) {
+    let mut conn = with_crew(&rt);
     assert!(rt; conn.is_autocommit());
     let mut tx = conn.transaction();
-    assert!(rt;
-        insert(
-            &mut tx,
-            ADD,
-            &[ValueRef::Int(1), ValueRef::Text(b"Mio"), ValueRef::Null]
-        )
-        .is_err()
-    );
-    Ok(())
-}
-
-#[test]
-fn columns_are_read(rt: HostRuntime) -> Result<(), Fail> {
-    let mut conn = with_crew(rt.alloc())?;
-    assert!(rt; conn.is_autocommit());
-    let mut tx = conn.transaction();
-    let rows = select(&mut tx, OF_SHIP, &[ValueRef::Int(1)])?;
+    let rows = select(&mut tx, OF_SHIP, &[ValueRef::Int(1)]).expect(&rt, "rows");
     assert!(rt; rows.len() == 2);
-    assert!(rt; text_at(&rows[0], 0) == Some(b"Ana".as_slice()));
-    assert!(rt; is_null_at(&rows[0], 1));
-    assert!(rt; number_at(&rows[1], 1) == Some(4));
-    assert!(rt; number_at(&rows[1], 0).is_none());
-    assert!(rt; integer_at(&rows[1], 1) == Some(4));
-    assert!(rt; integer_at(&rows[1], 0).is_none());
-    assert!(rt; integer_at(&rows[1], 2).is_none());
-    assert!(rt; is_null_at(&rows[1], 2));
-    assert!(rt; !is_null_at(&rows[1], 1));
-    Ok(())
+    assert!(rt; is_ana(&rows[0]) && is_fourth(&rows[1]));
 }
 
 #[test]
-fn a_negative_integer_is_no_number(rt: HostRuntime) -> Result<(), Fail> {
-    let mut conn = with_crew(rt.alloc())?;
+fn a_negative_integer_is_no_number(rt: HostRuntime) {
+    let mut conn = with_crew(&rt);
     assert!(rt; conn.is_autocommit());
     let mut tx = conn.transaction();
-    let rows = select(&mut tx, "SELECT -4 FROM crew WHERE ship = 2", &[])?;
+    let text = "SELECT -4 FROM crew WHERE ship = 2";
+    let rows = select(&mut tx, text, &[]).expect(&rt, "rows");
     assert!(rt; rows.len() == 1);
-    assert!(rt; integer_at(&rows[0], 0) == Some(-4));
-    assert!(rt; number_at(&rows[0], 0).is_none());
-    Ok(())
+    assert!(rt; integer_at(&rows[0], 0) == Some(-4) && number_at(&rows[0], 0).is_none());
 }
 
 /// The rank of one of the crew.
@@ -193,36 +188,31 @@ impl FromRow for Ranked {
 }
 
 #[test]
-fn rows_are_fetched_as_they_are_read(rt: HostRuntime) -> Result<(), Fail> {
+fn rows_are_fetched_as_they_are_read(rt: HostRuntime) {
     let alloc = rt.alloc();
-    let mut conn = with_crew(alloc)?;
+    let mut conn = with_crew(&rt);
     assert!(rt; conn.is_autocommit());
     let mut tx = conn.transaction();
-    let all: Vec<Ranked> = fetch(alloc, &mut tx, OF_SHIP, &[ValueRef::Int(2)])?;
+    let all = fetch::<MemStore, Ranked>(alloc, &mut tx, OF_SHIP, &[ValueRef::Int(2)]);
+    let all = all.expect(&rt, "rows");
     assert!(rt; all.len() == 1);
     assert!(rt; all[0].rank == 1);
-    let unranked: Result<Vec<Ranked>, Error> = fetch(alloc, &mut tx, OF_SHIP, &[ValueRef::Int(1)]);
-    assert!(rt; unranked.err() == Some(Error::SqliteFailure(ErrorCode::DatabaseCorrupt)));
-    Ok(())
+    let unranked = fetch::<MemStore, Ranked>(alloc, &mut tx, OF_SHIP, &[ValueRef::Int(1)]);
+    assert!(rt; unranked.err() == Some(CORRUPT));
 }
 
 #[test]
-fn one_at_most_is_fetched(rt: HostRuntime) -> Result<(), Fail> {
+fn one_at_most_is_fetched(rt: HostRuntime) {
     let alloc = rt.alloc();
-    let mut conn = with_crew(alloc)?;
-    conn.execute("UPDATE crew SET rank = 2 WHERE rank IS NULL", &[])?;
+    let mut conn = with_crew(&rt);
+    conn.execute("UPDATE crew SET rank = 2 WHERE rank IS NULL", &[])
+        .expect(&rt, "an update");
     assert!(rt; conn.is_autocommit());
     let mut tx = conn.transaction();
-    let one: Option<Ranked> = fetch_one(alloc, &mut tx, OF_SHIP, &[ValueRef::Int(2)])?;
-    let none: Option<Ranked> = fetch_one(alloc, &mut tx, OF_SHIP, &[ValueRef::Int(3)])?;
-    assert!(rt; one.expect(&rt, "a rank").rank == 1);
-    assert!(rt; none.is_none());
-    let several: Result<Option<Ranked>, Error> = fetch_one(
-        alloc,
-        &mut tx,
-        OF_SHIP,
-        &[ValueRef::Int(1)],
-    );
-    assert!(rt; several.err() == Some(Error::SqliteFailure(ErrorCode::DatabaseCorrupt)));
-    Ok(())
+    let one = fetch_one::<MemStore, Ranked>(alloc, &mut tx, OF_SHIP, &[ValueRef::Int(2)]);
+    let one = one.expect(&rt, "a row").expect(&rt, "a rank");
+    let none = fetch_one::<MemStore, Ranked>(alloc, &mut tx, OF_SHIP, &[ValueRef::Int(3)]);
+    assert!(rt; one.rank == 1 && none.expect(&rt, "no row").is_none());
+    let several = fetch_one::<MemStore, Ranked>(alloc, &mut tx, OF_SHIP, &[ValueRef::Int(1)]);
+    assert!(rt; several.err() == Some(CORRUPT));
 }

@@ -1,44 +1,66 @@
 //! What is loaded for each need, beside the holder's row.
-use super::rows::{FIRST, MRNS, country, file, put};
+use super::rows::{file, put};
+use crate::examples::{GRN, MRN, SECOND_MRN, country, grn, mrn};
 use std::alloc::{AllocError, Global};
-use std::test::Fail;
+use std::process::Abort;
 use td_acts::{Loaded, Needs};
-use td_base::{Grn, Mrn};
+use td_base::Cents;
+use td_guarantee::Guarantee;
 use td_holder_memory::HolderFile;
-use td_movement::State;
+use td_movement::{Movement, State};
+
+fn push_movements(words: &mut String, movements: &[Movement]) -> Result<(), AllocError> {
+    for movement in movements {
+        write!(words, "{} ", movement.mrn)?;
+    }
+    Ok(())
+}
+
+fn push_guarantees(
+    words: &mut String,
+    guarantees: &[(Guarantee, Cents)],
+) -> Result<(), AllocError> {
+    for (guarantee, used) in guarantees {
+        write!(words, "{} {used} ", guarantee.grn)?;
+    }
+    Ok(())
+}
 
 // The references of what was loaded, and the amounts in use.
-fn words_of(alloc: Global, loaded: &Loaded) -> Result<String, AllocError> {
-    let mut words = String::new(alloc);
-    for movement in &loaded.movements {
-        let word = format!(in alloc; "{} ", movement.mrn)?;
-        words.push_str(&word)?;
-    }
-    for (guarantee, used) in &loaded.guarantees {
-        let word = format!(in alloc; "{} {used} ", guarantee.grn)?;
-        words.push_str(&word)?;
-    }
-    Ok(words)
+fn words_of(rt: &(impl AllocGlobal + Abort), loaded: &Loaded) -> String {
+    let mut words = String::new(rt.alloc());
+    push_movements(&mut words, &loaded.movements).expect(rt, "memory");
+    push_guarantees(&mut words, &loaded.guarantees).expect(rt, "memory");
+    words
 }
 
 // What is loaded of a file.
-fn loaded(alloc: Global, file: &HolderFile, needs: &Needs<'_>) -> Result<String, Fail> {
-    let loaded = file.load(alloc, country()?, needs)?;
-    Ok(words_of(alloc, &loaded)?)
+fn loaded(rt: &(impl AllocGlobal + Abort), file: &HolderFile, needs: &Needs<'_>) -> String {
+    let loaded = file.load(rt.alloc(), country(rt), needs);
+    words_of(rt, &loaded.expect(rt, "memory"))
 }
 
 // The file with its first movement released.
-fn file_in_use(alloc: Global) -> Result<HolderFile, Fail> {
-    let mut file = file(alloc)?;
-    put(alloc, &mut file, MRNS[0], State::Released)?;
-    Ok(file)
+fn file_in_use(rt: &(impl AllocGlobal + Abort)) -> HolderFile {
+    let mut file = file(rt);
+    put(rt, &mut file, MRN, State::Released);
+    file
+}
+
+fn assert_loaded(
+    rt: &(impl AllocGlobal + Abort),
+    file: &HolderFile,
+    needs: &Needs<'_>,
+    words: &str,
+) {
+    assert_eq!(rt; loaded(rt, file, needs).as_str(), words);
 }
 
 #[test]
-fn rows_are_loaded_by_needs(rt: HostRuntime) -> Result<(), Fail> {
-    let file = file_in_use(rt.alloc())?;
-    let mrn = Mrn::read(MRNS[1])?;
-    let grn = Grn::read(FIRST)?;
+fn rows_are_loaded_by_needs(rt: HostRuntime) {
+    let file = file_in_use(&rt);
+    let mrn = mrn(&rt, SECOND_MRN);
+    let grn = grn(&rt, GRN);
     let rows: [(Needs<'_>, &str); 6] = [
         (Needs::Nothing, ""),
         (Needs::Movement(mrn), "25CH00000100000021 "),
@@ -57,8 +79,6 @@ fn rows_are_loaded_by_needs(rt: HostRuntime) -> Result<(), Fail> {
         ),
     ];
     for (needs, words) in &rows {
-        let found = loaded(rt.alloc(), &file, needs)?;
-        assert_eq!(rt; found.as_str(), *words);
+        assert_loaded(&rt, &file, needs, words);
     }
-    Ok(())
 }

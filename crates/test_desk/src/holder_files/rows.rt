@@ -1,190 +1,169 @@
 //! Rows that are written, change by change, as they are loaded.
-use keyed_rows::Keyed;
-use std::alloc::{AllocError, Global};
-use std::test::Fail;
-use td_acts::{Change, HolderRow, Loaded, Needs, NewStatus, NewTerms};
-use td_base::{
-    AccessCode, Cents, Country, Cover, Day, Eori, Grn, HolderNo, Lrn, Moment, Mrn, OfficeNo,
+use crate::examples::{
+    AT, GRN, MRN, SECOND_GRN, SECOND_MRN, cents, code, country, day, eori, grn, guarantee, holder,
+    line, movement, mrn,
 };
+use keyed_rows::Keyed;
+use std::alloc::AllocError;
+use std::process::Abort;
+use td_acts::{Change, HolderRow, Loaded, Needs, NewStatus, NewTerms};
+use td_base::{Cents, Day, Moment};
 use td_guarantee::{Codes, Guarantee};
 use td_holder_memory::HolderFile;
-use td_movement::{Line, Movement, MovementLines, State};
+use td_movement::{Movement, State};
 
-pub const FIRST: &[u8] = b"25CH0000010000014";
-
-const SECOND: &[u8] = b"25CH0000010000023";
-
-pub const MRNS: [&[u8]; 2] = [b"25CH00000100000013", b"25CH00000100000021"];
-
-const AT: i64 = 1_740_819_600;
-
-pub fn country() -> Result<Country, Fail> {
-    Ok(Country::read(b"CH").ok_or("a country")?)
-}
-
-fn row() -> Result<HolderRow, Fail> {
-    Ok(HolderRow {
-        holder: holder()?,
-        eori: Eori::read(b"CH1234567").ok_or("an EORI")?,
-        last_at: Moment::new(AT).ok().ok_or("a moment")?,
+fn row(rt: &impl Abort) -> HolderRow {
+    HolderRow {
+        holder: holder(rt, 1),
+        eori: eori(rt, b"CH1234567"),
+        last_at: Moment::new(AT).ok().expect(rt, "a moment"),
         grn_count: 2,
         mrn_count: 2,
-    })
+    }
 }
 
-// A guarantee of 10,000.00 with the code AB12.
-fn guarantee(alloc: Global, grn: &[u8]) -> Result<Guarantee, Fail> {
-    Ok(Guarantee {
-        grn: Grn::read(grn)?,
-        reference: Cents::new(1_000_000).ok_or("an amount")?,
-        cover: Cover::new(50).ok_or("a cover")?,
-        ends: None,
-        codes: Codes::one(alloc, AccessCode::read(b"AB12").ok_or("a code")?),
-    })
+fn write(rt: &(impl AllocGlobal + Abort), file: &mut HolderFile, change: Change) {
+    file.write(rt.alloc(), change).expect(rt, "memory");
+}
+
+fn open(rt: &(impl AllocGlobal + Abort), file: &mut HolderFile, grn: &[u8]) {
+    write(rt, file, Change::Opened(row(rt), guarantee(rt, grn)));
 }
 
 // A movement of 5.00 on the first guarantee.
-fn movement(alloc: Global, mrn: &[u8], lrn: &[u8]) -> Result<Movement, Fail> {
-    let line = Line {
-        grn: Grn::read(FIRST)?,
-        cents: Cents::new(500).ok_or("an amount")?,
-    };
-    Ok(Movement {
-        mrn: Mrn::read(mrn)?,
-        lrn: Lrn::read(lrn).ok_or("an LRN")?,
-        departure: OfficeNo::read(b"CH001251").ok_or("an office")?,
-        destination: OfficeNo::read(b"DE005600").ok_or("an office")?,
-        accepted: Day::read(b"2025-03-01").ok_or("a day")?,
-        state: State::Accepted,
-        limit: None,
-        arrival: None,
-        actual: None,
-        lines: MovementLines::new(vec![in alloc; line]?),
-    })
+fn declared(rt: &(impl AllocGlobal + Abort), mrn: &[u8], lrn: &[u8]) -> Movement {
+    let lines = vec![in rt.alloc(); line(rt, GRN, 500)].expect(rt, "memory");
+    movement(rt, mrn, lrn, lines)
+}
+
+fn declare(rt: &(impl AllocGlobal + Abort), file: &mut HolderFile, mrn: &[u8], lrn: &[u8]) {
+    write(rt, file, Change::Declared(row(rt), declared(rt, mrn, lrn)));
+}
+
+// The file of holder 000001, with nothing but the holder's row.
+fn empty(rt: &(impl AllocGlobal + Abort)) -> HolderFile {
+    HolderFile::new(rt.alloc(), country(rt), row(rt))
 }
 
 // The file of holder 000001, with two guarantees and two movements.
-pub fn file(alloc: Global) -> Result<HolderFile, Fail> {
-    let mut file = HolderFile::new(alloc, country()?, row()?);
-    for grn in [FIRST, SECOND] {
-        file.write(alloc, Change::Opened(row()?, guarantee(alloc, grn)?))?;
-    }
-    for (mrn, lrn) in MRNS.iter().zip([b"A1", b"A2"].iter()) {
-        let movement = movement(alloc, mrn, lrn.as_slice())?;
-        file.write(alloc, Change::Declared(row()?, movement))?;
-    }
-    Ok(file)
+pub fn file(rt: &(impl AllocGlobal + Abort)) -> HolderFile {
+    let mut file = empty(rt);
+    open(rt, &mut file, GRN);
+    open(rt, &mut file, SECOND_GRN);
+    declare(rt, &mut file, MRN, b"A1");
+    declare(rt, &mut file, SECOND_MRN, b"A2");
+    file
 }
 
-fn holder() -> Result<HolderNo, Fail> {
-    Ok(HolderNo::new(1).ok_or("a holder")?)
+fn push_codes(words: &mut String, codes: &Codes) -> Result<(), AllocError> {
+    for code in codes.as_slice() {
+        write!(words, " {code}")?;
+    }
+    Ok(())
+}
+
+fn push_end(words: &mut String, ends: Option<Day>) -> Result<(), AllocError> {
+    match ends {
+        Some(end) => write!(words, " {end}"),
+        None => words.push_str(" open"),
+    }
 }
 
 // A guarantee's reference amount, what is in use on it, its end and its codes, in words.
-fn words_of(alloc: Global, guarantee: &Guarantee, used: Cents) -> Result<String, AllocError> {
+fn push_words(words: &mut String, guarantee: &Guarantee, used: Cents) -> Result<(), AllocError> {
     let reference = guarantee.reference;
-    let mut words = match guarantee.ends {
-        Some(end) => format!(in alloc; "{reference} {used} {end}")?,
-        None => format!(in alloc; "{reference} {used} open")?,
-    };
-    for code in guarantee.codes.as_slice() {
-        let word = format!(in alloc; " {code}")?;
-        words.push_str(&word)?;
-    }
-    Ok(words)
+    write!(words, "{reference} {used}")?;
+    push_end(words, guarantee.ends)?;
+    push_codes(words, &guarantee.codes)
 }
 
 // What is loaded for a guarantee. (Of a `Needs` that stands alone, in no array, the kit can't prove the drop.)
-fn loaded(alloc: Global, file: &HolderFile, grn: &[u8]) -> Result<Loaded, Fail> {
-    let needs = [Needs::Guarantee(Grn::read(grn)?)];
-    Ok(file.load(alloc, country()?, &needs[0])?)
+fn loaded(rt: &(impl AllocGlobal + Abort), file: &HolderFile, text: &[u8]) -> Loaded {
+    let needs = [Needs::Guarantee(grn(rt, text))];
+    let loaded = file.load(rt.alloc(), country(rt), &needs[0]);
+    loaded.expect(rt, "memory")
+}
+
+fn push_first(words: &mut String, loaded: &Loaded) -> Result<(), AllocError> {
+    match loaded.guarantees.first() {
+        Some((guarantee, used)) => push_words(words, guarantee, *used),
+        None => words.push_str("none"),
+    }
 }
 
 // A guarantee as it is loaded.
-fn shown(alloc: Global, file: &HolderFile, grn: &[u8]) -> Result<String, Fail> {
-    let loaded = loaded(alloc, file, grn)?;
-    let Some((guarantee, used)) = loaded.guarantees.first() else {
-        return Ok(String::from_str(alloc, "none")?);
-    };
-    Ok(words_of(alloc, guarantee, *used)?)
+fn shown(rt: &(impl AllocGlobal + Abort), file: &HolderFile, grn: &[u8]) -> String {
+    let mut words = String::new(rt.alloc());
+    push_first(&mut words, &loaded(rt, file, grn)).expect(rt, "memory");
+    words
+}
+
+fn assert_shown(rt: &(impl AllocGlobal + Abort), file: &HolderFile, grn: &[u8], words: &str) {
+    assert_eq!(rt; shown(rt, file, grn).as_str(), words);
 }
 
 // Puts a movement into a state.
-pub fn put(alloc: Global, file: &mut HolderFile, mrn: &[u8], state: State) -> Result<(), Fail> {
+pub fn put(rt: &(impl AllocGlobal + Abort), file: &mut HolderFile, text: &[u8], state: State) {
     let status = NewStatus {
-        mrn: Mrn::read(mrn)?,
+        mrn: mrn(rt, text),
         state,
         limit: None,
         arrival: None,
         actual: None,
     };
-    file.write(alloc, Change::Moved(row()?, status))?;
-    Ok(())
+    write(rt, file, Change::Moved(row(rt), status));
 }
 
 #[test]
-fn files_stand_under_their_holders(rt: HostRuntime) -> Result<(), Fail> {
-    let alloc = rt.alloc();
-    let mut file = HolderFile::new(alloc, country()?, row()?);
-    assert_eq!(rt; file.holder(), holder()?);
-    assert_eq!(rt; file.key(), 1);
-    file.write(alloc, Change::Nothing)?;
-    let mut again = row()?;
-    again.eori = Eori::read(b"DE9").ok_or("an EORI")?;
-    file.write(alloc, Change::Registered(again))?;
-    let shown = loaded(alloc, &file, FIRST)?.holder.ok_or("a row")?;
+fn files_stand_under_their_holders(rt: HostRuntime) {
+    let mut file = empty(&rt);
+    assert!(rt; file.holder() == holder(&rt, 1) && file.key() == 1);
+    write(&rt, &mut file, Change::Nothing);
+    let mut again = row(&rt);
+    again.eori = eori(&rt, b"DE9");
+    write(&rt, &mut file, Change::Registered(again));
+    let shown = loaded(&rt, &file, GRN).holder.expect(&rt, "a row");
     assert_eq!(rt; shown.eori, again.eori);
-    Ok(())
 }
 
 #[test]
-fn terms_are_written(rt: HostRuntime) -> Result<(), Fail> {
-    let alloc = rt.alloc();
-    let mut file = file(alloc)?;
+fn terms_are_written(rt: HostRuntime) {
+    let mut file = file(&rt);
     let terms = NewTerms {
-        grn: Grn::read(SECOND)?,
-        reference: Cents::new(700),
+        grn: grn(&rt, SECOND_GRN),
+        reference: Some(cents(&rt, 700)),
         cover: None,
-        ends: Some(Day::read(b"2025-03-17").ok_or("a day")?),
+        ends: Some(day(&rt, b"2025-03-17")),
     };
-    file.write(alloc, Change::TermsSet(row()?, terms))?;
-    let first = shown(alloc, &file, FIRST)?;
-    let second = shown(alloc, &file, SECOND)?;
-    assert_eq!(rt; first.as_str(), "10000.00 0.00 open AB12");
-    assert_eq!(rt; second.as_str(), "7.00 0.00 2025-03-17 AB12");
-    Ok(())
+    write(&rt, &mut file, Change::TermsSet(row(&rt), terms));
+    assert_shown(&rt, &file, GRN, "10000.00 0.00 open AB12");
+    assert_shown(&rt, &file, SECOND_GRN, "7.00 0.00 2025-03-17 AB12");
 }
 
 #[test]
-fn codes_are_written(rt: HostRuntime) -> Result<(), Fail> {
-    let alloc = rt.alloc();
-    let mut file = file(alloc)?;
-    let grn = Grn::read(FIRST)?;
-    let old = AccessCode::read(b"AB12").ok_or("a code")?;
-    let new = AccessCode::read(b"0000").ok_or("a code")?;
-    file.write(alloc, Change::CodeAdded(row()?, grn, new))?;
-    let both = shown(alloc, &file, FIRST)?;
-    assert_eq!(rt; both.as_str(), "10000.00 0.00 open 0000 AB12");
-    file.write(alloc, Change::CodeRemoved(row()?, grn, old))?;
-    let first = shown(alloc, &file, FIRST)?;
-    let second = shown(alloc, &file, SECOND)?;
-    assert_eq!(rt; first.as_str(), "10000.00 0.00 open 0000");
-    assert_eq!(rt; second.as_str(), "10000.00 0.00 open AB12");
-    Ok(())
+fn codes_are_written(rt: HostRuntime) {
+    let mut file = file(&rt);
+    let added = Change::CodeAdded(row(&rt), grn(&rt, GRN), code(&rt, b"0000"));
+    write(&rt, &mut file, added);
+    assert_shown(&rt, &file, GRN, "10000.00 0.00 open 0000 AB12");
+    let removed = Change::CodeRemoved(row(&rt), grn(&rt, GRN), code(&rt, b"AB12"));
+    write(&rt, &mut file, removed);
+    assert_shown(&rt, &file, GRN, "10000.00 0.00 open 0000");
+    assert_shown(&rt, &file, SECOND_GRN, "10000.00 0.00 open AB12");
 }
 
+/// Movements that are released one after another, and what the first guarantee is then.
+const RELEASED: [(&[u8], &str); 3] = [
+    (SECOND_MRN, "10000.00 5.00 open AB12"),
+    (MRN, "10000.00 10.00 open AB12"),
+    (MRN, "10000.00 10.00 open AB12"),
+];
+
 #[test]
-fn released_movements_are_in_use(rt: HostRuntime) -> Result<(), Fail> {
-    let alloc = rt.alloc();
-    let mut file = file(alloc)?;
-    for (mrn, used) in [
-        (MRNS[1], "10000.00 5.00 open AB12"),
-        (MRNS[0], "10000.00 10.00 open AB12"),
-        (MRNS[0], "10000.00 10.00 open AB12"),
-    ] {
-        put(alloc, &mut file, mrn, State::Released)?;
-        let words = shown(alloc, &file, FIRST)?;
-        assert_eq!(rt; words.as_str(), used);
+fn released_movements_are_in_use(rt: HostRuntime) {
+    let mut file = file(&rt);
+    for (mrn, used) in &RELEASED {
+        put(&rt, &mut file, mrn, State::Released);
+        assert_shown(&rt, &file, GRN, used);
     }
-    Ok(())
 }

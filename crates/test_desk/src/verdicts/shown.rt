@@ -1,81 +1,100 @@
 //! A verdict is the same, whether what was loaded is lent to be read, or to be taken from.
 use super::*;
+use crate::examples::{SECOND_GRN, SECOND_MRN};
 use td_acts::table::decide;
+use td_guarantee::Guarantee;
 
-/// The MRN of the second movement of holder 000001.
-const A2: &[u8] = b"25CH00000100000021";
+/// The second movement of holder 000001, which is cancelled.
+fn second_movement(rt: &(impl AllocGlobal + Abort)) -> Movement {
+    Movement {
+        mrn: mrn(rt, SECOND_MRN),
+        state: State::Cancelled,
+        ..movement(rt)
+    }
+}
 
-/// The GRN of the second guarantee of that holder.
-const G2: &[u8] = b"25CH0000010000023";
+/// The second guarantee of that holder, with two codes.
+fn second_guarantee(rt: &(impl AllocGlobal + Abort)) -> Guarantee {
+    let mut second = guarantee(rt, SECOND_GRN);
+    second.codes.add(code(rt, b"CD34")).expect(rt, "memory");
+    second
+}
 
 /// The holder's row, and two movements and two guarantees, of which the second are those that are asked for.
-fn two_of_each(alloc: Global) -> Result<Loaded, Fail> {
-    let mut loaded = with_guarantee(alloc, 500_000, true)?;
-    let mut second = movement(alloc)?;
-    second.mrn = Mrn::read(A2)?;
-    second.state = State::Cancelled;
-    loaded.movements.push(second)?;
-    let mut second = guarantee(alloc)?;
-    second.grn = Grn::read(G2)?;
-    second
-        .codes
-        .add(AccessCode::read(b"CD34").ok_or("a code")?)?;
-    let used = Cents::new(0).ok_or("an amount")?;
-    loaded.guarantees.push((second, used))?;
-    Ok(loaded)
+fn two_of_each(rt: &(impl AllocGlobal + Abort)) -> Loaded {
+    let mut loaded = with_guarantee(rt, 500_000, true);
+    loaded
+        .movements
+        .push(second_movement(rt))
+        .expect(rt, "memory");
+    let opened = (second_guarantee(rt), cents(rt, 0));
+    loaded.guarantees.push(opened).expect(rt, "memory");
+    loaded
 }
 
-/// Whether both calls give one verdict over the same, to the last field, and say this.
-fn is_one(alloc: Global, mut loaded: Loaded, command: &Command, want: &str) -> Result<bool, Fail> {
-    let lent = verdict(alloc, &loaded, AT, command)?;
-    let taken = decide(alloc, &mut loaded, AT, command)?;
-    let said = words(alloc, &taken.said)?;
-    let lent = format!(in alloc; "{lent:?}")?;
-    let taken = format!(in alloc; "{taken:?}")?;
-    Ok(lent == taken && said.as_str() == want)
+/// The verdict in full, to the last field.
+fn debugged(rt: &(impl AllocGlobal + Abort), verdict: &Verdict) -> String {
+    format!(in rt.alloc(); "{verdict:?}").expect(rt, "memory")
 }
 
-/// Whether this is said to a command over two of each, and to a holder who isn't registered.
-fn is_shown_by_both(alloc: Global, command: Command, want: &str) -> Result<bool, Fail> {
-    let nobody = holder_alone(alloc, None)?;
-    Ok(
-        is_one(alloc, two_of_each(alloc)?, &command, want)?
-            && is_one(alloc, nobody, &command, "no-holder")?,
-    )
+/// The verdict over what is lent to be read says this.
+fn lent(rt: &(impl AllocGlobal + Abort), loaded: &Loaded, command: &Command, want: &str) -> String {
+    let verdict = verdict(rt.alloc(), loaded, AT, command).expect(rt, "memory");
+    assert!(rt; is_said(rt, &verdict.said, want), "{want}");
+    debugged(rt, &verdict)
 }
 
-#[test]
-fn views_show_the_same(rt: HostRuntime) -> Result<(), Fail> {
-    let alloc = rt.alloc();
-    let holder = HolderNo::new(1).ok_or("a holder")?;
-    let (mrn, grn) = (Mrn::read(A2)?, Grn::read(G2)?);
-    let seen = Command::SeeHolder { holder };
-    assert!(rt; is_shown_by_both(alloc, seen, "holder 000001 CH1234567 1 1")?);
-    let seen = Command::SeeMovement { holder, mrn };
-    assert!(rt; is_shown_by_both(alloc, seen, "movement 25CH00000100000021")?);
-    let seen = Command::SeeMovements { holder };
-    assert!(rt; is_shown_by_both(alloc, seen, "2 movements")?);
-    let seen = Command::SeeGuarantee { holder, grn };
-    let answer = "guarantee 25CH0000010000023 10000.00 2 0.00";
-    assert!(rt; is_shown_by_both(alloc, seen, answer)?);
-    let seen = Command::SeeGuarantees { holder };
-    assert!(rt; is_shown_by_both(alloc, seen, "2 guarantees")?);
-    Ok(())
+/// The verdict over what is lent to be taken from.
+fn taken(rt: &(impl AllocGlobal + Abort), loaded: &mut Loaded, command: &Command) -> String {
+    let verdict = decide(rt.alloc(), loaded, AT, command).expect(rt, "memory");
+    debugged(rt, &verdict)
+}
+
+/// Both calls give one verdict over the same, to the last field, and say this.
+fn assert_one(rt: &(impl AllocGlobal + Abort), mut loaded: Loaded, command: &Command, want: &str) {
+    let lent = lent(rt, &loaded, command, want);
+    let taken = taken(rt, &mut loaded, command);
+    assert!(rt; lent == taken, "{want}");
+}
+
+/// This is said to a command over two of each, and to a holder who isn't registered.
+fn assert_shown_by_both(rt: &(impl AllocGlobal + Abort), command: &Command, want: &str) {
+    assert_one(rt, two_of_each(rt), command, want);
+    assert_one(rt, holder_alone(rt, None), command, "no-holder");
 }
 
 #[test]
-fn what_is_not_there_is_refused_by_both(rt: HostRuntime) -> Result<(), Fail> {
-    let alloc = rt.alloc();
-    let holder = HolderNo::new(1).ok_or("a holder")?;
-    let (mrn, grn) = (Mrn::read(A2)?, Grn::read(G2)?);
+fn views_show_the_same(rt: HostRuntime) {
+    let holder = holder(&rt, 1);
+    let (mrn, grn) = (mrn(&rt, SECOND_MRN), grn(&rt, SECOND_GRN));
+    let views = [
+        (Command::SeeHolder { holder }, "holder 000001 CH1234567 1 1"),
+        (
+            Command::SeeMovement { holder, mrn },
+            "movement 25CH00000100000021",
+        ),
+        (Command::SeeMovements { holder }, "2 movements"),
+        (
+            Command::SeeGuarantee { holder, grn },
+            "guarantee 25CH0000010000023 10000.00 2 0.00",
+        ),
+        (Command::SeeGuarantees { holder }, "2 guarantees"),
+    ];
+    for (view, want) in &views {
+        assert_shown_by_both(&rt, view, want);
+    }
+}
+
+#[test]
+fn what_is_not_there_is_refused_by_both(rt: HostRuntime) {
+    let holder = holder(&rt, 1);
+    let (mrn, grn) = (mrn(&rt, SECOND_MRN), grn(&rt, SECOND_GRN));
+    let one_of_each = with_guarantee(&rt, 500_000, true);
     let seen = Command::SeeMovement { holder, mrn };
-    let loaded = with_guarantee(alloc, 500_000, true)?;
-    assert!(rt; is_one(alloc, loaded, &seen, "no-movement")?);
+    assert_one(&rt, one_of_each, &seen, "no-movement");
+    let one_of_each = with_guarantee(&rt, 500_000, true);
     let seen = Command::SeeGuarantee { holder, grn };
-    let loaded = with_guarantee(alloc, 500_000, true)?;
-    assert!(rt; is_one(alloc, loaded, &seen, "no-guarantee")?);
+    assert_one(&rt, one_of_each, &seen, "no-guarantee");
     let cancelled = Command::Ie014 { holder, mrn };
-    let loaded = two_of_each(alloc)?;
-    assert!(rt; is_one(alloc, loaded, &cancelled, "wrong-state")?);
-    Ok(())
+    assert_one(&rt, two_of_each(&rt), &cancelled, "wrong-state");
 }

@@ -1,6 +1,6 @@
 //! The job `serve` where it comes to no connection: a port that is in use, and a first line that can't be written,
 //! which shows that the port is listened on at 127.0.0.1 alone. (One process can't both wait in it and connect to it:
-//! what it does with connections is shown by test_http.)
+//! what it does with connections is shown by test_desk.)
 use crate::helpers::devices::Narrow;
 use crate::helpers::{Due, assert_equal, assert_job, assert_text, words_of};
 use sqlite::Unknown;

@@ -2,36 +2,44 @@
 use super::commands::{Dice, drawn};
 use super::made;
 use super::words::{end_name, words_of};
+use crate::examples::country;
 use sqlite::MemStore;
-use std::alloc::Global;
-use std::test::Fail;
+use std::process::Abort;
 use td_base::Country;
-use td_desk::{PlainDesk, Stamped, do_one};
+use td_desk::{Outcome, PlainDesk, Stamped, do_one};
 use td_store::SqlDesk;
 
-/// How a command ends at both desks.
-#[derive(Drop)]
-struct Ended {
-    plain: String,
-    stored: String,
-    name: &'static str,
+/// The outcome at the plain desk is this one, in words.
+fn assert_alike(
+    rt: &(impl AllocGlobal + Abort),
+    plain: &mut PlainDesk,
+    stamped: &Stamped,
+    outcome: &Outcome,
+) {
+    let stored = words_of(rt.alloc(), outcome).expect(rt, "memory");
+    let plain = do_one(rt.alloc(), plain, stamped);
+    let plain = words_of(rt.alloc(), &plain).expect(rt, "memory");
+    assert_eq!(rt; stored.as_str(), plain.as_str());
 }
 
+/// A command ends alike at both desks, and is called so.
 fn end_at_both(
-    alloc: Global,
+    rt: &(impl AllocGlobal + Abort),
     plain: &mut PlainDesk,
     stored: &mut SqlDesk<MemStore>,
     stamped: &Stamped,
-) -> Result<Ended, Fail> {
-    let plain = words_of(alloc, &do_one(alloc, plain, stamped))?;
-    let outcome = do_one(alloc, stored, stamped);
-    let stored = words_of(alloc, &outcome)?;
-    let name = end_name(&stamped.command, &outcome);
-    Ok(Ended {
-        plain,
-        stored,
-        name,
-    })
+) -> &'static str {
+    let outcome = do_one(rt.alloc(), stored, stamped);
+    assert_alike(rt, plain, stamped, &outcome);
+    end_name(&stamped.command, &outcome)
+}
+
+/// The names of the ends that were met.
+fn meet(rt: &impl Abort, met: &mut String, name: &'static str) {
+    if !met.as_str().contains(name) {
+        met.push_str(" ").expect(rt, "memory");
+        met.push_str(name).expect(rt, "memory");
+    }
 }
 
 /// Every way in which a command can end, but for those that take a desk of its own: no serial left, no room for a code.
@@ -74,26 +82,37 @@ const ENDS: [&str; 36] = [
     "already-ended",
 ];
 
-#[test]
-fn both_desks_say_the_same(rt: HostRuntime) -> Result<(), Fail> {
-    let alloc = rt.alloc();
-    let country = Country::read(b"CH").ok_or("a country")?;
-    let mut plain = PlainDesk::new(alloc, country)?;
-    let mut stored = made(alloc)?;
+/// The next command, after so many.
+fn next(
+    rt: &(impl AllocGlobal + Abort),
+    dice: &mut Dice,
+    country: Country,
+    before: u32,
+) -> Stamped {
+    drawn(rt.alloc(), dice, country, before).expect(rt, "a command")
+}
+
+/// The names of the ends that 600 commands meet, alike at both desks.
+fn ends_met(
+    rt: &(impl AllocGlobal + Abort),
+    plain: &mut PlainDesk,
+    stored: &mut SqlDesk<MemStore>,
+) -> String {
     let mut dice = Dice::new(12);
-    let mut met = String::new(alloc);
+    let mut met = String::new(rt.alloc());
     for before in 0..600 {
-        let stamped = drawn(alloc, &mut dice, country, before).ok_or("a command")?;
-        let ended = end_at_both(alloc, &mut plain, &mut stored, &stamped)?;
-        assert_eq!(rt; ended.stored.as_str(), ended.plain.as_str(), "at {before}");
-        if !met.as_str().contains(ended.name) {
-            let name = ended.name;
-            met = format!(in alloc; "{met} {name}")?;
-        }
+        let stamped = next(rt, &mut dice, country(rt), before);
+        meet(rt, &mut met, end_at_both(rt, plain, stored, &stamped));
     }
+    met
+}
+
+#[test]
+fn both_desks_say_the_same(rt: HostRuntime) {
+    let mut plain = PlainDesk::new(rt.alloc(), country(&rt)).expect(&rt, "memory");
+    let met = ends_met(&rt, &mut plain, &mut made(&rt));
     assert!(rt; !met.as_str().contains("failed"));
-    for name in ENDS {
-        assert!(rt; met.as_str().contains(name), "{name}");
+    for name in &ENDS {
+        assert!(rt; met.as_str().contains(*name), "{name}");
     }
-    Ok(())
 }

@@ -1,13 +1,11 @@
 //! Junk beside the rows of several holders: a refused opening leaves every row as it was, and where the junk is taken
 //! away, the desk shows each holder what it showed before.
 use super::made;
-use super::opening::seen;
+use super::opening::{opened, refused, seen};
+use crate::examples::fill;
 use sqlite::{Connection, MemStore};
-use std::alloc::Global;
 use std::process::Abort;
-use std::test::Fail;
-use td_base::Country;
-use td_store::{OpenFault, Refused, SqlDesk};
+use td_store::OpenFault;
 use td_table_model::Rule;
 
 /// The rows of a desk of CH. Holder 1 has two guarantees and three movements: of the first one's 1000000 cents 500000
@@ -70,94 +68,77 @@ const TABLES: [&str; 6] = [
 ];
 
 /// A database with these rows.
-fn tables(alloc: Global) -> Result<Connection<MemStore>, Fail> {
-    let mut conn = made(alloc)?.close();
-    for statement in ROWS {
-        conn.execute(statement, &[])?;
-    }
-    Ok(conn)
+fn tables(rt: &(impl AllocGlobal + Abort)) -> Connection<MemStore> {
+    let mut conn = made(rt).close();
+    fill(rt, &mut conn, &ROWS);
+    conn
 }
 
-/// A desk of CH over the database, or its refusal.
-fn opened(
-    alloc: Global,
-    conn: Connection<MemStore>,
-) -> Result<Result<SqlDesk<MemStore>, Refused<MemStore>>, Fail> {
-    let country = Country::read(b"CH").ok_or("a country")?;
-    if !conn.is_autocommit() {
-        return Err("a transaction".into());
-    }
-    Ok(SqlDesk::open(alloc, conn, country))
+/// The same after this statement.
+fn tables_after(rt: &(impl AllocGlobal + Abort), statement: &str) -> Connection<MemStore> {
+    let mut conn = tables(rt);
+    fill(rt, &mut conn, &[statement]);
+    conn
+}
+
+fn push_rows(
+    rt: &(impl AllocGlobal + Abort),
+    words: &mut String,
+    conn: &mut Connection<MemStore>,
+    query: &str,
+) {
+    let rows = conn.query_all(query, &[]).expect(rt, "rows");
+    write!(words, "{rows:?}\n").expect(rt, "memory");
 }
 
 /// All rows of the six tables, as a text.
-fn rows_of(alloc: Global, conn: &mut Connection<MemStore>) -> Result<String, Fail> {
-    let mut words = String::new(alloc);
-    for query in TABLES {
-        let rows = conn.query_all(query, &[])?;
-        words = format!(in alloc; "{words}{rows:?}\n")?;
+fn rows_of(rt: &(impl AllocGlobal + Abort), conn: &mut Connection<MemStore>) -> String {
+    let mut words = String::new(rt.alloc());
+    for query in &TABLES {
+        push_rows(rt, &mut words, conn, query);
     }
-    Ok(words)
-}
-
-/// The desk's tables after this statement.
-fn tables_after(alloc: Global, statement: &str) -> Result<Connection<MemStore>, Fail> {
-    let mut conn = tables(alloc)?;
-    conn.execute(statement, &[])?;
-    Ok(conn)
-}
-
-fn refused(alloc: Global, conn: Connection<MemStore>) -> Result<Refused<MemStore>, Fail> {
-    Ok(opened(alloc, conn)?.err().ok_or("a refusal")?)
+    words
 }
 
 /// All that a desk over the database shows of its holders.
-fn shown(alloc: Global, conn: Connection<MemStore>) -> Result<String, Fail> {
-    let mut desk = opened(alloc, conn)?.ok().ok_or("a desk")?;
-    seen(alloc, &mut desk)
-}
-
-fn assert_fault(rt: &impl Abort, fault: OpenFault, rule: Rule) {
-    assert_eq!(rt; fault, OpenFault::Damaged(rule));
-}
-
-fn assert_same(rt: &impl Abort, told: &str, wanted: &str) {
-    assert_eq!(rt; told, wanted);
+fn shown(rt: &(impl AllocGlobal + Abort), conn: Connection<MemStore>) -> String {
+    seen(rt, &mut opened(rt, conn))
 }
 
 // The rule is told, and each row is there as it was.
-fn assert_kept(rt: &(impl AllocGlobal + Abort), junk: &Junk) -> Result<(), Fail> {
-    let mut conn = tables_after(rt.alloc(), junk.0)?;
-    let before = rows_of(rt.alloc(), &mut conn)?;
-    let mut refused = refused(rt.alloc(), conn)?;
-    assert_fault(rt, refused.fault, junk.1);
-    assert_same(rt, &rows_of(rt.alloc(), &mut refused.connection)?, &before);
-    Ok(())
+fn assert_kept(rt: &(impl AllocGlobal + Abort), statement: &str, rule: Rule) {
+    let mut conn = tables_after(rt, statement);
+    let before = rows_of(rt, &mut conn);
+    let mut refused = refused(rt, conn);
+    assert_eq!(rt; refused.fault, OpenFault::Damaged(rule));
+    let after = rows_of(rt, &mut refused.connection);
+    assert_eq!(rt; after.as_str(), before.as_str());
 }
 
 #[test]
-fn a_refused_opening_changes_no_row(rt: HostRuntime) -> Result<(), Fail> {
-    for junk in &JUNK {
-        assert_kept(&rt, junk)?;
+fn a_refused_opening_changes_no_row(rt: HostRuntime) {
+    for (statement, rule, _) in &JUNK {
+        assert_kept(&rt, statement, *rule);
     }
-    Ok(())
 }
 
-// After a refused opening, and without the junk, this is shown.
-fn assert_cured(rt: &(impl AllocGlobal + Abort), junk: &Junk, wanted: &str) -> Result<(), Fail> {
-    let refused = refused(rt.alloc(), tables_after(rt.alloc(), junk.0)?)?;
-    let mut conn = refused.connection;
-    conn.execute(junk.2, &[])?;
-    assert_same(rt, &shown(rt.alloc(), conn)?, wanted);
-    Ok(())
+// What is shown after a refused opening, and without the junk.
+fn cured(rt: &(impl AllocGlobal + Abort), statement: &str, cure: &str) -> String {
+    let mut conn = refused(rt, tables_after(rt, statement)).connection;
+    fill(rt, &mut conn, &[cure]);
+    shown(rt, conn)
+}
+
+// It is this.
+fn assert_cured(rt: &(impl AllocGlobal + Abort), statement: &str, cure: &str, wanted: &str) {
+    assert_eq!(rt; cured(rt, statement, cure).as_str(), wanted);
 }
 
 #[test]
-fn without_the_junk_the_desk_is_as_it_was(rt: HostRuntime) -> Result<(), Fail> {
-    let before = shown(rt.alloc(), tables(rt.alloc())?)?;
+fn without_the_junk_the_desk_is_as_it_was(rt: HostRuntime) {
+    let before = shown(&rt, tables(&rt));
     assert!(rt; before.as_str().contains("25CH0000010000014"));
-    for junk in &JUNK {
-        assert_cured(&rt, junk, &before)?;
+    for (statement, _, cure) in &JUNK {
+        assert_cured(&rt, statement, cure, &before);
     }
-    Ok(())
 }

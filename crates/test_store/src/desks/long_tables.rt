@@ -1,11 +1,11 @@
 //! Tables with many more rows than are read at once are walked along to their ends when a desk is opened.
 use super::made;
-use super::opening::refused_after;
+use super::opening::{opened, refused_after};
+use crate::examples::{code, country, cover, eori, holder};
 use sqlite::MemStore;
-use std::alloc::Global;
-use std::test::Fail;
-use td_base::{AccessCode, Country, Cover, Eori, HolderNo, Reference};
-use td_desk::{Command, Stamped, do_one};
+use std::process::Abort;
+use td_base::Reference;
+use td_desk::{Command, Stamped, Store, do_one};
 use td_store::{OpenFault, SqlDesk};
 use td_table_model::Rule;
 
@@ -14,39 +14,35 @@ const START: i64 = 1_740_819_600;
 /// So many guarantees, each with one code.
 const GUARANTEES: usize = 400;
 
-fn registration() -> Option<Command> {
-    Some(Command::Register {
-        holder: HolderNo::new(1)?,
-        eori: Eori::read(b"CH1234567")?,
-    })
+fn registration(rt: &impl Abort) -> Command {
+    Command::Register {
+        holder: holder(rt, 1),
+        eori: eori(rt, b"CH1234567"),
+    }
 }
 
-fn opening() -> Option<Command> {
-    Some(Command::OpenGuarantee {
-        holder: HolderNo::new(1)?,
-        reference: Reference::new(1_000_000)?,
-        cover: Cover::new(50)?,
-        code: AccessCode::read(b"AB12")?,
-    })
+fn opening(rt: &impl Abort) -> Command {
+    Command::OpenGuarantee {
+        holder: holder(rt, 1),
+        reference: Reference::new(1_000_000).expect(rt, "an amount"),
+        cover: cover(rt, 50),
+        code: code(rt, b"AB12"),
+    }
 }
 
-fn done(alloc: Global, desk: &mut SqlDesk<MemStore>, command: Option<Command>) -> Result<(), Fail> {
-    let stamped = Stamped {
-        at: START,
-        command: command.ok_or("a command")?,
-    };
-    let _outcome = do_one(alloc, desk, &stamped);
-    Ok(())
+fn do_at_start(rt: &impl AllocGlobal, desk: &mut SqlDesk<MemStore>, command: Command) {
+    let stamped = Stamped { at: START, command };
+    let _outcome = do_one(rt.alloc(), desk, &stamped);
 }
 
 /// A desk of one holder with so many guarantees.
-fn long(alloc: Global) -> Result<SqlDesk<MemStore>, Fail> {
-    let mut desk = made(alloc)?;
-    done(alloc, &mut desk, registration())?;
+fn long(rt: &(impl AllocGlobal + Abort)) -> SqlDesk<MemStore> {
+    let mut desk = made(rt);
+    do_at_start(rt, &mut desk, registration(rt));
     for _ in 0..GUARANTEES {
-        done(alloc, &mut desk, opening())?;
+        do_at_start(rt, &mut desk, opening(rt));
     }
-    Ok(desk)
+    desk
 }
 
 /// A change by hand of the last row of a table, and the rule that it breaks: the code, and the GRN, are no longer well
@@ -63,23 +59,15 @@ const CHANGES: [(&str, Rule); 2] = [
 ];
 
 #[test]
-fn a_change_in_the_last_row_is_found(rt: HostRuntime) -> Result<(), Fail> {
-    let alloc = rt.alloc();
-    for (statement, rule) in CHANGES {
-        let conn = long(alloc)?.close();
-        assert!(rt;
-            refused_after(alloc, conn, statement)? == OpenFault::Damaged(rule),
-            "{statement}"
-        );
+fn a_change_in_the_last_row_is_found(rt: HostRuntime) {
+    for (statement, rule) in &CHANGES {
+        let fault = refused_after(&rt, long(&rt).close(), statement);
+        assert!(rt; fault == OpenFault::Damaged(*rule), "{statement}");
     }
-    Ok(())
 }
 
 #[test]
-fn long_tables_are_opened_again(rt: HostRuntime) -> Result<(), Fail> {
-    let alloc = rt.alloc();
-    let country = Country::read(b"CH").ok_or("a country")?;
-    let opened = SqlDesk::open(alloc, long(alloc)?.close(), country);
-    assert!(rt; opened.is_ok());
-    Ok(())
+fn long_tables_are_opened_again(rt: HostRuntime) {
+    let desk = opened(&rt, long(&rt).close());
+    assert!(rt; desk.office() == country(&rt));
 }

@@ -1,80 +1,95 @@
 //! A desk is closed and opened again, and refused over what is none of its own.
 use super::commands::{Dice, drawn};
-use super::made;
-use super::words::words_of;
+use super::words::push_words;
+use super::{database, made};
+use crate::examples::{country, fill, holder};
 use sqlite::{Connection, MemStore};
-use std::alloc::Global;
-use std::test::Fail;
-use td_base::{Country, HolderNo};
+use std::process::Abort;
+use td_base::HolderNo;
 use td_desk::{Command, Stamped, Store, do_one};
-use td_store::{OpenFault, SqlDesk};
+use td_store::{OpenFault, Refused, SqlDesk};
 use td_table_model::Rule;
 
 /// A desk of a Swiss office, after some commands.
-fn filled(alloc: Global) -> Result<SqlDesk<MemStore>, Fail> {
-    let country = Country::read(b"CH").ok_or("a country")?;
-    let mut desk = made(alloc)?;
+fn filled(rt: &(impl AllocGlobal + Abort)) -> SqlDesk<MemStore> {
+    let mut desk = made(rt);
     let mut dice = Dice::new(12);
     for before in 0..120 {
-        let stamped = drawn(alloc, &mut dice, country, before).ok_or("a command")?;
-        let _outcome = do_one(alloc, &mut desk, &stamped);
+        let stamped = drawn(rt.alloc(), &mut dice, country(rt), before);
+        let _outcome = do_one(rt.alloc(), &mut desk, &stamped.expect(rt, "a command"));
     }
-    Ok(desk)
+    desk
+}
+
+/// Adds what the desk answers to a view.
+fn push_view(
+    rt: &(impl AllocGlobal + Abort),
+    words: &mut String,
+    desk: &mut SqlDesk<MemStore>,
+    command: Command,
+) {
+    let stamped = Stamped {
+        at: 1_790_000_000,
+        command,
+    };
+    let outcome = do_one(rt.alloc(), desk, &stamped);
+    push_words(words, &outcome).expect(rt, "memory");
+    words.push_str("\n").expect(rt, "memory");
+}
+
+fn push_holder(
+    rt: &(impl AllocGlobal + Abort),
+    words: &mut String,
+    desk: &mut SqlDesk<MemStore>,
+    holder: HolderNo,
+) {
+    push_view(rt, words, desk, Command::SeeHolder { holder });
+    push_view(rt, words, desk, Command::SeeGuarantees { holder });
+    push_view(rt, words, desk, Command::SeeMovements { holder });
 }
 
 /// All that the desk shows of its holders.
-pub fn seen(alloc: Global, desk: &mut SqlDesk<MemStore>) -> Result<String, Fail> {
-    let mut words = String::new(alloc);
+pub fn seen(rt: &(impl AllocGlobal + Abort), desk: &mut SqlDesk<MemStore>) -> String {
+    let mut words = String::new(rt.alloc());
     for number in 1..4 {
-        let holder = HolderNo::new(number).ok_or("a holder")?;
-        let asked = [
-            Command::SeeHolder { holder },
-            Command::SeeGuarantees { holder },
-            Command::SeeMovements { holder },
-        ];
-        for command in asked {
-            let stamped = Stamped {
-                at: 1_790_000_000,
-                command,
-            };
-            let own = words_of(alloc, &do_one(alloc, desk, &stamped))?;
-            words = format!(in alloc; "{words}{own}\n")?;
-        }
+        push_holder(rt, &mut words, desk, holder(rt, number));
     }
-    Ok(words)
+    words
+}
+
+/// A desk of a Swiss office over that database.
+pub fn opened(rt: &(impl AllocGlobal + Abort), conn: Connection<MemStore>) -> SqlDesk<MemStore> {
+    assert!(rt; conn.is_autocommit());
+    let opened = SqlDesk::open(rt.alloc(), conn, country(rt));
+    opened.ok().expect(rt, "a desk")
+}
+
+/// The refusal of one.
+pub fn refused(rt: &(impl AllocGlobal + Abort), conn: Connection<MemStore>) -> Refused<MemStore> {
+    assert!(rt; conn.is_autocommit());
+    let opened = SqlDesk::open(rt.alloc(), conn, country(rt));
+    opened.err().expect(rt, "a refusal")
 }
 
 /// Why no desk of a Swiss office is opened over that database, after that statement.
 pub fn refused_after(
-    alloc: Global,
+    rt: &(impl AllocGlobal + Abort),
     mut conn: Connection<MemStore>,
     statement: &str,
-) -> Result<OpenFault, Fail> {
-    let country = Country::read(b"CH").ok_or("a country")?;
-    conn.execute(statement, &[])?;
-    if !conn.is_autocommit() {
-        return Err("a transaction".into());
-    }
-    let refused = SqlDesk::open(alloc, conn, country)
-        .err()
-        .ok_or("a refusal")?;
-    Ok(refused.fault)
+) -> OpenFault {
+    fill(rt, &mut conn, &[statement]);
+    refused(rt, conn).fault
 }
 
 #[test]
-fn a_desk_is_opened_again(rt: HostRuntime) -> Result<(), Fail> {
-    let alloc = rt.alloc();
-    let country = Country::read(b"CH").ok_or("a country")?;
-    let mut desk = filled(alloc)?;
-    let before = seen(alloc, &mut desk)?;
+fn a_desk_is_opened_again(rt: HostRuntime) {
+    let mut desk = filled(&rt);
+    let before = seen(&rt, &mut desk);
     assert!(rt; before.as_str().contains("25CH0000010000014"));
-    let mut again = SqlDesk::open(alloc, desk.close(), country)
-        .ok()
-        .ok_or("a desk")?;
-    assert!(rt; again.office() == country);
-    let after = seen(alloc, &mut again)?;
+    let mut again = opened(&rt, desk.close());
+    assert!(rt; again.office() == country(&rt));
+    let after = seen(&rt, &mut again);
     assert_eq!(rt; after.as_str(), before.as_str());
-    Ok(())
 }
 
 /// What the desk is refused for after a change by hand.
@@ -108,29 +123,18 @@ const CHANGES: [(&str, OpenFault); 11] = [
 ];
 
 #[test]
-fn no_desk_is_opened_after_a_change_by_hand(rt: HostRuntime) -> Result<(), Fail> {
-    let alloc = rt.alloc();
-    for (statement, fault) in CHANGES {
-        let conn = filled(alloc)?.close();
-        assert!(rt;
-            refused_after(alloc, conn, statement)? == fault,
-            "{statement}"
-        );
+fn no_desk_is_opened_after_a_change_by_hand(rt: HostRuntime) {
+    for (statement, fault) in &CHANGES {
+        let found = refused_after(&rt, filled(&rt).close(), statement);
+        assert!(rt; found == *fault, "{statement}");
     }
-    Ok(())
 }
 
 #[test]
-fn no_desk_is_opened_over_no_table(rt: HostRuntime) -> Result<(), Fail> {
-    let country = Country::read(b"CH").ok_or("a country")?;
-    let conn = Connection::open_in_memory(rt.alloc())?;
-    let refused = SqlDesk::open(rt.alloc(), conn, country)
-        .err()
-        .ok_or("a refusal")?;
+fn no_desk_is_opened_over_no_table(rt: HostRuntime) {
+    let refused = refused(&rt, database(&rt));
     assert!(rt; refused.fault == OpenFault::UnknownVersion);
-    let desk = SqlDesk::create(refused.connection, country)
-        .ok()
-        .ok_or("a desk")?;
-    assert!(rt; desk.office() == country);
-    Ok(())
+    let desk = SqlDesk::create(refused.connection, country(&rt));
+    let desk = desk.ok().expect(&rt, "a desk");
+    assert!(rt; desk.office() == country(&rt));
 }

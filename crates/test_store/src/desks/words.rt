@@ -1,59 +1,68 @@
 //! What a desk says, as a text that tells two answers apart and hangs on nothing else.
 use std::alloc::{AllocError, Global};
+use td_base::Cents;
 use td_desk::{Answer, Command, Outcome, Said};
 use td_guarantee::Guarantee;
 use td_movement::Movement;
 
-fn guarantee_words(alloc: Global, guarantee: &Guarantee) -> Result<String, AllocError> {
-    let grn = guarantee.grn;
-    let reference = guarantee.reference;
-    let cover = guarantee.cover;
-    let ends = guarantee.ends;
+fn push_guarantee(words: &mut String, guarantee: &Guarantee) -> Result<(), AllocError> {
+    let (grn, reference) = (guarantee.grn, guarantee.reference);
+    let (cover, ends) = (guarantee.cover, guarantee.ends);
     let codes = guarantee.codes.as_slice();
-    format!(in alloc; "{grn} {reference} {cover:?} {ends:?} {codes:?}")
+    write!(words, "{grn} {reference} {cover:?} {ends:?} {codes:?}")
 }
 
-fn movement_words(alloc: Global, movement: &Movement) -> Result<String, AllocError> {
-    let mrn = movement.mrn;
-    let lrn = movement.lrn;
-    let departure = movement.departure;
-    let destination = movement.destination;
-    let accepted = movement.accepted;
-    let state = movement.state;
-    let limit = movement.limit;
-    let arrival = movement.arrival;
-    let actual = movement.actual;
+fn push_guarantees(
+    words: &mut String,
+    guarantees: &[(Guarantee, Cents)],
+) -> Result<(), AllocError> {
+    for (guarantee, used) in guarantees {
+        words.push_str("; ")?;
+        push_guarantee(words, guarantee)?;
+        write!(words, " {used}")?;
+    }
+    Ok(())
+}
+
+fn push_movement(words: &mut String, movement: &Movement) -> Result<(), AllocError> {
+    let (mrn, lrn, departure) = (movement.mrn, movement.lrn, movement.departure);
+    let (destination, accepted) = (movement.destination, movement.accepted);
+    write!(words, "{mrn} {lrn} {departure} {destination} {accepted}")?;
+    let (state, limit) = (movement.state, movement.limit);
+    let (arrival, actual) = (movement.arrival, movement.actual);
     let lines = movement.lines.as_slice();
-    let asked = format!(in alloc; "{mrn} {lrn} {departure} {destination} {accepted}")?;
-    format!(in alloc; "{asked} {state:?} {limit:?} {arrival:?} {actual:?} {lines:?}")
+    write!(
+        words,
+        " {state:?} {limit:?} {arrival:?} {actual:?} {lines:?}"
+    )
 }
 
-fn answer_words(alloc: Global, answer: &Answer) -> Result<String, AllocError> {
+fn push_answer(words: &mut String, answer: &Answer) -> Result<(), AllocError> {
     match answer {
-        Answer::Movement(movement) => movement_words(alloc, movement),
+        Answer::Movement(movement) => push_movement(words, movement),
         Answer::Guarantee(guarantee, used) => {
-            let words = guarantee_words(alloc, guarantee)?;
-            format!(in alloc; "{words} {used}")
+            push_guarantee(words, guarantee)?;
+            write!(words, " {used}")
         }
-        Answer::Guarantees(list) => {
-            let mut words = String::new(alloc);
-            for (guarantee, used) in list.as_slice() {
-                let own = guarantee_words(alloc, guarantee)?;
-                words = format!(in alloc; "{words}; {own} {used}")?;
-            }
-            Ok(words)
-        }
-        other => format!(in alloc; "{other:?}"),
+        Answer::Guarantees(list) => push_guarantees(words, list.as_slice()),
+        other => write!(words, "{other:?}"),
+    }
+}
+
+/// Adds what the outcome says.
+pub fn push_words(words: &mut String, outcome: &Outcome) -> Result<(), AllocError> {
+    match outcome {
+        Outcome::Said(Said::Answered(answer)) => push_answer(words, answer),
+        Outcome::Said(Said::Refused(why)) => write!(words, "{why:?}"),
+        Outcome::Failed(fault) => write!(words, "{fault}"),
     }
 }
 
 /// What the outcome says.
 pub fn words_of(alloc: Global, outcome: &Outcome) -> Result<String, AllocError> {
-    match outcome {
-        Outcome::Said(Said::Answered(answer)) => answer_words(alloc, answer),
-        Outcome::Said(Said::Refused(why)) => format!(in alloc; "{why:?}"),
-        Outcome::Failed(fault) => format!(in alloc; "{fault}"),
-    }
+    let mut words = String::new(alloc);
+    push_words(&mut words, outcome)?;
+    Ok(words)
 }
 
 // What a command is called here; no name stands in another.

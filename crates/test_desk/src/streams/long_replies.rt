@@ -6,7 +6,7 @@ use counted_io::Counted;
 use http::StatusCode;
 use http_wire::{Handler, Reply, Request, StreamEnd, head_reply, json_reply, serve_requests};
 use std::alloc::{AllocError, Global};
-use std::test::Fail;
+use std::process::Abort;
 
 /// Answers each request with its own body.
 #[derive(Drop)]
@@ -70,16 +70,18 @@ fn is_echoed(alloc: Global, input: &str, written: &str) -> bool {
     end == StreamEnd::Closed && writer.into_inner().as_slice() == written.as_bytes()
 }
 
-fn is_long_reply_whole(alloc: Global, length: usize) -> Result<bool, AllocError> {
-    let body = text_of(alloc, length)?;
-    let input = requests(alloc, &body)?;
-    Ok(is_echoed(alloc, &input, &replies(alloc, &body)?))
+fn is_long_reply_whole(rt: &(impl AllocGlobal + Abort), length: usize) -> bool {
+    let body = text_of(rt.alloc(), length).expect(rt, "memory");
+    let input = requests(rt.alloc(), &body).expect(rt, "memory");
+    let written = replies(rt.alloc(), &body).expect(rt, "memory");
+    is_echoed(rt.alloc(), &input, &written)
 }
 
+const LENGTHS: [usize; 4] = [1500, 1501, 16_384, 65_536];
+
 #[test]
-fn long_replies_are_whole(rt: HostRuntime) -> Result<(), Fail> {
-    for length in [1500, 1501, 16_384, 65_536] {
-        assert!(rt; is_long_reply_whole(rt.alloc(), length)?);
+fn long_replies_are_whole(rt: HostRuntime) {
+    for length in &LENGTHS {
+        assert!(rt; is_long_reply_whole(&rt, *length), "{length}");
     }
-    Ok(())
 }

@@ -1,11 +1,8 @@
 //! Results of a control, byte for byte, in each state: a desk answers with two of them.
 use super::says;
-use std::test::Fail;
-use td_base::Mrn;
+use crate::examples::{MRN, mrn};
 use td_commands::{Answer, Said};
 use td_movement::State;
-
-const MRN: &[u8] = b"25CH00000100000013";
 
 /// States, and what is told of the result of a control after which a movement is in them.
 const CONTROLLED: [(State, &str); 8] = [
@@ -44,11 +41,10 @@ const CONTROLLED: [(State, &str); 8] = [
 ];
 
 #[test]
-fn a_control_is_answered(rt: HostRuntime) -> Result<(), Fail> {
-    let mrn = Mrn::read(MRN)?;
-    for (state, reply) in CONTROLLED {
-        let answer = Answer::Ie018 { mrn, state };
-        says(&rt, rt.alloc(), Said::Answered(answer), reply)?;
+fn a_control_is_answered(rt: HostRuntime) {
+    let mrn = mrn(&rt, MRN);
+    for (state, reply) in &CONTROLLED {
+        let state = *state;
+        says(&rt, &Said::Answered(Answer::Ie018 { mrn, state }), reply);
     }
-    Ok(())
 }

@@ -8,66 +8,59 @@ use http::StatusCode;
 use http_wire::{Handler, Reply, Request, StreamEnd, json_reply, serve_requests};
 use std::alloc::{AllocError, Global};
 use std::io;
-use std::io::{ErrorKind, Write};
-use std::test::Fail;
+use std::io::{ErrorKind, Read, Write};
+use std::process::Abort;
 
 const REQUEST: &[u8] = b"GET / HTTP/1.1\r\n\r\n";
 
 /// A text, over and over.
-fn repeated(alloc: Global, text: &[u8], times: u32) -> Result<Vec<u8>, AllocError> {
-    let mut all = Vec::new(alloc);
+fn repeated(rt: &(impl AllocGlobal + Abort), text: &[u8], times: u32) -> Vec<u8> {
+    let mut all = Vec::new(rt.alloc());
     for _ in 0..times {
-        all.extend_from_slice(text)?;
+        all.extend_from_slice(text).expect(rt, "memory");
     }
-    Ok(all)
+    all
+}
+
+/// What is written for an input, by how many writes, and how the stream ends.
+fn serve<R: Read>(alloc: Global, reader: R) -> (Vec<u8>, u64, StreamEnd)
+where
+    R: Drop,
+{
+    let mut reader = Counted::new(reader);
+    let mut writer = Counted::new(Vec::new(alloc));
+    let end = serve_requests(alloc, &mut reader, &mut writer, &mut Still(0), &mut Same);
+    let writes = writer.calls();
+    (writer.into_inner(), writes, end)
 }
 
 /// Whether this many requests that come by one read get their replies by so many writes.
-fn are_written(alloc: Global, requests: u32, writes: u64) -> Result<bool, AllocError> {
-    let input = repeated(alloc, REQUEST, requests)?;
-    let mut writer = Counted::new(Vec::new(alloc));
-    let end = serve_requests(
-        alloc,
-        &mut Counted::new(&*input),
-        &mut writer,
-        &mut Still(0),
-        &mut Same,
-    );
-    let calls = writer.calls();
-    Ok(
-        writer.into_inner() == repeated(alloc, OK, requests)?
-            && calls == writes
-            && end == StreamEnd::Closed,
-    )
+fn are_written(rt: &(impl AllocGlobal + Abort), requests: u32, writes: u64) -> bool {
+    let input = repeated(rt, REQUEST, requests);
+    let (written, calls, end) = serve(rt.alloc(), input.as_slice());
+    written == repeated(rt, OK, requests) && calls == writes && end == StreamEnd::Closed
 }
 
+/// Numbers of requests.
+const BY_ONE_READ: [u32; 3] = [1, 20, 200];
+
 #[test]
-fn one_read_has_one_write(rt: HostRuntime) -> Result<(), Fail> {
-    for requests in [1, 20, 200] {
-        assert!(rt; are_written(rt.alloc(), requests, 1)?);
+fn one_read_has_one_write(rt: HostRuntime) {
+    for requests in &BY_ONE_READ {
+        assert!(rt; are_written(&rt, *requests, 1), "{requests}");
     }
-    Ok(())
 }
 
 /// Whether requests that come byte by byte get a write each.
-fn are_written_each(alloc: Global, requests: u32) -> Result<bool, AllocError> {
-    let left = repeated(alloc, REQUEST, requests)?;
-    let mut writer = Counted::new(Vec::new(alloc));
-    let _end = serve_requests(
-        alloc,
-        &mut Counted::new(Drip { left: &left }),
-        &mut writer,
-        &mut Still(0),
-        &mut Same,
-    );
-    let calls = writer.calls();
-    Ok(writer.into_inner() == repeated(alloc, OK, requests)? && calls == u64::from(requests))
+fn are_written_each(rt: &(impl AllocGlobal + Abort), requests: u32) -> bool {
+    let input = repeated(rt, REQUEST, requests);
+    let (written, calls, _) = serve(rt.alloc(), Drip { left: &input });
+    written == repeated(rt, OK, requests) && calls == u64::from(requests)
 }
 
 #[test]
-fn each_read_has_its_write(rt: HostRuntime) -> Result<(), Fail> {
-    assert!(rt; are_written_each(rt.alloc(), 20)?);
-    Ok(())
+fn each_read_has_its_write(rt: HostRuntime) {
+    assert!(rt; are_written_each(&rt, 20));
 }
 
 /// Answers each request with a reply of 1,000 bytes, and counts them.
@@ -129,47 +122,41 @@ impl Write for Takes {
     }
 }
 
-/// What became of requests that came by one read, over a writer that takes so many bytes.
-#[derive(Drop, PartialEq, Eq)]
-struct Served {
-    taken: usize,
-    writes: u64,
-    handled: u32,
-    end: StreamEnd,
-}
+/// What became of requests that came by one read, over a writer that takes so many bytes: bytes and writes taken,
+/// requests handled, the end.
+type Served = (usize, u64, u32, StreamEnd);
 
 /// The replies of 1,000 bytes to so many requests.
-fn long_replies(alloc: Global, requests: u32) -> Result<Vec<u8>, AllocError> {
-    let mut one = Vec::new(alloc);
-    one.extend_from_slice(LONG_HEAD)?;
-    one.extend_from_slice(&LONG_BODY)?;
-    repeated(alloc, &one, requests)
+fn long_replies(rt: &(impl AllocGlobal + Abort), requests: u32) -> Vec<u8> {
+    let mut one = LONG_HEAD.to_vec(rt.alloc()).expect(rt, "memory");
+    one.extend_from_slice(&LONG_BODY).expect(rt, "memory");
+    repeated(rt, &one, requests)
 }
 
-/// What becomes of them, where what was written begins the replies in their order.
-fn serve_long(alloc: Global, requests: u32, left: usize) -> Result<Option<Served>, AllocError> {
-    let input = repeated(alloc, REQUEST, requests)?;
+/// What becomes of them, and what was written.
+fn serve_long(alloc: Global, input: &[u8], left: usize) -> (Served, Vec<u8>) {
+    let mut reader = Counted::new(input);
     let mut handler = Long { handled: 0 };
     let mut writer = Counted::new(Takes {
         left,
         taken: Vec::new(alloc),
     });
-    let end = serve_requests(
-        alloc,
-        &mut Counted::new(&*input),
-        &mut writer,
-        &mut Still(0),
-        &mut handler,
-    );
+    let end = serve_requests(alloc, &mut reader, &mut writer, &mut Still(0), &mut handler);
     let writes = writer.calls();
     let taken = writer.into_inner().taken;
-    let begins = long_replies(alloc, requests)?.starts_with(&taken);
-    Ok(begins.then_some(Served {
-        taken: taken.len(),
-        writes,
-        handled: handler.handled,
-        end,
-    }))
+    ((taken.len(), writes, handler.handled, end), taken)
+}
+
+/// Whether so becomes of them, and what was written begins the replies in their order.
+fn is_served_long(
+    rt: &(impl AllocGlobal + Abort),
+    requests: u32,
+    left: usize,
+    due: Served,
+) -> bool {
+    let input = repeated(rt, REQUEST, requests);
+    let (served, written) = serve_long(rt.alloc(), &input, left);
+    served == due && long_replies(rt, requests).starts_with(&written)
 }
 
 /// Numbers of requests and of bytes that the writer takes; bytes and writes taken, requests handled, the end.
@@ -184,15 +171,12 @@ const LONG_ROWS: [(u32, usize, usize, u64, u32, StreamEnd); 6] = [
 ];
 
 #[test]
-fn replies_beyond_the_room_are_written(rt: HostRuntime) -> Result<(), Fail> {
-    for (requests, left, taken, writes, handled, end) in LONG_ROWS {
-        let want = Served {
-            taken,
-            writes,
-            handled,
-            end,
-        };
-        assert!(rt; serve_long(rt.alloc(), requests, left)? == Some(want));
+fn replies_beyond_the_room_are_written(rt: HostRuntime) {
+    for (requests, left, taken, writes, handled, end) in &LONG_ROWS {
+        let due = (*taken, *writes, *handled, *end);
+        assert!(rt;
+            is_served_long(&rt, *requests, *left, due),
+            "{requests} {left}"
+        );
     }
-    Ok(())
 }

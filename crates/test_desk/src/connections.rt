@@ -3,10 +3,8 @@
 mod memory;
 mod sockets;
 
-use std::alloc::Global;
+use crate::examples::country;
 use std::process::Abort;
-use std::test::Fail;
-use td_base::Country;
 use td_desk::PlainDesk;
 use td_http::{Clock, Service};
 
@@ -47,14 +45,15 @@ impl Clock for Still {
 }
 
 /// A service of a new desk.
-fn new_service(alloc: Global) -> Result<Service<PlainDesk>, Fail> {
-    let country = Country::read(b"CH").ok_or("a country")?;
-    Ok(Service::new(PlainDesk::new(alloc, country)?))
+fn new_service(rt: &(impl AllocGlobal + Abort)) -> Service<PlainDesk> {
+    Service::new(PlainDesk::new(rt.alloc(), country(rt)).expect(rt, "memory"))
+}
+
+fn text_of(bytes: &[u8]) -> &str {
+    str::from_utf8(bytes).unwrap_or("what is no text")
 }
 
 /// These bytes were told, as text.
-fn assert_told(rt: &impl Abort, told: &[u8], due: &[u8]) -> Result<(), Fail> {
-    let (told, due) = (str::from_utf8(told)?, str::from_utf8(due)?);
-    assert_eq!(rt; told, due);
-    Ok(())
+fn assert_told(rt: &impl Abort, told: &[u8], due: &[u8]) {
+    assert_eq!(rt; text_of(told), text_of(due));
 }

@@ -1,10 +1,9 @@
 //! Requests, and the command that each of them is read as; and faults of requests that no stream sends. (Others stand
 //! in the transcripts of test_program.)
 use super::asked::{is_asked, is_told, request};
+use crate::examples::{GRN, MRN, grn, holder, mrn};
 use http::Method;
-use std::alloc::Global;
 use std::process::Abort;
-use std::test::Fail;
 use td_base::{Grn, HolderNo, Mrn, RefFault};
 use td_http::{Request, Route, WebFault, read_command, route};
 use td_routes::{Routes, read_command_by};
@@ -77,47 +76,47 @@ const READ: [(&str, &str, &str, &str); 12] = [
 
 // Whether a request is read as this command, in words, also by a router that is kept.
 fn is_read_as(
-    alloc: Global,
+    rt: &(impl AllocGlobal + Abort),
     routes: &mut Routes,
     row: &(&str, &str, &str, &str),
-) -> Result<bool, Fail> {
+) -> bool {
     let (method, target, body, want) = row;
-    let request = request(alloc, method, target.as_bytes(), body.as_bytes())?;
-    Ok(is_asked_by(alloc, routes, &request, want)? && is_asked(alloc, &request, want)?)
+    let request = request(rt, method, target.as_bytes(), body.as_bytes());
+    is_asked_by(rt, routes, &request, want) && is_asked(rt, &request, want)
 }
 
 // Whether a request is read as this command, in words, by a router that is kept.
 fn is_asked_by(
-    alloc: Global,
+    rt: &(impl AllocGlobal + Abort),
     routes: &mut Routes,
     request: &Request,
     want: &str,
-) -> Result<bool, Fail> {
-    let command = read_command_by(alloc, routes, request)?;
-    is_told(alloc, &command, want)
+) -> bool {
+    match read_command_by(rt.alloc(), routes, request) {
+        Ok(command) => is_told(rt, &command, want),
+        Err(_) => false,
+    }
 }
 
 #[test]
-fn reads_commands(rt: HostRuntime) -> Result<(), Fail> {
+fn reads_commands(rt: HostRuntime) {
     let mut routes = Routes::new();
     for row in &READ {
-        assert!(rt; is_read_as(rt.alloc(), &mut routes, row)?);
+        assert!(rt; is_read_as(&rt, &mut routes, row), "{}", row.3);
     }
-    Ok(())
 }
 
 // Whether a method and a path have this route.
-fn has_route(alloc: Global, method: &str, path: &str, want: Route) -> Result<bool, Fail> {
-    let method = Method::from_bytes(alloc, method.as_bytes())?;
-    Ok(route(alloc, &method, path.as_bytes()) == Ok(want))
+fn has_route(rt: &(impl AllocGlobal + Abort), method: &str, path: &str, want: Route) -> bool {
+    let method = Method::from_bytes(rt.alloc(), method.as_bytes()).expect(rt, "a method");
+    route(rt.alloc(), &method, path.as_bytes()) == Ok(want)
 }
 
-#[test]
-fn finds_routes(rt: HostRuntime) -> Result<(), Fail> {
-    let holder = HolderNo::new(1).ok_or("a number")?;
-    let mrn = Mrn::read(b"25CH00000100000013")?;
-    let grn = Grn::read(b"25CH0000010000014")?;
-    for (method, path, want) in &[
+/// A method and a path, and their route.
+type Routed = (&'static str, &'static str, Route);
+
+fn routed(holder: HolderNo, mrn: Mrn, grn: Grn) -> [Routed; 6] {
+    [
         ("PUT", "/office/holders/000001", Route::Register { holder }),
         (
             "POST",
@@ -136,10 +135,15 @@ fn finds_routes(rt: HostRuntime) -> Result<(), Fail> {
             "/holders/000001/guarantees/25CH0000010000014",
             Route::SeeGuarantee { holder, grn },
         ),
-    ] {
-        assert!(rt; has_route(rt.alloc(), method, path, *want)?);
+    ]
+}
+
+#[test]
+fn finds_routes(rt: HostRuntime) {
+    let routed = routed(holder(&rt, 1), mrn(&rt, MRN), grn(&rt, GRN));
+    for (method, path, want) in &routed {
+        assert!(rt; has_route(&rt, method, path, *want), "{path}");
     }
-    Ok(())
 }
 
 /// Targets that the framing of a stream lets nobody send, and their faults.
@@ -153,16 +157,15 @@ const NOT_SENT: [(&[u8], WebFault); 4] = [
     ),
 ];
 
-// Why a view can't be read.
-fn fault_of(alloc: Global, target: &[u8]) -> Result<Option<WebFault>, Fail> {
-    let request = request(alloc, "GET", target, b"")?;
-    Ok(read_command(alloc, &request).err())
+// Whether this is why a view can't be read.
+fn is_fault(rt: &(impl AllocGlobal + Abort), target: &[u8], fault: WebFault) -> bool {
+    let request = request(rt, "GET", target, b"");
+    read_command(rt.alloc(), &request).err() == Some(fault)
 }
 
 #[test]
-fn tells_what_no_stream_sends(rt: HostRuntime) -> Result<(), Fail> {
-    for (target, fault) in NOT_SENT {
-        assert!(rt; fault_of(rt.alloc(), target)? == Some(fault));
+fn tells_what_no_stream_sends(rt: HostRuntime) {
+    for (target, fault) in &NOT_SENT {
+        assert!(rt; is_fault(&rt, target, *fault));
     }
-    Ok(())
 }

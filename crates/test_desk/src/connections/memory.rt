@@ -4,7 +4,6 @@ use std::alloc::Global;
 use std::io;
 use std::io::ErrorKind;
 use std::process::Abort;
-use std::test::Fail;
 use td_desk::PlainDesk;
 use td_http::{Connections, agreeing_connections_tell_the_same, serve_connections};
 
@@ -42,46 +41,64 @@ impl<'a> Connections for Table<'a> {
     }
 }
 
-/// What so many connections left, asked for of those three at a new desk.
-fn serve_of_three(alloc: Global, count: u32) -> Result<(io::Result<()>, Vec<Vec<u8>>), Fail> {
+/// What so many connections left, asked for of those three at a new desk: how it ended, and what they were told.
+fn serve_of_three(
+    rt: &(impl AllocGlobal + Abort),
+    count: u32,
+) -> (Option<ErrorKind>, Vec<Vec<u8>>) {
     let mut table = Table {
-        alloc,
+        alloc: rt.alloc(),
         left: &THREE,
-        told: Vec::new(alloc),
+        told: Vec::new(rt.alloc()),
     };
-    let mut service = new_service(alloc)?;
-    let answer = serve_connections(alloc, &mut table, count, &mut Still, &mut service);
-    Ok((answer, table.told))
+    let fault = serve_table(rt, &mut table, count);
+    (fault, table.told)
+}
+
+/// Serves so many connections of the table, and gives the kind of the fault that ends it.
+fn serve_table(
+    rt: &(impl AllocGlobal + Abort),
+    table: &mut Table<'_>,
+    count: u32,
+) -> Option<ErrorKind> {
+    let mut service = new_service(rt);
+    let served = serve_connections(rt.alloc(), table, count, &mut Still, &mut service);
+    served.err().map(|error| error.kind())
 }
 
 /// The first connections were told what is due to them, and no other was served.
-fn assert_served(rt: &impl Abort, told: &[Vec<u8>], count: usize) -> Result<(), Fail> {
+fn assert_served(rt: &impl Abort, told: &[Vec<u8>], count: usize) {
     assert!(rt; told.len() == count);
     for (told, (_, due)) in told.iter().zip(&THREE) {
-        assert_told(rt, told, due)?;
+        assert_told(rt, told, due);
     }
-    Ok(())
+}
+
+/// Where so many connections are asked for, it ends so, and so many are served.
+fn assert_ends(
+    rt: &(impl AllocGlobal + Abort),
+    asked: u32,
+    fault: Option<ErrorKind>,
+    served: usize,
+) {
+    let (ended, told) = serve_of_three(rt, asked);
+    assert!(rt; ended == fault);
+    assert_served(rt, &told, served);
 }
 
 #[test]
-fn a_connection_that_is_cut_stops_no_other(rt: HostRuntime) -> Result<(), Fail> {
-    let (answer, told) = serve_of_three(rt.alloc(), 3)?;
-    answer?;
-    assert_served(&rt, &told, 3)
+fn a_connection_that_is_cut_stops_no_other(rt: HostRuntime) {
+    assert_ends(&rt, 3, None, 3);
 }
 
 #[test]
-fn no_more_connections_are_served_than_were_asked_for(rt: HostRuntime) -> Result<(), Fail> {
-    let (answer, told) = serve_of_three(rt.alloc(), 2)?;
-    answer?;
-    assert_served(&rt, &told, 2)
+fn no_more_connections_are_served_than_were_asked_for(rt: HostRuntime) {
+    assert_ends(&rt, 2, None, 2);
 }
 
 #[test]
-fn a_failed_accept_is_told_after_the_connections_before_it(rt: HostRuntime) -> Result<(), Fail> {
-    let (answer, told) = serve_of_three(rt.alloc(), 5)?;
-    assert!(rt; answer.is_err_and(|error| error.kind() == ErrorKind::ConnectionAborted));
-    assert_served(&rt, &told, 3)
+fn a_failed_accept_is_told_after_the_connections_before_it(rt: HostRuntime) {
+    assert_ends(&rt, 5, Some(ErrorKind::ConnectionAborted), 3);
 }
 
 // There is nothing to run: the law holds at these types.

@@ -1,6 +1,5 @@
 //! Declarations: bodies, and the command that each of them is read as.
 use super::asked::all_posted_as;
-use std::test::Fail;
 
 const TARGET: &[u8] = b"/holders/000001/movements";
 
@@ -29,6 +28,6 @@ const READ: [(&str, &str); 5] = [
 ];
 
 #[test]
-fn declarations_are_read(rt: HostRuntime) -> Result<(), Fail> {
-    all_posted_as(&rt, TARGET, &READ)
+fn declarations_are_read(rt: HostRuntime) {
+    all_posted_as(&rt, TARGET, &READ);
 }

@@ -10,7 +10,7 @@ use http_wire::{
 use std::alloc::{AllocError, Global};
 use std::io;
 use std::io::{ErrorKind, Read};
-use std::test::Fail;
+use std::process::Abort;
 
 /// A clock that stands still.
 #[derive(Drop)]
@@ -160,11 +160,10 @@ fn is_served(alloc: Global, input: &[u8], written: &[u8], end: StreamEnd) -> boo
 }
 
 #[test]
-fn streams_are_served(rt: HostRuntime) -> Result<(), Fail> {
+fn streams_are_served(rt: HostRuntime) {
     for (input, written, end) in &ROWS {
         assert!(rt; is_served(rt.alloc(), input, written, *end));
     }
-    Ok(())
 }
 
 /// The same for an input that comes byte by byte and then fails, and the number of reads.
@@ -176,11 +175,10 @@ fn serve_drip(alloc: Global, left: &[u8]) -> (Vec<u8>, StreamEnd, u64) {
 }
 
 #[test]
-fn bytes_come_one_by_one(rt: HostRuntime) -> Result<(), Fail> {
+fn bytes_come_one_by_one(rt: HostRuntime) {
     let input = b"PUT /a HTTP/1.1\r\nContent-Length: 2\r\n\r\nhiGET / HT";
     let (written, end, reads) = serve_drip(rt.alloc(), input);
     assert!(rt; written.as_slice() == OK && end == StreamEnd::ReadFault && reads == 49);
-    Ok(())
 }
 
 const NO_METHOD: &[u8] =
@@ -198,39 +196,43 @@ const HEAD_TOO_LARGE: &[u8] =
     b"HTTP/1.1 431 Request Header Fields Too Large\r\nContent-Type: application/json\r\nContent-Length: 26\r\nConnection: close\r\n\r\n{\"error\":\"head-too-large\"}";
 
 /// The reply that tells the methods of a path and closes the stream.
-fn no_method(alloc: Global) -> Result<Vec<u8>, AllocError> {
-    let body = error_body(alloc, "no-method")?;
-    json_reply(
-        alloc,
+fn no_method(rt: &(impl AllocGlobal + Abort)) -> Vec<u8> {
+    let body = error_body(rt.alloc(), "no-method").expect(rt, "memory");
+    let reply = json_reply(
+        rt.alloc(),
         StatusCode::METHOD_NOT_ALLOWED,
         Some("GET, PUT"),
         true,
         &body,
-    )
+    );
+    reply.expect(rt, "memory")
 }
 
 #[test]
-fn replies_are_made(rt: HostRuntime) -> Result<(), Fail> {
-    assert!(rt; no_method(rt.alloc())?.as_slice() == NO_METHOD);
-    assert!(rt; head_reply(rt.alloc(), None)?.as_slice() == HEAD_ALONE);
-    Ok(())
+fn replies_are_made(rt: HostRuntime) {
+    assert!(rt; no_method(&rt).as_slice() == NO_METHOD);
+    let head = head_reply(rt.alloc(), None).expect(&rt, "memory");
+    assert!(rt; head.as_slice() == HEAD_ALONE);
 }
 
 #[test]
 fn fixed_replies_are_told(rt: HostRuntime) {
-    for (bytes, want) in [
-        (Reply::NoMemory.as_bytes(), NO_MEMORY),
-        (Reply::Store.as_bytes(), STORE),
-        (FramingError::HeadTooLarge.reply(), HEAD_TOO_LARGE),
-    ] {
-        assert!(rt; bytes == want);
+    assert!(rt; Reply::NoMemory.as_bytes() == NO_MEMORY);
+    assert!(rt; Reply::Store.as_bytes() == STORE);
+    assert!(rt; FramingError::HeadTooLarge.reply() == HEAD_TOO_LARGE);
+}
+
+/// Whether the first of these requests is not whole, and has so many bytes.
+fn asks_for_more(alloc: Global, input: &[u8], bytes: usize) -> bool {
+    match next_request(alloc, input) {
+        Ok(Next::More(wanted)) => wanted == bytes,
+        _ => false,
     }
 }
 
 #[test]
-fn half_a_request_asks_for_more(rt: HostRuntime) -> Result<(), Fail> {
-    let next = next_request(rt.alloc(), b"PUT / HTTP/1.1\r\nContent-Length: 9\r\n\r\n1")?;
-    assert!(rt; matches!(next, Next::More(46)));
+fn half_a_request_asks_for_more(rt: HostRuntime) {
+    let input = b"PUT / HTTP/1.1\r\nContent-Length: 9\r\n\r\n1";
+    assert!(rt; asks_for_more(rt.alloc(), input, 46));
     one_reading();
-    Ok(())
 }

@@ -1,0 +1,126 @@
+//! Connections over sockets of this machine. Each peer has written all before the first is served.
+use super::{Connection, REGISTERS, Still, THREE, assert_told, new_service};
+use std::io;
+use std::io::{Read, Write};
+use std::net::{Ipv4Addr, Net, Shutdown, SocketAddr, TcpListener, TcpStream};
+use std::process::Abort;
+use td_http::serve_on;
+
+/// A peer that has written this.
+fn writer_of<N: Net<Stream = TcpStream>>(
+    rt: &N,
+    at: SocketAddr,
+    sent: &[u8],
+) -> io::Result<TcpStream> {
+    let mut peer = TcpStream::connect(rt, at)?;
+    peer.write_all(sent)?;
+    Ok(peer)
+}
+
+/// A peer that has written this and writes no more.
+fn peer_of<N: Net<Stream = TcpStream> + Abort>(rt: &N, at: SocketAddr, sent: &[u8]) -> TcpStream {
+    let peer = writer_of(rt, at, sent).expect(rt, "a peer");
+    let ended = peer.shutdown(Shutdown::Write);
+    assert!(rt; ended.is_ok());
+    peer
+}
+
+fn peers_of<N: Net<Stream = TcpStream> + AllocGlobal + Abort>(
+    rt: &N,
+    at: SocketAddr,
+    connections: &[Connection],
+) -> Vec<TcpStream> {
+    let mut peers = Vec::new(rt.alloc());
+    for (sent, _) in connections {
+        peers.push(peer_of(rt, at, sent)).expect(rt, "memory");
+    }
+    peers
+}
+
+/// The peer was told this, and then that nothing more comes.
+fn assert_peer_told(rt: &(impl AllocGlobal + Abort), peer: &mut TcpStream, due: &[u8]) {
+    let mut told = Vec::new(rt.alloc());
+    let read = peer.read_to_end(&mut told);
+    assert!(rt; read.is_ok());
+    assert_told(rt, &told, due);
+}
+
+/// A listener at a port that the machine chooses.
+fn listener_of<N: Net<Listener = TcpListener, Stream = TcpStream> + Abort>(rt: &N) -> TcpListener {
+    let at = SocketAddr::from((Ipv4Addr::LOCALHOST, 0));
+    TcpListener::bind(rt, at).expect(rt, "a port")
+}
+
+fn address(rt: &impl Abort, listener: &TcpListener) -> SocketAddr {
+    listener.local_addr().expect(rt, "an address")
+}
+
+/// So many connections to the listener are served at a new desk.
+fn serve_all(rt: &(impl AllocGlobal + Abort), listener: &TcpListener, count: u32) {
+    let mut service = new_service(rt);
+    let served = serve_on(rt.alloc(), listener, count, &mut Still, &mut service);
+    assert!(rt; served.is_ok());
+}
+
+/// The peers were told what is due to them.
+fn assert_all_told(
+    rt: &(impl AllocGlobal + Abort),
+    peers: &mut [TcpStream],
+    connections: &[Connection],
+) {
+    for (peer, (_, due)) in peers.iter_mut().zip(connections) {
+        assert_peer_told(rt, peer, due);
+    }
+}
+
+/// Each of the connections to a listener is told what is due to it.
+fn assert_served<N>(rt: &N, connections: &[Connection], count: u32)
+where
+    N: Net<Listener = TcpListener, Stream = TcpStream> + AllocGlobal + Abort,
+{
+    let listener = listener_of(rt);
+    let mut peers = peers_of(rt, address(rt, &listener), connections);
+    serve_all(rt, &listener, count);
+    assert_all_told(rt, &mut peers, connections);
+}
+
+#[test]
+fn a_connection_is_served(rt: HostRuntime) {
+    assert_served(&rt, &[REGISTERS], 1);
+}
+
+#[test]
+fn a_connection_that_is_cut_stops_no_other(rt: HostRuntime) {
+    assert_served(&rt, &THREE, 3);
+}
+
+/// More than is read before the request that asks to close is answered.
+fn long_input(rt: &(impl AllocGlobal + Abort)) -> Vec<u8> {
+    let mut input = REGISTERS.0.to_vec(rt.alloc()).expect(rt, "memory");
+    for _ in 0..32_768 {
+        input.push(b'x').expect(rt, "memory");
+    }
+    input
+}
+
+/// A peer that has written all that, and may write more.
+fn long_peer<N: Net<Stream = TcpStream> + AllocGlobal + Abort>(
+    rt: &N,
+    at: SocketAddr,
+) -> TcpStream {
+    writer_of(rt, at, &long_input(rt)).expect(rt, "a peer")
+}
+
+/// The connection of the peer is whole.
+fn is_whole(peer: &TcpStream) -> bool {
+    matches!(peer.take_error(), Ok(None))
+}
+
+#[test]
+fn a_peer_that_wrote_more_is_not_reset(rt: HostRuntime) {
+    let listener = listener_of(&rt);
+    let mut peer = long_peer(&rt, address(&rt, &listener));
+    serve_all(&rt, &listener, 1);
+    assert_peer_told(&rt, &mut peer, REGISTERS.1);
+    assert!(rt; is_whole(&peer));
+}
