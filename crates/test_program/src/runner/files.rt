@@ -1,6 +1,7 @@
 //! The file of a case, and what another program does to it.
 use super::told::Place;
-use sqlite::{Connection, Constraint, Error, ErrorCode, FileFrom, FileStore, Row, Unknown};
+use crate::helpers::is_closed;
+use sqlite::{Alter, Connection, Constraint, Error, ErrorCode, FileFrom, FileStore, Row, Start};
 use std::fs;
 use std::test::Fail;
 
@@ -40,9 +41,6 @@ fn name_of(constraint: Constraint) -> &'static str {
     }
 }
 
-/// A connection to a file, whatever was in it.
-type File = Connection<FileStore<FileFrom<Unknown>>>;
-
 /// What became of a statement.
 #[derive(Clone, Copy)]
 enum Outcome {
@@ -63,10 +61,13 @@ fn outcome_of(rows: Result<usize, Error>) -> Outcome {
     }
 }
 
-// The connection is closed after the statement.
-fn executed(mut conn: File, statement: &str) -> Outcome {
+/// A connection to a file. What it held as it was opened is left open in what is done with it: the proof of what is done
+/// with a certain one is dear.
+type File<S> = Connection<FileStore<FileFrom<S>>>;
+
+fn executed<S: Start>(mut conn: File<S>, statement: &str) -> Outcome {
     let outcome = outcome_of(conn.execute(statement, &[]));
-    if conn.close().is_ok() {
+    if is_closed(conn) {
         outcome
     } else {
         Outcome::Failed
@@ -116,11 +117,16 @@ fn number_of(row: Row) -> Option<i64> {
     row.get(0).ok()
 }
 
-fn queried(mut conn: File, query: &str) -> Option<i64> {
+fn number_in<S: Alter>(conn: &mut Connection<S>, query: &str) -> Option<i64> {
     match conn.query_row(query, &[]) {
         Ok(row) => number_of(row),
         Err(_) => None,
     }
+}
+
+fn queried<S: Start>(mut conn: File<S>, query: &str) -> Option<i64> {
+    let number = number_in(&mut conn, query);
+    if is_closed(conn) { number } else { None }
 }
 
 fn found(rt: &HostRuntime, query: &str) -> Option<i64> {
