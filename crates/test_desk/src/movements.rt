@@ -178,10 +178,14 @@ fn words_of(alloc: Global, due: Option<Overdue>) -> Result<String, AllocError> {
 }
 
 // What is due of a movement in that state on the day of a report, where its limit and its arrival are on 2025-03-08.
+fn words_due(alloc: Global, state: State, report: Day) -> Result<String, AllocError> {
+    let limit = Day::read(b"2025-03-08");
+    let arrival = Day::read(b"2025-03-08");
+    words_of(alloc, is_overdue(state, limit, arrival, report))
+}
+
 fn assert_due(rt: &(impl AllocGlobal + Abort), state: State, report: &[u8], want: &str) {
-    let both = Day::read(b"2025-03-08");
-    let due = is_overdue(state, both, both, day(rt, report));
-    let words = words_of(rt.alloc(), due).expect(rt, "memory");
+    let words = words_due(rt.alloc(), state, day(rt, report)).expect(rt, "memory");
     assert!(rt; words.as_str() == want, "{state:?}");
 }
 

@@ -21,8 +21,9 @@ fn database(rt: &(impl AllocGlobal + Abort)) -> Connection<MemStore> {
 
 /// The desk of a Swiss office, without holders.
 fn made(rt: &(impl AllocGlobal + Abort)) -> SqlDesk<MemStore> {
-    let made = SqlDesk::create(database(rt), country(rt));
-    made.ok().expect(rt, "a desk")
+    let conn = database(rt);
+    assert!(rt; conn.is_autocommit());
+    SqlDesk::create(conn, country(rt)).ok().expect(rt, "a desk")
 }
 
 #[test]

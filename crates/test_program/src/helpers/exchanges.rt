@@ -1,5 +1,5 @@
 //! Requests and the replies that are due to them, byte for byte.
-use super::comparing::{assert_equal, assert_text};
+use super::comparing::assert_text;
 use super::devices::Moments;
 use super::jobs::{Done, perform_over};
 use std::alloc::{AllocError, Global};
@@ -74,9 +74,10 @@ where
 {
     let mut reader = Counted::new(input);
     let mut writer = Counted::new(Vec::new(alloc));
-    let end = serve_stream(alloc, &mut reader, &mut writer, &mut clock, service);
-    assert_equal(&end, &StreamEnd::Closed)?;
-    Ok(writer.into_inner())
+    match serve_stream(alloc, &mut reader, &mut writer, &mut clock, service) {
+        StreamEnd::Closed => Ok(writer.into_inner()),
+        end => Err(Fail::new(format_args!("the stream ends as {end:?}"))),
+    }
 }
 
 /// What is written for this stream at an empty desk of CH, where the requests come at these moments.

@@ -1,6 +1,6 @@
 //! The program's jobs over any reader and over writers in memory: what they leave, and what they have to leave.
 use super::comparing::{assert_equal, assert_text};
-use sqlite::Unknown;
+use sqlite::{Connection, FileFrom, FileStore, Start, Unknown};
 use std::alloc::{AllocError, Global};
 use std::io::Read;
 use std::test::Fail;
@@ -73,6 +73,12 @@ where
         out: out.into_inner(),
         errors: errors.into_inner(),
     }
+}
+
+/// Closes another program's connection, and whether that went well. (It stands for any file: the proof of each function
+/// that closes or drops a connection to a certain one is dear.)
+pub fn is_closed<S: Start>(conn: Connection<FileStore<FileFrom<S>>>) -> bool {
+    conn.close().is_ok()
 }
 
 /// The job ended with this status, and said this message.

@@ -1,22 +1,34 @@
-//! The lines of a transcript as bytes of requests and replies.
+//! The lines of a transcript as bytes of requests and replies. They are added to what is there, so that no function has
+//! bytes of its own where it fails.
 use super::told::Place;
 use std::alloc::{AllocError, Global};
 use std::test::Fail;
 
-// The fields that a body needs, where there is one.
-fn length_of(alloc: Global, body: &str) -> Result<String, AllocError> {
+fn push_texts(bytes: &mut Vec<u8>, texts: &[&str]) -> Result<(), AllocError> {
+    for text in texts {
+        bytes.extend_from_slice(text.as_bytes())?;
+    }
+    Ok(())
+}
+
+// The field of a body's length, where there is one.
+fn push_length(alloc: Global, bytes: &mut Vec<u8>, body: &str) -> Result<(), AllocError> {
     match body.len() {
-        0 => Ok(String::new(alloc)),
-        size => format!(in alloc; "Content-Length: {size}\r\n"),
+        0 => Ok(()),
+        size => {
+            let field = format!(in alloc; "Content-Length: {size}\r\n")?;
+            bytes.extend_from_slice(field.as_bytes())
+        }
     }
 }
 
 // `METHOD TARGET BODY`, where the body may be left out.
-fn request(alloc: Global, text: &str) -> Result<String, AllocError> {
+fn push_request(alloc: Global, bytes: &mut Vec<u8>, text: &str) -> Result<(), AllocError> {
     let (method, rest) = text.split_once(' ').unwrap_or((text, ""));
     let (target, body) = rest.split_once(' ').unwrap_or((rest, ""));
-    let length = length_of(alloc, body)?;
-    format!(in alloc; "{method} {target} HTTP/1.1\r\n{length}\r\n{body}")
+    push_texts(bytes, &[method, " ", target, " HTTP/1.1\r\n"])?;
+    push_length(alloc, bytes, body)?;
+    push_texts(bytes, &["\r\n", body])
 }
 
 fn phrase(status: &str) -> Option<&'static str> {
@@ -36,44 +48,39 @@ fn phrase(status: &str) -> Option<&'static str> {
     }
 }
 
-// The type and the length of a body, where there is one.
-fn body_fields(alloc: Global, body: &str) -> Result<String, AllocError> {
-    match body.len() {
-        0 => Ok(String::new(alloc)),
-        size => {
-            format!(in alloc; "Content-Type: application/json\r\nContent-Length: {size}\r\n")
-        }
+// The type of a body, where there is one.
+fn type_of(body: &str) -> &'static str {
+    match body {
+        "" => "",
+        _ => "Content-Type: application/json\r\n",
     }
 }
 
 // `NAME: VALUE` once or more, with `; ` in between.
-fn fields_of(alloc: Global, text: &str) -> Result<String, AllocError> {
-    let mut fields = String::new(alloc);
+fn push_fields(bytes: &mut Vec<u8>, text: &str) -> Result<(), AllocError> {
     for field in text.trim().split("; ").filter(|it| !it.is_empty()) {
-        fields.push_str(field)?;
-        fields.push_str("\r\n")?;
+        push_texts(bytes, &[field, "\r\n"])?;
     }
-    Ok(fields)
-}
-
-fn written(
-    alloc: Global,
-    status: &str,
-    phrase: &str,
-    fields: &str,
-    body: &str,
-) -> Result<String, AllocError> {
-    let of_body = body_fields(alloc, body)?;
-    let fields = fields_of(alloc, fields)?;
-    format!(in alloc; "HTTP/1.1 {status} {phrase}\r\n{of_body}{fields}\r\n{body}")
+    Ok(())
 }
 
 // `STATUS FIELDS BODY`, where the fields and the body may be left out.
-fn reply(alloc: Global, place: Place<'_>, text: &str) -> Result<Vec<u8>, Fail> {
+fn push_reply(
+    alloc: Global,
+    bytes: &mut Vec<u8>,
+    place: Place<'_>,
+    text: &str,
+) -> Result<(), Fail> {
     let (status, rest) = text.split_once(' ').unwrap_or((text, ""));
-    let phrase = phrase(status).ok_or_else(|| place.wrong("what is this status?"))?;
+    let Some(phrase) = phrase(status) else {
+        return Err(place.wrong("what is this status?"));
+    };
     let (fields, body) = rest.split_at(rest.find('{').unwrap_or(rest.len()));
-    Ok(written(alloc, status, phrase, fields, body)?.into_bytes())
+    push_texts(bytes, &["HTTP/1.1 ", status, " "])?;
+    push_texts(bytes, &[phrase, "\r\n", type_of(body)])?;
+    push_length(alloc, bytes, body)?;
+    push_fields(bytes, fields)?;
+    Ok(push_texts(bytes, &["\r\n", body])?)
 }
 
 // What stands behind a backslash, and the text after it.
@@ -91,62 +98,97 @@ fn escape(piece: &str) -> Option<(u8, &str)> {
 }
 
 // A text with escapes.
-fn raw(alloc: Global, place: Place<'_>, text: &str) -> Result<Vec<u8>, Fail> {
+fn push_raw(bytes: &mut Vec<u8>, place: Place<'_>, text: &str) -> Result<(), Fail> {
     let mut pieces = text.split('\\');
-    let mut bytes = pieces.next().unwrap_or_default().as_bytes().to_vec(alloc)?;
+    push_texts(bytes, &[pieces.next().unwrap_or_default()])?;
     for piece in pieces {
-        let (byte, rest) = escape(piece).ok_or_else(|| place.wrong("what is this escape?"))?;
+        let Some((byte, rest)) = escape(piece) else {
+            return Err(place.wrong("what is this escape?"));
+        };
         bytes.push(byte)?;
         bytes.extend_from_slice(rest.as_bytes())?;
     }
-    Ok(bytes)
+    Ok(())
 }
 
 // `TIMES BYTES`: a text with escapes, so many times.
-fn repeated(alloc: Global, place: Place<'_>, text: &str) -> Result<Vec<u8>, Fail> {
+fn push_repeated(bytes: &mut Vec<u8>, place: Place<'_>, text: &str) -> Result<(), Fail> {
     let (times, unit) = text.split_once(' ').unwrap_or((text, ""));
-    let times = times.parse::<usize>()?;
-    let unit = raw(alloc, place, unit)?;
-    let mut bytes = Vec::new(alloc);
-    for _ in 0..times {
-        bytes.extend_from_slice(&unit)?;
+    for _ in 0..times.parse::<usize>()? {
+        push_raw(bytes, place, unit)?;
     }
-    Ok(bytes)
+    Ok(())
 }
 
 // The bytes of a line that is sent, or none where it isn't one.
-fn sent(alloc: Global, place: Place<'_>, line: &str) -> Result<Vec<u8>, Fail> {
+fn push_sent(alloc: Global, bytes: &mut Vec<u8>, place: Place<'_>, line: &str) -> Result<(), Fail> {
     match line.split_once(' ') {
-        Some((">", text)) => Ok(request(alloc, text)?.into_bytes()),
-        Some((">|", text)) => raw(alloc, place, text),
-        Some((">*", text)) => repeated(alloc, place, text),
-        _ => Ok(Vec::new(alloc)),
+        Some((">", text)) => Ok(push_request(alloc, bytes, text)?),
+        Some((">|", text)) => push_raw(bytes, place, text),
+        Some((">*", text)) => push_repeated(bytes, place, text),
+        _ => Ok(()),
     }
+}
+
+fn push_input(
+    alloc: Global,
+    bytes: &mut Vec<u8>,
+    place: Place<'_>,
+    lines: &str,
+) -> Result<(), Fail> {
+    for (number, line) in lines.lines().enumerate() {
+        push_sent(alloc, bytes, place.below(number), line)?;
+    }
+    Ok(())
 }
 
 /// All that is sent in these lines, the first of which stands here.
 pub fn input_of(alloc: Global, place: Place<'_>, lines: &str) -> Result<Vec<u8>, Fail> {
     let mut input = Vec::new(alloc);
-    for (number, line) in lines.lines().enumerate() {
-        input.extend_from_slice(&sent(alloc, place.below(number), line)?)?;
-    }
+    push_input(alloc, &mut input, place, lines)?;
     Ok(input)
 }
 
-/// The bytes of a line that is due, or none where it isn't one.
-pub fn due(alloc: Global, place: Place<'_>, line: &str) -> Result<Vec<u8>, Fail> {
+/// Adds the bytes of a line that is due, or none where it isn't one.
+pub fn push_due(
+    alloc: Global,
+    bytes: &mut Vec<u8>,
+    place: Place<'_>,
+    line: &str,
+) -> Result<(), Fail> {
     match line.split_once(' ') {
-        Some(("<", text)) => reply(alloc, place, text),
-        Some(("<|", text)) => raw(alloc, place, text),
-        Some(("<*", text)) => repeated(alloc, place, text),
-        _ => Ok(Vec::new(alloc)),
+        Some(("<", text)) => push_reply(alloc, bytes, place, text),
+        Some(("<|", text)) => push_raw(bytes, place, text),
+        Some(("<*", text)) => push_repeated(bytes, place, text),
+        _ => Ok(()),
     }
 }
 
 // A word, with escapes; FILE is the file of the run.
-fn word_of(alloc: Global, place: Place<'_>, word: &str, file: &str) -> Result<String, Fail> {
-    let bytes = raw(alloc, place, if word == "FILE" { file } else { word })?;
-    Ok(String::from_str(alloc, str::from_utf8(&bytes)?)?)
+fn push_word(
+    alloc: Global,
+    words: &mut Vec<String>,
+    place: Place<'_>,
+    word: &str,
+    file: &str,
+) -> Result<(), Fail> {
+    let mut bytes = Vec::new(alloc);
+    push_raw(&mut bytes, place, if word == "FILE" { file } else { word })?;
+    let text = str::from_utf8(&bytes).unwrap_or("what is no text");
+    Ok(words.push(text.to_string(alloc)?)?)
+}
+
+fn push_words(
+    alloc: Global,
+    words: &mut Vec<String>,
+    place: Place<'_>,
+    text: &str,
+    file: &str,
+) -> Result<(), Fail> {
+    for word in text.split(' ').filter(|it| !it.is_empty()) {
+        push_word(alloc, words, place, word, file)?;
+    }
+    Ok(())
 }
 
 /// The words of a run over this file.
@@ -157,9 +199,7 @@ pub fn words_of(
     file: &str,
 ) -> Result<Vec<String>, Fail> {
     let mut words = Vec::new(alloc);
-    words.push(String::from_str(alloc, "transit-desk")?)?;
-    for word in text.split(' ').filter(|it| !it.is_empty()) {
-        words.push(word_of(alloc, place, word, file)?)?;
-    }
+    push_words(alloc, &mut words, place, "transit-desk", file)?;
+    push_words(alloc, &mut words, place, text, file)?;
     Ok(words)
 }

@@ -4,11 +4,30 @@ use super::files::{
     COPY, FILE, assert_found, assert_no_file, assert_refused, change, change_copy, remove,
 };
 use super::told::{Place, assert_ending, assert_replies, end_of};
-use crate::helpers::{done_over, served_at};
+use crate::helpers::{Done, done_over, served_at};
 use std::alloc::{AllocError, Global};
 use std::test::Fail;
 
-// The program with these words over this file leaves what is due in these lines, which stand below the words.
+// What the program with these words leaves over this file, on what these lines send.
+fn done_of(
+    rt: &HostRuntime,
+    place: Place<'_>,
+    words: &str,
+    file: &str,
+    lines: &str,
+) -> Result<Done, Fail> {
+    let input = input_of(rt.alloc(), place.below(1), lines)?;
+    let words = words_of(rt.alloc(), place, words, file)?;
+    Ok(done_over(rt, words, input.as_slice()))
+}
+
+// It is what is due in these lines, which stand below the words.
+fn assert_left(alloc: Global, place: Place<'_>, lines: &str, done: &Done) -> Result<(), Fail> {
+    assert_replies(alloc, place.below(1), lines, &done.out)?;
+    assert_ending(alloc, place, lines, done)
+}
+
+// The program with these words over this file leaves what is due in these lines.
 fn assert_run(
     rt: &HostRuntime,
     place: Place<'_>,
@@ -16,11 +35,8 @@ fn assert_run(
     file: &str,
     lines: &str,
 ) -> Result<(), Fail> {
-    let input = input_of(rt.alloc(), place.below(1), lines)?;
-    let words = words_of(rt.alloc(), place, words, file)?;
-    let done = done_over(rt, words, input.as_slice());
-    assert_replies(rt.alloc(), place.below(1), lines, &done.out)?;
-    assert_ending(rt.alloc(), place, lines, &done)
+    let done = done_of(rt, place, words, file, lines)?;
+    assert_left(rt.alloc(), place, lines, &done)
 }
 
 // The same stream over a new file.
@@ -32,9 +48,9 @@ fn assert_on_file(
 ) -> Result<(), Fail> {
     let words = format!(in rt.alloc(); "{words} --db FILE --new")?;
     remove(rt);
-    assert_run(rt, place, &words, FILE, lines)?;
+    let ran = assert_run(rt, place, &words, FILE, lines);
     remove(rt);
-    Ok(())
+    ran
 }
 
 // Whether a run serves a stream in memory.
@@ -72,7 +88,7 @@ fn assert_step(rt: &HostRuntime, place: Place<'_>, step: &str) -> Result<(), Fai
     let line = line.strip_prefix(" ").unwrap_or(line);
     let (verb, rest) = line.split_once(' ').unwrap_or((line, ""));
     match verb {
-        "sql" => change(rt, rest),
+        "sql" => change(rt, place, rest),
         "sql-refused" => assert_refused(rt, place, rest),
         "sql-finds" => assert_found(rt, place, rest),
         "check-after" => assert_checked(rt, place, rest, lines),
@@ -97,23 +113,33 @@ fn moment_of(stretch: &str) -> &str {
     line.split(' ').next().unwrap_or_default()
 }
 
+// The moment of a stretch, for each of its requests.
+fn push_moments(moments: &mut Vec<i64>, stretch: &str) -> Result<(), Fail> {
+    let at = moment_of(stretch).parse::<i64>()?;
+    for _ in stretch.lines().filter(|line| line.starts_with("> ")) {
+        moments.push(at)?;
+    }
+    Ok(())
+}
+
 // The moment of each request.
 fn moments_of(alloc: Global, case: &str) -> Result<Vec<i64>, Fail> {
     let mut moments = Vec::new(alloc);
     for stretch in case.split("\n@ ").skip(1) {
-        let at = moment_of(stretch).parse::<i64>()?;
-        for _ in stretch.lines().filter(|line| line.starts_with("> ")) {
-            moments.push(at)?;
-        }
+        push_moments(&mut moments, stretch)?;
     }
     Ok(moments)
 }
 
-// All requests as one stream in memory, whose clock shows their moments.
-fn assert_in_memory(alloc: Global, place: Place<'_>, case: &str) -> Result<(), Fail> {
+// What is written for all requests as one stream in memory, whose clock shows their moments.
+fn told_in_memory(alloc: Global, place: Place<'_>, case: &str) -> Result<Vec<u8>, Fail> {
     let moments = moments_of(alloc, case)?;
     let input = input_of(alloc, place, case)?;
-    let out = served_at(alloc, &moments, &input)?;
+    served_at(alloc, &moments, &input)
+}
+
+fn assert_in_memory(alloc: Global, place: Place<'_>, case: &str) -> Result<(), Fail> {
+    let out = told_in_memory(alloc, place, case)?;
     assert_replies(alloc, place, case, &out)
 }
 

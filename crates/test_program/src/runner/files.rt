@@ -1,6 +1,7 @@
 //! The file of a case, and what another program does to it.
 use super::told::Place;
-use sqlite::{Connection, Constraint, Error, ErrorCode};
+use crate::helpers::is_closed;
+use sqlite::{Alter, Connection, Constraint, Error, ErrorCode, FileFrom, FileStore, Row, Start};
 use std::fs;
 use std::test::Fail;
 
@@ -10,12 +11,12 @@ pub const FILE: &str = "case.db";
 /// The copy of it that is changed and then tested.
 pub const COPY: &str = "copy.db";
 
-const LOGS: [&str; 2] = ["case.db-wal", "copy.db-wal"];
+const PATHS: [&str; 4] = [FILE, COPY, "case.db-wal", "copy.db-wal"];
 
 /// Removes both, and their logs, as far as they are there.
 pub fn remove(rt: &HostRuntime) {
-    for path in [FILE, COPY].into_iter().chain(LOGS) {
-        let _file = fs::remove_file(rt, path);
+    for path in &PATHS {
+        let _file = fs::remove_file(rt, *path);
     }
 }
 
@@ -23,31 +24,6 @@ pub fn remove(rt: &HostRuntime) {
 pub fn assert_no_file(rt: &HostRuntime, place: Place<'_>) -> Result<(), Fail> {
     if fs::exists(rt, FILE)? || fs::exists(rt, "case.db-wal")? {
         Err(place.wrong("there is a file"))
-    } else {
-        Ok(())
-    }
-}
-
-// How many rows the statement changes in a file.
-fn changed(rt: &HostRuntime, path: &str, statement: &str) -> Result<usize, Error> {
-    let mut conn = Connection::open(rt, path)?;
-    let rows = conn.execute(statement, &[]);
-    conn.close()?;
-    rows
-}
-
-/// Another program changes the file.
-pub fn change(rt: &HostRuntime, statement: &str) -> Result<(), Fail> {
-    let _rows = changed(rt, FILE, statement)?;
-    Ok(())
-}
-
-/// Another program changes a copy of the file, in at least one row.
-pub fn change_copy(rt: &HostRuntime, place: Place<'_>, statement: &str) -> Result<(), Fail> {
-    let bytes = fs::read(rt, FILE)?;
-    fs::write(rt, COPY, &bytes)?;
-    if changed(rt, COPY, statement)? == 0 {
-        Err(place.wrong("no row is meant"))
     } else {
         Ok(())
     }
@@ -65,35 +41,105 @@ fn name_of(constraint: Constraint) -> &'static str {
     }
 }
 
-// `WHY STATEMENT`: the database doesn't take the statement.
-fn is_refused(rt: &HostRuntime, why: &str, statement: &str) -> bool {
-    match changed(rt, FILE, statement) {
+/// What became of a statement.
+#[derive(Clone, Copy)]
+enum Outcome {
+    /// So many rows are changed.
+    Changed(usize),
+    /// It breaks a constraint of this kind.
+    Refused(&'static str),
+    Failed,
+}
+
+fn outcome_of(rows: Result<usize, Error>) -> Outcome {
+    match rows {
+        Ok(rows) => Outcome::Changed(rows),
         Err(Error::SqliteFailure(ErrorCode::ConstraintViolation(constraint))) => {
-            name_of(constraint) == why
+            Outcome::Refused(name_of(constraint))
         }
-        _ => false,
+        Err(_) => Outcome::Failed,
+    }
+}
+
+/// A connection to a file. What it held as it was opened is left open in what is done with it: the proof of what is done
+/// with a certain one is dear.
+type File<S> = Connection<FileStore<FileFrom<S>>>;
+
+fn executed<S: Start>(mut conn: File<S>, statement: &str) -> Outcome {
+    let outcome = outcome_of(conn.execute(statement, &[]));
+    if is_closed(conn) {
+        outcome
+    } else {
+        Outcome::Failed
+    }
+}
+
+fn changed(rt: &HostRuntime, path: &str, statement: &str) -> Outcome {
+    match Connection::open(rt, path) {
+        Ok(conn) => executed(conn, statement),
+        Err(_) => Outcome::Failed,
+    }
+}
+
+/// Another program changes the file.
+pub fn change(rt: &HostRuntime, place: Place<'_>, statement: &str) -> Result<(), Fail> {
+    match changed(rt, FILE, statement) {
+        Outcome::Changed(_) => Ok(()),
+        _ => Err(place.wrong("this change fails")),
+    }
+}
+
+fn copy(rt: &HostRuntime) -> Result<(), Fail> {
+    let bytes = fs::read(rt, FILE)?;
+    Ok(fs::write(rt, COPY, &bytes)?)
+}
+
+/// Another program changes a copy of the file, in at least one row.
+pub fn change_copy(rt: &HostRuntime, place: Place<'_>, statement: &str) -> Result<(), Fail> {
+    copy(rt)?;
+    match changed(rt, COPY, statement) {
+        Outcome::Changed(0) => Err(place.wrong("no row is meant")),
+        Outcome::Changed(_) => Ok(()),
+        _ => Err(place.wrong("this change fails")),
     }
 }
 
 /// `WHY STATEMENT`: the database doesn't take the statement.
 pub fn assert_refused(rt: &HostRuntime, place: Place<'_>, text: &str) -> Result<(), Fail> {
     let (why, statement) = text.split_once(' ').unwrap_or((text, ""));
-    if is_refused(rt, why, statement) {
-        Ok(())
-    } else {
-        Err(place.wrong("this change isn't refused so"))
+    match changed(rt, FILE, statement) {
+        Outcome::Refused(name) if name == why => Ok(()),
+        _ => Err(place.wrong("this change isn't refused so")),
     }
 }
 
-fn found(rt: &HostRuntime, query: &str) -> Result<i64, Error> {
-    let mut conn = Connection::open(rt, FILE)?;
-    conn.query_row(query, &[])?.get(0)
+fn number_of(row: Row) -> Option<i64> {
+    row.get(0).ok()
+}
+
+fn number_in<S: Alter>(conn: &mut Connection<S>, query: &str) -> Option<i64> {
+    match conn.query_row(query, &[]) {
+        Ok(row) => number_of(row),
+        Err(_) => None,
+    }
+}
+
+fn queried<S: Start>(mut conn: File<S>, query: &str) -> Option<i64> {
+    let number = number_in(&mut conn, query);
+    if is_closed(conn) { number } else { None }
+}
+
+fn found(rt: &HostRuntime, query: &str) -> Option<i64> {
+    match Connection::open(rt, FILE) {
+        Ok(conn) => queried(conn, query),
+        Err(_) => None,
+    }
 }
 
 /// `NUMBER QUERY`: the query finds this number in the file.
 pub fn assert_found(rt: &HostRuntime, place: Place<'_>, text: &str) -> Result<(), Fail> {
     let (number, query) = text.split_once(' ').unwrap_or((text, ""));
-    if found(rt, query)? == number.parse::<i64>()? {
+    if found(rt, query) == Some(number.parse::<i64>()?) {
         Ok(())
     } else {
         Err(place.wrong("the query finds another number"))

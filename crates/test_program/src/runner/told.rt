@@ -1,5 +1,5 @@
 //! What came is compared with what is due, and a difference is told in one line.
-use super::bytes::due;
+use super::bytes::push_due;
 use crate::helpers::Done;
 use std::alloc::{AllocError, Global};
 use std::test::Fail;
@@ -49,7 +49,8 @@ fn first_reply(out: &[u8]) -> &str {
 
 // What is left behind the reply of this line, if it is one, which stands at the front.
 fn take<'a>(alloc: Global, place: Place<'_>, line: &str, out: &'a [u8]) -> Result<&'a [u8], Fail> {
-    let due = due(alloc, place, line)?;
+    let mut due = Vec::new(alloc);
+    push_due(alloc, &mut due, place, line)?;
     match out.strip_prefix(due.as_slice()) {
         Some(rest) => Ok(rest),
         None => Err(place.differs(first_reply(out), line)),

@@ -17,6 +17,7 @@ fn done_unread(rt: &HostRuntime, kind: ErrorKind) -> Done {
     let mut errors = Counted::new(Vec::new(rt.alloc()));
     let words: io::Result<Vec<String>> = Err(kind.into());
     let status = run_program(rt, words, &mut file, &mut input, &mut out, &mut errors);
+    file.close();
     Done {
         status,
         out: out.into_inner(),
@@ -53,6 +54,7 @@ fn done_with_room(rt: &HostRuntime, words: &[String], room: (Vec<u8>, Vec<u8>)) 
     let mut out = Counted::new(room.0);
     let mut errors = Counted::new(room.1);
     let status = perform(rt, words, &mut file, &mut input, &mut out, &mut errors);
+    file.close();
     Done {
         status,
         out: out.into_inner(),

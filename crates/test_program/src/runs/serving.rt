@@ -74,6 +74,7 @@ fn a_first_line_that_cannot_be_written_is_a_fault(rt: HostRuntime) -> Result<(),
     let mut out = narrow(rt.alloc());
     let mut errors = Counted::new(Vec::new(rt.alloc()));
     let status = perform(&rt, &words, &mut file, &mut input, &mut out, &mut errors);
+    file.close();
     assert_equal(&status, &1)?;
     assert_text(&out.into_inner().taken, b"listening ")?;
     assert_text(&errors.into_inner(), b"transit-desk: write\n")

@@ -47,6 +47,7 @@ fn done_narrow(rt: &HostRuntime, words: &[String], input: &[u8], writer: Narrow)
     let mut writer = Counted::new(writer);
     let mut errors = Counted::new(Vec::new(rt.alloc()));
     let status = perform(rt, words, &mut file, &mut reader, &mut writer, &mut errors);
+    file.close();
     Done {
         status,
         out: writer.into_inner().taken,

@@ -94,6 +94,7 @@ fn done_for(rt: &HostRuntime, words: &[String], turns: &[Turn]) -> Done {
     });
     let mut errors = Counted::new(Vec::new(rt.alloc()));
     let status = perform(rt, words, &mut file, &mut input, &mut out, &mut errors);
+    file.close();
     Done {
         status,
         out: out.into_inner().told,

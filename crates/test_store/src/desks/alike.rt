@@ -9,28 +9,30 @@ use td_base::Country;
 use td_desk::{Outcome, PlainDesk, Stamped, do_one};
 use td_store::SqlDesk;
 
-/// The outcome at the plain desk is this one, in words.
+/// The outcome at the plain desk is this one, in words, after so many commands.
 fn assert_alike(
     rt: &(impl AllocGlobal + Abort),
     plain: &mut PlainDesk,
     stamped: &Stamped,
     outcome: &Outcome,
+    before: u32,
 ) {
     let stored = words_of(rt.alloc(), outcome).expect(rt, "memory");
     let plain = do_one(rt.alloc(), plain, stamped);
     let plain = words_of(rt.alloc(), &plain).expect(rt, "memory");
-    assert_eq!(rt; stored.as_str(), plain.as_str());
+    assert_eq!(rt; stored.as_str(), plain.as_str(), "at {before}");
 }
 
-/// A command ends alike at both desks, and is called so.
+/// A command ends alike at both desks after so many, and its end is called so.
 fn end_at_both(
     rt: &(impl AllocGlobal + Abort),
     plain: &mut PlainDesk,
     stored: &mut SqlDesk<MemStore>,
     stamped: &Stamped,
+    before: u32,
 ) -> &'static str {
     let outcome = do_one(rt.alloc(), stored, stamped);
-    assert_alike(rt, plain, stamped, &outcome);
+    assert_alike(rt, plain, stamped, &outcome, before);
     end_name(&stamped.command, &outcome)
 }
 
@@ -102,7 +104,11 @@ fn ends_met(
     let mut met = String::new(rt.alloc());
     for before in 0..600 {
         let stamped = next(rt, &mut dice, country(rt), before);
-        meet(rt, &mut met, end_at_both(rt, plain, stored, &stamped));
+        meet(
+            rt,
+            &mut met,
+            end_at_both(rt, plain, stored, &stamped, before),
+        );
     }
     met
 }

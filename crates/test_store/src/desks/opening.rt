@@ -134,7 +134,10 @@ fn no_desk_is_opened_after_a_change_by_hand(rt: HostRuntime) {
 fn no_desk_is_opened_over_no_table(rt: HostRuntime) {
     let refused = refused(&rt, database(&rt));
     assert!(rt; refused.fault == OpenFault::UnknownVersion);
-    let desk = SqlDesk::create(refused.connection, country(&rt));
-    let desk = desk.ok().expect(&rt, "a desk");
+    let conn = refused.connection;
+    assert!(rt; conn.is_autocommit());
+    let desk = SqlDesk::create(conn, country(&rt))
+        .ok()
+        .expect(&rt, "a desk");
     assert!(rt; desk.office() == country(&rt));
 }

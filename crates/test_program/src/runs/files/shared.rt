@@ -5,7 +5,7 @@ use super::{
 };
 use crate::helpers::devices::Narrow;
 use crate::helpers::exchanges::{REGISTER, SEE, SHOWN};
-use crate::helpers::{Done, Due, assert_due, assert_job, words_of};
+use crate::helpers::{Done, Due, assert_due, assert_job, assert_that, is_closed, words_of};
 use crate::runs::serving::{listener, serve_words};
 use sqlite::{Connection, Unknown};
 use std::test::Fail;
@@ -45,9 +45,10 @@ const TAKEN: &[Run] = &[
 
 fn assert_taken(rt: &HostRuntime, path: &str) -> Result<(), Fail> {
     let taken = Connection::open(rt, path)?;
-    assert_each(rt, path, TAKEN)?;
-    taken.close()?;
-    Ok(())
+    let told = assert_each(rt, path, TAKEN);
+    let is_closed = is_closed(taken);
+    told?;
+    assert_that(is_closed, "the other program's connection is closed")
 }
 
 #[test]
