@@ -7,3 +7,4 @@ pub mod Weighed
 pub mod Calls
 mod Agreeing
 pub mod Differing
+pub mod Leaving

@@ -7,11 +7,12 @@ use Rattle.td_model.specs.Account.{empty_account}
 use Rattle.td_model.specs.Book.{Book, account_of}
 use Rattle.td_commands.specs.Commands.{owner_of}
 use Rattle.td_model.specs.Table.{said}
-use Rattle.td_model.specs.Machine.{machine_says, machine_book, IsGrown}
+use Rattle.td_model.specs.Machine.{is_accepted, machine_says, machine_book, IsGrown}
 use Rattle.td_desk.specs.declared.fault.Fault.{Fault}
 use Rattle.td_desk.specs.declared.running.Outcome.{Outcome}
 use Rattle.td_desk.specs.declared.running.Outcome.TheVariants as outcome
 use Rattle.td_desk.specs.Content.{Content, account_in, IsSound}
+use Rattle.td_desk.specs.View.{AddsAtMost, DeskView, LeavesOnly}
 use Rattle.td_desk.specs.Weighing.{owner_account, Carries}
 
 abbrev pub is_holder : ℕ → Option ℕ → Bool
@@ -90,6 +91,14 @@ abbrev pub IsStep : Type 0 → Type 0 → Content → Stamped → Outcome → Co
 IsStep was_live is_live old s (outcome.Said words) new =
     was_live × is_live × (IsSound old → Performs old s (outcome.Said words) new)
 IsStep was_live is_live old s (outcome.Failed fault) new = is_live → new ≡ old
+
+-- What a crash leaves after a command. Where it was answered: after an accepted change the content with it alone, and after any
+-- other command what it could be before. Where it failed: what it could be before, or the content with this command's change.
+abbrev pub LeavesAfter : {D : Type 0} → DeskView D → D → Stamped → Bool → D → Type 0
+LeavesAfter view old s false new =
+    (is_accepted (owner_account (view.content old) s.command) s.at s.command ≡ true → LeavesOnly view new (view.content new))
+    × (is_accepted (owner_account (view.content old) s.command) s.at s.command ≡ false → AddsAtMost view (λ _. ⊥) old new)
+LeavesAfter view old s true new = AddsAtMost view (λ x. view.is_live old × Carries (view.content old) s x) old new
 
 -- What is said to a command that nobody owns is what the table says over an account with nothing in it.
 abbrev pub IsToldOfNobody : List ℕ → Stamped → Outcome → Type 0

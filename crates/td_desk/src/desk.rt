@@ -5,8 +5,9 @@ ghost use Rattle.td_desk.specs.declared.fault.Fault.{Fault};
 ghost use Rattle.td_acts.specs.declared.rows.Change.TheVariants as change;
 ghost use Rattle.td_commands.specs.declared.command.Stamped.{Stamped};
 ghost use Rattle.td_commands.specs.Commands.{IsProper};
-ghost use Rattle.td_desk.specs.Content.{Content, IsSound};
+ghost use Rattle.td_desk.specs.Content.{IsSound, content_after};
 ghost use Rattle.td_desk.specs.Weighing.{IsWeighed, IsDecision, Carries};
+ghost use Rattle.td_desk.specs.View.{AddsAtMost, DeskView, LeavesOnly};
 
 use crate::decision::Decision;
 use crate::fault::Fault;
@@ -17,60 +18,59 @@ use td_base::Country;
 /// The desk of a transit office. What is said of values is said where the state after the call is clean,
 /// and, of the content, live.
 pub trait Desk {
-    /// Its country and rows.
-    ghost content: { Self → Content };
-
-    /// The disk under it, if any, returned what was written, and nobody else wrote.
-    ghost is_clean: { Self → Type 0 };
-
-    /// No fault has shut it. The content of a desk that is shut says nothing, and it answers nothing any more.
-    ghost is_live: { Self → Type 0 };
-
-    /// A store stands behind it.
-    ghost has_store: { Type 0 };
+    /// What is seen of it: its content, whether it is clean and live, whether a store stands behind it, and what a crash leaves.
+    ghost seen: { DeskView Self };
 
     /// A call took it from one state to the other, and ended by this fault, or by none.
     ghost called: { Self → Option Fault → Self → Type 0 };
 
     /// The country of its office.
     fn country(&self) -> Country
-        ensures { is_clean self.now → is_live self.now → result ≡ (content self.now).country };
+        ensures { seen.is_clean self.now → seen.is_live self.now → result ≡ (seen.content self.now).country };
 
     /// Decides on a command that comes at that number of seconds since 1970, and changes nothing. An `Err`
-    /// is want of memory or a fault of the store.
+    /// is want of memory, at a desk that is live, or a fault of the store. It adds nothing to what a crash leaves, which is the
+    /// content alone while the desk is live.
     fn weigh(&mut self, alloc: Global, at: i64, command: &Command) -> Result<Decision, Fault>
-        ensures clean { is_clean self.new → is_clean self.old }
-        ensures live { is_clean self.new → is_live self.new → is_live self.old }
-        ensures shown { is_clean self.new → OnOk result (is_live self.old × is_live self.new) }
-        ensures memory { is_clean self.new → is_live self.old → result ≡ Err Fault.NoMemory → is_live self.new }
-        ensures same { is_clean self.new → is_live self.new → content self.new ≡ content self.old }
-        ensures decision { is_clean self.new → is_live self.old → IsSound (content self.old)
-            → IfOk result (IsWeighed (content self.old) at command.now) }
+        ensures clean { seen.is_clean self.new → seen.is_clean self.old }
+        ensures live { seen.is_clean self.new → seen.is_live self.new → seen.is_live self.old }
+        ensures shown { seen.is_clean self.new → OnOk result (seen.is_live self.old × seen.is_live self.new) }
+        ensures memory { seen.is_clean self.new → result ≡ Err Fault.NoMemory → seen.is_live self.new }
+        ensures same { seen.is_clean self.new → seen.is_live self.new → seen.content self.new ≡ seen.content self.old }
+        ensures decision { seen.is_clean self.new → seen.is_live self.old → IsSound (seen.content self.old)
+            → IfOk result (IsWeighed (seen.content self.old) at command.now) }
         ensures proper { IsProper command.now }
-        ensures store { result ≡ Err Fault.Store → has_store }
+        ensures crash { seen.is_clean self.new → AddsAtMost seen (λ _. ⊥) self.old self.new }
+        ensures settled { seen.is_clean self.new → seen.is_live self.new → LeavesOnly seen self.new (seen.content self.new) }
+        ensures store { result ≡ Err Fault.Store → seen.has_store }
         ensures call { called self.old (result_err result) self.new };
 
     /// Does what was decided on a command over the content as it is, and answers what is said to it. An
-    /// `Err` changes nothing, and the decision is spent; a decision that changes nothing is never an `Err`.
+    /// `Err` changes nothing, and the decision is spent; a decision that changes nothing is never an `Err`, and leaves the
+    /// very same desk. To what a crash leaves a change adds at most the content with it; and while the desk is live, that is
+    /// its content alone.
     fn carry(&mut self, alloc: Global, decision: Decision) -> Result<Said, Fault>
-        requires { is_clean self.old → is_live self.old → IsSound (content self.old)
-            → IsDecision (content self.old) decision }
-        ensures clean { is_clean self.new → is_clean self.old }
-        ensures live { is_clean self.new → is_live self.new → is_live self.old }
-        ensures shown { is_clean self.new → decision.change ≢ change.Nothing
-            → OnOk result (is_live self.old × is_live self.new) }
-        ensures stays { is_clean self.new → is_live self.old → OnOk result (is_live self.new) }
-        ensures memory { is_clean self.new → is_live self.old → result ≡ Err Fault.NoMemory → is_live self.new }
+        requires { seen.is_clean self.old → seen.is_live self.old → IsSound (seen.content self.old)
+            → IsDecision (seen.content self.old) decision }
+        ensures clean { seen.is_clean self.new → seen.is_clean self.old }
+        ensures live { seen.is_clean self.new → seen.is_live self.new → seen.is_live self.old }
+        ensures shown { seen.is_clean self.new → decision.change ≢ change.Nothing
+            → OnOk result (seen.is_live self.old × seen.is_live self.new) }
+        ensures stays { seen.is_clean self.new → seen.is_live self.old → OnOk result (seen.is_live self.new) }
+        ensures memory { seen.is_clean self.new → result ≡ Err Fault.NoMemory → seen.is_live self.new }
         ensures said { IfOk result (λ said. said ≡ decision.said) }
-        ensures carried { is_clean self.new → is_live self.new → IsSound (content self.old) →
+        ensures carried { seen.is_clean self.new → seen.is_live self.new → IsSound (seen.content self.old) →
             OnOk result ((s : Stamped) → IsProper s.command
-            → IsWeighed (content self.old) s.at s.command decision
-            → Carries (content self.old) s (content self.new)) }
-        ensures err { is_clean self.new → is_live self.new
-            → OnErr result (content self.new ≡ content self.old) }
+            → IsWeighed (seen.content self.old) s.at s.command decision
+            → Carries (seen.content self.old) s (seen.content self.new)) }
+        ensures err { seen.is_clean self.new → seen.is_live self.new
+            → OnErr result (seen.content self.new ≡ seen.content self.old) }
         ensures quiet { decision.change ≡ change.Nothing → IsOk result }
-        ensures unchanged { decision.change ≡ change.Nothing → is_clean self.new → is_live self.new
-            → content self.new ≡ content self.old }
-        ensures store { result ≡ Err Fault.Store → has_store }
+        ensures still { decision.change ≡ change.Nothing → self.new ≡ self.old }
+        ensures crash { seen.is_clean self.new → AddsAtMost seen
+            (λ x. seen.is_live self.old × (x ≡ content_after decision.change (seen.content self.old))) self.old self.new }
+        ensures settled { decision.change ≢ change.Nothing → seen.is_clean self.new → seen.is_live self.new
+            → LeavesOnly seen self.new (seen.content self.new) }
+        ensures store { result ≡ Err Fault.Store → seen.has_store }
         ensures call { called self.old (result_err result) self.new };
 }

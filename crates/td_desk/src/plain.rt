@@ -41,13 +41,14 @@ impl Store for PlainDesk {
     ghost use Rattle.td_desk.specs.declared.fault.Fault.TheVariants as fault;
     ghost use Rattle.td_desk.specs.Plain.{plain_content};
 
-    ghost rows = { plain_content };
-
-    ghost is_kept = { λ _. Unit {0} };
-
-    ghost is_open = { λ _. Unit {0} };
-
-    ghost may_fail = { ⊥ };
+    ghost holds = { record {
+      content = plain_content;
+      is_clean = λ _. Unit {0};
+      is_live = λ _. Unit {0};
+      has_store = ⊥;
+      may_leave = λ _ _. ⊥;
+      recovers = λ _. Unit {0};
+    } };
 
     ghost asked = { λ _ why _. why ≢ Some fault.Store };
 

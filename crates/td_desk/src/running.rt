@@ -2,7 +2,8 @@
 ghost use Rattle.std.specs.Prelude.{◌≡◌, ◌≢◌, ℕ, All, IfOk, OnErr};
 ghost use Rattle.td_model.specs.Book.{Book};
 ghost use Rattle.td_desk.specs.Content.{Content, IsSound};
-ghost use Rattle.td_desk.specs.Runs.{IsOutcomeOf, AreOutcomesOf, IsStep, IsTied, IsRun};
+ghost use Rattle.td_desk.specs.Runs.{IsOutcomeOf, AreOutcomesOf, IsStep, IsTied, IsRun, LeavesAfter, is_failed};
+ghost use Rattle.td_desk.specs.View.{IsSettled};
 
 use crate::desk::Desk;
 use crate::fault::Fault;
@@ -18,16 +19,20 @@ pub enum Outcome {
     Failed(Fault),
 }
 
-/// Does one command: weighs it, and carries the decision.
+/// Does one command: weighs it, and carries the decision. `crash`: what a crash leaves after it.
 pub fn do_one<D: Desk>(alloc: Global, desk: &mut D, stamped: &Stamped) -> Outcome
-    ensures clean { D.is_clean desk.new → D.is_clean desk.old }
-    ensures live { D.is_clean desk.new → D.is_live desk.new → D.is_live desk.old }
-    ensures performs { D.is_clean desk.new
-        → IsStep (D.is_live desk.old) (D.is_live desk.new) (D.content desk.old) stamped.now result
-        (D.content desk.new) }
-    ensures stays { D.is_clean desk.new → D.is_live desk.old → result ≢ Outcome.Failed Fault.Store
-        → D.is_live desk.new }
-    ensures store { result ≡ Outcome.Failed Fault.Store → D.has_store }
+    ensures clean { D.seen.is_clean desk.new → D.seen.is_clean desk.old }
+    ensures live { D.seen.is_clean desk.new → D.seen.is_live desk.new → D.seen.is_live desk.old }
+    ensures performs { D.seen.is_clean desk.new
+        → IsStep (D.seen.is_live desk.old) (D.seen.is_live desk.new) (D.seen.content desk.old) stamped.now result
+        (D.seen.content desk.new) }
+    ensures stays { D.seen.is_clean desk.new → D.seen.is_live desk.old → result ≢ Outcome.Failed Fault.Store
+        → D.seen.is_live desk.new }
+    ensures memory { D.seen.is_clean desk.new → result ≡ Outcome.Failed Fault.NoMemory → D.seen.is_live desk.new }
+    ensures crash { D.seen.is_clean desk.new → IsSound (D.seen.content desk.old)
+        → LeavesAfter D.seen desk.old stamped.now (is_failed result) desk.new }
+    ensures settled { D.seen.is_clean desk.new → IsSettled D.seen desk.new }
+    ensures store { result ≡ Outcome.Failed Fault.Store → D.seen.has_store }
     ensures calls { IsOutcomeOf D.called desk.old result desk.new }
 {
     match desk.weigh(alloc, stamped.at, &stamped.command) {
@@ -51,18 +56,18 @@ pub fn run<D: Desk>(
     list: &[Stamped],
 ) -> Result<Vec<Outcome>, AllocError>
     ensures err { OnErr result (desk.new ≡ desk.old) }
-    ensures clean { D.is_clean desk.new → D.is_clean desk.old }
-    ensures live { D.is_clean desk.new → D.is_live desk.new → D.is_live desk.old }
-    ensures private { D.is_clean desk.new → D.is_live desk.old → IsSound (D.content desk.old)
-        → (books : ℕ → Book) → IsTied (D.content desk.old) books →
+    ensures clean { D.seen.is_clean desk.new → D.seen.is_clean desk.old }
+    ensures live { D.seen.is_clean desk.new → D.seen.is_live desk.new → D.seen.is_live desk.old }
+    ensures private { D.seen.is_clean desk.new → D.seen.is_live desk.old → IsSound (D.seen.content desk.old)
+        → (books : ℕ → Book) → IsTied (D.seen.content desk.old) books →
         IfOk result (λ outcomes. (c : Content)
-        × IsRun (D.content desk.old).country books list.now outcomes.items c
-        × (D.is_live desk.new → D.content desk.new ≡ c)) }
-    ensures stays { D.is_clean desk.new → D.is_live desk.old
+        × IsRun (D.seen.content desk.old).country books list.now outcomes.items c
+        × (D.seen.is_live desk.new → D.seen.content desk.new ≡ c)) }
+    ensures stays { D.seen.is_clean desk.new → D.seen.is_live desk.old
         → IfOk result (λ outcomes. All (λ o. o ≢ Outcome.Failed Fault.Store) outcomes.items
-        → D.is_live desk.new) }
+        → D.seen.is_live desk.new) }
     ensures store { IfOk result (λ outcomes. All
-        (λ o. o ≡ Outcome.Failed Fault.Store → D.has_store) outcomes.items) }
+        (λ o. o ≡ Outcome.Failed Fault.Store → D.seen.has_store) outcomes.items) }
     ensures calls { IfOk result (λ outcomes. AreOutcomesOf D.called desk.old outcomes.items desk.new) }
 {
     let mut outcomes = Vec::with_capacity(alloc, list.len())?;

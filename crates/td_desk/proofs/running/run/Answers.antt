@@ -12,15 +12,15 @@ use Rattle.td_desk.proofs.running.run.Goals as goal
 
 pub loop-stamped-preserved : goal.loop-stamped-preserved
 loop-stamped-preserved g c =
-    let is_live = g.D.Desk.is_live in
-    let content = g.D.Desk.content in
+    let is_live = g.D.Desk.seen.is_live in
+    let content = g.D.Desk.seen.content in
     let before = take c.loop-stamped.stamped-index c.args.list.now in
     let more : take (c.loop-stamped.stamped-index + 1) c.args.list.now ≡ before ++ c.stamped-item.result ∷ [] =
     take_more c.args.list.now c.loop-stamped.stamped-index c.stamped-item.result c.loop-stamped-test.true ∙ ap (λ s. before ++ s ∷ []) (sym c.stamped-item.is) in
     record {
       room = grind (arith, common_steps);
       one_each = grind (arith, common_steps);
-      stored = rw c.push_reserved.ensures.items (All-push (λ o. o ≡ outcome.Failed fault.Store → g.D.Desk.has_store) c.loop-stamped.outcomes.items c.do_one-outcome.result c.loop-stamped.invariant.stored c.do_one-outcome.ensures.store);
+      stored = rw c.push_reserved.ensures.items (All-push (λ o. o ≡ outcome.Failed fault.Store → g.D.Desk.seen.has_store) c.loop-stamped.outcomes.items c.do_one-outcome.result c.loop-stamped.invariant.stored c.do_one-outcome.ensures.store);
       calls = rw c.push_reserved.ensures.items (one_outcome_more g.D.Desk.called c.args.desk.now c.loop-stamped.desk c.do_one-outcome.new.desk c.loop-stamped.outcomes.items c.do_one-outcome.result c.loop-stamped.invariant.calls c.do_one-outcome.ensures.calls);
       stays = λ h live none.
           let each = before_and_last (λ o. o ≢ outcome.Failed fault.Store) c.loop-stamped.outcomes.items c.do_one-outcome.result (subst (λ (os : List Outcome). All (λ o. o ≢ outcome.Failed fault.Store) os) c.push_reserved.ensures.items none) in

@@ -9,13 +9,13 @@ use Rattle.td_desk.proofs.running.run.Given as goal
 
 abbrev pub invariant-loop-stamped : goal.invariant-loop-stamped
 invariant-loop-stamped g l =
-    let is_clean = g.D.Desk.is_clean in
-    let is_live = g.D.Desk.is_live in
-    let content = g.D.Desk.content in
+    let is_clean = g.D.Desk.seen.is_clean in
+    let is_live = g.D.Desk.seen.is_live in
+    let content = g.D.Desk.seen.content in
     record {
       room : length l.list ≤ vec_capacity l.outcomes;
       one_each : vec_len l.outcomes ≡ l.stamped-index;
-      stored : All (λ o. o ≡ outcome.Failed fault.Store → g.D.Desk.has_store) l.outcomes.items;
+      stored : All (λ o. o ≡ outcome.Failed fault.Store → g.D.Desk.seen.has_store) l.outcomes.items;
       calls : AreOutcomesOf g.D.Desk.called l.fn.desk l.outcomes.items l.desk;
       stays : is_clean l.desk → is_live l.fn.desk → All (λ o. o ≢ outcome.Failed fault.Store) l.outcomes.items → is_live l.desk;
       clean : is_clean l.desk → is_clean l.fn.desk;

@@ -8,7 +8,7 @@ use Rattle.td_desk.proofs.store.AnyDesk.weigh.Goals as goal
 
 pub returns-clause-decision : goal.returns-clause-decision
 returns-clause-decision g c = λ clean live sound.
-    let rows = g.S.Store.rows c.args.self.now in
+    let rows = g.S.Store.holds.content c.args.self.now in
     let command = c.args.command.now in
     let country : c.office.result ≡ rows.country = c.office.ensures (c.load.ensures.kept clean) live in
     let owner : c.owner-owner.result ≡ owner_of rows.country command = c.owner-owner.ensures ∙ ap (λ country. owner_of country command) country in
