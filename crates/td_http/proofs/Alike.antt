@@ -9,6 +9,7 @@ use Rattle.td_commands.specs.Commands.{owner_of}
 use Rattle.td_model.specs.Machine.{verdict}
 use Rattle.td_desk.specs.declared.fault.Fault.{Fault}
 use Rattle.td_desk.specs.Content.{Content}
+use Rattle.td_desk.specs.View.{DeskView}
 use Rattle.td_desk.specs.Runs.{is_holder}
 use Rattle.td_fields.specs.declared.fault.WebFault.{WebFault}
 use Rattle.http_wire.specs.declared.reply.Reply.{Reply}
@@ -158,9 +159,9 @@ tell_alike country H books others es fs new other_new one other same =
     record { replies = replies_if same first second; told = told_if same first second; heard = told_as same first second }
 
 -- what a stream at a desk of a country tells
-pub served_at : {D : Type 0} (content : D → Content) (is_clean is_live : D → Type 0) (country : List ℕ) (books : ℕ → Book) (old new : Service D) (es : List Exchange)
-    → IsDeskOf content is_live country books old → is_clean (desk_of new) → IsPrivate content is_clean is_live old new es → (c : Content) × IsServed country books 0 es c
-served_at content is_clean is_live country books old new es desk clean private =
+pub served_at : {D : Type 0} (view : DeskView D) (country : List ℕ) (books : ℕ → Book) (old new : Service D) (es : List Exchange)
+    → IsDeskOf view country books old → view.is_clean (desk_of new) → IsPrivate view old new es → (c : Content) × IsServed country books 0 es c
+served_at view country books old new es desk clean private =
     let served = private clean desk.live desk.sound books desk.tied in
     (served.0, subst (λ (c : List ℕ). IsServed c books 0 es served.0) desk.country_is served.1)
 
@@ -178,9 +179,9 @@ told_alone : (country : List ℕ) (H : ℕ) (book : Book) (command : Command) (a
 told_alone country H book command at close bytes own told = first_of _ _ (rw (own, own_is H) at told)
 
 -- what one request at a desk of a country tells
-pub served_alone_at : {D : Type 0} (content : D → Content) (is_clean is_live : D → Type 0) (country : List ℕ) (books : ℕ → Book) (old new : Service D) (at : ℤ) (asked : Asked) (reply : Reply)
-    → IsRequestAt content is_clean is_live country books old at asked reply new → (c : Content) × IsServedAlone country books at asked reply c
-served_alone_at content is_clean is_live country books old new at asked reply request =
+pub served_alone_at : {D : Type 0} (view : DeskView D) (country : List ℕ) (books : ℕ → Book) (old new : Service D) (at : ℤ) (asked : Asked) (reply : Reply)
+    → IsRequestAt view country books old at asked reply new → (c : Content) × IsServedAlone country books at asked reply c
+served_alone_at view country books old new at asked reply request =
     let served = request.private request.clean request.desk.live request.desk.sound books request.desk.tied in
     (served.0, subst (λ (c : List ℕ). IsServedAlone c books at asked reply served.0) request.desk.country_is served.1)
 

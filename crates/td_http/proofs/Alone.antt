@@ -10,6 +10,7 @@ use Rattle.td_model.specs.Machine.{verdict, machine_book, machine_says, IsGrown}
 use Rattle.td_desk.specs.declared.running.Outcome.{Outcome}
 use Rattle.td_desk.specs.declared.running.Outcome.TheVariants as outcome
 use Rattle.td_desk.specs.Content.{Content, IsSound}
+use Rattle.td_desk.specs.View.{DeskView}
 use Rattle.td_desk.specs.Runs.{IsRun, IsStep, IsTied, is_holder, heard}
 use Rattle.td_desk.proofs.Turns.{run_more}
 use Rattle.td_fields.specs.declared.fault.WebFault.{WebFault}
@@ -86,7 +87,7 @@ module _ (books : ℕ → Book) (at : ℤ) (asked : Asked) (reply : Reply) (was_
   by_reading (Err why) is handled = (old, nobodys (λ H. rw is refl) (λ H. rw is refl), handled.0)
 
 -- a request that was handled is its holder's own affair
-pub handled_alone : {D : Type 0} (content : D → Content) (is_clean is_live : D → Type 0) (has_store : Type 0) (old : Service D) (at : ℤ) (asked : Asked) (reply : Reply) (new : Service D)
-    → IsHandledBy content is_clean is_live has_store old at asked reply new → IsPrivateAlone content is_clean is_live old at asked reply new
-handled_alone content is_clean is_live has_store old at asked reply new handled = λ clean live sound books tied.
-    by_reading books at asked reply (is_live (desk_of old)) (is_live (desk_of new)) (content (desk_of old)) (content (desk_of new)) sound tied (command_in asked) refl (handled.handled clean)
+pub handled_alone : {D : Type 0} (view : DeskView D) (old : Service D) (at : ℤ) (asked : Asked) (reply : Reply) (new : Service D)
+    → IsHandledBy view old at asked reply new → IsPrivateAlone view old at asked reply new
+handled_alone view old at asked reply new handled = λ clean live sound books tied.
+    by_reading books at asked reply (view.is_live (desk_of old)) (view.is_live (desk_of new)) (view.content (desk_of old)) (view.content (desk_of new)) sound tied (command_in asked) refl (handled.handled clean)

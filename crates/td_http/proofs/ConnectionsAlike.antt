@@ -2,6 +2,7 @@
 use Rattle.std.proofs.Common.{◌≡◌, ℕ, List, [], ◌∷◌, map, refl, subst}
 use Rattle.td_model.specs.Book.{Book}
 use Rattle.td_desk.specs.Content.{Content}
+use Rattle.td_desk.specs.View.{DeskView}
 use Rattle.http_wire.specs.ReplyText.{bytes_of, is_made}
 use Rattle.http_wire.specs.Stream.{Exchange}
 use Rattle.td_http.specs.declared.service.Service.{Service}
@@ -55,11 +56,11 @@ tell_alike_over country H books others streams other_streams new other_new one o
     }
 
 -- what connections at a desk of a country tell
-pub served_over_at : {D : Type 0} (content : D → Content) (is_clean is_live : D → Type 0) (country : List ℕ)
+pub served_over_at : {D : Type 0} (view : DeskView D) (country : List ℕ)
     (books : ℕ → Book) (old new : Service D) (streams : List (List Exchange))
-    → IsDeskOf content is_live country books old → is_clean (desk_of new)
-    → IsPrivateOver content is_clean is_live old new streams
+    → IsDeskOf view country books old → view.is_clean (desk_of new)
+    → IsPrivateOver view old new streams
     → (c : Content) × IsServedOver country books streams c
-served_over_at content is_clean is_live country books old new streams desk clean private =
+served_over_at view country books old new streams desk clean private =
     let served = private clean desk.live desk.sound books desk.tied in
     (served.0, subst (λ (c : List ℕ). IsServedOver c books streams served.0) desk.country_is served.1)

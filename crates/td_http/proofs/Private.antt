@@ -5,6 +5,7 @@ use Rattle.std.proofs.lemmas.List.Elements.{All-cons, All-nil}
 use Rattle.td_model.specs.Book.{Book, account_of}
 use Rattle.td_model.specs.Machine.{book_after, machine_book, IsGrown}
 use Rattle.td_desk.specs.Content.{Content, IsSound}
+use Rattle.td_desk.specs.View.{DeskView}
 use Rattle.td_desk.specs.Runs.{IsTied}
 use Rattle.http_wire.specs.Stream.{Exchange}
 use Rattle.td_http.specs.declared.service.Service.{Service}
@@ -66,16 +67,16 @@ served_nothing country books rows same sound tied = record {
 
 module _ {R W C D L : Type 0} (remaining : R → Option (List ℕ)) (contents : W → Option (List ℕ))
     (gives takes : L → R → W → L → Type 0) (ticks : C → ℤ → C → Type 0)
-    (content : D → Content) (is_clean is_live : D → Type 0) (has_store : Type 0) where
+    (view : DeskView D) where
   -- connections at a service of the desk
   abbrev Served : Between L C (Service D) → List (Connection R W) → Between L C (Service D) → Type 0
   Served = ServedConnections remaining contents gives takes ticks
-      (IsHandledBy content is_clean is_live has_store) IsHeadHandledBy
+      (IsHandledBy view) IsHeadHandledBy
 
   -- one of them
   abbrev OneServed : Between L C (Service D) → Connection R W → Between L C (Service D) → Type 0
   OneServed = IsServedConnection remaining contents gives takes ticks
-      (IsHandledBy content is_clean is_live has_store) IsHeadHandledBy
+      (IsHandledBy view) IsHeadHandledBy
 
   -- their requests with their replies
   abbrev streams_of : List (Connection R W) → List (List Exchange)
@@ -83,41 +84,41 @@ module _ {R W C D L : Type 0} (remaining : R → Option (List ℕ)) (contents : 
 
   -- where no fault has shut the desk before, these are its rows
   abbrev Shows : Between L C (Service D) → Content → Type 0
-  Shows b rows = is_live (desk_of b.handler) → content (desk_of b.handler) ≡ rows
+  Shows b rows = view.is_live (desk_of b.handler) → view.content (desk_of b.handler) ≡ rows
 
   -- a connection that leaves a clean desk found it clean
   connection_clean : (old : Between L C (Service D)) (connection : Connection R W) (new : Between L C (Service D))
-      → OneServed old connection new → is_clean (desk_of new.handler) → is_clean (desk_of old.handler)
+      → OneServed old connection new → view.is_clean (desk_of new.handler) → view.is_clean (desk_of old.handler)
   connection_clean old connection new is clean =
       let run = is.served.run in
-      stream_clean ticks content is_clean is_live has_store old.clock new.clock old.handler run.handler
+      stream_clean ticks view old.clock new.clock old.handler run.handler
       new.handler run.exchanges run.rest run.ending is.served.chain is.served.ending clean
 
   -- one connection from any rows that are tied to books
   connection_served : (old : Between L C (Service D)) (connection : Connection R W) (new : Between L C (Service D))
-      → OneServed old connection new → is_clean (desk_of new.handler)
+      → OneServed old connection new → view.is_clean (desk_of new.handler)
       → (country : List ℕ) (books : ℕ → Book) (rows : Content)
       → rows.country ≡ country → IsSound rows → IsTied rows books → Shows old rows
       → (c : Content) × IsServed country books 0 connection.exchanges c × Shows new c
   connection_served old connection new is clean country books rows same_country sound tied same =
       let run = is.served.run in
-      let served = stream_served ticks content is_clean is_live has_store old.clock new.clock old.handler
+      let served = stream_served ticks view old.clock new.clock old.handler
       run.handler new.handler run.exchanges run.rest run.ending is.served.chain is.served.ending clean
       country books rows same_country sound tied same in
       (served.0, rw is.exchanges served.1, served.2)
 
   -- connections that leave a clean desk found it clean
   pub connections_clean : (all_served : List (Connection R W)) (old new : Between L C (Service D))
-      → Served old all_served new → is_clean (desk_of new.handler) → is_clean (desk_of old.handler)
+      → Served old all_served new → view.is_clean (desk_of new.handler) → view.is_clean (desk_of old.handler)
   connections_clean [] old new were_served clean =
-      subst (λ (b : Between L C (Service D)). is_clean (desk_of b.handler)) (sym were_served) clean
+      subst (λ (b : Between L C (Service D)). view.is_clean (desk_of b.handler)) (sym were_served) clean
   connections_clean (connection ∷ all_served) old new were_served clean =
       connection_clean old connection were_served.0 were_served.1 (connections_clean all_served were_served.0 new were_served.2 clean)
 
   -- Connections from any rows that are tied to books. Before them a fault may have shut the desk: then rows
   -- is the content up to that.
   connections_served : (all_served : List (Connection R W)) (old new : Between L C (Service D))
-      → Served old all_served new → is_clean (desk_of new.handler)
+      → Served old all_served new → view.is_clean (desk_of new.handler)
       → (country : List ℕ) (books : ℕ → Book) (rows : Content)
       → rows.country ≡ country → IsSound rows → IsTied rows books → Shows old rows
       → (c : Content) × IsServedOver country books (streams_of all_served) c × Shows new c
@@ -140,7 +141,7 @@ module _ {R W C D L : Type 0} (remaining : R → Option (List ℕ)) (contents : 
   -- connections from the content of the desk
   pub connections_private : (all_served : List (Connection R W)) (old new : Between L C (Service D))
       → Served old all_served new
-      → IsPrivateOver content is_clean is_live old.handler new.handler (streams_of all_served)
+      → IsPrivateOver view old.handler new.handler (streams_of all_served)
   connections_private all_served old new were_served = λ clean live sound books tied.
-      let rows = content (desk_of old.handler) in
+      let rows = view.content (desk_of old.handler) in
       connections_served all_served old new were_served clean rows.country books rows refl sound tied (λ _. refl)

@@ -14,6 +14,7 @@ use Rattle.td_desk.specs.declared.fault.Fault.TheVariants as fault
 use Rattle.td_desk.specs.declared.running.Outcome.{Outcome}
 use Rattle.td_desk.specs.declared.running.Outcome.TheVariants as outcome
 use Rattle.td_desk.specs.Content.{Content, IsSound}
+use Rattle.td_desk.specs.View.{DeskView}
 use Rattle.td_desk.specs.Runs.{IsRun, IsStep, IsTied, is_holder, heard}
 use Rattle.td_desk.proofs.Turns.{run_more}
 use Rattle.td_fields.specs.declared.fault.WebFault.{WebFault}
@@ -166,26 +167,26 @@ module _ (country : List ℕ) (books : ℕ → Book) (before : ℕ) (e : Exchang
       (after.0, served_same country books before e es after.0 (λ H. rw is refl) (λ H. rw is refl) (λ other bad. subst (λ (f : WebFault). IsFaultReply f (question before e.wire).close e.reply) (same_fault why other (command_in (question before e.wire)) is bad) handled.1) (λ command read none made. absurd (not_both command why (command_in (question before e.wire)) is read)) after.1, after.2)
 
 -- a chain that ends clean was clean all along
-pub chain_clean : {C S D : Type 0} (ticks : C → ℤ → C → Type 0) (desk : S → D) (content : D → Content) (is_clean is_live : D → Type 0) (has_store : Type 0) (es : List Exchange) (before : ℕ) (old new : C × S)
-    → Chain ticks (IsHandled desk content is_clean is_live has_store) before old es new → is_clean (desk new.1) → is_clean (desk old.1)
-chain_clean {C} {S} ticks desk content is_clean is_live has_store [] before old new chain clean = subst (λ (x : C × S). is_clean (desk x.1)) chain clean
-chain_clean ticks desk content is_clean is_live has_store (e ∷ es) before old new chain clean =
-    chain.3.clean (chain_clean ticks desk content is_clean is_live has_store es (before + 1) (chain.0, chain.1) new chain.4 clean)
+pub chain_clean : {C S D : Type 0} (ticks : C → ℤ → C → Type 0) (desk : S → D) (view : DeskView D) (es : List Exchange) (before : ℕ) (old new : C × S)
+    → Chain ticks (IsHandled desk view) before old es new → view.is_clean (desk new.1) → view.is_clean (desk old.1)
+chain_clean {C} {S} ticks desk view [] before old new chain clean = subst (λ (x : C × S). view.is_clean (desk x.1)) chain clean
+chain_clean ticks desk view (e ∷ es) before old new chain clean =
+    chain.3.clean (chain_clean ticks desk view es (before + 1) (chain.0, chain.1) new chain.4 clean)
 
 -- A chain of handled requests, from a content that is tied to books. The desk may be shut on the way: then rows is the content up to that.
-pub chain_served : {C S D : Type 0} (ticks : C → ℤ → C → Type 0) (desk : S → D) (content : D → Content) (is_clean is_live : D → Type 0) (has_store : Type 0) (country : List ℕ)
+pub chain_served : {C S D : Type 0} (ticks : C → ℤ → C → Type 0) (desk : S → D) (view : DeskView D) (country : List ℕ)
     (es : List Exchange) (before : ℕ) (books : ℕ → Book) (old new : C × S) (rows : Content)
-    → Chain ticks (IsHandled desk content is_clean is_live has_store) before old es new → is_clean (desk new.1)
-    → rows.country ≡ country → IsSound rows → IsTied rows books → (is_live (desk old.1) → content (desk old.1) ≡ rows)
-    → (c : Content) × IsServed country books before es c × (is_live (desk new.1) → content (desk new.1) ≡ c)
-chain_served {C} {S} ticks desk content is_clean is_live has_store country [] before books old new rows chain clean same_country sound tied same = (
+    → Chain ticks (IsHandled desk view) before old es new → view.is_clean (desk new.1)
+    → rows.country ≡ country → IsSound rows → IsTied rows books → (view.is_live (desk old.1) → view.content (desk old.1) ≡ rows)
+    → (c : Content) × IsServed country books before es c × (view.is_live (desk new.1) → view.content (desk new.1) ≡ c)
+chain_served {C} {S} ticks desk view country [] before books old new rows chain clean same_country sound tied same = (
   rows,
   record { answers = λ H. refl; faults = tt; nobodys = tt; country_stays = same_country; sound = sound; tied = record { each = tied.each; grown = tied.grown } },
-  subst (λ (x : C × S). is_live (desk x.1) → content (desk x.1) ≡ rows) (sym chain) same,
+  subst (λ (x : C × S). view.is_live (desk x.1) → view.content (desk x.1) ≡ rows) (sym chain) same,
 )
-chain_served ticks desk content is_clean is_live has_store country (e ∷ es) before books old new rows chain clean same_country sound tied same =
+chain_served ticks desk view country (e ∷ es) before books old new rows chain clean same_country sound tied same =
     let mid = chain.1 in
-    let mid_clean = chain_clean ticks desk content is_clean is_live has_store es (before + 1) (chain.0, mid) new chain.4 clean in
-    by_reading country books before e es (is_live (desk old.1)) (is_live (desk mid)) (is_live (desk new.1)) (content (desk old.1)) (content (desk mid)) (content (desk new.1)) rows same_country sound tied same (chain.3.live mid_clean)
-    (λ books' rows' same_country' sound' tied' same'. chain_served ticks desk content is_clean is_live has_store country es (before + 1) books' (chain.0, mid) new rows' chain.4 clean same_country' sound' tied' same')
+    let mid_clean = chain_clean ticks desk view es (before + 1) (chain.0, mid) new chain.4 clean in
+    by_reading country books before e es (view.is_live (desk old.1)) (view.is_live (desk mid)) (view.is_live (desk new.1)) (view.content (desk old.1)) (view.content (desk mid)) (view.content (desk new.1)) rows same_country sound tied same (chain.3.live mid_clean)
+    (λ books' rows' same_country' sound' tied' same'. chain_served ticks desk view country es (before + 1) books' (chain.0, mid) new rows' chain.4 clean same_country' sound' tied' same')
     (command_in (question before e.wire)) refl (chain.3.handled mid_clean)

@@ -4,6 +4,7 @@ use Rattle.std.specs.List.{flat_map}
 use Rattle.std.specs.declared.io.Error.{Error}
 use Rattle.td_model.specs.Book.{Book}
 use Rattle.td_desk.specs.Content.{Content}
+use Rattle.td_desk.specs.View.{DeskView}
 use Rattle.http_wire.specs.declared.reply.Reply.{Reply}
 use Rattle.http_wire.specs.ReplyText.{bytes_of, is_made}
 use Rattle.http_wire.specs.Stream.{Exchange}
@@ -64,12 +65,12 @@ pub record TellAlikeOver (country : List ℕ) (H : ℕ) (streams others : List (
 -- `serve_connections` promises.
 pub record AreServedAt {R W C D L : Type 0} (remaining : R → Option (List ℕ)) (contents : W → Option (List ℕ))
     (gives takes : L → R → W → L → Type 0) (refuses : L → Error → L → Type 0) (ticks : C → ℤ → C → Type 0)
-    (content : D → Content) (is_clean is_live : D → Type 0) (has_store : Type 0)
+    (view : DeskView D)
     (country : List ℕ) (books : ℕ → Book) (old new : Between L C (Service D)) (count : ℕ)
     (answer : Result Unit Error) : Type 0 where
-  pub desk : IsDeskOf content is_live country books old.handler
-  pub clean : is_clean (desk_of new.handler)
+  pub desk : IsDeskOf view country books old.handler
+  pub clean : view.is_clean (desk_of new.handler)
   pub served : ServesConnections remaining contents gives takes refuses ticks
-      (IsHandledBy content is_clean is_live has_store) IsHeadHandledBy old new count answer
-  pub private : IsPrivateOver content is_clean is_live old.handler new.handler
+      (IsHandledBy view) IsHeadHandledBy old new count answer
+  pub private : IsPrivateOver view old.handler new.handler
       (map (λ connection. connection.exchanges) served.all_served)

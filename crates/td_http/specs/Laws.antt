@@ -6,6 +6,7 @@ use Rattle.td_commands.specs.Commands.{owner_of}
 use Rattle.td_desk.specs.declared.fault.Fault.{Fault}
 use Rattle.td_desk.specs.declared.fault.Fault.TheVariants as fault
 use Rattle.td_desk.specs.Content.{Content, IsSound}
+use Rattle.td_desk.specs.View.{DeskView}
 use Rattle.td_desk.specs.Runs.{IsTied, is_holder}
 use Rattle.td_fields.specs.declared.fault.WebFault.{WebFault}
 use Rattle.http_wire.specs.declared.reply.Reply.{Reply}
@@ -89,29 +90,29 @@ pub record TellAlike (country : List ℕ) (H : ℕ) (es others : List Exchange) 
   pub heard : HeardAlike country H es others → ToldAlike country H es others
 
 -- a desk of a country, which no fault has shut, and whose content is sound and tied to books
-pub record IsDeskOf {D : Type 0} (content : D → Content) (is_live : D → Type 0)
+pub record IsDeskOf {D : Type 0} (view : DeskView D)
     (country : List ℕ) (books : ℕ → Book) (service : Service D) : Type 0 where
-  pub country_is : (content (desk_of service)).country ≡ country
-  pub live : is_live (desk_of service)
-  pub sound : IsSound (content (desk_of service))
-  pub tied : IsTied (content (desk_of service)) books
+  pub country_is : (view.content (desk_of service)).country ≡ country
+  pub live : view.is_live (desk_of service)
+  pub sound : IsSound (view.content (desk_of service))
+  pub tied : IsTied (view.content (desk_of service)) books
 
 -- A stream that was served at such a desk, and left it clean. The last two parts are what `serve_stream`
 -- promises.
 pub record IsStreamAt {R W C D : Type 0} (remaining : R → Option (List ℕ)) (contents : W → Option (List ℕ))
     (ticks : C → ℤ → C → Type 0)
-    (content : D → Content) (is_clean is_live : D → Type 0) (has_store : Type 0)
+    (view : DeskView D)
     (country : List ℕ) (books : ℕ → Book) (old new : Sides R W C (Service D)) (end : StreamEnd) : Type 0 where
-  pub desk : IsDeskOf content is_live country books old.handler
-  pub clean : is_clean (desk_of new.handler)
+  pub desk : IsDeskOf view country books old.handler
+  pub clean : view.is_clean (desk_of new.handler)
   pub served : Serves remaining contents ticks
-      (IsHandledBy content is_clean is_live has_store) IsHeadHandledBy old new end
-  pub private : IsPrivate content is_clean is_live old.handler new.handler served.run.exchanges
+      (IsHandledBy view) IsHeadHandledBy old new end
+  pub private : IsPrivate view old.handler new.handler served.run.exchanges
 
 -- One request that was handled at such a desk. The last part is what `Service::handle` promises.
-pub record IsRequestAt {D : Type 0} (content : D → Content) (is_clean is_live : D → Type 0)
+pub record IsRequestAt {D : Type 0} (view : DeskView D)
     (country : List ℕ) (books : ℕ → Book)
     (old : Service D) (at : ℤ) (asked : Asked) (reply : Reply) (new : Service D) : Type 0 where
-  pub desk : IsDeskOf content is_live country books old
-  pub clean : is_clean (desk_of new)
-  pub private : IsPrivateAlone content is_clean is_live old at asked reply new
+  pub desk : IsDeskOf view country books old
+  pub clean : view.is_clean (desk_of new)
+  pub private : IsPrivateAlone view old at asked reply new

@@ -35,8 +35,8 @@ pub record IsServedOver (country : List ℕ) (books : ℕ → Book) (streams : L
 -- Where a fault shut the desk on the way, in whichever connection, c is the content up to that.
 abbrev pub IsPrivateOver : {D : Type 0} → (D → Content) → (D → Type 0) → (D → Type 0)
     → Service D → Service D → List (List Exchange) → Type 0
-IsPrivateOver content is_clean is_live old new streams =
-    is_clean (desk_of new) → is_live (desk_of old) → IsSound (content (desk_of old))
-    → (books : ℕ → Book) → IsTied (content (desk_of old)) books
-    → (c : Content) × IsServedOver (content (desk_of old)).country books streams c
-    × (is_live (desk_of new) → content (desk_of new) ≡ c)
+IsPrivateOver view old new streams =
+    view.is_clean (desk_of new) → view.is_live (desk_of old) → IsSound (view.content (desk_of old))
+    → (books : ℕ → Book) → IsTied (view.content (desk_of old)) books
+    → (c : Content) × IsServedOver (view.content (desk_of old)).country books streams c
+    × (view.is_live (desk_of new) → view.content (desk_of new) ≡ c)

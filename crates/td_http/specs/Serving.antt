@@ -12,6 +12,7 @@ use Rattle.td_commands.specs.declared.said.Said.{Said}
 use Rattle.td_desk.specs.declared.fault.Fault.{Fault}
 use Rattle.td_desk.specs.declared.running.Outcome.{Outcome}
 use Rattle.td_desk.specs.Content.{Content, IsSound}
+use Rattle.td_desk.specs.View.{DeskView}
 use Rattle.td_desk.specs.Runs.{IsOutcomeOf, IsStep, IsTied, is_holder}
 use Rattle.td_fields.specs.declared.fault.WebFault.{WebFault}
 use Rattle.http_wire.specs.declared.reply.Reply.{Reply}
@@ -51,13 +52,12 @@ HandledAs was_live is_live old at (Err why) close reply new = (is_live → new �
 
 -- The same at a service whose desk has this content, is clean and live so, and may have a store. What can't
 -- be read is told from the request alone: the desk is the very same after it.
-pub record IsHandled {S D : Type 0} (desk : S → D) (content : D → Content) (is_clean is_live : D → Type 0)
-    (has_store : Type 0) (old : S) (at : ℤ) (asked : Asked) (reply : Reply) (new : S) : Type 0 where
-  pub clean : is_clean (desk new) → is_clean (desk old)
-  pub live : is_clean (desk new) → is_live (desk new) → is_live (desk old)
-  pub handled : is_clean (desk new)
-      → HandledAs (is_live (desk old)) (is_live (desk new)) (content (desk old)) at
-      (command_in asked) asked.close reply (content (desk new))
+pub record IsHandled {S D : Type 0} (desk : S → D) (view : DeskView D) (old : S) (at : ℤ) (asked : Asked) (reply : Reply) (new : S) : Type 0 where
+  pub clean : view.is_clean (desk new) → view.is_clean (desk old)
+  pub live : view.is_clean (desk new) → view.is_live (desk new) → view.is_live (desk old)
+  pub handled : view.is_clean (desk new)
+      → HandledAs (view.is_live (desk old)) (view.is_live (desk new)) (view.content (desk old)) at
+      (command_in asked) asked.close reply (view.content (desk new))
   pub unasked : (why : WebFault) → command_in asked ≡ Err why → desk new ≡ desk old
   pub store : reply ≡ Store → has_store
 
@@ -181,17 +181,17 @@ pub record IsHeadHandledBy {D : Type 0} (old : Service D) (target : List ℕ) (r
 -- a fault shut the desk on the way, c is the content up to that.
 abbrev pub IsPrivate : {D : Type 0} → (D → Content) → (D → Type 0) → (D → Type 0) → Service D → Service D
     → List Exchange → Type 0
-IsPrivate content is_clean is_live old new exchanges =
-    is_clean (desk_of new) → is_live (desk_of old) → IsSound (content (desk_of old)) → (books : ℕ → Book)
-    → IsTied (content (desk_of old)) books
-    → (c : Content) × IsServed (content (desk_of old)).country books 0 exchanges c
-    × (is_live (desk_of new) → content (desk_of new) ≡ c)
+IsPrivate view old new exchanges =
+    view.is_clean (desk_of new) → view.is_live (desk_of old) → IsSound (view.content (desk_of old)) → (books : ℕ → Book)
+    → IsTied (view.content (desk_of old)) books
+    → (c : Content) × IsServed (view.content (desk_of old)).country books 0 exchanges c
+    × (view.is_live (desk_of new) → view.content (desk_of new) ≡ c)
 
 -- The same of one request alone, from books to the books after it.
 abbrev pub IsPrivateAlone : {D : Type 0} → (D → Content) → (D → Type 0) → (D → Type 0) → Service D → ℤ → Asked
     → Reply → Service D → Type 0
-IsPrivateAlone content is_clean is_live old at asked reply new =
-    is_clean (desk_of new) → is_live (desk_of old) → IsSound (content (desk_of old)) → (books : ℕ → Book)
-    → IsTied (content (desk_of old)) books
-    → (c : Content) × IsServedAlone (content (desk_of old)).country books at asked reply c
-    × (is_live (desk_of new) → content (desk_of new) ≡ c)
+IsPrivateAlone view old at asked reply new =
+    view.is_clean (desk_of new) → view.is_live (desk_of old) → IsSound (view.content (desk_of old)) → (books : ℕ → Book)
+    → IsTied (view.content (desk_of old)) books
+    → (c : Content) × IsServedAlone (view.content (desk_of old)).country books at asked reply c
+    × (view.is_live (desk_of new) → view.content (desk_of new) ≡ c)

@@ -29,9 +29,9 @@ pub fn agreeing_connections_tell_the_same<
         (other_old other_new : Between OtherL OtherC (Service OtherD)) (other_count : ℕ)
         (other_answer : Result Unit Error)
         → (one : AreServedAt L.Reader.remaining L.Writer.contents L.gives L.takes L.refuses C.ticks
-        D.content D.is_clean D.is_live D.has_store country books old new count answer)
+        D.seen country books old new count answer)
         → (other : AreServedAt OtherL.Reader.remaining OtherL.Writer.contents OtherL.gives OtherL.takes
-        OtherL.refuses OtherC.ticks OtherD.content OtherD.is_clean OtherD.is_live OtherD.has_store
+        OtherL.refuses OtherC.ticks OtherD.seen
         country others other_old other_new other_count other_answer)
         → books H ≡ others H
         → TellAlikeOver country H (map (λ connection. connection.exchanges) one.served.all_served)

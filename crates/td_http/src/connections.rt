@@ -49,7 +49,7 @@ fn serve_next<L: Connections, C: Clock, D: Desk + Drop>(
     service: &mut Service<D>,
 ) -> io::Result<()>
     ensures { ServesNext L.Reader.remaining L.Writer.contents L.gives L.takes L.refuses
-        C.ticks (IsHandledBy D.content D.is_clean D.is_live D.has_store) IsHeadHandledBy
+        C.ticks (IsHandledBy D.seen) IsHeadHandledBy
         (record { source = connections.old; clock = clock.old; handler = service.old })
         (record { source = connections.new; clock = clock.new; handler = service.new }) result }
 {
@@ -76,10 +76,10 @@ pub fn serve_connections<L: Connections, C: Clock, D: Desk + Drop>(
     service: &mut Service<D>,
 ) -> io::Result<()>
     ensures { (served : ServesConnections L.Reader.remaining L.Writer.contents L.gives L.takes L.refuses
-        C.ticks (IsHandledBy D.content D.is_clean D.is_live D.has_store) IsHeadHandledBy
+        C.ticks (IsHandledBy D.seen) IsHeadHandledBy
         (record { source = connections.old; clock = clock.old; handler = service.old })
         (record { source = connections.new; clock = clock.new; handler = service.new }) count result)
-        × IsPrivateOver D.content D.is_clean D.is_live service.old service.new
+        × IsPrivateOver D.seen service.old service.new
         (map (λ connection. connection.exchanges) served.all_served) }
 {
     for _ in 0..count {

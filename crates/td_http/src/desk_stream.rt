@@ -13,7 +13,7 @@ use td_desk::Desk;
 impl<D: Desk + Drop> Handler for Service<D> {
     ghost use Rattle.td_http.specs.Serving.{IsHandledBy, IsHeadHandledBy};
 
-    ghost handles = { IsHandledBy D.content D.is_clean D.is_live D.has_store };
+    ghost handles = { IsHandledBy D.seen };
 
     ghost handles_head = { IsHeadHandledBy };
 
@@ -41,10 +41,10 @@ pub fn serve_stream<R: Read, W: Write, C: Clock, D: Desk + Drop>(
     service: &mut Service<D>,
 ) -> StreamEnd
     ensures { (served : Serves R.remaining W.contents C.ticks
-        (IsHandledBy D.content D.is_clean D.is_live D.has_store) IsHeadHandledBy
+        (IsHandledBy D.seen) IsHeadHandledBy
         (record { reader = reader.old; writer = writer.old; clock = clock.old; handler = service.old })
         (record { reader = reader.new; writer = writer.new; clock = clock.new; handler = service.new }) result)
-        × IsPrivate D.content D.is_clean D.is_live service.old service.new served.run.exchanges }
+        × IsPrivate D.seen service.old service.new served.run.exchanges }
 {
     serve_requests(alloc, reader, writer, clock, service)
 }

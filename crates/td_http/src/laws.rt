@@ -34,10 +34,9 @@ pub fn agreeing_streams_tell_the_same<
     ensures { (country : List ℕ) (H : ℕ) (books others : ℕ → Book)
         (old new : Sides R W C (Service D)) (end : StreamEnd)
         (other_old other_new : Sides OtherR OtherW OtherC (Service OtherD)) (other_end : StreamEnd)
-        → (one : IsStreamAt R.remaining W.contents C.ticks D.content D.is_clean D.is_live D.has_store
+        → (one : IsStreamAt R.remaining W.contents C.ticks D.seen
         country books old new end)
-        → (other : IsStreamAt OtherR.remaining OtherW.contents OtherC.ticks OtherD.content OtherD.is_clean
-        OtherD.is_live OtherD.has_store country others other_old other_new other_end)
+        → (other : IsStreamAt OtherR.remaining OtherW.contents OtherC.ticks OtherD.seen country others other_old other_new other_end)
         → books H ≡ others H
         → TellAlike country H one.served.run.exchanges other.served.run.exchanges }
 {}
@@ -48,8 +47,8 @@ pub fn equal_requests_are_told_the_same<D: Desk, OtherD: Desk>()
     ensures { (country : List ℕ) (H : ℕ) (books others : ℕ → Book) (command : Command) (at : ℤ)
         (old new : Service D) (asked : Asked) (reply : Reply)
         (other_old other_new : Service OtherD) (other_asked : Asked) (other_reply : Reply)
-        → IsRequestAt D.content D.is_clean D.is_live country books old at asked reply new
-        → IsRequestAt OtherD.content OtherD.is_clean OtherD.is_live country others
+        → IsRequestAt D.seen country books old at asked reply new
+        → IsRequestAt OtherD.seen country others
         other_old at other_asked other_reply other_new
         → books H ≡ others H → owner_of country command ≡ Some H
         → command_in asked ≡ Ok command → command_in other_asked ≡ Ok command

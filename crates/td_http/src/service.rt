@@ -34,15 +34,15 @@ fn weigh_and_carry<D: Desk>(
     command: &Command,
     close: bool,
 ) -> Result<Vec<u8>, Fault>
-    ensures clean { D.is_clean desk.new → D.is_clean desk.old }
-    ensures live { D.is_clean desk.new → D.is_live desk.new → D.is_live desk.old }
-    ensures answered { D.is_clean desk.new → MatchResult result
+    ensures clean { D.seen.is_clean desk.new → D.seen.is_clean desk.old }
+    ensures live { D.seen.is_clean desk.new → D.seen.is_live desk.new → D.seen.is_live desk.old }
+    ensures answered { D.seen.is_clean desk.new → MatchResult result
         (λ bytes. (words : Said) × (bytes.items ≡ said_reply words close)
-        × IsStep (D.is_live desk.old) (D.is_live desk.new) (D.content desk.old)
-        (record { at = at; command = command.now }) (outcome.Said words) (D.content desk.new))
-        (λ why. IsStep (D.is_live desk.old) (D.is_live desk.new) (D.content desk.old)
-        (record { at = at; command = command.now }) (outcome.Failed why) (D.content desk.new)) }
-    ensures store { result ≡ Err fault.Store → D.has_store }
+        × IsStep (D.seen.is_live desk.old) (D.seen.is_live desk.new) (D.seen.content desk.old)
+        (record { at = at; command = command.now }) (outcome.Said words) (D.seen.content desk.new))
+        (λ why. IsStep (D.seen.is_live desk.old) (D.seen.is_live desk.new) (D.seen.content desk.old)
+        (record { at = at; command = command.now }) (outcome.Failed why) (D.seen.content desk.new)) }
+    ensures store { result ≡ Err fault.Store → D.seen.has_store }
     // a failure is the desk's own, or of missing memory for the bytes at a desk that didn't fail
     ensures calls { MatchResult result
         (λ bytes. (words : Said) × IsOutcomeOf D.called desk.old (outcome.Said words) desk.new)
@@ -85,12 +85,12 @@ fn reply_to_command<D: Desk>(
     command: &Command,
     close: bool,
 ) -> Reply
-    ensures clean { D.is_clean desk.new → D.is_clean desk.old }
-    ensures live { D.is_clean desk.new → D.is_live desk.new → D.is_live desk.old }
-    ensures handled { D.is_clean desk.new
-        → HandledAs (D.is_live desk.old) (D.is_live desk.new) (D.content desk.old) at (Ok command.now) close result
-        (D.content desk.new) }
-    ensures store { result ≡ Reply.Store → D.has_store }
+    ensures clean { D.seen.is_clean desk.new → D.seen.is_clean desk.old }
+    ensures live { D.seen.is_clean desk.new → D.seen.is_live desk.new → D.seen.is_live desk.old }
+    ensures handled { D.seen.is_clean desk.new
+        → HandledAs (D.seen.is_live desk.old) (D.seen.is_live desk.new) (D.seen.content desk.old) at (Ok command.now) close result
+        (D.seen.content desk.new) }
+    ensures store { result ≡ Reply.Store → D.seen.has_store }
     ensures calls { IsCausedBy D.called desk.old result desk.new }
 {
     match weigh_and_carry(alloc, desk, at, command, close) {
@@ -136,12 +136,12 @@ impl<D: Desk + Drop> Service<D> {
     /// The reply to a request that comes at that number of seconds since 1970. A fixed reply is of a fault:
     /// the request changed nothing. A request that can't be read doesn't ask the desk.
     pub fn handle(&mut self, alloc: Global, at: i64, request: &Request) -> Reply
-        ensures handled { IsHandledBy D.content D.is_clean D.is_live D.has_store self.old at
+        ensures handled { IsHandledBy D.seen self.old at
             (asked request.now) result self.new }
         // A fixed reply is the fault that the desk answered, or missing memory at a desk that didn't fail.
         ensures calls { (desk_of self.new ≡ desk_of self.old) × (result ≢ Reply.Store)
             ⊎ IsCausedBy D.called (desk_of self.old) result (desk_of self.new) }
-        ensures alone { IsPrivateAlone D.content D.is_clean D.is_live self.old at (asked request.now) result self.new }
+        ensures alone { IsPrivateAlone D.seen self.old at (asked request.now) result self.new }
     {
         match read_command_by(alloc, &mut self.routes, request) {
             Ok(command) => reply_to_command(alloc, &mut self.desk, at, &command, request.close),

@@ -74,9 +74,9 @@ pub fn serve_on<C: Clock, D: Desk + Drop>(
     service: &mut Service<D>,
 ) -> io::Result<()>
     ensures { (served : ServesSockets C.ticks
-        (IsHandledBy D.content D.is_clean D.is_live D.has_store) IsHeadHandledBy
+        (IsHandledBy D.seen) IsHeadHandledBy
         clock.old service.old clock.new service.new connections result)
-        × IsPrivateOver D.content D.is_clean D.is_live service.old service.new
+        × IsPrivateOver D.seen service.old service.new
         (map (λ connection. connection.exchanges) served.all_served) }
 {
     let mut incoming = Incoming { listener };

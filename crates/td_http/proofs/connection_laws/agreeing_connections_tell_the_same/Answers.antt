@@ -6,8 +6,8 @@ pub returns : goal.returns
 returns g c = λ country H books others old new count answer other_old other_new other_count other_answer one other same.
     let desk = g.D.Desk in
     let streams = map (λ connection. connection.exchanges) one.served.all_served in
-    let served = served_over_at desk.content desk.is_clean desk.is_live country books old.handler new.handler streams one.desk one.clean one.private in
+    let served = served_over_at desk.seen country books old.handler new.handler streams one.desk one.clean one.private in
     let other_desk = g.OtherD.Desk in
     let other_streams = map (λ connection. connection.exchanges) other.served.all_served in
-    let other_served = served_over_at other_desk.content other_desk.is_clean other_desk.is_live country others other_old.handler other_new.handler other_streams other.desk other.clean other.private in
+    let other_served = served_over_at other_desk.seen country others other_old.handler other_new.handler other_streams other.desk other.clean other.private in
     tell_alike_over country H books others streams other_streams served.0 other_served.0 served.1 other_served.1 same

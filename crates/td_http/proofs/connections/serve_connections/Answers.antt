@@ -14,7 +14,7 @@ loop-preserved g c =
     let next = c.serve_next.new in
     let served = c.in_ok-serve_next.ensures in
     serving_more g.L.Reader.Read.remaining g.L.Writer.Write.contents source.gives source.takes g.C.Clock.ticks
-    (IsHandledBy desk.content desk.is_clean desk.is_live desk.has_store) IsHeadHandledBy
+    (IsHandledBy desk.seen) IsHeadHandledBy
     (between c.args.connections.now c.args.clock.now c.args.service.now)
     (between c.loop.connections c.loop.clock c.loop.service) (between next.connections next.clock next.service)
     c.loop.counter served.0 c.loop.invariant served.1
@@ -32,7 +32,7 @@ returns-in_err-serve_next g c =
     let last = between c.loop.connections c.loop.clock c.loop.service in (
       record { all_served = serving.all_served; last = last; were_served = serving.were_served; ended = rw told (omega arith, refused) },
       rw refused.handler (connections_private g.L.Reader.Read.remaining g.L.Writer.Write.contents source.gives
-          source.takes g.C.Clock.ticks desk.content desk.is_clean desk.is_live desk.has_store
+          source.takes g.C.Clock.ticks desk.seen
           serving.all_served old last serving.were_served),
     )
 
@@ -48,6 +48,6 @@ returns g c =
     let last = between c.loop.connections c.loop.clock c.loop.service in (
       record { all_served = serving.all_served; last = last; were_served = serving.were_served; ended = (omega arith, refl {a = last}) },
       connections_private g.L.Reader.Read.remaining g.L.Writer.Write.contents source.gives source.takes
-          g.C.Clock.ticks desk.content desk.is_clean desk.is_live desk.has_store
+          g.C.Clock.ticks desk.seen
           serving.all_served old last serving.were_served,
     )

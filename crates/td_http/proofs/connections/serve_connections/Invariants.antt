@@ -7,6 +7,6 @@ invariant-loop g l =
     let desk = g.D.Desk in
     let source = g.L.Connections in
     Serving g.L.Reader.Read.remaining g.L.Writer.Write.contents source.gives source.takes g.C.Clock.ticks
-    (IsHandledBy desk.content desk.is_clean desk.is_live desk.has_store) IsHeadHandledBy
+    (IsHandledBy desk.seen) IsHeadHandledBy
     (record { source = l.initial.connections; clock = l.initial.clock; handler = l.initial.service })
     (record { source = l.connections; clock = l.clock; handler = l.service }) l.counter

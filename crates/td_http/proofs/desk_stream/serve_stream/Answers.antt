@@ -5,4 +5,4 @@ pub returns : goal.returns
 returns g c =
     let served = c.serve_requests.ensures in
     let desk = g.D.Desk in
-    (served, stream_private g.C.Clock.ticks desk.content desk.is_clean desk.is_live desk.has_store c.args.clock.now c.serve_requests.new.clock c.args.service.now served.run.handler c.serve_requests.new.handler served.run.exchanges served.run.rest served.run.ending served.chain served.ending)
+    (served, stream_private g.C.Clock.ticks desk.seen c.args.clock.now c.serve_requests.new.clock c.args.service.now served.run.handler c.serve_requests.new.handler served.run.exchanges served.run.rest served.run.ending served.chain served.ending)

@@ -4,7 +4,7 @@ use Rattle.td_http.proofs.laws.agreeing_streams_tell_the_same.Goals as goal
 pub returns : goal.returns
 returns g c = λ country H books others old new end other_old other_new other_end one other same.
     let desk = g.D.Desk in
-    let served = served_at desk.content desk.is_clean desk.is_live country books old.handler new.handler one.served.run.exchanges one.desk one.clean one.private in
+    let served = served_at desk.seen country books old.handler new.handler one.served.run.exchanges one.desk one.clean one.private in
     let other_desk = g.OtherD.Desk in
-    let other_served = served_at other_desk.content other_desk.is_clean other_desk.is_live country others other_old.handler other_new.handler other.served.run.exchanges other.desk other.clean other.private in
+    let other_served = served_at other_desk.seen country others other_old.handler other_new.handler other.served.run.exchanges other.desk other.clean other.private in
     tell_alike country H books others one.served.run.exchanges other.served.run.exchanges served.0 other_served.0 served.1 other_served.1 same

@@ -9,7 +9,7 @@ use Rattle.td_http.proofs.service.weigh_and_carry.Goals as goal
 
 pub returns-clause-answered : goal.returns-clause-answered
 returns-clause-answered g c = λ clean.
-    let content = g.D.Desk.content in
+    let content = g.D.Desk.seen.content in
     let s : Stamped = record { at = c.args.at; command = c.args.command.now } in
     let weighing = c.in-Ok.ensures in
     let carrying = c.in_ok-_said.ensures in

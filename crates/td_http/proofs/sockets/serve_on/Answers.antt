@@ -16,7 +16,7 @@ returns g c =
         all_served = served.all_served;
         last = beside served.last.clock served.last.handler;
         were_served = were_served_anyhow (λ _. None) (λ _. None) (λ _ _ _ _. Unit {0}) (λ _ _ _ _. Unit {0})
-            g.C.Clock.ticks (IsHandledBy desk.content desk.is_clean desk.is_live desk.has_store) IsHeadHandledBy
+            g.C.Clock.ticks (IsHandledBy desk.seen) IsHeadHandledBy
             served.all_served old served.last served.were_served;
         ended = ended_anyhow (λ _ _ _. Unit {0}) served.all_served served.last new c.args.connections call.result
             served.ended;

@@ -9,16 +9,16 @@ pub returns-in-Err-clause-handled : goal.returns-in-Err-clause-handled
 returns-in-Err-clause-handled g c = record {
   clean = λ clean. clean;
   live = λ clean live. live;
-  handled = λ clean. unread_handled (g.D.Desk.is_live c.args.self.now.desk) (g.D.Desk.is_live c.args.self.now.desk) (g.D.Desk.content c.args.self.now.desk) c.args.at (command_in (asked c.args.request.now)) c.args.request.now.close c.in-Err.fault c.reply_to_unread.result c.in-Err.ensures c.reply_to_unread.ensures.memory c.reply_to_unread.ensures.told;
+  handled = λ clean. unread_handled (g.D.Desk.seen.is_live c.args.self.now.desk) (g.D.Desk.seen.is_live c.args.self.now.desk) (g.D.Desk.seen.content c.args.self.now.desk) c.args.at (command_in (asked c.args.request.now)) c.args.request.now.close c.in-Err.fault c.reply_to_unread.result c.in-Err.ensures c.reply_to_unread.ensures.memory c.reply_to_unread.ensures.told;
   unasked = λ why bad. refl;
   store = λ h. absurd (unread_stores_nothing c.in-Err.fault c.args.request.now.close c.reply_to_unread.result c.reply_to_unread.ensures.told h);
 }
 
 pub returns-in-Err-clause-alone : goal.returns-in-Err-clause-alone
-returns-in-Err-clause-alone g c = handled_alone g.D.Desk.content g.D.Desk.is_clean g.D.Desk.is_live g.D.Desk.has_store _ c.args.at _ _ _ (returns-in-Err-clause-handled g c)
+returns-in-Err-clause-alone g c = handled_alone g.D.Desk.seen _ c.args.at _ _ _ (returns-in-Err-clause-handled g c)
 
 pub returns-in-Ok-clause-handled : goal.returns-in-Ok-clause-handled
 returns-in-Ok-clause-handled g c = search rules
 
 pub returns-in-Ok-clause-alone : goal.returns-in-Ok-clause-alone
-returns-in-Ok-clause-alone g c = handled_alone g.D.Desk.content g.D.Desk.is_clean g.D.Desk.is_live g.D.Desk.has_store _ c.args.at _ _ _ (returns-in-Ok-clause-handled g c)
+returns-in-Ok-clause-alone g c = handled_alone g.D.Desk.seen _ c.args.at _ _ _ (returns-in-Ok-clause-handled g c)
