@@ -64,3 +64,12 @@ module _ {D : Type 0} (view : DeskView D) (old weighed new : D) (s : Stamped) (d
     λ accepted. settled (is_no_nothing d.change (decided.changes ∙ accepted)) live,
     λ refused. subst (AddsAtMost view (λ _. ⊥) old) (sym (still (is_nothing d.change (decided.changes ∙ refused)))) weighing,
   )
+
+-- a decision that was carried leaves a settled desk, whether it changed something or not
+pub settled_said : {D : Type 0} (view : DeskView D) (weighed new : D) (c : Change) → IsSettled view weighed → (c ≢ change.Nothing → IsSettled view new)
+    → (c ≡ change.Nothing → new ≡ weighed) → IsSettled view new
+settled_said view weighed new c before settled still = by_change (is_change c) refl
+  where
+    by_change : (b : Bool) → is_change c ≡ b → IsSettled view new
+    by_change true is = settled (is_no_nothing c is)
+    by_change false is = subst (IsSettled view) (sym (still (is_nothing c is))) before

@@ -1,10 +1,14 @@
 -- What a request does, by how it was read.
-use Rattle.std.proofs.Common.{◌≡◌, ℤ, Bool, Result, Ok, Err, refl, sym, ◌∙◌, ap, subst, inl, inr}
+use Rattle.std.proofs.Common.{◌≡◌, ℤ, Bool, not, Result, Ok, Err, refl, sym, ◌∙◌, ap, subst, inl, inr}
 use Rattle.std.proofs.lemmas.Bool.{false≢true}
 use Rattle.td_commands.specs.declared.command.Command.{Command}
+use Rattle.td_commands.specs.declared.command.Stamped.{Stamped}
 use Rattle.td_desk.specs.declared.fault.Fault.TheVariants as fault
 use Rattle.td_desk.specs.declared.running.Outcome.TheVariants as outcome
 use Rattle.td_desk.specs.Content.{Content}
+use Rattle.td_desk.specs.Runs.{LeavesAfter}
+use Rattle.td_desk.specs.View.{DeskView}
+use Rattle.td_desk.proofs.Leaving.{adds_more, adds_none}
 use Rattle.td_fields.specs.declared.fault.WebFault.{WebFault}
 use Rattle.td_fields.specs.declared.fault.WebFault.TheVariants as why
 use Rattle.http_wire.specs.declared.reply.Reply.{Reply}
@@ -36,3 +40,11 @@ unread_handled was_live is_live content at asked close e reply (inr same) memory
 pub unread_stores_nothing : (e : WebFault) (close : Bool) (reply : Reply) → IsFaultReply e close reply → reply ≡ Store → ⊥
 unread_stores_nothing e close reply (inl none) store = cc
 unread_stores_nothing e close reply (inr made) store = false≢true (ap is_made (sym store) ∙ made.0)
+
+-- nor does it change what a crash leaves
+pub unread_left : {D : Type 0} (view : DeskView D) (d : D) (s : Stamped) (asked : Result Command WebFault) (e : WebFault) (reply : Reply) (command : Command)
+    → OrNoMemory (Err e) asked → (e ≡ why.NoMemory → reply ≡ NoMemory) → asked ≡ Ok command → LeavesAfter view d s (not (is_made reply)) d
+unread_left view d s asked e reply command (inl none) memory is =
+    let same : reply ≡ NoMemory = memory (cc) in
+    subst (λ (r : Reply). LeavesAfter view d s (not (is_made r)) d) (sym same) (adds_more view _ d d (adds_none view d))
+unread_left view d s asked e reply command (inr same) memory is = cc

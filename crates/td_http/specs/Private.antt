@@ -5,6 +5,7 @@ use Rattle.td_model.specs.Book.{Book}
 use Rattle.td_model.specs.Machine.{machine_book}
 use Rattle.td_desk.specs.Content.{Content, IsSound}
 use Rattle.td_desk.specs.Runs.{IsTied}
+use Rattle.td_desk.specs.View.{DeskView}
 use Rattle.http_wire.specs.Stream.{Exchange}
 use Rattle.td_http.specs.declared.service.Service.{Service}
 use Rattle.td_http.specs.Serving.{desk_of, HolderRequest, FaultsAreTold, NobodysAreTold, commands_of, heard_in, machine_replies, told_in}
@@ -33,8 +34,7 @@ pub record IsServedOver (country : List ℕ) (books : ℕ → Book) (streams : L
 
 -- Where the desk is clean in the end, the above holds from any books to which the desk's content was tied.
 -- Where a fault shut the desk on the way, in whichever connection, c is the content up to that.
-abbrev pub IsPrivateOver : {D : Type 0} → (D → Content) → (D → Type 0) → (D → Type 0)
-    → Service D → Service D → List (List Exchange) → Type 0
+abbrev pub IsPrivateOver : {D : Type 0} → DeskView D → Service D → Service D → List (List Exchange) → Type 0
 IsPrivateOver view old new streams =
     view.is_clean (desk_of new) → view.is_live (desk_of old) → IsSound (view.content (desk_of old))
     → (books : ℕ → Book) → IsTied (view.content (desk_of old)) books

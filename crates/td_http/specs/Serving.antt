@@ -1,6 +1,6 @@
 -- What the desk's service does with a request, and what a stream of requests tells each holder.
 -- A desk's service as a handler of requests, and what a stream at a desk tells each holder.
-use Rattle.std.specs.Prelude.{◌≡◌, ℕ, ℤ, ◌+◌, ◌⊎◌, Bool, true, false, if◌then◌else◌, List, [], ◌∷◌, ◌++◌, map, None, Option, Result, Ok, Err, option_and_then, option_map}
+use Rattle.std.specs.Prelude.{◌≡◌, ◌≢◌, not, ℕ, ℤ, ◌+◌, ◌⊎◌, Bool, true, false, if◌then◌else◌, List, [], ◌∷◌, ◌++◌, map, None, Option, Result, Ok, Err, option_and_then, option_map}
 use Rattle.td_commands.specs.declared.command.Command.{Command}
 use Rattle.td_commands.specs.declared.command.Stamped.{Stamped}
 use Rattle.td_model.specs.Account.{empty_account}
@@ -12,8 +12,8 @@ use Rattle.td_commands.specs.declared.said.Said.{Said}
 use Rattle.td_desk.specs.declared.fault.Fault.{Fault}
 use Rattle.td_desk.specs.declared.running.Outcome.{Outcome}
 use Rattle.td_desk.specs.Content.{Content, IsSound}
-use Rattle.td_desk.specs.View.{DeskView}
-use Rattle.td_desk.specs.Runs.{IsOutcomeOf, IsStep, IsTied, is_holder}
+use Rattle.td_desk.specs.View.{DeskView, IsSettled}
+use Rattle.td_desk.specs.Runs.{IsOutcomeOf, IsStep, IsTied, LeavesAfter, is_holder}
 use Rattle.td_fields.specs.declared.fault.WebFault.{WebFault}
 use Rattle.http_wire.specs.declared.reply.Reply.{Reply}
 use Rattle.http_wire.specs.declared.reply.Reply.TheVariants.{Made, NoMemory, Store}
@@ -50,16 +50,22 @@ HandledAs was_live is_live old at (Ok command) close reply new =
     × IsReplyTo o close reply
 HandledAs was_live is_live old at (Err why) close reply new = (is_live → new ≡ old) × IsFaultReply why close reply
 
--- The same at a service whose desk has this content, is clean and live so, and may have a store. What can't
--- be read is told from the request alone: the desk is the very same after it.
+-- The same at a service whose desk is seen so. What can't be read is told from the request alone: the desk is the very same
+-- after it. A live desk stays live where the reply isn't the fixed one of its store.
 pub record IsHandled {S D : Type 0} (desk : S → D) (view : DeskView D) (old : S) (at : ℤ) (asked : Asked) (reply : Reply) (new : S) : Type 0 where
   pub clean : view.is_clean (desk new) → view.is_clean (desk old)
   pub live : view.is_clean (desk new) → view.is_live (desk new) → view.is_live (desk old)
   pub handled : view.is_clean (desk new)
       → HandledAs (view.is_live (desk old)) (view.is_live (desk new)) (view.content (desk old)) at
       (command_in asked) asked.close reply (view.content (desk new))
+  pub stays : view.is_clean (desk new) → view.is_live (desk old) → reply ≢ Store → view.is_live (desk new)
   pub unasked : (why : WebFault) → command_in asked ≡ Err why → desk new ≡ desk old
-  pub store : reply ≡ Store → has_store
+  -- what a crash leaves after a command, which failed where the reply is a fixed one
+  pub crash : (command : Command) → command_in asked ≡ Ok command → view.is_clean (desk new) → IsSound (view.content (desk old))
+      → LeavesAfter view (desk old) (record { at = at; command = command }) (not (is_made reply)) (desk new)
+  -- and that it is the content alone while the desk is live, if it was before
+  pub settled : view.is_clean (desk new) → IsSettled view (desk old) → IsSettled view (desk new)
+  pub store : reply ≡ Store → view.has_store
 
 -- a demand: the command that a holder's request asks, its moment, and whether the reply tells that the stream
 -- stops
@@ -160,8 +166,7 @@ abbrev pub desk_of : {D : Type 0} → Service D → D
 desk_of s = s.desk
 
 -- what a request does to a service of a desk
-abbrev pub IsHandledBy : {D : Type 0} → (D → Content) → (D → Type 0) → (D → Type 0) → Type 0 → Service D → ℤ
-    → Asked → Reply → Service D → Type 0
+abbrev pub IsHandledBy : {D : Type 0} → DeskView D → Service D → ℤ → Asked → Reply → Service D → Type 0
 IsHandledBy = IsHandled desk_of
 
 -- the reply to a HEAD request: a head alone, with the methods of the target's path where the desk has it
@@ -179,8 +184,7 @@ pub record IsHeadHandledBy {D : Type 0} (old : Service D) (target : List ℕ) (r
 -- Where the desk is clean in the end: to each holder at once, the bytes of the replies to the holder's
 -- requests are those of the holder's own machine, from any books to which the desk's content was tied. Where
 -- a fault shut the desk on the way, c is the content up to that.
-abbrev pub IsPrivate : {D : Type 0} → (D → Content) → (D → Type 0) → (D → Type 0) → Service D → Service D
-    → List Exchange → Type 0
+abbrev pub IsPrivate : {D : Type 0} → DeskView D → Service D → Service D → List Exchange → Type 0
 IsPrivate view old new exchanges =
     view.is_clean (desk_of new) → view.is_live (desk_of old) → IsSound (view.content (desk_of old)) → (books : ℕ → Book)
     → IsTied (view.content (desk_of old)) books
@@ -188,8 +192,7 @@ IsPrivate view old new exchanges =
     × (view.is_live (desk_of new) → view.content (desk_of new) ≡ c)
 
 -- The same of one request alone, from books to the books after it.
-abbrev pub IsPrivateAlone : {D : Type 0} → (D → Content) → (D → Type 0) → (D → Type 0) → Service D → ℤ → Asked
-    → Reply → Service D → Type 0
+abbrev pub IsPrivateAlone : {D : Type 0} → DeskView D → Service D → ℤ → Asked → Reply → Service D → Type 0
 IsPrivateAlone view old at asked reply new =
     view.is_clean (desk_of new) → view.is_live (desk_of old) → IsSound (view.content (desk_of old)) → (books : ℕ → Book)
     → IsTied (view.content (desk_of old)) books

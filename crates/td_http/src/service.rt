@@ -1,12 +1,14 @@
 //! The desk as a service: a request is read, weighed, its reply is built, and only then it is carried.
-ghost use Rattle.std.specs.Prelude.{◌≡◌, ◌≢◌, ◌⊎◌, None, Bool, true, MatchResult, option_map};
+ghost use Rattle.std.specs.Prelude.{◌≡◌, ◌≢◌, ◌⊎◌, None, Bool, true, not, is_ok, MatchResult, option_map};
 ghost use Rattle.td_fields.specs.Faults.{allowed_text};
 ghost use Rattle.http_wire.specs.ReplyText.{head_text, is_made, bytes_of};
 ghost use Rattle.td_commands.specs.declared.command.Stamped.{Stamped};
 ghost use Rattle.td_commands.specs.declared.said.Said.{Said};
 ghost use Rattle.td_desk.specs.declared.fault.Fault.TheVariants as fault;
 ghost use Rattle.td_desk.specs.declared.running.Outcome.TheVariants as outcome;
-ghost use Rattle.td_desk.specs.Runs.{IsOutcomeOf, IsStep};
+ghost use Rattle.td_desk.specs.Content.{IsSound};
+ghost use Rattle.td_desk.specs.Runs.{IsOutcomeOf, IsStep, LeavesAfter};
+ghost use Rattle.td_desk.specs.View.{IsSettled};
 ghost use Rattle.http_wire.specs.Wire.{asked};
 ghost use Rattle.td_http.specs.Serving.{fixed_reply, IsCausedBy, IsReplyTo, IsFaultReply, HandledAs};
 ghost use Rattle.td_answers.specs.Answers.{said_reply};
@@ -42,6 +44,10 @@ fn weigh_and_carry<D: Desk>(
         (record { at = at; command = command.now }) (outcome.Said words) (D.seen.content desk.new))
         (λ why. IsStep (D.seen.is_live desk.old) (D.seen.is_live desk.new) (D.seen.content desk.old)
         (record { at = at; command = command.now }) (outcome.Failed why) (D.seen.content desk.new)) }
+    ensures stays { D.seen.is_clean desk.new → D.seen.is_live desk.old → result ≢ Err fault.Store → D.seen.is_live desk.new }
+    ensures crash { D.seen.is_clean desk.new → IsSound (D.seen.content desk.old) → LeavesAfter D.seen desk.old
+        (record { at = at; command = command.now }) (not (is_ok result)) desk.new }
+    ensures settled { D.seen.is_clean desk.new → IsSettled D.seen desk.new }
     ensures store { result ≡ Err fault.Store → D.seen.has_store }
     // a failure is the desk's own, or of missing memory for the bytes at a desk that didn't fail
     ensures calls { MatchResult result
@@ -90,6 +96,10 @@ fn reply_to_command<D: Desk>(
     ensures handled { D.seen.is_clean desk.new
         → HandledAs (D.seen.is_live desk.old) (D.seen.is_live desk.new) (D.seen.content desk.old) at (Ok command.now) close result
         (D.seen.content desk.new) }
+    ensures stays { D.seen.is_clean desk.new → D.seen.is_live desk.old → result ≢ Reply.Store → D.seen.is_live desk.new }
+    ensures crash { D.seen.is_clean desk.new → IsSound (D.seen.content desk.old) → LeavesAfter D.seen desk.old
+        (record { at = at; command = command.now }) (not (is_made result)) desk.new }
+    ensures settled { D.seen.is_clean desk.new → IsSettled D.seen desk.new }
     ensures store { result ≡ Reply.Store → D.seen.has_store }
     ensures calls { IsCausedBy D.called desk.old result desk.new }
 {
