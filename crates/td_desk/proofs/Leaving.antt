@@ -39,20 +39,22 @@ pub adds_none : {D : Type 0} (view : DeskView D) (d : D) → AddsAtMost view (λ
 adds_none view d = record { outcomes = λ x left. inl left; recovers = λ is. is }
 
 module _ {D : Type 0} (view : DeskView D) (old weighed new : D) (s : Stamped) (d : Verdict)
-    (weighing : AddsAtMost view (λ _. ⊥) old weighed) (decided : IsWeighed (view.content old) s.at s.command d) where
+    (weighing : AddsAtMost view (λ _. ⊥) old weighed) (decided : IsSound (view.content old) → IsWeighed (view.content old) s.at s.command d) where
   -- a decision that wasn't carried to its end
-  pub left_failed : IsProper s.command → IsSound (view.content old) → (view.is_live weighed → view.is_live old)
+  pub left_failed : IsProper s.command → (view.is_live weighed → view.is_live old)
       → (view.is_live weighed → view.content weighed ≡ view.content old)
       → AddsAtMost view (λ x. view.is_live weighed × (x ≡ content_after d.change (view.content weighed))) weighed new
       → LeavesAfter view old s true new
-  left_failed proper sound live same carrying =
-      let after : Carries (view.content old) s (content_after d.change (view.content old)) =
-      rw decided.written (carries (view.content old) s sound proper) in
+  left_failed proper live same carrying =
+      let after : IsSound (view.content old) → Carries (view.content old) s (content_after d.change (view.content old)) =
+      (λ sound. rw (decided sound).written (carries (view.content old) s sound proper)) in
       record {
         outcomes = λ x left. elim (carrying.outcomes x left) [
           | inl before ↦ elim (weighing.outcomes x before) [ inl first ↦ inl first | inr none ↦ absurd none ]
-          | inr added ↦ inr (live added.0,
-            subst (Carries (view.content old) s) (sym (added.1 ∙ ap (content_after d.change) (same added.0))) after)
+          | inr added ↦ inr (
+            live added.0,
+            λ sound. subst (Carries (view.content old) s) (sym (added.1 ∙ ap (content_after d.change) (same added.0))) (after sound),
+          )
         ];
         recovers = λ is. carrying.recovers (weighing.recovers is);
       }
@@ -60,9 +62,9 @@ module _ {D : Type 0} (view : DeskView D) (old weighed new : D) (s : Stamped) (d
   -- one that was
   pub left_said : view.is_live new → (d.change ≢ change.Nothing → IsSettled view new) → (d.change ≡ change.Nothing → new ≡ weighed)
       → LeavesAfter view old s false new
-  left_said live settled still = (
-    λ accepted. settled (is_no_nothing d.change (decided.changes ∙ accepted)) live,
-    λ refused. subst (AddsAtMost view (λ _. ⊥) old) (sym (still (is_nothing d.change (decided.changes ∙ refused)))) weighing,
+  left_said live settled still = λ sound. (
+    λ accepted. settled (is_no_nothing d.change ((decided sound).changes ∙ accepted)) live,
+    λ refused. subst (AddsAtMost view (λ _. ⊥) old) (sym (still (is_nothing d.change ((decided sound).changes ∙ refused)))) weighing,
   )
 
 -- a decision that was carried leaves a settled desk, whether it changed something or not

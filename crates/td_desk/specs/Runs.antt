@@ -96,9 +96,11 @@ IsStep was_live is_live old s (outcome.Failed fault) new = is_live → new ≡ o
 -- other command what it could be before. Where it failed: what it could be before, or the content with this command's change.
 abbrev pub LeavesAfter : {D : Type 0} → DeskView D → D → Stamped → Bool → D → Type 0
 LeavesAfter view old s false new =
-    (is_accepted (owner_account (view.content old) s.command) s.at s.command ≡ true → LeavesOnly view new (view.content new))
+    IsSound (view.content old)
+    → (is_accepted (owner_account (view.content old) s.command) s.at s.command ≡ true → LeavesOnly view new (view.content new))
     × (is_accepted (owner_account (view.content old) s.command) s.at s.command ≡ false → AddsAtMost view (λ _. ⊥) old new)
-LeavesAfter view old s true new = AddsAtMost view (λ x. view.is_live old × Carries (view.content old) s x) old new
+LeavesAfter view old s true new =
+    AddsAtMost view (λ x. view.is_live old × (IsSound (view.content old) → Carries (view.content old) s x)) old new
 
 -- What is said to a command that nobody owns is what the table says over an account with nothing in it.
 abbrev pub IsToldOfNobody : List ℕ → Stamped → Outcome → Type 0

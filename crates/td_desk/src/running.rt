@@ -29,8 +29,7 @@ pub fn do_one<D: Desk>(alloc: Global, desk: &mut D, stamped: &Stamped) -> Outcom
     ensures stays { D.seen.is_clean desk.new → D.seen.is_live desk.old → result ≢ Outcome.Failed Fault.Store
         → D.seen.is_live desk.new }
     ensures memory { D.seen.is_clean desk.new → result ≡ Outcome.Failed Fault.NoMemory → D.seen.is_live desk.new }
-    ensures crash { D.seen.is_clean desk.new → IsSound (D.seen.content desk.old)
-        → LeavesAfter D.seen desk.old stamped.now (is_failed result) desk.new }
+    ensures crash { D.seen.is_clean desk.new → LeavesAfter D.seen desk.old stamped.now (is_failed result) desk.new }
     ensures settled { D.seen.is_clean desk.new → IsSettled D.seen desk.new }
     ensures store { result ≡ Outcome.Failed Fault.Store → D.seen.has_store }
     ensures calls { IsOutcomeOf D.called desk.old result desk.new }

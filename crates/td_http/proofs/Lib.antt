@@ -1,6 +1,7 @@
 mod Handling
 pub mod Served
 pub mod Streamed
+pub mod Kept
 mod Alone
 pub mod Alike
 mod ServedConnections

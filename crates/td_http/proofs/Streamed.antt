@@ -10,7 +10,7 @@ use Rattle.http_wire.specs.Stream.{Exchange, Chain, Ending, silence, refusal, to
 use Rattle.td_http.proofs.Served.{chain_clean, chain_served}
 
 -- what parts with the rest leaves the desk as it is
-ending_stays : {D : Type 0} (old new : Service D) (rest : List ℕ) (ending : Ending) → IsEnding IsHeadHandledBy old new rest ending → desk_of new ≡ desk_of old
+pub ending_stays : {D : Type 0} (old new : Service D) (rest : List ℕ) (ending : Ending) → IsEnding IsHeadHandledBy old new rest ending → desk_of new ≡ desk_of old
 ending_stays old new rest silence is = ap desk_of is
 ending_stays old new rest (refusal e) is = ap desk_of is.0
 ending_stays old new rest (to_head target reply) is = is.0.stays

@@ -61,7 +61,7 @@ pub record IsHandled {S D : Type 0} (desk : S → D) (view : DeskView D) (old : 
   pub stays : view.is_clean (desk new) → view.is_live (desk old) → reply ≢ Store → view.is_live (desk new)
   pub unasked : (why : WebFault) → command_in asked ≡ Err why → desk new ≡ desk old
   -- what a crash leaves after a command, which failed where the reply is a fixed one
-  pub crash : (command : Command) → command_in asked ≡ Ok command → view.is_clean (desk new) → IsSound (view.content (desk old))
+  pub crash : (command : Command) → command_in asked ≡ Ok command → view.is_clean (desk new)
       → LeavesAfter view (desk old) (record { at = at; command = command }) (not (is_made reply)) (desk new)
   -- and that it is the content alone while the desk is live, if it was before
   pub settled : view.is_clean (desk new) → IsSettled view (desk old) → IsSettled view (desk new)

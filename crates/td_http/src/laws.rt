@@ -1,5 +1,5 @@
 //! Laws of what a holder is told over HTTP, as contracts of functions that do nothing.
-ghost use Rattle.std.specs.Prelude.{◌≡◌, ℕ, ℤ, List, Ok, Some};
+ghost use Rattle.std.specs.Prelude.{◌≡◌, ℕ, ℤ, List, ◌++◌, Ok, Some};
 ghost use Rattle.td_commands.specs.declared.command.Command.{Command};
 ghost use Rattle.td_model.specs.Book.{Book};
 ghost use Rattle.td_commands.specs.Commands.{owner_of};
@@ -7,10 +7,12 @@ ghost use Rattle.http_wire.specs.declared.reply.Reply.{Reply};
 ghost use Rattle.http_wire.specs.declared.stream.StreamEnd.{StreamEnd};
 ghost use Rattle.http_wire.specs.Wire.{Asked};
 ghost use Rattle.http_wire.specs.ReplyText.{bytes_of};
-ghost use Rattle.http_wire.specs.Stream.{Sides};
+ghost use Rattle.http_wire.specs.Stream.{Exchange, Sides};
+ghost use Rattle.td_desk.specs.View.{IsSettled};
 ghost use Rattle.td_http.specs.declared.service.Service.{Service};
 ghost use Rattle.td_http.specs.Laws.{IsRequestAt, IsStreamAt, TellAlike, fault_told};
-ghost use Rattle.td_http.specs.Serving.{command_in};
+ghost use Rattle.td_http.specs.Kept.{IsKeptBetween};
+ghost use Rattle.td_http.specs.Serving.{command_in, desk_of};
 
 use http_wire::Clock;
 use std::io::{Read, Write};
@@ -55,4 +57,17 @@ pub fn equal_requests_are_told_the_same<D: Desk, OtherD: Desk>()
         → asked.close ≡ other_asked.close
         → fault_told reply ≡ fault_told other_reply
         → bytes_of reply ≡ bytes_of other_reply }
+{}
+
+/// What was acknowledged is kept. However the exchanges of a stream at a clean desk are split in two, there was a moment between
+/// them at which whatever a crash leaves is a desk: with the accepted changes of the first part, and at most one more, which was
+/// answered by a fixed reply. While no fault has shut the desk, its content was sound then.
+pub fn acknowledged_replies_are_kept<R: Read, W: Write, C: Clock, D: Desk>()
+    ensures { (country : List ℕ) (books : ℕ → Book) (old new : Sides R W C (Service D)) (end : StreamEnd)
+        (first others : List Exchange)
+        → (stream : IsStreamAt R.remaining W.contents C.ticks D.seen country books old new end)
+        → IsSettled D.seen (desk_of old.handler)
+        → stream.served.run.exchanges ≡ first ++ others
+        → IsKeptBetween C.ticks desk_of D.seen country books first others (old.clock, old.handler)
+        (new.clock, stream.served.run.handler) }
 {}

@@ -16,7 +16,9 @@ pub use http_wire::{
     Clock, FramingError, Handler, Next, Reply, Request, StreamEnd, error_body, head_reply,
     json_reply, next_request, one_reading, serve_requests,
 };
-pub use laws::{agreeing_streams_tell_the_same, equal_requests_are_told_the_same};
+pub use laws::{
+    acknowledged_replies_are_kept, agreeing_streams_tell_the_same, equal_requests_are_told_the_same,
+};
 pub use service::Service;
 pub use sockets::serve_on;
 pub use td_answers::{

@@ -6,7 +6,6 @@ ghost use Rattle.td_commands.specs.declared.command.Stamped.{Stamped};
 ghost use Rattle.td_commands.specs.declared.said.Said.{Said};
 ghost use Rattle.td_desk.specs.declared.fault.Fault.TheVariants as fault;
 ghost use Rattle.td_desk.specs.declared.running.Outcome.TheVariants as outcome;
-ghost use Rattle.td_desk.specs.Content.{IsSound};
 ghost use Rattle.td_desk.specs.Runs.{IsOutcomeOf, IsStep, LeavesAfter};
 ghost use Rattle.td_desk.specs.View.{IsSettled};
 ghost use Rattle.http_wire.specs.Wire.{asked};
@@ -45,7 +44,7 @@ fn weigh_and_carry<D: Desk>(
         (λ why. IsStep (D.seen.is_live desk.old) (D.seen.is_live desk.new) (D.seen.content desk.old)
         (record { at = at; command = command.now }) (outcome.Failed why) (D.seen.content desk.new)) }
     ensures stays { D.seen.is_clean desk.new → D.seen.is_live desk.old → result ≢ Err fault.Store → D.seen.is_live desk.new }
-    ensures crash { D.seen.is_clean desk.new → IsSound (D.seen.content desk.old) → LeavesAfter D.seen desk.old
+    ensures crash { D.seen.is_clean desk.new → LeavesAfter D.seen desk.old
         (record { at = at; command = command.now }) (not (is_ok result)) desk.new }
     ensures settled { D.seen.is_clean desk.new → IsSettled D.seen desk.new }
     ensures store { result ≡ Err fault.Store → D.seen.has_store }
@@ -97,7 +96,7 @@ fn reply_to_command<D: Desk>(
         → HandledAs (D.seen.is_live desk.old) (D.seen.is_live desk.new) (D.seen.content desk.old) at (Ok command.now) close result
         (D.seen.content desk.new) }
     ensures stays { D.seen.is_clean desk.new → D.seen.is_live desk.old → result ≢ Reply.Store → D.seen.is_live desk.new }
-    ensures crash { D.seen.is_clean desk.new → IsSound (D.seen.content desk.old) → LeavesAfter D.seen desk.old
+    ensures crash { D.seen.is_clean desk.new → LeavesAfter D.seen desk.old
         (record { at = at; command = command.now }) (not (is_made result)) desk.new }
     ensures settled { D.seen.is_clean desk.new → IsSettled D.seen desk.new }
     ensures store { result ≡ Reply.Store → D.seen.has_store }

@@ -34,13 +34,13 @@ returns-clause-answered g c = λ clean.
     )
 
 pub returns-clause-crash : goal.returns-clause-crash
-returns-clause-crash g c = λ clean sound.
+returns-clause-crash g c = λ clean.
     let view = g.D.Desk.seen in
     let s : Stamped = record { at = c.args.at; command = c.args.command.now } in
     let before = c.carry.ensures.clean clean in
     let shown = c.in-Ok.ensures.shown before in
-    let weighed : IsWeighed (view.content c.args.desk.now) s.at s.command c.in-Ok.decision =
-    rw (to_z-of_z w64 c.args.at c.ranges.at) at (c.in-Ok.ensures.decision before shown.0 sound) in
+    let weighed : IsSound (view.content c.args.desk.now) → IsWeighed (view.content c.args.desk.now) s.at s.command c.in-Ok.decision =
+    (λ sound. rw (to_z-of_z w64 c.args.at c.ranges.at) at (c.in-Ok.ensures.decision before shown.0 sound)) in
     left_said view c.args.desk.now c.weigh.new.self c.carry.new.self s c.in-Ok.decision (c.weigh.ensures.crash before) weighed
     (c.in_ok-_said.ensures.stays clean shown.1) (λ some. c.carry.ensures.settled some clean) c.carry.ensures.still
 
@@ -50,14 +50,14 @@ returns-clause-settled g c = λ clean.
     (c.weigh.ensures.settled (c.carry.ensures.clean clean)) (λ some. c.carry.ensures.settled some clean) c.carry.ensures.still
 
 pub returns-in_err-_said-clause-crash : goal.returns-in_err-_said-clause-crash
-returns-in_err-_said-clause-crash g c = λ clean sound.
+returns-in_err-_said-clause-crash g c = λ clean.
     let view = g.D.Desk.seen in
     let s : Stamped = record { at = c.args.at; command = c.args.command.now } in
     let before = c.carry.ensures.clean clean in
     let shown = c.in-Ok.ensures.shown before in
-    let weighed : IsWeighed (view.content c.args.desk.now) s.at s.command c.in-Ok.decision =
-    rw (to_z-of_z w64 c.args.at c.ranges.at) at (c.in-Ok.ensures.decision before shown.0 sound) in
+    let weighed : IsSound (view.content c.args.desk.now) → IsWeighed (view.content c.args.desk.now) s.at s.command c.in-Ok.decision =
+    (λ sound. rw (to_z-of_z w64 c.args.at c.ranges.at) at (c.in-Ok.ensures.decision before shown.0 sound)) in
     let failed : is_ok c.from_residual.result ≡ false = search rules in
     subst (λ b. LeavesAfter view c.args.desk.now s (not b) c.carry.new.self) (sym failed)
     (left_failed view c.args.desk.now c.weigh.new.self c.carry.new.self s c.in-Ok.decision (c.weigh.ensures.crash before) weighed
-    c.weigh.ensures.proper sound (c.weigh.ensures.live before) (c.weigh.ensures.same before) (c.carry.ensures.crash clean))
+    c.weigh.ensures.proper (c.weigh.ensures.live before) (c.weigh.ensures.same before) (c.carry.ensures.crash clean))
