@@ -2,13 +2,14 @@
 use Rattle.std.proofs.Common.{ℕ, List, sym}
 use Rattle.sqlite_wal.specs.Recovery.{Image}
 use Rattle.td_desk.specs.Content.{Content}
-use Rattle.td_files.specs.Found.{FileState}
+use Rattle.sqlite_disk.specs.declared.Disk.{Ghosts}
+use Rattle.td_files.specs.Found.{FileSeen, over_file}
 use Rattle.td_desk.specs.Runs.{IsTied}
 use Rattle.td_desk.proofs.Fresh.{account_fresh}
 use Rattle.http_wire.specs.declared.reply.Reply.{Reply}
 use Rattle.td_http.specs.Serving.{desk_of, IsHeadHandledBy}
 use Rattle.td_http.specs.declared.service.Service.{Service}
-use Rattle.td_cli.specs.Desks.{over_file, BeginsKept, BeginsMade, IsHeadHandledAt, IsReady, fresh_books}
+use Rattle.td_cli.specs.Desks.{BeginsKept, BeginsMade, IsHeadHandledAt, IsReady, fresh_books}
 
 pub head_served : {D : Type 0} (old : Service D) (target : List ℕ) (reply : Reply) (new : Service D) → IsHeadHandledBy old target reply new
     → IsHeadHandledAt (desk_of old) target reply (desk_of new)
@@ -19,8 +20,8 @@ pub fresh_tied : (c : Content) → IsTied c (fresh_books c)
 fresh_tied c = record { each = λ H. sym (account_fresh H c); grown = λ H. tt }
 
 -- a desk over what a file held can serve, and so can one that was made in it
-pub made_ready : (image : Image) (country : List ℕ) (s : FileState) → BeginsMade image country s → IsReady over_file s
-made_ready image country s made = λ clean. let is = made clean in (is.live, is.sound)
+pub made_ready : {D : Type 0} {disk : Ghosts D} (image : Image) (country : List ℕ) (s : FileSeen disk) → BeginsMade image country s → IsReady over_file s
+made_ready image country s made = λ clean. let is = made clean in (is.live, is.holds.trees.sound)
 
-pub kept_ready : (image : Image) (country : List ℕ) (s : FileState) → BeginsKept image country s → IsReady over_file s
+pub kept_ready : {D : Type 0} {disk : Ghosts D} (image : Image) (country : List ℕ) (s : FileSeen disk) → BeginsKept image country s → IsReady over_file s
 kept_ready image country s kept = λ clean. let is = kept clean in (is.live, is.desk.content.sound)

@@ -3,3 +3,4 @@ mod Desks
 mod Pipes
 mod ServedConnections
 mod Agreeing
+mod Runs

@@ -13,13 +13,14 @@ use Rattle.td_http.specs.Serving.{desk_of, IsHandledBy, IsHeadHandledBy}
 use Rattle.td_http.specs.Private.{IsPrivateOver}
 use Rattle.td_http.specs.Connections.{ServesSockets, Between, Connection, IsRefused}
 use Rattle.td_http.proofs.Private.{connections_clean}
-use Rattle.td_cli.specs.Desks.{DeskView, IsReady, IsHandledAt, IsHeadHandledAt, fresh_books}
+use Rattle.td_desk.specs.View.{DeskView}
+use Rattle.td_cli.specs.Desks.{IsReady, IsHandledAt, IsHeadHandledAt}
 use Rattle.td_cli.specs.Listening.{HasServed, ServesAs, listening_line}
 use Rattle.td_cli.specs.declared.serving.ServingEnd.{ServingEnd}
 use Rattle.td_cli.specs.StreamsSeen.{handled_seen}
 use Rattle.td_cli.specs.ConnectionsSeen.{sockets_seen}
 use Rattle.td_cli.proofs.Clocks.{shows_itself}
-use Rattle.td_cli.proofs.Desks.{fresh_tied, head_served}
+use Rattle.td_cli.proofs.Desks.{head_served}
 
 -- a desk that is clean after the connections, and after an accept that failed, was clean after the last connection
 last_clean : {C D : Type 0} (is_clean : D → Type 0) (all_served : List (Connection TcpStream TcpStream)) (last new : Between (Unit {0}) C (Service D)) (count : ℕ) (answer : Result (Unit {0}) Error)
@@ -32,12 +33,11 @@ last_clean {C} {D} is_clean all_served last new count (Err why) ended clean = su
 pub has_served : {D W C : Type 0} (view : DeskView D) (contents : W → Option (List ℕ)) (ticks : C → ℤ → C → Type 0) (port connections : ℕ)
     (writer said : Counted W) (clock clock_left : C) (old new : Service D) (answer : Result (Unit {0}) Error)
     → Appends (known_bytes contents writer) (known_bytes contents said) (listening_line port)
-    → (served : ServesSockets ticks (IsHandledBy view.content view.is_clean view.is_live view.has_store) IsHeadHandledBy clock old clock_left new connections answer)
-    → IsPrivateOver view.content view.is_clean view.is_live old new (map (λ connection. connection.exchanges) served.all_served) → IsReady view (desk_of old)
+    → (served : ServesSockets ticks (IsHandledBy view) IsHeadHandledBy clock old clock_left new connections answer)
+    → IsPrivateOver view old new (map (λ connection. connection.exchanges) served.all_served) → IsReady view (desk_of old)
     → HasServed view (λ d. d ≡ desk_of old) (λ d. d ≡ desk_of new) contents ticks port connections writer said clock answer
 unfolding sockets_seen
 has_served view contents ticks port connections writer said clock clock_left old new answer listening served private ready =
-    let content = view.content (desk_of old) in
     let itself = shows_itself ticks clock in
     record {
       listening = listening;
@@ -46,14 +46,17 @@ has_served view contents ticks port connections writer said clock clock_left old
       clock_left = clock_left;
       begun = refl;
       ended = refl;
-      served = sockets_seen ticks ticks (λ c. c) (IsHandledBy view.content view.is_clean view.is_live view.has_store) (IsHandledAt view) IsHeadHandledBy IsHeadHandledAt desk_of
+      served = sockets_seen ticks ticks (λ c. c) (IsHandledBy view) (IsHandledAt view) IsHeadHandledBy IsHeadHandledAt desk_of
           (handled_seen desk_of (λ d. d) view) head_served itself.keeps itself.each clock clock_left old new connections answer itself.first served;
-      private = λ clean.
+      clean = λ clean. connections_clean (λ _. None) (λ _. None) (λ _ _ _ _. Unit {0}) (λ _ _ _ _. Unit {0}) ticks view
+          served.all_served (record { source = tt; clock = clock; handler = old }) served.last served.were_served
+          (last_clean view.is_clean served.all_served served.last (record { source = tt; clock = clock_left; handler = new }) connections answer served.ended clean);
+      private = λ clean books tied.
           let late = last_clean view.is_clean served.all_served served.last (record { source = tt; clock = clock_left; handler = new }) connections answer served.ended clean in
-          let was = connections_clean (λ _. None) (λ _. None) (λ _ _ _ _. Unit {0}) (λ _ _ _ _. Unit {0}) ticks view.content view.is_clean view.is_live view.has_store
+          let was = connections_clean (λ _. None) (λ _. None) (λ _ _ _ _. Unit {0}) (λ _ _ _ _. Unit {0}) ticks view
           served.all_served (record { source = tt; clock = clock; handler = old }) served.last served.were_served late in
           let is = ready was in
-          private clean is.0 is.1 (fresh_books content) (fresh_tied content);
+          private clean is.0 is.1 books tied;
     }
 
 -- a serving from a desk that was handed in to the one that is handed back

@@ -3,14 +3,16 @@
 use Rattle.std.specs.Prelude.{◌≡◌, ℕ, ℤ, List, Option, Some, Result, Ok, Err}
 use Rattle.sqlite_wal.specs.Recovery.{Image}
 use Rattle.counted_io.specs.declared.counted.Counted.{Counted}
+use Rattle.sqlite_disk.specs.declared.Disk.{Ghosts}
 use Rattle.td_desk.specs.Content.{Content}
-use Rattle.td_files.specs.Found.{FileState, IsToldOf, IsUnmade}
+use Rattle.td_desk.specs.View.{DeskView}
+use Rattle.td_files.specs.Found.{FileSeen, IsKeptDesk, IsLeftAsFound, IsToldOf, IsUnmade, over_file}
 use Rattle.td_files.specs.declared.desks.DeskFault.{DeskFault}
 use Rattle.td_files.specs.declared.desks.DeskFault.TheVariants.{Refused}
 use Rattle.td_files.specs.Faults as fault
 use Rattle.td_words.specs.declared.words.Records.{Records}
 use Rattle.td_words.specs.declared.words.Records.TheVariants.{Memory, File, NewFile}
-use Rattle.td_cli.specs.Desks.{BeginsEmpty, BeginsKept, BeginsMade, DeskView, Shows, in_memory, over_file, view_by}
+use Rattle.td_cli.specs.Desks.{BeginsEmpty, BeginsKept, BeginsMade, Shows, in_memory, view_by}
 
 -- What a job does that ends so: at a desk that is seen so, and begins and ends so; by a clock that ticks so; with an input
 -- and an output of which that much is known, as they are before it and after it.
@@ -31,16 +33,23 @@ IsSeen Job End does = (D D' R W C C' : Type 0) (view : DeskView D') (see : D →
 abbrev pub IsUntouched : {R W : Type 0} → Counted R → Counted R → Counted W → Counted W → Type 0
 IsUntouched reader reader_left writer writer_left = (reader_left ≡ reader) × (writer_left ≡ writer)
 
--- What a job leaves whose desk's records stand there, in this country. It was done at a desk that began so, and a file
--- shows what the desk left; or there was no desk for this fault, and what the job works on is untouched. In memory that
--- is want of memory.
-abbrev pub AtDesk : {End : Type 0} → Image → List ℕ → Records → ((D : Type 0) → DeskView D → (D → Type 0) → (D → Type 0) → End → Type 0)
-    → Type 0 → Option FileState → Result End DeskFault → Type 0
-AtDesk image country Memory did untouched file (Ok end) = did Content in_memory (BeginsEmpty country) (λ c. Unit {0}) end
-AtDesk image country (File path) did untouched file (Ok end) =
-    (s : FileState) × (file ≡ Some s) × did FileState over_file (BeginsKept image country) (λ d. d ≡ s) end
-AtDesk image country (NewFile path) did untouched file (Ok end) =
-    (s : FileState) × (file ≡ Some s) × did FileState over_file (BeginsMade image country) (λ d. d ≡ s) end
-AtDesk image country Memory did untouched file (Err why) = untouched × (why ≡ Refused fault.NoMemory)
-AtDesk image country (File path) did untouched file (Err why) = untouched × IsToldOf image country file why
-AtDesk image country (NewFile path) did untouched file (Err why) = untouched × IsUnmade why
+-- What a job leaves whose desk's records stand there, in this country, and of the connection to a file that was there before it.
+-- It was done at a desk that began so, and a file shows what the desk left, which is a desk's file; or there was no desk for this
+-- fault, what the job works on is untouched, and the file shows what it held. In memory that is want of memory, and no file is
+-- opened.
+abbrev pub AtDesk : {S End : Type 0} {disk : Ghosts S} → Image → List ℕ → Records
+    → ((D : Type 0) → DeskView D → (D → Type 0) → (D → Type 0) → End → Type 0) → Type 0
+    → Option (FileSeen disk) → Option (FileSeen disk) → Result End DeskFault → Type 0
+AtDesk image country Memory did untouched before file (Ok end) =
+    did Content in_memory (BeginsEmpty country) (λ c. Unit {0}) end × (file ≡ before)
+AtDesk {disk = disk} image country (File path) did untouched before file (Ok end) =
+    (s : FileSeen disk) × (file ≡ Some s) × IsKeptDesk s
+    × did (FileSeen disk) over_file (BeginsKept image country) (λ d. d ≡ s) end
+AtDesk {disk = disk} image country (NewFile path) did untouched before file (Ok end) =
+    (s : FileSeen disk) × (file ≡ Some s) × IsKeptDesk s
+    × did (FileSeen disk) over_file (BeginsMade image country) (λ d. d ≡ s) end
+AtDesk image country Memory did untouched before file (Err why) = untouched × (why ≡ Refused fault.NoMemory) × (file ≡ before)
+AtDesk image country (File path) did untouched before file (Err why) =
+    untouched × IsToldOf image country file why × IsLeftAsFound image before file
+AtDesk image country (NewFile path) did untouched before file (Err why) =
+    untouched × IsUnmade why × IsLeftAsFound image before file

@@ -7,8 +7,9 @@ use Rattle.counted_io.specs.declared.counted.Counted.{Counted}
 use Rattle.http_wire.specs.declared.reply.Reply.{Reply}
 use Rattle.http_wire.specs.Wire.{Asked}
 use Rattle.td_http.specs.Connections.{ServesSockets, Between, Connection, ServedConnections, IsRefused}
-use Rattle.td_cli.specs.Desks.{DeskView, IsHandledAt, IsHeadHandledAt, Shows, view_by}
-use Rattle.td_cli.specs.Listening.{HasServed, ServesAs}
+use Rattle.td_desk.specs.View.{DeskView}
+use Rattle.td_cli.specs.Desks.{IsHandledAt, IsHeadHandledAt, Shows, view_by}
+use Rattle.td_cli.specs.Listening.{HasServed, IsUnserved, ServesAs}
 use Rattle.td_cli.specs.StreamsSeen.{chain_keeps, handled_seen, head_seen, serves_seen}
 use Rattle.td_cli.specs.declared.serving.ServingEnd.{ServingEnd}
 use Rattle.td_cli.specs.declared.serving.ServingEnd.TheVariants.{Done, NoMemory, Socket, Write}
@@ -86,8 +87,14 @@ served_seen view see begins ends begins' ends' contents ticks moments look port 
       ended = close has.left has.ended;
       served = sockets_seen ticks moments look (IsHandledAt (view_by see view)) (IsHandledAt view) IsHeadHandledAt IsHeadHandledAt see
           (handled_seen (λ d. d) see view) (head_seen see) shows.keeps shows.each clock has.clock_left has.opened has.left connections answer shows.first has.served;
+      clean = has.clean;
       private = has.private;
     }
+
+-- what is seen of a desk that served no request
+unserved_seen : {D D' : Type 0} (see : D → D') (begins ends : D → Type 0) (begins' ends' : D' → Type 0)
+    → ((d : D) → begins d → begins' (see d)) → ((d : D) → ends d → ends' (see d)) → IsUnserved begins ends → IsUnserved begins' ends'
+unserved_seen see begins ends begins' ends' begin close is = (see is.0, begin is.0 is.1, close is.0 is.2)
 
 -- what is seen of a serving
 pub serving_seen : {D D' W C C' : Type 0} (view : DeskView D') (see : D → D') (begins ends : D → Type 0) (begins' ends' : D' → Type 0) (contents : W → Option (List ℕ))
@@ -97,10 +104,13 @@ pub serving_seen : {D D' W C C' : Type 0} (view : DeskView D') (see : D → D') 
     → ServesAs view begins' ends' contents moments port connections writer writer_left (look clock) end
 serving_seen view see begins ends begins' ends' contents ticks moments look port connections writer writer_left clock begin close shows Done serves =
     (serves.0, served_seen view see begins ends begins' ends' contents ticks moments look port connections writer serves.0 clock (Ok tt) begin close shows serves.1, serves.2)
-serving_seen view see begins ends begins' ends' contents ticks moments look port connections writer writer_left clock begin close shows NoMemory serves = serves
-serving_seen view see begins ends begins' ends' contents ticks moments look port connections writer writer_left clock begin close shows Socket (inl untouched) = inl untouched
+serving_seen view see begins ends begins' ends' contents ticks moments look port connections writer writer_left clock begin close shows NoMemory serves =
+    (serves.0, unserved_seen see begins ends begins' ends' begin close serves.1)
+serving_seen view see begins ends begins' ends' contents ticks moments look port connections writer writer_left clock begin close shows Socket (inl untouched) =
+    inl (untouched.0, unserved_seen see begins ends begins' ends' begin close untouched.1)
 serving_seen view see begins ends begins' ends' contents ticks moments look port connections writer writer_left clock begin close shows Socket (inr serves) =
     inr (serves.0, served_seen view see begins ends begins' ends' contents ticks moments look port connections writer writer_left clock (Err serves.0) begin close shows serves.1)
-serving_seen view see begins ends begins' ends' contents ticks moments look port connections writer writer_left clock begin close shows Write (inl cut) = inl cut
+serving_seen view see begins ends begins' ends' contents ticks moments look port connections writer writer_left clock begin close shows Write (inl cut) =
+    inl (cut.0, unserved_seen see begins ends begins' ends' begin close cut.1)
 serving_seen view see begins ends begins' ends' contents ticks moments look port connections writer writer_left clock begin close shows Write (inr serves) =
     inr (serves.0, served_seen view see begins ends begins' ends' contents ticks moments look port connections writer serves.0 clock (Ok tt) begin close shows serves.1, serves.2)

@@ -1,32 +1,24 @@
 -- What the program's jobs say of a desk: what contracts see of it, what it begins with, and what is told to each holder.
-use Rattle.std.specs.Prelude.{◌≡◌, ℕ, ℤ, Bool, true, false, List, Option, None, Some, IsTrue}
+use Rattle.std.specs.Prelude.{◌≡◌, ℕ, ℤ, Bool, true, false, List, Option, None, Some}
 use Rattle.sqlite_wal.specs.Recovery.{Image}
 use Rattle.td_model.specs.Book.{Book}
+use Rattle.sqlite_disk.specs.declared.Disk.{Ghosts}
 use Rattle.td_desk.specs.Content.{Content, account_in, empty_content, fresh, IsSound}
-use Rattle.td_files.specs.Found.{content_in, FileState, IsClean, IsOpenedDesk, IsCreatedDesk}
+use Rattle.td_desk.specs.View.{DeskView}
+use Rattle.td_files.specs.Found.{FileSeen, IsClean, IsOpenedDesk, IsCreatedDesk}
 use Rattle.http_wire.specs.declared.reply.Reply.{Reply}
 use Rattle.http_wire.specs.Wire.{Asked}
 use Rattle.td_http.specs.Serving.{IsHeadReply, IsHandled}
 
--- What contracts see of a desk: its content; whether its disk is clean, that is returned what was written while nobody else
--- wrote; whether no fault has shut it; and whether a store stands behind it.
-pub record DeskView (D : Type 0) : Type 1 where
-  pub content : D → Content
-  pub is_clean : D → Type 0
-  pub is_live : D → Type 0
-  pub has_store : Type 0
-
--- a desk in memory is seen by its content, which is always clean and live
+-- a desk in memory is seen by its content, which is always clean and live, and of which a crash leaves nothing
 abbrev pub in_memory : DeskView Content
-in_memory = record { content = λ c. c; is_clean = λ c. Unit {0}; is_live = λ c. Unit {0}; has_store = ⊥ }
-
--- a desk over a file is seen by what its connection shows
-abbrev pub over_file : DeskView FileState
-over_file = record {
-  content = λ s. content_in s.now.trees;
-  is_clean = IsClean;
-  is_live = λ s. IsTrue s.is_open;
-  has_store = Unit {0};
+in_memory = record {
+  content = λ c. c;
+  is_clean = λ c. Unit {0};
+  is_live = λ c. Unit {0};
+  has_store = ⊥;
+  may_leave = λ c x. ⊥;
+  recovers = λ c. Unit {0};
 }
 
 -- the view of a desk by what is seen of it
@@ -36,11 +28,13 @@ view_by see view = record {
   is_clean = λ d. view.is_clean (see d);
   is_live = λ d. view.is_live (see d);
   has_store = view.has_store;
+  may_leave = λ d x. view.may_leave (see d) x;
+  recovers = λ d. view.recovers (see d);
 }
 
 -- what a request does to a desk that is seen so, and a HEAD request, which leaves it as it is
 abbrev pub IsHandledAt : {D : Type 0} → DeskView D → D → ℤ → Asked → Reply → D → Type 0
-IsHandledAt view = IsHandled (λ d. d) view.content view.is_clean view.is_live view.has_store
+IsHandledAt view = IsHandled (λ d. d) view
 
 pub record IsHeadHandledAt {D : Type 0} (old : D) (target : List ℕ) (reply : Reply) (new : D) : Type 0 where
   pub stays : new ≡ old
@@ -55,15 +49,15 @@ abbrev pub BeginsEmpty : List ℕ → Content → Type 0
 BeginsEmpty country c = c ≡ empty_content country
 
 -- one over a file has what the file held, as far as its disk is clean
-abbrev pub BeginsKept : Image → List ℕ → FileState → Type 0
+abbrev pub BeginsKept : {S : Type 0} {disk : Ghosts S} → Image → List ℕ → FileSeen disk → Type 0
 BeginsKept image country s = IsClean s → IsOpenedDesk image country s
 
 -- and where the file was new it is empty
-abbrev pub BeginsMade : Image → List ℕ → FileState → Type 0
+abbrev pub BeginsMade : {S : Type 0} {disk : Ghosts S} → Image → List ℕ → FileSeen disk → Type 0
 BeginsMade image country s = IsClean s → IsCreatedDesk image country s
 
 -- either of the two
-abbrev pub BeginsIn : Bool → Image → List ℕ → FileState → Type 0
+abbrev pub BeginsIn : {S : Type 0} {disk : Ghosts S} → Bool → Image → List ℕ → FileSeen disk → Type 0
 BeginsIn false = BeginsKept
 BeginsIn true = BeginsMade
 

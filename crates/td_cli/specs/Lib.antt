@@ -6,3 +6,4 @@ pub mod Listening
 pub mod StreamsSeen
 pub mod ConnectionsSeen
 pub mod Performed
+pub mod Runs

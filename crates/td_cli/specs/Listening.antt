@@ -7,13 +7,17 @@ use Rattle.sqlite_wal.specs.Recovery.{Image}
 use Rattle.counted_io.specs.declared.counted.Counted.{Counted}
 use Rattle.counted_io.specs.Counted.{known_bytes}
 use Rattle.counted_io.specs.Chains.{IsCutShort}
+use Rattle.sqlite_disk.specs.declared.Disk.{Ghosts}
+use Rattle.td_model.specs.Book.{Book}
 use Rattle.td_desk.specs.Content.{Content}
-use Rattle.td_files.specs.Found.{FileState}
+use Rattle.td_desk.specs.Runs.{IsTied}
+use Rattle.td_desk.specs.View.{DeskView}
+use Rattle.td_files.specs.Found.{FileSeen}
 use Rattle.td_files.specs.declared.desks.DeskFault.{DeskFault}
 use Rattle.td_http.specs.Private.{IsServedOver}
 use Rattle.td_http.specs.Connections.{ServesSockets}
 use Rattle.td_cli.specs.AtDesk.{AtDesk, IsUntouched}
-use Rattle.td_cli.specs.Desks.{DeskView, IsHandledAt, IsHeadHandledAt, IsMoment, fresh_books}
+use Rattle.td_cli.specs.Desks.{IsHandledAt, IsHeadHandledAt, IsMoment}
 use Rattle.td_words.specs.declared.words.Listening.{Listening}
 use Rattle.td_words.specs.declared.words.Records.{Records}
 use Rattle.td_cli.specs.declared.serving.PrintedLines.{PrintedLines}
@@ -35,7 +39,7 @@ AreLinesOf listening lines =
 
 -- That was printed, and then so many connections were served, one after another, at a desk that is seen so, and began and ended so. Where
 -- the desk is clean in the end, to each holder the bytes of the replies, over all connections, are those of that holder's own
--- machine, from a book that opens with what the desk had of the holder at first; and where no fault has shut it, its content
+-- machine, from any books that say what the desk had at first, as fresh ones do; and where no fault has shut it, its content
 -- is the one after them. Where the answer is an error, no further connection came.
 pub record HasServed {D W C : Type 0} (view : DeskView D) (begins ends : D → Type 0) (contents : W → Option (List ℕ)) (ticks : C → ℤ → C → Type 0)
     (port connections : ℕ) (writer writer_left : Counted W) (clock : C) (answer : Result Unit Error) : Type 0 where
@@ -46,24 +50,30 @@ pub record HasServed {D W C : Type 0} (view : DeskView D) (begins ends : D → T
   pub begun : begins opened
   pub ended : ends left
   pub served : ServesSockets ticks (IsHandledAt view) IsHeadHandledAt clock opened clock_left left connections answer
-  pub private : view.is_clean left
-      → (c : Content) × IsServedOver (view.content opened).country (fresh_books (view.content opened))
+  pub clean : view.is_clean left → view.is_clean opened
+  pub private : view.is_clean left → (books : ℕ → Book) → IsTied (view.content opened) books
+      → (c : Content) × IsServedOver (view.content opened).country books
       (map (λ connection. connection.exchanges) served.all_served) c
       × (view.is_live left → view.content left ≡ c)
 
+-- no request was served: the desk that began is the one that is left
+abbrev pub IsUnserved : {D : Type 0} → (D → Type 0) → (D → Type 0) → Type 0
+IsUnserved {D} begins ends = (d : D) × begins d × ends d
+
 -- What a serving at a desk leaves that ended so. Without memory for what is printed, and where the port couldn't be listened on,
--- nothing was printed; all connections were served where that is printed in the end, or couldn't be.
+-- nothing was printed and no request served; all connections were served where that is printed in the end, or couldn't be.
 abbrev pub ServesAs : {D W C : Type 0} → DeskView D → (D → Type 0) → (D → Type 0) → (W → Option (List ℕ)) → (C → ℤ → C → Type 0) → ℕ → ℕ
     → Counted W → Counted W → C → ServingEnd → Type 0
 ServesAs {W = W} view begins ends contents ticks port connections writer writer_left clock Done =
     (said : Counted W) × HasServed view begins ends contents ticks port connections writer said clock (Ok tt)
     × Appends (known_bytes contents said) (known_bytes contents writer_left) (served_line connections)
-ServesAs view begins ends contents ticks port connections writer writer_left clock NoMemory = writer_left ≡ writer
+ServesAs view begins ends contents ticks port connections writer writer_left clock NoMemory =
+    (writer_left ≡ writer) × IsUnserved begins ends
 ServesAs view begins ends contents ticks port connections writer writer_left clock Socket =
-    (writer_left ≡ writer)
+    ((writer_left ≡ writer) × IsUnserved begins ends)
     ⊎ ((why : Error) × HasServed view begins ends contents ticks port connections writer writer_left clock (Err why))
 ServesAs {W = W} view begins ends contents ticks port connections writer writer_left clock Write =
-    IsCutShort contents writer writer_left (listening_line port)
+    (IsCutShort contents writer writer_left (listening_line port) × IsUnserved begins ends)
     ⊎ ((said : Counted W) × HasServed view begins ends contents ticks port connections writer said clock (Ok tt)
     × IsCutShort contents said writer_left (served_line connections))
 
@@ -75,9 +85,10 @@ ServesAt view begins ends contents at port connections writer writer_left end =
 
 -- What a serving leaves at a desk whose records stand there, in this country and at this moment or by the machine's clock:
 -- the input isn't read, and where there was a desk, this is said of how the serving ended.
-abbrev pub IsServing : {R W : Type 0} → (W → Option (List ℕ)) → Image → List ℕ → Option ℤ → Records → ℕ → ℕ
-    → Counted R → Counted R → Counted W → Counted W → Option FileState → Result ServingEnd DeskFault → Type 0
-IsServing contents image country at records port connections reader reader_left writer writer_left file end =
+abbrev pub IsServing : {R W S : Type 0} {disk : Ghosts S} → (W → Option (List ℕ)) → Image → List ℕ → Option ℤ → Records → ℕ → ℕ
+    → Counted R → Counted R → Counted W → Counted W → Option (FileSeen disk) → Option (FileSeen disk)
+    → Result ServingEnd DeskFault → Type 0
+IsServing contents image country at records port connections reader reader_left writer writer_left before file end =
     AtDesk image country records
     (λ D view begins ends end. (reader_left ≡ reader) × ServesAt view begins ends contents at port connections writer writer_left end)
-    (IsUntouched reader reader_left writer writer_left) file end
+    (IsUntouched reader reader_left writer writer_left) before file end

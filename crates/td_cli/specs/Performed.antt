@@ -5,7 +5,8 @@ use Rattle.std.specs.declared.io.Error.{Error}
 use Rattle.std.specs.declared.io.ErrorKind.TheVariants.{OutOfMemory}
 use Rattle.sqlite_wal.specs.Recovery.{Image}
 use Rattle.counted_io.specs.declared.counted.Counted.{Counted}
-use Rattle.td_files.specs.Found.{FileState, IsToldOf}
+use Rattle.sqlite_disk.specs.declared.Disk.{Ghosts}
+use Rattle.td_files.specs.Found.{FileSeen, IsKeptDesk, IsLeftAsFound, IsToldOf}
 use Rattle.td_files.specs.declared.desks.DeskFault.{DeskFault}
 use Rattle.http_wire.specs.declared.stream.StreamEnd.{StreamEnd}
 use Rattle.td_words.specs.declared.words.NoJob.{NoJob}
@@ -19,38 +20,41 @@ use Rattle.td_cli.specs.Listening.{IsServing}
 use Rattle.td_cli.specs.Statuses.{IsAnswered, IsEndTold, IsFaultTold, IsPrinted, IsServingTold, IsTold}
 
 -- A file that held this was tested, and what was found was told: it is sound where a desk of the country was opened over it,
--- which the file then shows, and else why none was.
-abbrev pub IsChecked : {W E : Type 0} → (W → Option (List ℕ)) → (E → Option (List ℕ)) → Image → List ℕ
-    → Counted W → Counted W → Counted E → Counted E → Option FileState → ℕ → Type 0
-IsChecked contents said image country out out_left errors errors_left file status =
-    ((s : FileState) × (file ≡ Some s) × BeginsKept image country s
+-- which the file then shows, and else why none was, and then it shows what it held.
+abbrev pub IsChecked : {W E S : Type 0} {disk : Ghosts S} → (W → Option (List ℕ)) → (E → Option (List ℕ)) → Image → List ℕ
+    → Counted W → Counted W → Counted E → Counted E → Option (FileSeen disk) → Option (FileSeen disk) → ℕ → Type 0
+IsChecked {disk = disk} contents said image country out out_left errors errors_left before file status =
+    ((s : FileSeen disk) × (file ≡ Some s) × IsKeptDesk s × BeginsKept image country s
     × IsPrinted contents said out out_left errors errors_left (codes "sound\n") status)
-    ⊎ ((why : DeskFault) × IsToldOf image country file why × (out_left ≡ out)
+    ⊎ ((why : DeskFault) × IsToldOf image country file why × IsLeftAsFound image before file × (out_left ≡ out)
     × IsFaultTold said errors errors_left why status)
 
 -- A task was done, in this country and at this moment or by the machine's clock, and how it ended was told: one stream from the
--- input to the first writer; connections, for which the input isn't read; or a file was tested, of which the image is what it held. The file is what a connection to it shows then.
-abbrev pub IsDone : {R W E : Type 0} → (R → Option (List ℕ)) → (W → Option (List ℕ)) → (E → Option (List ℕ)) → Image
-    → Task → List ℕ → Option ℤ → Counted R → Counted R → Counted W → Counted W → Counted E → Counted E → Option FileState → ℕ → Type 0
-IsDone remaining contents said image (Pipe records) country at reader reader_left writer writer_left errors errors_left file status =
+-- input to the first writer; connections, for which the input isn't read; or a file was tested, of which the image is what it
+-- held. The file is what a connection to it shows before the task and after it, if one is there.
+abbrev pub IsDone : {R W E S : Type 0} {disk : Ghosts S} → (R → Option (List ℕ)) → (W → Option (List ℕ)) → (E → Option (List ℕ)) → Image
+    → Task → List ℕ → Option ℤ → Counted R → Counted R → Counted W → Counted W → Counted E → Counted E
+    → Option (FileSeen disk) → Option (FileSeen disk) → ℕ → Type 0
+IsDone remaining contents said image (Pipe records) country at reader reader_left writer writer_left errors errors_left before file status =
     (end : Result StreamEnd DeskFault)
-    × PipesAs remaining contents image country at records reader reader_left writer writer_left file end
+    × PipesAs remaining contents image country at records reader reader_left writer writer_left before file end
     × IsEndTold said errors errors_left end status
-IsDone remaining contents said image (Serve listening records) country at reader reader_left writer writer_left errors errors_left file status =
+IsDone remaining contents said image (Serve listening records) country at reader reader_left writer writer_left errors errors_left before file status =
     (end : Result ServingEnd DeskFault)
-    × IsServing contents image country at records listening.port listening.connections reader reader_left writer writer_left file end
+    × IsServing contents image country at records listening.port listening.connections reader reader_left writer writer_left before file end
     × IsServingTold said errors errors_left end status
-IsDone remaining contents said image (Check path) country at reader reader_left writer writer_left errors errors_left file status =
-    (reader_left ≡ reader) × IsChecked contents said image country writer writer_left errors errors_left file status
+IsDone remaining contents said image (Check path) country at reader reader_left writer writer_left errors errors_left before file status =
+    (reader_left ≡ reader) × IsChecked contents said image country writer writer_left errors errors_left before file status
 
--- The words ask for a task, which was done in that country and at that moment. Or they ask for none: then nothing was read, and
--- they were answered. The image is what the file held that the words name, if they name one.
-abbrev pub IsPerformed : {R W E : Type 0} → (R → Option (List ℕ)) → (W → Option (List ℕ)) → (E → Option (List ℕ)) → Image
-    → List (List ℕ) → Counted R → Counted R → Counted W → Counted W → Counted E → Counted E → Option FileState → ℕ → Type 0
-IsPerformed remaining contents said image words reader reader_left writer writer_left errors errors_left file status =
+-- The words ask for a task, which was done in that country and at that moment. Or they ask for none: then nothing was read, no
+-- file was opened, and they were answered. The image is what the file held that the words name, if they name one.
+abbrev pub IsPerformed : {R W E S : Type 0} {disk : Ghosts S} → (R → Option (List ℕ)) → (W → Option (List ℕ)) → (E → Option (List ℕ)) → Image
+    → List (List ℕ) → Counted R → Counted R → Counted W → Counted W → Counted E → Counted E
+    → Option (FileSeen disk) → Option (FileSeen disk) → ℕ → Type 0
+IsPerformed remaining contents said image words reader reader_left writer writer_left errors errors_left before file status =
     ((task : Task) × (country : List ℕ) × (at : Option ℤ) × AsksFor words task country at
-    × IsDone remaining contents said image task country at reader reader_left writer writer_left errors errors_left file status)
-    ⊎ ((no_job : NoJob) × (reader_left ≡ reader)
+    × IsDone remaining contents said image task country at reader reader_left writer writer_left errors errors_left before file status)
+    ⊎ ((no_job : NoJob) × (reader_left ≡ reader) × (file ≡ before)
     × IsAnswered contents said writer writer_left errors errors_left no_job status)
 
 -- Words that couldn't be read: there was no memory for them, or they aren't text, and the error's kind says which.

@@ -2,19 +2,23 @@
 use Rattle.std.specs.Prelude.{◌≡◌, ℕ, ℤ, List, Option, Result}
 use Rattle.sqlite_wal.specs.Recovery.{Image}
 use Rattle.counted_io.specs.declared.counted.Counted.{Counted}
+use Rattle.sqlite_disk.specs.declared.Disk.{Ghosts}
+use Rattle.td_model.specs.Book.{Book}
 use Rattle.td_desk.specs.Content.{Content}
-use Rattle.td_files.specs.Found.{FileState}
+use Rattle.td_desk.specs.Runs.{IsTied}
+use Rattle.td_desk.specs.View.{DeskView}
+use Rattle.td_files.specs.Found.{FileSeen}
 use Rattle.td_files.specs.declared.desks.DeskFault.{DeskFault}
 use Rattle.td_http.specs.Serving.{IsServed}
 use Rattle.http_wire.specs.declared.stream.StreamEnd.{StreamEnd}
 use Rattle.http_wire.specs.Stream.{Serves}
 use Rattle.td_words.specs.declared.words.Records.{Records}
 use Rattle.td_cli.specs.AtDesk.{AtDesk, IsUntouched}
-use Rattle.td_cli.specs.Desks.{DeskView, IsHandledAt, IsHeadHandledAt, IsMoment, fresh_books}
+use Rattle.td_cli.specs.Desks.{IsHandledAt, IsHeadHandledAt, IsMoment}
 
 -- A stream of requests was served at a desk that is seen so, and began and ended so: the bytes consumed are whole requests and a rest, and
 -- what was written is the replies to them and what parts with the rest. Where the desk is clean in the end, each holder's
--- requests had the replies of that holder's own machine, from a book that opens with what the desk had of the holder at first;
+-- requests had the replies of that holder's own machine, from any books that say what the desk had at first, as fresh ones do;
 -- and where no fault has shut it, its content is the one after them.
 pub record IsPiped {D R W C : Type 0} (view : DeskView D) (begins ends : D → Type 0)
     (remaining : R → Option (List ℕ)) (contents : W → Option (List ℕ)) (ticks : C → ℤ → C → Type 0)
@@ -27,8 +31,9 @@ pub record IsPiped {D R W C : Type 0} (view : DeskView D) (begins ends : D → T
   pub served : Serves remaining contents ticks (IsHandledAt view) IsHeadHandledAt
       (record { reader = reader; writer = writer; clock = clock; handler = opened })
       (record { reader = reader_left; writer = writer_left; clock = clock_left; handler = left }) end
-  pub private : view.is_clean left
-      → (c : Content) × IsServed (view.content opened).country (fresh_books (view.content opened)) 0 served.run.exchanges c
+  pub clean : view.is_clean left → view.is_clean opened
+  pub private : view.is_clean left → (books : ℕ → Book) → IsTied (view.content opened) books
+      → (c : Content) × IsServed (view.content opened).country books 0 served.run.exchanges c
       × (view.is_live left → view.content left ≡ c)
 
 -- the same at the moments of a job
@@ -39,9 +44,10 @@ IsPipedAt view begins ends remaining contents at reader reader_left writer write
 
 -- What a job leaves that serves one stream at a desk whose records stand there, in this country and at this moment or by
 -- the machine's clock: where there was a desk, the stream was served.
-abbrev pub PipesAs : {R W : Type 0} → (R → Option (List ℕ)) → (W → Option (List ℕ)) → Image → List ℕ → Option ℤ
-    → Records → Counted R → Counted R → Counted W → Counted W → Option FileState → Result StreamEnd DeskFault → Type 0
-PipesAs remaining contents image country at records reader reader_left writer writer_left file end =
+abbrev pub PipesAs : {R W S : Type 0} {disk : Ghosts S} → (R → Option (List ℕ)) → (W → Option (List ℕ)) → Image → List ℕ → Option ℤ
+    → Records → Counted R → Counted R → Counted W → Counted W → Option (FileSeen disk) → Option (FileSeen disk)
+    → Result StreamEnd DeskFault → Type 0
+PipesAs remaining contents image country at records reader reader_left writer writer_left before file end =
     AtDesk image country records
     (λ D view begins ends end. IsPipedAt view begins ends remaining contents at reader reader_left writer writer_left end)
-    (IsUntouched reader reader_left writer writer_left) file end
+    (IsUntouched reader reader_left writer writer_left) before file end

@@ -1,5 +1,9 @@
 -- What is said of a stream by a clock at a desk, said of what is seen of these two.
-use Rattle.std.proofs.Common.{ℕ, ◌+◌, ℤ, List, [], ◌∷◌, Option, ap, sym, subst, inl, inr}
+use Rattle.std.proofs.Common.{ℕ, ◌+◌, ℤ, Bool, true, false, not, List, [], ◌∷◌, Option, ap, sym, subst, inl, inr}
+use Rattle.td_commands.specs.declared.command.Stamped.{Stamped}
+use Rattle.td_desk.specs.Content.{Content, IsSound}
+use Rattle.td_desk.specs.Runs.{LeavesAfter}
+use Rattle.td_desk.specs.Weighing.{Carries}
 use Rattle.counted_io.specs.declared.counted.Counted.{Counted}
 use Rattle.http_wire.specs.declared.reply.Reply.{Reply}
 use Rattle.http_wire.specs.declared.stream.StreamEnd.{StreamEnd}
@@ -7,7 +11,9 @@ use Rattle.http_wire.specs.declared.stream.StreamEnd.TheVariants.{Closed, Asked,
 use Rattle.http_wire.specs.Wire as request
 use Rattle.http_wire.specs.Stream.{Exchange, Chain, Run, EndsAs, Serves, Sides, IsEnding, Ending, silence, refusal, to_head, no_memory, MetEnd, LeftOpen, AskedAtReply, FailedAtReply, CutAtReply}
 use Rattle.td_http.specs.Serving.{IsHandled}
-use Rattle.td_cli.specs.Desks.{DeskView, IsHandledAt, IsHeadHandledAt, Shows, view_by}
+use Rattle.td_desk.specs.View.{AddsAtMost, DeskView, LeavesOnly}
+use Rattle.http_wire.specs.ReplyText.{is_made}
+use Rattle.td_cli.specs.Desks.{IsHandledAt, IsHeadHandledAt, Shows, view_by}
 use Rattle.td_cli.specs.Piped.{IsPiped}
 
 module _ {C C' H H' : Type 0} (ticks : C → ℤ → C → Type 0) (moments : C' → ℤ → C' → Type 0) (look : C → C')
@@ -137,16 +143,38 @@ module _ {C C' H H' : Type 0} (ticks : C → ℤ → C → Type 0) (moments : C'
           ends = ends_seen served.run end served.ends;
         }
 
+-- what a crash leaves of a desk, said of what is seen of the desk
+alone_seen : {D D' : Type 0} (see : D → D') (view : DeskView D') (d : D) (c : Content) → LeavesOnly (view_by see view) d c → LeavesOnly view (see d) c
+alone_seen see view d c is = record { only = is.only; recovers = is.recovers }
+
+alone_back : {D D' : Type 0} (see : D → D') (view : DeskView D') (d : D) (c : Content) → LeavesOnly view (see d) c → LeavesOnly (view_by see view) d c
+alone_back see view d c is = record { only = is.only; recovers = is.recovers }
+
+adds_seen : {D D' : Type 0} (see : D → D') (view : DeskView D') (added : Content → Type 0) (old new : D) → AddsAtMost (view_by see view) added old new
+    → AddsAtMost view added (see old) (see new)
+adds_seen see view added old new is = record { outcomes = is.outcomes; recovers = is.recovers }
+
+left_seen : {D D' : Type 0} (see : D → D') (view : DeskView D') (old : D) (s : Stamped) (failed : Bool) (new : D)
+    → LeavesAfter (view_by see view) old s failed new → LeavesAfter view (see old) s failed (see new)
+left_seen see view old s false new is = λ sound. (
+  λ accepted. alone_seen see view new (view.content (see new)) ((is sound).0 accepted),
+  λ refused. adds_seen see view (λ _. ⊥) old new ((is sound).1 refused),
+)
+left_seen see view old s true new is = adds_seen see view (λ x. view.is_live (see old) × (IsSound (view.content (see old)) → Carries (view.content (see old)) s x)) old new is
+
 -- what is said of a request at a desk, said of what is seen of the desk
 pub handled_seen : {S D D' : Type 0} (desk : S → D) (see : D → D') (view : DeskView D') (old : S) (at : ℤ) (asked : request.Asked) (reply : Reply) (new : S)
-    → IsHandled desk (λ d. view.content (see d)) (λ d. view.is_clean (see d)) (λ d. view.is_live (see d)) view.has_store old at asked reply new
+    → IsHandled desk (view_by see view) old at asked reply new
     → IsHandledAt view (see (desk old)) at asked reply (see (desk new))
 handled_seen desk see view old at asked reply new is =
     record {
       clean = is.clean;
       live = is.live;
       handled = is.handled;
+      stays = is.stays;
       unasked = λ why unread. ap see (is.unasked why unread);
+      crash = λ command asks clean. left_seen see view (desk old) (record { at = at; command = command }) (not (is_made reply)) (desk new) (is.crash command asks clean);
+      settled = λ clean before. λ live. alone_seen see view (desk new) (view.content (see (desk new))) (is.settled clean (λ was. alone_back see view (desk old) (view.content (see (desk old))) (before was)) live);
       store = is.store;
     }
 
@@ -171,5 +199,6 @@ piped_seen view see begins ends begins' ends' remaining contents ticks moments l
       ended = close piped.left piped.ended;
       served = serves_seen ticks moments look (IsHandledAt (view_by see view)) (IsHandledAt view) IsHeadHandledAt IsHeadHandledAt see
           (handled_seen (λ d. d) see view) (head_seen see) remaining reader reader_left writer writer_left clock piped.clock_left piped.opened piped.left contents shows end piped.served;
+      clean = piped.clean;
       private = piped.private;
     }

@@ -1,13 +1,12 @@
 //! One way to a desk for every job: its records stand in memory, in a file or in a new file, and its requests come at one
 //! moment or by the machine's clock.
-ghost use Rattle.std.specs.Prelude.{◌≡◌, Some, option_map, MatchResult};
-ghost use Rattle.sqlite.specs.Files.{file_state};
+ghost use Rattle.std.specs.Prelude.{◌≡◌, Some, MatchResult};
 ghost use Rattle.sqlite.specs.WalFiles.{image_at};
-ghost use Rattle.td_files.specs.Found.{FileState, shown};
+ghost use Rattle.td_files.specs.Found.{IsKeptDesk, over_file};
 ghost use Rattle.td_files.specs.declared.desks.DeskFault.TheVariants as fault;
 ghost use Rattle.td_files.specs.Faults as refused;
 ghost use Rattle.td_cli.specs.AtDesk.{AtDesk, Doing, IsSeen, IsUntouched};
-ghost use Rattle.td_cli.specs.Desks.{BeginsEmpty, IsMoment, IsReady, in_memory, over_file};
+ghost use Rattle.td_cli.specs.Desks.{BeginsEmpty, IsMoment, IsReady, in_memory};
 
 use crate::clock::{FixedClock, MachineClock};
 use sqlite::Start;
@@ -38,8 +37,8 @@ pub(crate) trait DeskJob {
         input: &mut Counted<R>,
         out: &mut Counted<W>,
     ) -> (Self::End, D)
-        ensures { IsReady (record { content = D.content; is_clean = D.is_clean; is_live = D.is_live; has_store = D.has_store }) desk
-            → does _ _ _ _ (record { content = D.content; is_clean = D.is_clean; is_live = D.is_live; has_store = D.has_store })
+        ensures { IsReady D.seen desk
+            → does _ _ _ _ D.seen
             (λ d. d ≡ desk) (λ d. d ≡ result.1) R.remaining W.contents C.ticks self.now input.old input.new out.old out.new clock result.0 };
 }
 
@@ -66,8 +65,7 @@ pub(crate) fn at_desk<S: Start, R: Read, W: Write, J: DeskJob>(
     ensures { AtDesk (image_at S.Start) office.country records.now
         (λ D view begins ends end. J.does D _ _ _ view begins ends R.remaining W.contents (IsMoment office.at) job.now
         input.old input.new out.old out.new tt end)
-        (IsUntouched input.old input.new out.old out.new)
-        (option_map (λ c. shown (file_state c)) file.new.connection) result }
+        (IsUntouched input.old input.new out.old out.new) file.old.connection file.new.connection result }
 {
     match records {
         Records::Memory => in_memory(rt, office, job, input, out),
@@ -112,9 +110,8 @@ fn over_file<S: Start, R: Read, W: Write, J: DeskJob>(
     input: &mut Counted<R>,
     out: &mut Counted<W>,
 ) -> J::End
-    ensures { IsReady over_file (shown (file_state desk)) → (s : FileState)
-        × (option_map (λ c. shown (file_state c)) file.new.connection ≡ Some s)
-        × J.does _ _ _ _ over_file (λ d. d ≡ shown (file_state desk)) (λ d. d ≡ s) R.remaining W.contents (IsMoment at) job.now
+    ensures { IsReady over_file desk → (s : _) × (file.new.connection ≡ Some s) × IsKeptDesk s
+        × J.does _ _ _ _ over_file (λ d. d ≡ desk) (λ d. d ≡ s) R.remaining W.contents (IsMoment at) job.now
         input.old input.new out.old out.new tt result }
 {
     let (end, desk) = at_moment(rt, desk, at, job, input, out);
@@ -131,8 +128,8 @@ fn at_moment<R: Read, W: Write, D: Desk + Drop, J: DeskJob>(
     input: &mut Counted<R>,
     out: &mut Counted<W>,
 ) -> (J::End, D)
-    ensures { IsReady (record { content = D.content; is_clean = D.is_clean; is_live = D.is_live; has_store = D.has_store }) desk
-        → J.does _ _ _ _ (record { content = D.content; is_clean = D.is_clean; is_live = D.is_live; has_store = D.has_store })
+    ensures { IsReady D.seen desk
+        → J.does _ _ _ _ D.seen
         (λ d. d ≡ desk) (λ d. d ≡ result.1) R.remaining W.contents (IsMoment at) job.now input.old input.new out.old out.new tt result.0 }
 {
     match at {

@@ -1,8 +1,6 @@
 //! The jobs of the program.
-ghost use Rattle.std.specs.Prelude.{◌≡◌, map, option_map, string_bytes};
-ghost use Rattle.sqlite.specs.Files.{file_state};
+ghost use Rattle.std.specs.Prelude.{◌≡◌, map, string_bytes};
 ghost use Rattle.sqlite.specs.WalFiles.{image_at};
-ghost use Rattle.td_files.specs.Found.{shown};
 ghost use Rattle.td_cli.specs.Performed.{IsChecked, IsDone, IsPerformed};
 ghost use Rattle.td_cli.specs.Statuses.{IsAnswered};
 
@@ -29,7 +27,7 @@ pub fn perform<S: Start, R: Read, W: Write, E: Write>(
 ) -> u8
     ensures { IsPerformed R.remaining W.contents E.contents (image_at S.Start) (map string_bytes words.now)
         input.old input.new out.old out.new errors.old errors.new
-        (option_map (λ c. shown (file_state c)) file.new.connection) result }
+        file.old.connection file.new.connection result }
 {
     match read_words(rt.alloc(), words) {
         Ok(job) => do_job(rt, job, file, input, out, errors),
@@ -48,7 +46,7 @@ fn do_job<S: Start, R: Read, W: Write, E: Write>(
 ) -> u8
     ensures { IsDone R.remaining W.contents E.contents (image_at S.Start) job.task job.country job.at
         input.old input.new out.old out.new errors.old errors.new
-        (option_map (λ c. shown (file_state c)) file.new.connection) result }
+        file.old.connection file.new.connection result }
 {
     let Job { task, country, at } = job;
     let office = Office { country, at };
@@ -75,7 +73,7 @@ fn check<S: Start, W: Write, E: Write>(
     errors: &mut Counted<E>,
 ) -> u8
     ensures { IsChecked W.contents E.contents (image_at S.Start) country out.old out.new errors.old errors.new
-        (option_map (λ c. shown (file_state c)) file.new.connection) result }
+        file.old.connection file.new.connection result }
 {
     match file.open_desk(rt, country, path) {
         Ok(desk) => {

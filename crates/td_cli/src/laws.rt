@@ -3,14 +3,15 @@ ghost use Rattle.std.specs.Prelude.{◌≡◌, ℕ, ℤ, Bool, List, map, Option
 ghost use Rattle.std.specs.declared.io.Error.{Error};
 ghost use Rattle.sqlite_wal.specs.Recovery.{Image};
 ghost use Rattle.counted_io.specs.declared.counted.Counted.{Counted};
-ghost use Rattle.td_files.specs.Found.{FileState, IsClean};
-ghost use Rattle.td_cli.specs.Desks.{BeginAlike, BeginsEmpty, BeginsIn, IsMoment, in_memory, over_file};
+ghost use Rattle.td_files.specs.Found.{FileSeen, IsClean, over_file};
+ghost use Rattle.td_cli.specs.Desks.{BeginAlike, BeginsEmpty, BeginsIn, IsMoment, in_memory};
 ghost use Rattle.td_cli.specs.Listening.{HasServed};
 ghost use Rattle.td_cli.specs.Piped.{IsPipedAt};
 ghost use Rattle.td_http.specs.ConnectionLaws.{TellAlikeOver};
 ghost use Rattle.td_http.specs.Laws.{TellAlike};
 ghost use Rattle.http_wire.specs.declared.stream.StreamEnd.{StreamEnd};
 
+use sqlite_disk::Disk;
 use std::io::{Read, Write};
 
 /// Two jobs in memory that `perform` did for one country, whatever their moments, inputs and outputs: each holder
@@ -31,9 +32,16 @@ pub fn agreeing_jobs_tell_the_same<R: Read, W: Write, OtherR: Read, OtherW: Writ
 /// Two jobs over files that `perform` did for one country, whose desks began with the same of a holder: that holder is told the
 /// same by both, as above, where the files' disks are clean in the end. What else the files held, or that one was new, makes no
 /// difference.
-pub fn agreeing_jobs_over_files_tell_the_same<R: Read, W: Write, OtherR: Read, OtherW: Write>()
+pub fn agreeing_jobs_over_files_tell_the_same<
+    R: Read,
+    W: Write,
+    F: Disk,
+    OtherR: Read,
+    OtherW: Write,
+    OtherF: Disk,
+>()
     ensures { (country : List ℕ) (H : ℕ) (at other_at : Option ℤ) (end other_end : StreamEnd)
-        (image other_image : Image) (is_new is_other_new : Bool) (file other_file : FileState)
+        (image other_image : Image) (is_new is_other_new : Bool) (file : FileSeen F.Disk) (other_file : FileSeen OtherF.Disk)
         (reader reader_left : Counted R) (writer writer_left : Counted W)
         (other_reader other_reader_left : Counted OtherR) (other_writer other_writer_left : Counted OtherW)
         → (one : IsPipedAt over_file (BeginsIn is_new image country) (λ d. d ≡ file) R.remaining W.contents at
@@ -64,9 +72,9 @@ pub fn agreeing_servings_tell_the_same<W: Write, OtherW: Write>()
 
 /// The same of two servings over files, whose desks began with the same of a holder, where the files' disks are clean in the
 /// end.
-pub fn agreeing_servings_over_files_tell_the_same<W: Write, OtherW: Write>()
+pub fn agreeing_servings_over_files_tell_the_same<W: Write, F: Disk, OtherW: Write, OtherF: Disk>()
     ensures { (country : List ℕ) (H : ℕ) (at other_at : Option ℤ)
-        (image other_image : Image) (is_new is_other_new : Bool) (file other_file : FileState)
+        (image other_image : Image) (is_new is_other_new : Bool) (file : FileSeen F.Disk) (other_file : FileSeen OtherF.Disk)
         (port connections other_port other_connections : ℕ) (answer other_answer : Result Unit Error)
         (writer writer_left : Counted W) (other_writer other_writer_left : Counted OtherW)
         → (one : HasServed {C = Unit {0}} over_file (BeginsIn is_new image country) (λ d. d ≡ file) W.contents (IsMoment at)

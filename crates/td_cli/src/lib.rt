@@ -8,6 +8,7 @@ mod jobs;
 mod laws;
 mod piping;
 mod program;
+mod run_laws;
 mod serving;
 mod telling;
 
@@ -18,4 +19,5 @@ pub use laws::{
     agreeing_servings_over_files_tell_the_same, agreeing_servings_tell_the_same,
 };
 pub use program::{run_program, words_of};
+pub use run_laws::{acknowledged_replies_are_kept_in_the_file, runs_over_one_file_are_one_run};
 pub use td_files::DeskFile;

@@ -1,8 +1,6 @@
 //! What a `main` calls: the words of the command line as the machine has them, and the program on them.
-ghost use Rattle.std.specs.Prelude.{◌≡◌, map, option_map, string_bytes, MatchResult};
-ghost use Rattle.sqlite.specs.Files.{file_state};
+ghost use Rattle.std.specs.Prelude.{◌≡◌, map, string_bytes, MatchResult};
 ghost use Rattle.sqlite.specs.WalFiles.{image_at};
-ghost use Rattle.td_files.specs.Found.{shown};
 ghost use Rattle.td_cli.specs.Performed.{IsPerformed, IsUnread};
 
 use crate::jobs::perform;
@@ -34,8 +32,8 @@ pub fn run_program<S: Start, R: Read, W: Write, E: Write>(
     ensures { MatchResult words
         (λ words. IsPerformed R.remaining W.contents E.contents (image_at S.Start) (map string_bytes words.items)
         input.old input.new out.old out.new errors.old errors.new
-        (option_map (λ c. shown (file_state c)) file.new.connection) result)
-        (λ error. (input.new ≡ input.old) × (out.new ≡ out.old)
+        file.old.connection file.new.connection result)
+        (λ error. (input.new ≡ input.old) × (out.new ≡ out.old) × (file.new ≡ file.old)
         × IsUnread E.contents error errors.old errors.new result) }
 {
     match words {

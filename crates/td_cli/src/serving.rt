@@ -81,8 +81,8 @@ fn serve_printing<W: Write, D: Desk + Drop, C: Clock>(
     service: &mut Service<D>,
     out: &mut Counted<W>,
 ) -> ServingEnd
-    ensures { IsReady (record { content = D.content; is_clean = D.is_clean; is_live = D.is_live; has_store = D.has_store }) (desk_of service.old)
-        → ServesAs (record { content = D.content; is_clean = D.is_clean; is_live = D.is_live; has_store = D.has_store })
+    ensures { IsReady D.seen (desk_of service.old)
+        → ServesAs D.seen
         (λ d. d ≡ desk_of service.old) (λ d. d ≡ desk_of service.new) W.contents C.ticks
         listening.port listening.connections out.old out.new clock.old result }
 {
@@ -101,9 +101,9 @@ fn listen<W: Write, D: Desk + Drop, C: Clock>(
     service: &mut Service<D>,
     out: &mut Counted<W>,
 ) -> ServingEnd
-    ensures { IsReady (record { content = D.content; is_clean = D.is_clean; is_live = D.is_live; has_store = D.has_store }) (desk_of service.old)
+    ensures { IsReady D.seen (desk_of service.old)
         → AreLinesOf listening lines.now
-        → ServesAs (record { content = D.content; is_clean = D.is_clean; is_live = D.is_live; has_store = D.has_store })
+        → ServesAs D.seen
         (λ d. d ≡ desk_of service.old) (λ d. d ≡ desk_of service.new) W.contents C.ticks
         listening.port listening.connections out.old out.new clock.old result }
 {
@@ -124,9 +124,9 @@ fn serve_here<W: Write, D: Desk + Drop, C: Clock>(
     service: &mut Service<D>,
     out: &mut Counted<W>,
 ) -> ServingEnd
-    ensures { IsReady (record { content = D.content; is_clean = D.is_clean; is_live = D.is_live; has_store = D.has_store }) (desk_of service.old)
+    ensures { IsReady D.seen (desk_of service.old)
         → AreLinesOf listening lines.now
-        → ServesAs (record { content = D.content; is_clean = D.is_clean; is_live = D.is_live; has_store = D.has_store })
+        → ServesAs D.seen
         (λ d. d ≡ desk_of service.old) (λ d. d ≡ desk_of service.new) W.contents C.ticks
         listening.port listening.connections out.old out.new clock.old result }
 {

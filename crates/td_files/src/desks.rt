@@ -1,14 +1,12 @@
 //! Desks over files, made and opened.
-ghost use Rattle.std.specs.Prelude.{◌≡◌, Some, IfOk, IfErr, option_map};
-ghost use Rattle.sqlite.specs.Files.{file_state};
+ghost use Rattle.std.specs.Prelude.{◌≡◌, Some, IfOk, IfErr, OnErr};
 ghost use Rattle.sqlite.specs.WalFiles.{image_at};
-ghost use Rattle.td_files.specs.Found.{IsClean, IsOpenedDesk, IsCreatedDesk, IsToldOf, IsUnmade, shown};
+ghost use Rattle.td_files.specs.Found.{IsClean, IsOpenedDesk, IsCreatedDesk, IsKeptDesk, IsLeftAsFound, IsToldOf, IsUnmade};
 ghost use Rattle.td_files.specs.declared.desks.DeskFault.TheVariants as fault;
 
 use crate::files::{OneFile, open_file};
 use sqlite::{Error, ErrorCode, FileFrom, FileStore, Start};
 use td_base::Country;
-use td_desk::empty_desk_is_tied;
 use td_store::{OpenFault, Refused, SqlDesk};
 use thiserror::Error as AsError;
 
@@ -50,16 +48,17 @@ impl<S: Start> OneFile<S, FileStore<FileFrom<S>>> {
 
     /// Opens the desk of an office of that country over the file at the path, which has to be there and have a desk's tables.
     /// `File`: it isn't there, can't be opened, is no database, or this file was opened before; `Refused`: its database is
-    /// refused by `SqlDesk::open`, there was no memory, or another program has the file open (`Store`). No row in the file is
-    /// changed; a file of no bytes becomes a database without tables.
+    /// refused by `SqlDesk::open`, there was no memory, or another program has the file open (`Store`). With an error the
+    /// connection that is handed back shows what the file held; a file of no bytes becomes a database without tables.
     pub fn open_desk(
         &mut self,
         rt: &HostRuntime,
         country: Country,
         path: &str,
     ) -> Result<FileDesk<S>, DeskFault>
-        ensures kept { IfOk result (λ desk. IsClean (shown (file_state desk)) → IsOpenedDesk (image_at S.Start) country (shown (file_state desk))) }
-        ensures fault { IfErr result (IsToldOf (image_at S.Start) country (option_map (λ c. shown (file_state c)) self.new.connection)) }
+        ensures kept { IfOk result (λ desk. IsClean desk → IsOpenedDesk (image_at S.Start) country desk) }
+        ensures fault { IfErr result (IsToldOf (image_at S.Start) country self.new.connection) }
+        ensures left { OnErr result (IsLeftAsFound (image_at S.Start) self.old.connection self.new.connection) }
     {
         let Some(start) = self.start.take() else {
             return Err(DeskFault::File);
@@ -77,17 +76,17 @@ impl<S: Start> OneFile<S, FileStore<FileFrom<S>>> {
     /// Makes a desk of an office of that country, which has no holders yet, in the file at the path: a new file, or one whose
     /// database has no table. `File`: it can't be made or opened, is no database, or this file was opened before;
     /// `Refused(Store)`: it has a table, another program has it open, or the store failed; `Refused(NoMemory)`: want of memory.
+    /// With an error the connection that is handed back shows what the file held.
     pub fn make_desk(
         &mut self,
         rt: &HostRuntime,
         country: Country,
         path: &str,
     ) -> Result<FileDesk<S>, DeskFault>
-        ensures made { IfOk result (λ desk. IsClean (shown (file_state desk)) → IsCreatedDesk (image_at S.Start) country (shown (file_state desk))) }
+        ensures made { IfOk result (λ desk. IsClean desk → IsCreatedDesk (image_at S.Start) country desk) }
         ensures fault { IfErr result IsUnmade }
+        ensures left { OnErr result (IsLeftAsFound (image_at S.Start) self.old.connection self.new.connection) }
     {
-        empty_desk_is_tied();
-        let _letters = country.as_bytes();
         let Some(start) = self.start.take() else {
             return Err(DeskFault::File);
         };
@@ -101,9 +100,11 @@ impl<S: Start> OneFile<S, FileStore<FileFrom<S>>> {
         }
     }
 
-    /// Takes the desk's connection back, once its job is done.
+    /// Takes the desk's connection back, once its job is done: it is to a desk's file, as far as its disk is clean and no fault
+    /// has shut it.
     pub fn keep(&mut self, desk: FileDesk<S>)
-        ensures { self.new.connection ≡ Some desk }
+        ensures there { self.new.connection ≡ Some desk }
+        ensures kept { IsKeptDesk desk }
     {
         self.connection = Some(desk.close());
     }

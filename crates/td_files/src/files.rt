@@ -2,7 +2,7 @@
 ghost use Rattle.std.specs.Prelude.{◌≡◌, false, Some, None, IfOk, OnErr};
 ghost use Rattle.sqlite.specs.Files.{file_state};
 ghost use Rattle.sqlite.specs.Start.{FindsIn};
-ghost use Rattle.sqlite.specs.State.{HasCleanDisk, Opens};
+ghost use Rattle.sqlite.specs.State.{HasCleanDisk, IsLive, Opens};
 ghost use Rattle.sqlite.specs.WalFiles.{image_at};
 
 use sqlite::{Alter, Connection, Error, ErrorCode, FileFrom, FileStore, Start};
@@ -58,6 +58,7 @@ pub(crate) fn open_file<S: Start>(
     start: S,
 ) -> Result<FileConnection<S>, Error>
     ensures open { IfOk result (λ conn. HasCleanDisk (file_state conn) → Opens (file_state conn)) }
+    ensures live { IfOk result (λ conn. IsLive (file_state conn)) }
     ensures found { IfOk result (λ conn. HasCleanDisk (file_state conn) → FindsIn (image_at S.Start) (file_state conn)) }
     ensures ended { IfOk result (λ conn. conn.in_transaction ≡ false) }
 {
@@ -65,7 +66,11 @@ pub(crate) fn open_file<S: Start>(
         return Err(CANNOT_OPEN);
     }
     match Connection::open_from(rt, path, false, start) {
-        Ok(conn) => Ok(conn),
+        Ok(conn) => {
+            // For its clause: what is open is a database.
+            let _schema = conn.schema();
+            Ok(conn)
+        }
         Err((error, _)) => Err(error),
     }
 }

@@ -1,7 +1,8 @@
 -- What connections one after another tell each holder.
 use Rattle.std.proofs.Common.{◌≡◌, ℕ, ℤ, List, [], ◌∷◌, ◌++◌, map, Option, refl, sym, ◌∙◌, ap, subst}
+use Rattle.std.proofs.lemmas.Grind.{flat_map-append}
 use Rattle.std.proofs.lemmas.List.{map-append}
-use Rattle.std.proofs.lemmas.List.Elements.{All-cons, All-nil}
+use Rattle.std.proofs.lemmas.List.Elements.{All-append, All-cons, All-nil}
 use Rattle.td_model.specs.Book.{Book, account_of}
 use Rattle.td_model.specs.Machine.{book_after, machine_book, IsGrown}
 use Rattle.td_desk.specs.Content.{Content, IsSound}
@@ -9,11 +10,12 @@ use Rattle.td_desk.specs.View.{DeskView}
 use Rattle.td_desk.specs.Runs.{IsTied}
 use Rattle.http_wire.specs.Stream.{Exchange}
 use Rattle.td_http.specs.declared.service.Service.{Service}
-use Rattle.td_http.specs.Serving.{desk_of, IsHandledBy, IsHeadHandledBy, HolderRequest, FaultsAreTold, NobodysAreTold, commands_of, heard_in, machine_replies, IsServed}
+use Rattle.td_http.specs.Serving.{desk_of, IsHandledBy, IsHeadHandledBy, HolderRequest, FaultsAreTold, NobodysAreTold, commands_of, heard_in, told_in, machine_replies, IsServed}
 use Rattle.td_http.proofs.Served.{machine_book-++}
 use Rattle.td_http.proofs.Streamed.{stream_clean, stream_served}
 use Rattle.td_http.specs.Connections.{Between, Connection, IsServedConnection, ServedConnections}
-use Rattle.td_http.specs.Private.{heard_over, IsServedOver, IsPrivateOver}
+use Rattle.td_http.specs.Kept.{books_after}
+use Rattle.td_http.specs.Private.{heard_over, told_over, books_over, IsServedOver, IsPrivateOver}
 
 -- a machine's replies to one list and then another
 machine_replies-++ : (H : ℕ) (book : Book) (xs ys : List HolderRequest)
@@ -22,14 +24,10 @@ machine_replies-++ : (H : ℕ) (book : Book) (xs ys : List HolderRequest)
 machine_replies-++ H book [] ys = refl
 machine_replies-++ H book (x ∷ xs) ys = rw (machine_replies-++ H (book_after H book x.0) xs ys) refl
 
--- the books that a stream leaves
-abbrev books_after : List ℕ → (ℕ → Book) → List Exchange → ℕ → Book
-books_after country books es H = machine_book H (books H) (commands_of (heard_in country H 0 es))
-
 -- one stream, and those that begin with the books that it left
 module _ (country : List ℕ) (books : ℕ → Book) (es : List Exchange) (streams : List (List Exchange)) where
   books_are : (H : ℕ)
-      → machine_book H (books_after country books es H) (commands_of (heard_over country H streams))
+      → machine_book H (books_after country books 0 es H) (commands_of (heard_over country H streams))
       ≡ machine_book H (books H) (commands_of (heard_over country H (es ∷ streams)))
   books_are H =
       let heard = heard_in country H 0 es in
@@ -37,8 +35,8 @@ module _ (country : List ℕ) (books : ℕ → Book) (es : List Exchange) (strea
       sym (ap (machine_book H (books H)) (map-append (λ (r : HolderRequest). r.0) heard later)
       ∙ machine_book-++ H (books H) (commands_of heard) (commands_of later))
 
-  served_over : (mid new : Content) → IsServed country books 0 es mid
-      → IsServedOver country (books_after country books es) streams new
+  pub served_over : (mid new : Content) → IsServed country books 0 es mid
+      → IsServedOver country (books_after country books 0 es) streams new
       → IsServedOver country books (es ∷ streams) new
   served_over mid new first later = record {
     answers = λ H. rw (first.answers H, later.answers H)
@@ -53,8 +51,38 @@ module _ (country : List ℕ) (books : ℕ → Book) (es : List Exchange) (strea
     };
   }
 
+-- streams, and others that begin with the books that they left
+module _ (country : List ℕ) (books : ℕ → Book) (streams others : List (List Exchange)) where
+  all_books_are : (H : ℕ)
+      → machine_book H (books_over country books streams H) (commands_of (heard_over country H others))
+      ≡ machine_book H (books H) (commands_of (heard_over country H (streams ++ others)))
+  all_books_are H =
+      let heard = heard_over country H streams in
+      let later = heard_over country H others in
+      sym (ap (λ list. machine_book H (books H) (commands_of list)) (flat_map-append (heard_in country H 0) streams others)
+      ∙ ap (machine_book H (books H)) (map-append (λ (r : HolderRequest). r.0) heard later)
+      ∙ machine_book-++ H (books H) (commands_of heard) (commands_of later))
+
+  pub served_both : (mid new : Content) → IsServedOver country books streams mid
+      → IsServedOver country (books_over country books streams) others new
+      → IsServedOver country books (streams ++ others) new
+  served_both mid new first later = record {
+    answers = λ H. flat_map-append (told_in country H 0) streams others
+        ∙ rw (first.answers H, later.answers H)
+        (sym (ap (machine_replies H (books H)) (flat_map-append (heard_in country H 0) streams others)
+        ∙ machine_replies-++ H (books H) (heard_over country H streams) (heard_over country H others)));
+    faults = All-append (FaultsAreTold 0) streams others first.faults later.faults;
+    nobodys = All-append (NobodysAreTold country 0) streams others first.nobodys later.nobodys;
+    country_stays = later.country_stays;
+    sound = later.sound;
+    tied = record {
+      each = λ H. later.tied.each H ∙ ap (account_of H) (all_books_are H);
+      grown = λ H. subst (λ (b : Book). IsGrown H b) (all_books_are H) (later.tied.grown H);
+    };
+  }
+
 -- no stream
-served_nothing : (country : List ℕ) (books : ℕ → Book) (rows : Content)
+pub served_nothing : (country : List ℕ) (books : ℕ → Book) (rows : Content)
     → rows.country ≡ country → IsSound rows → IsTied rows books → IsServedOver country books [] rows
 served_nothing country books rows same sound tied = record {
   answers = λ H. refl;
@@ -133,7 +161,7 @@ module _ {R W C D L : Type 0} (remaining : R → Option (List ℕ)) (contents : 
       let first = connection_served old connection mid were_served.1 mid_clean country books rows same_country sound tied
       same in
       let later = connections_served all_served mid new were_served.2 clean country
-      (books_after country books connection.exchanges) first.0 first.1.country_stays first.1.sound first.1.tied
+      (books_after country books 0 connection.exchanges) first.0 first.1.country_stays first.1.sound first.1.tied
       first.2 in
       let streams = streams_of all_served in
       (later.0, served_over country books connection.exchanges streams first.0 later.0 first.1 later.1, later.2)

@@ -19,6 +19,10 @@ heard_over country H streams = flat_map (heard_in country H 0) streams
 abbrev pub told_over : List ℕ → ℕ → List (List Exchange) → List (List ℕ)
 told_over country H streams = flat_map (told_in country H 0) streams
 
+-- the books that the machines end with
+abbrev pub books_over : List ℕ → (ℕ → Book) → List (List Exchange) → ℕ → Book
+books_over country books streams H = machine_book H (books H) (commands_of (heard_over country H streams))
+
 -- To each holder at once, the bytes of the replies to the holder's requests, over all streams, are those of
 -- the holder's own machine on these requests in their order; in the end the content is sound, and tied to the
 -- books that the machines end with.
@@ -30,7 +34,7 @@ pub record IsServedOver (country : List ℕ) (books : ℕ → Book) (streams : L
   pub nobodys : All (NobodysAreTold country 0) streams
   pub country_stays : new.country ≡ country
   pub sound : IsSound new
-  pub tied : IsTied new (λ H. machine_book H (books H) (commands_of (heard_over country H streams)))
+  pub tied : IsTied new (books_over country books streams)
 
 -- Where the desk is clean in the end, the above holds from any books to which the desk's content was tied.
 -- Where a fault shut the desk on the way, in whichever connection, c is the content up to that.

@@ -15,16 +15,16 @@ pub fn run_stored<S: Store>(
     desk: &mut S,
     list: &[Stamped],
 ) -> Result<Vec<Outcome>, AllocError>
-    ensures private { S.is_kept desk.new → S.is_open desk.old → IsSound (S.rows desk.old)
-        → (books : ℕ → Book) → IsTied (S.rows desk.old) books →
+    ensures private { S.holds.is_clean desk.new → S.holds.is_live desk.old → IsSound (S.holds.content desk.old)
+        → (books : ℕ → Book) → IsTied (S.holds.content desk.old) books →
         IfOk result (λ outcomes. (c : Content)
-        × IsRun (S.rows desk.old).country books list.now outcomes.items c
-        × (S.is_open desk.new → S.rows desk.new ≡ c)) }
+        × IsRun (S.holds.content desk.old).country books list.now outcomes.items c
+        × (S.holds.is_live desk.new → S.holds.content desk.new ≡ c)) }
 {
     run(alloc, desk, list)
 }
 
-/// A store in memory that serves so many calls, and shuts at the next.
+/// A store in memory that serves so many calls, and shuts at the next. A crash leaves the rows that it has.
 #[derive(Drop)]
 pub struct FaultyStore {
     rows: PlainDesk,
@@ -56,17 +56,18 @@ impl FaultyStore {
 }
 
 impl Store for FaultyStore {
-    ghost use Rattle.std.specs.Prelude.{IsTrue, false, Some};
+    ghost use Rattle.std.specs.Prelude.{◌≡◌, IsTrue, false, Some};
     ghost use Rattle.td_desk.specs.Plain.{plain_content};
     ghost use Rattle.td_desk.specs.declared.fault.Fault.TheVariants as fault;
 
-    ghost is_kept = { λ _. Unit {0} };
-
-    ghost is_open = { λ s. IsTrue s.serving };
-
-    ghost rows = { λ s. plain_content s.rows };
-
-    ghost may_fail = { Unit {0} };
+    ghost holds = { record {
+      content = λ s. plain_content s.rows;
+      is_clean = λ _. Unit {0};
+      is_live = λ s. IsTrue s.serving;
+      has_store = Unit {0};
+      may_leave = λ s x. x ≡ plain_content s.rows;
+      recovers = λ _. Unit {0};
+    } };
 
     // A call that finds the store shut, or shuts it, and no other call, is the store's fault.
     ghost asked = { λ _ why new. (why ≡ Some fault.Store → new.serving ≡ false)

@@ -1,17 +1,20 @@
-use Rattle.std.proofs.Common.{◌≡◌, ◌∙◌, sym, inl, inr}
+use Rattle.std.proofs.Common.{◌≡◌, ◌∙◌, refl, sym, inl, inr}
 use Rattle.td_http.specs.Serving.{desk_of}
-use Rattle.td_cli.specs.Desks.{DeskView}
+use Rattle.td_desk.specs.View.{DeskView}
 use Rattle.td_cli.specs.Listening.{HasServed}
 use Rattle.td_cli.proofs.ServedConnections.{has_served, served_some, served_all}
 use Rattle.td_cli.proofs.serving.serve_here.Goals as goal
 
 pub returns-then-not-write_whole : goal.returns-then-not-write_whole
 returns-then-not-write_whole g c = λ ready lines.
-    inl (rw (← lines.0, ← c.as_bytes.ensures.value) (c.write_whole.ensures.cut c.if-not-write_whole.true))
+    inl (
+      rw (← lines.0, ← c.as_bytes.ensures.value) (c.write_whole.ensures.cut c.if-not-write_whole.true),
+      (desk_of c.args.service.now, refl, refl),
+    )
 
 pub returns-then-is_err : goal.returns-then-is_err
 returns-then-is_err g c = λ ready lines.
-    let view : DeskView _ = record { content = g.D.Desk.content; is_clean = g.D.Desk.is_clean; is_live = g.D.Desk.is_live; has_store = g.D.Desk.has_store } in
+    let view : DeskView _ = g.D.Desk.seen in
     let said = rw (c.as_bytes.ensures.value, lines.0) at (c.write_whole.ensures.whole c.if-not-write_whole.false) in
     let has = has_served view g.W.Write.contents g.C.Clock.ticks c.args.listening.port c.args.listening.connections
     c.args.out.now c.write_whole.new.writer c.args.clock.now c.serve_on.new.clock c.args.service.now c.serve_on.new.service c.serve_on.result said
@@ -22,7 +25,7 @@ returns-then-is_err g c = λ ready lines.
 
 pub returns-then-not-write_whole-2 : goal.returns-then-not-write_whole-2
 returns-then-not-write_whole-2 g c = λ ready lines.
-    let view : DeskView _ = record { content = g.D.Desk.content; is_clean = g.D.Desk.is_clean; is_live = g.D.Desk.is_live; has_store = g.D.Desk.has_store } in
+    let view : DeskView _ = g.D.Desk.seen in
     let said = rw (c.as_bytes.ensures.value, lines.0) at (c.write_whole.ensures.whole c.if-not-write_whole.false) in
     let has = has_served view g.W.Write.contents g.C.Clock.ticks c.args.listening.port c.args.listening.connections
     c.args.out.now c.write_whole.new.writer c.args.clock.now c.serve_on.new.clock c.args.service.now c.serve_on.new.service c.serve_on.result said
@@ -34,7 +37,7 @@ returns-then-not-write_whole-2 g c = λ ready lines.
 
 pub returns : goal.returns
 returns g c = λ ready lines.
-    let view : DeskView _ = record { content = g.D.Desk.content; is_clean = g.D.Desk.is_clean; is_live = g.D.Desk.is_live; has_store = g.D.Desk.has_store } in
+    let view : DeskView _ = g.D.Desk.seen in
     let said = rw (c.as_bytes.ensures.value, lines.0) at (c.write_whole.ensures.whole c.if-not-write_whole.false) in
     let has = has_served view g.W.Write.contents g.C.Clock.ticks c.args.listening.port c.args.listening.connections
     c.args.out.now c.write_whole.new.writer c.args.clock.now c.serve_on.new.clock c.args.service.now c.serve_on.new.service c.serve_on.result said

@@ -5,6 +5,6 @@ use Rattle.td_cli.proofs.serving.ListeningDeskJob.on.Goals as goal
 pub returns : goal.returns
 returns g c = λ ready. (
   refl,
-  serving_from (record { content = g.D.Desk.content; is_clean = g.D.Desk.is_clean; is_live = g.D.Desk.is_live; has_store = g.D.Desk.has_store })
+  serving_from g.D.Desk.seen
       g.W.Write.contents g.C.Clock.ticks _ _ _ _ _ _ _ _ c.args.desk c.into_desk.result c.new-service.ensures c.into_desk.ensures ready c.serve_printing-end.ensures,
 )

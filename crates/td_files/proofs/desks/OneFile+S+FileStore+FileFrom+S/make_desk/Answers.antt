@@ -1,8 +1,8 @@
 use Rattle.std.proofs.Common.{subst, sym}
-use Rattle.td_desk.specs.Content.{IsSound}
 use Rattle.sqlite.specs.Files.{file_state}
 use Rattle.sqlite.specs.WalFiles.{image_at}
-use Rattle.td_files.proofs.Opening.{clean_before, found_there, unmade_at}
+use Rattle.td_store_rows.specs.StoreTables.{HoldsContent}
+use Rattle.td_files.proofs.Opening.{as_found, clean_before, found_there, unmade_at}
 use Rattle.td_files.proofs.desks.OneFile+S+FileStore+FileFrom+S.make_desk.Goals as goal
 
 pub returns-in-Ok-create-clause-made : goal.returns-in-Ok-create-clause-made
@@ -16,9 +16,20 @@ returns-in-Ok-create-clause-made g c = λ clean.
       before = found.now;
       found = found_there (image_at g.S.Start) found (c.in-Ok.ensures.open was) (c.in-Ok.ensures.found was);
       blank = λ taken. made.taken taken;
+      holds = subst (λ x. HoldsContent x desk) (sym (made.empty clean)) (made.made clean);
       empty = made.empty clean;
-      sound = subst IsSound (sym (made.empty clean)) (c.empty_desk_is_tied.ensures c.args.country c.as_bytes-letters.ensures.form).0;
+      settled = made.leaves clean;
     }
 
 pub returns-in-Err-create-clause-fault : goal.returns-in-Err-create-clause-fault
 returns-in-Err-create-clause-fault g c = unmade_at _ _ c.in-Err-create.ensures.fault c.turn_away.ensures.fault
+
+pub returns-in-Err-create-clause-left : goal.returns-in-Err-create-clause-left
+returns-in-Err-create-clause-left g c =
+    let found = file_state c.in-Ok.conn in
+    let refused = c.in-Err-create.refused in
+    let told = c.in-Err-create.ensures in
+    as_found (image_at g.S.Start) c.in-Ok.conn refused.connection _ _
+    (λ clean. let was = clean_before found (file_state refused.connection) _ told.crash clean in
+    found_there (image_at g.S.Start) found (c.in-Ok.ensures.open was) (c.in-Ok.ensures.found was))
+    told.same told.settled c.turn_away.ensures.handed

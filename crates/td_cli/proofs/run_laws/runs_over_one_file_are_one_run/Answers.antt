@@ -1,0 +1,38 @@
+use Rattle.std.proofs.Common.{◌∙◌, ap, subst, sym}
+use Rattle.std.specs.Prelude.{IsTrue}
+use Rattle.sqlite.specs.Files.{file_state}
+use Rattle.td_files.specs.Found.{IsClean, over_file}
+use Rattle.td_http.specs.Private.{IsServedOver}
+use Rattle.td_cli.specs.Desks.{fresh_books}
+use Rattle.td_cli.proofs.Agreeing.{lists_alike}
+use Rattle.td_cli.proofs.Desks.{fresh_tied}
+use Rattle.td_cli.proofs.Runs.{one_stream, run_of, runs_joined}
+use Rattle.td_cli.proofs.run_laws.runs_over_one_file_are_one_run.Goals as goal
+
+pub returns-clause-piped : goal.returns-clause-piped
+returns-clause-piped g c = λ country is_new image at file reader reader_left writer writer_left end one clean open.
+    run_of is_new image country one.opened file _ one.begun (one.clean (subst IsClean (sym one.ended) clean))
+    (λ books tied.
+    let served = one.private (subst IsClean (sym one.ended) clean) books tied in
+    (served.0, one_stream _ books one.served.run.exchanges served.0 served.1,
+    ap over_file.content (sym one.ended) ∙ served.2 (subst (λ s. IsTrue (file_state s).is_open) (sym one.ended) open)))
+
+pub returns-clause-served : goal.returns-clause-served
+returns-clause-served g c = λ country is_new image at file port connections writer writer_left answer one clean open.
+    run_of is_new image country one.opened file _ one.begun (one.clean (subst IsClean (sym one.ended) clean))
+    (λ books tied.
+    let served = one.private (subst IsClean (sym one.ended) clean) books tied in
+    (served.0, served.1,
+    ap over_file.content (sym one.ended) ∙ served.2 (subst (λ s. IsTrue (file_state s).is_open) (sym one.ended) open)))
+
+pub returns-clause-joined : goal.returns-clause-joined
+returns-clause-joined g c = λ country opened between next left streams others first goes second.
+    runs_joined country opened between next left streams others first goes second
+
+pub returns-clause-alike : goal.returns-clause-alike
+returns-clause-alike g c = λ country H opened left other other_left streams others one two alike.
+    let served = one.private (fresh_books (over_file.content opened)) (fresh_tied (over_file.content opened)) in
+    let other_served = two.private (fresh_books (over_file.content other)) (fresh_tied (over_file.content other)) in
+    lists_alike country H (over_file.content opened) (over_file.content other) streams others (over_file.content left) (over_file.content other_left) alike
+    (subst (λ c. IsServedOver c (fresh_books (over_file.content opened)) streams (over_file.content left)) (sym one.country_is) served)
+    (subst (λ c. IsServedOver c (fresh_books (over_file.content other)) others (over_file.content other_left)) (sym two.country_is) other_served)

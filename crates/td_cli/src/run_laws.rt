@@ -1,0 +1,59 @@
+//! Laws of runs over a file, one after another, and of what a crash leaves on the way, as contracts of functions that do nothing.
+ghost use Rattle.std.specs.Prelude.{◌≡◌, ℕ, ℤ, Bool, List, [], ◌∷◌, ◌++◌, map, IsTrue, Option, Result};
+ghost use Rattle.std.specs.declared.io.Error.{Error};
+ghost use Rattle.sqlite.specs.Files.{file_state};
+ghost use Rattle.sqlite_wal.specs.Recovery.{Image};
+ghost use Rattle.counted_io.specs.declared.counted.Counted.{Counted};
+ghost use Rattle.http_wire.specs.Stream.{Exchange};
+ghost use Rattle.http_wire.specs.declared.stream.StreamEnd.{StreamEnd};
+ghost use Rattle.td_files.specs.Found.{FileSeen, IsClean, over_file};
+ghost use Rattle.td_http.specs.ConnectionLaws.{TellAlikeOver};
+ghost use Rattle.td_http.specs.Kept.{IsKeptBetween};
+ghost use Rattle.td_cli.specs.Desks.{BeginAlike, BeginsIn, IsMoment, fresh_books};
+ghost use Rattle.td_cli.specs.Listening.{HasServed};
+ghost use Rattle.td_cli.specs.Piped.{IsPipedAt};
+ghost use Rattle.td_cli.specs.Runs.{GoesOnFrom, IsRun};
+
+use sqlite_disk::Disk;
+use std::io::{Read, Write};
+
+/// Runs of the program over one file, one after another, tell each holder what one run tells for the requests of all of them in
+/// order, as an office runs it: a run for each moment, or a restart each night.
+///
+/// `piped`, `served`: a job of `perform` over a file, whose disk stayed clean and which no fault shut, is a run, of one stream or
+/// of one for each connection. `joined`: two runs, the second of which opened the file with what the first left, are one run of
+/// the streams of both. `alike`: two such lists of runs, over files that began with the same of a holder, tell that holder the
+/// same bytes where their requests agree on the holder's commands.
+pub fn runs_over_one_file_are_one_run<R: Read, W: Write, F: Disk, OtherF: Disk>()
+    ensures piped { (country : List ℕ) (is_new : Bool) (image : Image) (at : Option ℤ) (file : FileSeen F.Disk)
+        (reader reader_left : Counted R) (writer writer_left : Counted W) (end : StreamEnd)
+        → (one : IsPipedAt over_file (BeginsIn is_new image country) (λ d. d ≡ file) R.remaining W.contents at
+        reader reader_left writer writer_left end)
+        → IsClean file → IsTrue (file_state file).is_open → IsRun country one.opened (one.served.run.exchanges ∷ []) file }
+    ensures served { (country : List ℕ) (is_new : Bool) (image : Image) (at : Option ℤ) (file : FileSeen F.Disk)
+        (port connections : ℕ) (writer writer_left : Counted W) (answer : Result Unit Error)
+        → (one : HasServed {C = Unit {0}} over_file (BeginsIn is_new image country) (λ d. d ≡ file) W.contents (IsMoment at)
+        port connections writer writer_left tt answer)
+        → IsClean file → IsTrue (file_state file).is_open
+        → IsRun country one.opened (map (λ connection. connection.exchanges) one.served.all_served) file }
+    ensures joined { (country : List ℕ) (opened between next left : FileSeen F.Disk) (streams others : List (List Exchange))
+        → IsRun country opened streams between → GoesOnFrom country between next → IsRun country next others left
+        → IsRun country opened (streams ++ others) left }
+    ensures alike { (country : List ℕ) (H : ℕ) (opened left : FileSeen F.Disk) (other other_left : FileSeen OtherF.Disk)
+        (streams others : List (List Exchange))
+        → IsRun country opened streams left → IsRun country other others other_left
+        → BeginAlike country H (over_file.content opened) (over_file.content other) → TellAlikeOver country H streams others }
+{}
+
+/// What was acknowledged over a file is kept. However the exchanges of a job that served a stream over a file are split in two,
+/// there was a moment between them at which whatever a crash leaves is a desk's file, which the next opening takes: with the
+/// accepted changes of the first part, and at most one more, which was answered by a fixed reply.
+pub fn acknowledged_replies_are_kept_in_the_file<R: Read, W: Write, F: Disk>()
+    ensures { (country : List ℕ) (is_new : Bool) (image : Image) (at : Option ℤ) (file : FileSeen F.Disk)
+        (reader reader_left : Counted R) (writer writer_left : Counted W) (end : StreamEnd) (first others : List Exchange)
+        → (one : IsPipedAt over_file (BeginsIn is_new image country) (λ d. d ≡ file) R.remaining W.contents at
+        reader reader_left writer writer_left end)
+        → IsClean file → one.served.run.exchanges ≡ first ++ others
+        → IsKeptBetween {C = Unit {0}} (IsMoment at) (λ d. d) over_file country (fresh_books (over_file.content one.opened)) first others
+        (tt, one.opened) (one.clock_left, one.served.run.handler) }
+{}
