@@ -59,10 +59,10 @@ module _ {D : Type 0} {disk : Ghosts D} where
       → (IsClean s → IsTrue (file_state s).is_open → (file_state s).now ≡ (file_state found).now) → CrashLeavesShown (file_state s)
       → after ≡ Some s → IsLeftAsFound image before after
   as_found image found s before after is same shows there =
-      subst (IsLeftAsFound image before) (sym there) (inr (λ other at clean open.
+      subst (IsLeftAsFound image before) (sym there) (inr (λ other at clean live.
       let which : s ≡ other = cc in
       subst (λ (o : FileSeen disk). IsClean o → IsTrue (file_state o).is_open → IsFoundIn image (file_state o).now × CrashLeavesShown (file_state o)) which
-      (λ c o. (subst (IsFoundIn image) (sym (same c o)) (is c), shows)) clean open))
+      (λ c l. (subst (IsFoundIn image) (sym (same c l)) (is c), shows)) clean live))
 
 -- what the clauses of an open say of a fault
 tells : (country : List ℕ) (db : Database) (fault : OpenFault)

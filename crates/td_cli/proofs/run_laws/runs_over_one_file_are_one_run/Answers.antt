@@ -10,20 +10,24 @@ use Rattle.td_cli.proofs.Runs.{one_stream, run_of, runs_joined}
 use Rattle.td_cli.proofs.run_laws.runs_over_one_file_are_one_run.Goals as goal
 
 pub returns-clause-piped : goal.returns-clause-piped
-returns-clause-piped g c = λ country is_new image at file reader reader_left writer writer_left end one clean open.
+returns-clause-piped g c = λ country is_new image at file reader reader_left writer writer_left end one clean live.
     run_of is_new image country one.opened file _ one.begun (one.clean (subst IsClean (sym one.ended) clean))
     (λ books tied.
-    let served = one.private (subst IsClean (sym one.ended) clean) books tied in
-    (served.0, one_stream _ books one.served.run.exchanges served.0 served.1,
-    ap over_file.content (sym one.ended) ∙ served.2 (subst (λ s. IsTrue (file_state s).is_open) (sym one.ended) open)))
+    let served = one.private (subst IsClean (sym one.ended) clean) books tied in (
+      served.0,
+      one_stream _ books one.served.run.exchanges served.0 served.1,
+      ap over_file.content (sym one.ended) ∙ served.2 (subst (λ s. IsTrue (file_state s).is_open) (sym one.ended) live),
+    ))
 
 pub returns-clause-served : goal.returns-clause-served
-returns-clause-served g c = λ country is_new image at file port connections writer writer_left answer one clean open.
+returns-clause-served g c = λ country is_new image at file port connections writer writer_left answer one clean live.
     run_of is_new image country one.opened file _ one.begun (one.clean (subst IsClean (sym one.ended) clean))
     (λ books tied.
-    let served = one.private (subst IsClean (sym one.ended) clean) books tied in
-    (served.0, served.1,
-    ap over_file.content (sym one.ended) ∙ served.2 (subst (λ s. IsTrue (file_state s).is_open) (sym one.ended) open)))
+    let served = one.private (subst IsClean (sym one.ended) clean) books tied in (
+      served.0,
+      served.1,
+      ap over_file.content (sym one.ended) ∙ served.2 (subst (λ s. IsTrue (file_state s).is_open) (sym one.ended) live),
+    ))
 
 pub returns-clause-joined : goal.returns-clause-joined
 returns-clause-joined g c = λ country opened between next left streams others first goes second.
