@@ -1,19 +1,43 @@
--- What clap met in the words.
-use Rattle.std.proofs.Common.{◌≡◌, ℤ, pos, ◌≤◌, List, codes, true, Option, None, Some, string_bytes, Result, Ok, Err, IfOk, option_map, ◌∙◌, sym, ap, refl}
-use Rattle.std.specs.Global.{Global}
-use Rattle.std.specs.Prelude.{String}
-use Rattle.clap.proofs.WalkLemmas.{first_value-rows}
-use Rattle.clap.specs.Words.{Row, Text, first_of, is_simple, subcommand_of, subcommand_name_of, subcommand_rows_of, first_value, found_of, rows_of}
+-- What clap met in the words, and what the words don't ask for.
+use Rattle.std.proofs.Common.{◌≡◌, ◌≢◌, ◌∙◌, ◌⊎◌, ap, sym, subst, refl, inl, inr, ⊎_elim, List, [], ◌∷◌, Option, None, Some, option_map, true, Result, Ok, Err, IfErr, IfOk, IsErrAnd}
+use Rattle.clap.specs.Faults.{is_simple_and_free}
+use Rattle.clap.specs.Kinds.{HasKind, Kinds}
+use Rattle.clap.specs.Words.{App, IsAmong, Row, Text, fault_of, subcommand_name_of, subcommand_of, subcommand_rows_of}
 use Rattle.clap.specs.declared.ArgMatches.{ArgMatches}
+use Rattle.clap.specs.declared.error.Error.{Error}
+use Rattle.clap.specs.declared.error.kind.ErrorKind.{ErrorKind}
+use Rattle.clap.specs.declared.error.kind.ErrorKind.TheVariants.{DisplayHelp, DisplayVersion, OutOfMemory}
 use Rattle.td_words.specs.declared.words.Job.{Job}
-use Rattle.td_words.specs.declared.words.Listening.{Listening}
-use Rattle.td_words.specs.declared.words.Task.{Task}
-use Rattle.td_words.specs.declared.words.Records.{Records}
-use Rattle.td_words.specs.declared.words.Task.TheVariants.{Serve, Pipe, Check}
-use Rattle.td_words.specs.Words.{program_app, number_in, AreRecords, AreRecordsBy, AsksFor, IsTask}
+use Rattle.td_words.specs.declared.words.NoJob.{NoJob}
+use Rattle.td_words.specs.declared.words.NoJob.TheVariants.{Help, Wrong, NoMemory}
+use Rattle.td_words.specs.Words.{AreTaken, AskForNone, AsksFor, IsJob, IsNoJob, IsNoneSuch, IsTold, program_app}
 
-pub is_simple_program : is_simple program_app ≡ true
+pub is_simple_program : is_simple_and_free program_app ≡ true
 is_simple_program = refl
+
+-- what clap says of a command that is this program is said of the program
+module _ (a : App) (words : List Text) (is : a ≡ program_app) where
+  pub taken_by : (is_simple_and_free a ≡ true → fault_of a words ≡ []) → AreTaken words
+  taken_by takes = subst (λ x. fault_of x words ≡ []) is (takes (ap is_simple_and_free is ∙ is_simple_program))
+
+  pub fails_by : (e : Error) → (is_simple_and_free a ≡ true → HasKind (fault_of a words) e) → HasKind (fault_of program_app words) e
+  fails_by e fails = subst (λ x. HasKind (fault_of x words) e) is (fails (ap is_simple_and_free is ∙ is_simple_program))
+
+-- ---- what no option has
+
+module _ {X Y : Type 0} (P : X → Type 0) (Q : Y → Type 0) (part : (y : Y) → Q y → (x : X) × P x) where
+  -- where there is no such part, there is no such whole
+  none_of : (e : NoJob) → IsNoneSuch P e → IsNoneSuch Q e
+  none_of (Help text) none = none
+  none_of (Wrong text) none = λ y q. none (part y q).0 (part y q).1
+  none_of NoMemory none = tt
+
+  -- and what `?` hands up for the part is said of the whole
+  pub none_up : {T : Type 0} (r : Result T NoJob) (e : NoJob) → IsErrAnd r (λ y. y ≡ e) → IsNoneSuch P e → IfErr r (IsNoneSuch Q)
+  none_up (Ok x) e is none = absurd is
+  none_up (Err y) e is none = subst (IsNoneSuch Q) (sym is) (none_of e none)
+
+-- ---- words that clap takes
 
 pair_of : {B : Type 0} (f : B → Text × List Row) (o : Option B) (name : Text) (rows : List Row) → Some name ≡ option_map (λ b. (f b).0) o
     → Some rows ≡ option_map (λ p. p.1) (option_map f o) → option_map f o ≡ Some (name, rows)
@@ -28,49 +52,53 @@ pub met_as : (m : ArgMatches) (name : Text) (rows : List Row) → Some name ≡ 
     → subcommand_rows_of m ≡ Some (name, rows)
 met_as m name rows named met = pair_of _ _ name rows named met
 
--- the number that an option's value writes, by what was met and by its rows
-number_of : (m : ArgMatches) (name : Text) (n : Option ℤ) → number_in (first_value (found_of m) name) ≡ n → number_in (first_of name (rows_of (found_of m))) ≡ n
-number_of m name n is = ap number_in (sym (first_value-rows (found_of m) name)) ∙ is
+same_met : (a b : Text) (x y : List Row) → ◌≡◌ {A = Option (Text × List Row)} (Some (a, x)) (Some (b, y)) → (a ≡ b) × (x ≡ y)
+same_met a b x y is =
+    let met : ◌≡◌ {A = Text × List Row} (a, x) (b, y) = cc in
+    (ap (λ p. p.0) met, ap (λ p. p.1) met)
 
--- where the records stand, by what was met and by its rows
-records_of : (m : ArgMatches) (records : Records)
-    → AreRecordsBy records (first_value (found_of m) (codes "db")) (first_value (found_of m) (codes "new"))
-    → AreRecords records (rows_of (found_of m))
-records_of m records are =
-    rw (first_value-rows (found_of m) (codes "db"), first_value-rows (found_of m) (codes "new")) at are
+no_fault : (faults : Kinds) (k : ErrorKind) → faults ≡ [] → faults ≡ k ∷ [] → ⊥
+no_fault faults k none one = cc
 
--- a serving whose numbers are those of its options
-pub is_serving : (m : ArgMatches) (l : Listening) (records : Records)
-    → (number_in (first_value (found_of m) (codes "port")) ≡ Some (pos l.port))
-    × (number_in (first_value (found_of m) (codes "connections")) ≡ Some (pos l.connections)) × (1 ≤ l.port) × (1 ≤ l.connections) × (l.connections ≤ 1000000)
-    → AreRecordsBy records (first_value (found_of m) (codes "db")) (first_value (found_of m) (codes "new"))
-    → IsTask (Serve l records) (codes "serve") (rows_of (found_of m))
-is_serving m l records h are =
-    (refl, number_of m (codes "port") _ h.0, number_of m (codes "connections") _ h.1, h.2, h.3, h.4, records_of m records are)
+module _ (words : List Text) (name : Text) (rows : List Row) (taken : AreTaken words) (named : subcommand_of program_app words ≡ Some (name, rows)) where
+  -- the job of the subcommand is what the words ask for
+  pub asks_if : {E : Type 0} (r : Result Job E) → IfOk r (IsJob name rows) → IfOk r (λ job. AsksFor words job.task job.country job.at)
+  asks_if (Ok job) is = record { taken = taken; name = name; rows = rows; named = named; job = is }
+  asks_if (Err e) is = tt
 
--- a stream whose records stand where its options say
-pub is_piping : (m : ArgMatches) (records : Records)
-    → AreRecordsBy records (first_value (found_of m) (codes "db")) (first_value (found_of m) (codes "new"))
-    → IsTask (Pipe records) (codes "pipe") (rows_of (found_of m))
-is_piping m records are = (refl, records_of m records are)
+  -- and where it is no job, they ask for none
+  pub asks_none : {T : Type 0} (r : Result T NoJob) → IfErr r (IsNoneSuch (IsJob name rows)) → IfErr r (IsNoJob words)
+  asks_none (Ok x) none = tt
+  asks_none (Err (Help text)) none = absurd none
+  asks_none (Err NoMemory) none = tt
+  asks_none (Err (Wrong text)) none = (
+    λ task country at asked.
+        let same = same_met asked.name name asked.rows rows (sym asked.named ∙ named) in
+        let job : Job = record { task = task; country = country; at = at } in
+        none job (subst (λ n. IsJob n rows job) same.0 (subst (λ r. IsJob asked.name r job) same.1 asked.job)),
+    ⊎_elim (no_fault _ DisplayHelp taken) (no_fault _ DisplayVersion taken),
+  )
 
--- a test of the file that the option names
-pub is_checking : (m : ArgMatches) (path : String Global) → first_value (found_of m) (codes "db") ≡ Some (string_bytes path)
-    → IsTask (Check path) (codes "check") (rows_of (found_of m))
-is_checking m path is = (refl, sym (first_value-rows (found_of m) (codes "db")) ∙ is)
+-- ---- words that clap doesn't take
 
--- a job that has the values of the options is the one that the words ask for
-pub asks_if : {E : Type 0} (r : Result Job E) (words : List Text) (m : ArgMatches) (task : Task) (name : Text)
-    → subcommand_of program_app words ≡ Some (name, rows_of (found_of m)) → IsTask task name (rows_of (found_of m)) → IfOk r (λ job. job.task ≡ task)
-    → IfOk r (λ job. first_value (found_of m) (codes "country") ≡ Some job.country)
-    → IfOk r (λ job. number_in (first_value (found_of m) (codes "at")) ≡ job.at) → IfOk r (λ job. AsksFor words job.task job.country job.at)
-asks_if (Ok job) words m task name named is same country at =
-    record {
-      name = name;
-      rows = rows_of (found_of m);
-      named = named;
-      task_is = rw same is;
-      country_is = sym (first_value-rows (found_of m) (codes "country")) ∙ country;
-      at_is = number_of m (codes "at") _ at;
-    }
-asks_if (Err e) words m task name named is same country at = tt
+module _ (words : List Text) (kind : ErrorKind) (fails : (kind ≡ OutOfMemory) ⊎ IsAmong kind (fault_of program_app words)) where
+  among : kind ≢ OutOfMemory → IsAmong kind (fault_of program_app words)
+  among other = ⊎_elim (λ is. absurd (other is)) (λ is. is) fails
+
+  -- a kind that is found in the words is no want of memory
+  found : (k : ErrorKind) → kind ≡ k → k ≢ OutOfMemory → IsAmong k (fault_of program_app words)
+  found k is other = subst (λ x. IsAmong x (fault_of program_app words)) is (among (λ e. other (sym is ∙ e)))
+
+  not_taken : kind ≢ OutOfMemory → AskForNone words
+  not_taken other task country at asked = subst (IsAmong kind) asked.taken (among other)
+
+  not_alone : kind ≢ OutOfMemory → (k : ErrorKind) → kind ≢ k → fault_of program_app words ≡ k ∷ [] → ⊥
+  not_alone other k differ alone = ⊎_elim differ (λ none. none) (subst (IsAmong kind) alone (among other))
+
+  -- what is told for the kind that clap gave
+  pub told : (e : NoJob) → IsTold kind e → IsNoJob words e
+  told (Help text) is =
+      ⊎_elim (λ help. inl (found DisplayHelp help (λ same. cc))) (λ version. inr (found DisplayVersion version (λ same. cc))) is
+  told (Wrong text) is =
+      (not_taken is.2, λ alone. ⊎_elim (not_alone is.2 DisplayHelp is.0) (not_alone is.2 DisplayVersion is.1) alone)
+  told NoMemory is = tt

@@ -1,8 +1,16 @@
 -- What the words of the command line ask for.
-use Rattle.std.specs.Prelude.{◌≡◌, ℕ, ◌≤◌, ℤ, pos, List, codes, true, false, string_bytes, Option, None, Some}
-use Rattle.std.specs.Str.Parse.{signed_digits_value}
-use Rattle.clap.specs.Words.{App, Row, Rule, Text, first_of, new_app, new_rule, subcommand_of, with_rule, with_subcommand}
+use Rattle.std.specs.Prelude.{◌≡◌, ◌≢◌, ◌⊎◌, ℕ, ◌≤◌, ℤ, pos, List, [], ◌∷◌, length, All, codes, true, string_bytes, Option, None, Some, ⊤}
+use Rattle.std.specs.Char.{IsAsciiDigit}
+use Rattle.ascii_text.specs.Digits.{digits_value}
+use Rattle.clap.specs.Words.{App, IsAmong, Row, Rule, Text, fault_of, first_of, new_app, new_rule, subcommand_of, with_rule, with_subcommand}
 use Rattle.clap.specs.declared.builder.ArgAction.TheVariants.{Set, SetTrue}
+use Rattle.clap.specs.declared.error.kind.ErrorKind.{ErrorKind}
+use Rattle.clap.specs.declared.error.kind.ErrorKind.TheVariants.{DisplayHelp, DisplayVersion, OutOfMemory}
+use Rattle.td_base.specs.Codes.{IsCountry}
+use Rattle.td_words.specs.declared.words.Job.{Job}
+use Rattle.td_words.specs.declared.words.Listening.{Listening}
+use Rattle.td_words.specs.declared.words.NoJob.{NoJob}
+use Rattle.td_words.specs.declared.words.NoJob.TheVariants.{Help, Wrong, NoMemory}
 use Rattle.td_words.specs.declared.words.Records.{Records}
 use Rattle.td_words.specs.declared.words.Records.TheVariants.{Memory, File, NewFile}
 use Rattle.td_words.specs.declared.words.Task.{Task}
@@ -12,10 +20,10 @@ use Rattle.td_words.specs.declared.words.Task.TheVariants.{Serve, Pipe, Check}
 abbrev pub option_rule : Text → Rule
 option_rule name = record (new_rule name) { long = Some name; action = Some Set; value_names = 1 }
 
--- the flag `--new`, which needs `--db`, and so isn't free of other options
+-- the flag `--new`, which has no value
 abbrev pub new_file_rule : Rule
 new_file_rule =
-    record (new_rule (codes "new")) { long = Some (codes "new"); action = Some SetTrue; is_free = false }
+    record (new_rule (codes "new")) { long = Some (codes "new"); action = Some SetTrue }
 
 -- the option that every command has: the country of the office
 abbrev pub with_country : App → App
@@ -51,10 +59,25 @@ abbrev pub program_app : App
 program_app =
     with_subcommand (with_subcommand (with_subcommand bare_app serve_app.top) pipe_app.top) check_app.top
 
--- the number that the value of an option writes, and none where there is no such option
-abbrev pub number_in : Option Text → Option ℤ
-number_in None = None
-number_in (Some text) = Some (signed_digits_value 10 text)
+-- A text of decimal digits, one or more and nothing else, that shows this number, and it is from the least to the greatest
+-- that there may be. So a sign, a blank, and no digit at all are no number.
+pub record IsDecimal (least greatest : ℕ) (text : Text) (n : ℕ) : Type 0 where
+  pub some : 1 ≤ length text
+  pub digits : All IsAsciiDigit text
+  pub value : digits_value text ≡ n
+  pub low : least ≤ n
+  pub high : n ≤ greatest
+
+-- the number that an option has for its value; an option that isn't there has none
+abbrev pub IsNumberOf : ℕ → ℕ → Option Text → ℕ → Type 0
+IsNumberOf least greatest None n = ⊥
+IsNumberOf least greatest (Some text) n = IsDecimal least greatest text n
+
+-- The moment that an option has for its value, from 0 to the greatest number of an `i64`; an option that isn't there
+-- says that there is none.
+abbrev pub IsMomentOf : Option Text → Option ℤ → Type 0
+IsMomentOf None at = at ≡ None
+IsMomentOf (Some text) at = (n : ℕ) × IsDecimal 0 9223372036854775807 text n × (at ≡ Some (pos n))
 
 -- Where the records stand, by the first values of `--db` and `--new`: clap gives `--new` the value "true" where it
 -- is there, and "false" where it isn't. So `--new` with no `--db` says nothing.
@@ -63,28 +86,76 @@ AreRecordsBy Memory db new = (db ≡ None) × (new ≡ Some (codes "false"))
 AreRecordsBy (File path) db new = (db ≡ Some (string_bytes path)) × (new ≡ Some (codes "false"))
 AreRecordsBy (NewFile path) db new = (db ≡ Some (string_bytes path)) × (new ≡ Some (codes "true"))
 
-abbrev pub AreRecords : Records → List Row → Type 0
-AreRecords records rows = AreRecordsBy records (first_of (codes "db") rows) (first_of (codes "new") rows)
+abbrev pub AreRecords : List Row → Records → Type 0
+AreRecords rows records = AreRecordsBy records (first_of (codes "db") rows) (first_of (codes "new") rows)
 
--- The job of this name, with the values of its own options: where the records stand, of `serve` a port from 1 on and
--- as many connections as there may be, and of `check` the file.
-abbrev pub IsTask : Task → Text → List Row → Type 0
-IsTask (Pipe records) name rows = (name ≡ codes "pipe") × AreRecords records rows
-IsTask (Serve listening records) name rows =
-    (name ≡ codes "serve")
-    × (number_in (first_of (codes "port") rows) ≡ Some (pos listening.port))
-    × (number_in (first_of (codes "connections") rows) ≡ Some (pos listening.connections))
-    × (1 ≤ listening.port) × (1 ≤ listening.connections) × (listening.connections ≤ 1000000)
-    × AreRecords records rows
-IsTask (Check path) name rows =
+-- the port that is listened on, and how many connections are served
+pub record IsListening (rows : List Row) (listening : Listening) : Type 0 where
+  pub port : IsNumberOf 1 65535 (first_of (codes "port") rows) listening.port
+  pub connections : IsNumberOf 1 1000000 (first_of (codes "connections") rows) listening.connections
+
+-- The task of this name, with the values of its own options: where the records stand, of `serve` a port and a number of
+-- connections, and of `check` the file.
+abbrev pub IsTask : Text → List Row → Task → Type 0
+IsTask name rows (Pipe records) = (name ≡ codes "pipe") × AreRecords rows records
+IsTask name rows (Serve listening records) =
+    (name ≡ codes "serve") × IsListening rows listening × AreRecords rows records
+IsTask name rows (Check path) =
     (name ≡ codes "check") × (first_of (codes "db") rows ≡ Some (string_bytes path))
 
--- The words name the job, and its options this country and this moment, as clap's own definitions read words by a
--- command; the first word is the program's name.
+-- the country of the office, two capital letters
+pub record IsCountryIn (rows : List Row) (country : List ℕ) : Type 0 where
+  pub named : first_of (codes "country") rows ≡ Some country
+  pub form : IsCountry country
+
+-- A command of this name with these options is this job: a task, a country, and perhaps a moment.
+pub record IsJob (name : Text) (rows : List Row) (job : Job) : Type 0 where
+  pub task : IsTask name rows job.task
+  pub country : IsCountryIn rows job.country
+  pub at : IsMomentOf (first_of (codes "at") rows) job.at
+
+-- Words that clap takes: its own definitions find no fault in them. So each option is one of the command's, is there at
+-- most once and has its value, and what is required is there. The first word is the program's name.
+abbrev pub AreTaken : List Text → Type 0
+AreTaken words = fault_of program_app words ≡ []
+
+-- The words ask for the job: clap takes them, and what they name, by its own definitions, is this task in this country
+-- and at this moment.
 pub record AsksFor (words : List Text) (task : Task) (country : List ℕ) (at : Option ℤ) : Type 0 where
+  pub taken : AreTaken words
   pub name : Text
   pub rows : List Row
   pub named : subcommand_of program_app words ≡ Some (name, rows)
-  pub task_is : IsTask task name rows
-  pub country_is : first_of (codes "country") rows ≡ Some country
-  pub at_is : number_in (first_of (codes "at") rows) ≡ at
+  pub job : IsJob name rows (record { task = task; country = country; at = at })
+
+-- the words ask for no job at all
+abbrev pub AskForNone : List Text → Type 0
+AskForNone words = (task : Task) (country : List ℕ) (at : Option ℤ) → AsksFor words task country at → ⊥
+
+-- the first that clap finds in the words is a call for help or for the version; and it can be nothing else
+abbrev pub AskForHelp : List Text → Type 0
+AskForHelp words =
+    IsAmong DisplayHelp (fault_of program_app words) ⊎ IsAmong DisplayVersion (fault_of program_app words)
+
+abbrev pub AskForHelpAlone : List Text → Type 0
+AskForHelpAlone words =
+    (fault_of program_app words ≡ DisplayHelp ∷ []) ⊎ (fault_of program_app words ≡ DisplayVersion ∷ [])
+
+-- Why words were given no job. Help and the version are told where they are asked for, and clap takes no such words.
+-- Words that are told to be wrong ask for no job, and not for help alone.
+abbrev pub IsNoJob : List Text → NoJob → Type 0
+IsNoJob words (Help text) = AskForHelp words
+IsNoJob words (Wrong text) = AskForNone words × ¬ (AskForHelpAlone words)
+IsNoJob words NoMemory = ⊤
+
+-- Why the options gave no such value: there was no memory, or it is told what was wrong, and then they have none.
+abbrev pub IsNoneSuch : {X : Type 0} → (X → Type 0) → NoJob → Type 0
+IsNoneSuch {X} Is (Help text) = ⊥
+IsNoneSuch {X} Is (Wrong text) = (x : X) → Is x → ⊥
+IsNoneSuch {X} Is NoMemory = ⊤
+
+-- What is told where clap found no job: help or the version for an error of that kind alone.
+abbrev pub IsTold : ErrorKind → NoJob → Type 0
+IsTold kind (Help text) = (kind ≡ DisplayHelp) ⊎ (kind ≡ DisplayVersion)
+IsTold kind (Wrong text) = (kind ≢ DisplayHelp) × (kind ≢ DisplayVersion) × (kind ≢ OutOfMemory)
+IsTold kind NoMemory = ⊤

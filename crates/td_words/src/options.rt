@@ -69,16 +69,15 @@ fn option<'a>(alloc: Global, name: &'a str, value: &'a str, help: &'a str) -> Ar
         .action(ArgAction::Set)
 }
 
-// The flag that has the tables made first.
-fn new_option<'a>(alloc: Global) -> Result<Arg<'a>, AllocError>
-    ensures rule { IfOk result (λ r. rule_of r ≡ new_file_rule) }
-    ensures local { IfOk result (λ r. r.global ≡ false) }
+// The flag that has the tables made first. That it needs a file is seen where its value is read.
+fn new_option<'a>(alloc: Global) -> Arg<'a>
+    ensures rule { rule_of result ≡ new_file_rule }
+    ensures local { result.global ≡ false }
 {
     Arg::new(alloc, NEW)
         .long(NEW)
         .help("Makes the desk's tables in the file first")
         .action(ArgAction::SetTrue)
-        .requires_arg(DB)
 }
 
 // A command of that name, with the option that every command has.
@@ -119,7 +118,7 @@ fn job_command<'a>(
             "FILE",
             "The file with the records, an SQLite database; else they are in memory",
         ))?
-        .arg(new_option(alloc)?)?
+        .arg(new_option(alloc))?
         .arg(option(
             alloc,
             AT,

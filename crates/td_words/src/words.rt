@@ -1,10 +1,13 @@
 //! The command line: which job its words ask for, and what is told where they ask for none.
-ghost use Rattle.std.specs.Prelude.{◌≡◌, ◌≤◌, codes, map, pos, string_bytes, IfOk, IfSome, Some};
-ghost use Rattle.std.specs.Str.Parse.{signed_digits_value};
-ghost use Rattle.clap.specs.Words.{first_value, found_of};
-ghost use Rattle.td_words.specs.Words.{AreRecordsBy, AsksFor, number_in};
+ghost use Rattle.std.specs.Prelude.{◌≡◌, codes, map, option_map, pos, string_bytes, IfErr, IfOk, Some, SomeIff};
+ghost use Rattle.ascii_text.specs.Digits.{digits_value};
+ghost use Rattle.clap.specs.Values.{kind_of};
+ghost use Rattle.clap.specs.Words.{first_of, found_of, rows_of};
+ghost use Rattle.td_words.specs.declared.words.NoJob.TheVariants.{NoMemory};
+ghost use Rattle.td_words.specs.Words.{AreRecords, AsksFor, IsCountryIn, IsDecimal, IsJob, IsListening, IsMomentOf, IsNoJob, IsNoneSuch, IsNumberOf, IsTask, IsTold};
 
 use crate::options::{AT, CONNECTIONS, COUNTRY, DB, NEW, PORT, program};
+use ascii_text::is_digits;
 use clap::ArgMatches;
 use clap::error::ErrorKind;
 use std::alloc::{AllocError, Global};
@@ -65,71 +68,75 @@ pub enum NoJob {
 }
 
 impl From<AllocError> for NoJob {
+    ghost from_gives = { λ _ e. e ≡ NoMemory };
+
     fn from(_error: AllocError) -> NoJob {
         NoJob::NoMemory
     }
 }
 
-/// An option whose value is a number.
+/// An option whose value is a number in decimal digits.
 #[derive(Clone, Copy)]
 struct NumberOption {
+    /// Its name, as `clap` has it.
+    name: &'static str,
     /// How the option is shown.
     shown: &'static str,
     /// What its value must be.
     wanted: &'static str,
+    /// The least number that it takes.
+    least: u64,
+    /// The greatest.
+    greatest: u64,
 }
 
+/// What is told of `--new` without a file, as `clap` tells of an option that isn't there.
+const NO_FILE: &str = "error: the following required arguments were not provided: --db <FILE>\n";
+
 const AT_NUMBER: NumberOption = NumberOption {
+    name: AT,
     shown: "--at <SECONDS>",
     wanted: "a whole number of seconds from 0 to 9223372036854775807",
+    least: 0,
+    greatest: 9_223_372_036_854_775_807,
 };
 
 const PORT_NUMBER: NumberOption = NumberOption {
+    name: PORT,
     shown: "--port <N>",
     wanted: "a whole number from 1 to 65535",
+    least: 1,
+    greatest: 65_535,
 };
 
 const CONNECTIONS_NUMBER: NumberOption = NumberOption {
+    name: CONNECTIONS,
     shown: "--connections <K>",
     wanted: "a whole number from 1 to 1000000",
+    least: 1,
+    greatest: 1_000_000,
 };
-
-/// The greatest port.
-const MAX_PORT: u32 = 65_535;
-
-/// The most connections that are served.
-const MAX_CONNECTIONS: u32 = 1_000_000;
 
 /// The job that the words ask for; the first of them is the program's name. An error is what is told instead:
 /// the text that they ask for by `--help` or `--version`, or one line on wrong words; or there was no memory.
+/// Words that ask for a job are given that job, or want of memory.
 pub fn read_words(alloc: Global, words: &[String]) -> Result<Job, NoJob>
-    ensures { IfOk result (λ job. AsksFor (map string_bytes words.now) job.task job.country job.at) }
+    ensures job { IfOk result (λ job. AsksFor (map string_bytes words.now) job.task job.country job.at) }
+    ensures no_job { IfErr result (IsNoJob (map string_bytes words.now)) }
 {
     match program(alloc)?.try_get_matches_from(words) {
         Ok(matches) => match matches.subcommand() {
-            Some(("serve", matches)) => job_of(
-                alloc,
-                Task::Serve(listening_in(alloc, matches)?, records_in(alloc, matches)?),
-                matches,
-            ),
-            Some(("pipe", matches)) => job_of(
-                alloc,
-                Task::Pipe(records_in(alloc, matches)?),
-                matches,
-            ),
-            Some(("check", matches)) => job_of(
-                alloc,
-                Task::Check(file_in(alloc, matches)?),
-                matches,
-            ),
-            _ => Err(NoJob::NoMemory),
+            Some((name, matches)) => job_of(alloc, name, matches),
+            None => Err(NoJob::NoMemory),
         },
         Err(error) => Err(no_job(alloc, &error, words)?),
     }
 }
 
 // Why `clap` found no job in the words.
-fn no_job(alloc: Global, error: &clap::Error, words: &[String]) -> Result<NoJob, AllocError> {
+fn no_job(alloc: Global, error: &clap::Error, words: &[String]) -> Result<NoJob, AllocError>
+    ensures { IfOk result (IsTold (kind_of error.now)) }
+{
     match error.kind() {
         ErrorKind::OutOfMemory => Err(AllocError),
         ErrorKind::DisplayHelp | ErrorKind::DisplayVersion => Ok(NoJob::Help(error.to_string(
@@ -174,7 +181,7 @@ fn number_option(word: &str) -> Option<NumberOption> {
 // A minus sign and digits.
 fn is_negative(value: &str) -> bool {
     match value.strip_prefix('-') {
-        Some(digits) => !digits.is_empty() && digits.bytes().all(|c| c.is_ascii_digit()),
+        Some(digits) => !digits.is_empty() && is_digits(digits.as_bytes()),
         None => false,
     }
 }
@@ -196,37 +203,54 @@ fn first_paragraph(alloc: Global, text: &str) -> Result<String, AllocError> {
     Ok(line)
 }
 
-// The job that is this task, with the options that every job has.
-fn job_of(alloc: Global, task: Task, matches: &ArgMatches<'_>) -> Result<Job, NoJob>
-    ensures task { IfOk result (λ job. job.task ≡ task) }
-    ensures country { IfOk result (λ job. first_value (found_of matches.now) (codes "country") ≡ Some job.country) }
-    ensures at { IfOk result (λ job. number_in (first_value (found_of matches.now) (codes "at")) ≡ job.at) }
+// The job that a command of this name is, with these options.
+fn job_of(alloc: Global, name: &str, matches: &ArgMatches<'_>) -> Result<Job, NoJob>
+    ensures job { IfOk result (IsJob name.now (rows_of (found_of matches.now))) }
+    ensures none { IfErr result (IsNoneSuch (IsJob name.now (rows_of (found_of matches.now)))) }
 {
     Ok(Job {
-        task,
+        task: task_in(alloc, name, matches)?,
         country: country_in(alloc, matches)?,
-        at: seconds_in(alloc, matches)?,
+        at: moment_in(alloc, matches)?,
     })
 }
 
-// Where the records stand. `clap` refuses `--new` without `--db`, and has "false" for a `--new` that isn't there.
-fn records_in(alloc: Global, matches: &ArgMatches<'_>) -> Result<Records, NoJob>
-    ensures { IfOk result (λ records. AreRecordsBy records
-        (first_value (found_of matches.now) (codes "db")) (first_value (found_of matches.now) (codes "new"))) }
+// The task of that name.
+fn task_in(alloc: Global, name: &str, matches: &ArgMatches<'_>) -> Result<Task, NoJob>
+    ensures task { IfOk result (IsTask name.now (rows_of (found_of matches.now))) }
+    ensures none { IfErr result (IsNoneSuch (IsTask name.now (rows_of (found_of matches.now)))) }
 {
-    match (matches.get_str(DB), matches.get_str(NEW)) {
+    match name {
+        "serve" => {
+            let records = records_in(alloc, matches)?;
+            Ok(Task::Serve(listening_in(alloc, matches)?, records))
+        }
+        "pipe" => Ok(Task::Pipe(records_in(alloc, matches)?)),
+        "check" => Ok(Task::Check(file_in(alloc, matches)?)),
+        _ => Err(NoJob::NoMemory),
+    }
+}
+
+// Where the records stand. `clap` has "false" for a `--new` that isn't there.
+fn records_in(alloc: Global, matches: &ArgMatches<'_>) -> Result<Records, NoJob>
+    ensures records { IfOk result (AreRecords (rows_of (found_of matches.now))) }
+    ensures none { IfErr result (IsNoneSuch (AreRecords (rows_of (found_of matches.now)))) }
+{
+    match (value_of(matches, DB), value_of(matches, NEW)) {
         (None, Some("false")) => Ok(Records::Memory),
         (Some(path), Some("false")) => Ok(Records::File(String::from_str(alloc, path)?)),
         (Some(path), Some("true")) => Ok(Records::NewFile(String::from_str(alloc, path)?)),
+        (None, Some("true")) => Err(NoJob::Wrong(String::from_str(alloc, NO_FILE)?)),
         _ => Err(NoJob::NoMemory),
     }
 }
 
 // The file that is to be tested.
 fn file_in(alloc: Global, matches: &ArgMatches<'_>) -> Result<String, NoJob>
-    ensures { IfOk result (λ path. first_value (found_of matches.now) (codes "db") ≡ Some (string_bytes path)) }
+    ensures file { IfOk result (λ path. first_of (codes "db") (rows_of (found_of matches.now)) ≡ Some (string_bytes path)) }
+    ensures memory { IfErr result (λ e. e ≡ NoMemory) }
 {
-    match matches.get_str(DB) {
+    match value_of(matches, DB) {
         Some(path) => Ok(String::from_str(alloc, path)?),
         None => Err(NoJob::NoMemory),
     }
@@ -234,49 +258,46 @@ fn file_in(alloc: Global, matches: &ArgMatches<'_>) -> Result<String, NoJob>
 
 // Where the desk is to be served.
 fn listening_in(alloc: Global, matches: &ArgMatches<'_>) -> Result<Listening, NoJob>
-    ensures { IfOk result (λ l.
-        (number_in (first_value (found_of matches.now) (codes "port")) ≡ Some (pos l.port))
-        × (number_in (first_value (found_of matches.now) (codes "connections")) ≡ Some (pos l.connections))
-        × (1 ≤ l.port) × (1 ≤ l.connections) × (l.connections ≤ 1000000)) }
+    ensures listening { IfOk result (IsListening (rows_of (found_of matches.now))) }
+    ensures none { IfErr result (IsNoneSuch (IsListening (rows_of (found_of matches.now)))) }
 {
-    let port = number_in(alloc, matches, PORT, PORT_NUMBER, MAX_PORT)?;
-    let connections = number_in(
-        alloc,
-        matches,
-        CONNECTIONS,
-        CONNECTIONS_NUMBER,
-        MAX_CONNECTIONS,
-    )?;
+    let port = number_in(alloc, matches, PORT_NUMBER)?;
+    let connections = number_in(alloc, matches, CONNECTIONS_NUMBER)?;
     Ok(Listening {
         port: port as u16,
-        connections,
+        connections: connections as u32,
     })
 }
 
-// The number from 1 on, and up to the greatest, that an option of that name has for its value.
-fn number_in(
-    alloc: Global,
-    matches: &ArgMatches<'_>,
-    name: &str,
-    option: NumberOption,
-    greatest: u32,
-) -> Result<u32, NoJob>
-    ensures { IfOk result (λ n. (number_in (first_value (found_of matches.now) name.now) ≡ Some (pos n))
-        × (1 ≤ n) × (n ≤ greatest)) }
+// The number that the option has for its value.
+fn number_in(alloc: Global, matches: &ArgMatches<'_>, option: NumberOption) -> Result<u64, NoJob>
+    ensures number { IfOk result (IsNumberOf option.least option.greatest
+        (first_of option.name.now (rows_of (found_of matches.now)))) }
+    ensures none { IfErr result (IsNoneSuch (IsNumberOf option.least option.greatest
+        (first_of option.name.now (rows_of (found_of matches.now))))) }
 {
-    let Some(text) = matches.get_str(name) else {
-        return Err(NoJob::NoMemory);
-    };
-    match decimal(text).and_then(|n| u32::try_from(n).ok()) {
-        Some(n) if n >= 1 && n <= greatest => Ok(n),
-        _ => Err(NoJob::Wrong(wrong_value(alloc, text, option.shown, option.wanted)?)),
+    match value_of(matches, option.name) {
+        Some(text) => number(alloc, text, option),
+        None => Err(NoJob::NoMemory),
+    }
+}
+
+// The number that a text is as the option takes it.
+fn number(alloc: Global, text: &str, option: NumberOption) -> Result<u64, NoJob>
+    ensures number { IfOk result (IsDecimal option.least option.greatest text.now) }
+    ensures none { IfErr result (IsNoneSuch (IsDecimal option.least option.greatest text.now)) }
+{
+    match decimal(text, option.least, option.greatest) {
+        Some(n) => Ok(n),
+        None => Err(NoJob::Wrong(wrong_value(alloc, text, option.shown, option.wanted)?)),
     }
 }
 
 fn country_in(alloc: Global, matches: &ArgMatches<'_>) -> Result<Country, NoJob>
-    ensures { IfOk result (λ country. first_value (found_of matches.now) (codes "country") ≡ Some country) }
+    ensures country { IfOk result (λ country. IsCountryIn (rows_of (found_of matches.now)) country) }
+    ensures none { IfErr result (IsNoneSuch (IsCountryIn (rows_of (found_of matches.now)))) }
 {
-    let text = matches.get_str(COUNTRY).unwrap_or("");
+    let text = value_of(matches, COUNTRY).unwrap_or("");
     match Country::read(text.as_bytes()) {
         Some(country) => Ok(country),
         None => Err(NoJob::Wrong(wrong_value(
@@ -288,26 +309,33 @@ fn country_in(alloc: Global, matches: &ArgMatches<'_>) -> Result<Country, NoJob>
     }
 }
 
-fn seconds_in(alloc: Global, matches: &ArgMatches<'_>) -> Result<Option<i64>, NoJob>
-    ensures { IfOk result (λ at. number_in (first_value (found_of matches.now) (codes "at")) ≡ at) }
+fn moment_in(alloc: Global, matches: &ArgMatches<'_>) -> Result<Option<i64>, NoJob>
+    ensures moment { IfOk result (IsMomentOf (first_of (codes "at") (rows_of (found_of matches.now)))) }
+    ensures none { IfErr result (IsNoneSuch (IsMomentOf (first_of (codes "at") (rows_of (found_of matches.now))))) }
 {
-    let Some(text) = matches.get_str(AT) else {
-        return Ok(None);
-    };
-    match decimal(text) {
-        Some(seconds) => Ok(Some(seconds)),
-        None => Err(NoJob::Wrong(wrong_value(alloc, text, AT_NUMBER.shown, AT_NUMBER.wanted)?)),
+    match value_of(matches, AT) {
+        Some(text) => Ok(Some(number(alloc, text, AT_NUMBER)? as i64)),
+        None => Ok(None),
     }
 }
 
-// The number that the digits write, up to `i64::MAX`.
-fn decimal(text: &str) -> Option<i64>
-    ensures { IfSome result (λ n. n ≡ signed_digits_value 10 text.now) }
+// The first value of the option of that name.
+fn value_of<'a>(matches: &ArgMatches<'a>, name: &str) -> Option<&'a str>
+    ensures { option_map (λ s. s.now) result ≡ first_of name.now (rows_of (found_of matches.now)) }
 {
-    if text.bytes().all(|c| c.is_ascii_digit()) {
-        text.parse::<i64>().ok()
-    } else {
-        None
+    matches.get_str(name)
+}
+
+// The number that the digits write, from the least to the greatest: none for a text that has anything but digits.
+fn decimal(text: &str, least: u64, greatest: u64) -> Option<u64>
+    ensures { SomeIff result (IsDecimal least greatest text.now (digits_value text.now)) (digits_value text.now) }
+{
+    if !is_digits(text.as_bytes()) {
+        return None;
+    }
+    match text.parse::<u64>() {
+        Ok(n) if n >= least && n <= greatest => Some(n),
+        _ => None,
     }
 }
 
