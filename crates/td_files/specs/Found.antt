@@ -1,11 +1,15 @@
 -- What contracts see of a desk over a file, what it began with by what the file held, and what of that it was refused for.
-use Rattle.std.specs.Prelude.{◌≡◌, ◌⊎◌, ℕ, List, IsTrue, Option, Some}
+use Rattle.std.specs.Prelude.{◌≡◌, ◌⊎◌, ℕ, List, IsTrue, Option, None, Some, Result, Ok, Err}
 use Rattle.sqlite_disk.specs.declared.Disk.{Ghosts}
+use Rattle.sqlite_disk.specs.declared.Files.{Files}
 use Rattle.sqlite_store.specs.declared.store.FileStore.{FileStore}
+use Rattle.sqlite_wal.specs.Reads.{AreClean}
 use Rattle.sqlite_wal.specs.Recovery.{Image}
 use Rattle.sqlite_trees.specs.Tree.{Trees}
 use Rattle.sqlite.specs.Effect.{Database}
-use Rattle.sqlite.specs.Files.{HoldsDatabase, AreFoundIn, file_state, over_files}
+use Rattle.sqlite.specs.Closing.{IsCopied}
+use Rattle.sqlite.specs.Files.{HoldsDatabase, AreFoundIn, IsClosed, file_state, over_files}
+use Rattle.sqlite.specs.declared.error.Error.{Error}
 use Rattle.sqlite.specs.Held.{Held}
 use Rattle.sqlite.specs.State.{HasCleanDisk}
 use Rattle.td_desk.specs.Content.{empty_content}
@@ -95,6 +99,13 @@ module _ {D : Type 0} {disk : Ghosts D} where
   IsToldOf image country left (Refused (NeedsMigration version)) = IsToldAt image country left (NeedsMigration version)
   IsToldOf image country left (Refused OtherCountry) = IsToldAt image country left OtherCountry
   IsToldOf image country left (Refused (Damaged rule)) = IsToldAt image country left (Damaged rule)
+
+  -- A connection to a file was closed: the two files hold what was committed last, also after a crash; or, where the log couldn't
+  -- be copied, a crash has no new outcome.
+  abbrev pub IsClosedAs : FileSeen disk → Option (Result (Files D) (Error × FileStore D disk)) → Type 0
+  IsClosedAs s None = ⊥
+  IsClosedAs s (Some (Ok files)) = AreClean disk files.log files.db → IsCopied s files
+  IsClosedAs s (Some (Err e)) = IsClosed s e.1
 
 -- why no desk was made in a file
 abbrev pub IsUnmade : DeskFault → Type 0

@@ -4,8 +4,9 @@ ghost use Rattle.sqlite.specs.Files.{file_state};
 ghost use Rattle.sqlite.specs.Start.{FindsIn};
 ghost use Rattle.sqlite.specs.State.{HasCleanDisk, IsLive, Opens};
 ghost use Rattle.sqlite.specs.WalFiles.{image_at};
+ghost use Rattle.td_files.specs.Found.{IsClosedAs};
 
-use sqlite::{Alter, Connection, Error, ErrorCode, FileFrom, FileStore, Start};
+use sqlite::{Alter, Connection, Error, ErrorCode, FileFrom, FileStore, Files, Start};
 use std::fs;
 
 /// A connection to the database in a file of the machine. `S` stands for what the file held as it was opened.
@@ -19,6 +20,9 @@ pub struct OneFile<S, T: Alter> {
     /// The connection that a job handed back, whether it had a desk over it or was refused one.
     pub connection: Option<Connection<T>>,
 }
+
+/// What is left of a file that was closed, if it was open.
+pub type Closed<S> = Option<Result<Files<FileFrom<S>>, (Error, FileStore<FileFrom<S>>)>>;
 
 /// One file of the machine. `S` stands for what it held as it was opened.
 pub type DeskFile<S> = OneFile<S, FileStore<FileFrom<S>>>;
@@ -35,14 +39,19 @@ impl<S: Start> OneFile<S, FileStore<FileFrom<S>>> {
     }
 
     /// Closes the file, if it is open: what its log holds is copied into it. Whatever was committed is kept, also where that
-    /// fails: it is in the log then, and the next open finds it there.
-    pub fn close(self) {
+    /// fails: it is in the log then, and the next open finds it there. What is handed back are the log and the file, which hold
+    /// what was committed last; or why the log wasn't copied, and the store.
+    pub fn close(self) -> Closed<S>
+        ensures none { self.connection ≡ None → result ≡ None }
+        ensures closed { (s : _) → self.connection ≡ Some s → IsClosedAs s result }
+    {
         let OneFile {
             start: _,
             connection,
         } = self;
-        if let Some(connection) = connection {
-            let _copied = connection.close();
+        match connection {
+            Some(connection) => Some(connection.close_files()),
+            None => None,
         }
     }
 }
