@@ -1,8 +1,15 @@
 //! The laws at the types of the program and of the tests: there is nothing to run.
 use crate::helpers::devices::{Drip, Moments, Narrow};
-use td_cli::{FixedClock, agreeing_jobs_tell_the_same, agreeing_servings_tell_the_same};
+use sqlite::{FileFrom, Unknown};
+use td_cli::{
+    FixedClock, acknowledged_replies_are_kept_in_the_file, agreeing_jobs_over_files_tell_the_same,
+    agreeing_jobs_tell_the_same, agreeing_servings_over_files_tell_the_same,
+    agreeing_servings_tell_the_same, runs_over_one_file_are_one_run,
+};
 use td_desk::PlainDesk;
-use td_http::{agreeing_streams_tell_the_same, equal_requests_are_told_the_same};
+use td_http::{
+    acknowledged_replies_are_kept, agreeing_streams_tell_the_same, equal_requests_are_told_the_same,
+};
 
 #[test]
 fn laws_hold_at_concrete_types() {
@@ -19,4 +26,21 @@ fn laws_hold_at_concrete_types() {
     equal_requests_are_told_the_same::<PlainDesk, PlainDesk>();
     agreeing_jobs_tell_the_same::<&[u8], Vec<u8>, Drip<'_>, Narrow>();
     agreeing_servings_tell_the_same::<Vec<u8>, Narrow>();
+    agreeing_jobs_over_files_tell_the_same::<
+        &[u8],
+        Vec<u8>,
+        FileFrom<Unknown>,
+        Drip<'_>,
+        Narrow,
+        FileFrom<Unknown>,
+    >();
+    agreeing_servings_over_files_tell_the_same::<
+        Vec<u8>,
+        FileFrom<Unknown>,
+        Narrow,
+        FileFrom<Unknown>,
+    >();
+    runs_over_one_file_are_one_run::<&[u8], Vec<u8>, FileFrom<Unknown>, FileFrom<Unknown>>();
+    acknowledged_replies_are_kept::<&[u8], Vec<u8>, FixedClock, PlainDesk>();
+    acknowledged_replies_are_kept_in_the_file::<&[u8], Vec<u8>, FileFrom<Unknown>>();
 }
