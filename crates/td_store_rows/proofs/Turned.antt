@@ -32,7 +32,7 @@ office_still : (old new : Trees) → new 0 ≡ old 0 → typed_rows meta_typing 
 office_still old new is = ap (map (row_of meta_typing)) is
 
 -- what lists a store's tables, and obeys them
-listed_there : (db : Database) → db.schema ≡ desk_schema → IsDatabase db → AreStoreTrees db.trees
+pub listed_there : (db : Database) → db.schema ≡ desk_schema → IsDatabase db → AreStoreTrees db.trees
 listed_there db has sound = subst (λ s. IsDatabase (record { schema = s; trees = db.trees })) has sound
 
 -- which trees are not this one, and so are as they were
