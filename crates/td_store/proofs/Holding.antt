@@ -1,41 +1,37 @@
--- What a connection that holds a content shows of it, and what a crash leaves of that.
-use Rattle.std.proofs.Common.{◌≡◌, ◌∙◌, ℕ, List, Option, Some, None, ap, inl, inr, refl, subst, sym}
+-- What a connection that holds a content shows of it.
+use Rattle.std.proofs.Common.{◌≡◌, ◌∙◌, ℕ, List, Option, ap, subst, sym}
 use Rattle.std.specs.Prelude.{IsTrue}
 use Rattle.sqlite_trees.specs.Tree.{Trees}
 use Rattle.sqlite.specs.Effect.{Database}
 use Rattle.sqlite.specs.State.{State, HasCleanDisk}
 use Rattle.td_acts.specs.declared.rows.Change.{Change}
-use Rattle.td_model.specs.declared.holder_row.HolderRow.{HolderRow}
 use Rattle.td_acts.specs.declared.rows.Verdict.{Verdict}
-use Rattle.td_desk.specs.Content.{Content, content_after, content_after_row, IsSound}
+use Rattle.td_desk.specs.Content.{Content, content_after, IsSound}
 use Rattle.td_desk.specs.Weighing.{IsDecision, kept_for}
-use Rattle.td_acts.specs.Changes.{row_in}
 use Rattle.td_acts.specs.Deciding.{IsLoaded}
 use Rattle.td_acts.specs.declared.rows.Loaded.{Loaded}
 use Rattle.td_commands.specs.Commands.{Need}
-use Rattle.td_table_model.specs.Tables.{AreTablesOf}
 use Rattle.td_table_model.proofs.Gathered.{content_is}
 use Rattle.td_schema.specs.Tables.{desk_schema}
 use Rattle.typed_sql.specs.Writing.{HasSchema}
-use Rattle.td_store_rows.specs.StoreTables.{AreAllTyped, HoldsContent, tables_in, content_in}
-use Rattle.td_store_write.specs.Carried.{CarriesChange, IsDecidedOver, MayLeave}
-use Rattle.td_store.specs.Kept.{IsDeskOf, CrashKeepsOpenTrees, CrashKeepsTrees, MayLeaveAfter}
+use Rattle.td_store_rows.specs.StoreTables.{AreTreesOf, HoldsContent, tables_in, content_in}
+use Rattle.td_store_rows.proofs.Holding.{holds_still}
+use Rattle.td_store_write.specs.Carried.{CarriesChange, IsDecidedOver}
+use Rattle.td_store_write.proofs.After.{after_country}
+use Rattle.td_store.specs.Kept.{IsDeskOf}
+
+-- trees are those of one content
+pub one_content : (c x : Content) (trees : Trees) → AreTreesOf c trees → AreTreesOf x trees → c ≡ x
+one_content c x trees are those =
+    sym (content_is (tables_in trees) c are.sound are.tables) ∙ content_is (tables_in trees) x those.sound those.tables
 
 -- the content that a connection holds is that of its trees
 pub content_held : (c : Content) (s : State) → HoldsContent c s → content_in s.now.trees ≡ c
-content_held c s holds = content_is (tables_in s.now.trees) c holds.sound holds.tables
+content_held c s holds = content_is (tables_in s.now.trees) c holds.trees.sound holds.trees.tables
 
 -- which it holds then
 pub holds_shown : (c : Content) (s : State) → HoldsContent c s → HoldsContent (content_in s.now.trees) s
 holds_shown c s holds = subst (λ x. HoldsContent x s) (sym (content_held c s holds)) holds
-
--- a change keeps the country
-after_row : (row : Option HolderRow) (change : Change) (c : Content) → (content_after_row row change c).country ≡ c.country
-after_row None change c = refl
-after_row (Some row) change c = refl
-
-after_country : (change : Change) (c : Content) → (content_after change c).country ≡ c.country
-after_country change c = after_row (row_in change) change c
 
 -- a desk has a store's tables
 pub schema_there : (country : List ℕ) (s : State) → IsDeskOf country s → HasCleanDisk s → HasSchema s desk_schema
@@ -50,28 +46,20 @@ holds_own country s desk clean is =
 
 -- a desk that sees what another saw is a desk, too
 pub desk_still : (country : List ℕ) (a b : State) → IsDeskOf country a → (HasCleanDisk b → HasCleanDisk a)
-    → (HasCleanDisk b → IsTrue b.is_open → IsTrue a.is_open)
-    → (HasCleanDisk b → IsTrue b.is_open → HasSchema a desk_schema → b.now ≡ a.now) → IsDeskOf country b
+    → (HasCleanDisk b → IsTrue b.is_open → IsTrue a.is_open) → (HasCleanDisk b → IsTrue b.is_open → b.now ≡ a.now)
+    → IsDeskOf country b
 desk_still country a b desk cleans live same clean is =
     let was : (c : Content) × HoldsContent c a × (c.country ≡ country) = desk (cleans clean) (live clean is) in
-    let now : b.now ≡ a.now = same clean is was.1.schema in (
-      was.0,
-      record {
-        schema = λ _. ap (λ (d : Database). d.schema) now ∙ was.1.schema (live clean is);
-        typed = subst (λ (d : Database). AreAllTyped d.trees) (sym now) was.1.typed;
-        sound = was.1.sound;
-        tables = subst (λ (d : Database). AreTablesOf (tables_in d.trees) was.0) (sym now) was.1.tables;
-      },
-      was.2,
-    )
+    let now : b.now ≡ a.now = same clean is in
+    (was.0, holds_still was.0 a b now (λ _. ap (λ (d : Database). d.schema) now ∙ was.1.schema (live clean is)) was.1, was.2)
 
 -- what is decided on the content of the trees is decided on the content that the connection holds
-pub decided_over : (country : List ℕ) (change : Change) (s : State) (c : Content) → HoldsContent c s → c.country ≡ country
+decided_over : (country : List ℕ) (change : Change) (s : State) (c : Content) → HoldsContent c s → c.country ≡ country
     → (IsSound (content_in s.now.trees) → (v : Verdict) × (v.change ≡ change) × IsDecision (content_in s.now.trees) v)
     → IsDecidedOver country change s c
 decided_over country change s c holds at decided =
     let same : content_in s.now.trees ≡ c = content_held c s holds in
-    let d = decided (subst IsSound (sym same) holds.sound) in
+    let d = decided (subst IsSound (sym same) holds.trees.sound) in
     record {
       holds = holds;
       country = at;
@@ -85,48 +73,30 @@ pub loaded_there : (owner : Option ℕ) (need : Need) (s : State) (c : Content) 
     → IsLoaded (kept_for owner c) need loaded → IsLoaded (kept_for owner (content_in s.now.trees)) need loaded
 loaded_there owner need s c loaded holds is = subst (λ x. IsLoaded (kept_for owner x) need loaded) (sym (content_held c s holds)) is
 
--- so a desk's change is decided over a content that its connection holds
-pub decided_there : (country : List ℕ) (change : Change) (s : State) → IsDeskOf country s → HasCleanDisk s → IsTrue s.is_open
-    → (IsSound (content_in s.now.trees) → (v : Verdict) × (v.change ≡ change) × IsDecision (content_in s.now.trees) v)
-    → (c : Content) × IsDecidedOver country change s c
-decided_there country change s desk clean is decided =
-    let was : (c : Content) × HoldsContent c s × (c.country ≡ country) = desk clean is in
-    (was.0, decided_over country change s was.0 was.1 was.2 decided)
+-- a change that a desk decided on the content of its trees; the connection was a desk's
+module _ (country : List ℕ) (change : Change) (a : State) (desk : IsDeskOf country a)
+    (decided : HasCleanDisk a → IsTrue a.is_open → IsSound (content_in a.now.trees)
+    → (v : Verdict) × (v.change ≡ change) × IsDecision (content_in a.now.trees) v) (clean : HasCleanDisk a) (is : IsTrue a.is_open) where
+  -- so it is decided over a content that the connection holds
+  pub decided_there : (c : Content) × IsDecidedOver country change a c
+  decided_there =
+      let was : (c : Content) × HoldsContent c a × (c.country ≡ country) = desk clean is in
+      (was.0, decided_over country change a was.0 was.1 was.2 (decided clean is))
 
-module _ (country : List ℕ) (change : Change) (a : State) (c : Content) (decided : IsDecidedOver country change a c) where
-  -- after the change the trees hold the content after it
-  pub written : (b : State) → CarriesChange country change a b → content_in b.now.trees ≡ content_after change (content_in a.now.trees)
-  written b carries =
-      content_held (content_after change c) b (carries c decided)
-      ∙ ap (content_after change) (sym (content_held c a decided.holds))
+  -- which is that of its trees
+  pub there_is : decided_there.0 ≡ content_in a.now.trees
+  there_is = sym (content_held decided_there.0 a decided_there.1.holds)
 
-  -- and it is a desk's
-  pub desk_after : (b : State) → CarriesChange country change a b → (d : Content) × HoldsContent d b × (d.country ≡ country)
-  desk_after b carries = (content_after change c, carries c decided, after_country change c ∙ decided.country)
+  module _ (b : State) (carries : CarriesChange country change a b) where
+    -- after the change the trees hold the content after it
+    pub written : content_in b.now.trees ≡ content_after change (content_in a.now.trees)
+    written =
+        content_held (content_after change decided_there.0) b (carries decided_there.0 decided_there.1) ∙ ap (content_after change) there_is
 
-  -- what a crash may leave of it
-  pub left_after : (trees : Trees) → MayLeave country change a trees → MayLeaveAfter a trees
-  left_after trees left is =
-      let same : content_in a.now.trees ≡ c = content_held c a decided.holds in
-      let there = left c decided in
-      inr (record {
-        verdict = decided.verdict;
-        decision = subst (λ x. IsDecision x decided.verdict) (sym same) decided.decision;
-        typed = there.0;
-        tables = subst (λ x. AreTablesOf (tables_in trees) (content_after decided.verdict.change x)) (sym same)
-            (subst (λ made. AreTablesOf (tables_in trees) (content_after made c)) (sym decided.change) there.1);
-      })
-
--- what a crash leaves of a call that reads
-pub left_by_read : (country : List ℕ) (a : State) (trees : Trees) → IsDeskOf country a → HasCleanDisk a
-    → CrashKeepsTrees a trees → MayLeaveAfter a trees
-left_by_read country a trees desk clean left is = inl (left (schema_there country a desk clean))
-
--- and of a question that comes after a call that failed
-pub left_by_fault : (country : List ℕ) (a b : State) (trees : Trees) → IsDeskOf country a → HasCleanDisk a
-    → (IsTrue b.is_open → IsTrue a.is_open) → (IsTrue b.is_open → HasSchema a desk_schema → b.now ≡ a.now)
-    → CrashKeepsOpenTrees b trees → MayLeaveAfter a trees
-left_by_fault country a b trees desk clean live same left is =
-    let has = schema_there country a desk clean in
-    let found = left (λ now. ap (λ (d : Database). d.schema) (same now has) ∙ has (live now)) in
-    inl (found.1 ∙ ap (λ (d : Database). d.trees) (same found.0 has))
+    -- and it is a desk's
+    pub desk_after : (d : Content) × HoldsContent d b × (d.country ≡ country)
+    desk_after = (
+      content_after change decided_there.0,
+      carries decided_there.0 decided_there.1,
+      after_country change decided_there.0 ∙ decided_there.1.country,
+    )

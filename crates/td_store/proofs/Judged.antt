@@ -13,13 +13,14 @@ use Rattle.td_table_model.specs.declared.rule.Rule.TheVariants.{S1}
 use Rattle.typed_sql.specs.Typed.{AreTyped, typed_rows}
 use Rattle.td_store_rows.specs.Columns.{MetaRow, meta_row, meta_typing, newest_version}
 use Rattle.td_store_rows.specs.MetaTable.{stored_of}
+use Rattle.td_store_rows.specs.StoreTables.{HasOfficeRow}
 use Rattle.td_store_rows.specs.declared.meta.stored.StoredMeta.{StoredMeta}
 use Rattle.td_store_audit_rows.specs.Ids.{HaveAllIds}
 use Rattle.td_store_audit_rows.specs.Laws.{AreKept, KeptRulesMeanContent}
 use Rattle.td_store_audit.specs.Broken.{TellsBroken}
 use Rattle.td_store.specs.declared.refused.OpenFault.{OpenFault}
 use Rattle.td_store.specs.declared.refused.OpenFault.TheVariants.{UnknownVersion, NeedsMigration, OtherCountry, Damaged, Store, NoMemory}
-use Rattle.td_store.specs.Opened.{HasOfficeRow, IsOfAnother, IsOfVersion, TellsOffice, TellsRows, TellsTables}
+use Rattle.td_store.specs.Opened.{IsOfAnother, IsOfVersion, TellsOffice, TellsRows, TellsTables}
 
 country_decided : (text : List ℕ) → Decides (is_country text) (IsCountry text)
 country_decided text =

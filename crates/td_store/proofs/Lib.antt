@@ -2,4 +2,5 @@ mod Acknowledged
 mod Calls
 mod Holding
 mod Judged
+mod Leaving
 mod Refusing

@@ -1,21 +1,22 @@
 -- What a refusal, or none, says of the database that a desk was to be opened over.
-use Rattle.std.proofs.Common.{◌≡◌, ◌∙◌, ◌⊎◌, ℕ, ◌≤◌, List, Some, None, ap, arith, inl, inr, length, refl, subst, sym}
+use Rattle.std.proofs.Common.{◌≡◌, ◌∙◌, ◌⊎◌, ℕ, ◌≤◌, List, [], ◌∷◌, Some, None, ap, arith, inl, inr, length, refl, subst, sym}
 use Rattle.std.specs.Prelude.{IsTrue, codes}
 use Rattle.std.proofs.lemmas.List.{length-map}
 use Rattle.sqlite_schema.specs.Names.{same_name, table_named}
 use Rattle.sqlite_schema.specs.declared.schema.Schema.{Schema}
 use Rattle.sqlite_trees.specs.Tree.{Trees}
-use Rattle.sqlite.specs.Effect.{Database}
-use Rattle.sqlite.specs.State.{State}
+use Rattle.sqlite.specs.Effect.{Database, IsDatabase}
+use Rattle.sqlite.specs.State.{State, IsLive}
 use Rattle.td_desk.specs.Content.{Content}
 use Rattle.td_schema.specs.Tables.{desk_schema}
 use Rattle.typed_sql.specs.Typed.{row_of, typed_rows}
-use Rattle.td_store_rows.specs.Columns.{meta_typing, newest_version}
-use Rattle.td_store_rows.specs.StoreTables.{HoldsContent, country_in, content_in}
+use Rattle.td_store_rows.specs.Columns.{meta_row, meta_typing, newest_version}
+use Rattle.td_store_rows.specs.StoreTables.{HasOfficeRow, HoldsContent, country_in, content_in}
+use Rattle.td_store_rows.proofs.Turned.{listed_there}
 use Rattle.td_store_audit_rows.specs.Laws.{ContentKeepsRules}
 use Rattle.td_store.specs.declared.refused.OpenFault.{OpenFault}
 use Rattle.td_store.specs.declared.refused.OpenFault.TheVariants.{UnknownVersion, NeedsMigration, OtherCountry, Damaged, Store, NoMemory}
-use Rattle.td_store.specs.Opened.{AreOfDesk, HasOfficeRow, IsOfAnother, LacksMeta, TellsDatabase, TellsTables}
+use Rattle.td_store.specs.Opened.{AreOfDesk, IsOfAnother, LacksMeta, TellsDatabase, TellsTables}
 
 -- where there is none, it has a store's tables, and they are a desk's
 of_desk : (country : List ℕ) (db : Database) → TellsDatabase country db None → (db.schema ≡ desk_schema) × AreOfDesk country db.trees
@@ -24,24 +25,25 @@ of_desk country db (inl (inr is)) = absurd cc
 of_desk country db (inr (inl is)) = let e = is.0 in absurd cc
 of_desk country db (inr (inr told)) = told
 
-holds : (country : List ℕ) (s : State) → s.now.schema ≡ desk_schema → AreOfDesk country s.now.trees
+holds : (country : List ℕ) (s : State) → s.now.schema ≡ desk_schema → IsDatabase s.now → AreOfDesk country s.now.trees
     → HoldsContent (content_in s.now.trees) s
-holds country s has desk =
-    record { schema = λ _. has; typed = desk.content.typed; sound = desk.content.sound; tables = desk.content.tables }
+holds country s has obeys desk = record {
+  schema = λ _. has;
+  trees = record {
+    listed = listed_there s.now has obeys;
+    typed = desk.content.typed;
+    sound = desk.content.sound;
+    tables = desk.content.tables;
+    office = desk.office ∙ ap (λ k. meta_row newest_version k ∷ []) (sym (ap country_in desk.office));
+  };
+}
 
--- so a connection that sees that database holds the content of its trees
-pub opened_there : (country : List ℕ) (db : Database) (s : State) → TellsDatabase country db None → s.now ≡ db
-    → HoldsContent (content_in s.now.trees) s
-opened_there country db s told same =
+-- so an open connection that sees that database holds the content of its trees, which is of that country
+pub desk_there : (country : List ℕ) (db : Database) (s : State) → TellsDatabase country db None → s.now ≡ db → IsLive s
+    → IsTrue s.is_open → HoldsContent (content_in s.now.trees) s × ((content_in s.now.trees).country ≡ country)
+desk_there country db s told same live is =
     let desk = of_desk country s.now (subst (λ d. TellsDatabase country d None) (sym same) told) in
-    holds country s desk.0 desk.1
-
--- of that country
-pub desk_there : (country : List ℕ) (db : Database) (s : State) → TellsDatabase country db None → s.now ≡ db
-    → (c : Content) × HoldsContent c s × (c.country ≡ country)
-desk_there country db s told same =
-    let desk = of_desk country s.now (subst (λ d. TellsDatabase country d None) (sym same) told) in
-    (content_in s.now.trees, holds country s desk.0 desk.1, ap country_in desk.1.office)
+    (holds country s desk.0 (live is).0 desk.1, ap country_in desk.1.office)
 
 -- another country was refused for what the office's own row says
 other_there : (country : List ℕ) (db : Database) → TellsDatabase country db (Some OtherCountry)
@@ -71,13 +73,16 @@ one_row country trees row =
     omega (arith, one, all)
 
 module _ (country : List ℕ) (s : State) (is_open : IsTrue s.is_open) (c : Content) (has : HoldsContent c s)
-    (row : HasOfficeRow newest_version country s.now.trees) (keeps : ContentKeepsRules) where
+    (at : c.country ≡ country) (keeps : ContentKeepsRules) where
+  row : HasOfficeRow newest_version country s.now.trees
+  row = subst (λ k. HasOfficeRow newest_version k s.now.trees) at has.trees.office
+
   sound_tables : (fault : OpenFault) → ¬ TellsTables country s.now.trees (Some fault)
-  sound_tables UnknownVersion told = told (record { typed = has.typed.meta; country = country; row = row })
+  sound_tables UnknownVersion told = told (record { typed = has.trees.typed.meta; country = country; row = row })
   sound_tables (NeedsMigration version) told = told
-  sound_tables OtherCountry told = let other = told has.typed.meta in other.2 (ap country_in (sym other.1 ∙ row))
+  sound_tables OtherCountry told = let other = told has.trees.typed.meta in other.2 (ap country_in (sym other.1 ∙ row))
   sound_tables (Damaged rule) told =
-      told.first.broken (keeps s.now.trees c has.typed (one_row country s.now.trees row) has.sound has.tables rule)
+      told.first.broken (keeps s.now.trees c has.trees.typed (one_row country s.now.trees row) has.trees.sound has.trees.tables rule)
   sound_tables Store told = told
   sound_tables NoMemory told = told
 

@@ -1,51 +1,35 @@
--- What a desk over a store's file keeps, and what a crash leaves during one of its calls and after it.
-use Rattle.std.specs.Prelude.{◌≡◌, ◌⊎◌, ◌↔◌, ℕ, List, IsTrue}
+-- What a desk over a store's file keeps, and what contracts see of it.
+use Rattle.std.specs.Prelude.{◌≡◌, ◌↔◌, ℕ, List, IsTrue}
+use Rattle.sqlite_trees.specs.declared.store.Store.{Ghosts}
 use Rattle.sqlite_trees.specs.Tree.{Trees}
+use Rattle.sqlite.specs.Held.{Held, state}
 use Rattle.sqlite.specs.State.{State, HasCleanDisk, Survives}
-use Rattle.td_acts.specs.declared.rows.Verdict.{Verdict}
-use Rattle.td_desk.specs.Content.{Content, content_after}
-use Rattle.td_desk.specs.Weighing.{IsDecision}
-use Rattle.td_table_model.specs.Tables.{AreTablesOf}
-use Rattle.td_schema.specs.Tables.{desk_schema}
-use Rattle.typed_sql.specs.Writing.{HasSchema}
-use Rattle.td_store_rows.specs.StoreTables.{AreAllTyped, HoldsContent, tables_in, content_in}
+use Rattle.td_desk.specs.Content.{Content}
+use Rattle.td_desk.specs.View.{DeskView}
+use Rattle.td_store_rows.specs.StoreTables.{AreTreesOf, HoldsContent, content_in}
 
--- as far as the disk is clean and the connection open, it holds a content of that country
+-- as far as the disk is clean and the connection open, it is to a desk's file of that country
 abbrev pub IsDeskOf : List ℕ → State → Type 0
 IsDeskOf country s =
     HasCleanDisk s → IsTrue s.is_open → (c : Content) × HoldsContent c s × (c.country ≡ country)
-
--- over a store's tables these trees are as they were
-abbrev pub CrashKeepsTrees : State → Trees → Type 0
-CrashKeepsTrees s trees = HasSchema s desk_schema → trees ≡ s.now.trees
-
--- and the connection to them was open
-abbrev pub CrashKeepsOpenTrees : State → Trees → Type 0
-CrashKeepsOpenTrees s trees = HasSchema s desk_schema → IsTrue s.is_open × (trees ≡ s.now.trees)
-
--- the trees have the tables after a decision on this content
-pub record AreAfterDecision (c : Content) (trees : Trees) : Type 0 where
-  pub verdict : Verdict
-  pub decision : IsDecision c verdict
-  pub typed : AreAllTyped trees
-  pub tables : AreTablesOf (tables_in trees) (content_after verdict.change c)
-
--- A call of a desk whose store was open may leave these trees: they are as they were, or have the tables after a decision on
--- the content that was there.
-abbrev pub MayLeaveAfter : State → Trees → Type 0
-MayLeaveAfter s trees =
-    IsTrue s.is_open → (trees ≡ s.now.trees) ⊎ AreAfterDecision (content_in s.now.trees) trees
 
 -- While no fault has shut the connection, a crash leaves exactly the trees that it shows. (Where its disk isn't clean, it shows
 -- as shut.)
 abbrev pub CrashLeavesShown : State → Type 0
 CrashLeavesShown s = IsTrue s.is_open → (trees : Trees) → s.may_leave trees ↔ (trees ≡ s.now.trees)
 
--- a call of a desk took its connection from one state to the other
-pub record CallEffect (old new : State) : Type 0 where
-  -- no fault is forgotten; and what a crash during the call adds to what one could leave before
-  pub during : Survives old new (MayLeaveAfter old)
-  -- what a crash leaves after it
-  pub after : CrashLeavesShown new
-  -- as far as the disk is clean and no fault has shut it, the connection has the tables of its content
-  pub holds : HasCleanDisk new → IsTrue new.is_open → HoldsContent (content_in new.now.trees) new
+-- A desk over a file, by its connection: its content is that of the tables, and it is live while no fault has shut the
+-- connection. What a crash leaves is a desk's where its trees are, with everything that the next opening asks of them.
+abbrev pub sql_view : {S : Type 0} → Ghosts S → DeskView (Held S)
+sql_view g = record {
+  content = λ d. content_in (state g d).now.trees;
+  is_clean = λ d. HasCleanDisk (state g d);
+  is_live = λ d. IsTrue (state g d).is_open;
+  has_store = Unit {0};
+  may_leave = λ d c. (trees : Trees) × (state g d).may_leave trees × AreTreesOf c trees;
+  recovers = λ d. (trees : Trees) → (state g d).may_leave trees → (c : Content) × AreTreesOf c trees;
+}
+
+-- No fault is forgotten, and only a fault that is counted shuts the connection. (What a crash leaves is said by the view.)
+abbrev pub CountsFaults : State → State → Type 0
+CountsFaults old new = Survives old new (λ _. Unit {0})

@@ -1,5 +1,5 @@
 -- What is told of a store's file when a desk is to be opened over it.
-use Rattle.std.specs.Prelude.{◌≡◌, ◌≢◌, ◌⊎◌, ℕ, pos, List, [], ◌∷◌, Option, Some, None, codes, map, option_map}
+use Rattle.std.specs.Prelude.{◌≡◌, ◌≢◌, ◌⊎◌, ℕ, pos, List, Option, Some, None, codes, map, option_map}
 use Rattle.std.specs.Option.{option_to_list}
 use Rattle.sqlite_schema.specs.Names.{table_named}
 use Rattle.sqlite_schema.specs.declared.schema.Schema.{Schema}
@@ -8,13 +8,13 @@ use Rattle.sqlite.specs.Effect.{Database}
 use Rattle.td_table_model.specs.declared.rule.Rule.{Rule}
 use Rattle.td_schema.specs.Tables.{desk_schema}
 use Rattle.typed_sql.specs.Typed.{AreTyped, typed_rows}
-use Rattle.td_store_rows.specs.Columns.{meta_row, meta_typing, newest_version}
+use Rattle.td_store_rows.specs.Columns.{meta_typing, newest_version}
 use Rattle.td_store_rows.specs.MetaTable.{stored_of}
 use Rattle.td_store_rows.specs.declared.meta.stored.StoredMeta.{StoredMeta}
 use Rattle.td_store_audit_rows.specs.Untyped.{IsFirstBrokenUntyped}
 use Rattle.td_store_audit_rows.specs.Ids.{HaveAllIds}
 use Rattle.td_store_audit_rows.specs.Laws.{AreKept}
-use Rattle.td_store_rows.specs.StoreTables.{HoldSoundContent}
+use Rattle.td_store_rows.specs.StoreTables.{HasOfficeRow, HoldSoundContent}
 use Rattle.td_store_audit_rows.specs.Scans.{TellReadable}
 use Rattle.td_store_audit_rows.specs.declared.tables.Readable.{Readable}
 use Rattle.td_store_audit.specs.Broken.{TellsBroken}
@@ -24,10 +24,6 @@ use Rattle.td_store.specs.declared.refused.OpenFault.TheVariants.{UnknownVersion
 -- there is no table `meta`
 abbrev pub LacksMeta : Schema → Type 0
 LacksMeta s = table_named s (codes "meta") ≡ None
-
--- the office's own row, which is there once, says this version and this country
-abbrev pub HasOfficeRow : ℕ → List ℕ → Trees → Type 0
-HasOfficeRow version country trees = typed_rows meta_typing trees ≡ meta_row version country ∷ []
 
 -- it is typed, and says this version
 pub record IsOfVersion (version : ℕ) (trees : Trees) : Type 0 where

@@ -38,7 +38,8 @@ impl<S: Alter> SqlDesk<S> {
     ghost use Rattle.sqlite.specs.Held.{state};
     ghost use Rattle.sqlite.specs.State.{HasCleanDisk};
     ghost use Rattle.td_store_rows.specs.StoreTables.{HoldsContent, content_in};
-    ghost use Rattle.td_store.specs.Kept.{IsDeskOf, CrashLeavesShown};
+    ghost use Rattle.td_desk.specs.View.{IsSettled};
+    ghost use Rattle.td_store.specs.Kept.{IsDeskOf, CrashLeavesShown, sql_view};
 
     // The desk over a connection that holds a content of that country.
     pub(crate) fn over(conn: Connection<S>, country: Country) -> Self
@@ -57,6 +58,7 @@ impl<S: Alter> SqlDesk<S> {
         ensures holds { HasCleanDisk (state S.Store result) → IsTrue (state S.Store result).is_open
             → HoldsContent (content_in (state S.Store result).now.trees) (state S.Store result) }
         ensures settled { CrashLeavesShown (state S.Store result) }
+        ensures leaves { HasCleanDisk (state S.Store result) → IsSettled (sql_view S.Store) result }
     {
         let SqlDesk { country: _, conn } = self;
         see_settled(&conn);
@@ -65,23 +67,13 @@ impl<S: Alter> SqlDesk<S> {
 }
 
 impl<S: Alter> Store for SqlDesk<S> {
-    ghost use Rattle.std.specs.Prelude.{IsTrue};
     ghost use Rattle.sqlite.specs.Held.{state};
-    ghost use Rattle.sqlite.specs.State.{HasCleanDisk};
-    ghost use Rattle.td_store.specs.Kept.{CallEffect};
-    ghost use Rattle.td_store_rows.specs.StoreTables.{content_in};
+    ghost use Rattle.td_store.specs.Kept.{CountsFaults, sql_view};
 
-    ghost rows = { λ d. content_in (state S.Store d).now.trees };
+    ghost holds = { sql_view S.Store };
 
-    ghost is_kept = { λ d. HasCleanDisk (state S.Store d) };
-
-    ghost is_open = { λ d. IsTrue (state S.Store d).is_open };
-
-    ghost may_fail = { Unit {0} };
-
-    // No fault is forgotten; a crash during a call leaves what it could leave before, the tables as they were, or those after a
-    // decision on their content; and after it exactly the tables that the desk shows, if no fault has shut it.
-    ghost asked = { λ old _ new. CallEffect (state S.Store old) (state S.Store new) };
+    // No fault is forgotten, and only one that is counted shuts the desk.
+    ghost asked = { λ old _ new. CountsFaults (state S.Store old) (state S.Store new) };
 
     fn office(&self) -> Country {
         self.country

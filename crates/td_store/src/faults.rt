@@ -3,37 +3,35 @@ ghost use Rattle.std.specs.Prelude.{◌≡◌, ◌≢◌, ◌⊎◌, false, IsTr
 ghost use Rattle.sqlite.specs.Held.{state};
 ghost use Rattle.sqlite.specs.State.{HasCleanDisk, Survives};
 ghost use Rattle.td_desk.specs.declared.fault.Fault.TheVariants as fault;
-ghost use Rattle.td_schema.specs.Tables.{desk_schema};
-ghost use Rattle.typed_sql.specs.Writing.{HasSchema};
 ghost use Rattle.td_store.specs.declared.refused.OpenFault.TheVariants as open_fault;
-ghost use Rattle.td_store.specs.Kept.{CrashKeepsOpenTrees};
 
 use crate::refused::OpenFault;
+use crate::settling::see_settled;
 use sqlite::{Connection, Error, ErrorCode};
 use sqlite_trees::store::Alter;
 use td_desk::Fault;
-use td_store_rows::find_meta;
+use typed_sql::see_open;
 
-/// Whether the connection still answers: whether the office's own row can be read. `false`, too, for want of memory.
+/// Whether the connection still answers. No memory is taken for it, once it was asked before.
 fn answers<S: Alter>(conn: &mut Connection<S>) -> bool
     requires { conn.old.in_transaction ≡ false }
     ensures ended { conn.new.in_transaction ≡ false }
     ensures live { HasCleanDisk (state S.Store conn.new) → IsTrue (state S.Store conn.new).is_open → IsTrue (state S.Store conn.old).is_open }
     ensures shown { HasCleanDisk (state S.Store conn.new) → IsTrue result → IsTrue (state S.Store conn.new).is_open }
     ensures same { HasCleanDisk (state S.Store conn.new) → IsTrue (state S.Store conn.new).is_open
-        → HasSchema (state S.Store conn.old) desk_schema → (state S.Store conn.new).now ≡ (state S.Store conn.old).now }
-    ensures crash { Survives (state S.Store conn.old) (state S.Store conn.new) (CrashKeepsOpenTrees (state S.Store conn.old)) }
+        → (state S.Store conn.new).now ≡ (state S.Store conn.old).now }
+    ensures crash { Survives (state S.Store conn.old) (state S.Store conn.new) (λ _. ⊥) }
 {
-    let _settled = conn.is_autocommit();
+    see_settled(conn);
     let mut tx = conn.transaction();
-    if find_meta(&mut tx).is_err() {
+    if see_open(&mut tx).is_err() {
         return false;
     }
     tx.commit().is_ok()
 }
 
 /// The fault that an error of a call of the database is told as: want of memory where the error says so and the connection
-/// still answers; else the store's.
+/// still answers; else the store's. Nothing is changed, and a crash leaves what it could before.
 pub(crate) fn fault_of<S: Alter>(conn: &mut Connection<S>, error: &Error) -> Fault
     requires { conn.old.in_transaction ≡ false }
     ensures ended { conn.new.in_transaction ≡ false }
@@ -41,8 +39,8 @@ pub(crate) fn fault_of<S: Alter>(conn: &mut Connection<S>, error: &Error) -> Fau
     ensures told { error.now ≢ Error.SqliteFailure ErrorCode.OutOfMemory → result ≡ Fault.Store }
     ensures memory { HasCleanDisk (state S.Store conn.new) → result ≡ Fault.NoMemory → IsTrue (state S.Store conn.new).is_open }
     ensures same { HasCleanDisk (state S.Store conn.new) → IsTrue (state S.Store conn.new).is_open
-        → HasSchema (state S.Store conn.old) desk_schema → (state S.Store conn.new).now ≡ (state S.Store conn.old).now }
-    ensures crash { Survives (state S.Store conn.old) (state S.Store conn.new) (CrashKeepsOpenTrees (state S.Store conn.old)) }
+        → (state S.Store conn.new).now ≡ (state S.Store conn.old).now }
+    ensures crash { Survives (state S.Store conn.old) (state S.Store conn.new) (λ _. ⊥) }
 {
     if matches!(error, Error::SqliteFailure(ErrorCode::OutOfMemory)) && answers(conn) {
         return Fault::NoMemory;

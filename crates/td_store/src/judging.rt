@@ -3,8 +3,6 @@ ghost use Rattle.std.specs.Prelude.{◌≡◌, false, Some, None, option_map, Is
 ghost use Rattle.sqlite.specs.Held.{state};
 ghost use Rattle.sqlite.specs.State.{HasCleanDisk, Survives};
 ghost use Rattle.td_schema.specs.Tables.{desk_schema};
-ghost use Rattle.typed_sql.specs.Writing.{HasSchema};
-ghost use Rattle.td_store.specs.Kept.{CrashKeepsTrees};
 ghost use Rattle.td_store.specs.declared.refused.OpenFault.TheVariants as fault;
 ghost use Rattle.td_store.specs.Opened.{LacksMeta, TellsDatabase, TellsOfficeIn, TellsRows, TellsRules, TellsTables};
 
@@ -12,6 +10,7 @@ use crate::faults::open_fault_of;
 use crate::office::office_fault;
 use crate::refused::OpenFault;
 use crate::schema::{has_store_tables, lacks_meta};
+use crate::settling::see_settled;
 use sqlite::{Connection, Error};
 use sqlite_trees::store::Alter;
 use std::alloc::Global;
@@ -20,6 +19,7 @@ use td_store_audit::{database_keeps, first_broken};
 use td_store_audit_rows::{Readable, kept_rules_mean_content, readable_tables};
 use td_store_rows::find_meta;
 use td_table_model::Rule;
+use typed_sql::see_open;
 
 // What the office's own row is refused for, at an office of that country, or none. It is read in a transaction. An error is the
 // database's own, or want of memory.
@@ -37,9 +37,9 @@ fn fault_of_office<S: Alter>(
         → IfOk result (TellsOfficeIn country (state S.Store conn.old).now.trees) }
     ensures same { HasCleanDisk (state S.Store conn.new) → IsTrue (state S.Store conn.new).is_open
         → (state S.Store conn.new).now ≡ (state S.Store conn.old).now }
-    ensures crash { Survives (state S.Store conn.old) (state S.Store conn.new) (CrashKeepsTrees (state S.Store conn.old)) }
+    ensures crash { Survives (state S.Store conn.old) (state S.Store conn.new) (λ _. ⊥) }
 {
-    let _settled = conn.is_autocommit();
+    see_settled(conn);
     let mut tx = conn.transaction();
     let meta = find_meta(&mut tx)?;
     tx.commit()?;
@@ -63,11 +63,12 @@ fn broken_rule<S: Alter>(
         → IfOk result (TellsRules readable (state S.Store conn.old).now.trees) }
     ensures same { HasCleanDisk (state S.Store conn.new) → IsTrue (state S.Store conn.new).is_open
         → (state S.Store conn.new).now ≡ (state S.Store conn.old).now }
-    ensures crash { Survives (state S.Store conn.old) (state S.Store conn.new) (CrashKeepsTrees (state S.Store conn.old)) }
+    ensures crash { Survives (state S.Store conn.old) (state S.Store conn.new) (λ _. ⊥) }
 {
-    let _settled = conn.is_autocommit();
+    see_settled(conn);
     database_keeps(conn);
     let mut tx = conn.transaction();
+    see_open(&mut tx)?;
     let broken = first_broken(alloc, &mut tx, readable)?;
     tx.commit()?;
     Ok(broken)
@@ -89,7 +90,7 @@ fn fault_of_rows<S: Alter>(
         → IfOk result (TellsRows (state S.Store conn.old).now.trees) }
     ensures same { HasCleanDisk (state S.Store conn.new) → IsTrue (state S.Store conn.new).is_open
         → (state S.Store conn.new).now ≡ (state S.Store conn.old).now }
-    ensures crash { Survives (state S.Store conn.old) (state S.Store conn.new) (CrashKeepsTrees (state S.Store conn.old)) }
+    ensures crash { Survives (state S.Store conn.old) (state S.Store conn.new) (λ _. ⊥) }
 {
     let readable = readable_tables(conn)?;
     let broken = broken_rule(alloc, conn, readable)?;
@@ -113,7 +114,7 @@ fn fault_in<S: Alter>(
         → IfOk result (TellsTables country (state S.Store conn.old).now.trees) }
     ensures same { HasCleanDisk (state S.Store conn.new) → IsTrue (state S.Store conn.new).is_open
         → (state S.Store conn.new).now ≡ (state S.Store conn.old).now }
-    ensures crash { Survives (state S.Store conn.old) (state S.Store conn.new) (CrashKeepsTrees (state S.Store conn.old)) }
+    ensures crash { Survives (state S.Store conn.old) (state S.Store conn.new) (λ _. ⊥) }
 {
     let _letters = country.as_bytes();
     kept_rules_mean_content();
@@ -145,7 +146,7 @@ fn fault_of_database<S: Alter>(
     ensures told { HasCleanDisk (state S.Store conn.new) → IfOk result (TellsDatabase country (state S.Store conn.old).now) }
     ensures same { HasCleanDisk (state S.Store conn.new) → IsTrue (state S.Store conn.new).is_open
         → (state S.Store conn.new).now ≡ (state S.Store conn.old).now }
-    ensures crash { Survives (state S.Store conn.old) (state S.Store conn.new) (CrashKeepsTrees (state S.Store conn.old)) }
+    ensures crash { Survives (state S.Store conn.old) (state S.Store conn.new) (λ _. ⊥) }
 {
     if !has_store_tables(alloc, conn)? {
         return Ok(Some(OpenFault::Store));
@@ -172,7 +173,7 @@ pub(crate) fn refusal<S: Alter>(
         → (result ≡ Some fault.UnknownVersion) × (conn.new ≡ conn.old) }
     ensures same { HasCleanDisk (state S.Store conn.new) → IsTrue (state S.Store conn.new).is_open
         → (state S.Store conn.new).now ≡ (state S.Store conn.old).now }
-    ensures crash { Survives (state S.Store conn.old) (state S.Store conn.new) (CrashKeepsTrees (state S.Store conn.old)) }
+    ensures crash { Survives (state S.Store conn.old) (state S.Store conn.new) (λ _. ⊥) }
 {
     if lacks_meta(conn) {
         return Some(OpenFault::UnknownVersion);

@@ -15,5 +15,6 @@ mod schema;
 mod settling;
 
 pub use desk::SqlDesk;
-pub use laws::acknowledged_decisions_are_kept;
+pub use laws::{acknowledged_decisions_are_kept, what_a_crash_leaves_opens};
 pub use refused::{OpenFault, Refused};
+pub use td_table_model::Rule;

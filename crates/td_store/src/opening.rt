@@ -3,12 +3,13 @@ ghost use Rattle.std.specs.Prelude.{◌≡◌, ◌≢◌, ◌⊎◌, ℕ, false,
 ghost use Rattle.sqlite.specs.Held.{state};
 ghost use Rattle.sqlite.specs.State.{HasCleanDisk, Survives};
 ghost use Rattle.td_desk.specs.Content.{Content};
+ghost use Rattle.td_desk.specs.View.{IsSettled};
 ghost use Rattle.td_table_model.specs.declared.rule.Rule.{Rule};
 ghost use Rattle.td_schema.specs.Tables.{desk_schema};
-ghost use Rattle.td_store_rows.specs.StoreTables.{HoldsContent, content_in};
+ghost use Rattle.td_store_rows.specs.StoreTables.{HasOfficeRow, HoldsContent, content_in};
 ghost use Rattle.td_store.specs.declared.refused.OpenFault.TheVariants as fault;
-ghost use Rattle.td_store.specs.Kept.{CrashLeavesShown, CrashKeepsTrees};
-ghost use Rattle.td_store.specs.Opened.{AreDamaged, HasOfficeRow, IsOfAnother, IsOfVersion, LacksMeta};
+ghost use Rattle.td_store.specs.Kept.{CrashLeavesShown, sql_view};
+ghost use Rattle.td_store.specs.Opened.{AreDamaged, IsOfAnother, IsOfVersion, LacksMeta};
 ghost use Rattle.td_store_rows.specs.Columns.{newest_version};
 
 use crate::desk::SqlDesk;
@@ -55,15 +56,16 @@ impl<S: Alter> SqlDesk<S> {
             → refused.fault ≡ fault.Damaged rule
             → ((state S.Store conn).now.schema ≡ desk_schema) × AreDamaged country rule (state S.Store conn).now.trees) }
         ensures sound { IfErr result (λ refused. HasCleanDisk (state S.Store refused.connection) → IsTrue (state S.Store conn).is_open
-            → (c : Content) → HoldsContent c (state S.Store conn) → HasOfficeRow newest_version country (state S.Store conn).now.trees
+            → (c : Content) → HoldsContent c (state S.Store conn) → c.country ≡ country
             → (refused.fault ≡ fault.Store) ⊎ (refused.fault ≡ fault.NoMemory)) }
         ensures handed { IfErr result (λ refused. HasCleanDisk (state S.Store refused.connection)
             → IsTrue (state S.Store refused.connection).is_open → (state S.Store refused.connection).now ≡ (state S.Store conn).now) }
         ensures ended { IfErr result (λ refused. refused.connection.in_transaction ≡ false) }
-        ensures crash { MatchResult result (λ desk. Survives (state S.Store conn) (state S.Store desk) (CrashKeepsTrees (state S.Store conn)))
-            (λ refused. Survives (state S.Store conn) (state S.Store refused.connection) (CrashKeepsTrees (state S.Store conn))) }
+        ensures crash { MatchResult result (λ desk. Survives (state S.Store conn) (state S.Store desk) (λ _. ⊥))
+            (λ refused. Survives (state S.Store conn) (state S.Store refused.connection) (λ _. ⊥)) }
         ensures settled { MatchResult result (λ desk. CrashLeavesShown (state S.Store desk))
             (λ refused. CrashLeavesShown (state S.Store refused.connection)) }
+        ensures leaves { IfOk result (λ desk. HasCleanDisk (state S.Store desk) → IsSettled (sql_view S.Store) desk) }
     {
         content_keeps_rules();
         match refusal(alloc, &mut conn, country) {

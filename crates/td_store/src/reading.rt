@@ -9,17 +9,19 @@ ghost use Rattle.td_desk.specs.Weighing.{kept_for};
 ghost use Rattle.td_schema.specs.Tables.{desk_schema};
 ghost use Rattle.typed_sql.specs.Writing.{HasSchema};
 ghost use Rattle.td_store_rows.specs.StoreTables.{HoldsContent};
-ghost use Rattle.td_store.specs.Kept.{CrashKeepsTrees};
 
+use crate::settling::see_settled;
 use sqlite::{Connection, Error};
 use sqlite_trees::store::Alter;
 use std::alloc::Global;
 use td_acts::{Loaded, Needs};
 use td_base::{Country, HolderNo};
 use td_store_load::load;
+use typed_sql::see_open;
 
 /// What a verdict needs of a command's owner, at an office of that country, read in a transaction. The transaction is
-/// committed: so the answer shows that the connection is open still. An error is the database's own, or `load`'s.
+/// committed: so the answer shows that the connection is open still. It isn't where the connection was shut: so a crash leaves
+/// what it could before. An error is the database's own, or `load`'s.
 pub(crate) fn read<S: Alter>(
     alloc: Global,
     conn: &mut Connection<S>,
@@ -27,7 +29,8 @@ pub(crate) fn read<S: Alter>(
     owner: Option<HolderNo>,
     needs: &Needs<'_>,
 ) -> Result<Loaded, Error>
-    requires { conn.old.in_transaction ≡ false }
+    requires outside { conn.old.in_transaction ≡ false }
+    requires tables { HasCleanDisk (state S.Store conn.old) → HasSchema (state S.Store conn.old) desk_schema }
     ensures ended { conn.new.in_transaction ≡ false }
     ensures live { HasCleanDisk (state S.Store conn.new) → IsTrue (state S.Store conn.new).is_open → IsTrue (state S.Store conn.old).is_open }
     ensures shown { HasCleanDisk (state S.Store conn.new)
@@ -36,11 +39,12 @@ pub(crate) fn read<S: Alter>(
         → IfOk result (λ loaded. (c : Content) → HoldsContent c (state S.Store conn.old) → c.country ≡ country
         → IsLoaded (kept_for owner c) (need_said needs.now) loaded) }
     ensures same { HasCleanDisk (state S.Store conn.new) → IsTrue (state S.Store conn.new).is_open
-        → HasSchema (state S.Store conn.old) desk_schema → (state S.Store conn.new).now ≡ (state S.Store conn.old).now }
-    ensures crash { Survives (state S.Store conn.old) (state S.Store conn.new) (CrashKeepsTrees (state S.Store conn.old)) }
+        → (state S.Store conn.new).now ≡ (state S.Store conn.old).now }
+    ensures crash { Survives (state S.Store conn.old) (state S.Store conn.new) (λ _. ⊥) }
 {
-    let _settled = conn.is_autocommit();
+    see_settled(conn);
     let mut tx = conn.transaction();
+    see_open(&mut tx)?;
     let loaded = load(alloc, &mut tx, country, owner, needs)?;
     tx.commit()?;
     Ok(loaded)

@@ -31,11 +31,11 @@ module _ (a : State) (H : ℕ) (content : Content) (holds : HoldsContent content
   t = tables_in a.now.trees
 
   found_at : (found : Option HolderRow) → IsTheHolder H a found → row_at holder_no H t.holders ≡ found
-  found_at found is = found_alone (λ r. holder_no r == H) t.holders found (is holds.schema holds.typed.holders)
+  found_at found is = found_alone (λ r. holder_no r == H) t.holders found (is holds.schema holds.trees.typed.holders)
 
   -- the row that was found is the account's
   row_is : (found : Option HolderRow) → IsTheHolder H a found → (account_in H content).holder ≡ found
-  row_is found is = ap (λ (k : Account). k.holder) (account_is t content holds.sound holds.tables H) ∙ found_at found is
+  row_is found is = ap (λ (k : Account). k.holder) (account_is t content holds.trees.sound holds.trees.tables H) ∙ found_at found is
 
   -- and it is of that number
   number_is : (row : HolderRow) → IsTheHolder H a (Some row) → row.holder ≡ H

@@ -67,20 +67,20 @@ module _ (a : State) (H : ℕ) (content : Content) (holds : HoldsContent content
 
   -- what the lines on a guarantee of the holder's add up to is in use on it
   in_use : (grn : List ℕ) → IsSome (guarantee_by_grn grn account.guarantees) → sum_by cents_of (lines_in_use H (guarantee_no t.country grn) t) ≡ used_on grn account.movements
-  in_use grn some = lines_are_use t content holds.sound holds.tables H grn some (lines_in_use H (guarantee_no t.country grn) t) (IsPermutation-refl _)
+  in_use grn some = lines_are_use t content holds.trees.sound holds.trees.tables H grn some (lines_in_use H (guarantee_no t.country grn) t) (IsPermutation-refl _)
 
   -- the guarantee with a GRN, and the amount in use on it
   pub entry_is : (country grn : List ℕ) → content.country ≡ country → (g : Guarantee) (cents : ℕ) → Some g ≡ guarantee_by_grn grn account.guarantees → IsInUse H (guarantee_no country grn) a cents
       → Some (g, cents) ≡ entry_in account grn
   entry_is country grn at g cents found used =
       let amount : cents ≡ used_on grn account.movements =
-      used holds.schema holds.typed.movements holds.typed.lines
-      ∙ ap (λ k. sum_by cents_of (lines_in_use H (guarantee_no k grn) t)) (sym (holds.tables.country ∙ at)) ∙ in_use grn (subst IsSome found refl) in
+      used holds.schema holds.trees.typed.movements holds.trees.typed.lines
+      ∙ ap (λ k. sum_by cents_of (lines_in_use H (guarantee_no k grn) t)) (sym (holds.trees.tables.country ∙ at)) ∙ in_use grn (subst IsSome found refl) in
       let own : g.grn ≡ grn = subst (λ o. IfSome o (λ (x : Guarantee). x.grn ≡ grn)) (sym found) (found_named grn account.guarantees) in
       ap (λ n. Some (g, n)) (amount ∙ ap (λ k. used_on k account.movements) (sym own)) ∙ ap (option_map (with_use account)) found
 
   guarantees_are : account.guarantees ≡ map (with_codes t) (guarantees_by H t)
-  guarantees_are = ap (λ (k : Account). k.guarantees) (account_is t content holds.sound holds.tables H)
+  guarantees_are = ap (λ (k : Account). k.guarantees) (account_is t content holds.trees.sound holds.trees.tables H)
 
   -- what the reference in a row tells
   abbrev IsTold : Keyed Guarantee → Type 0
@@ -96,7 +96,7 @@ module _ (a : State) (H : ℕ) (content : Content) (holds : HoldsContent content
   own = all_in_order place (λ r. owner r ≡ H) (part H t.guarantees) (of_key_has owner H t.guarantees)
 
   told : AllByRecursion IsTold (guarantees_by H t)
-  told = all_in_order place IsTold (part H t.guarantees) (all-filter IsTold (λ r. owner r == H) t.guarantees (tell_keys t content holds.sound holds.tables).grns)
+  told = all_in_order place IsTold (part H t.guarantees) (all-filter IsTold (λ r. owner r == H) t.guarantees (tell_keys t content holds.trees.sound holds.trees.tables).grns)
 
   there : AllByRecursion IsThere (guarantees_by H t)
   there = subst (λ (gs : List Guarantee). AllByRecursion (λ (r : Keyed Guarantee). IsSome (guarantee_by_grn r.row.grn gs)) (guarantees_by H t)) (sym guarantees_are)
@@ -117,8 +117,8 @@ module _ (a : State) (H : ℕ) (content : Content) (holds : HoldsContent content
   pub all_entries : (b : State) (rows : List StoredGuarantee) (entries : List (Guarantee × ℕ)) → AreBySerial (is_of H) a rows → OnlyRead desk_schema a b
       → IsOfTables (λ t. map (λ r. entry_from t (guarantee_row_of r)) rows) b entries → entries ≡ map (with_use account) account.guarantees
   all_entries b rows entries order still each =
-      let keep : KeepRules t = keep_rules t content holds.sound holds.tables in
-      let found : map guarantee_row_of rows ≡ guarantees_by H t = order holds.schema holds.typed.guarantees (keep.stored.guarantees H) in
+      let keep : KeepRules t = keep_rules t content holds.trees.sound holds.trees.tables in
+      let found : map guarantee_row_of rows ≡ guarantees_by H t = order holds.schema holds.trees.typed.guarantees (keep.stored.guarantees H) in
       said_before (λ t. map (λ r. entry_from t (guarantee_row_of r)) rows) a b entries still each content holds
       ∙ sym (map-map (entry_from t) guarantee_row_of rows) ∙ ap (map (entry_from t)) found
       ∙ map_same (entry_from t) (λ r. with_use account (with_codes t r)) (guarantees_by H t) rows_used

@@ -36,7 +36,8 @@ same_then t u v a b = record {
 
 -- nothing was done
 pub turned_nothing : (f : Tables → Tables) → ((t : Tables) → HaveSameRows (f t) t) → (a : State) → TurnsTables f a a
-turned_nothing f same a has typed = record { same = same (tables_in a.now.trees); typed = typed; schema = has }
+turned_nothing f same a has typed =
+    record { same = same (tables_in a.now.trees); office = refl; typed = typed; listed = λ was. was; schema = has }
 
 -- two statements
 pub turned_then : (f g : Tables → Tables) → RespectsRows g → (a b d : State) → TurnsTables f a b → TurnsTables g b d
@@ -44,14 +45,26 @@ pub turned_then : (f g : Tables → Tables) → RespectsRows g → (a b d : Stat
 turned_then f g respects a b d first second has typed =
     let one = first has typed in
     let two = second one.schema one.typed in
-    record { same = same_then _ _ _ (respects _ _ one.same) two.same; typed = two.typed; schema = two.schema }
+    record {
+      same = same_then _ _ _ (respects _ _ one.same) two.same;
+      office = two.office ∙ one.office;
+      typed = two.typed;
+      listed = λ was. two.listed (one.listed was);
+      schema = two.schema;
+    }
 
 -- the tables that they leave, said otherwise
 pub turned_as : (f g : Tables → Tables) (old new : State) → ((t : Tables) → HaveSameRows (g t) (f t))
     → TurnsTables f old new → TurnsTables g old new
 turned_as f g old new same turns has typed =
     let one = turns has typed in
-    record { same = same_then _ _ _ (same _) one.same; typed = one.typed; schema = one.schema }
+    record {
+      same = same_then _ _ _ (same _) one.same;
+      office = one.office;
+      typed = one.typed;
+      listed = one.listed;
+      schema = one.schema;
+    }
 
 -- a function of one table's rows that respects them
 abbrev pub Respects : {R : Type 0} → (List R → List R) → Type 0

@@ -1,5 +1,5 @@
 -- The serials of a holder's movements that count, read alone.
-use Rattle.std.proofs.Common.{Err, IsPermutation, List, [], ◌∷◌, Ok, Result, ap, map, nat_cmp, refl, subst, sym, true, ℕ, ◌∙◌, ◌≡◌}
+use Rattle.std.proofs.Common.{Err, IsPermutation, List, [], ◌∷◌, Ok, Result, ap, map, nat_cmp, refl, subst, sym, ℕ, ◌∙◌, ◌≡◌}
 use Rattle.std.specs.Prelude.{IfOk, Vec, filter, ◌==◌}
 use Rattle.std.specs.List.Sorted.{IsSorted}
 use Rattle.std.specs.declared.alloc.Global.{Global}
@@ -11,13 +11,11 @@ use Rattle.sqlite.specs.State.{State}
 use Rattle.sqlite.specs.declared.error.Error.{Error}
 use Rattle.td_movement.specs.States.{is_counting}
 use Rattle.td_table_model.specs.Gathering.{place}
-use Rattle.td_table_model.specs.Tables.{Keyed}
-use Rattle.td_movement.specs.declared.movement.Movement.{Movement}
 use Rattle.td_schema.specs.Tables.{desk_schema}
 use Rattle.typed_sql.proofs.Ordered.{both_pass, selected_sorted}
 use Rattle.typed_sql.proofs.TypedRows.{selected_typed}
 use Rattle.typed_sql.specs.Reading.{Fetches, IsAnswerOf, Selects, row_order, shown_by}
-use Rattle.typed_sql.specs.Typed.{AreTyped, row_of, typed_rows}
+use Rattle.typed_sql.specs.Typed.{row_of, typed_rows}
 use Rattle.typed_sql.specs.Values.{number_in, number_value}
 use Rattle.typed_sql.specs.Writing.{HasSchema, passes}
 use Rattle.td_store_rows.specs.Columns.{movement_columns, movement_from, movement_typing}

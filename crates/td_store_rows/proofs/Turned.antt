@@ -1,8 +1,9 @@
 -- A statement that turned the rows of one table, seen at all tables: the others are as they were.
-use Rattle.std.proofs.Common.{◌≡◌, ◌≢◌, ℕ, List, map, ap, sym, subst, IsPermutation}
+use Rattle.std.proofs.Common.{◌≡◌, ◌≢◌, ◌∙◌, ℕ, List, map, ap, refl, sym, subst, IsPermutation}
 use Rattle.std.specs.List.{AllByRecursion}
 use Rattle.sqlite_trees.specs.Tree.{Trees}
 use Rattle.sqlite_trees.proofs.ListLemmas.{IsPermutation-same}
+use Rattle.sqlite.specs.Effect.{Database, IsDatabase}
 use Rattle.sqlite.specs.State.{State}
 use Rattle.td_model.specs.declared.holder_row.HolderRow.{HolderRow}
 use Rattle.td_guarantee.specs.declared.guarantee.Guarantee.{Guarantee}
@@ -12,7 +13,7 @@ use Rattle.td_schema.specs.Tables.{desk_schema}
 use Rattle.typed_sql.specs.Writing.{AreOthersKept, HaveIds, HasSchema}
 use Rattle.typed_sql.specs.Typed.{Typing, AreTyped, IsTypedRow, Turns, row_of, typed_rows}
 use Rattle.td_store_rows.specs.Columns.{meta_typing, holder_typing, guarantee_typing, code_typing, movement_typing, line_typing}
-use Rattle.td_store_rows.specs.StoreTables.{AreAllTyped, HasTables, tables_in, country_in}
+use Rattle.td_store_rows.specs.StoreTables.{AreAllTyped, AreStoreTrees, HasTables, tables_in, country_in}
 
 -- a table whose tree is as it was has the same rows, typed as before
 rows_still : {R : Type 0} (ty : Typing R) (old new : Trees) → new ty.table.tree ≡ old ty.table.tree
@@ -27,9 +28,12 @@ typed_still ty old new is typed = record {
 }
 
 -- the office's row is as it was where its tree is
-country_still : (old new : Trees) → new 0 ≡ old 0
-    → country_in (typed_rows meta_typing new) ≡ country_in (typed_rows meta_typing old)
-country_still old new is = ap (λ rows. country_in (map (row_of meta_typing) rows)) is
+office_still : (old new : Trees) → new 0 ≡ old 0 → typed_rows meta_typing new ≡ typed_rows meta_typing old
+office_still old new is = ap (map (row_of meta_typing)) is
+
+-- what lists a store's tables, and obeys them
+pub listed_there : (db : Database) → db.schema ≡ desk_schema → IsDatabase db → AreStoreTrees db.trees
+listed_there db has sound = subst (λ s. IsDatabase (record { schema = s; trees = db.trees })) has sound
 
 -- which trees are not this one, and so are as they were
 record AreKept (tree : ℕ) (old new : Trees) : Type 0 where
@@ -60,17 +64,17 @@ still : {R : Type 0} (ty : Typing R) (old new : Trees) → AreTyped ty old → n
 still ty old new typed is = record { same = rows_still ty old new is; typed = typed_still ty old new is typed }
 
 -- all of them, each as it is now
-assembled : (f : Tables → Tables) (old new : State)
-    → country_in (typed_rows meta_typing new.now.trees) ≡ (f (tables_in old.now.trees)).country → AreTyped meta_typing new.now.trees
+assembled : (f : Tables → Tables) (old new : State) → (f (tables_in old.now.trees)).country ≡ (tables_in old.now.trees).country
+    → typed_rows meta_typing new.now.trees ≡ typed_rows meta_typing old.now.trees → AreTyped meta_typing new.now.trees
     → Now holder_typing (f (tables_in old.now.trees)).holders new.now.trees
     → Now guarantee_typing (f (tables_in old.now.trees)).guarantees new.now.trees
     → Now code_typing (f (tables_in old.now.trees)).codes new.now.trees
     → Now movement_typing (f (tables_in old.now.trees)).movements new.now.trees
     → Now line_typing (f (tables_in old.now.trees)).lines new.now.trees
-    → HasSchema new desk_schema → HasTables f old new
-assembled f old new country meta holders guarantees codes movements lines schema = record {
+    → new.now.schema ≡ desk_schema → IsDatabase new.now → HasTables f old new
+assembled f old new country office meta holders guarantees codes movements lines schema sound = record {
   same = record {
-    country = country;
+    country = ap country_in office ∙ sym country;
     holders = holders.same;
     guarantees = guarantees.same;
     codes = codes.same;
@@ -85,7 +89,9 @@ assembled f old new country meta holders guarantees codes movements lines schema
     movements = movements.typed;
     lines = lines.typed;
   };
-  schema = schema;
+  office = office;
+  listed = λ _. listed_there new.now schema sound;
+  schema = λ _. schema;
 }
 
 module _ (old new : State) (has : HasSchema old desk_schema) (typed : AreAllTyped old.now.trees) where
@@ -100,67 +106,67 @@ module _ (old new : State) (has : HasSchema old desk_schema) (typed : AreAllType
   holders_turned f turns =
       let now = turns has typed.holders in
       let rest = kept 1 a b now.others in
-      assembled (λ t. record t { holders = f t.holders }) old new (country_still a b (rest.meta (λ e. cc)))
+      assembled (λ t. record t { holders = f t.holders }) old new refl (office_still a b (rest.meta (λ e. cc)))
       (typed_still meta_typing a b (rest.meta (λ e. cc)) typed.meta)
       (record { same = now.same; typed = now.typed })
       (still guarantee_typing a b typed.guarantees (rest.guarantees (λ e. cc)))
       (still code_typing a b typed.codes (rest.codes (λ e. cc)))
       (still movement_typing a b typed.movements (rest.movements (λ e. cc)))
       (still line_typing a b typed.lines (rest.lines (λ e. cc)))
-      (λ is_open. now.schema)
+      now.schema now.sound
 
   pub guarantees_turned : (f : List (Keyed Guarantee) → List (Keyed Guarantee)) → Turns guarantee_typing desk_schema f old new
       → HasTables (λ t. record t { guarantees = f t.guarantees }) old new
   guarantees_turned f turns =
       let now = turns has typed.guarantees in
       let rest = kept 8 a b now.others in
-      assembled (λ t. record t { guarantees = f t.guarantees }) old new (country_still a b (rest.meta (λ e. cc)))
+      assembled (λ t. record t { guarantees = f t.guarantees }) old new refl (office_still a b (rest.meta (λ e. cc)))
       (typed_still meta_typing a b (rest.meta (λ e. cc)) typed.meta)
       (still holder_typing a b typed.holders (rest.holders (λ e. cc)))
       (record { same = now.same; typed = now.typed })
       (still code_typing a b typed.codes (rest.codes (λ e. cc)))
       (still movement_typing a b typed.movements (rest.movements (λ e. cc)))
       (still line_typing a b typed.lines (rest.lines (λ e. cc)))
-      (λ is_open. now.schema)
+      now.schema now.sound
 
   pub codes_turned : (f : List (Keyed (List ℕ)) → List (Keyed (List ℕ))) → Turns code_typing desk_schema f old new
       → HasTables (λ t. record t { codes = f t.codes }) old new
   codes_turned f turns =
       let now = turns has typed.codes in
       let rest = kept 2 a b now.others in
-      assembled (λ t. record t { codes = f t.codes }) old new (country_still a b (rest.meta (λ e. cc)))
+      assembled (λ t. record t { codes = f t.codes }) old new refl (office_still a b (rest.meta (λ e. cc)))
       (typed_still meta_typing a b (rest.meta (λ e. cc)) typed.meta)
       (still holder_typing a b typed.holders (rest.holders (λ e. cc)))
       (still guarantee_typing a b typed.guarantees (rest.guarantees (λ e. cc)))
       (record { same = now.same; typed = now.typed })
       (still movement_typing a b typed.movements (rest.movements (λ e. cc)))
       (still line_typing a b typed.lines (rest.lines (λ e. cc)))
-      (λ is_open. now.schema)
+      now.schema now.sound
 
   pub movements_turned : (f : List (Keyed Movement) → List (Keyed Movement)) → Turns movement_typing desk_schema f old new
       → HasTables (λ t. record t { movements = f t.movements }) old new
   movements_turned f turns =
       let now = turns has typed.movements in
       let rest = kept 4 a b now.others in
-      assembled (λ t. record t { movements = f t.movements }) old new (country_still a b (rest.meta (λ e. cc)))
+      assembled (λ t. record t { movements = f t.movements }) old new refl (office_still a b (rest.meta (λ e. cc)))
       (typed_still meta_typing a b (rest.meta (λ e. cc)) typed.meta)
       (still holder_typing a b typed.holders (rest.holders (λ e. cc)))
       (still guarantee_typing a b typed.guarantees (rest.guarantees (λ e. cc)))
       (still code_typing a b typed.codes (rest.codes (λ e. cc)))
       (record { same = now.same; typed = now.typed })
       (still line_typing a b typed.lines (rest.lines (λ e. cc)))
-      (λ is_open. now.schema)
+      now.schema now.sound
 
   pub lines_turned : (f : List (Keyed LineCells) → List (Keyed LineCells)) → Turns line_typing desk_schema f old new
       → HasTables (λ t. record t { lines = f t.lines }) old new
   lines_turned f turns =
       let now = turns has typed.lines in
       let rest = kept 11 a b now.others in
-      assembled (λ t. record t { lines = f t.lines }) old new (country_still a b (rest.meta (λ e. cc)))
+      assembled (λ t. record t { lines = f t.lines }) old new refl (office_still a b (rest.meta (λ e. cc)))
       (typed_still meta_typing a b (rest.meta (λ e. cc)) typed.meta)
       (still holder_typing a b typed.holders (rest.holders (λ e. cc)))
       (still guarantee_typing a b typed.guarantees (rest.guarantees (λ e. cc)))
       (still code_typing a b typed.codes (rest.codes (λ e. cc)))
       (still movement_typing a b typed.movements (rest.movements (λ e. cc)))
       (record { same = now.same; typed = now.typed })
-      (λ is_open. now.schema)
+      now.schema now.sound

@@ -1,10 +1,13 @@
 -- What the statements of a change wrote inside a transaction, and what is there when it is committed.
-use Rattle.std.proofs.Common.{◌≡◌, ◌∙◌, ℕ, List, ap, sym, subst}
+use Rattle.std.proofs.Common.{◌≡◌, ◌∙◌, ℕ, List, [], ◌∷◌, Option, Some, None, ap, refl, sym, subst}
+use Rattle.std.specs.Prelude.{IsTrue}
 use Rattle.sqlite_trees.specs.Tree.{Trees}
 use Rattle.sqlite.specs.Effect.{Database}
 use Rattle.sqlite.specs.State.{State}
+use Rattle.td_model.specs.declared.holder_row.HolderRow.{HolderRow}
 use Rattle.td_acts.specs.declared.rows.Change.{Change}
-use Rattle.td_desk.specs.Content.{Content, content_after, IsSound}
+use Rattle.td_acts.specs.Changes.{row_in}
+use Rattle.td_desk.specs.Content.{Content, content_after, content_after_row, IsSound}
 use Rattle.td_desk.specs.Weighing.{IsDecision}
 use Rattle.td_desk.proofs.Carrying.{carries}
 use Rattle.td_acts.specs.declared.rows.Verdict.{Verdict}
@@ -14,7 +17,8 @@ use Rattle.td_table_model.proofs.Decided.{decisions_are_written}
 use Rattle.td_table_model.proofs.Told.{references_tell}
 use Rattle.td_schema.specs.Tables.{desk_schema}
 use Rattle.typed_sql.specs.Writing.{HasSchema}
-use Rattle.td_store_rows.specs.StoreTables.{AreAllTyped, tables_in}
+use Rattle.td_store_rows.specs.Columns.{meta_row, newest_version}
+use Rattle.td_store_rows.specs.StoreTables.{AreTreesOf, tables_in}
 use Rattle.td_store_rows.proofs.Holding.{holds_still}
 use Rattle.td_store_write.specs.Written.{WritesChange}
 use Rattle.td_store_write.specs.Carried.{CarriesChange, MayLeave}
@@ -25,21 +29,33 @@ sound_after c v sound (at, command, proper, weighed) =
     subst (λ change. IsSound (content_after change c)) (sym weighed.written)
     (carries c (record { at = at; command = command }) sound proper).sound
 
+-- a change keeps the country
+after_row : (row : Option HolderRow) (change : Change) (c : Content) → (content_after_row row change c).country ≡ c.country
+after_row None change c = refl
+after_row (Some row) change c = refl
+
+pub after_country : (change : Change) (c : Content) → (content_after change c).country ≡ c.country
+after_country change c = after_row (row_in change) change c
+
 -- inside the transaction the content is that after the change
 pub inside : (country : List ℕ) (change : Change) (a b : State) → WritesChange country change a b
     → CarriesChange country change a b
 inside country change a b writes c d =
     let t = tables_in a.now.trees in
-    let wrote = writes d.holds.schema d.holds.typed (d.holds.tables.country ∙ d.country)
-    (references_tell t c d.holds.sound d.holds.tables).1 in
+    let wrote = writes d.holds.schema d.holds.trees.typed (d.holds.trees.tables.country ∙ d.country)
+    (references_tell t c d.holds.trees.sound d.holds.trees.tables).1 in
     let same : HaveSameRows (tables_after d.verdict.change t) (tables_in b.now.trees) =
     subst (λ made. HaveSameRows (tables_after made t) (tables_in b.now.trees)) (sym d.change) wrote.same in
     record {
       schema = wrote.schema;
-      typed = wrote.typed;
-      sound = subst (λ made. IsSound (content_after made c)) d.change (sound_after c d.verdict d.holds.sound d.decision);
-      tables = subst (λ made. AreTablesOf (tables_in b.now.trees) (content_after made c)) d.change
-          (decisions_are_written d.verdict t (tables_in b.now.trees) c d.holds.sound d.decision d.holds.tables same).0;
+      trees = record {
+        listed = wrote.listed d.holds.trees.listed;
+        typed = wrote.typed;
+        sound = subst (λ made. IsSound (content_after made c)) d.change (sound_after c d.verdict d.holds.trees.sound d.decision);
+        tables = subst (λ made. AreTablesOf (tables_in b.now.trees) (content_after made c)) d.change
+            (decisions_are_written d.verdict t (tables_in b.now.trees) c d.holds.trees.sound d.decision d.holds.trees.tables same).0;
+        office = wrote.office ∙ d.holds.trees.office ∙ ap (λ k. meta_row newest_version k ∷ []) (sym (after_country change c));
+      };
     }
 
 -- a connection that sees the same database has the same tables
@@ -59,9 +75,8 @@ carried_as country change o a b e begins opens ends closes carries c d =
     }) in
     holds_still (content_after change c) b e ends (still_has_schema b e ends closes holds.schema) holds
 
--- and a crash that leaves what was written leaves the tables of that content
-pub left : (country : List ℕ) (change : Change) (o b : State) (trees : Trees) → trees ≡ b.now.trees
+-- and a crash that leaves what was written leaves the file of a desk of that content
+pub left : (country : List ℕ) (change : Change) (o b : State) (trees : Trees) → IsTrue o.is_open → trees ≡ b.now.trees
     → CarriesChange country change o b → MayLeave country change o trees
-left country change o b trees is carries c d =
-    let holds = carries c d in
-    subst (λ t. AreAllTyped t × AreTablesOf (tables_in t) (content_after change c)) (sym is) (holds.typed, holds.tables)
+left country change o b trees was_open is carries =
+    (was_open, λ c d. subst (AreTreesOf (content_after change c)) (sym is) (carries c d).trees)

@@ -7,7 +7,7 @@ use Rattle.sqlite_trees.proofs.ListLemmas.{all_weaker}
 use Rattle.sqlite.specs.State.{State}
 use Rattle.td_guarantee.specs.declared.guarantee.Guarantee.{Guarantee}
 use Rattle.td_movement.specs.declared.movement.Movement.{Movement}
-use Rattle.td_acts.specs.declared.rows.Change.TheVariants.{Declared, Moved, TermsSet, CodeAdded, CodeRemoved}
+use Rattle.td_acts.specs.declared.rows.Change.TheVariants.{Registered, Declared, Moved, TermsSet, CodeAdded, CodeRemoved}
 use Rattle.td_model.specs.declared.holder_row.HolderRow.{HolderRow}
 use Rattle.td_acts.specs.declared.rows.NewStatus.{NewStatus}
 use Rattle.td_acts.specs.declared.rows.NewTerms.{NewTerms}
@@ -15,6 +15,8 @@ use Rattle.td_acts.specs.Changes.{with_status, with_terms}
 use Rattle.td_table_model.specs.Tables.{Keyed, Tables, code_row, guarantee_no, line_rows, movement_row}
 use Rattle.td_table_model.specs.Changes.{HaveSameRows, is_code_of, tables_after, with_row, with_status_of, with_terms_of}
 use Rattle.td_table_model.specs.Looking.{movement_no}
+use Rattle.td_store_rows.specs.HolderTable.{TurnsHolders}
+use Rattle.td_store_rows.proofs.Turned.{holders_turned}
 use Rattle.td_store_rows.specs.StoreTables.{HasTables, TurnsTables, tables_in}
 use Rattle.td_store_write.specs.Written.{WritesChange, status_by_key, terms_by_key}
 
@@ -23,7 +25,9 @@ has_as : (f g : Tables → Tables) (old new : State) → f (tables_in old.now.tr
     → HasTables f old new → HasTables g old new
 has_as f g old new same has = record {
   same = subst (λ t. HaveSameRows t (tables_in new.now.trees)) same has.same;
+  office = has.office;
   typed = has.typed;
+  listed = has.listed;
   schema = has.schema;
 }
 
@@ -61,6 +65,10 @@ terms_put H n terms rows keys =
     rows keys)
 
 -- each written as the change says
+pub registered_written : (country : List ℕ) (row : HolderRow) (old new : State) → TurnsHolders (λ rows. row ∷ rows) old new
+    → WritesChange country (Registered row) old new
+registered_written country row old new turns has typed same keys = holders_turned old new has typed (λ rows. row ∷ rows) turns
+
 pub declared_written : (country : List ℕ) (row : HolderRow) (movement : Movement) (old new : State)
     → TurnsTables (λ t. record t {
       holders = map (with_row row) t.holders;

@@ -3,6 +3,7 @@ use Rattle.std.proofs.Common.{◌≡◌, ◌∙◌, ℕ, List, [], ◌∷◌, ma
 use Rattle.std.specs.List.{AllByRecursion}
 use Rattle.std.proofs.lemmas.List.Sorted.{IsPermutation-refl}
 use Rattle.sqlite_trees.specs.Tree.{Trees}
+use Rattle.sqlite.specs.Effect.{Database}
 use Rattle.sqlite.specs.State.{State}
 use Rattle.sqlite.proofs.Callers.{one_permutation}
 use Rattle.td_desk.specs.Content.{empty_content}
@@ -13,8 +14,8 @@ use Rattle.typed_sql.specs.Writing.{HaveIds, HasSchema}
 use Rattle.typed_sql.specs.Typed.{AreTyped, HasNow, IsTypedRow, Typing, row_of, typed_rows}
 use Rattle.td_store_rows.specs.Columns.{meta_row, meta_typing, newest_version, holder_typing, guarantee_typing, code_typing, movement_typing, line_typing}
 use Rattle.td_store_rows.specs.MetaTable.{TurnsMeta}
-use Rattle.td_store_rows.specs.StoreTables.{HoldsContent, country_in}
-use Rattle.td_store_write.specs.Created.{AreOfEmptyDesk}
+use Rattle.td_store_rows.specs.StoreTables.{AreTreesOf, HoldsContent, country_in}
+use Rattle.td_store_rows.proofs.Turned.{listed_there}
 
 -- a table without rows is typed, and has no typed row
 none_typed : {R : Type 0} (ty : Typing R) (trees : Trees) → trees ty.table.tree ≡ [] → AreTyped ty trees
@@ -27,10 +28,10 @@ none_there : {R : Type 0} (ty : Typing R) (trees : Trees) → trees ty.table.tre
 none_there ty trees none = subst (IsPermutation []) (ap (map (row_of ty)) (sym none)) (IsPermutation-refl [])
 
 -- the trees of the empty desk: the office's row, and no other
-pub of_empty_desk : (country : List ℕ) (old new : State) → IsEmptyOf desk_schema old.now
-    → TurnsMeta (λ rows. meta_row newest_version country ∷ rows) old new → AreOfEmptyDesk country new.now.trees
-of_empty_desk country old new was turns = record {
-  meta = meta;
+pub of_empty_desk : (country : List ℕ) (old new : State) → IsCountry country → IsEmptyOf desk_schema old.now
+    → TurnsMeta (λ rows. meta_row newest_version country ∷ rows) old new → AreTreesOf (empty_content country) new.now.trees
+of_empty_desk country old new is was turns = record {
+  listed = listed_there new.now now.schema now.sound;
   typed = record {
     meta = now.typed;
     holders = none_typed holder_typing b holders;
@@ -39,6 +40,7 @@ of_empty_desk country old new was turns = record {
     movements = none_typed movement_typing b movements;
     lines = none_typed line_typing b lines;
   };
+  sound = record { country = is; order = tt; holders = tt };
   tables = record {
     country = ap country_in meta;
     holders = none_there holder_typing b holders;
@@ -47,6 +49,7 @@ of_empty_desk country old new was turns = record {
     movements = none_there movement_typing b movements;
     lines = none_there line_typing b lines;
   };
+  office = meta;
 }
   where
     a : Trees
@@ -78,22 +81,16 @@ of_empty_desk country old new was turns = record {
     lines = now.others.1.1.1.1.1.0 (λ e. cc) ∙ was.empty.1.1.1.1.1.0
 
 -- under the tables' schema
-pub schema_there : (country : List ℕ) (old new : State) → IsEmptyOf desk_schema old.now
+schema_there : (country : List ℕ) (old new : State) → IsEmptyOf desk_schema old.now
     → TurnsMeta (λ rows. meta_row newest_version country ∷ rows) old new → new.now.schema ≡ desk_schema
 schema_there country old new was turns =
     (turns (λ is_open. was.schema) (none_typed meta_typing old.now.trees was.empty.0)).schema
 
--- trees that are the same
-pub left_empty : (country : List ℕ) (trees there : Trees) → trees ≡ there → AreOfEmptyDesk country there
-    → AreOfEmptyDesk country trees
-left_empty country trees there is made = subst (AreOfEmptyDesk country) (sym is) made
-
 -- and a connection to them holds the content of the empty desk
-pub holds_empty : (country : List ℕ) (s : State) → IsCountry country → HasSchema s desk_schema
-    → AreOfEmptyDesk country s.now.trees → HoldsContent (empty_content country) s
-holds_empty country s is schema trees = record {
-  schema = schema;
-  typed = trees.typed;
-  sound = record { country = is; order = tt; holders = tt };
-  tables = trees.tables;
+pub holds_empty : (country : List ℕ) (old made new : State) → IsCountry country → IsEmptyOf desk_schema old.now
+    → TurnsMeta (λ rows. meta_row newest_version country ∷ rows) old made → new.now ≡ made.now
+    → HoldsContent (empty_content country) new
+holds_empty country old made new is was turns same = record {
+  schema = λ _. ap (λ (d : Database). d.schema) same ∙ schema_there country old made was turns;
+  trees = subst (λ (d : Database). AreTreesOf (empty_content country) d.trees) (sym same) (of_empty_desk country old made is was turns);
 }

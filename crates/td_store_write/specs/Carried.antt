@@ -1,13 +1,12 @@
 -- What a change that is carried does to a store's file, and what a crash on the way leaves.
-use Rattle.std.specs.Prelude.{◌≡◌, ℕ, List}
+use Rattle.std.specs.Prelude.{◌≡◌, ℕ, List, IsTrue}
 use Rattle.sqlite_trees.specs.Tree.{Trees}
 use Rattle.sqlite.specs.State.{State}
 use Rattle.td_acts.specs.declared.rows.Change.{Change}
 use Rattle.td_acts.specs.declared.rows.Verdict.{Verdict}
 use Rattle.td_desk.specs.Content.{Content, content_after}
 use Rattle.td_desk.specs.Weighing.{IsDecision}
-use Rattle.td_table_model.specs.Tables.{AreTablesOf}
-use Rattle.td_store_rows.specs.StoreTables.{AreAllTyped, HoldsContent, tables_in}
+use Rattle.td_store_rows.specs.StoreTables.{AreTreesOf, HoldsContent}
 
 -- the connection holds this content, and the change is that of a decision on it, at an office of this country
 pub record IsDecidedOver (office : List ℕ) (made : Change) (s : State) (c : Content) : Type 0 where
@@ -22,8 +21,7 @@ abbrev pub CarriesChange : List ℕ → Change → State → State → Type 0
 CarriesChange country change old new =
     (c : Content) → IsDecidedOver country change old c → HoldsContent (content_after change c) new
 
--- and these trees have the tables of that content
+-- the connection was open, and these trees are a desk's of that content
 abbrev pub MayLeave : List ℕ → Change → State → Trees → Type 0
 MayLeave country change old trees =
-    (c : Content) → IsDecidedOver country change old c
-    → AreAllTyped trees × AreTablesOf (tables_in trees) (content_after change c)
+    IsTrue old.is_open × ((c : Content) → IsDecidedOver country change old c → AreTreesOf (content_after change c) trees)

@@ -9,10 +9,12 @@ use sqlite::{Connection, Error};
 use sqlite_trees::store::Alter;
 use td_acts::Change;
 use td_base::Country;
+use typed_sql::see_open;
 
 /// Carries a change that was decided on over the content of the tables, at an office of that country: all of it or, where it
 /// answers `Err`, nothing. An error is the database's own; `DatabaseCorrupt`, too, where a row that changes isn't there.
-/// A crash during the call leaves what it could leave before, or the content after the change.
+/// A crash during the call leaves what it could leave before, or, if the connection was open, a desk's file of the content after
+/// the change.
 pub fn carry_change<S: Alter>(
     conn: &mut Connection<S>,
     country: Country,
@@ -31,6 +33,7 @@ pub fn carry_change<S: Alter>(
 {
     let _settled = conn.is_autocommit();
     let mut tx = conn.transaction();
+    see_open(&mut tx)?;
     write_change(&mut tx, country, change)?;
     tx.commit()
 }

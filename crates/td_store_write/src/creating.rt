@@ -9,10 +9,11 @@ use sqlite_trees::store::Alter;
 use td_base::Country;
 use td_schema::make_tables;
 use td_store_rows::{NEWEST_VERSION, insert_meta};
+use typed_sql::see_open;
 
 /// Makes the tables of an office of that country, which has no holders yet, in a database that has no table; all of it or,
 /// where it answers `Err`, nothing. An error is the database's own. A crash during the call leaves what it could leave
-/// before, or the tables of the empty desk.
+/// before, or, if the connection was open, the file of an empty desk.
 pub fn create_tables<S: Alter>(conn: &mut Connection<S>, country: Country) -> Result<(), Error>
     requires { conn.old.in_transaction ≡ false }
     ensures ended { conn.new.in_transaction ≡ false }
@@ -30,5 +31,7 @@ pub fn create_tables<S: Alter>(conn: &mut Connection<S>, country: Country) -> Re
     let mut tx = conn.transaction();
     make_tables(&mut tx)?;
     insert_meta(&mut tx, NEWEST_VERSION, country)?;
+    // (compiled over these tables, it takes no memory when it is asked again)
+    see_open(&mut tx)?;
     tx.commit()
 }

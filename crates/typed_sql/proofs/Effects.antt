@@ -1,6 +1,6 @@
 -- What a statement wrote, in words of rows.
 use Rattle.sqlite.proofs.Callers.{one_permutation}
-use Rattle.sqlite.specs.Effect.{Answers, Database}
+use Rattle.sqlite.specs.Effect.{Answers, Database, IsDatabase}
 use Rattle.sqlite.specs.Listing.{understood}
 use Rattle.sqlite.specs.State.{Executes, State}
 use Rattle.sqlite_rules.specs.Calls.{ids_of}
@@ -56,8 +56,8 @@ row_with rows (Blob x) columns h = absurd cc
 
 put_one : (s : Schema) (t : Table) (source : Row) (old new : Database) → new.schema ≡ s
     → Applies s Enforced old.trees (edit_of old.trees (plain_table t) [] Chosen 0 (source ∷ [])) new.trees
-    → IsInserted s t source (cast_all t.columns (drop 1 source)) old new
-put_one s t source old new schema h =
+    → IsDatabase new → IsInserted s t source (cast_all t.columns (drop 1 source)) old new
+put_one s t source old new schema h sound =
     let tree = old.trees t.tree in
     let put = row_with tree (cast Integer (rowid source)) (cast_all t.columns (drop 1 source)) h.keyed in
     let free : is_taken tree (Int put.0 ∷ cast_all t.columns (drop 1 source)) ≡ false =
@@ -71,6 +71,7 @@ put_one s t source old new schema h =
       ids = λ have. rw rows (ids_put put.0 _ tree refl free have);
       others = h.tables;
       schema = schema;
+      sound = sound;
     }
 
 pub inserted_as : (old new : State) (text : List ℕ) (values : Row) (count : ℕ) (s : Schema) (t : Table)
@@ -80,7 +81,7 @@ pub inserted_as : (old new : State) (text : List ℕ) (values : Row) (count : �
 inserted_as old new text values count s t row has means h =
     let done = one_inserted text values old new s has means.place t means.table means.plain row means.width
     (eval_all row (values ∷ [])) (command_is (understood s text) ∙ means.command) (means.one values) count h in
-    put_one s t (eval_all row (values ∷ [])) old.now new.now done.0 done.1
+    put_one s t (eval_all row (values ∷ [])) old.now new.now done.0 done.1 done.2
 
 -- the rows that a query shows by which a statement changes them
 shown_rows : (s : Schema) (t : ℕ) (tests shows : List Term) (db : Trees) (values : Row) (rows : List Row)
@@ -153,8 +154,8 @@ set_one : (s : Schema) (t : Table) (test : Row → Bool) (raw : Row
     → Row) (old new : Database) (rows : List Row) (r : Row) → new.schema ≡ s → HaveIds (old.trees t.tree)
     → filter test (old.trees t.tree) ≡ r ∷ [] → rows ≡ (rowid r ∷ rowid r ∷ raw r) ∷ []
     → Applies s Enforced old.trees (edit_of old.trees (plain_table t) (ids_of rows) Given 1 rows) new.trees
-    → IsUpdated s t test (λ x. cast_all t.columns (raw x)) old new
-set_one s t test raw old new rows r schema have only is h =
+    → IsDatabase new → IsUpdated s t test (λ x. cast_all t.columns (raw x)) old new
+set_one s t test raw old new rows r schema have only is h sound =
     let applied : Applies s Enforced old.trees
     (edit_of old.trees (plain_table t) (ids_of ((rowid r ∷ rowid r ∷ raw r) ∷ [])) Given 1
     ((rowid r ∷ rowid r ∷ raw r) ∷ [])) new.trees =
@@ -169,6 +170,7 @@ set_one s t test raw old new rows r schema have only is h =
           (new.trees t.tree) fresh applied.rows;
       others = applied.tables;
       schema = schema;
+      sound = sound;
     }
 
 pub updated_as : (old new : State) (text : List ℕ) (values : Row) (s : Schema) (t : Table)
@@ -184,14 +186,14 @@ updated_as old new text values s t tests columns has means have h =
     step.counted in
     set_one s t (passes values tests)
     (λ r. eval_all columns (values ∷ r ∷ [])) old.now new.now step.rows it.0 step.schema_is have it.1 it.2
-    step.applied
+    step.applied step.sound
 
 take_one : (s : Schema) (t : Table) (test : Row → Bool) (old new : Database) (rows : List Row) (r : Row)
     → new.schema ≡ s → HaveIds (old.trees t.tree)
     → filter test (old.trees t.tree) ≡ r ∷ [] → rows ≡ (rowid r ∷ []) ∷ []
     → Applies s Enforced old.trees (edit_of old.trees (plain_table t) (ids_of rows) Given 0 []) new.trees
-    → IsDeleted s t test old new
-take_one s t test old new rows r schema have only is h =
+    → IsDatabase new → IsDeleted s t test old new
+take_one s t test old new rows r schema have only is h sound =
     let applied : Applies s Enforced old.trees
     (edit_of old.trees (plain_table t) (ids_of ((rowid r ∷ []) ∷ [])) Given 0 []) new.trees =
     subst (λ rows. Applies s Enforced old.trees
@@ -204,6 +206,7 @@ take_one s t test old new rows r schema have only is h =
       ids = rw gone (ids_left (λ x. not (test x)) (old.trees t.tree) have);
       others = applied.tables;
       schema = schema;
+      sound = sound;
     }
 
 pub deleted_as : (old new : State) (text : List ℕ) (values : Row) (s : Schema) (t : Table) (tests : List Term)
@@ -217,3 +220,4 @@ deleted_as old new text values s t tests has means have h =
     let it = only_one _ _ _ _ step.rows
     (shown_rows s t.tree tests (col 1 0 ∷ []) old.now.trees values step.rows step.answer) step.counted in
     take_one s t (passes values tests) old.now new.now step.rows it.0 step.schema_is have it.1 it.2 step.applied
+    step.sound

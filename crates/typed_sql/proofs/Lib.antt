@@ -12,3 +12,4 @@ pub mod Fetched
 pub mod Columns
 pub mod Left
 mod Answered
+mod Empty

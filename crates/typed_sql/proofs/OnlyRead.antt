@@ -1,6 +1,6 @@
 -- What calls one after another have only read, where the tables are those of a schema.
 use Rattle.std.proofs.Common.{◌∙◌, ap, inl, refl, arith}
-use Rattle.std.specs.Prelude.{Bool, true, IsTrue}
+use Rattle.std.specs.Prelude.{Bool, true}
 use Rattle.sqlite_schema.specs.declared.schema.Schema.{Schema}
 use Rattle.sqlite.specs.Effect.{Database}
 use Rattle.sqlite.specs.State.{State}

@@ -3,7 +3,7 @@ use Rattle.sqlite.specs.Rows.{Inserts, Task, Written}
 use Rattle.sqlite_rules.specs.Action.{Writes, works}
 use Rattle.sqlite.proofs.Callers.{command_of, one_step, runs_as, statement_of}
 use Rattle.sqlite.specs.Does.{AtPlace, Concludes, Does, OnRows, Tally}
-use Rattle.sqlite.specs.Effect.{Answers, Database, value_rows}
+use Rattle.sqlite.specs.Effect.{Answers, Database, IsDatabase, value_rows}
 use Rattle.sqlite.specs.Given.{IsPlain}
 use Rattle.sqlite.specs.Listing.{understood}
 use Rattle.sqlite.specs.State.{Executes, State, mode_of}
@@ -106,6 +106,7 @@ module _ (text : List ℕ) (params : Row) (old new : State) (schema : Schema) (h
         → (new.now.schema ≡ schema)
         × Applies schema Enforced old.now.trees
         (edit_of old.now.trees (plain_table t) [] Chosen 0 (row ∷ [])) new.now.trees
+        × IsDatabase new.now
     one_inserted count h =
         let command = Insert place (Values terms width) in
         let w = runs_as text params old new schema has command is plain count h in
@@ -122,6 +123,7 @@ module _ (text : List ℕ) (params : Row) (old new : State) (schema : Schema) (h
           subst
               (λ (d : Database). Applies schema Enforced old.now.trees
               (edit_of old.now.trees (plain_table t) [] Chosen 0 (row ∷ [])) d.trees) (sym now) applied,
+          w.sound,
         )
 
 -- what an UPDATE or a DELETE did: the rows that its query showed, and the edit by their rowids
@@ -132,6 +134,7 @@ pub record IsChanged (schema : Schema) (t : Table) (q : Program) (params : Row) 
   pub counted : count ≡ length rows
   pub schema_is : new.schema ≡ schema
   pub applied : Applies schema Enforced old.trees (edit rows) new.trees
+  pub sound : IsDatabase new
 
 module _ (text : List ℕ) (params : Row) (old new : State) (schema : Schema) (has : old.now.schema ≡ schema)
     (place : ℕ) (t : Table) (table : HasTable schema place t)
@@ -170,6 +173,7 @@ module _ (text : List ℕ) (params : Row) (old new : State) (schema : Schema) (h
           schema_is = ap (λ (d : Database). d.schema) now;
           applied = subst (λ (d : Trees). Applies schema Enforced old.now.trees (set_anew rows.0) d)
               (sym (ap (λ (d : Database). d.trees) now ∙ ap (λ (it : Written). it.trees) written)) applied;
+          sound = w.sound;
         }
 
   module _ (is : command_of (understood schema text) ≡ Delete place q) where
@@ -207,4 +211,5 @@ module _ (text : List ℕ) (params : Row) (old new : State) (schema : Schema) (h
           schema_is = ap (λ (d : Database). d.schema) now;
           applied = subst (λ (d : Trees). Applies schema Enforced old.now.trees (taken_out rows.0) d)
               (sym (ap (λ (d : Database). d.trees) now ∙ ap (λ (it : Written). it.trees) written)) applied;
+          sound = w.sound;
         }

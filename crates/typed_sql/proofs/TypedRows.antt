@@ -58,6 +58,7 @@ module _ {R : Type 0} (ty : Typing R) (s : Schema) where
         typed = record { ids = h.ids typed.ids; cells = all-permutation (IsTypedRow ty) _ _ h.rows (first, typed.cells) };
         others = h.others;
         schema = h.schema;
+        sound = h.sound;
       }
 
   -- whatever rowid it gets
@@ -97,6 +98,7 @@ module _ {R : Type 0} (ty : Typing R) (s : Schema) where
         };
         others = h.others;
         schema = h.schema;
+        sound = h.sound;
       }
 
   -- those that pass are gone
@@ -120,6 +122,7 @@ module _ {R : Type 0} (ty : Typing R) (s : Schema) where
         };
         others = h.others;
         schema = h.schema;
+        sound = h.sound;
       }
 
   -- those that pass are shown

@@ -7,7 +7,7 @@ use Rattle.sqlite_value.specs.Order.{Row}
 use Rattle.sqlite_trees.specs.Tree.{Trees}
 use Rattle.sqlite_schema.specs.declared.schema.Schema.{Schema}
 use Rattle.sqlite_schema.specs.declared.schema.Table.{Table}
-use Rattle.sqlite.specs.Effect.{Database}
+use Rattle.sqlite.specs.Effect.{Database, IsDatabase}
 use Rattle.sqlite.specs.State.{State}
 use Rattle.typed_sql.specs.Writing.{HaveIds, AreOthersKept, HasSchema}
 
@@ -35,12 +35,13 @@ pub record AreTyped {R : Type 0} (ty : Typing R) (trees : Trees) : Type 0 where
   pub ids : HaveIds (trees ty.table.tree)
   pub cells : AllByRecursion (IsTypedRow ty) (trees ty.table.tree)
 
--- the table has these rows now, in any order, and the others are as they were
+-- The table has these rows now, in any order, and the others are as they were. The trees list the schema, and obey it.
 pub record HasNow {R : Type 0} (ty : Typing R) (s : Schema) (rows : List R) (old new : Database) : Type 0 where
   pub same : IsPermutation rows (typed_rows ty new.trees)
   pub typed : AreTyped ty new.trees
   pub others : AreOthersKept s ty.table.tree old.trees new.trees
   pub schema : new.schema ≡ s
+  pub sound : IsDatabase new
 
 -- where the table's rows were typed, they are now what f makes of them, and no other table is touched
 abbrev pub Turns : {R : Type 0} → Typing R → Schema → (List R → List R) → State → State → Type 0

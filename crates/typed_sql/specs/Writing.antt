@@ -11,7 +11,7 @@ use Rattle.std.specs.List.Sorted.{IsPermutation}
 use Rattle.sqlite_sql.specs.Term.{Term, eval_all, holds}
 use Rattle.sqlite_rules.specs.Cast.{cast_all}
 use Rattle.sqlite_schema.specs.declared.schema.Table.{Table}
-use Rattle.sqlite.specs.Effect.{Database}
+use Rattle.sqlite.specs.Effect.{Database, IsDatabase}
 use Rattle.sqlite.specs.State.{State}
 use Rattle.typed_sql.specs.Meanings.{MeansInsert, MeansUpdate, MeansDelete}
 
@@ -35,7 +35,7 @@ columns_put t row values = cast_all t.columns (drop 1 (eval_all row (values ∷ 
 abbrev pub columns_set : Table → List Term → Row → Row → Row
 columns_set t columns values r = cast_all t.columns (eval_all columns (values ∷ r ∷ []))
 
--- one row more is in the table, with these columns, under a rowid that was free
+-- One row more is in the table, with these columns, under a rowid that was free. The trees still list the schema, and obey it.
 pub record IsInserted (s : Schema) (t : Table) (source columns : Row) (old new : Database) : Type 0 where
   pub id : ℤ
   pub given : (n : ℤ) → rowid source ≡ Int n → id ≡ n
@@ -43,8 +43,9 @@ pub record IsInserted (s : Schema) (t : Table) (source columns : Row) (old new :
   pub ids : HaveIds (old.trees t.tree) → HaveIds (new.trees t.tree)
   pub others : AreOthersKept s t.tree old.trees new.trees
   pub schema : new.schema ≡ s
+  pub sound : IsDatabase new
 
--- just one row of the table passes the test, and its columns are set anew
+-- Just one row of the table passes the test, and its columns are set anew. The trees still list the schema, and obey it.
 pub record IsUpdated (s : Schema) (t : Table) (test : Row → Bool) (columns : Row
     → Row) (old new : Database) : Type 0 where
   pub one : length (filter test (old.trees t.tree)) ≡ 1
@@ -53,14 +54,16 @@ pub record IsUpdated (s : Schema) (t : Table) (test : Row → Bool) (columns : R
   pub ids : HaveIds (new.trees t.tree)
   pub others : AreOthersKept s t.tree old.trees new.trees
   pub schema : new.schema ≡ s
+  pub sound : IsDatabase new
 
--- just one row of the table passed the test, and it is there no more
+-- Just one row of the table passed the test, and it is there no more. The trees still list the schema, and obey it.
 pub record IsDeleted (s : Schema) (t : Table) (test : Row → Bool) (old new : Database) : Type 0 where
   pub one : length (filter test (old.trees t.tree)) ≡ 1
   pub rows : new.trees t.tree ≡ filter (λ r. not (test r)) (old.trees t.tree)
   pub ids : HaveIds (new.trees t.tree)
   pub others : AreOthersKept s t.tree old.trees new.trees
   pub schema : new.schema ≡ s
+  pub sound : IsDatabase new
 
 -- these are the tables, as far as the connection is open
 abbrev pub HasSchema : State → Schema → Type 0

@@ -1,13 +1,16 @@
 //! One statement of SQL on a table: what an INSERT of a row, an UPDATE or a DELETE of one row and a SELECT over one
-//! table did and showed, and a walk along the rows of a SELECT, of which none is kept. It knows no desk.
+//! table did and showed, a walk along the rows of a SELECT, of which none is kept, and whether the connection still answers.
+//! It knows no desk.
 #![tactic(auto)]
 
+mod asking;
 mod cells;
 mod fetching;
 mod rows;
 mod statements;
 mod walking;
 
+pub use asking::see_open;
 pub use cells::{integer_at, is_null_at, number_at, text_at};
 pub use fetching::{fetch, fetch_one};
 pub use rows::{FromRow, only, read_rows};

@@ -13,7 +13,7 @@ use Rattle.td_store_load.proofs.entries.entry_in_row.Goals as goal
 pub returns-clause-entry : goal.returns-clause-entry
 returns-clause-entry g c clean content holds =
     ap₂ (λ guarantee cents. (guarantee, cents)) (said_before (λ t. with_codes t (guarantee_row_of c.args.row.now)) a b _ (c.in_ok-used.ensures.reads.still clean_b refl) whole content holds)
-    (c.in_ok-used.ensures.found clean_b holds.schema holds.typed.movements holds.typed.lines)
+    (c.in_ok-used.ensures.found clean_b holds.schema holds.trees.typed.movements holds.trees.typed.lines)
   where
     a : State
     a = state g.S.Store c.args.tx.now.conn.now

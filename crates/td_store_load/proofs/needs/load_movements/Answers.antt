@@ -1,5 +1,4 @@
 use Rattle.std.proofs.Common.{◌∙◌, sym}
-use Rattle.sqlite.specs.Held.{state}
 use Rattle.td_store_load.proofs.needs.load_movements.Goals as goal
 
 pub returns-clause-loaded : goal.returns-clause-loaded

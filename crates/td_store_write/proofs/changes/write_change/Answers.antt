@@ -2,9 +2,16 @@ use Rattle.std.proofs.Common.{sym, subst}
 use Rattle.std.specs.Prelude.{OnOk}
 use Rattle.sqlite.specs.Held.{state}
 use Rattle.td_store_write.specs.Written.{WritesChange}
-use Rattle.td_store_write.proofs.AsSaid.{added_written, declared_written, moved_written, removed_written, terms_written}
+use Rattle.td_store_write.proofs.AsSaid.{added_written, declared_written, moved_written, registered_written, removed_written, terms_written}
 use Rattle.typed_sql.proofs.Leaving.{on_ok}
 use Rattle.td_store_write.proofs.changes.write_change.Goals as goal
+
+pub returns-in-Registered-clause-written : goal.returns-in-Registered-clause-written
+returns-in-Registered-clause-written g c clean =
+    let old = state g.S.Store c.args.tx.now.conn.now in
+    let new = state g.S.Store c.insert_holder.new.tx.conn.now in
+    subst (λ change. OnOk c.insert_holder.result (WritesChange c.args.country change old new)) (sym c.in-Registered.is)
+    (on_ok c.insert_holder.result (registered_written c.args.country c.in-Registered.row old new) (c.insert_holder.ensures.inserted clean))
 
 pub returns-in-Declared-clause-written : goal.returns-in-Declared-clause-written
 returns-in-Declared-clause-written g c clean =

@@ -1,6 +1,10 @@
 use Rattle.sqlite.specs.Held.{state}
 use Rattle.td_store.proofs.Holding.{holds_own}
+use Rattle.td_store.proofs.Leaving.{leaves_shown}
 use Rattle.td_store.proofs.desk.SqlDesk.close.Goals as goal
 
 pub returns-clause-holds : goal.returns-clause-holds
 returns-clause-holds g c = holds_own c.self.inside.country (state g.S.Store c.self.inside.conn) c.self.invariant.0
+
+pub returns-clause-leaves : goal.returns-clause-leaves
+returns-clause-leaves g c = ?
