@@ -1,15 +1,13 @@
 //! Desks over files, made and opened.
-ghost use Rattle.std.specs.Prelude.{◌≡◌, Some, IfOk, IfErr, option_map};
-ghost use Rattle.sqlite.specs.Files.{file_state};
+ghost use Rattle.std.specs.Prelude.{◌≡◌, Some, IfOk, IfErr, OnErr};
 ghost use Rattle.sqlite.specs.WalFiles.{image_at};
-ghost use Rattle.td_files.specs.Found.{IsClean, IsOpenedDesk, IsCreatedDesk, IsToldOf, IsUnmade, shown};
+ghost use Rattle.td_files.specs.Found.{IsClean, IsOpenedDesk, IsCreatedDesk, IsLeftAsFound, IsToldOf, IsUnmade};
 ghost use Rattle.td_files.specs.declared.desks.DeskFault.TheVariants as fault;
 
 use crate::files::{OneFile, open_file};
 use sqlite::{Error, ErrorCode, FileFrom, FileStore, Start};
 use td_base::Country;
-use td_desk::empty_desk_is_tied;
-use td_store::{OpenFault, Refused, SqlDesk};
+use td_store::{OpenFault, Refused, SqlDesk, what_a_crash_leaves_opens};
 use thiserror::Error as AsError;
 
 /// A desk over a file of the machine. `S` stands for what the file held as it was opened.
@@ -50,16 +48,18 @@ impl<S: Start> OneFile<S, FileStore<FileFrom<S>>> {
 
     /// Opens the desk of an office of that country over the file at the path, which has to be there and have a desk's tables.
     /// `File`: it isn't there, can't be opened, is no database, or this file was opened before; `Refused`: its database is
-    /// refused by `SqlDesk::open`, there was no memory, or another program has the file open (`Store`). No row in the file is
-    /// changed; a file of no bytes becomes a database without tables.
+    /// refused by `SqlDesk::open`, there was no memory, or another program has the file open (`Store`). With a refusal the
+    /// connection is kept, and shows what was found: no row in the file is changed; a file of no bytes becomes a database without
+    /// tables.
     pub fn open_desk(
         &mut self,
         rt: &HostRuntime,
         country: Country,
         path: &str,
     ) -> Result<FileDesk<S>, DeskFault>
-        ensures kept { IfOk result (λ desk. IsClean (shown (file_state desk)) → IsOpenedDesk (image_at S.Start) country (shown (file_state desk))) }
-        ensures fault { IfErr result (IsToldOf (image_at S.Start) country (option_map (λ c. shown (file_state c)) self.new.connection)) }
+        ensures kept { IfOk result (λ desk. IsClean desk → IsOpenedDesk (image_at S.Start) country desk) }
+        ensures fault { IfErr result (IsToldOf (image_at S.Start) country self.new.connection) }
+        ensures left { OnErr result (IsLeftAsFound (image_at S.Start) self.old.connection self.new.connection) }
     {
         let Some(start) = self.start.take() else {
             return Err(DeskFault::File);
@@ -68,6 +68,7 @@ impl<S: Start> OneFile<S, FileStore<FileFrom<S>>> {
             Ok(conn) => conn,
             Err(error) => return Err(file_fault(&error)),
         };
+        what_a_crash_leaves_opens::<FileStore<FileFrom<S>>>();
         match SqlDesk::open(rt.alloc(), conn, country) {
             Ok(desk) => Ok(desk),
             Err(refused) => Err(self.turn_away(refused)),
@@ -77,17 +78,17 @@ impl<S: Start> OneFile<S, FileStore<FileFrom<S>>> {
     /// Makes a desk of an office of that country, which has no holders yet, in the file at the path: a new file, or one whose
     /// database has no table. `File`: it can't be made or opened, is no database, or this file was opened before;
     /// `Refused(Store)`: it has a table, another program has it open, or the store failed; `Refused(NoMemory)`: want of memory.
+    /// With a refusal the connection is kept, and shows what was found.
     pub fn make_desk(
         &mut self,
         rt: &HostRuntime,
         country: Country,
         path: &str,
     ) -> Result<FileDesk<S>, DeskFault>
-        ensures made { IfOk result (λ desk. IsClean (shown (file_state desk)) → IsCreatedDesk (image_at S.Start) country (shown (file_state desk))) }
+        ensures made { IfOk result (λ desk. IsClean desk → IsCreatedDesk (image_at S.Start) country desk) }
         ensures fault { IfErr result IsUnmade }
+        ensures left { OnErr result (IsLeftAsFound (image_at S.Start) self.old.connection self.new.connection) }
     {
-        empty_desk_is_tied();
-        let _letters = country.as_bytes();
         let Some(start) = self.start.take() else {
             return Err(DeskFault::File);
         };

@@ -1,11 +1,12 @@
 //! The file of the machine that a program opens, by its path.
-ghost use Rattle.std.specs.Prelude.{◌≡◌, false, Some, None, IfOk, OnErr};
-ghost use Rattle.sqlite.specs.Files.{file_state};
+ghost use Rattle.std.specs.Prelude.{◌≡◌, false, None, IfOk, IfSome};
+ghost use Rattle.sqlite.specs.Files.{IsOpened, file_state};
 ghost use Rattle.sqlite.specs.Start.{FindsIn};
-ghost use Rattle.sqlite.specs.State.{HasCleanDisk, Opens};
+ghost use Rattle.sqlite.specs.State.{HasCleanDisk};
 ghost use Rattle.sqlite.specs.WalFiles.{image_at};
+ghost use Rattle.td_files.specs.Closed.{IsClosedFrom};
 
-use sqlite::{Alter, Connection, Error, ErrorCode, FileFrom, FileStore, Start};
+use sqlite::{Alter, Connection, Error, ErrorCode, FileFrom, FileStore, Files, Start};
 use std::fs;
 
 /// A connection to the database in a file of the machine. `S` stands for what the file held as it was opened.
@@ -23,6 +24,9 @@ pub struct OneFile<S, T: Alter> {
 /// One file of the machine. `S` stands for what it held as it was opened.
 pub type DeskFile<S> = OneFile<S, FileStore<FileFrom<S>>>;
 
+/// What a file that was open is closed to: its log and its database file, or why the one wasn't copied into the other.
+pub type Closed<S> = Result<Files<FileFrom<S>>, (Error, FileStore<FileFrom<S>>)>;
+
 impl<S: Start> OneFile<S, FileStore<FileFrom<S>>> {
     /// A file that isn't opened yet.
     pub fn new(start: S) -> Self
@@ -35,14 +39,19 @@ impl<S: Start> OneFile<S, FileStore<FileFrom<S>>> {
     }
 
     /// Closes the file, if it is open: what its log holds is copied into it. Whatever was committed is kept, also where that
-    /// fails: it is in the log then, and the next open finds it there.
-    pub fn close(self) {
+    /// fails: it is in the log then, and the next open finds it there. It hands back the two files, or why they weren't copied and
+    /// the store over them, so that contracts can say what is in them; they are closed as they are dropped.
+    pub fn close(self) -> Option<Closed<S>>
+        ensures none { self.connection ≡ None → result ≡ None }
+        ensures closed { IfSome self.connection (λ c. IfSome result (IsClosedFrom c)) }
+    {
         let OneFile {
             start: _,
             connection,
         } = self;
-        if let Some(connection) = connection {
-            let _copied = connection.close();
+        match connection {
+            Some(connection) => Some(connection.close_files()),
+            None => None,
         }
     }
 }
@@ -57,7 +66,7 @@ pub(crate) fn open_file<S: Start>(
     is_new: bool,
     start: S,
 ) -> Result<FileConnection<S>, Error>
-    ensures open { IfOk result (λ conn. HasCleanDisk (file_state conn) → Opens (file_state conn)) }
+    ensures open { IfOk result (λ conn. HasCleanDisk (file_state conn) → IsOpened conn) }
     ensures found { IfOk result (λ conn. HasCleanDisk (file_state conn) → FindsIn (image_at S.Start) (file_state conn)) }
     ensures ended { IfOk result (λ conn. conn.in_transaction ≡ false) }
 {
