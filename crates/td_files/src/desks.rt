@@ -1,13 +1,13 @@
 //! Desks over files, made and opened.
 ghost use Rattle.std.specs.Prelude.{◌≡◌, Some, IfOk, IfErr, OnErr};
 ghost use Rattle.sqlite.specs.WalFiles.{image_at};
-ghost use Rattle.td_files.specs.Found.{IsClean, IsOpenedDesk, IsCreatedDesk, IsKeptDesk, IsLeftAsFound, IsToldOf, IsUnmade};
+ghost use Rattle.td_files.specs.Found.{IsClean, IsOpenedDesk, IsCreatedDesk, IsLeftAsFound, IsToldOf, IsUnmade};
 ghost use Rattle.td_files.specs.declared.desks.DeskFault.TheVariants as fault;
 
 use crate::files::{OneFile, open_file};
 use sqlite::{Error, ErrorCode, FileFrom, FileStore, Start};
 use td_base::Country;
-use td_store::{OpenFault, Refused, SqlDesk};
+use td_store::{OpenFault, Refused, SqlDesk, what_a_crash_leaves_opens};
 use thiserror::Error as AsError;
 
 /// A desk over a file of the machine. `S` stands for what the file held as it was opened.
@@ -48,8 +48,9 @@ impl<S: Start> OneFile<S, FileStore<FileFrom<S>>> {
 
     /// Opens the desk of an office of that country over the file at the path, which has to be there and have a desk's tables.
     /// `File`: it isn't there, can't be opened, is no database, or this file was opened before; `Refused`: its database is
-    /// refused by `SqlDesk::open`, there was no memory, or another program has the file open (`Store`). With an error the
-    /// connection that is handed back shows what the file held; a file of no bytes becomes a database without tables.
+    /// refused by `SqlDesk::open`, there was no memory, or another program has the file open (`Store`). With a refusal the
+    /// connection is kept, and shows what was found: no row in the file is changed; a file of no bytes becomes a database without
+    /// tables.
     pub fn open_desk(
         &mut self,
         rt: &HostRuntime,
@@ -67,6 +68,7 @@ impl<S: Start> OneFile<S, FileStore<FileFrom<S>>> {
             Ok(conn) => conn,
             Err(error) => return Err(file_fault(&error)),
         };
+        what_a_crash_leaves_opens::<FileStore<FileFrom<S>>>();
         match SqlDesk::open(rt.alloc(), conn, country) {
             Ok(desk) => Ok(desk),
             Err(refused) => Err(self.turn_away(refused)),
@@ -76,7 +78,7 @@ impl<S: Start> OneFile<S, FileStore<FileFrom<S>>> {
     /// Makes a desk of an office of that country, which has no holders yet, in the file at the path: a new file, or one whose
     /// database has no table. `File`: it can't be made or opened, is no database, or this file was opened before;
     /// `Refused(Store)`: it has a table, another program has it open, or the store failed; `Refused(NoMemory)`: want of memory.
-    /// With an error the connection that is handed back shows what the file held.
+    /// With a refusal the connection is kept, and shows what was found.
     pub fn make_desk(
         &mut self,
         rt: &HostRuntime,
@@ -100,11 +102,9 @@ impl<S: Start> OneFile<S, FileStore<FileFrom<S>>> {
         }
     }
 
-    /// Takes the desk's connection back, once its job is done: it is to a desk's file, as far as its disk is clean and no fault
-    /// has shut it.
+    /// Takes the desk's connection back, once its job is done.
     pub fn keep(&mut self, desk: FileDesk<S>)
-        ensures there { self.new.connection ≡ Some desk }
-        ensures kept { IsKeptDesk desk }
+        ensures { self.new.connection ≡ Some desk }
     {
         self.connection = Some(desk.close());
     }

@@ -1,10 +1,10 @@
 //! The file of the machine that a program opens, by its path.
-ghost use Rattle.std.specs.Prelude.{◌≡◌, false, Some, None, IfOk, OnErr};
-ghost use Rattle.sqlite.specs.Files.{file_state};
+ghost use Rattle.std.specs.Prelude.{◌≡◌, false, None, IfOk, IfSome};
+ghost use Rattle.sqlite.specs.Files.{IsOpened, file_state};
 ghost use Rattle.sqlite.specs.Start.{FindsIn};
-ghost use Rattle.sqlite.specs.State.{HasCleanDisk, IsLive, Opens};
+ghost use Rattle.sqlite.specs.State.{HasCleanDisk};
 ghost use Rattle.sqlite.specs.WalFiles.{image_at};
-ghost use Rattle.td_files.specs.Found.{IsClosedAs};
+ghost use Rattle.td_files.specs.Closed.{IsClosedFrom};
 
 use sqlite::{Alter, Connection, Error, ErrorCode, FileFrom, FileStore, Files, Start};
 use std::fs;
@@ -21,11 +21,11 @@ pub struct OneFile<S, T: Alter> {
     pub connection: Option<Connection<T>>,
 }
 
-/// What is left of a file that was closed, if it was open.
-pub type Closed<S> = Option<Result<Files<FileFrom<S>>, (Error, FileStore<FileFrom<S>>)>>;
-
 /// One file of the machine. `S` stands for what it held as it was opened.
 pub type DeskFile<S> = OneFile<S, FileStore<FileFrom<S>>>;
+
+/// What a file that was open is closed to: its log and its database file, or why the one wasn't copied into the other.
+pub type Closed<S> = Result<Files<FileFrom<S>>, (Error, FileStore<FileFrom<S>>)>;
 
 impl<S: Start> OneFile<S, FileStore<FileFrom<S>>> {
     /// A file that isn't opened yet.
@@ -39,11 +39,11 @@ impl<S: Start> OneFile<S, FileStore<FileFrom<S>>> {
     }
 
     /// Closes the file, if it is open: what its log holds is copied into it. Whatever was committed is kept, also where that
-    /// fails: it is in the log then, and the next open finds it there. What is handed back are the log and the file, which hold
-    /// what was committed last; or why the log wasn't copied, and the store.
-    pub fn close(self) -> Closed<S>
+    /// fails: it is in the log then, and the next open finds it there. It hands back the two files, or why they weren't copied and
+    /// the store over them, so that contracts can say what is in them; they are closed as they are dropped.
+    pub fn close(self) -> Option<Closed<S>>
         ensures none { self.connection ≡ None → result ≡ None }
-        ensures closed { (s : _) → self.connection ≡ Some s → IsClosedAs s result }
+        ensures closed { IfSome self.connection (λ c. IfSome result (IsClosedFrom c)) }
     {
         let OneFile {
             start: _,
@@ -66,8 +66,7 @@ pub(crate) fn open_file<S: Start>(
     is_new: bool,
     start: S,
 ) -> Result<FileConnection<S>, Error>
-    ensures open { IfOk result (λ conn. HasCleanDisk (file_state conn) → Opens (file_state conn)) }
-    ensures live { IfOk result (λ conn. IsLive (file_state conn)) }
+    ensures open { IfOk result (λ conn. HasCleanDisk (file_state conn) → IsOpened conn) }
     ensures found { IfOk result (λ conn. HasCleanDisk (file_state conn) → FindsIn (image_at S.Start) (file_state conn)) }
     ensures ended { IfOk result (λ conn. conn.in_transaction ≡ false) }
 {
@@ -75,11 +74,7 @@ pub(crate) fn open_file<S: Start>(
         return Err(CANNOT_OPEN);
     }
     match Connection::open_from(rt, path, false, start) {
-        Ok(conn) => {
-            // For its clause: what is open is a database.
-            let _schema = conn.schema();
-            Ok(conn)
-        }
+        Ok(conn) => Ok(conn),
         Err((error, _)) => Err(error),
     }
 }

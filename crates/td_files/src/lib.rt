@@ -5,5 +5,5 @@ mod desks;
 mod files;
 
 pub use desks::{DeskFault, FileDesk};
-pub use files::{DeskFile, FileConnection, OneFile};
+pub use files::{Closed, DeskFile, FileConnection, OneFile};
 pub use td_store::OpenFault;

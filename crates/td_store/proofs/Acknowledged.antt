@@ -28,9 +28,9 @@ is_kept g desk c leaves trees left =
     subst (λ x. AreTreesOf x trees) (leaves.only found.0 (trees, left, found.1)) found.1
 
 pub is_kept_meanwhile : {S : Type 0} (g : Ghosts S) → AcknowledgedIsKeptMeanwhile g
-is_kept_meanwhile g desk new c added leaves adds trees left =
+is_kept_meanwhile g desk new c next leaves adds trees left =
     let found = adds.recovers leaves.recovers trees left in
     elim (adds.outcomes found.0 (trees, left, found.1)) [
       | inl before ↦ inl (subst (λ x. AreTreesOf x trees) (leaves.only found.0 before) found.1)
-      | inr more ↦ inr (found.0, more, found.1)
+      | inr more ↦ inr (subst (λ x. AreTreesOf x trees) more found.1)
     ]

@@ -1,15 +1,19 @@
 -- What a crash leaves of a desk over a file: after its calls, and of what they add.
-use Rattle.std.proofs.Common.{◌≡◌, ◌∙◌, ap, inl, inr, subst, sym}
+use Rattle.std.proofs.Common.{◌≡◌, ◌∙◌, true, ap, arith, inl, inr, refl, subst, sym}
 use Rattle.std.specs.Prelude.{IsTrue}
 use Rattle.sqlite_trees.specs.declared.store.Store.{Ghosts}
 use Rattle.sqlite_trees.specs.Tree.{Trees}
 use Rattle.sqlite.specs.Effect.{Database}
 use Rattle.sqlite.specs.Held.{Held, state}
-use Rattle.sqlite.specs.State.{State, HasCleanDisk, Survives}
+use Rattle.sqlite.specs.State.{State, HasCleanDisk, IsUnchanged, Survives}
 use Rattle.sqlite.proofs.Callers.{survives_begin}
 use Rattle.sqlite.proofs.StateLemmas.{survives_then, survives_weaker}
 use Rattle.td_desk.specs.Content.{Content}
 use Rattle.td_desk.specs.View.{AddsAtMost, IsSettled, LeavesOnly}
+use Rattle.td_schema.specs.Tables.{desk_schema}
+use Rattle.typed_sql.proofs.OnlyRead.{stays_on}
+use Rattle.typed_sql.specs.Reading.{Reads, StaysInside}
+use Rattle.typed_sql.specs.Writing.{HasSchema}
 use Rattle.td_store_rows.specs.StoreTables.{AreTreesOf, HoldsContent, content_in}
 use Rattle.td_store.specs.Kept.{CountsFaults, CrashLeavesShown, sql_view}
 use Rattle.td_store.proofs.Holding.{holds_shown, one_content}
@@ -38,8 +42,34 @@ read_commits g old read new settled reading still committing =
     (survives_begin g old new o.may_leave
     (survives_then begun read new (λ _. ⊥) (λ trees. trees ≡ read.now.trees) o.may_leave (λ _ trees none. absurd none)
     (λ clean trees is.
-    let there = still clean in
+    let there = still (omega (arith, clean, committing.clean)) in
     (settled there.0 trees).1 (is ∙ ap (λ (d : Database). d.trees) there.1)) reading committing))
+
+-- so where what it read shows that
+pub found_commits : {S : Type 0} (g : Ghosts S) (old : Held S) (read new : State) → CrashLeavesShown (state g old)
+    → (HasCleanDisk (state g old) → HasSchema (state g old) desk_schema)
+    → Reads desk_schema true (state g (record old { in_transaction = true })) read
+    → (HasCleanDisk read → HasSchema (state g old) desk_schema → IsTrue (state g old).is_open)
+    → Survives read new (λ trees. trees ≡ read.now.trees) → Survives (state g old) new (λ _. ⊥)
+found_commits g old read new settled tables reads shown committing =
+    read_commits g old read new settled reads.within.survives
+    (λ clean.
+    let has = tables (omega (arith, clean, reads.within.survives.clean)) in
+    (shown clean has, (reads.still clean refl has).now_is)) committing
+
+-- or where it was seen after that
+pub seen_commits : {S : Type 0} (g : Ghosts S) (old : Held S) (read seen new : State) → CrashLeavesShown (state g old)
+    → (HasCleanDisk (state g old) → HasSchema (state g old) desk_schema)
+    → Reads desk_schema true (state g (record old { in_transaction = true })) read → StaysInside true read seen
+    → (HasCleanDisk seen → IsUnchanged read seen)
+    → Survives seen new (λ trees. trees ≡ seen.now.trees) → Survives (state g old) new (λ _. ⊥)
+seen_commits g old read seen new settled tables reads within still committing =
+    read_commits g old seen new settled (stays_on reads.within within).survives
+    (λ clean.
+    let clean_read : HasCleanDisk read = omega (arith, clean, within.survives.clean) in
+    let same = still clean in
+    let only = reads.still clean_read refl (tables (omega (arith, clean_read, reads.within.survives.clean))) in
+    (only.was_open same.0.was_open, same.0.now_is ∙ only.now_is)) committing
 
 module _ {S : Type 0} (g : Ghosts S) where
   -- a call adds the contents of the desks whose trees it may commit

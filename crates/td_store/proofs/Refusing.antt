@@ -40,10 +40,11 @@ holds country s has obeys desk = record {
 
 -- so an open connection that sees that database holds the content of its trees, which is of that country
 pub desk_there : (country : List ℕ) (db : Database) (s : State) → TellsDatabase country db None → s.now ≡ db → IsLive s
-    → IsTrue s.is_open → HoldsContent (content_in s.now.trees) s × ((content_in s.now.trees).country ≡ country)
+    → IsTrue s.is_open
+    → HoldsContent (content_in s.now.trees) s × ((content_in s.now.trees).country ≡ country) × HasOfficeRow newest_version country s.now.trees
 desk_there country db s told same live is =
     let desk = of_desk country s.now (subst (λ d. TellsDatabase country d None) (sym same) told) in
-    (holds country s desk.0 (live is).0 desk.1, ap country_in desk.1.office)
+    (holds country s desk.0 (live is).0 desk.1, ap country_in desk.1.office, desk.1.office)
 
 -- another country was refused for what the office's own row says
 other_there : (country : List ℕ) (db : Database) → TellsDatabase country db (Some OtherCountry)

@@ -1,5 +1,5 @@
 -- Laws of what a crash leaves of a desk over a store's file.
-use Rattle.std.specs.Prelude.{◌⊎◌}
+use Rattle.std.specs.Prelude.{◌≡◌, ◌⊎◌}
 use Rattle.sqlite_trees.specs.declared.store.Store.{Ghosts}
 use Rattle.sqlite_trees.specs.Tree.{Trees}
 use Rattle.sqlite.specs.Held.{Held, state}
@@ -22,10 +22,9 @@ AcknowledgedIsKept {S} g =
     (desk : Held S) (c : Content) → LeavesOnly (sql_view g) desk c
     → (trees : Trees) → (state g desk).may_leave trees → AreTreesOf c trees
 
--- And so it is throughout calls that add these contents at most: whatever a crash leaves is a desk's of the content before them,
--- or of one of these.
+-- And so it is throughout a call that adds one content at most: whatever a crash leaves is a desk's of the content before it, or of
+-- that one.
 abbrev pub AcknowledgedIsKeptMeanwhile : {S : Type 0} → Ghosts S → Type 0
 AcknowledgedIsKeptMeanwhile {S} g =
-    (desk new : Held S) (c : Content) (added : Content → Type 0) → LeavesOnly (sql_view g) desk c
-    → AddsAtMost (sql_view g) added desk new
-    → (trees : Trees) → (state g new).may_leave trees → AreTreesOf c trees ⊎ ((x : Content) × added x × AreTreesOf x trees)
+    (desk new : Held S) (c next : Content) → LeavesOnly (sql_view g) desk c → AddsAtMost (sql_view g) (λ x. x ≡ next) desk new
+    → (trees : Trees) → (state g new).may_leave trees → AreTreesOf c trees ⊎ AreTreesOf next trees

@@ -1,5 +1,5 @@
 //! Which fault an error of the database is told as.
-ghost use Rattle.std.specs.Prelude.{◌≡◌, ◌≢◌, ◌⊎◌, false, IsTrue};
+ghost use Rattle.std.specs.Prelude.{◌≡◌, ◌≢◌, ◌⊎◌, false, IsTrue, OnOk};
 ghost use Rattle.sqlite.specs.Held.{state};
 ghost use Rattle.sqlite.specs.State.{HasCleanDisk, Survives};
 ghost use Rattle.td_desk.specs.declared.fault.Fault.TheVariants as fault;
@@ -12,22 +12,21 @@ use sqlite_trees::store::Alter;
 use td_desk::Fault;
 use typed_sql::see_open;
 
-/// Whether the connection still answers. No memory is taken for it, once it was asked before.
-fn answers<S: Alter>(conn: &mut Connection<S>) -> bool
+/// Asks the connection whether it still answers. No memory is taken for it, once it was asked before. An error is the database's
+/// own.
+fn ask<S: Alter>(conn: &mut Connection<S>) -> Result<(), Error>
     requires { conn.old.in_transaction ≡ false }
     ensures ended { conn.new.in_transaction ≡ false }
     ensures live { HasCleanDisk (state S.Store conn.new) → IsTrue (state S.Store conn.new).is_open → IsTrue (state S.Store conn.old).is_open }
-    ensures shown { HasCleanDisk (state S.Store conn.new) → IsTrue result → IsTrue (state S.Store conn.new).is_open }
+    ensures shown { HasCleanDisk (state S.Store conn.new) → OnOk result (IsTrue (state S.Store conn.new).is_open) }
     ensures same { HasCleanDisk (state S.Store conn.new) → IsTrue (state S.Store conn.new).is_open
         → (state S.Store conn.new).now ≡ (state S.Store conn.old).now }
     ensures crash { Survives (state S.Store conn.old) (state S.Store conn.new) (λ _. ⊥) }
 {
     see_settled(conn);
     let mut tx = conn.transaction();
-    if see_open(&mut tx).is_err() {
-        return false;
-    }
-    tx.commit().is_ok()
+    see_open(&mut tx)?;
+    tx.commit()
 }
 
 /// The fault that an error of a call of the database is told as: want of memory where the error says so and the connection
@@ -42,7 +41,7 @@ pub(crate) fn fault_of<S: Alter>(conn: &mut Connection<S>, error: &Error) -> Fau
         → (state S.Store conn.new).now ≡ (state S.Store conn.old).now }
     ensures crash { Survives (state S.Store conn.old) (state S.Store conn.new) (λ _. ⊥) }
 {
-    if matches!(error, Error::SqliteFailure(ErrorCode::OutOfMemory)) && answers(conn) {
+    if matches!(error, Error::SqliteFailure(ErrorCode::OutOfMemory)) && ask(conn).is_ok() {
         return Fault::NoMemory;
     }
     Fault::Store

@@ -11,8 +11,8 @@ pub fn what_a_crash_leaves_opens<S: Alter>()
 {}
 
 /// A decision that was acknowledged is kept: after `Ok` of a `write`, and while later calls change no row, whatever a crash leaves
-/// is a desk's file of the content with it (its clauses `written` and `settled` say which content that is); and during the next
-/// calls such a file, or one of the content that they add.
+/// is a desk's file of the content with it (its clauses `written` and `settled` say which content that is); and during a
+/// further `write` such a file, or one of the content after that change.
 pub fn acknowledged_decisions_are_kept<S: Alter>()
     ensures kept { AcknowledgedIsKept S.Store }
     ensures meanwhile { AcknowledgedIsKeptMeanwhile S.Store }

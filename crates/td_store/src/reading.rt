@@ -44,8 +44,8 @@ pub(crate) fn read<S: Alter>(
 {
     see_settled(conn);
     let mut tx = conn.transaction();
-    see_open(&mut tx)?;
     let loaded = load(alloc, &mut tx, country, owner, needs)?;
+    see_open(&mut tx)?;
     tx.commit()?;
     Ok(loaded)
 }

@@ -1,5 +1,5 @@
 mod Written
 mod Changed
 mod AsSaid
-mod After
+pub mod After
 mod Made

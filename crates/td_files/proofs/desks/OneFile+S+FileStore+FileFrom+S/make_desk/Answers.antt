@@ -2,7 +2,7 @@ use Rattle.std.proofs.Common.{subst, sym}
 use Rattle.sqlite.specs.Files.{file_state}
 use Rattle.sqlite.specs.WalFiles.{image_at}
 use Rattle.td_store_rows.specs.StoreTables.{HoldsContent}
-use Rattle.td_files.proofs.Opening.{as_found, clean_before, found_there, unmade_at}
+use Rattle.td_files.proofs.Opening.{clean_before, found_there, left_as_found, unmade_at}
 use Rattle.td_files.proofs.desks.OneFile+S+FileStore+FileFrom+S.make_desk.Goals as goal
 
 pub returns-in-Ok-create-clause-made : goal.returns-in-Ok-create-clause-made
@@ -14,11 +14,11 @@ returns-in-Ok-create-clause-made g c = λ clean.
     record {
       live = (made.live clean).1;
       before = found.now;
-      found = found_there (image_at g.S.Start) found (c.in-Ok.ensures.open was) (c.in-Ok.ensures.found was);
+      found = found_there (image_at g.S.Start) found (c.in-Ok.ensures.open was).0 (c.in-Ok.ensures.found was);
       blank = λ taken. made.taken taken;
-      holds = subst (λ x. HoldsContent x desk) (sym (made.empty clean)) (made.made clean);
       empty = made.empty clean;
-      settled = made.leaves clean;
+      holds = subst (λ x. HoldsContent x desk) (sym (made.empty clean)) (made.made clean);
+      leaves = made.leaves clean (made.live clean).1;
     }
 
 pub returns-in-Err-create-clause-fault : goal.returns-in-Err-create-clause-fault
@@ -29,7 +29,6 @@ returns-in-Err-create-clause-left g c =
     let found = file_state c.in-Ok.conn in
     let refused = c.in-Err-create.refused in
     let told = c.in-Err-create.ensures in
-    as_found (image_at g.S.Start) c.in-Ok.conn refused.connection _ _
-    (λ clean. let was = clean_before found (file_state refused.connection) _ told.crash clean in
-    found_there (image_at g.S.Start) found (c.in-Ok.ensures.open was) (c.in-Ok.ensures.found was))
-    told.same told.settled c.turn_away.ensures.handed
+    left_as_found (image_at g.S.Start) found _ refused.connection told.crash
+    (λ was. found_there (image_at g.S.Start) found (c.in-Ok.ensures.open was).0 (c.in-Ok.ensures.found was))
+    told.same told.settled _ _ c.turn_away.ensures.handed

@@ -7,4 +7,6 @@ pub returns-clause-holds : goal.returns-clause-holds
 returns-clause-holds g c = holds_own c.self.inside.country (state g.S.Store c.self.inside.conn) c.self.invariant.0
 
 pub returns-clause-leaves : goal.returns-clause-leaves
-returns-clause-leaves g c = ?
+returns-clause-leaves g c = λ clean.
+    leaves_shown g.S.Store c.self.inside.conn c.see_settled.ensures.settled
+    (λ is. let it = c.self.invariant.0 clean is in (it.0, it.1))

@@ -24,4 +24,7 @@ returns-clause-made g c =
     rw c.over.ensures (λ clean. c.in_default.ensures.created clean none)
 
 pub returns-clause-leaves : goal.returns-clause-leaves
-returns-clause-leaves g c = ?
+returns-clause-leaves g c =
+    let none : IsEmptyOf no_schema (state g.S.Store c.args.conn).now = search rules in
+    rw c.over.ensures (λ clean. leaves_shown g.S.Store c.create_tables.new.conn c.see_settled-2.ensures.settled
+    (λ is. (empty_content c.args.country, c.in_default.ensures.created clean none)))

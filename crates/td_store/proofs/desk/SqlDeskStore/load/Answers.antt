@@ -24,3 +24,85 @@ returns-in-Ok-clause-loaded g c = λ clean is sound.
     let says : (x : Content) → HoldsContent x a → x.country ≡ c.self.inside.country → IsLoaded (kept_for c.args.owner x) (need_said c.args.needs.now) c.in-Ok.loaded =
     rw c.self.view_is at (c.in-Ok.ensures.loaded clean) in
     loaded_there c.args.owner (need_said c.args.needs.now) a was.0 c.in-Ok.loaded was.1 (says was.0 was.1 was.2)
+
+pub read-requires-clause-tables : goal.read-requires-clause-tables
+read-requires-clause-tables g c = schema_there c.self.inside.country (state g.S.Store c.self.inside.conn) c.self.invariant.0
+
+pub returns-in-Ok-clause-crash : goal.returns-in-Ok-clause-crash
+returns-in-Ok-clause-crash g c = λ clean.
+    adds_none g.S.Store c.args.self.now c.read.new.conn (rw c.self.view_is at c.read.ensures.crash) clean
+
+pub returns-in-Ok-clause-settled : goal.returns-in-Ok-clause-settled
+returns-in-Ok-clause-settled g c = λ clean.
+    let country = c.self.inside.country in
+    let a : State = state g.S.Store c.args.self.now in
+    let b : State = state g.S.Store c.read.new.conn in
+    let desk : IsDeskOf country a = rw c.self.view_is at c.self.invariant.0 in
+    let survives : Survives a b (λ _. ⊥) = rw c.self.view_is at c.read.ensures.crash in
+    let live : HasCleanDisk b → IsTrue b.is_open → IsTrue a.is_open = rw c.self.view_is at c.read.ensures.live in
+    let same : HasCleanDisk b → IsTrue b.is_open → b.now ≡ a.now = rw c.self.view_is at c.read.ensures.same in
+    leaves_shown g.S.Store c.read.new.conn c.see_settled.ensures.settled
+    (λ is. let it = desk_then country a b (λ _. ⊥) desk survives live same clean is in (it.0, it.1))
+
+pub returns-in-Ok-clause-call : goal.returns-in-Ok-clause-call
+returns-in-Ok-clause-call g c =
+    let a : State = state g.S.Store c.args.self.now in
+    let b : State = state g.S.Store c.read.new.conn in
+    counts_faults a b (λ _. ⊥) (rw c.self.view_is at c.read.ensures.crash)
+
+pub invariant_of-self : goal.invariant_of-self
+invariant_of-self g c =
+    let country = c.self.inside.country in
+    let a : State = state g.S.Store c.args.self.now in
+    let b : State = state g.S.Store c.read.new.conn in
+    let desk : IsDeskOf country a = rw c.self.view_is at c.self.invariant.0 in
+    let survives : Survives a b (λ _. ⊥) = rw c.self.view_is at c.read.ensures.crash in
+    let live : HasCleanDisk b → IsTrue b.is_open → IsTrue a.is_open = rw c.self.view_is at c.read.ensures.live in
+    let same : HasCleanDisk b → IsTrue b.is_open → b.now ≡ a.now = rw c.self.view_is at c.read.ensures.same in
+    (desk_then country a b (λ _. ⊥) desk survives live same, c.read.ensures.ended)
+
+pub returns-in-Err-clause-crash : goal.returns-in-Err-clause-crash
+returns-in-Err-clause-crash g c = λ clean.
+    let a : State = state g.S.Store c.args.self.now in
+    let b : State = state g.S.Store c.read.new.conn in
+    let e : State = state g.S.Store c.fault_of-fault.new.conn in
+    let survives : Survives a b (λ _. ⊥) = rw c.self.view_is at c.read.ensures.crash in
+    adds_none g.S.Store c.args.self.now c.fault_of-fault.new.conn
+    (then_asked a b e (λ _. ⊥) survives c.fault_of-fault.ensures.crash) clean
+
+pub returns-in-Err-clause-settled : goal.returns-in-Err-clause-settled
+returns-in-Err-clause-settled g c = λ clean.
+    let country = c.self.inside.country in
+    let a : State = state g.S.Store c.args.self.now in
+    let b : State = state g.S.Store c.read.new.conn in
+    let desk : IsDeskOf country a = rw c.self.view_is at c.self.invariant.0 in
+    let survives : Survives a b (λ _. ⊥) = rw c.self.view_is at c.read.ensures.crash in
+    let live : HasCleanDisk b → IsTrue b.is_open → IsTrue a.is_open = rw c.self.view_is at c.read.ensures.live in
+    let same : HasCleanDisk b → IsTrue b.is_open → b.now ≡ a.now = rw c.self.view_is at c.read.ensures.same in
+    let e : State = state g.S.Store c.fault_of-fault.new.conn in
+    let asked = c.fault_of-fault.ensures in
+    let desk_b = desk_then country a b (λ _. ⊥) desk survives live same in
+    leaves_shown g.S.Store c.fault_of-fault.new.conn c.see_settled-in-Err.ensures.settled
+    (λ is. let it = desk_then country b e (λ _. ⊥) desk_b asked.crash asked.live asked.same clean is in (it.0, it.1))
+
+pub returns-in-Err-clause-call : goal.returns-in-Err-clause-call
+returns-in-Err-clause-call g c =
+    let a : State = state g.S.Store c.args.self.now in
+    let b : State = state g.S.Store c.read.new.conn in
+    let e : State = state g.S.Store c.fault_of-fault.new.conn in
+    let survives : Survives a b (λ _. ⊥) = rw c.self.view_is at c.read.ensures.crash in
+    counts_faults a e (λ _. ⊥) (then_asked a b e (λ _. ⊥) survives c.fault_of-fault.ensures.crash)
+
+pub invariant_of-self-in-Err : goal.invariant_of-self-in-Err
+invariant_of-self-in-Err g c =
+    let country = c.self.inside.country in
+    let a : State = state g.S.Store c.args.self.now in
+    let b : State = state g.S.Store c.read.new.conn in
+    let desk : IsDeskOf country a = rw c.self.view_is at c.self.invariant.0 in
+    let survives : Survives a b (λ _. ⊥) = rw c.self.view_is at c.read.ensures.crash in
+    let live : HasCleanDisk b → IsTrue b.is_open → IsTrue a.is_open = rw c.self.view_is at c.read.ensures.live in
+    let same : HasCleanDisk b → IsTrue b.is_open → b.now ≡ a.now = rw c.self.view_is at c.read.ensures.same in
+    let e : State = state g.S.Store c.fault_of-fault.new.conn in
+    let asked = c.fault_of-fault.ensures in
+    let desk_b = desk_then country a b (λ _. ⊥) desk survives live same in
+    (desk_then country b e (λ _. ⊥) desk_b asked.crash asked.live asked.same, asked.ended)
