@@ -24,4 +24,4 @@ pub made_ready : {D : Type 0} {disk : Ghosts D} (image : Image) (country : List 
 made_ready image country s made = λ clean. let is = made clean in (is.live, is.holds.trees.sound)
 
 pub kept_ready : {D : Type 0} {disk : Ghosts D} (image : Image) (country : List ℕ) (s : FileSeen disk) → BeginsKept image country s → IsReady over_file s
-kept_ready image country s kept = λ clean. let is = kept clean in (is.live, is.desk.content.sound)
+kept_ready image country s kept = λ clean. let is = kept clean in (is.live, is.holds.trees.sound)

@@ -37,12 +37,12 @@ module _ {S : Type 0} {disk : Ghosts S} where
 
   pub begun_sound : (is_new : Bool) (image : Image) (country : List ℕ) (s : FileSeen disk) → BeginsIn is_new image country s → IsClean s
       → IsSound (over_file.content s)
-  begun_sound false image country s begins clean = (begins clean).desk.content.sound
+  begun_sound false image country s begins clean = (begins clean).holds.trees.sound
   begun_sound true image country s begins clean = (begins clean).holds.trees.sound
 
   pub begun_settled : (is_new : Bool) (image : Image) (country : List ℕ) (s : FileSeen disk) → BeginsIn is_new image country s → IsClean s → IsSettled over_file s
-  begun_settled false image country s begins clean = (begins clean).settled
-  begun_settled true image country s begins clean = (begins clean).settled
+  begun_settled false image country s begins clean = λ live. (begins clean).leaves
+  begun_settled true image country s begins clean = λ live. (begins clean).leaves
 
   -- one stream
   pub one_stream : (country : List ℕ) (books : ℕ → Book) (es : List Exchange) (c : Content) → IsServed country books 0 es c → IsServedOver country books (es ∷ []) c

@@ -1,7 +1,7 @@
 //! Desks over files, made and opened.
 ghost use Rattle.std.specs.Prelude.{◌≡◌, Some, IfOk, IfErr, OnErr};
 ghost use Rattle.sqlite.specs.WalFiles.{image_at};
-ghost use Rattle.td_files.specs.Found.{IsClean, IsOpenedDesk, IsCreatedDesk, IsLeftAsFound, IsToldOf, IsUnmade};
+ghost use Rattle.td_files.specs.Found.{IsClean, IsOpenedDesk, IsCreatedDesk, IsKeptDesk, IsLeftAsFound, IsToldOf, IsUnmade};
 ghost use Rattle.td_files.specs.declared.desks.DeskFault.TheVariants as fault;
 
 use crate::files::{OneFile, open_file};
@@ -102,9 +102,11 @@ impl<S: Start> OneFile<S, FileStore<FileFrom<S>>> {
         }
     }
 
-    /// Takes the desk's connection back, once its job is done.
+    /// Takes the desk's connection back, once its job is done: it is to a desk's file, as far as its disk is clean and no fault
+    /// has shut it.
     pub fn keep(&mut self, desk: FileDesk<S>)
-        ensures { self.new.connection ≡ Some desk }
+        ensures there { self.new.connection ≡ Some desk }
+        ensures kept { IsKeptDesk desk }
     {
         self.connection = Some(desk.close());
     }

@@ -1,5 +1,5 @@
 //! The file of the machine that a program opens, by its path.
-ghost use Rattle.std.specs.Prelude.{◌≡◌, false, None, IfOk, IfSome};
+ghost use Rattle.std.specs.Prelude.{◌≡◌, false, None, IfOk, IfSome, MatchOption};
 ghost use Rattle.sqlite.specs.Files.{IsOpened, file_state};
 ghost use Rattle.sqlite.specs.Start.{FindsIn};
 ghost use Rattle.sqlite.specs.State.{HasCleanDisk};
@@ -43,7 +43,7 @@ impl<S: Start> OneFile<S, FileStore<FileFrom<S>>> {
     /// the store over them, so that contracts can say what is in them; they are closed as they are dropped.
     pub fn close(self) -> Option<Closed<S>>
         ensures none { self.connection ≡ None → result ≡ None }
-        ensures closed { IfSome self.connection (λ c. IfSome result (IsClosedFrom c)) }
+        ensures closed { IfSome self.connection (λ c. MatchOption result ⊥ (IsClosedFrom c)) }
     {
         let OneFile {
             start: _,
