@@ -24,6 +24,11 @@ ending_same old new rest (refusal e) is = is.0
 ending_same old new rest (to_head target reply) is = is.0.stays
 ending_same old new rest no_memory is = is.0
 
+-- one stream
+pub one_stream : (country : List ℕ) (books : ℕ → Book) (es : List Exchange) (c : Content) → IsServed country books 0 es c → IsServedOver country books (es ∷ []) c
+one_stream country books es c served =
+    served_over country books es [] c c served (served_nothing country _ c served.country_stays served.sound served.tied)
+
 module _ {S : Type 0} {disk : Ghosts S} where
   -- a desk that a job began with
   pub begun_live : (is_new : Bool) (image : Image) (country : List ℕ) (s : FileSeen disk) → BeginsIn is_new image country s → IsClean s → IsTrue (file_state s).is_open
@@ -43,11 +48,6 @@ module _ {S : Type 0} {disk : Ghosts S} where
   pub begun_settled : (is_new : Bool) (image : Image) (country : List ℕ) (s : FileSeen disk) → BeginsIn is_new image country s → IsClean s → IsSettled over_file s
   begun_settled false image country s begins clean = λ live. (begins clean).leaves
   begun_settled true image country s begins clean = λ live. (begins clean).leaves
-
-  -- one stream
-  pub one_stream : (country : List ℕ) (books : ℕ → Book) (es : List Exchange) (c : Content) → IsServed country books 0 es c → IsServedOver country books (es ∷ []) c
-  one_stream country books es c served =
-      served_over country books es [] c c served (served_nothing country _ c served.country_stays served.sound served.tied)
 
   -- a run that was served from what a desk began with
   pub run_of : (is_new : Bool) (image : Image) (country : List ℕ) (opened left : FileSeen disk) (streams : List (List Exchange)) → BeginsIn is_new image country opened
