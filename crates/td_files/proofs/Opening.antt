@@ -110,10 +110,14 @@ module _ {D : Type 0} {g : disk.Ghosts D} where
       → (HasCleanDisk (file_state left) → IsTrue (file_state left).is_open → (file_state left).now ≡ found.now)
       → CrashLeavesShown (file_state left) → (old new : Option (Held (FileStore D g))) → new ≡ Some left → IsLeftAsFound image old new
   left_as_found image found P left survives is same settled old new back =
-      inr (left, back, λ clean. record {
-        found = λ open_. subst (IsFoundIn image) (sym (same clean open_)) (is (clean_before found (file_state left) P survives clean));
-        settled = settled;
-      })
+      inr (
+        left,
+        back,
+        λ clean. record {
+          found = λ open_. subst (IsFoundIn image) (sym (same clean open_)) (is (clean_before found (file_state left) P survives clean));
+          settled = settled;
+        },
+      )
 
 -- a desk that couldn't be made is told by one of three faults
 pub unmade_at : (fault : OpenFault) (why : DeskFault) → (fault ≡ Store) ⊎ (fault ≡ NoMemory) → why ≡ Refused fault → IsUnmade why
