@@ -1,17 +1,11 @@
 -- What a crash leaves of a desk over a store's file opens again, and keeps what was acknowledged.
-use Rattle.std.proofs.Common.{◌⊎◌, inl, inr, subst}
-use Rattle.std.specs.Prelude.{IsTrue}
+use Rattle.std.proofs.Common.{inl, inr, subst}
 use Rattle.sqlite_catalog.proofs.ReadLemmas.{lists_once}
 use Rattle.sqlite_trees.specs.declared.store.Store.{Ghosts}
 use Rattle.sqlite_trees.specs.Objects.{catalog_tree}
-use Rattle.sqlite_trees.specs.Tree.{Trees}
-use Rattle.sqlite.specs.Held.{Held, state}
-use Rattle.sqlite.specs.State.{IsLive}
-use Rattle.td_desk.specs.Content.{Content}
-use Rattle.td_desk.specs.View.{AddsAtMost, LeavesOnly}
+use Rattle.sqlite.specs.Held.{state}
 use Rattle.td_schema.specs.Tables.{desk_schema}
 use Rattle.td_store_rows.specs.StoreTables.{AreTreesOf}
-use Rattle.td_store.specs.Kept.{sql_view}
 use Rattle.td_store.specs.Laws.{AcknowledgedIsKept, AcknowledgedIsKeptMeanwhile, DesksTreesOpen}
 
 -- the list of a store's tables is that of no other schema

@@ -1,5 +1,5 @@
 -- What the calls of a desk over a store's file do to its connection.
-use Rattle.std.proofs.Common.{◌≡◌, ◌∙◌, ℕ, List, ap, subst, sym, arith}
+use Rattle.std.proofs.Common.{◌≡◌, ℕ, List, ap, arith}
 use Rattle.std.specs.Prelude.{IsTrue}
 use Rattle.sqlite_trees.specs.declared.store.Store.{Ghosts}
 use Rattle.sqlite_trees.specs.Tree.{Trees}
@@ -8,10 +8,10 @@ use Rattle.sqlite.specs.State.{State, HasCleanDisk, Survives}
 use Rattle.sqlite.proofs.StateLemmas.{survives_then}
 use Rattle.td_acts.specs.declared.rows.Change.{Change}
 use Rattle.td_acts.specs.declared.rows.Verdict.{Verdict}
-use Rattle.td_desk.specs.Content.{Content, content_after, IsSound}
+use Rattle.td_desk.specs.Content.{content_after, IsSound}
 use Rattle.td_desk.specs.View.{AddsAtMost}
 use Rattle.td_desk.specs.Weighing.{IsDecision}
-use Rattle.td_store_rows.specs.StoreTables.{AreTreesOf, content_in}
+use Rattle.td_store_rows.specs.StoreTables.{content_in}
 use Rattle.td_store_write.specs.Carried.{CarriesChange, MayLeave}
 use Rattle.td_store.specs.Kept.{IsDeskOf, sql_view}
 use Rattle.td_store.proofs.Holding.{decided_there, desk_after, desk_still, there_is, written}

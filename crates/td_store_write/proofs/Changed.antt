@@ -1,6 +1,6 @@
 -- What the statements of each change did, one after another, is what the change says.
-use Rattle.std.proofs.Common.{ℕ, Bool, List, ◌∷◌, ◌++◌, map, Ok, Err, Result}
-use Rattle.std.specs.Prelude.{OnOk, filter}
+use Rattle.std.proofs.Common.{ℕ, Bool, List, ◌∷◌, ◌++◌, map}
+use Rattle.std.specs.Prelude.{filter}
 use Rattle.sqlite.specs.State.{State}
 use Rattle.td_guarantee.specs.declared.guarantee.Guarantee.{Guarantee}
 use Rattle.td_movement.specs.declared.movement.Movement.{Movement}

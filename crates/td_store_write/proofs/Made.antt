@@ -10,7 +10,7 @@ use Rattle.td_desk.specs.Content.{empty_content}
 use Rattle.td_base.specs.Codes.{IsCountry}
 use Rattle.td_schema.specs.Tables.{IsEmptyOf}
 use Rattle.td_schema.specs.Tables.{desk_schema}
-use Rattle.typed_sql.specs.Writing.{HaveIds, HasSchema}
+use Rattle.typed_sql.specs.Writing.{HaveIds}
 use Rattle.typed_sql.specs.Typed.{AreTyped, HasNow, IsTypedRow, Typing, row_of, typed_rows}
 use Rattle.td_store_rows.specs.Columns.{meta_row, meta_typing, newest_version, holder_typing, guarantee_typing, code_typing, movement_typing, line_typing}
 use Rattle.td_store_rows.specs.MetaTable.{TurnsMeta}

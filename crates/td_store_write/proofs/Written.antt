@@ -1,5 +1,5 @@
 -- What statements one after another have written, each well.
-use Rattle.std.proofs.Common.{◌≡◌, ◌∙◌, ℕ, zero, suc, ◌+◌, ◌<◌, List, [], ◌∷◌, ◌++◌, length, map, take, get_or, true, refl, sym, ap, subst, arith, IsPermutation}
+use Rattle.std.proofs.Common.{◌≡◌, ◌∙◌, ℕ, zero, suc, ◌+◌, ◌<◌, List, [], ◌∷◌, ◌++◌, length, map, take, get_or, true, sym, ap, subst, arith, IsPermutation}
 use Rattle.std.proofs.lemmas.List.{take_more, map-append, append_assoc}
 use Rattle.std.proofs.lemmas.List.Sorted.{IsPermutation-middle}
 use Rattle.sqlite.specs.State.{State, HasCleanDisk}

@@ -1,4 +1,4 @@
-use Rattle.std.proofs.Common.{rules, true, ◌≡◌}
+use Rattle.std.proofs.Common.{rules, true}
 use Rattle.sqlite.specs.Held.{state}
 use Rattle.sqlite.specs.State.{State}
 use Rattle.td_schema.specs.Tables.{desk_schema}
