@@ -11,7 +11,7 @@ use Rattle.http_wire.specs.declared.stream.StreamEnd.{StreamEnd}
 use Rattle.td_words.specs.declared.words.NoJob.{NoJob}
 use Rattle.td_words.specs.declared.words.Task.{Task}
 use Rattle.td_words.specs.declared.words.Task.TheVariants.{Serve, Pipe, Check}
-use Rattle.td_words.specs.Words.{AsksFor}
+use Rattle.td_words.specs.Words.{AsksFor, IsNoJob}
 use Rattle.td_cli.specs.declared.serving.ServingEnd.{ServingEnd}
 use Rattle.td_cli.specs.Desks.{BeginsKept}
 use Rattle.td_cli.specs.Piped.{PipesAs}
@@ -43,14 +43,15 @@ IsDone remaining contents said image (Serve listening records) country at reader
 IsDone remaining contents said image (Check path) country at reader reader_left writer writer_left errors errors_left file status =
     (reader_left ≡ reader) × IsChecked contents said image country writer writer_left errors errors_left file status
 
--- The words ask for a task, which was done in that country and at that moment. Or they ask for none: then nothing was read, and
--- they were answered. The image is what the file held that the words name, if they name one.
+-- The words ask for a task, which was done in that country and at that moment. Or they were given none, for want of memory, or
+-- since they ask for help, or for no task at all: then nothing was read, and they were answered. The image is what the file held
+-- that the words name, if they name one.
 abbrev pub IsPerformed : {R W E : Type 0} → (R → Option (List ℕ)) → (W → Option (List ℕ)) → (E → Option (List ℕ)) → Image
     → List (List ℕ) → Counted R → Counted R → Counted W → Counted W → Counted E → Counted E → Option FileState → ℕ → Type 0
 IsPerformed remaining contents said image words reader reader_left writer writer_left errors errors_left file status =
     ((task : Task) × (country : List ℕ) × (at : Option ℤ) × AsksFor words task country at
     × IsDone remaining contents said image task country at reader reader_left writer writer_left errors errors_left file status)
-    ⊎ ((no_job : NoJob) × (reader_left ≡ reader)
+    ⊎ ((no_job : NoJob) × IsNoJob words no_job × (reader_left ≡ reader)
     × IsAnswered contents said writer writer_left errors errors_left no_job status)
 
 -- Words that couldn't be read: there was no memory for them, or they aren't text, and the error's kind says which.
