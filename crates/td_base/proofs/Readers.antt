@@ -1,12 +1,12 @@
 -- Each test of specs/ tells its fact, and so what is read of a text.
-use Rattle.std.proofs.Common.{◌≡◌, ℕ, ◌+◌, ◌-◌, ◌^◌, List, length, take, drop, Option, false, refl, ap}
+use Rattle.std.proofs.Common.{◌≡◌, ℕ, ◌+◌, ◌-◌, List, length, take, drop, Option, false, refl, ap}
 use Rattle.std.proofs.lemmas.Bool.Decides.{Decides-and, Decides-or, Decides-eqb, Decides-like, Decides-not}
 use Rattle.std.specs.Prelude.{SomeIff, OkIff, IfErr, Result, Ok, Err}
 use Rattle.std.proofs.lemmas.Bool.{not-true}
 use Rattle.std.specs.Bool.{Decides}
 use Rattle.std.specs.List.{slice_get}
 use Rattle.ascii_text.specs.Digits.{digits_value}
-use Rattle.ascii_text.proofs.Decided.{some_where, le_decided, range_decided, all_decided, some_decided, implies_decided, one_of_four, digits_decided, capitals_decided, marks_decided}
+use Rattle.ascii_text.proofs.Decided.{some_where, le_decided, range_decided, all_decided, some_decided, one_of_four, digits_decided, capitals_decided, marks_decided}
 use Rattle.td_base.specs.References.{check_of, front_of, country_of, identifier_of, HasForm, HasCheckDigit, IsReferenceText, IsFirstFault, has_form, has_check_digit, is_reference_text, first_fault, reference_read}
 use Rattle.td_base.specs.Codes.{IsAccessCode, IsOfficeNo, IsLrn, IsLrnCharacter, is_access_code, is_office_no, is_lrn, is_lrn_character, IsCountry, is_country, IsEori, is_eori, IsHolderNumber, IsHolderText, is_holder_number, is_holder_text, holder_read}
 use Rattle.td_base.specs.declared.references.RefFault.{RefFault}

@@ -1,6 +1,6 @@
 -- The check digit of ISO 6346, over digits and capital letters.
 -- References: the MRN of a movement and the GRN of a guarantee (NCTS).
-use Rattle.std.specs.Prelude.{ℕ, ◌+◌, ◌-◌, ◌*◌, ◌%◌, ◌^◌, ◌≤◌, ◌==◌, nat_lt, if◌then◌else◌, List, [], ◌∷◌, length, slice_index, All, ◌≡◌, ◌≢◌, ◌&&◌, not, Bool, nat_eq, ◌++◌, take, drop, slice_range, slice_get, Option, Some, None, Result, Ok, Err, codes}
+use Rattle.std.specs.Prelude.{ℕ, ◌+◌, ◌-◌, ◌*◌, ◌%◌, ◌^◌, ◌≤◌, ◌==◌, nat_lt, if◌then◌else◌, List, [], ◌∷◌, length, slice_index, All, ◌≡◌, ◌≢◌, ◌&&◌, not, Bool, nat_eq, ◌++◌, take, drop, slice_range, slice_get, Option, Some, None, Result, Ok, Err}
 use Rattle.ascii_text.specs.Digits.{IsMark, is_mark, digits_value, fixed_decimal}
 use Rattle.std.specs.Char.{IsAsciiDigit, IsAsciiUppercase, is_ascii_digit, is_ascii_uppercase}
 use Rattle.std.specs.List.{list_all}
@@ -121,12 +121,6 @@ grn_read = reference_read 17
 -- the MRN that a text is, or the first fault
 abbrev pub mrn_read : List ℕ → Result (List ℕ) RefFault
 mrn_read = reference_read 18
-
--- how a fault is told
-abbrev pub fault_text : RefFault → List ℕ
-fault_text Length = codes "wrong length"
-fault_text Form = codes "wrong form"
-fault_text CheckDigit = codes "wrong check digit"
 
 -- the holder in the first six digits of an identifier of digits
 abbrev pub holder_part : List ℕ → ℕ

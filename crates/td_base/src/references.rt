@@ -1,41 +1,29 @@
 //! References: what prints, owns and numbers them. The texts of MRN and GRN differ in their length alone: `Grn` and
 //! `Mrn` add that, and their greatest serial.
-ghost use Rattle.std.specs.Prelude.{◌≡◌, ◌+◌, ◌-◌, ◌≤◌, ◌++◌, length, IsTrue, ◌↔◌, Some, SomeIff, IfSome, OkIff, IfErr};
+ghost use Rattle.std.specs.Prelude.{◌≡◌, ◌+◌, ◌-◌, ◌≤◌, ◌++◌, length, IsTrue, ◌↔◌, SomeIff, IfSome, OkIff, IfErr};
 ghost use Rattle.ascii_text.specs.Digits.{fixed_decimal};
 ghost use Rattle.td_base.specs.Codes.{IsCountry};
-ghost use Rattle.td_base.specs.References.{fault_text, IsReferenceText, IsFirstFault, HasForm, has_form, reference_read, owner_of as owner_in, serial_of as serial_in, reference_text, grn_text, mrn_text, IsGrnSerial, IsMrnSerial, TellsApart};
+ghost use Rattle.td_base.specs.References.{IsReferenceText, IsFirstFault, HasForm, has_form, reference_read, owner_of as owner_in, serial_of as serial_in, reference_text, grn_text, mrn_text, IsGrnSerial, IsMrnSerial, TellsApart};
 
 use crate::checking::check_digit;
 use crate::country::Country;
 use crate::holder::HolderNo;
 use ascii_text::{is_capitals, is_digits, is_marks, read_digits, write_digits};
-use std::error::Error;
-use std::fmt;
+use thiserror::Error;
 
 /// What a text that isn't a reference is refused for: the first of these, in this order.
-#[derive(Clone, Copy, Debug, PartialEq, Eq)]
+#[derive(Clone, Copy, Debug, PartialEq, Eq, Error)]
 pub enum RefFault {
     /// It hasn't the length of such a reference.
+    #[error("wrong length")]
     Length,
     /// A place has a character of another class.
+    #[error("wrong form")]
     Form,
     /// The last digit isn't the check digit of all before it.
+    #[error("wrong check digit")]
     CheckDigit,
 }
-
-impl fmt::Display for RefFault {
-    ghost output = { λ fault. Some (fault_text fault) };
-
-    fn fmt<W: fmt::Write>(&self, f: &mut fmt::Formatter<W>) -> fmt::Result {
-        match self {
-            RefFault::Length => write!(f, "wrong length"),
-            RefFault::Form => write!(f, "wrong form"),
-            RefFault::CheckDigit => write!(f, "wrong check digit"),
-        }
-    }
-}
-
-impl Error for RefFault {}
 
 /// Reads a reference of `N` characters, or tells the first fault: the length is tested, then each
 /// place, then the check digit.

@@ -3,9 +3,8 @@ ghost use Rattle.std.specs.Prelude.{◌≡◌};
 ghost use Rattle.td_fields.specs.Faults.{reason_text};
 
 use std::alloc::AllocError;
-use std::error::Error;
-use std::fmt;
 use td_base::RefFault;
+use thiserror::Error;
 
 /// The methods that a path of the desk has.
 #[derive(Clone, Copy, Debug, PartialEq, Eq)]
@@ -36,7 +35,8 @@ pub enum Field {
 }
 
 /// Why a request can't be read. The order is that of the tests: the first that fails is told.
-#[derive(Clone, Copy, Debug, PartialEq, Eq)]
+#[derive(Clone, Copy, Debug, PartialEq, Eq, Error)]
+#[error("{}", self.name())]
 pub enum WebFault {
     /// The desk has no such path, or the target isn't text.
     NoRoute,
@@ -145,19 +145,6 @@ impl WebFault {
         }
     }
 }
-
-impl fmt::Display for WebFault {
-    ghost use Rattle.std.specs.Prelude.{Some};
-    ghost use Rattle.td_fields.specs.Faults.{fault_name};
-
-    ghost output = { λ f. Some (fault_name f) };
-
-    fn fmt<W: fmt::Write>(&self, f: &mut fmt::Formatter<W>) -> fmt::Result {
-        write!(f, "{}", self.name())
-    }
-}
-
-impl Error for WebFault {}
 
 impl From<AllocError> for WebFault {
     ghost use Rattle.std.specs.Prelude.{◌≡◌};

@@ -1,11 +1,10 @@
 //! Moments.
-ghost use Rattle.std.specs.Prelude.{◌≡◌, ℕ, pos, Some, codes};
+ghost use Rattle.std.specs.Prelude.{◌≡◌, ℕ, pos};
 ghost use Rattle.std.specs.Result.{result_ok};
 ghost use Rattle.td_time.specs.Days.{IsMoment, moment_of};
 
-use std::error::Error;
-use std::fmt;
 use std::marker::Model;
+use thiserror::Error;
 
 /// A moment from 2000-01-01T00:00:00Z to the last second of 2099, in seconds since 1970-01-01T00:00:00Z.
 /// Contracts see it as that number.
@@ -15,18 +14,9 @@ pub struct Moment {
 }
 
 /// A number of seconds that is out of the range of moments.
-#[derive(Clone, Copy, Debug, PartialEq, Eq)]
+#[derive(Clone, Copy, Debug, PartialEq, Eq, Error)]
+#[error("the moment is out of range")]
 pub struct ClockRange;
-
-impl fmt::Display for ClockRange {
-    ghost output = { λ _. Some (codes "the moment is out of range") };
-
-    fn fmt<W: fmt::Write>(&self, f: &mut fmt::Formatter<W>) -> fmt::Result {
-        write!(f, "the moment is out of range")
-    }
-}
-
-impl Error for ClockRange {}
 
 impl Model for Moment {
     ghost Value = { ℕ };
