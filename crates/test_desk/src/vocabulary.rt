@@ -2,6 +2,7 @@
 use crate::examples::{GRN, MRN, SECOND_GRN, code, country, eori, grn, holder, lrn, mrn, office};
 use std::process::Abort;
 use td_base::*;
+use td_fields::WebFault;
 
 const DIGITS: [(&[u8], Option<u8>); 7] = [
     (b"CSQU305438", Some(3)),
@@ -240,9 +241,11 @@ fn names_have_forms(rt: HostRuntime) {
 #[test]
 fn faults_are_named(rt: HostRuntime) {
     let (length, form, digit) = (RefFault::Length, RefFault::Form, RefFault::CheckDigit);
-    let faults = format!(in rt.alloc(); "{length}, {form}, {digit}").expect(&rt, "memory");
+    let (range, bad) = (ClockRange, WebFault::BadGrn(form));
+    let faults =
+        format!(in rt.alloc(); "{length}, {form}, {digit}, {range}, {bad}").expect(&rt, "memory");
     assert_eq!(rt;
         faults.as_str(),
-        "wrong length, wrong form, wrong check digit"
+        "wrong length, wrong form, wrong check digit, the moment is out of range, bad-grn"
     );
 }
