@@ -18,6 +18,6 @@ pub use plain::PlainDesk;
 pub use running::{Outcome, do_one, run};
 pub use store::Store;
 pub use td_acts::{
-    Answer, Change, Command, HolderRow, Loaded, Needs, NewStatus, Refusal, Said, Stamped, Subject,
-    Verdict,
+    Answer, Change, Command, HolderRow, Lines, ListedGuarantees, ListedMovement, ListedMovements,
+    Loaded, Needs, NewStatus, NewTerms, Refusal, Said, Stamped, Subject, Verdict, owner,
 };
