@@ -17,3 +17,4 @@ mod settling;
 pub use desk::SqlDesk;
 pub use laws::acknowledged_decisions_are_kept;
 pub use refused::{OpenFault, Refused};
+pub use td_table_model::Rule;
