@@ -39,7 +39,7 @@ pub enum Reply {
     Made(Vec<u8>),
     /// A fixed reply: memory was missing, and the request changed nothing.
     NoMemory,
-    /// A fixed reply: the store failed, and the request changed nothing.
+    /// A fixed reply: the store failed. What was asked may stand when the store is opened again, or not.
     Store,
 }
 

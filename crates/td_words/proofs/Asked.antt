@@ -52,7 +52,7 @@ pub met_as : (m : ArgMatches) (name : Text) (rows : List Row) → Some name ≡ 
     → subcommand_rows_of m ≡ Some (name, rows)
 met_as m name rows named met = pair_of _ _ name rows named met
 
-same_met : (a b : Text) (x y : List Row) → ◌≡◌ {A = Option (Text × List Row)} (Some (a, x)) (Some (b, y)) → (a ≡ b) × (x ≡ y)
+pub same_met : (a b : Text) (x y : List Row) → ◌≡◌ {A = Option (Text × List Row)} (Some (a, x)) (Some (b, y)) → (a ≡ b) × (x ≡ y)
 same_met a b x y is =
     let met : ◌≡◌ {A = Text × List Row} (a, x) (b, y) = cc in
     (ap (λ p. p.0) met, ap (λ p. p.1) met)

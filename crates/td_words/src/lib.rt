@@ -1,7 +1,9 @@
 //! The words of the command line: what they ask for, help, and one clear line for wrong ones.
 #![tactic(auto)]
 
+mod laws;
 mod options;
 mod words;
 
+pub use laws::words_ask_for_one_job;
 pub use words::{Job, Listening, NoJob, Records, Task, read_words};

@@ -203,7 +203,8 @@ fn first_paragraph(alloc: Global, text: &str) -> Result<String, AllocError> {
     Ok(line)
 }
 
-// The job that a command of this name is, with these options.
+// The job that a command of this name is, with these options. What `clap` lets nobody ask for, as another name or no value of
+// a required option, is told as want of memory here and below.
 fn job_of(alloc: Global, name: &str, matches: &ArgMatches<'_>) -> Result<Job, NoJob>
     ensures job { IfOk result (IsJob name.now (rows_of (found_of matches.now))) }
     ensures none { IfErr result (IsNoneSuch (IsJob name.now (rows_of (found_of matches.now)))) }

@@ -242,10 +242,10 @@ fn names_have_forms(rt: HostRuntime) {
 fn faults_are_named(rt: HostRuntime) {
     let (length, form, digit) = (RefFault::Length, RefFault::Form, RefFault::CheckDigit);
     let (range, bad) = (ClockRange, WebFault::BadGrn(form));
-    let faults =
-        format!(in rt.alloc(); "{length}, {form}, {digit}, {range}, {bad}").expect(&rt, "memory");
+    let told = format!(in rt.alloc(); "{length}, {form}, {digit}, {range}, {bad}");
+    let told = told.expect(&rt, "memory");
     assert_eq!(rt;
-        faults.as_str(),
+        told.as_str(),
         "wrong length, wrong form, wrong check digit, the moment is out of range, bad-grn"
     );
 }

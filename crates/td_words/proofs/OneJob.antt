@@ -1,0 +1,75 @@
+-- Words ask for at most one job.
+use Rattle.std.proofs.Common.{◌≡◌, ◌∙◌, ap, sym, subst, ℕ, ℤ, pos, List, Option, None, Some, codes, slice_index, arith}
+use Rattle.clap.specs.Words.{Row, Text}
+use Rattle.td_words.specs.Laws.{AreSameRecords, IsSameTask, WordsAskForOneJob}
+use Rattle.td_words.specs.Words.{AreRecordsBy, IsJob, IsMomentOf, IsNumberOf, IsTask}
+use Rattle.td_words.specs.declared.words.Job.{Job}
+use Rattle.td_words.specs.declared.words.Records.{Records}
+use Rattle.td_words.specs.declared.words.Records.TheVariants.{Memory, File, NewFile}
+use Rattle.td_words.specs.declared.words.Task.{Task}
+use Rattle.td_words.specs.declared.words.Task.TheVariants.{Serve, Pipe, Check}
+use Rattle.td_words.proofs.Asked.{same_met}
+
+number_once : (least greatest : ℕ) (value : Option Text) (m n : ℕ) → IsNumberOf least greatest value m → IsNumberOf least greatest value n → m ≡ n
+number_once least greatest None m n is other = absurd is
+number_once least greatest (Some text) m n is other = sym is.value ∙ other.value
+
+moment_once : (value : Option Text) (a b : Option ℤ) → IsMomentOf value a → IsMomentOf value b → a ≡ b
+moment_once None a b is other = is ∙ sym other
+moment_once (Some text) a b is other = is.2 ∙ ap (λ n. Some (pos n)) (sym is.1.value ∙ other.1.value) ∙ sym other.2
+
+same_value : (value : Option Text) (a b : Text) → value ≡ Some a → value ≡ Some b → a ≡ b
+same_value value a b is other = cc
+
+no_value : (value : Option Text) (a : Text) → value ≡ None → value ≡ Some a → ⊥
+no_value value a none some = cc
+
+two_flags : (value : Option Text) → value ≡ Some (codes "false") → value ≡ Some (codes "true") → ⊥
+two_flags value without with_it = cc
+
+-- no text is the name of two commands
+serve_or_pipe : (name : Text) → name ≡ codes "serve" → name ≡ codes "pipe" → ⊥
+serve_or_pipe name one other = cc
+
+serve_or_check : (name : Text) → name ≡ codes "serve" → name ≡ codes "check" → ⊥
+serve_or_check name one other =
+    let first : slice_index (codes "serve") 0 ≡ slice_index (codes "check") 0 = ap (λ t. slice_index t 0) (sym one ∙ other) in
+    let codes_are : ◌≡◌ {A = ℕ} 115 99 = first in
+    omega (arith, codes_are)
+
+pipe_or_check : (name : Text) → name ≡ codes "pipe" → name ≡ codes "check" → ⊥
+pipe_or_check name one other = cc
+
+records_once : (r s : Records) (db new : Option Text) → AreRecordsBy r db new → AreRecordsBy s db new → AreSameRecords r s
+records_once Memory Memory db new is other = tt
+records_once Memory (File path) db new is other = no_value db _ is.0 other.0
+records_once Memory (NewFile path) db new is other = no_value db _ is.0 other.0
+records_once (File path) Memory db new is other = no_value db _ other.0 is.0
+records_once (File path) (File there) db new is other = same_value db _ _ is.0 other.0
+records_once (File path) (NewFile there) db new is other = two_flags new is.1 other.1
+records_once (NewFile path) Memory db new is other = no_value db _ other.0 is.0
+records_once (NewFile path) (File there) db new is other = two_flags new other.1 is.1
+records_once (NewFile path) (NewFile there) db new is other = same_value db _ _ is.0 other.0
+
+task_once : (name : Text) (rows : List Row) (task other : Task) → IsTask name rows task → IsTask name rows other → IsSameTask task other
+task_once name rows (Serve l r) (Serve m s) is other =
+    (number_once _ _ _ _ _ is.1.port other.1.port, number_once _ _ _ _ _ is.1.connections other.1.connections, records_once r s _ _ is.2 other.2)
+task_once name rows (Serve l r) (Pipe s) is other = serve_or_pipe name is.0 other.0
+task_once name rows (Serve l r) (Check path) is other = serve_or_check name is.0 other.0
+task_once name rows (Pipe r) (Serve m s) is other = serve_or_pipe name other.0 is.0
+task_once name rows (Pipe r) (Pipe s) is other = records_once r s _ _ is.1 other.1
+task_once name rows (Pipe r) (Check path) is other = pipe_or_check name is.0 other.0
+task_once name rows (Check path) (Serve m s) is other = serve_or_check name other.0 is.0
+task_once name rows (Check path) (Pipe s) is other = pipe_or_check name other.0 is.0
+task_once name rows (Check path) (Check there) is other = same_value _ _ _ is.1 other.1
+
+pub one_job : WordsAskForOneJob
+one_job words task other_task country other_country at other_at asked other =
+    let met = same_met other.name asked.name other.rows asked.rows (sym other.named ∙ asked.named) in
+    let that : Job = record { task = other_task; country = other_country; at = other_at } in
+    let job : IsJob asked.name asked.rows that =
+    subst (λ n. IsJob n asked.rows that) met.0 (subst (λ r. IsJob other.name r that) met.1 other.job) in (
+      task_once asked.name asked.rows task other_task asked.job.task job.task,
+      same_value _ _ _ asked.job.country.named job.country.named,
+      moment_once _ at other_at asked.job.at job.at,
+    )

@@ -1,0 +1,29 @@
+-- What words ask for is one job.
+use Rattle.std.specs.Prelude.{◌≡◌, ℕ, ℤ, List, Option, string_bytes, ⊤}
+use Rattle.clap.specs.Words.{Text}
+use Rattle.td_words.specs.Words.{AsksFor}
+use Rattle.td_words.specs.declared.words.Records.{Records}
+use Rattle.td_words.specs.declared.words.Records.TheVariants.{Memory, File, NewFile}
+use Rattle.td_words.specs.declared.words.Task.{Task}
+use Rattle.td_words.specs.declared.words.Task.TheVariants.{Serve, Pipe, Check}
+
+-- the records stand at the same place
+abbrev pub AreSameRecords : Records → Records → Type 0
+AreSameRecords Memory Memory = ⊤
+AreSameRecords (File path) (File other) = string_bytes path ≡ string_bytes other
+AreSameRecords (NewFile path) (NewFile other) = string_bytes path ≡ string_bytes other
+AreSameRecords _ _ = ⊥
+
+-- two tasks are the same: the paths of files are compared as texts
+abbrev pub IsSameTask : Task → Task → Type 0
+IsSameTask (Serve listening records) (Serve other others) =
+    (listening.port ≡ other.port) × (listening.connections ≡ other.connections) × AreSameRecords records others
+IsSameTask (Pipe records) (Pipe others) = AreSameRecords records others
+IsSameTask (Check path) (Check other) = string_bytes path ≡ string_bytes other
+IsSameTask _ _ = ⊥
+
+-- Words that ask for two jobs ask for one: the same task, in the same country, at the same moment.
+abbrev pub WordsAskForOneJob : Type 0
+WordsAskForOneJob = (words : List Text) (task other_task : Task) (country other_country : List ℕ) (at other_at : Option ℤ)
+    → AsksFor words task country at → AsksFor words other_task other_country other_at
+    → IsSameTask task other_task × (country ≡ other_country) × (at ≡ other_at)
