@@ -1,5 +1,5 @@
 -- What a crash leaves of a desk is kept from request to request.
-use Rattle.std.proofs.Common.{◌≡◌, ◌⊎◌, ℕ, ℤ, ◌+◌, Bool, true, false, if◌then◌else◌, List, [], ◌∷◌, ◌++◌, map, length, Result, Ok, Err, refl, sym, ◌∙◌, ap, subst, inl, inr, arith}
+use Rattle.std.proofs.Common.{◌≡◌, ◌⊎◌, ℕ, ℤ, ◌+◌, Bool, true, false, if◌then◌else◌, List, [], ◌∷◌, ◌++◌, length, Result, Ok, Err, refl, sym, ◌∙◌, ap, subst, inl, inr, arith}
 use Rattle.std.proofs.lemmas.List.{map-append}
 use Rattle.td_commands.specs.declared.command.Command.{Command}
 use Rattle.td_commands.specs.declared.command.Stamped.{Stamped}
@@ -12,7 +12,7 @@ use Rattle.td_desk.specs.declared.running.Outcome.{Outcome}
 use Rattle.td_desk.specs.declared.running.Outcome.TheVariants as outcome
 use Rattle.td_desk.specs.Content.{Content, IsSound}
 use Rattle.td_desk.specs.Runs.{IsRun, IsStep, IsTied, is_holder, LeavesAfter}
-use Rattle.td_desk.specs.View.{DeskView, IsSettled, LeavesOnly}
+use Rattle.td_desk.specs.View.{DeskView, IsSettled}
 use Rattle.td_desk.specs.Weighing.{owner_account, Carries}
 use Rattle.td_desk.proofs.Turns.{run_more}
 use Rattle.td_fields.specs.declared.fault.WebFault.{WebFault}
@@ -20,7 +20,7 @@ use Rattle.http_wire.specs.declared.reply.Reply.{Reply}
 use Rattle.http_wire.specs.ReplyText.{is_made}
 use Rattle.http_wire.specs.Wire.{Asked}
 use Rattle.http_wire.specs.Stream.{Chain, Exchange, question}
-use Rattle.td_http.specs.Kept.{books_after, books_with, HasFailed, HasFailedIn, IsKept, IsKeptBetween}
+use Rattle.td_http.specs.Kept.{books_after, books_with, HasFailed, HasFailedIn, IsKeptIn, IsKeptBetween}
 use Rattle.td_http.specs.Serving.{command_in, commands_of, heard_by, heard_in, IsHandled, IsReplyTo}
 use Rattle.td_http.proofs.Served.{chain_clean, fixed_reply, machine_book-++, no_run}
 
@@ -31,18 +31,12 @@ tied_as x books others same tied = record {
   grown = λ H. subst (IsGrown H) (same H) (tied.grown H);
 }
 
--- a content that is tied to the books, or to these with one command more, of which Failed says that it failed
-pub record Left (country : List ℕ) (Failed : Stamped → Type 0) (books : ℕ → Book) (x : Content) : Type 0 where
-  pub country_is : x.country ≡ country
-  pub sound : IsSound x
-  pub tied : IsTied x books ⊎ ((s : Stamped) × Failed s × IsTied x (books_with country books s))
-
 -- a desk at a moment: what it shows while it is live, and what a crash leaves of it
 pub record Keeps {D : Type 0} (view : DeskView D) (country : List ℕ) (Failed : Stamped → Type 0) (books : ℕ → Book) (d : D) : Type 0 where
   pub live : view.is_live d → IsTied (view.content d) books × IsSound (view.content d) × ((view.content d).country ≡ country)
   pub settled : IsSettled view d
   pub recovers : view.recovers d
-  pub left : (x : Content) → view.may_leave d x → Left country Failed books x
+  pub left : (x : Content) → view.may_leave d x → IsKeptIn country Failed books x
 
 -- the content after a command that was carried, from one that is tied to books
 module _ (country : List ℕ) (books : ℕ → Book) (s : Stamped) (old new : Content) (tied : IsTied old books) (sound : IsSound old)
@@ -85,7 +79,7 @@ module _ {S D : Type 0} (desk : S → D) (view : DeskView D) (country : List ℕ
       (λ H. machine_book H (books H) (commands_of (heard_by country H r e.at (question before e.wire).close made))) (desk new)
 
   -- what could be left before can be left still
-  weaker : (x : Content) → Left country Failed books x → Left country FailedNow books x
+  weaker : (x : Content) → IsKeptIn country Failed books x → IsKeptIn country FailedNow books x
   weaker x left = record {
     country_is = left.country_is;
     sound = left.sound;
@@ -148,7 +142,7 @@ module _ {S D : Type 0} (desk : S → D) (view : DeskView D) (country : List ℕ
         live = λ live. (tied, sound, at_country);
         settled = settled;
         recovers = alone.recovers;
-        left = λ y may. subst (λ (z : Content). Left country FailedNow then_books z) (sym (alone.only y may))
+        left = λ y may. subst (λ (z : Content). IsKeptIn country FailedNow then_books z) (sym (alone.only y may))
             (record { country_is = at_country; sound = sound; tied = inl tied });
       }
 
@@ -180,7 +174,7 @@ keeps_as view country Failed Others books others d same more keeps = record {
   left = λ x may. left_as x (keeps.left x may);
 }
   where
-    left_as : (x : Content) → Left country Failed books x → Left country Others others x
+    left_as : (x : Content) → IsKeptIn country Failed books x → IsKeptIn country Others others x
     left_as x left = record {
       country_is = left.country_is;
       sound = left.sound;
@@ -232,7 +226,7 @@ keeps_first view country books d live country_is sound tied settled =
       live = λ _. (tied, sound, country_is);
       settled = settled;
       recovers = alone.recovers;
-      left = λ x may. subst (λ (z : Content). Left country (λ s. ⊥) books z) (sym (alone.only x may))
+      left = λ x may. subst (λ (z : Content). IsKeptIn country (λ s. ⊥) books z) (sym (alone.only x may))
           (record { country_is = country_is; sound = sound; tied = inl tied });
     }
 

@@ -15,7 +15,7 @@ use Rattle.td_http.proofs.Served.{machine_book-++}
 use Rattle.td_http.proofs.Streamed.{stream_clean, stream_served}
 use Rattle.td_http.specs.Connections.{Between, Connection, IsServedConnection, ServedConnections}
 use Rattle.td_http.specs.Kept.{books_after}
-use Rattle.td_http.specs.Private.{heard_over, told_over, books_over, IsServedOver, IsPrivateOver}
+use Rattle.td_http.specs.Private.{heard_over, books_over, IsServedOver, IsPrivateOver}
 
 -- a machine's replies to one list and then another
 machine_replies-++ : (H : ℕ) (book : Book) (xs ys : List HolderRequest)

@@ -1,5 +1,5 @@
 -- What a crash leaves of a desk that serves requests: what was acknowledged is kept.
-use Rattle.std.specs.Prelude.{◌≡◌, ◌⊎◌, ℕ, ℤ, ◌+◌, Bool, true, false, if◌then◌else◌, List, [], ◌∷◌, length, Ok}
+use Rattle.std.specs.Prelude.{◌≡◌, ◌⊎◌, ℕ, ℤ, ◌+◌, false, if◌then◌else◌, List, [], ◌∷◌, length, Ok}
 use Rattle.td_commands.specs.declared.command.Stamped.{Stamped}
 use Rattle.td_commands.specs.Commands.{owner_of}
 use Rattle.td_model.specs.Book.{Book}
@@ -30,13 +30,16 @@ abbrev pub HasFailedIn : ℕ → List Exchange → Stamped → Type 0
 HasFailedIn before [] s = ⊥
 HasFailedIn before (e ∷ es) s = HasFailed before e s ⊎ HasFailedIn (before + 1) es s
 
--- A content after exchanges: it is sound, and tied to the books that the machines end with, or to these with one command more,
--- which was answered by a fixed reply.
-pub record IsKept (country : List ℕ) (books : ℕ → Book) (es : List Exchange) (x : Content) : Type 0 where
+-- A content that a crash may leave: it is sound, and tied to books, or to these with one command more, of which it is said that
+-- it failed.
+pub record IsKeptIn (country : List ℕ) (Failed : Stamped → Type 0) (books : ℕ → Book) (x : Content) : Type 0 where
   pub country_is : x.country ≡ country
   pub sound : IsSound x
-  pub tied : IsTied x (books_after country books 0 es)
-      ⊎ ((s : Stamped) × HasFailedIn 0 es s × IsTied x (books_with country (books_after country books 0 es) s))
+  pub tied : IsTied x books ⊎ ((s : Stamped) × Failed s × IsTied x (books_with country books s))
+
+-- the same after exchanges: the books are those that the machines end with, and a command failed by a fixed reply
+abbrev pub IsKept : List ℕ → (ℕ → Book) → List Exchange → Content → Type 0
+IsKept country books es x = IsKeptIn country (HasFailedIn 0 es) (books_after country books 0 es) x
 
 -- Between some exchanges of a stream and those after them there was a moment, to which the first led and from which the others
 -- lead. The desk then had sound content, so that each guarantee is covered, while no fault had shut it; and whatever a crash

@@ -1,10 +1,14 @@
-//! The law of what a holder is told over connections, as the contract of a function that does nothing.
-ghost use Rattle.std.specs.Prelude.{◌≡◌, ℕ, List, map, Result};
+//! Laws of connections one after another, as contracts of functions that do nothing.
+ghost use Rattle.std.specs.Prelude.{◌≡◌, ℕ, List, ◌∷◌, ◌++◌, map, Result};
 ghost use Rattle.std.specs.declared.io.Error.{Error};
 ghost use Rattle.td_model.specs.Book.{Book};
+ghost use Rattle.http_wire.specs.Stream.{Exchange};
+ghost use Rattle.td_desk.specs.View.{IsSettled};
 ghost use Rattle.td_http.specs.declared.service.Service.{Service};
 ghost use Rattle.td_http.specs.ConnectionLaws.{AreServedAt, TellAlikeOver};
-ghost use Rattle.td_http.specs.Connections.{Between};
+ghost use Rattle.td_http.specs.Connections.{Between, Connection};
+ghost use Rattle.td_http.specs.KeptOver.{IsKeptWithin};
+ghost use Rattle.td_http.specs.Serving.{desk_of};
 
 use crate::Clock;
 use crate::connections::Connections;
@@ -36,4 +40,21 @@ pub fn agreeing_connections_tell_the_same<
         → books H ≡ others H
         → TellAlikeOver country H (map (λ connection. connection.exchanges) one.served.all_served)
         (map (λ connection. connection.exchanges) other.served.all_served) }
+{}
+
+/// What was acknowledged is kept, whatever connection it came over. Take any of the connections that were served at a clean desk, and
+/// any two parts of its exchanges, one after the other: between them there was a moment at which whatever a crash leaves is a desk,
+/// with the accepted changes of all connections before this one and of the first part, and at most one more, which was answered by
+/// a fixed reply. While no fault has shut the desk, its content was sound then.
+pub fn acknowledged_connections_are_kept<L: Connections, C: Clock, D: Desk>()
+    ensures { (country : List ℕ) (books : ℕ → Book) (old new : Between L C (Service D)) (count : ℕ) (answer : Result Unit Error)
+        (before : List (Connection L.Reader L.Writer)) (connection : Connection L.Reader L.Writer)
+        (after : List (Connection L.Reader L.Writer)) (first others : List Exchange)
+        → (are : AreServedAt L.Reader.remaining L.Writer.contents L.gives L.takes L.refuses C.ticks
+        D.seen country books old new count answer)
+        → IsSettled D.seen (desk_of old.handler)
+        → are.served.all_served ≡ before ++ connection ∷ after
+        → connection.exchanges ≡ first ++ others
+        → IsKeptWithin L.Reader.remaining L.Writer.contents L.gives L.takes C.ticks D.seen
+        country books before connection after first others old are.served.last }
 {}

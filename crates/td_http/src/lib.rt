@@ -9,7 +9,7 @@ mod laws;
 mod service;
 mod sockets;
 
-pub use connection_laws::agreeing_connections_tell_the_same;
+pub use connection_laws::{acknowledged_connections_are_kept, agreeing_connections_tell_the_same};
 pub use connections::{Connections, serve_connections};
 pub use desk_stream::serve_stream;
 pub use http_wire::{
