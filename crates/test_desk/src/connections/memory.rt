@@ -5,7 +5,10 @@ use std::io;
 use std::io::ErrorKind;
 use std::process::Abort;
 use td_desk::PlainDesk;
-use td_http::{Connections, agreeing_connections_tell_the_same, serve_connections};
+use td_http::{
+    Connections, acknowledged_connections_are_kept, agreeing_connections_tell_the_same,
+    serve_connections,
+};
 
 /// Gives these connections and then fails, and keeps what was written to each.
 #[derive(Drop)]
@@ -101,9 +104,10 @@ fn a_failed_accept_is_told_after_the_connections_before_it(rt: HostRuntime) {
     assert_ends(&rt, 5, Some(ErrorKind::ConnectionAborted), 3);
 }
 
-// There is nothing to run: the law holds at these types.
+// There is nothing to run: the laws hold at these types.
 #[test]
-fn the_law_holds_at_concrete_types() {
+fn the_laws_hold_at_concrete_types() {
+    acknowledged_connections_are_kept::<Table<'_>, Still, PlainDesk>();
     agreeing_connections_tell_the_same::<
         Table<'_>,
         Still,
