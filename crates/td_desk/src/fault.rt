@@ -5,7 +5,8 @@ ghost use Rattle.td_desk.specs.declared.fault.Fault.TheVariants.{NoMemory};
 use std::alloc::AllocError;
 use thiserror::Error;
 
-/// Why a desk could not do a command. The command changed nothing.
+/// Why a desk could not do a command. While the desk is live the command changed nothing; a change that failed as `Store`
+/// may stand when the store is opened again.
 #[derive(Clone, Copy, Debug, PartialEq, Eq, Error)]
 pub enum Fault {
     /// Want of memory.

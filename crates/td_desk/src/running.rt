@@ -15,7 +15,7 @@ use td_acts::{Said, Stamped};
 pub enum Outcome {
     /// This was said to it.
     Said(Said),
-    /// It failed, and changed nothing.
+    /// It failed, and changed nothing that a live desk shows.
     Failed(Fault),
 }
 

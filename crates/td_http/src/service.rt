@@ -70,7 +70,7 @@ fn weigh_and_carry<D: Desk>(
     Ok(bytes)
 }
 
-// The fixed reply to a command that failed: it changed nothing.
+// The fixed reply to a command that failed.
 fn reply_to_fault(fault: Fault) -> Reply
     ensures fixed { (close : Bool) → IsReplyTo (outcome.Failed fault) close result }
     ensures store { result ≡ Reply.Store → fault ≡ Fault.Store }
@@ -143,7 +143,8 @@ impl<D: Desk + Drop> Service<D> {
     }
 
     /// The reply to a request that comes at that number of seconds since 1970. A fixed reply is of a fault:
-    /// the request changed nothing. A request that can't be read doesn't ask the desk.
+    /// a desk that is still live shows nothing changed, and what was answered `Store` may stand when the store is
+    /// opened again. A request that can't be read doesn't ask the desk.
     pub fn handle(&mut self, alloc: Global, at: i64, request: &Request) -> Reply
         ensures handled { IsHandledBy D.seen self.old at
             (asked request.now) result self.new }
