@@ -46,7 +46,7 @@ pub trait Desk {
         ensures call { called self.old (result_err result) self.new };
 
     /// Does what was decided on a command over the content as it is, and answers what is said to it. An
-    /// `Err` changes nothing, and the decision is spent; a decision that changes nothing is never an `Err`, and leaves the
+    /// `Err` changes nothing that a live desk shows, and the decision is spent; a decision that changes nothing is never an `Err`, and leaves the
     /// very same desk. To what a crash leaves a change adds at most the content with it; and while the desk is live, that is
     /// its content alone.
     fn carry(&mut self, alloc: Global, decision: Decision) -> Result<Said, Fault>
