@@ -8,3 +8,4 @@ pub mod Calls
 mod Agreeing
 pub mod Differing
 pub mod Leaving
+pub mod Releasing

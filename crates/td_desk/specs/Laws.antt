@@ -1,12 +1,17 @@
 -- Laws of contents, books and runs.
-use Rattle.std.specs.Prelude.{◌≡◌, ℕ, List}
+use Rattle.std.specs.Prelude.{◌≡◌, ◌≢◌, ℕ, ℤ, List}
 use Rattle.td_base.specs.Codes.{IsCountry}
+use Rattle.td_commands.specs.declared.command.Command.TheVariants.{Ie029}
 use Rattle.td_commands.specs.declared.command.Stamped.{Stamped}
+use Rattle.td_commands.specs.declared.said.Refusal.TheVariants.{NoGuarantee}
+use Rattle.td_commands.specs.declared.said.Said.TheVariants.{Refused}
+use Rattle.td_model.specs.Table.{said}
 use Rattle.td_model.specs.Account.{empty_account}
 use Rattle.td_model.specs.Book.{Book, fresh_book}
 use Rattle.td_desk.specs.declared.running.Outcome.{Outcome}
 use Rattle.td_desk.specs.Content.{Content, fresh, empty_content, IsSound}
 use Rattle.td_desk.specs.Runs.{Agree, failures, heard, told, IsTied, IsRun}
+use Rattle.td_desk.specs.Weighing.{owner_account}
 
 -- an empty desk is sound, and tied to empty books
 abbrev pub EmptyDeskIsTied : Type 0
@@ -40,3 +45,9 @@ HeardAlikeIsToldTheSame =
     → IsRun country books list outcomes end → IsRun country others other_list other_outcomes other_end
     → books H ≡ others H → heard country H list outcomes ≡ heard country H other_list other_outcomes
     → told country H list outcomes ≡ told country H other_list other_outcomes
+
+-- Over sound rows a release for transit (IE029) is never refused because a guarantee of the movement isn't there.
+abbrev pub ReleasesFindTheirGuarantees : Type 0
+ReleasesFindTheirGuarantees =
+    (rows : Content) (at : ℤ) (mrn : List ℕ) (limit : ℕ) → IsSound rows
+    → said (owner_account rows (Ie029 mrn limit)) at (Ie029 mrn limit) ≢ Refused NoGuarantee

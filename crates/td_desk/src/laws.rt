@@ -1,5 +1,5 @@
 //! Laws of contents, books and runs, as contracts of functions that do nothing.
-ghost use Rattle.td_desk.specs.Laws.{EmptyDeskIsTied, FreshBooksAreTied, AgreeingRunsTellTheSame, HeardAlikeIsToldTheSame};
+ghost use Rattle.td_desk.specs.Laws.{EmptyDeskIsTied, FreshBooksAreTied, AgreeingRunsTellTheSame, HeardAlikeIsToldTheSame, ReleasesFindTheirGuarantees};
 
 /// An empty desk is sound, and tied to empty books.
 pub fn empty_desk_is_tied()
@@ -16,4 +16,10 @@ pub fn fresh_books_are_tied()
 pub fn agreeing_runs_tell_the_same()
     ensures agreeing { AgreeingRunsTellTheSame }
     ensures heard { HeardAlikeIsToldTheSame }
+{}
+
+/// Over sound rows a release for transit is never refused because a guarantee of the movement isn't there: so `do_one` tells it
+/// (`found`) at a desk, whose rows stay sound from one command to the next.
+pub fn releases_find_their_guarantees()
+    ensures { ReleasesFindTheirGuarantees }
 {}

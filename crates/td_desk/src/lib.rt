@@ -13,7 +13,10 @@ mod store;
 pub use decision::Decision;
 pub use desk::Desk;
 pub use fault::Fault;
-pub use laws::{agreeing_runs_tell_the_same, empty_desk_is_tied, fresh_books_are_tied};
+pub use laws::{
+    agreeing_runs_tell_the_same, empty_desk_is_tied, fresh_books_are_tied,
+    releases_find_their_guarantees,
+};
 pub use plain::PlainDesk;
 pub use running::{Outcome, do_one, run};
 pub use store::Store;

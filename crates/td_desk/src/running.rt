@@ -1,5 +1,8 @@
 //! Runs of commands.
-ghost use Rattle.std.specs.Prelude.{◌≡◌, ◌≢◌, ℕ, All, IfOk, OnErr};
+ghost use Rattle.std.specs.Prelude.{◌≡◌, ◌≢◌, ℕ, All, IfOk, List, OnErr};
+ghost use Rattle.td_commands.specs.declared.command.Command.TheVariants as command;
+ghost use Rattle.td_commands.specs.declared.said.Refusal.TheVariants as refusal;
+ghost use Rattle.td_commands.specs.declared.said.Said.TheVariants as said;
 ghost use Rattle.td_model.specs.Book.{Book};
 ghost use Rattle.td_desk.specs.Content.{Content, IsSound};
 ghost use Rattle.td_desk.specs.Runs.{IsOutcomeOf, AreOutcomesOf, IsStep, IsTied, IsRun, LeavesAfter, is_failed};
@@ -19,7 +22,8 @@ pub enum Outcome {
     Failed(Fault),
 }
 
-/// Does one command: weighs it, and carries the decision. `crash`: what a crash leaves after it.
+/// Does one command: weighs it, and carries the decision. `crash`: what a crash leaves after it. `found`: over sound rows no
+/// release for transit is refused because a guarantee of the movement isn't there.
 pub fn do_one<D: Desk>(alloc: Global, desk: &mut D, stamped: &Stamped) -> Outcome
     ensures clean { D.seen.is_clean desk.new → D.seen.is_clean desk.old }
     ensures live { D.seen.is_clean desk.new → D.seen.is_live desk.new → D.seen.is_live desk.old }
@@ -32,6 +36,8 @@ pub fn do_one<D: Desk>(alloc: Global, desk: &mut D, stamped: &Stamped) -> Outcom
     ensures crash { D.seen.is_clean desk.new → LeavesAfter D.seen desk.old stamped.now (is_failed result) desk.new }
     ensures settled { D.seen.is_clean desk.new → IsSettled D.seen desk.new }
     ensures store { result ≡ Outcome.Failed Fault.Store → D.seen.has_store }
+    ensures found { D.seen.is_clean desk.new → IsSound (D.seen.content desk.old) → (mrn : List ℕ) (limit : ℕ)
+        → stamped.now.command ≡ command.Ie029 mrn limit → result ≢ Outcome.Said (said.Refused refusal.NoGuarantee) }
     ensures calls { IsOutcomeOf D.called desk.old result desk.new }
 {
     match desk.weigh(alloc, stamped.at, &stamped.command) {
