@@ -1,5 +1,5 @@
 -- The fields of a table in two halves, each compared by a function of its own.
-use Rattle.std.specs.Prelude.{◌≡◌}
+use Rattle.std.specs.Prelude.{◌≡◌, List, ◌∷◌}
 use Rattle.sqlite_schema.specs.declared.schema.Table.{Table}
 
 -- the same name, tree, columns, keys and uniquenesses
@@ -19,3 +19,11 @@ pub record HaveSameRules (t u : Table) : Type 0 where
   pub computed : t.computed ≡ u.computed
   pub stamps : t.stamps ≡ u.stamps
   pub is_counted : t.is_counted ≡ u.is_counted
+
+-- both lists begin with one table
+pub record HaveSameFirst (tables others : List Table) : Type 0 where
+  pub first : Table
+  pub rest : List Table
+  pub further : List Table
+  pub begins : tables ≡ first ∷ rest
+  pub does : others ≡ first ∷ further

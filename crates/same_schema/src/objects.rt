@@ -1,6 +1,6 @@
 //! Columns, references, tables, indexes and schemas.
 ghost use Rattle.std.specs.Prelude.{◌≡◌, IsTrue};
-ghost use Rattle.same_schema.specs.Halves.{HaveSameColumns, HaveSameRules};
+ghost use Rattle.same_schema.specs.Halves.{HaveSameColumns, HaveSameFirst, HaveSameRules};
 
 use crate::same::Same;
 use sqlite_schema::schema::{Column, Index, Reference, Schema, Stamps, Table, View};
@@ -106,4 +106,18 @@ pub fn is_same_schema(schema: &Schema, other: &Schema) -> bool
     schema.tables.is_same(&other.tables)
         && schema.indexes.is_same(&other.indexes)
         && schema.views.is_same(&other.views)
+}
+
+/// Whether the first table of two databases is the same, whatever else is in them. `true` says so; `false` says nothing, as
+/// above, or that one of them has no table.
+pub fn has_same_first_table(schema: &Schema, other: &Schema) -> bool
+    ensures { IsTrue result → HaveSameFirst schema.now.tables other.now.tables }
+{
+    match (
+        schema.tables.as_slice().first(),
+        other.tables.as_slice().first(),
+    ) {
+        (Some(table), Some(first)) => table.is_same(first),
+        _ => false,
+    }
 }

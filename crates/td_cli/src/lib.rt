@@ -19,5 +19,8 @@ pub use laws::{
     agreeing_servings_over_files_tell_the_same, agreeing_servings_tell_the_same,
 };
 pub use program::{run_program, words_of};
-pub use run_laws::{acknowledged_replies_are_kept_in_the_file, runs_over_one_file_are_one_run};
+pub use run_laws::{
+    acknowledged_connections_are_kept_in_the_file, acknowledged_replies_are_kept_in_the_file,
+    runs_over_one_file_are_one_run,
+};
 pub use td_files::DeskFile;

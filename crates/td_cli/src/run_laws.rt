@@ -1,5 +1,5 @@
 //! Laws of runs over a file, one after another, and of what a crash leaves on the way, as contracts of functions that do nothing.
-ghost use Rattle.std.specs.Prelude.{◌≡◌, ℕ, ℤ, Bool, List, [], ◌∷◌, ◌++◌, map, IsTrue, Option, Result};
+ghost use Rattle.std.specs.Prelude.{◌≡◌, ℕ, ℤ, Bool, List, [], ◌∷◌, ◌++◌, map, IsTrue, None, Option, Result};
 ghost use Rattle.std.specs.declared.io.Error.{Error};
 ghost use Rattle.sqlite.specs.Files.{file_state};
 ghost use Rattle.sqlite_wal.specs.Recovery.{Image};
@@ -8,8 +8,11 @@ ghost use Rattle.http_wire.specs.Stream.{Exchange};
 ghost use Rattle.http_wire.specs.declared.stream.StreamEnd.{StreamEnd};
 ghost use Rattle.td_files.specs.Found.{FileSeen, IsClean, over_file};
 ghost use Rattle.td_http.specs.ConnectionLaws.{TellAlikeOver};
+ghost use Rattle.std.specs.declared.net.tcp.TcpStream.{TcpStream};
+ghost use Rattle.td_http.specs.Connections.{Connection, beside};
 ghost use Rattle.td_http.specs.Kept.{IsKeptBetween};
-ghost use Rattle.td_cli.specs.Desks.{BeginAlike, BeginsIn, IsMoment, fresh_books};
+ghost use Rattle.td_http.specs.KeptOver.{IsKeptWithin};
+ghost use Rattle.td_cli.specs.Desks.{BeginAlike, BeginsIn, IsHeadHandledAt, IsMoment, fresh_books};
 ghost use Rattle.td_cli.specs.Listening.{HasServed};
 ghost use Rattle.td_cli.specs.Piped.{IsPipedAt};
 ghost use Rattle.td_cli.specs.Runs.{GoesOnFrom, IsRun};
@@ -56,4 +59,21 @@ pub fn acknowledged_replies_are_kept_in_the_file<R: Read, W: Write, F: Disk>()
         → IsClean file → one.served.run.exchanges ≡ first ++ others
         → IsKeptBetween {C = Unit {0}} (IsMoment at) (λ d. d) over_file country (fresh_books (over_file.content one.opened)) first others
         (tt, one.opened) (one.clock_left, one.served.run.handler) }
+{}
+
+/// The same of a serving over a file. Take any of its connections, and any two parts of that one's exchanges, one after the other:
+/// between them there was a moment at which whatever a crash leaves is a desk's file, which the next opening takes: with the
+/// accepted changes of all connections before this one and of the first part, and at most one more, which was answered by a fixed
+/// reply. (What came over the sockets, and what became of the replies, no contract can say.)
+pub fn acknowledged_connections_are_kept_in_the_file<W: Write, F: Disk>()
+    ensures { (country : List ℕ) (is_new : Bool) (image : Image) (at : Option ℤ) (file : FileSeen F.Disk)
+        (port connections : ℕ) (writer writer_left : Counted W) (answer : Result Unit Error)
+        (before : List (Connection TcpStream TcpStream)) (connection : Connection TcpStream TcpStream)
+        (after : List (Connection TcpStream TcpStream)) (first others : List Exchange)
+        → (one : HasServed {C = Unit {0}} over_file (BeginsIn is_new image country) (λ d. d ≡ file) W.contents (IsMoment at)
+        port connections writer writer_left tt answer)
+        → IsClean file → one.served.all_served ≡ before ++ connection ∷ after → connection.exchanges ≡ first ++ others
+        → IsKeptWithin (λ _. None) (λ _. None) (λ _ _ _ _. Unit {0}) (λ _ _ _ _. Unit {0}) (IsMoment at) (λ d. d) IsHeadHandledAt
+        over_file country (fresh_books (over_file.content one.opened)) before connection after first others
+        (beside tt one.opened) one.served.last }
 {}

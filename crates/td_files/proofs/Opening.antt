@@ -14,10 +14,9 @@ use Rattle.sqlite_trees.specs.Tree.{Trees}
 use Rattle.td_desk.specs.Content.{Content}
 use Rattle.td_table_model.specs.declared.rule.Rule.{Rule}
 use Rattle.td_schema.specs.Tables.{desk_schema}
-use Rattle.td_store_rows.specs.Columns.{newest_version}
 use Rattle.td_store_rows.specs.StoreTables.{AreTreesOf, HoldsContent}
 use Rattle.td_store.specs.Kept.{CrashLeavesShown}
-use Rattle.td_store.specs.Opened.{AreDamaged, IsOfAnother, IsOfVersion, LacksMeta, TellsDatabase}
+use Rattle.td_store.specs.Opened.{AreDamaged, IsOfAnother, IsOfUnknownVersion, TellsDatabase}
 use Rattle.td_store.specs.declared.refused.OpenFault.{OpenFault}
 use Rattle.td_store.specs.declared.refused.OpenFault.TheVariants.{UnknownVersion, NeedsMigration, OtherCountry, Damaged, Store, NoMemory}
 use Rattle.td_files.specs.declared.desks.DeskFault.{DeskFault}
@@ -41,15 +40,12 @@ found_there image s opens finds =
 
 -- what the clauses of an open say of a fault
 tells : (country : List ℕ) (db : Database) (fault : OpenFault)
-    → (fault ≡ UnknownVersion → LacksMeta db.schema ⊎ ((db.schema ≡ desk_schema) × (¬ IsOfVersion newest_version db.trees)))
+    → (fault ≡ UnknownVersion → IsOfUnknownVersion db)
     → ((version : ℕ) → fault ≢ NeedsMigration version)
     → (fault ≡ OtherCountry → (db.schema ≡ desk_schema) × IsOfAnother country db.trees)
     → ((rule : Rule) → fault ≡ Damaged rule → (db.schema ≡ desk_schema) × AreDamaged country rule db.trees)
     → TellsDatabase country db (Some fault)
-tells country db UnknownVersion unknown newest other broken = of_unknown (unknown refl) where
-  of_unknown : LacksMeta db.schema ⊎ ((db.schema ≡ desk_schema) × (¬ IsOfVersion newest_version db.trees)) → TellsDatabase country db (Some UnknownVersion)
-  of_unknown (inl lacks) = inr (inl (refl, lacks))
-  of_unknown (inr is) = inr (inr is)
+tells country db UnknownVersion unknown newest other broken = inr (inl (refl, unknown refl))
 tells country db (NeedsMigration version) unknown newest other broken = absurd (newest version refl)
 tells country db OtherCountry unknown newest other broken = inr (inr (other refl))
 tells country db (Damaged rule) unknown newest other broken = inr (inr (broken rule refl))
@@ -58,7 +54,7 @@ tells country db NoMemory unknown newest other broken = inl (inr refl)
 
 -- Where the disk stayed clean, what the file held was refused for this fault, if it is neither the store's nor want of memory.
 pub refused_for : (image : Image) (country : List ℕ) (found : State) (fault : OpenFault) → IsFoundIn image found.now
-    → (fault ≡ UnknownVersion → LacksMeta found.now.schema ⊎ ((found.now.schema ≡ desk_schema) × (¬ IsOfVersion newest_version found.now.trees)))
+    → (fault ≡ UnknownVersion → IsOfUnknownVersion found.now)
     → ((version : ℕ) → fault ≢ NeedsMigration version)
     → (fault ≡ OtherCountry → (found.now.schema ≡ desk_schema) × IsOfAnother country found.now.trees)
     → ((rule : Rule) → fault ≡ Damaged rule → (found.now.schema ≡ desk_schema) × AreDamaged country rule found.now.trees)

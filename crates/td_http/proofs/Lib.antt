@@ -2,7 +2,7 @@ mod Handling
 pub mod Served
 pub mod Streamed
 pub mod Kept
-mod KeptOver
+pub mod KeptOver
 mod Alone
 pub mod Alike
 mod ServedConnections

@@ -8,7 +8,7 @@ ghost use Rattle.td_http.specs.declared.service.Service.{Service};
 ghost use Rattle.td_http.specs.ConnectionLaws.{AreServedAt, TellAlikeOver};
 ghost use Rattle.td_http.specs.Connections.{Between, Connection};
 ghost use Rattle.td_http.specs.KeptOver.{IsKeptWithin};
-ghost use Rattle.td_http.specs.Serving.{desk_of};
+ghost use Rattle.td_http.specs.Serving.{desk_of, IsHeadHandledBy};
 
 use crate::Clock;
 use crate::connections::Connections;
@@ -55,6 +55,6 @@ pub fn acknowledged_connections_are_kept<L: Connections, C: Clock, D: Desk>()
         → IsSettled D.seen (desk_of old.handler)
         → are.served.all_served ≡ before ++ connection ∷ after
         → connection.exchanges ≡ first ++ others
-        → IsKeptWithin L.Reader.remaining L.Writer.contents L.gives L.takes C.ticks D.seen
+        → IsKeptWithin L.Reader.remaining L.Writer.contents L.gives L.takes C.ticks desk_of IsHeadHandledBy D.seen
         country books before connection after first others old are.served.last }
 {}

@@ -45,19 +45,7 @@ read_commits g old read new settled reading still committing =
     let there = still (omega (arith, clean, committing.clean)) in
     (settled there.0 trees).1 (is ∙ ap (λ (d : Database). d.trees) there.1)) reading committing))
 
--- so where what it read shows that
-pub found_commits : {S : Type 0} (g : Ghosts S) (old : Held S) (read new : State) → CrashLeavesShown (state g old)
-    → (HasCleanDisk (state g old) → HasSchema (state g old) desk_schema)
-    → Reads desk_schema true (state g (record old { in_transaction = true })) read
-    → (HasCleanDisk read → HasSchema (state g old) desk_schema → IsTrue (state g old).is_open)
-    → Survives read new (λ trees. trees ≡ read.now.trees) → Survives (state g old) new (λ _. ⊥)
-found_commits g old read new settled tables reads shown committing =
-    read_commits g old read new settled reads.within.survives
-    (λ clean.
-    let has = tables (omega (arith, clean, reads.within.survives.clean)) in
-    (shown clean has, (reads.still clean refl has).now_is)) committing
-
--- or where it was seen after that
+-- so where it was seen after that
 pub seen_commits : {S : Type 0} (g : Ghosts S) (old : Held S) (read seen new : State) → CrashLeavesShown (state g old)
     → (HasCleanDisk (state g old) → HasSchema (state g old) desk_schema)
     → Reads desk_schema true (state g (record old { in_transaction = true })) read → StaysInside true read seen

@@ -1,3 +1,4 @@
+mod Begins
 mod Acknowledged
 mod Calls
 mod Holding

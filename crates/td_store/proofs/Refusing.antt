@@ -16,7 +16,7 @@ use Rattle.td_store_rows.proofs.Turned.{listed_there}
 use Rattle.td_store_audit_rows.specs.Laws.{ContentKeepsRules}
 use Rattle.td_store.specs.declared.refused.OpenFault.{OpenFault}
 use Rattle.td_store.specs.declared.refused.OpenFault.TheVariants.{UnknownVersion, NeedsMigration, OtherCountry, Damaged, Store, NoMemory}
-use Rattle.td_store.specs.Opened.{AreOfDesk, IsOfAnother, LacksMeta, TellsDatabase, TellsTables}
+use Rattle.td_store.specs.Opened.{AreOfDesk, IsOfAnother, IsOfUnknownVersion, LacksMeta, TellsDatabase, TellsTables}
 
 -- where there is none, it has a store's tables, and they are a desk's
 of_desk : (country : List ℕ) (db : Database) → TellsDatabase country db None → (db.schema ≡ desk_schema) × AreOfDesk country db.trees
@@ -87,9 +87,13 @@ module _ (country : List ℕ) (s : State) (is_open : IsTrue s.is_open) (c : Cont
   sound_tables Store told = told
   sound_tables NoMemory told = told
 
+  known : ¬ IsOfUnknownVersion s.now
+  known (inl lacks) = none_lacks s.now.schema (has.schema is_open) lacks
+  known (inr other) = other.1 (record { typed = has.trees.typed.meta; country = country; row = row })
+
   -- where sound content of that country stands, nothing is said of the database
   pub sound_there : (fault : OpenFault) → TellsDatabase country s.now (Some fault) → (fault ≡ Store) ⊎ (fault ≡ NoMemory)
   sound_there fault (inl (inl is)) = inl cc
   sound_there fault (inl (inr is)) = inr cc
-  sound_there fault (inr (inl is)) = absurd (none_lacks s.now.schema (has.schema is_open) is.1)
+  sound_there fault (inr (inl is)) = absurd (known is.1)
   sound_there fault (inr (inr told)) = absurd (sound_tables fault told.1)

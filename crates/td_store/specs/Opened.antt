@@ -9,7 +9,7 @@ use Rattle.td_table_model.specs.declared.rule.Rule.{Rule}
 use Rattle.td_schema.specs.Tables.{desk_schema}
 use Rattle.typed_sql.specs.Typed.{AreTyped, typed_rows}
 use Rattle.td_store_rows.specs.Columns.{meta_typing, newest_version}
-use Rattle.td_store_rows.specs.MetaTable.{stored_of}
+use Rattle.td_store_rows.specs.MetaTable.{MetaIsFirst, stored_of}
 use Rattle.td_store_rows.specs.declared.meta.stored.StoredMeta.{StoredMeta}
 use Rattle.td_store_audit_rows.specs.Untyped.{IsFirstBrokenUntyped}
 use Rattle.td_store_audit_rows.specs.Ids.{HaveAllIds}
@@ -19,11 +19,19 @@ use Rattle.td_store_audit_rows.specs.Scans.{TellReadable}
 use Rattle.td_store_audit_rows.specs.declared.tables.Readable.{Readable}
 use Rattle.td_store_audit.specs.Broken.{TellsBroken}
 use Rattle.td_store.specs.declared.refused.OpenFault.{OpenFault}
+use Rattle.td_store.specs.declared.schema.Tables.{Tables}
+use Rattle.td_store.specs.declared.schema.Tables.TheVariants as tables
 use Rattle.td_store.specs.declared.refused.OpenFault.TheVariants.{UnknownVersion, NeedsMigration, OtherCountry, Damaged, Store, NoMemory}
 
 -- there is no table `meta`
 abbrev pub LacksMeta : Schema → Type 0
 LacksMeta s = table_named s (codes "meta") ≡ None
+
+-- what is told of a database's tables
+abbrev pub AreTold : Schema → Tables → Type 0
+AreTold s tables.Store = s ≡ desk_schema
+AreTold s tables.OtherVersion = MetaIsFirst s
+AreTold s tables.Unknown = Unit {0}
 
 -- it is typed, and says this version
 pub record IsOfVersion (version : ℕ) (trees : Trees) : Type 0 where
@@ -56,11 +64,15 @@ TellsTables country trees (Some (Damaged rule)) = AreDamaged country rule trees
 TellsTables country trees (Some Store) = ⊥
 TellsTables country trees (Some NoMemory) = ⊥
 
+-- there is no table `meta`; or it is the first, and where it is typed doesn't say version 1, whatever other tables there are
+abbrev pub IsOfUnknownVersion : Database → Type 0
+IsOfUnknownVersion db = LacksMeta db.schema ⊎ (MetaIsFirst db.schema × (¬ IsOfVersion newest_version db.trees))
+
 -- what it says of a database: `Store` and `NoMemory` say nothing
 abbrev pub TellsDatabase : List ℕ → Database → Option OpenFault → Type 0
 TellsDatabase country db fault =
     ((fault ≡ Some Store) ⊎ (fault ≡ Some NoMemory))
-    ⊎ (((fault ≡ Some UnknownVersion) × LacksMeta db.schema)
+    ⊎ (((fault ≡ Some UnknownVersion) × IsOfUnknownVersion db)
     ⊎ ((db.schema ≡ desk_schema) × TellsTables country db.trees fault))
 
 -- what the office's own row, as it was read, is refused for
@@ -76,6 +88,10 @@ abbrev pub TellsOfficeIn : List ℕ → Trees → Option OpenFault → Type 0
 TellsOfficeIn country trees fault =
     (meta : Option StoredMeta) × (AreTyped meta_typing trees → map stored_of (typed_rows meta_typing trees) ≡ option_to_list meta)
     × TellsOffice country meta fault
+
+-- what is told of tables that are no store's of version 1: the version is another, or the store's own fault, which says nothing
+abbrev pub TellsOtherVersion : Trees → OpenFault → Type 0
+TellsOtherVersion trees fault = (fault ≡ Store) ⊎ ((fault ≡ UnknownVersion) × (¬ IsOfVersion newest_version trees))
 
 -- where the rowids are integers, no two the same, and these tables can be read, it is told what the rules say of the tables
 abbrev pub TellsRules : Readable → Trees → Option Rule → Type 0

@@ -3,13 +3,14 @@ ghost use Rattle.std.specs.Prelude.{◌≡◌, false, Some, None, option_map, Is
 ghost use Rattle.sqlite.specs.Held.{state};
 ghost use Rattle.sqlite.specs.State.{HasCleanDisk, Survives};
 ghost use Rattle.td_schema.specs.Tables.{desk_schema};
+ghost use Rattle.td_store_rows.specs.MetaTable.{MetaIsFirst};
 ghost use Rattle.td_store.specs.declared.refused.OpenFault.TheVariants as fault;
-ghost use Rattle.td_store.specs.Opened.{LacksMeta, TellsDatabase, TellsOfficeIn, TellsRows, TellsRules, TellsTables};
+ghost use Rattle.td_store.specs.Opened.{LacksMeta, TellsDatabase, TellsOfficeIn, TellsOtherVersion, TellsRows, TellsRules, TellsTables};
 
 use crate::faults::open_fault_of;
 use crate::office::office_fault;
 use crate::refused::OpenFault;
-use crate::schema::{has_store_tables, lacks_meta};
+use crate::schema::{Tables, lacks_meta, tables_of};
 use crate::settling::see_settled;
 use sqlite::{Connection, Error};
 use sqlite_trees::store::Alter;
@@ -21,14 +22,14 @@ use td_store_rows::find_meta;
 use td_table_model::Rule;
 use typed_sql::see_open;
 
-// What the office's own row is refused for, at an office of that country, or none. It is read in a transaction. An error is the
-// database's own, or want of memory.
+// What the office's own row is refused for, at an office of that country, or none: its table has to be the first, whatever others
+// there are. It is read in a transaction. An error is the database's own, or want of memory.
 fn fault_of_office<S: Alter>(
     conn: &mut Connection<S>,
     country: Country,
 ) -> Result<Option<OpenFault>, Error>
     requires outside { conn.old.in_transaction ≡ false }
-    requires tables { HasCleanDisk (state S.Store conn.old) → (state S.Store conn.old).now.schema ≡ desk_schema }
+    requires first { HasCleanDisk (state S.Store conn.old) → MetaIsFirst (state S.Store conn.old).now.schema }
     ensures ended { conn.new.in_transaction ≡ false }
     ensures live { HasCleanDisk (state S.Store conn.new) → IsTrue (state S.Store conn.new).is_open → IsTrue (state S.Store conn.old).is_open }
     ensures shown { HasCleanDisk (state S.Store conn.new)
@@ -133,7 +134,26 @@ fn damage(broken: Option<Rule>) -> Option<OpenFault>
     broken.map(OpenFault::Damaged)
 }
 
-// What the database is refused for: `Store` where it has other tables than a store's, too.
+// What a database with other tables than a store's is refused for, whose first is `meta`: `UnknownVersion` where the office's own
+// row isn't of version 1, else `Store`. An error is the database's own, or want of memory.
+fn fault_of_version<S: Alter>(conn: &mut Connection<S>, country: Country) -> Result<OpenFault, Error>
+    requires outside { conn.old.in_transaction ≡ false }
+    requires first { HasCleanDisk (state S.Store conn.old) → MetaIsFirst (state S.Store conn.old).now.schema }
+    ensures ended { conn.new.in_transaction ≡ false }
+    ensures live { HasCleanDisk (state S.Store conn.new) → IsTrue (state S.Store conn.new).is_open → IsTrue (state S.Store conn.old).is_open }
+    ensures told { HasCleanDisk (state S.Store conn.new)
+        → IfOk result (TellsOtherVersion (state S.Store conn.old).now.trees) }
+    ensures same { HasCleanDisk (state S.Store conn.new) → IsTrue (state S.Store conn.new).is_open
+        → (state S.Store conn.new).now ≡ (state S.Store conn.old).now }
+    ensures crash { Survives (state S.Store conn.old) (state S.Store conn.new) (λ _. ⊥) }
+{
+    match fault_of_office(conn, country)? {
+        Some(OpenFault::UnknownVersion) => Ok(OpenFault::UnknownVersion),
+        _ => Ok(OpenFault::Store),
+    }
+}
+
+// What the database is refused for: `Store` where it has other tables than a store's, too, unless they are of another version.
 fn fault_of_database<S: Alter>(
     alloc: Global,
     conn: &mut Connection<S>,
@@ -149,16 +169,17 @@ fn fault_of_database<S: Alter>(
         → (state S.Store conn.new).now ≡ (state S.Store conn.old).now }
     ensures crash { Survives (state S.Store conn.old) (state S.Store conn.new) (λ _. ⊥) }
 {
-    if !has_store_tables(alloc, conn)? {
-        return Ok(Some(OpenFault::Store));
+    match tables_of(alloc, conn)? {
+        Tables::Store => fault_in(alloc, conn, country),
+        Tables::OtherVersion => Ok(Some(fault_of_version(conn, country)?)),
+        Tables::Unknown => Ok(Some(OpenFault::Store)),
     }
-    fault_in(alloc, conn, country)
 }
 
 /// Why no desk of an office of that country can be opened over the database, or `None` where one can. `UnknownVersion`: it has no
-/// table `meta`, or its tables are a store's and the office's own row is none of version 1; `OtherCountry`: that is of version 1
-/// and of another country; `Damaged`: the first rule that the tables break; `Store`: its tables are none of a store, or the
-/// database answered an error other than want of memory; `NoMemory`: want of memory. Nothing is changed.
+/// table `meta`, or that is the first, as a store's of any version, and the office's own row is none of version 1; `OtherCountry`:
+/// that is of version 1 and of another country; `Damaged`: the first rule that the tables break; `Store`: its tables are none of a
+/// store, or the database answered an error other than want of memory; `NoMemory`: want of memory. Nothing is changed.
 pub(crate) fn refusal<S: Alter>(
     alloc: Global,
     conn: &mut Connection<S>,

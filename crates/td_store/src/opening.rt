@@ -9,7 +9,7 @@ ghost use Rattle.td_schema.specs.Tables.{desk_schema};
 ghost use Rattle.td_store_rows.specs.StoreTables.{HasOfficeRow, HoldsContent, content_in};
 ghost use Rattle.td_store.specs.declared.refused.OpenFault.TheVariants as fault;
 ghost use Rattle.td_store.specs.Kept.{CrashLeavesShown, sql_view};
-ghost use Rattle.td_store.specs.Opened.{AreDamaged, IsOfAnother, IsOfVersion, LacksMeta};
+ghost use Rattle.td_store.specs.Opened.{AreDamaged, IsOfAnother, IsOfUnknownVersion, LacksMeta};
 ghost use Rattle.td_store_rows.specs.Columns.{newest_version};
 
 use crate::desk::SqlDesk;
@@ -24,9 +24,9 @@ use td_store_audit_rows::content_keeps_rules;
 
 impl<S: Alter> SqlDesk<S> {
     /// Opens the desk of an office of that country over a database that one was made in before. The first of these that holds is
-    /// the refusal. `UnknownVersion`: there is no table `meta`. `Store`: the tables are others than a store's. `UnknownVersion`:
-    /// the office's own row is missing, or its version isn't 1. `OtherCountry`: its country is another. `Damaged`: the tables
-    /// break this rule, and none before it. An error of the database on the way is `Store`, want of memory `NoMemory`. With a
+    /// the refusal. `UnknownVersion`: there is no table `meta`; or it is the first, as a store's of any version, and the office's
+    /// own row is missing or its version isn't 1. `Store`: the tables are others than a store's. `OtherCountry`: the row's country
+    /// is another. `Damaged`: the tables break this rule, and none before it. An error of the database on the way is `Store`, want of memory `NoMemory`. With a
     /// refusal the connection is handed back, its database as it was; nor does a crash change it, during the call or after it.
     pub fn open(
         alloc: Global,
@@ -46,8 +46,7 @@ impl<S: Alter> SqlDesk<S> {
         ensures absent { LacksMeta (state S.Store conn).now.schema
             → MatchResult result (λ _. ⊥) (λ refused. (refused.fault ≡ fault.UnknownVersion) × (refused.connection ≡ conn)) }
         ensures unknown { IfErr result (λ refused. HasCleanDisk (state S.Store refused.connection) → refused.fault ≡ fault.UnknownVersion
-            → LacksMeta (state S.Store conn).now.schema
-            ⊎ (((state S.Store conn).now.schema ≡ desk_schema) × (¬ IsOfVersion newest_version (state S.Store conn).now.trees))) }
+            → IsOfUnknownVersion (state S.Store conn).now) }
         ensures newest { IfErr result (λ refused. HasCleanDisk (state S.Store refused.connection)
             → (version : ℕ) → refused.fault ≢ fault.NeedsMigration version) }
         ensures other { IfErr result (λ refused. HasCleanDisk (state S.Store refused.connection) → refused.fault ≡ fault.OtherCountry

@@ -1,13 +1,13 @@
-//! Whether a database has the tables of a store.
+//! Which tables a database has.
 ghost use Rattle.std.specs.Prelude.{◌≡◌, ◌↔◌, false, IsTrue, IfOk, OnOk};
 ghost use Rattle.sqlite.specs.Held.{state};
 ghost use Rattle.sqlite.specs.State.{HasCleanDisk};
 ghost use Rattle.sqlite.specs.Steps.{over_memory};
 ghost use Rattle.td_schema.specs.Tables.{IsEmptyOf};
 ghost use Rattle.td_schema.specs.Tables.{desk_schema, no_schema};
-ghost use Rattle.td_store.specs.Opened.{LacksMeta};
+ghost use Rattle.td_store.specs.Opened.{AreTold, LacksMeta};
 
-use same_schema::is_same_schema;
+use same_schema::{has_same_first_table, is_same_schema};
 use sqlite::{Connection, Error, MemStore};
 use sqlite_trees::store::Alter;
 use std::alloc::Global;
@@ -40,11 +40,27 @@ fn model(alloc: Global) -> Result<Connection<MemStore>, Error>
     Ok(conn)
 }
 
-/// Whether the database has the tables of a store, and no others; `false` says nothing. An error is want of memory, or that
-/// of a database in memory.
-pub(crate) fn has_store_tables<S: Alter>(alloc: Global, conn: &Connection<S>) -> Result<bool, Error>
-    ensures { IfOk result (λ has. IsTrue has → (state S.Store conn.now).now.schema ≡ desk_schema) }
+/// The tables of a database.
+#[derive(Clone, Copy)]
+pub(crate) enum Tables {
+    /// Those of a store, and no others.
+    Store,
+    /// Others, but the first is the table `meta` that a store of any version begins with.
+    OtherVersion,
+    /// It may have any.
+    Unknown,
+}
+
+/// Which tables the database has. An error is want of memory, or that of a database in memory.
+pub(crate) fn tables_of<S: Alter>(alloc: Global, conn: &Connection<S>) -> Result<Tables, Error>
+    ensures { IfOk result (AreTold (state S.Store conn.now).now.schema) }
 {
     let model = model(alloc)?;
-    Ok(is_same_schema(conn.schema(), model.schema()))
+    if is_same_schema(conn.schema(), model.schema()) {
+        return Ok(Tables::Store);
+    }
+    if has_same_first_table(conn.schema(), model.schema()) {
+        return Ok(Tables::OtherVersion);
+    }
+    Ok(Tables::Unknown)
 }

@@ -54,10 +54,10 @@ all_kept (x ∷ xs) = ap (λ l. x ∷ l) (all_kept xs)
 
 pub found_meta : (old : State) (one : Option StoredMeta) (rows : List Row) → Selects FIND.now [] old rows
     → option_to_list one ≡ map stored_of (map meta_from rows) → IsTheMeta old one
-found_meta old one rows shows is has typed =
-    let answer = shows desk_schema 0 [] all_columns [] has find_means in
+found_meta old one rows shows is s first has typed =
+    let answer = shows s 0 [] all_columns [] has (find_means s first) in
     let those : IsPermutation (filter (λ m. true) (typed_rows meta_typing old.now.trees)) (map meta_from rows) =
-    selected_typed meta_typing desk_schema (passes [] []) (shown_by all_columns []) (λ m. true) (row_order [] [])
+    selected_typed meta_typing s (passes [] []) (shown_by all_columns []) (λ m. true) (row_order [] [])
     old.now.trees rows (λ r typed_row. refl) (λ r. refl) answer typed in
     few_are_same _ one (subst₂ IsPermutation (ap (map stored_of) (all_kept (typed_rows meta_typing old.now.trees)))
     (sym is) (IsPermutation-map stored_of _ _ those))

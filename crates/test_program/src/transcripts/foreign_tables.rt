@@ -19,6 +19,26 @@ $ check --country CH --db FILE
 $ sql CREATE TABLE meta (note TEXT NOT NULL) STRICT
 $ check --country CH --db FILE
 ! 1 transit-desk: store
+
+== a file of a later version is told as that, whatever its other tables are
+$ sql CREATE TABLE meta (one INTEGER PRIMARY KEY CHECK (one = 1), version INTEGER NOT NULL, country TEXT NOT NULL) STRICT
+$ sql CREATE TABLE ledger (holder INTEGER NOT NULL) STRICT
+$ sql INSERT INTO meta VALUES (1, 9, 'CH')
+$ check --country CH --db FILE
+! 1 transit-desk: unknown-version
+
+== a file of a later version and of another country is told the version
+$ sql CREATE TABLE meta (one INTEGER PRIMARY KEY CHECK (one = 1), version INTEGER NOT NULL, country TEXT NOT NULL) STRICT
+$ sql INSERT INTO meta VALUES (1, 9, 'DE')
+$ check --country CH --db FILE
+! 1 transit-desk: unknown-version
+
+== a file that says this version and has other tables is none of a desk
+$ sql CREATE TABLE meta (one INTEGER PRIMARY KEY CHECK (one = 1), version INTEGER NOT NULL, country TEXT NOT NULL) STRICT
+$ sql CREATE TABLE ledger (holder INTEGER NOT NULL) STRICT
+$ sql INSERT INTO meta VALUES (1, 1, 'CH')
+$ check --country CH --db FILE
+! 1 transit-desk: store
 "#;
 
 #[test]

@@ -4,9 +4,8 @@ use Rattle.std.specs.Option.{option_to_list}
 use Rattle.sqlite.specs.Held.{state}
 use Rattle.sqlite.specs.State.{State}
 use Rattle.sqlite.specs.declared.error.Error.{Error}
-use Rattle.td_schema.specs.Tables.{desk_schema}
-use Rattle.typed_sql.proofs.Leaving.{any_ok, reads_ok, stays}
-use Rattle.typed_sql.proofs.OnlyRead.{reads_well}
+use Rattle.typed_sql.proofs.Leaving.{any_ok, stays}
+use Rattle.typed_sql.proofs.OnlyRead.{one_read, stays_well}
 use Rattle.td_store_rows.specs.declared.meta.stored.StoredMeta.{StoredMeta}
 use Rattle.td_store_rows.specs.declared.meta.texts.TheConstants.{FIND}
 use Rattle.td_store_rows.specs.Columns.{meta_from}
@@ -28,10 +27,13 @@ returns-clause-found g c clean =
     by_result (Ok one) is = found_meta old one c.in_ok-rows.rows.items (c.in_ok-rows.ensures.selected clean) is
     by_result (Err e) is = is
 
-pub returns-clause-reads : goal.returns-clause-reads
-returns-clause-reads g c =
-    reads_well (reads_ok desk_schema FIND.now find_means.plain _ _ c.in_ok-rows.ensures.still c.in_ok-rows.ensures.within)
+pub returns-clause-still : goal.returns-clause-still
+returns-clause-still g c clean =
+    any_ok c.only_meta.result (λ s first. one_read _ _ (stays s FIND.now (find_means s first).plain _ _ (c.in_ok-rows.ensures.still clean)))
+
+pub returns-clause-within : goal.returns-clause-within
+returns-clause-within g c = stays_well c.in_ok-rows.ensures.within
 
 pub returns-clause-was_open : goal.returns-clause-was_open
 returns-clause-was_open g c clean =
-    any_ok c.only_meta.result (λ has. (stays desk_schema FIND.now find_means.plain _ _ (c.in_ok-rows.ensures.still clean) has).0.was_open)
+    any_ok c.only_meta.result (λ s first has. (stays s FIND.now (find_means s first).plain _ _ (c.in_ok-rows.ensures.still clean) has).0.was_open)
