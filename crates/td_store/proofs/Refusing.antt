@@ -14,6 +14,7 @@ use Rattle.td_store_rows.specs.Columns.{meta_row, meta_typing, newest_version}
 use Rattle.td_store_rows.specs.StoreTables.{HasOfficeRow, HoldsContent, country_in, content_in}
 use Rattle.td_store_rows.proofs.Turned.{listed_there}
 use Rattle.td_store_audit_rows.specs.Laws.{ContentKeepsRules}
+use Rattle.td_store.proofs.Begins.{store_begins}
 use Rattle.td_store.specs.declared.refused.OpenFault.{OpenFault}
 use Rattle.td_store.specs.declared.refused.OpenFault.TheVariants.{UnknownVersion, NeedsMigration, OtherCountry, Damaged, Store, NoMemory}
 use Rattle.td_store.specs.Opened.{AreOfDesk, IsOfAnother, IsOfUnknownVersion, LacksMeta, TellsDatabase, TellsTables}
@@ -58,6 +59,18 @@ pub another_there : (country : List ℕ) (db : Database) (fault : OpenFault) →
     → fault ≡ OtherCountry → (db.schema ≡ desk_schema) × IsOfAnother country db.trees
 another_there country db fault told is =
     other_there country db (subst (λ f. TellsDatabase country db (Some f)) is told)
+
+-- so was an unknown version, for what it says or since there is no table `meta`
+unknown_told : (country : List ℕ) (db : Database) → TellsDatabase country db (Some UnknownVersion) → IsOfUnknownVersion db
+unknown_told country db (inl (inl is)) = absurd cc
+unknown_told country db (inl (inr is)) = absurd cc
+unknown_told country db (inr (inl is)) = is.1
+unknown_told country db (inr (inr told)) = inr (store_begins db.schema told.0, told.1)
+
+pub unknown_there : (country : List ℕ) (db : Database) (fault : OpenFault) → TellsDatabase country db (Some fault)
+    → fault ≡ UnknownVersion → IsOfUnknownVersion db
+unknown_there country db fault told is =
+    unknown_told country db (subst (λ f. TellsDatabase country db (Some f)) is told)
 
 -- a store has a table `meta`
 meta_there : table_named desk_schema (codes "meta") ≡ Some 0

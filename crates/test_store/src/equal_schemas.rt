@@ -1,5 +1,5 @@
-//! A schema is told to be the same as its copy, and another than one with a name more.
-use same_schema::is_same_schema;
+//! A schema is told to be the same as its copy, and another than one with a name more; of the first table alone likewise.
+use same_schema::{has_same_first_table, is_same_schema};
 use sqlite_items::Items;
 use sqlite_schema::code::{Op, Terms};
 use sqlite_schema::schema::{Action, Column, Index, Kind, Reference, Schema, Stamps, Table, View};
@@ -130,5 +130,23 @@ fn nothing_is_the_same_as_nothing(rt: HostRuntime) -> Result<(), Fail> {
     let first = Schema::new(rt.alloc());
     let second = Schema::new(rt.alloc());
     assert!(rt; is_same_schema(&first, &second));
+    Ok(())
+}
+
+#[test]
+fn the_first_table_alone_is_compared(rt: HostRuntime) -> Result<(), Fail> {
+    let first = schema(rt.alloc())?;
+    let mut longer = schema(rt.alloc())?;
+    longer.tables.push(table(rt.alloc())?)?;
+    longer.views.push(view(rt.alloc(), "second")?)?;
+    assert!(rt; has_same_first_table(&first, &longer));
+    let mut renamed = table(rt.alloc())?;
+    renamed.name = named(rt.alloc(), "holders")?;
+    let mut other = Schema::new(rt.alloc());
+    other.tables.push(renamed)?;
+    assert!(rt; !has_same_first_table(&first, &other));
+    let none = Schema::new(rt.alloc());
+    assert!(rt; !has_same_first_table(&first, &none));
+    assert!(rt; !has_same_first_table(&none, &none));
     Ok(())
 }

@@ -2,7 +2,8 @@
 use crate::helpers::devices::{Drip, Moments, Narrow};
 use sqlite::{FileFrom, Unknown};
 use td_cli::{
-    FixedClock, acknowledged_replies_are_kept_in_the_file, agreeing_jobs_over_files_tell_the_same,
+    FixedClock, acknowledged_connections_are_kept_in_the_file,
+    acknowledged_replies_are_kept_in_the_file, agreeing_jobs_over_files_tell_the_same,
     agreeing_jobs_tell_the_same, agreeing_servings_over_files_tell_the_same,
     agreeing_servings_tell_the_same, runs_over_one_file_are_one_run,
 };
@@ -43,4 +44,5 @@ fn laws_hold_at_concrete_types() {
     runs_over_one_file_are_one_run::<&[u8], Vec<u8>, FileFrom<Unknown>, FileFrom<Unknown>>();
     acknowledged_replies_are_kept::<&[u8], Vec<u8>, FixedClock, PlainDesk>();
     acknowledged_replies_are_kept_in_the_file::<&[u8], Vec<u8>, FileFrom<Unknown>>();
+    acknowledged_connections_are_kept_in_the_file::<Vec<u8>, FileFrom<Unknown>>();
 }

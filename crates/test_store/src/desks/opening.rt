@@ -131,6 +131,20 @@ fn no_desk_is_opened_after_a_change_by_hand(rt: HostRuntime) {
 }
 
 #[test]
+fn a_later_version_is_told_whatever_its_tables_are(rt: HostRuntime) {
+    let mut conn = filled(&rt).close();
+    fill(
+        &rt,
+        &mut conn,
+        &[
+            "UPDATE meta SET version = 9",
+            "CREATE TABLE notes (note TEXT NOT NULL) STRICT",
+        ],
+    );
+    assert!(rt; refused(&rt, conn).fault == OpenFault::UnknownVersion);
+}
+
+#[test]
 fn no_desk_is_opened_over_no_table(rt: HostRuntime) {
     let refused = refused(&rt, database(&rt));
     assert!(rt; refused.fault == OpenFault::UnknownVersion);

@@ -1,11 +1,11 @@
-use Rattle.std.proofs.Common.{arith, refl, rules, true}
+use Rattle.std.proofs.Common.{◌≡◌, ◌∙◌, [], arith, false, refl, rules, true}
 use Rattle.std.specs.Prelude.{IsTrue}
 use Rattle.sqlite_schema.specs.declared.schema.Schema.{Schema}
 use Rattle.sqlite.specs.Held.{state}
-use Rattle.sqlite.specs.State.{HasCleanDisk, State}
+use Rattle.sqlite.specs.State.{HasCleanDisk, KeepsCounts, Shows, State, Survives}
 use Rattle.typed_sql.specs.Reading.{OnlyRead, StaysInside}
 use Rattle.typed_sql.specs.Writing.{HasSchema}
-use Rattle.td_store_rows.specs.MetaTable.{MetaIsFirst}
+use Rattle.td_store_rows.specs.MetaTable.{IsTheMeta, MetaIsFirst}
 use Rattle.td_store.proofs.Leaving.{read_commits}
 use Rattle.td_store.proofs.judging.fault_of_office.Goals as goal
 
@@ -36,3 +36,33 @@ returns-clause-crash g c =
     (λ clean.
     let first : MetaIsFirst o.now.schema = c.requires.first (omega (arith, clean, within.survives.clean)) in
     (shown clean o.now.schema first (λ _. refl), (still clean o.now.schema first (λ _. refl)).now_is)) (search rules)
+
+pub returns-clause-told : goal.returns-clause-told
+returns-clause-told g c clean =
+    let o : State = state g.S.Store c.args.conn.now in
+    let a : State = state g.S.Store (record c.args.conn.now { in_transaction = true }) in
+    let m : State = state g.S.Store c.find_meta.new.tx.conn.now in
+    let within : StaysInside true a m = rw c.transaction-tx.ensures.begun at c.in_ok-meta.ensures.within in
+    let e : State = state g.S.Store c.conn-2-1.given.0 in
+    let ended : Survives m e (λ trees. trees ≡ m.now.trees) = search rules in
+    let clean_m : HasCleanDisk m = omega (arith, clean, ended.clean) in
+    let found : IsTheMeta a c.in_ok-meta.meta = rw c.transaction-tx.ensures.begun at c.in_ok-meta.ensures.found clean_m in
+    (
+      c.in_ok-meta.meta,
+      found o.now.schema (c.requires.first (omega (arith, clean_m, within.survives.clean))) (λ _. refl),
+      c.office_fault.ensures,
+    )
+
+pub returns-clause-same : goal.returns-clause-same
+returns-clause-same g c clean is =
+    let o : State = state g.S.Store c.args.conn.now in
+    let a : State = state g.S.Store (record c.args.conn.now { in_transaction = true }) in
+    let m : State = state g.S.Store c.find_meta.new.tx.conn.now in
+    let within : StaysInside true a m = rw c.transaction-tx.ensures.begun at c.in_ok-meta.ensures.within in
+    let still : HasCleanDisk m → (s : Schema) → MetaIsFirst s → OnlyRead s a m = rw c.transaction-tx.ensures.begun at c.in_ok-meta.ensures.still in
+    let e : State = state g.S.Store c.conn-2-1.given.0 in
+    let ended : Survives m e (λ trees. trees ≡ m.now.trees) = search rules in
+    let clean_m : HasCleanDisk m = omega (arith, clean, ended.clean) in
+    let first : MetaIsFirst o.now.schema = c.requires.first (omega (arith, clean_m, within.survives.clean)) in
+    let committed : IsTrue m.in_transaction × Shows m e m.now m.now false × KeepsCounts m e × (e.marks ≡ []) = search rules in
+    committed.1.now_is ∙ (still clean_m o.now.schema first (λ _. refl)).now_is

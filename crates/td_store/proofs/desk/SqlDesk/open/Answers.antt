@@ -3,7 +3,7 @@ use Rattle.std.specs.Prelude.{IsTrue}
 use Rattle.sqlite.specs.Held.{state}
 use Rattle.td_store_rows.specs.StoreTables.{content_in}
 use Rattle.td_store.proofs.Leaving.{leaves_shown}
-use Rattle.td_store.proofs.Refusing.{another_there, desk_there, sound_there}
+use Rattle.td_store.proofs.Refusing.{another_there, desk_there, sound_there, unknown_there}
 use Rattle.td_store.proofs.desk.SqlDesk.open.Goals as goal
 
 pub over-requires-clause-desk : goal.over-requires-clause-desk
@@ -40,6 +40,10 @@ returns-in-None-clause-leaves g c =
     let it = desk_there c.args.country (state g.S.Store c.args.conn).now (state g.S.Store c.refusal.new.conn)
     (c.in-None.ensures.told clean) (c.refusal.ensures.same clean is) c.see_settled.ensures.sound is in
     (content_in (state g.S.Store c.refusal.new.conn).now.trees, it.0)))
+
+pub returns-in-Some-clause-unknown : goal.returns-in-Some-clause-unknown
+returns-in-Some-clause-unknown g c = λ clean is.
+    unknown_there c.args.country (state g.S.Store c.args.conn).now c.in-Some.fault (c.in-Some.ensures.told clean) is
 
 pub returns-in-Some-clause-other : goal.returns-in-Some-clause-other
 returns-in-Some-clause-other g c = λ clean is.
