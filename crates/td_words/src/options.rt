@@ -1,6 +1,6 @@
 //! The commands and their options, and what help tells of them.
 ghost use Rattle.std.specs.Prelude.{◌≡◌, false, IfOk};
-ghost use Rattle.clap.specs.Words.{app_of, new_app, rule_of};
+ghost use Rattle.clap.specs.Words.{App, app_of, new_app, rule_of, with_subcommand};
 ghost use Rattle.clap.specs.declared.Command.TheViews.{out-Command};
 ghost use Rattle.td_words.specs.Words.{bare_app, check_app, new_file_rule, option_rule, pipe_app, program_app, serve_app, with_country, with_office};
 
@@ -190,12 +190,22 @@ fn bare_program<'a>(alloc: Global) -> Result<Command<'a>, AllocError>
     )
 }
 
+// A program with one job more.
+fn with_job<'a>(
+    program: Command<'a>,
+    job: Result<Command<'a>, AllocError>,
+) -> Result<Command<'a>, AllocError>
+    ensures { (app : App) → IfOk job.entry (λ j. (app_of j ≡ app) × ((out-Command j).has_globals ≡ false))
+        → IfOk result (λ c. app_of c ≡ with_subcommand (app_of program.entry) app.top) }
+{
+    program.subcommand(job?)
+}
+
 /// The program with its commands, as `clap` reads the words.
 pub(crate) fn program<'a>(alloc: Global) -> Result<Command<'a>, AllocError>
     ensures { IfOk result (λ c. app_of c ≡ program_app) }
 {
-    bare_program(alloc)?
-        .subcommand(serve_command(alloc)?)?
-        .subcommand(pipe_command(alloc)?)?
-        .subcommand(check_command(alloc)?)
+    let program = with_job(bare_program(alloc)?, serve_command(alloc))?;
+    let program = with_job(program, pipe_command(alloc))?;
+    with_job(program, check_command(alloc))
 }
