@@ -54,7 +54,7 @@ lines_there : (day : ℕ) (entry : List ℕ → Option (Guarantee × ℕ)) (line
 lines_there day entry [] all is = cc
 lines_there day entry (l ∷ lines) all is =
     elim (either (cover_refusal day l.cents (entry l.grn)) (first_uncovered day entry lines) is) [
-      inl here ↦ covered_there day l.cents (entry l.grn) all.0 here
+      | inl here ↦ covered_there day l.cents (entry l.grn) all.0 here
       | inr later ↦ lines_there day entry lines all.1 later
     ]
 

@@ -3,7 +3,7 @@ ghost use Rattle.std.specs.Prelude.{◌≡◌, false, Some, None, option_map, Is
 ghost use Rattle.sqlite.specs.Held.{state};
 ghost use Rattle.sqlite.specs.State.{HasCleanDisk, Survives};
 ghost use Rattle.td_schema.specs.Tables.{desk_schema};
-ghost use Rattle.td_store_rows.specs.MetaTable.{MetaIsFirst};
+ghost use Rattle.td_store_rows.specs.Columns.{MetaIsFirst};
 ghost use Rattle.td_store.specs.declared.refused.OpenFault.TheVariants as fault;
 ghost use Rattle.td_store.specs.Opened.{LacksMeta, TellsDatabase, TellsOfficeIn, TellsOtherVersion, TellsRows, TellsRules, TellsTables};
 
@@ -136,7 +136,10 @@ fn damage(broken: Option<Rule>) -> Option<OpenFault>
 
 // What a database with other tables than a store's is refused for, whose first is `meta`: `UnknownVersion` where the office's own
 // row isn't of version 1, else `Store`. An error is the database's own, or want of memory.
-fn fault_of_version<S: Alter>(conn: &mut Connection<S>, country: Country) -> Result<OpenFault, Error>
+fn fault_of_version<S: Alter>(
+    conn: &mut Connection<S>,
+    country: Country,
+) -> Result<OpenFault, Error>
     requires outside { conn.old.in_transaction ≡ false }
     requires first { HasCleanDisk (state S.Store conn.old) → MetaIsFirst (state S.Store conn.old).now.schema }
     ensures ended { conn.new.in_transaction ≡ false }

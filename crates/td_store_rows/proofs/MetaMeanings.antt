@@ -12,8 +12,7 @@ use Rattle.sqlite_sql.specs.Term.{Term, lit, col}
 use Rattle.td_schema.proofs.Acting.{none_acts}
 use Rattle.td_schema.specs.Tables.{desk_schema}
 use Rattle.typed_sql.specs.Meanings.{HasTable, MeansInsert, MeansSelect}
-use Rattle.td_store_rows.specs.Columns.{meta_table}
-use Rattle.td_store_rows.specs.MetaTable.{MetaIsFirst}
+use Rattle.td_store_rows.specs.Columns.{MetaIsFirst, meta_table}
 use Rattle.td_store_rows.specs.declared.meta.texts.TheConstants.{INSERT, FIND}
 
 meta_there : HasTable desk_schema 0 meta_table

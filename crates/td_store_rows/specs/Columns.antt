@@ -1,7 +1,8 @@
 -- The columns of the rows of each table in a store, and the row that columns are read as.
-use Rattle.std.specs.Prelude.{ℕ, ℤ, pos, List, [], ◌∷◌, unwrap_or, if◌then◌else◌}
+use Rattle.std.specs.Prelude.{◌≡◌, ℕ, ℤ, pos, List, [], ◌∷◌, unwrap_or, if◌then◌else◌}
 use Rattle.sqlite_value.specs.declared.value.Value.TheVariants.{Int, Text}
 use Rattle.sqlite_value.specs.Order.{Row, column}
+use Rattle.sqlite_schema.specs.declared.schema.Schema.{Schema}
 use Rattle.sqlite_schema.specs.declared.schema.Table.{Table}
 use Rattle.td_schema.specs.Tables.{meta, holders, guarantees, codes_table, movements, lines}
 use Rattle.typed_sql.specs.Typed.{Typing}
@@ -45,6 +46,10 @@ meta_table = record meta { tree = 0 }
 
 abbrev pub meta_typing : Typing MetaRow
 meta_typing = record { table = meta_table; columns = meta_columns; cells = meta_cells; from = meta_from }
+
+-- the table is the first that was made, as it is in each version of the tables, whatever others there are
+abbrev pub MetaIsFirst : Schema → Type 0
+MetaIsFirst s = (others : List Table) × (s.tables ≡ meta_table ∷ others)
 
 -- the five columns of a row; the holder's number is the rowid, and the first column is kept as NULL
 abbrev pub holder_columns : Row → Row

@@ -1,14 +1,13 @@
 -- What is asked of the office's own row in a store's file, and that it is written.
-use Rattle.std.specs.Prelude.{◌≡◌, List, ◌∷◌, map, Option}
+use Rattle.std.specs.Prelude.{◌≡◌, List, map, Option}
 use Rattle.std.specs.Option.{option_to_list}
 use Rattle.sqlite.specs.State.{State}
 use Rattle.sqlite_schema.specs.declared.schema.Schema.{Schema}
-use Rattle.sqlite_schema.specs.declared.schema.Table.{Table}
 use Rattle.td_base.specs.Codes.{country_read}
 use Rattle.td_schema.specs.Tables.{desk_schema}
 use Rattle.typed_sql.specs.Typed.{AreTyped, Turns, typed_rows}
 use Rattle.typed_sql.specs.Writing.{HasSchema}
-use Rattle.td_store_rows.specs.Columns.{MetaRow, meta_table, meta_typing}
+use Rattle.td_store_rows.specs.Columns.{MetaIsFirst, MetaRow, meta_typing}
 use Rattle.td_store_rows.specs.declared.meta.stored.StoredMeta.{StoredMeta}
 
 -- what is said of a row: its country, where its text is one
@@ -18,10 +17,6 @@ stored_of m = record { version = m.version; country = country_read m.country }
 -- the statement turned the rows into what f makes of them
 abbrev pub TurnsMeta : (List MetaRow → List MetaRow) → State → State → Type 0
 TurnsMeta f = Turns meta_typing desk_schema f
-
--- the table is the first that was made, as it is in each version of the tables, whatever others there are
-abbrev pub MetaIsFirst : Schema → Type 0
-MetaIsFirst s = (others : List Table) × (s.tables ≡ meta_table ∷ others)
 
 -- where the table is the first, it has just the row that was found, or none where none was found
 abbrev pub IsTheMeta : State → Option StoredMeta → Type 0

@@ -6,147 +6,153 @@ use sqlite_schema::schema::{Action, Column, Index, Kind, Reference, Schema, Stam
 use sqlite_sql::ops::{BinaryOp, CompareOp, UnaryOp};
 use sqlite_value::keys::{Collation, Order};
 use sqlite_value::value::{Bytes, Value};
-use std::alloc::{AllocError, Global};
-use std::test::Fail;
+use std::process::Abort;
 
-fn named(alloc: Global, name: &str) -> Result<Bytes, AllocError> {
-    Bytes::from_slice(alloc, name.as_bytes())
+fn named(rt: &(impl AllocGlobal + Abort), name: &str) -> Bytes {
+    Bytes::from_slice(rt.alloc(), name.as_bytes()).expect(rt, "memory")
 }
 
-fn one_name(alloc: Global, name: &str) -> Result<Items<Bytes>, AllocError> {
-    let mut names = Items::new(alloc);
-    names.push(named(alloc, name)?)?;
-    Ok(names)
+fn one_name(rt: &(impl AllocGlobal + Abort), name: &str) -> Items<Bytes> {
+    let mut names = Items::new(rt.alloc());
+    names.push(named(rt, name)).expect(rt, "memory");
+    names
 }
 
-fn columns(alloc: Global) -> Result<Items<Column>, AllocError> {
-    let mut columns = Items::new(alloc);
-    columns.push(Column {
-        name: named(alloc, "serial")?,
+// A list of one place.
+fn place(rt: &(impl AllocGlobal + Abort), at: usize) -> Items<usize> {
+    Items::from_slice(rt.alloc(), &[at]).expect(rt, "memory")
+}
+
+fn columns(rt: &(impl AllocGlobal + Abort)) -> Items<Column> {
+    let mut columns = Items::new(rt.alloc());
+    let serial = Column {
+        name: named(rt, "serial"),
         kind: Kind::Integer,
         is_strict: true,
         not_null: true,
         default: Value::Int(1),
         collation: Collation::Binary,
-    })?;
-    Ok(columns)
+    };
+    columns.push(serial).expect(rt, "memory");
+    columns
 }
 
-fn references(alloc: Global) -> Result<Items<Reference>, AllocError> {
-    let mut references = Items::new(alloc);
-    references.push(Reference {
-        columns: Items::from_slice(alloc, &[1])?,
-        parent: named(alloc, "holders")?,
-        parent_columns: one_name(alloc, "holder")?,
+fn references(rt: &(impl AllocGlobal + Abort)) -> Items<Reference> {
+    let mut references = Items::new(rt.alloc());
+    let holder = Reference {
+        columns: place(rt, 1),
+        parent: named(rt, "holders"),
+        parent_columns: one_name(rt, "holder"),
         on_delete: Action::NoAction,
         on_update: Action::Cascade,
         is_deferred: false,
-    })?;
-    Ok(references)
+    };
+    references.push(holder).expect(rt, "memory");
+    references
 }
 
 // An operation of each kind.
-fn checks(alloc: Global) -> Result<Terms, AllocError> {
-    let mut nodes = Items::new(alloc);
-    nodes.push(Op::Column(1, 1))?;
-    nodes.push(Op::Literal(Value::Text(named(alloc, "x")?)))?;
-    nodes.push(Op::Unary(UnaryOp::Not, 0))?;
-    nodes.push(Op::Binary(BinaryOp::Compare(CompareOp::Eq, Collation::Binary), 0, 1))?;
-    nodes.push(Op::Case(2, 0, 1))?;
-    let roots = Items::from_slice(alloc, &[3, 4])?;
-    Ok(Terms { nodes, roots })
+fn checks(rt: &(impl AllocGlobal + Abort)) -> Terms {
+    let mut nodes = Items::new(rt.alloc());
+    nodes.push(Op::Column(1, 1)).expect(rt, "memory");
+    let text = Op::Literal(Value::Text(named(rt, "x")));
+    nodes.push(text).expect(rt, "memory");
+    nodes.push(Op::Unary(UnaryOp::Not, 0)).expect(rt, "memory");
+    let equal = BinaryOp::Compare(CompareOp::Eq, Collation::Binary);
+    nodes.push(Op::Binary(equal, 0, 1)).expect(rt, "memory");
+    nodes.push(Op::Case(2, 0, 1)).expect(rt, "memory");
+    let roots = Items::from_slice(rt.alloc(), &[3, 4]).expect(rt, "memory");
+    Terms { nodes, roots }
 }
 
-fn table(alloc: Global) -> Result<Table, AllocError> {
-    let mut uniques = Items::new(alloc);
-    uniques.push(Items::from_slice(alloc, &[1])?)?;
-    Ok(Table {
-        name: named(alloc, "guarantees")?,
+fn table(rt: &(impl AllocGlobal + Abort), name: &str) -> Table {
+    let mut uniques = Items::new(rt.alloc());
+    uniques.push(place(rt, 1)).expect(rt, "memory");
+    let orders = Items::from_slice(rt.alloc(), &[Order { digits: 0 }]);
+    Table {
+        name: named(rt, name),
         tree: 0,
-        columns: columns(alloc)?,
+        columns: columns(rt),
         key: Some(0),
-        primary: Items::from_slice(alloc, &[0])?,
+        primary: place(rt, 0),
         uniques,
-        orders: Items::from_slice(alloc, &[Order { digits: 0 }])?,
-        checks: checks(alloc)?,
-        references: references(alloc)?,
-        computed: Items::from_slice(alloc, &[1])?,
-        stamps: Stamps::none(alloc),
+        orders: orders.expect(rt, "memory"),
+        checks: checks(rt),
+        references: references(rt),
+        computed: place(rt, 1),
+        stamps: Stamps::none(rt.alloc()),
         is_counted: false,
-    })
+    }
 }
 
-fn index(alloc: Global) -> Result<Index, AllocError> {
-    Ok(Index {
-        name: named(alloc, "by_serial")?,
+fn index(rt: &(impl AllocGlobal + Abort)) -> Index {
+    Index {
+        name: named(rt, "by_serial"),
         tree: 2,
         table: 0,
-        columns: Items::from_slice(alloc, &[1])?,
+        columns: place(rt, 1),
         order: Order { digits: 0 },
         is_unique: true,
-    })
+    }
 }
 
 // A view of that name.
-fn view(alloc: Global, name: &str) -> Result<View, AllocError> {
-    Ok(View {
-        name: named(alloc, name)?,
+fn view(rt: &(impl AllocGlobal + Abort), name: &str) -> View {
+    View {
+        name: named(rt, name),
         tree: 0,
-        sql: named(alloc, "SELECT 1")?,
-        foreign: Some(named(alloc, "guarantees")?),
+        sql: named(rt, "SELECT 1"),
+        foreign: Some(named(rt, "guarantees")),
         binds: true,
         is_bound: false,
-    })
+    }
 }
 
-// A table, an index and a view.
-fn schema(alloc: Global) -> Result<Schema, AllocError> {
-    let mut schema = Schema::new(alloc);
-    schema.tables.push(table(alloc)?)?;
-    schema.indexes.push(index(alloc)?)?;
-    schema.views.push(view(alloc, "first")?)?;
-    Ok(schema)
+// A table of that name, an index and a view.
+fn schema(rt: &(impl AllocGlobal + Abort), name: &str) -> Schema {
+    let mut schema = Schema::new(rt.alloc());
+    schema.tables.push(table(rt, name)).expect(rt, "memory");
+    schema.indexes.push(index(rt)).expect(rt, "memory");
+    schema.views.push(view(rt, "first")).expect(rt, "memory");
+    schema
+}
+
+// The same with a view more.
+fn longer(rt: &(impl AllocGlobal + Abort)) -> Schema {
+    let mut schema = schema(rt, "guarantees");
+    schema.views.push(view(rt, "second")).expect(rt, "memory");
+    schema
 }
 
 #[test]
-fn a_copy_is_the_same(rt: HostRuntime) -> Result<(), Fail> {
-    let first = schema(rt.alloc())?;
-    let copy = first.copy(rt.alloc())?;
+fn a_copy_is_the_same(rt: HostRuntime) {
+    let first = schema(&rt, "guarantees");
+    let copy = first.copy(rt.alloc()).expect(&rt, "memory");
     assert!(rt; is_same_schema(&first, &copy));
-    Ok(())
 }
 
 #[test]
-fn a_view_more_is_told(rt: HostRuntime) -> Result<(), Fail> {
-    let first = schema(rt.alloc())?;
-    let mut second = schema(rt.alloc())?;
-    second.views.push(view(rt.alloc(), "second")?)?;
-    assert!(rt; !is_same_schema(&first, &second));
-    Ok(())
+fn a_view_more_is_told(rt: HostRuntime) {
+    assert!(rt; !is_same_schema(&schema(&rt, "guarantees"), &longer(&rt)));
 }
 
 #[test]
-fn nothing_is_the_same_as_nothing(rt: HostRuntime) -> Result<(), Fail> {
+fn nothing_is_the_same_as_nothing(rt: HostRuntime) {
     let first = Schema::new(rt.alloc());
     let second = Schema::new(rt.alloc());
     assert!(rt; is_same_schema(&first, &second));
-    Ok(())
 }
 
 #[test]
-fn the_first_table_alone_is_compared(rt: HostRuntime) -> Result<(), Fail> {
-    let first = schema(rt.alloc())?;
-    let mut longer = schema(rt.alloc())?;
-    longer.tables.push(table(rt.alloc())?)?;
-    longer.views.push(view(rt.alloc(), "second")?)?;
-    assert!(rt; has_same_first_table(&first, &longer));
-    let mut renamed = table(rt.alloc())?;
-    renamed.name = named(rt.alloc(), "holders")?;
-    let mut other = Schema::new(rt.alloc());
-    other.tables.push(renamed)?;
-    assert!(rt; !has_same_first_table(&first, &other));
+fn the_first_table_alone_is_compared(rt: HostRuntime) {
+    let first = schema(&rt, "guarantees");
+    assert!(rt; has_same_first_table(&first, &longer(&rt)));
+    assert!(rt; !has_same_first_table(&first, &schema(&rt, "holders")));
+}
+
+#[test]
+fn no_table_is_the_first_of_none(rt: HostRuntime) {
     let none = Schema::new(rt.alloc());
-    assert!(rt; !has_same_first_table(&first, &none));
     assert!(rt; !has_same_first_table(&none, &none));
-    Ok(())
+    assert!(rt; !has_same_first_table(&schema(&rt, "holders"), &none));
 }

@@ -5,7 +5,8 @@ ghost use Rattle.sqlite.specs.State.{HasCleanDisk};
 ghost use Rattle.sqlite_schema.specs.declared.schema.Schema.{Schema};
 ghost use Rattle.typed_sql.specs.Reading.{IsInside, OnlyRead, StaysInside};
 ghost use Rattle.typed_sql.specs.Writing.{HasSchema};
-ghost use Rattle.td_store_rows.specs.MetaTable.{IsTheMeta, MetaIsFirst};
+ghost use Rattle.td_store_rows.specs.Columns.{MetaIsFirst};
+ghost use Rattle.td_store_rows.specs.MetaTable.{IsTheMeta};
 
 use crate::meta::stored::{StoredMeta, only_meta};
 use crate::meta::texts::FIND;

@@ -5,7 +5,8 @@ use Rattle.sqlite.specs.Held.{state}
 use Rattle.sqlite.specs.State.{HasCleanDisk, KeepsCounts, Shows, State, Survives}
 use Rattle.typed_sql.specs.Reading.{OnlyRead, StaysInside}
 use Rattle.typed_sql.specs.Writing.{HasSchema}
-use Rattle.td_store_rows.specs.MetaTable.{IsTheMeta, MetaIsFirst}
+use Rattle.td_store_rows.specs.Columns.{MetaIsFirst}
+use Rattle.td_store_rows.specs.MetaTable.{IsTheMeta}
 use Rattle.td_store.proofs.Leaving.{read_commits}
 use Rattle.td_store.proofs.judging.fault_of_office.Goals as goal
 
@@ -46,8 +47,7 @@ returns-clause-told g c clean =
     let e : State = state g.S.Store c.conn-2-1.given.0 in
     let ended : Survives m e (λ trees. trees ≡ m.now.trees) = search rules in
     let clean_m : HasCleanDisk m = omega (arith, clean, ended.clean) in
-    let found : IsTheMeta a c.in_ok-meta.meta = rw c.transaction-tx.ensures.begun at c.in_ok-meta.ensures.found clean_m in
-    (
+    let found : IsTheMeta a c.in_ok-meta.meta = rw c.transaction-tx.ensures.begun at c.in_ok-meta.ensures.found clean_m in (
       c.in_ok-meta.meta,
       found o.now.schema (c.requires.first (omega (arith, clean_m, within.survives.clean))) (λ _. refl),
       c.office_fault.ensures,
