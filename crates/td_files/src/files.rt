@@ -58,8 +58,26 @@ impl<S: Start> OneFile<S, FileStore<FileFrom<S>>> {
 
 const CANNOT_OPEN: Error = Error::SqliteFailure(ErrorCode::CannotOpen);
 
+// The name of the log of the file at the path, where the file is there and has no log.
+fn missing_log(rt: &HostRuntime, path: &str) -> Option<String> {
+    let file = fs::canonicalize(rt, path).ok()?;
+    let log = format!(in rt.alloc(); "{}-wal", file.as_str()).ok()?;
+    match fs::exists(rt, &log) {
+        Ok(false) => Some(log),
+        _ => None,
+    }
+}
+
+// Takes a log away that was made beside a file, if it is empty.
+fn remove_empty(rt: &HostRuntime, log: &str) {
+    if fs::metadata(rt, log).is_ok_and(|log| log.len() == 0) {
+        let _removed = fs::remove_file(rt, log);
+    }
+}
+
 /// Opens the database in the file at the path. With `is_new` a file that isn't there is made; else it has to be there. An error
-/// is want of memory (`OutOfMemory`), another program that has the file open (`DatabaseBusy`), or why the file can't be opened.
+/// is want of memory (`OutOfMemory`), another program that has the file open (`DatabaseBusy`), or why the file can't be opened:
+/// beside one that is no database (`NotADatabase`) no empty log is left that wasn't there.
 pub(crate) fn open_file<S: Start>(
     rt: &HostRuntime,
     path: &str,
@@ -73,8 +91,14 @@ pub(crate) fn open_file<S: Start>(
     if !is_new && !fs::exists(rt, path).unwrap_or(false) {
         return Err(CANNOT_OPEN);
     }
+    let log = missing_log(rt, path);
     match Connection::open_from(rt, path, false, start) {
         Ok(conn) => Ok(conn),
-        Err((error, _)) => Err(error),
+        Err((error, _)) => {
+            if let (Error::SqliteFailure(ErrorCode::NotADatabase), Some(log)) = (&error, &log) {
+                remove_empty(rt, log);
+            }
+            Err(error)
+        }
     }
 }

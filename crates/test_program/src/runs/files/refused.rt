@@ -70,6 +70,19 @@ fn assert_text_is_no_desk(rt: &HostRuntime, path: &str, text: &[u8]) -> Result<(
     assert_text(&left, text)
 }
 
+// Of the log beside a text: none is made, and one that was there stays.
+#[test]
+fn the_log_beside_a_text_stays_as_it_was(rt: HostRuntime) -> Result<(), Fail> {
+    remove(&rt, "logged.db")?;
+    fs::write(&rt, "logged.db", b"text\n".as_slice())?;
+    assert_each(&rt, "logged.db", NOT_A_DATABASE)?;
+    assert_absent(&rt, "logged.db-wal")?;
+    fs::write(&rt, "logged.db-wal", b"".as_slice())?;
+    assert_each(&rt, "logged.db", NOT_A_DATABASE)?;
+    assert_that(fs::exists(&rt, "logged.db-wal")?, "the log is there")?;
+    remove(&rt, "logged.db")
+}
+
 // Texts of 100 bytes and of 5000: as long as the head of a database, and longer than its first page.
 #[test]
 fn a_text_is_no_desk(rt: HostRuntime) -> Result<(), Fail> {
