@@ -26,4 +26,4 @@ pub record HaveSameFirst (tables others : List Table) : Type 0 where
   pub rest : List Table
   pub further : List Table
   pub begins : tables ≡ first ∷ rest
-  pub does : others ≡ first ∷ further
+  pub other_begins : others ≡ first ∷ further

@@ -1,6 +1,7 @@
 //! Laws of runs over a file, one after another, and of what a crash leaves on the way, as contracts of functions that do nothing.
 ghost use Rattle.std.specs.Prelude.{◌≡◌, ℕ, ℤ, Bool, List, [], ◌∷◌, ◌++◌, map, IsTrue, None, Option, Result};
 ghost use Rattle.std.specs.declared.io.Error.{Error};
+ghost use Rattle.std.specs.declared.net.tcp.TcpStream.{TcpStream};
 ghost use Rattle.sqlite.specs.Files.{file_state};
 ghost use Rattle.sqlite_wal.specs.Recovery.{Image};
 ghost use Rattle.counted_io.specs.declared.counted.Counted.{Counted};
@@ -8,7 +9,6 @@ ghost use Rattle.http_wire.specs.Stream.{Exchange};
 ghost use Rattle.http_wire.specs.declared.stream.StreamEnd.{StreamEnd};
 ghost use Rattle.td_files.specs.Found.{FileSeen, IsClean, over_file};
 ghost use Rattle.td_http.specs.ConnectionLaws.{TellAlikeOver};
-ghost use Rattle.std.specs.declared.net.tcp.TcpStream.{TcpStream};
 ghost use Rattle.td_http.specs.Connections.{Connection, beside};
 ghost use Rattle.td_http.specs.Kept.{IsKeptBetween};
 ghost use Rattle.td_http.specs.KeptOver.{IsKeptWithin};

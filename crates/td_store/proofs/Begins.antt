@@ -18,5 +18,5 @@ one_first t u ts us is = cc
 pub begins_alike : (s o : Schema) → HaveSameFirst s.tables o.tables → o ≡ desk_schema → MetaIsFirst s
 begins_alike s o same is =
     let first = store_begins o is in
-    let meta : same.first ≡ meta_table = one_first same.first meta_table same.further first.0 (sym same.does ∙ first.1) in
+    let meta : same.first ≡ meta_table = one_first same.first meta_table same.further first.0 (sym same.other_begins ∙ first.1) in
     (same.rest, same.begins ∙ ap (λ t. t ∷ same.rest) meta)

@@ -26,8 +26,9 @@ impl<S: Alter> SqlDesk<S> {
     /// Opens the desk of an office of that country over a database that one was made in before. The first of these that holds is
     /// the refusal. `UnknownVersion`: there is no table `meta`; or it is the first, as a store's of any version, and the office's
     /// own row is missing or its version isn't 1. `Store`: the tables are others than a store's. `OtherCountry`: the row's country
-    /// is another. `Damaged`: the tables break this rule, and none before it. An error of the database on the way is `Store`, want of memory `NoMemory`. With a
-    /// refusal the connection is handed back, its database as it was; nor does a crash change it, during the call or after it.
+    /// is another. `Damaged`: the tables break this rule, and none before it. An error of the database on the way is `Store`, want
+    /// of memory `NoMemory`. With a refusal the connection is handed back, its database as it was; nor does a crash change it,
+    /// during the call or after it.
     pub fn open(
         alloc: Global,
         mut conn: Connection<S>,

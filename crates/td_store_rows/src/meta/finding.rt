@@ -13,8 +13,8 @@ use crate::meta::texts::FIND;
 use sqlite::{Error, Transaction};
 use sqlite_trees::store::Alter;
 
-/// The office's own row, if it has been written: the table has to be the first, whatever others there are. `DatabaseCorrupt`: there are several rows, or the version is no integer or
-/// the country no text; any other error is the database's own.
+/// The office's own row, if it has been written: the table has to be the first, whatever others there are. `DatabaseCorrupt`:
+/// there are several rows, or the version is no integer or the country no text; any other error is the database's own.
 pub fn find_meta<S: Alter>(tx: &mut Transaction<'_, S>) -> Result<Option<StoredMeta>, Error>
     requires { IsInside (state S.Store tx.old.conn.now) }
     ensures same_reference { tx.new.conn.ghost_name ≡ tx.old.conn.ghost_name }
