@@ -9,7 +9,8 @@ use Rattle.http_wire.specs.declared.reply.Reply.{Reply}
 use Rattle.http_wire.specs.declared.stream.StreamEnd.{StreamEnd}
 use Rattle.http_wire.specs.Wire.{Asked}
 use Rattle.http_wire.specs.Stream.{Exchange, Serves}
-use Rattle.std.specs.declared.net.tcp.TcpStream.{TcpStream}
+use Rattle.td_http.specs.declared.sides.ReplySide.{ReplySide}
+use Rattle.td_http.specs.declared.sides.RequestSide.{RequestSide}
 
 -- what a connection that was served left: its two sides as they came and as they were handed back, how its
 -- stream ended, and its requests with their replies
@@ -100,6 +101,6 @@ beside clock handler = record { source = tt; clock = clock; handler = handler }
 abbrev pub ServesSockets : {C H : Type 0} → (C → ℤ → C → Type 0) → (H → ℤ → Asked → Reply → H → Type 0)
     → (H → List ℕ → Reply → H → Type 0) → C → H → C → H → ℕ → Result Unit Error → Type 0
 ServesSockets ticks handles heads clock handler clock_left handler_left count answer =
-    ServesConnections {R = TcpStream} {W = TcpStream} {L = Unit {0}} (λ _. None) (λ _. None)
+    ServesConnections {R = RequestSide} {W = ReplySide} {L = Unit {0}} (λ _. None) (λ _. None)
     (λ _ _ _ _. Unit {0}) (λ _ _ _ _. Unit {0}) (λ _ _ _. Unit {0}) ticks handles heads
     (beside clock handler) (beside clock_left handler_left) count answer

@@ -7,7 +7,9 @@ mod connections;
 mod desk_stream;
 mod laws;
 mod service;
+mod sides;
 mod sockets;
+mod waiting;
 
 pub use connection_laws::{acknowledged_connections_are_kept, agreeing_connections_tell_the_same};
 pub use connections::{Connections, serve_connections};

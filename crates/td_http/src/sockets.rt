@@ -5,30 +5,59 @@ ghost use Rattle.td_http.specs.Private.{IsPrivateOver};
 ghost use Rattle.td_http.specs.Serving.{IsHandledBy, IsHeadHandledBy};
 
 use crate::connections::{Connections, serve_connections};
+use crate::sides::{ReplySide, RequestSide, sides};
+use crate::waiting::Waiting;
 use crate::{Clock, Service};
 use std::alloc::Global;
+use std::collections::VecDeque;
 use std::io;
-use std::io::Read;
-use std::net::{Shutdown, TcpListener, TcpStream};
-use std::time::Duration;
+use std::net::{TcpListener, TcpStream};
 use td_desk::Desk;
 
-/// The most reads that a connection gets after its stream has ended.
-const LAST_READS: u32 = 128;
-
-/// How long each of them waits, in milliseconds.
-const LAST_WAIT: u64 = 500;
+/// The most connections whose stream has ended and whose peer may still send.
+const MOST_LEAVING: usize = 16;
 
 /// The connections that come to a listening socket.
-#[derive(Clone, Copy)]
+#[derive(Drop)]
 struct Incoming<'a> {
-    listener: &'a TcpListener,
+    waiting: &'a Waiting<'a>,
+    /// The next one, where it came while the one before was waited for.
+    next: Option<TcpStream>,
+    /// Those whose stream has ended and whose peer may still send, the oldest first.
+    leaving: VecDeque<RequestSide<'a>>,
 }
 
-impl Connections for Incoming<'_> {
-    type Reader = TcpStream;
+impl<'a> Incoming<'a> {
+    // The next connection. Peers that may still send are waited for where no other connection has come, or too many
+    // of them are there.
+    fn next_one(&mut self) -> io::Result<TcpStream> {
+        if self.leaving.len() < MOST_LEAVING {
+            if let Some(socket) = self.waiting.take() {
+                return Ok(socket);
+            }
+        }
+        while let Some(mut requests) = self.leaving.pop_front() {
+            requests.read_out(true);
+            if let Some(socket) = requests.take_next() {
+                return Ok(socket);
+            }
+        }
+        self.waiting.take_later()
+    }
 
-    type Writer = TcpStream;
+    // Waits for the peers that may still send, and leaves the listener as it came.
+    fn end(&mut self) {
+        for requests in &mut self.leaving {
+            requests.read_out(false);
+        }
+        let _blocks = self.waiting.end();
+    }
+}
+
+impl<'a> Connections for Incoming<'a> {
+    type Reader = RequestSide<'a>;
+
+    type Writer = ReplySide<'a>;
 
     ghost gives = { λ _ _ _ _. Unit {0} };
 
@@ -36,40 +65,41 @@ impl Connections for Incoming<'_> {
 
     ghost takes = { λ _ _ _ _. Unit {0} };
 
-    fn accept(&mut self) -> io::Result<(TcpStream, TcpStream)> {
-        let (writer, _peer) = self.listener.accept()?;
-        let reader = writer.try_clone()?;
-        Ok((reader, writer))
+    fn accept(&mut self) -> io::Result<(RequestSide<'a>, ReplySide<'a>)> {
+        let socket = match self.next.take() {
+            Some(socket) => socket,
+            None => self.next_one()?,
+        };
+        sides(socket, self.waiting)
     }
 
     // A socket that is dropped with bytes unread resets its peer, which may lose replies that it hasn't read
-    // yet. So the peer is told that nothing more comes, and what it still sends is read and dropped.
-    fn close(&mut self, mut reader: TcpStream, writer: TcpStream) {
-        let wait = Duration::from_millis(LAST_WAIT);
-        if writer.shutdown(Shutdown::Write).is_err()
-            || reader.set_read_timeout(Some(wait)).is_err()
-        {
+    // yet. So the peer is told that nothing more comes, and what it still sends is read and dropped, while other
+    // connections are served. Where there is no memory to remember it, it is dropped.
+    fn close(&mut self, mut requests: RequestSide<'a>, replies: ReplySide<'a>) {
+        self.next = requests.take_next();
+        if replies.end().is_err() {
             return;
         }
-        let mut dropped = [0; 8192];
-        for _ in 0..LAST_READS {
-            match reader.read(&mut dropped) {
-                Ok(0) | Err(_) => return,
-                Ok(_) => {}
-            }
+        if self.leaving.len() >= MOST_LEAVING {
+            let _oldest = self.leaving.pop_front();
         }
+        let _remembered = self.leaving.push_back(requests);
     }
 }
 
 /// Serves that many connections that come to the listening socket, one after another, at one service of a
-/// desk, as `serve_connections` does. After its stream each peer is told that nothing more comes, and what it
-/// still sends is read, by up to 128 reads of at most half a second each, so that a peer that wrote more than
-/// was asked of it is not reset. An `Err`: the socket gave no further connection, or none that can be read
-/// and written; those before it were served.
+/// desk, as `serve_connections` does. A read waits at most `idle` seconds, from 1 on, and less behind a reply, as
+/// soon as another connection waits: then it fails, and so the stream ends. After its stream each peer is told that
+/// nothing more comes, and what it still sends is read, by up to 128 reads of at most half a second each, or a tenth
+/// where another connection waits, so that a peer that wrote more than was asked of it is not reset. The listener is
+/// one that blocks. An `Err`: the socket gave no further connection, or none that can be read and written; those
+/// before it were served.
 pub fn serve_on<C: Clock, D: Desk + Drop>(
     alloc: Global,
     listener: &TcpListener,
     connections: u32,
+    idle: u16,
     clock: &mut C,
     service: &mut Service<D>,
 ) -> io::Result<()>
@@ -79,6 +109,13 @@ pub fn serve_on<C: Clock, D: Desk + Drop>(
         × IsPrivateOver D.seen service.old service.new
         (map (λ connection. connection.exchanges) served.all_served) }
 {
-    let mut incoming = Incoming { listener };
-    serve_connections(alloc, &mut incoming, connections, clock, service)
+    let waiting = Waiting::new(listener, idle);
+    let mut incoming = Incoming {
+        waiting: &waiting,
+        next: None,
+        leaving: VecDeque::new(alloc),
+    };
+    let served = serve_connections(alloc, &mut incoming, connections, clock, service);
+    incoming.end();
+    served
 }

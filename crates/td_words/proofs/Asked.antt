@@ -1,6 +1,6 @@
 -- What clap met in the words, and what the words don't ask for.
-use Rattle.std.proofs.Common.{◌≡◌, ◌≢◌, ◌∙◌, ◌⊎◌, ap, sym, subst, refl, inl, inr, ⊎_elim, List, [], ◌∷◌, Option, None, Some, option_map, true, Result, Ok, Err, IfErr, IfOk, IsErrAnd}
-use Rattle.clap.specs.Faults.{is_simple_and_free}
+use Rattle.std.proofs.Common.{◌≡◌, ◌≢◌, ◌∙◌, ◌⊎◌, ap, sym, subst, refl, inl, inr, ⊎_elim, List, [], ◌∷◌, Option, None, Some, option_map, codes, slice_get, true, Result, Ok, Err, IfErr, IfOk, IsErrAnd}
+use Rattle.clap.specs.Faults.{is_simple_and_free, walk_fault}
 use Rattle.clap.specs.Kinds.{HasKind, Kinds}
 use Rattle.clap.specs.Words.{App, IsAmong, Row, Text, fault_of, subcommand_name_of, subcommand_of, subcommand_rows_of}
 use Rattle.clap.specs.declared.ArgMatches.{ArgMatches}
@@ -81,6 +81,23 @@ module _ (words : List Text) (name : Text) (rows : List Row) (taken : AreTaken w
 
 -- ---- words that clap doesn't take
 
+-- behind `help` clap tells help, or that there is no such command
+help_asked : (words : List Text) → slice_get words 1 ≡ Some (codes "help") → IsAmong DisplayHelp (fault_of program_app words)
+unfolding walk_fault
+help_asked [] is = absurd (no_second is)
+  where
+    no_second : slice_get [] 1 ≡ Some (codes "help") → ⊥
+    no_second bad = cc
+help_asked (name ∷ []) is = absurd (no_second is)
+  where
+    no_second : slice_get (name ∷ []) 1 ≡ Some (codes "help") → ⊥
+    no_second bad = cc
+help_asked (name ∷ word ∷ rest) is =
+    subst (λ w. IsAmong DisplayHelp (fault_of program_app (name ∷ w ∷ rest))) (sym (second is)) (inl refl)
+  where
+    second : slice_get (name ∷ word ∷ rest) 1 ≡ Some (codes "help") → word ≡ codes "help"
+    second same = cc
+
 module _ (words : List Text) (kind : ErrorKind) (fails : (kind ≡ OutOfMemory) ⊎ IsAmong kind (fault_of program_app words)) where
   among : kind ≢ OutOfMemory → IsAmong kind (fault_of program_app words)
   among other = ⊎_elim (λ is. absurd (other is)) (λ is. is) fails
@@ -96,9 +113,9 @@ module _ (words : List Text) (kind : ErrorKind) (fails : (kind ≡ OutOfMemory) 
   not_alone other k differ alone = ⊎_elim differ (λ none. none) (subst (IsAmong kind) alone (among other))
 
   -- what is told for the kind that clap gave
-  pub told : (e : NoJob) → IsTold kind e → IsNoJob words e
-  told (Help text) is =
-      ⊎_elim (λ help. inl (found DisplayHelp help (λ same. cc))) (λ version. inr (found DisplayVersion version (λ same. cc))) is
+  pub told : (e : NoJob) → IsTold kind words e → IsNoJob words e
+  told (Help text) is = ⊎_elim (λ help. inl (found DisplayHelp help (λ same. cc)))
+      (λ other. ⊎_elim (λ version. inr (found DisplayVersion version (λ same. cc))) (λ help. inl (help_asked words help)) other) is
   told (Wrong text) is =
       (not_taken is.2, λ alone. ⊎_elim (not_alone is.2 DisplayHelp is.0) (not_alone is.2 DisplayVersion is.1) alone)
   told NoMemory is = tt

@@ -2,7 +2,7 @@
 use Rattle.std.proofs.Common.{◌≡◌, ◌∙◌, ap, sym, subst, ℕ, ℤ, pos, List, Option, None, Some, codes, slice_index, arith}
 use Rattle.clap.specs.Words.{Row, Text}
 use Rattle.td_words.specs.Laws.{AreSameRecords, IsSameTask, WordsAskForOneJob}
-use Rattle.td_words.specs.Words.{AreRecordsBy, IsJob, IsMomentOf, IsNumberOf, IsTask}
+use Rattle.td_words.specs.Words.{AreRecordsBy, IsIdleOf, IsJob, IsMomentOf, IsNumberOf, IsTask}
 use Rattle.td_words.specs.declared.words.Job.{Job}
 use Rattle.td_words.specs.declared.words.Records.{Records}
 use Rattle.td_words.specs.declared.words.Records.TheVariants.{Memory, File, NewFile}
@@ -13,6 +13,10 @@ use Rattle.td_words.proofs.Asked.{same_met}
 number_once : (least greatest : ℕ) (value : Option Text) (m n : ℕ) → IsNumberOf least greatest value m → IsNumberOf least greatest value n → m ≡ n
 number_once least greatest None m n is other = absurd is
 number_once least greatest (Some text) m n is other = sym is.value ∙ other.value
+
+idle_once : (value : Option Text) (m n : ℕ) → IsIdleOf value m → IsIdleOf value n → m ≡ n
+idle_once None m n is other = is ∙ sym other
+idle_once (Some text) m n is other = sym is.value ∙ other.value
 
 moment_once : (value : Option Text) (a b : Option ℤ) → IsMomentOf value a → IsMomentOf value b → a ≡ b
 moment_once None a b is other = is ∙ sym other
@@ -53,7 +57,8 @@ records_once (NewFile path) (NewFile there) db new is other = same_value db _ _ 
 
 task_once : (name : Text) (rows : List Row) (task other : Task) → IsTask name rows task → IsTask name rows other → IsSameTask task other
 task_once name rows (Serve l r) (Serve m s) is other =
-    (number_once _ _ _ _ _ is.1.port other.1.port, number_once _ _ _ _ _ is.1.connections other.1.connections, records_once r s _ _ is.2 other.2)
+    (number_once _ _ _ _ _ is.1.port other.1.port, number_once _ _ _ _ _ is.1.connections other.1.connections, idle_once _ _ _ is.1.idle other.1.idle,
+    records_once r s _ _ is.2 other.2)
 task_once name rows (Serve l r) (Pipe s) is other = serve_or_pipe name is.0 other.0
 task_once name rows (Serve l r) (Check path) is other = serve_or_check name is.0 other.0
 task_once name rows (Pipe r) (Serve m s) is other = serve_or_pipe name other.0 is.0

@@ -17,7 +17,8 @@ AreSameRecords _ _ = ⊥
 -- two tasks are the same: the paths of files are compared as texts
 abbrev pub IsSameTask : Task → Task → Type 0
 IsSameTask (Serve listening records) (Serve other others) =
-    (listening.port ≡ other.port) × (listening.connections ≡ other.connections) × AreSameRecords records others
+    (listening.port ≡ other.port) × (listening.connections ≡ other.connections) × (listening.idle ≡ other.idle)
+    × AreSameRecords records others
 IsSameTask (Pipe records) (Pipe others) = AreSameRecords records others
 IsSameTask (Check path) (Check other) = string_bytes path ≡ string_bytes other
 IsSameTask _ _ = ⊥

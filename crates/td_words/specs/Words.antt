@@ -1,5 +1,5 @@
 -- What the words of the command line ask for.
-use Rattle.std.specs.Prelude.{◌≡◌, ◌≢◌, ◌⊎◌, ℕ, ◌≤◌, ℤ, pos, List, [], ◌∷◌, length, All, codes, true, string_bytes, Option, None, Some, ⊤}
+use Rattle.std.specs.Prelude.{◌≡◌, ◌≢◌, ◌⊎◌, ℕ, ◌≤◌, ℤ, pos, List, [], ◌∷◌, length, All, codes, slice_get, true, string_bytes, Option, None, Some, ⊤}
 use Rattle.std.specs.Char.{IsAsciiDigit}
 use Rattle.ascii_text.specs.Digits.{digits_value}
 use Rattle.clap.specs.Words.{App, IsAmong, Row, Rule, Text, fault_of, first_of, new_app, new_rule, subcommand_of, with_rule, with_subcommand}
@@ -39,8 +39,10 @@ with_office app =
 abbrev pub serve_app : App
 serve_app =
     with_rule
+    (with_rule
     (with_rule (with_office (new_app (codes "serve"))) (record (option_rule (codes "port")) { required = true }))
-    (record (option_rule (codes "connections")) { required = true })
+    (record (option_rule (codes "connections")) { required = true }))
+    (option_rule (codes "idle"))
 
 abbrev pub pipe_app : App
 pipe_app = with_office (new_app (codes "pipe"))
@@ -89,13 +91,19 @@ AreRecordsBy (NewFile path) db new = (db ≡ Some (string_bytes path)) × (new �
 abbrev pub AreRecords : List Row → Records → Type 0
 AreRecords rows records = AreRecordsBy records (first_of (codes "db") rows) (first_of (codes "new") rows)
 
--- the port that is listened on, and how many connections are served
+-- The most seconds that a read of a connection waits, from 1 to 3,600; where the option isn't there, 2.
+abbrev pub IsIdleOf : Option Text → ℕ → Type 0
+IsIdleOf None n = n ≡ 2
+IsIdleOf (Some text) n = IsDecimal 1 3600 text n
+
+-- the port that is listened on, how many connections are served, and how long a read of one waits
 pub record IsListening (rows : List Row) (listening : Listening) : Type 0 where
   pub port : IsNumberOf 1 65535 (first_of (codes "port") rows) listening.port
   pub connections : IsNumberOf 1 1000000 (first_of (codes "connections") rows) listening.connections
+  pub idle : IsIdleOf (first_of (codes "idle") rows) listening.idle
 
--- The task of this name, with the values of its own options: where the records stand, of `serve` a port and a number of
--- connections, and of `check` the file.
+-- The task of this name, with the values of its own options: where the records stand, of `serve` a port, a number of
+-- connections and perhaps an idle limit, and of `check` the file.
 abbrev pub IsTask : Text → List Row → Task → Type 0
 IsTask name rows (Pipe records) = (name ≡ codes "pipe") × AreRecords rows records
 IsTask name rows (Serve listening records) =
@@ -154,8 +162,9 @@ IsNoneSuch {X} Is (Help text) = ⊥
 IsNoneSuch {X} Is (Wrong text) = (x : X) → Is x → ⊥
 IsNoneSuch {X} Is NoMemory = ⊤
 
--- What is told where clap found no job: help or the version for an error of that kind alone.
-abbrev pub IsTold : ErrorKind → NoJob → Type 0
-IsTold kind (Help text) = (kind ≡ DisplayHelp) ⊎ (kind ≡ DisplayVersion)
-IsTold kind (Wrong text) = (kind ≢ DisplayHelp) × (kind ≢ DisplayVersion) × (kind ≢ OutOfMemory)
-IsTold kind NoMemory = ⊤
+-- What is told where clap found no job: help or the version for an error of that kind, or help where the word behind the
+-- program's name is `help`.
+abbrev pub IsTold : ErrorKind → List Text → NoJob → Type 0
+IsTold kind words (Help text) = (kind ≡ DisplayHelp) ⊎ (kind ≡ DisplayVersion) ⊎ (slice_get words 1 ≡ Some (codes "help"))
+IsTold kind words (Wrong text) = (kind ≢ DisplayHelp) × (kind ≢ DisplayVersion) × (kind ≢ OutOfMemory)
+IsTold kind words NoMemory = ⊤

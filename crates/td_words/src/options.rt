@@ -15,6 +15,8 @@ pub(crate) const PORT: &str = "port";
 
 pub(crate) const CONNECTIONS: &str = "connections";
 
+pub(crate) const IDLE: &str = "idle";
+
 pub(crate) const DB: &str = "db";
 
 pub(crate) const NEW: &str = "new";
@@ -30,14 +32,16 @@ const VERSION: &str = "0.1";
 
 /// How the jobs are asked for, each alone and all.
 const SERVE_USAGE: &str =
-    "transit-desk serve --country <CC> --port <N> --connections <K> [--db <FILE> [--new]] [--at <SECONDS>]";
+    "transit-desk serve --country <CC> --port <N> --connections <K> [--idle <SECONDS>]
+         [--db <FILE> [--new]] [--at <SECONDS>]";
 
 const PIPE_USAGE: &str = "transit-desk pipe --country <CC> [--db <FILE> [--new]] [--at <SECONDS>]";
 
 const CHECK_USAGE: &str = "transit-desk check --country <CC> --db <FILE>";
 
 const USAGE: &str =
-    "transit-desk serve --country <CC> --port <N> --connections <K> [--db <FILE> [--new]] [--at <SECONDS>]
+    "transit-desk serve --country <CC> --port <N> --connections <K> [--idle <SECONDS>]
+         [--db <FILE> [--new]] [--at <SECONDS>]
        transit-desk pipe --country <CC> [--db <FILE> [--new]] [--at <SECONDS>]
        transit-desk check --country <CC> --db <FILE>";
 
@@ -149,7 +153,13 @@ fn serve_command<'a>(alloc: Global) -> Result<Command<'a>, AllocError>
         "K",
         "How many connections are served, from 1 to 1000000",
     )
-    .required(true))
+    .required(true))?
+    .arg(option(
+        alloc,
+        IDLE,
+        "SECONDS",
+        "The most seconds that a connection is waited for, from 1 to 3600; else 2",
+    ))
 }
 
 fn pipe_command<'a>(alloc: Global) -> Result<Command<'a>, AllocError>

@@ -1,12 +1,12 @@
 //! The command line: which job its words ask for, and what is told where they ask for none.
-ghost use Rattle.std.specs.Prelude.{◌≡◌, codes, map, option_map, pos, string_bytes, IfErr, IfOk, Some, SomeIff};
+ghost use Rattle.std.specs.Prelude.{◌≡◌, codes, map, option_map, pos, slice_get, string_bytes, true, IfErr, IfOk, Some, SomeIff};
 ghost use Rattle.ascii_text.specs.Digits.{digits_value};
 ghost use Rattle.clap.specs.Values.{kind_of};
 ghost use Rattle.clap.specs.Words.{first_of, found_of, rows_of};
 ghost use Rattle.td_words.specs.declared.words.NoJob.TheVariants.{NoMemory};
-ghost use Rattle.td_words.specs.Words.{AreRecords, AsksFor, IsCountryIn, IsDecimal, IsJob, IsListening, IsMomentOf, IsNoJob, IsNoneSuch, IsNumberOf, IsTask, IsTold};
+ghost use Rattle.td_words.specs.Words.{AreRecords, AsksFor, IsCountryIn, IsDecimal, IsIdleOf, IsJob, IsListening, IsMomentOf, IsNoJob, IsNoneSuch, IsNumberOf, IsTask, IsTold};
 
-use crate::options::{AT, CONNECTIONS, COUNTRY, DB, NEW, PORT, program};
+use crate::options::{AT, CONNECTIONS, COUNTRY, DB, IDLE, NEW, PORT, program};
 use ascii_text::is_digits;
 use clap::ArgMatches;
 use clap::error::ErrorKind;
@@ -20,6 +20,8 @@ pub struct Listening {
     pub port: u16,
     /// From 1 to 1,000,000.
     pub connections: u32,
+    /// The most seconds that a read of a connection waits, from 1 to 3,600.
+    pub idle: u16,
 }
 
 /// Where the records of a desk stand.
@@ -117,6 +119,17 @@ const CONNECTIONS_NUMBER: NumberOption = NumberOption {
     greatest: 1_000_000,
 };
 
+const IDLE_NUMBER: NumberOption = NumberOption {
+    name: IDLE,
+    shown: "--idle <SECONDS>",
+    wanted: "a whole number of seconds from 1 to 3600",
+    least: 1,
+    greatest: 3600,
+};
+
+/// The most seconds that a read of a connection waits where the words don't say.
+const USUAL_IDLE: u64 = 2;
+
 /// The job that the words ask for; the first of them is the program's name. An error is what is told instead:
 /// the text that they ask for by `--help` or `--version`, or one line on wrong words; or there was no memory.
 /// Words that ask for a job are given that job, or want of memory.
@@ -135,15 +148,33 @@ pub fn read_words(alloc: Global, words: &[String]) -> Result<Job, NoJob>
 
 // Why `clap` found no job in the words.
 fn no_job(alloc: Global, error: &clap::Error, words: &[String]) -> Result<NoJob, AllocError>
-    ensures { IfOk result (IsTold (kind_of error.now)) }
+    ensures { IfOk result (IsTold (kind_of error.now) (map string_bytes words.now)) }
 {
     match error.kind() {
         ErrorKind::OutOfMemory => Err(AllocError),
+        ErrorKind::InvalidSubcommand if asks_for_help_of_help(words) => Ok(NoJob::Help(program(
+            alloc,
+        )?
+        .render_help()?)),
         ErrorKind::DisplayHelp | ErrorKind::DisplayVersion => Ok(NoJob::Help(error.to_string(
             alloc,
         )?)),
         _ => Ok(NoJob::Wrong(what_was_wrong(alloc, error, words)?)),
     }
+}
+
+// `help --help`, whose `--help` is a command to `clap` that isn't there.
+fn asks_for_help_of_help(words: &[String]) -> bool
+    ensures { result ≡ true → slice_get (map string_bytes words.now) 1 ≡ Some (codes "help") }
+{
+    let Some(command) = words.get(1) else {
+        return false;
+    };
+    command.as_str() == "help" && matches!(words.get(2), Some(option) if is_help(option))
+}
+
+fn is_help(word: &str) -> bool {
+    word == "--help" || word == "-h"
 }
 
 // In one line. A negative number behind an option is a wrong value, which `clap` takes for an option of its own.
@@ -174,6 +205,7 @@ fn number_option(word: &str) -> Option<NumberOption> {
         "--at" => Some(AT_NUMBER),
         "--port" => Some(PORT_NUMBER),
         "--connections" => Some(CONNECTIONS_NUMBER),
+        "--idle" => Some(IDLE_NUMBER),
         _ => None,
     }
 }
@@ -264,10 +296,23 @@ fn listening_in(alloc: Global, matches: &ArgMatches<'_>) -> Result<Listening, No
 {
     let port = number_in(alloc, matches, PORT_NUMBER)?;
     let connections = number_in(alloc, matches, CONNECTIONS_NUMBER)?;
+    let idle = idle_in(alloc, matches)?;
     Ok(Listening {
         port: port as u16,
         connections: connections as u32,
+        idle: idle as u16,
     })
+}
+
+// The most seconds that a read of a connection waits.
+fn idle_in(alloc: Global, matches: &ArgMatches<'_>) -> Result<u64, NoJob>
+    ensures idle { IfOk result (IsIdleOf (first_of (codes "idle") (rows_of (found_of matches.now)))) }
+    ensures none { IfErr result (IsNoneSuch (IsIdleOf (first_of (codes "idle") (rows_of (found_of matches.now))))) }
+{
+    match value_of(matches, IDLE) {
+        Some(text) => number(alloc, text, IDLE_NUMBER),
+        None => Ok(USUAL_IDLE),
+    }
 }
 
 // The number that the option has for its value.

@@ -90,9 +90,42 @@ fn connections_are_asked_for(rt: HostRuntime) {
         let listening = Listening {
             port: *port,
             connections: *connections,
+            idle: 2,
         };
         let task = Task::Serve(listening, Records::Memory);
         assert_job(&rt, &serve_words(words, more), task, None);
+    }
+}
+
+/// An idle limit as a word, and as a number.
+const IDLES: [(&str, u16); 3] = [("1", 1), ("0002", 2), ("3600", 3600)];
+
+/// Words that serve one connection, which is waited for so long.
+fn idle_words<'a>(idle: &'a str) -> [&'a str; 10] {
+    [
+        "transit-desk",
+        "serve",
+        "--country",
+        "CH",
+        "--port",
+        "80",
+        "--connections",
+        "1",
+        "--idle",
+        idle,
+    ]
+}
+
+#[test]
+fn an_idle_limit_is_asked_for(rt: HostRuntime) {
+    for (word, idle) in &IDLES {
+        let listening = Listening {
+            port: 80,
+            connections: 1,
+            idle: *idle,
+        };
+        let task = Task::Serve(listening, Records::Memory);
+        assert_job(&rt, &idle_words(word), task, None);
     }
 }
 
@@ -170,6 +203,7 @@ fn connections_to_a_file_are_asked_for(rt: HostRuntime) {
     let listening = Listening {
         port: 80,
         connections: 1,
+        idle: 2,
     };
     let made = Task::Serve(listening, Records::NewFile(path(&rt, "desk.db")));
     assert_job(&rt, &SERVED_FILE, made, None);

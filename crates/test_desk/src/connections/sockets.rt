@@ -1,10 +1,13 @@
 //! Connections over sockets of this machine. Each peer has written all before the first is served.
-use super::{Connection, REGISTERS, Still, THREE, assert_told, new_service};
+use super::{Connection, IS_CUT, REGISTERS, Still, THREE, assert_told, new_service};
 use std::io;
 use std::io::{Read, Write};
 use std::net::{Ipv4Addr, Net, Shutdown, SocketAddr, TcpListener, TcpStream};
 use std::process::Abort;
 use td_http::serve_on;
+
+/// How long a read waits, in seconds.
+const IDLE: u16 = 1;
 
 /// A peer that has written this.
 fn writer_of<N: Net<Stream = TcpStream>>(
@@ -58,7 +61,7 @@ fn address(rt: &impl Abort, listener: &TcpListener) -> SocketAddr {
 /// So many connections to the listener are served at a new desk.
 fn serve_all(rt: &(impl AllocGlobal + Abort), listener: &TcpListener, count: u32) {
     let mut service = new_service(rt);
-    let served = serve_on(rt.alloc(), listener, count, &mut Still, &mut service);
+    let served = serve_on(rt.alloc(), listener, count, IDLE, &mut Still, &mut service);
     assert!(rt; served.is_ok());
 }
 
@@ -123,4 +126,33 @@ fn a_peer_that_wrote_more_is_not_reset(rt: HostRuntime) {
     serve_all(&rt, &listener, 1);
     assert_peer_told(&rt, &mut peer, REGISTERS.1);
     assert!(rt; is_whole(&peer));
+}
+
+/// Peers that write nothing, half a request, or half of the second one, and then wait.
+const WAITING: [Connection; 3] = [(b"", b""), (b"GET /holders/000001 HT", b""), IS_CUT];
+
+/// Peers that have written this, and may write more.
+fn waiting_peers_of<N: Net<Stream = TcpStream> + AllocGlobal + Abort>(
+    rt: &N,
+    at: SocketAddr,
+    connections: &[Connection],
+) -> Vec<TcpStream> {
+    let mut peers = Vec::new(rt.alloc());
+    for (sent, _) in connections {
+        let peer = writer_of(rt, at, sent).expect(rt, "a peer");
+        peers.push(peer).expect(rt, "memory");
+    }
+    peers
+}
+
+// Each is waited for no longer than the limit, and the last one is served.
+#[test]
+fn peers_that_wait_hold_no_other(rt: HostRuntime) {
+    let listener = listener_of(&rt);
+    let at = address(&rt, &listener);
+    let mut waiting = waiting_peers_of(&rt, at, &WAITING);
+    let mut last = peer_of(&rt, at, REGISTERS.0);
+    serve_all(&rt, &listener, 4);
+    assert_all_told(&rt, &mut waiting, &WAITING);
+    assert_peer_told(&rt, &mut last, REGISTERS.1);
 }

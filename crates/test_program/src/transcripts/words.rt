@@ -66,6 +66,18 @@ $ serve --country CH --port 80 --connections 1000001
 ! 2 error: invalid value '1000001' for '--connections <K>': it must be a whole number from 1 to 1000000
 $ serve --country CH --port 80 --connections one
 ! 2 error: invalid value 'one' for '--connections <K>': it must be a whole number from 1 to 1000000
+$ serve --country CH --port 80 --connections 1 --idle 0
+! 2 error: invalid value '0' for '--idle <SECONDS>': it must be a whole number of seconds from 1 to 3600
+$ serve --country CH --port 80 --connections 1 --idle 3601
+! 2 error: invalid value '3601' for '--idle <SECONDS>': it must be a whole number of seconds from 1 to 3600
+$ serve --country CH --port 80 --connections 1 --idle -2
+! 2 error: invalid value '-2' for '--idle <SECONDS>': it must be a whole number of seconds from 1 to 3600
+$ serve --country CH --port 80 --connections 1 --idle 1.5
+! 2 error: invalid value '1.5' for '--idle <SECONDS>': it must be a whole number of seconds from 1 to 3600
+$ serve --country CH --port 80 --connections 1 --idle
+! 2 error: a value is required for '--idle <SECONDS>' but none was supplied
+$ pipe --country CH --idle 2
+! 2 error: unexpected argument '--idle' found
 
 == what was wrong on a file is told
 $ pipe --country CH --new
@@ -113,7 +125,8 @@ $ -V
 $ --help
 <| The desk of a national transit office under the Common Transit Convention\n
 <| \n
-<| Usage: transit-desk serve --country <CC> --port <N> --connections <K> [--db <FILE> [--new]] [--at <SECONDS>]\n
+<| Usage: transit-desk serve --country <CC> --port <N> --connections <K> [--idle <SECONDS>]\n
+<|          [--db <FILE> [--new]] [--at <SECONDS>]\n
 <|        transit-desk pipe --country <CC> [--db <FILE> [--new]] [--at <SECONDS>]\n
 <|        transit-desk check --country <CC> --db <FILE>\n
 <| \n
@@ -146,7 +159,8 @@ $ --help
 $ serve --help
 <| Serves connections to a port of this machine, one after another\n
 <| \n
-<| Usage: transit-desk serve --country <CC> --port <N> --connections <K> [--db <FILE> [--new]] [--at <SECONDS>]\n
+<| Usage: transit-desk serve --country <CC> --port <N> --connections <K> [--idle <SECONDS>]\n
+<|          [--db <FILE> [--new]] [--at <SECONDS>]\n
 <| \n
 <| Options:\n
 <|       --country <CC>     The country of the office, two capital letters\n
@@ -155,6 +169,7 @@ $ serve --help
 <|       --at <SECONDS>     The moment of all requests, in seconds since 1970; else the clock is asked\n
 <|       --port <N>         The port of 127.0.0.1 that is listened on, from 1 to 65535\n
 <|       --connections <K>  How many connections are served, from 1 to 1000000\n
+<|       --idle <SECONDS>   The most seconds that a connection is waited for, from 1 to 3600; else 2\n
 <|   -h, --help             Print help\n
 <| \n
 <| Without --db the desk starts empty, and it is gone when the program ends. With --db its\n

@@ -8,7 +8,7 @@ use Rattle.td_http.proofs.sockets.serve_on.Goals as goal
 pub returns : goal.returns
 returns g c =
     let desk = g.D.Desk in
-    let call = c.serve_connections in
+    let call = c.serve_connections-served in
     let served = call.ensures.0 in
     let old = between _ c.args.clock.now c.args.service.now in
     let new = between call.new.connections call.new.clock call.new.service in (

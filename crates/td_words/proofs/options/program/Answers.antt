@@ -1,7 +1,7 @@
 use Rattle.std.proofs.Common.{◌≡◌, ◌∙◌, ap, subst}
 use Rattle.std.specs.Prelude.{IfOk}
-use Rattle.clap.specs.Words.{App, app_of, with_subcommand}
-use Rattle.td_words.specs.Words.{bare_app, check_app, pipe_app, serve_app}
+use Rattle.clap.specs.Words.{app_of, with_subcommand}
+use Rattle.td_words.specs.Words.{check_app, pipe_app, serve_app}
 use Rattle.td_words.proofs.options.program.Goals as goal
 
 pub returns : goal.returns

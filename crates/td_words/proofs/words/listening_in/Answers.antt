@@ -1,7 +1,7 @@
 use Rattle.std.proofs.Common.{codes}
 use Rattle.clap.specs.Words.{first_of, found_of, rows_of}
 use Rattle.td_words.proofs.Asked.{none_up}
-use Rattle.td_words.specs.Words.{IsListening, IsNumberOf}
+use Rattle.td_words.specs.Words.{IsIdleOf, IsListening, IsNumberOf}
 use Rattle.td_words.proofs.words.listening_in.Goals as goal
 
 pub returns-in_err-port-clause-none : goal.returns-in_err-port-clause-none
@@ -16,3 +16,9 @@ returns-in_err-connections-clause-none c =
     none_up (IsNumberOf 1 1000000 (first_of (codes "connections") rows)) (IsListening rows) (λ l h. (l.connections, h.connections))
     c.from_residual-in_err-connections.result c.in_err-connections.field-0.0 c.from_residual-in_err-connections.ensures.1
     c.in_err-connections.ensures.none
+
+pub returns-in_err-idle-clause-none : goal.returns-in_err-idle-clause-none
+returns-in_err-idle-clause-none c =
+    let rows = rows_of (found_of c.args.matches.now) in
+    none_up (IsIdleOf (first_of (codes "idle") rows)) (IsListening rows) (λ l h. (l.idle, h.idle)) _
+    c.in_err-idle.field-0.0 c.from_residual-in_err-idle.ensures.1 c.in_err-idle.ensures.none
