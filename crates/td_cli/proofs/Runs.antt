@@ -1,5 +1,5 @@
 -- Runs over a file are a list of streams.
-use Rattle.std.proofs.Common.{◌≡◌, ◌∙◌, ℕ, ℤ, Bool, true, false, List, [], ◌∷◌, ◌++◌, map, Option, ap, refl, subst, sym}
+use Rattle.std.proofs.Common.{◌≡◌, ℕ, Bool, true, false, List, [], ◌∷◌, ◌++◌, ap, subst, sym}
 use Rattle.std.specs.Prelude.{IsTrue}
 use Rattle.sqlite_disk.specs.declared.Disk.{Ghosts}
 use Rattle.sqlite_wal.specs.Recovery.{Image}
@@ -8,13 +8,12 @@ use Rattle.td_model.specs.Book.{Book}
 use Rattle.td_desk.specs.Content.{Content, IsSound}
 use Rattle.td_desk.specs.Runs.{IsTied}
 use Rattle.td_desk.specs.View.{IsSettled}
-use Rattle.td_desk.proofs.Fresh.{account_fresh}
 use Rattle.http_wire.specs.Stream.{Exchange, Ending, silence, refusal, to_head, no_memory, IsEnding}
 use Rattle.td_http.specs.Private.{IsServedOver, books_over}
 use Rattle.td_http.specs.Serving.{IsServed}
 use Rattle.td_http.proofs.Private.{served_both, served_nothing, served_over}
 use Rattle.td_files.specs.Found.{FileSeen, IsClean, content_in, over_file}
-use Rattle.td_cli.specs.Desks.{BeginsIn, IsHeadHandledAt, fresh_books}
+use Rattle.td_cli.specs.Desks.{BeginsIn, IsHeadHandledAt}
 use Rattle.td_cli.specs.Runs.{GoesOnFrom, IsRun}
 
 -- what parts with the rest of a stream leaves the desk as it is

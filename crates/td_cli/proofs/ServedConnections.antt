@@ -5,14 +5,12 @@ use Rattle.std.specs.Prelude.{MatchResult}
 use Rattle.std.specs.Result.{is_err}
 use Rattle.std.specs.Io.KnownBytes.{Appends}
 use Rattle.std.specs.declared.io.Error.{Error}
-use Rattle.td_http.specs.declared.sides.ReplySide.{ReplySide}
-use Rattle.td_http.specs.declared.sides.RequestSide.{RequestSide}
 use Rattle.counted_io.specs.declared.counted.Counted.{Counted}
 use Rattle.counted_io.specs.Counted.{known_bytes}
 use Rattle.td_http.specs.declared.service.Service.{Service}
 use Rattle.td_http.specs.Serving.{desk_of, IsHandledBy, IsHeadHandledBy}
 use Rattle.td_http.specs.Private.{IsPrivateOver}
-use Rattle.td_http.specs.Connections.{ServesSockets, Between, Connection, IsRefused}
+use Rattle.td_http.specs.Connections.{Between, IsRefused, ServesSockets, SocketConnection}
 use Rattle.td_http.proofs.Private.{connections_clean}
 use Rattle.td_desk.specs.View.{DeskView}
 use Rattle.td_cli.specs.Desks.{IsReady, IsHandledAt, IsHeadHandledAt}
@@ -24,7 +22,7 @@ use Rattle.td_cli.proofs.Clocks.{shows_itself}
 use Rattle.td_cli.proofs.Desks.{head_served}
 
 -- a desk that is clean after the connections, and after an accept that failed, was clean after the last connection
-last_clean : {C D : Type 0} (is_clean : D → Type 0) (all_served : List (Connection RequestSide ReplySide)) (last new : Between (Unit {0}) C (Service D)) (count : ℕ) (answer : Result (Unit {0}) Error)
+last_clean : {C D : Type 0} (is_clean : D → Type 0) (all_served : List SocketConnection) (last new : Between (Unit {0}) C (Service D)) (count : ℕ) (answer : Result (Unit {0}) Error)
     → MatchResult answer (λ _. (length all_served ≡ count) × (new ≡ last)) (λ why. (length all_served < count) × IsRefused (λ _ _ _. Unit {0}) last why new)
     → is_clean (desk_of new.handler) → is_clean (desk_of last.handler)
 last_clean {C} {D} is_clean all_served last new count (Ok done) ended clean = subst (λ (b : Between (Unit {0}) C (Service D)). is_clean (desk_of b.handler)) ended.1 clean

@@ -2,12 +2,10 @@
 use Rattle.std.proofs.Common.{◌≡◌, ℕ, ◌<◌, ℤ, List, [], ◌∷◌, length, Option, None, Result, Ok, Err, ap, inl, inr}
 use Rattle.std.specs.Prelude.{MatchResult}
 use Rattle.std.specs.declared.io.Error.{Error}
-use Rattle.td_http.specs.declared.sides.ReplySide.{ReplySide}
-use Rattle.td_http.specs.declared.sides.RequestSide.{RequestSide}
 use Rattle.counted_io.specs.declared.counted.Counted.{Counted}
 use Rattle.http_wire.specs.declared.reply.Reply.{Reply}
 use Rattle.http_wire.specs.Wire.{Asked}
-use Rattle.td_http.specs.Connections.{ServesSockets, Between, Connection, ServedConnections, IsRefused}
+use Rattle.td_http.specs.Connections.{Between, IsRefused, ServedConnections, ServesSockets, SocketConnection}
 use Rattle.td_desk.specs.View.{DeskView}
 use Rattle.td_cli.specs.Desks.{IsHandledAt, IsHeadHandledAt, Shows, view_by}
 use Rattle.td_cli.specs.Listening.{HasServed, IsUnserved, ServesAs}
@@ -25,13 +23,13 @@ module _ {C C' H H' : Type 0} (ticks : C → ℤ → C → Type 0) (moments : C'
   abbrev pub seen : Between (Unit {0}) C H → Between (Unit {0}) C' H'
   seen b = record { source = tt; clock = look b.clock; handler = see b.handler }
 
-  abbrev pub Were : Between (Unit {0}) C H → List (Connection RequestSide ReplySide) → Between (Unit {0}) C H → Type 0
+  abbrev pub Were : Between (Unit {0}) C H → List SocketConnection → Between (Unit {0}) C H → Type 0
   Were = ServedConnections (λ _. None) (λ _. None) (λ _ _ _ _. Unit {0}) (λ _ _ _ _. Unit {0}) ticks handles heads
 
-  abbrev pub Are : Between (Unit {0}) C' H' → List (Connection RequestSide ReplySide) → Between (Unit {0}) C' H' → Type 0
+  abbrev pub Are : Between (Unit {0}) C' H' → List SocketConnection → Between (Unit {0}) C' H' → Type 0
   Are = ServedConnections (λ _. None) (λ _. None) (λ _ _ _ _. Unit {0}) (λ _ _ _ _. Unit {0}) moments handles' heads'
 
-  pub were_served_seen : (all_served : List (Connection RequestSide ReplySide)) (old new : Between (Unit {0}) C H) → keeps old.clock → Were old all_served new → Are (seen old) all_served (seen new)
+  pub were_served_seen : (all_served : List SocketConnection) (old new : Between (Unit {0}) C H) → keeps old.clock → Were old all_served new → Are (seen old) all_served (seen new)
   unfolding serves_seen
   were_served_seen [] old new kept were_served = ap seen were_served
   were_served_seen (connection ∷ all_served) old new kept were_served =
@@ -52,7 +50,7 @@ module _ {C C' H H' : Type 0} (ticks : C → ℤ → C → Type 0) (moments : C'
         were_served_seen all_served were_served.0 new later were_served.2,
       )
 
-  pub ended_seen : (all_served : List (Connection RequestSide ReplySide)) (last new : Between (Unit {0}) C H) (count : ℕ) (answer : Result (Unit {0}) Error)
+  pub ended_seen : (all_served : List SocketConnection) (last new : Between (Unit {0}) C H) (count : ℕ) (answer : Result (Unit {0}) Error)
       → MatchResult answer (λ _. (length all_served ≡ count) × (new ≡ last)) (λ why. (length all_served < count) × IsRefused (λ _ _ _. Unit {0}) last why new)
       → MatchResult answer (λ _. (length all_served ≡ count) × (seen new ≡ seen last))
       (λ why. (length all_served < count) × IsRefused (λ _ _ _. Unit {0}) (seen last) why (seen new))

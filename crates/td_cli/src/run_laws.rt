@@ -1,7 +1,6 @@
 //! Laws of runs over a file, one after another, and of what a crash leaves on the way, as contracts of functions that do nothing.
 ghost use Rattle.std.specs.Prelude.{◌≡◌, ℕ, ℤ, Bool, List, [], ◌∷◌, ◌++◌, map, IsTrue, None, Option, Result};
 ghost use Rattle.std.specs.declared.io.Error.{Error};
-ghost use Rattle.std.specs.declared.net.tcp.TcpStream.{TcpStream};
 ghost use Rattle.sqlite.specs.Files.{file_state};
 ghost use Rattle.sqlite_wal.specs.Recovery.{Image};
 ghost use Rattle.counted_io.specs.declared.counted.Counted.{Counted};
@@ -9,7 +8,7 @@ ghost use Rattle.http_wire.specs.Stream.{Exchange};
 ghost use Rattle.http_wire.specs.declared.stream.StreamEnd.{StreamEnd};
 ghost use Rattle.td_files.specs.Found.{FileSeen, IsClean, over_file};
 ghost use Rattle.td_http.specs.ConnectionLaws.{TellAlikeOver};
-ghost use Rattle.td_http.specs.Connections.{Connection, beside};
+ghost use Rattle.td_http.specs.Connections.{SocketConnection, beside};
 ghost use Rattle.td_http.specs.Kept.{IsKeptBetween};
 ghost use Rattle.td_http.specs.KeptOver.{IsKeptWithin};
 ghost use Rattle.td_cli.specs.Desks.{BeginAlike, BeginsIn, IsHeadHandledAt, IsMoment, fresh_books};
@@ -68,8 +67,8 @@ pub fn acknowledged_replies_are_kept_in_the_file<R: Read, W: Write, F: Disk>()
 pub fn acknowledged_connections_are_kept_in_the_file<W: Write, F: Disk>()
     ensures { (country : List ℕ) (is_new : Bool) (image : Image) (at : Option ℤ) (file : FileSeen F.Disk)
         (port connections : ℕ) (writer writer_left : Counted W) (answer : Result Unit Error)
-        (before : List (Connection TcpStream TcpStream)) (connection : Connection TcpStream TcpStream)
-        (after : List (Connection TcpStream TcpStream)) (first others : List Exchange)
+        (before : List SocketConnection) (connection : SocketConnection) (after : List SocketConnection)
+        (first others : List Exchange)
         → (one : HasServed {C = Unit {0}} over_file (BeginsIn is_new image country) (λ d. d ≡ file) W.contents (IsMoment at)
         port connections writer writer_left tt answer)
         → IsClean file → one.served.all_served ≡ before ++ connection ∷ after → connection.exchanges ≡ first ++ others

@@ -95,6 +95,10 @@ pub record ServesConnections {R W C H L : Type 0}
 abbrev pub beside : {C H : Type 0} → C → H → Between (Unit {0}) C H
 beside clock handler = record { source = tt; clock = clock; handler = handler }
 
+-- a connection of a listening socket
+abbrev pub SocketConnection : Type 0
+SocketConnection = Connection RequestSide ReplySide
+
 -- So many connections of a listening socket were served, one after another, by this clock and this handler.
 -- The bytes of each are some bytes: no contract can say what came over a network, what becomes of what is
 -- sent, or when an accept fails.

@@ -56,9 +56,12 @@ records_once (NewFile path) (File there) db new is other = two_flags new other.1
 records_once (NewFile path) (NewFile there) db new is other = same_value db _ _ is.0 other.0
 
 task_once : (name : Text) (rows : List Row) (task other : Task) → IsTask name rows task → IsTask name rows other → IsSameTask task other
-task_once name rows (Serve l r) (Serve m s) is other =
-    (number_once _ _ _ _ _ is.1.port other.1.port, number_once _ _ _ _ _ is.1.connections other.1.connections, idle_once _ _ _ is.1.idle other.1.idle,
-    records_once r s _ _ is.2 other.2)
+task_once name rows (Serve l r) (Serve m s) is other = (
+  number_once _ _ _ _ _ is.1.port other.1.port,
+  number_once _ _ _ _ _ is.1.connections other.1.connections,
+  idle_once _ _ _ is.1.idle other.1.idle,
+  records_once r s _ _ is.2 other.2,
+)
 task_once name rows (Serve l r) (Pipe s) is other = serve_or_pipe name is.0 other.0
 task_once name rows (Serve l r) (Check path) is other = serve_or_check name is.0 other.0
 task_once name rows (Pipe r) (Serve m s) is other = serve_or_pipe name other.0 is.0

@@ -154,8 +154,7 @@ fn no_job(alloc: Global, error: &clap::Error, words: &[String]) -> Result<NoJob,
         ErrorKind::OutOfMemory => Err(AllocError),
         ErrorKind::InvalidSubcommand if asks_for_help_of_help(words) => Ok(NoJob::Help(program(
             alloc,
-        )?
-        .render_help()?)),
+        )?.render_help()?)),
         ErrorKind::DisplayHelp | ErrorKind::DisplayVersion => Ok(NoJob::Help(error.to_string(
             alloc,
         )?)),

@@ -1,5 +1,5 @@
-use Rattle.std.proofs.Common.{None, ap, length, subst, sym}
-use Rattle.td_files.specs.Found.{FileSeen, IsClean, over_file}
+use Rattle.std.proofs.Common.{None, length, subst, sym}
+use Rattle.td_files.specs.Found.{IsClean, over_file}
 use Rattle.td_http.specs.Connections.{beside}
 use Rattle.td_http.proofs.Kept.{keeps_first}
 use Rattle.td_http.proofs.KeptOver.{kept_within, last_is}
