@@ -133,16 +133,12 @@ fn serve_here<W: Write, D: Desk + Drop, C: Clock>(
     if !write_whole(out, lines.first.as_bytes()) {
         return ServingEnd::Write;
     }
-    if serve_on(
-        alloc,
-        listener,
-        listening.connections,
-        listening.idle,
-        clock,
-        service,
-    )
-    .is_err()
-    {
+    let Listening {
+        connections,
+        idle,
+        ..
+    } = listening;
+    if serve_on(alloc, listener, connections, idle, clock, service).is_err() {
         return ServingEnd::Socket;
     }
     if !write_whole(out, lines.last.as_bytes()) {

@@ -2,6 +2,7 @@
 //! tests run in. Expected bytes are those of the desk's formats, written out.
 mod files;
 mod heads;
+mod help;
 mod laws;
 mod machine_clock;
 mod many_declarations;
