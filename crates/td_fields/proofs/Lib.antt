@@ -1,3 +1,3 @@
-mod NameFacts
+pub mod NameFacts
 mod LineFacts
 mod MemberFacts

@@ -1,18 +1,31 @@
 //! A desk over a store that may fail and shut, and runs at both desks.
+mod batches;
 mod lodging;
 mod store;
 
-use crate::examples::{AT, country, eori, holder};
+use crate::examples::{AT, code, country, cover, eori, holder};
 use std::alloc::{AllocError, Global};
 use std::process::Abort;
 use store::{FaultyStore, run_stored};
 use td_acts::{Answer, Command, Said, Stamped};
+use td_base::Reference;
 use td_desk::{Desk, Outcome, PlainDesk, run};
 
 fn register(rt: &impl Abort, number: u32, text: &[u8], at: i64) -> Stamped {
     let command = Command::Register {
         holder: holder(rt, number),
         eori: eori(rt, text),
+    };
+    Stamped { at, command }
+}
+
+/// Opens a guarantee of 10,000.00 for a holder, with the code AB12.
+fn open(rt: &impl Abort, number: u32, at: i64) -> Stamped {
+    let command = Command::OpenGuarantee {
+        holder: holder(rt, number),
+        reference: Reference::new(1_000_000).expect(rt, "an amount"),
+        cover: cover(rt, 50),
+        code: code(rt, b"AB12"),
     };
     Stamped { at, command }
 }

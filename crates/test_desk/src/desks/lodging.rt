@@ -1,22 +1,8 @@
 //! Openings and declarations, by `run`: on the plain desk and at the desk over a store.
-use super::{assert_run, assert_stored, plain_desk, register, see, stored_desk};
-use crate::examples::{
-    AT, GRN, MRN, SECOND_GRN, SECOND_MRN, code, cover, declaration, grn, holder, lines, mrn,
-};
+use super::{assert_run, assert_stored, open, plain_desk, register, see, stored_desk};
+use crate::examples::{AT, GRN, MRN, SECOND_GRN, SECOND_MRN, declaration, grn, holder, lines, mrn};
 use std::process::Abort;
 use td_acts::{Command, Stamped};
-use td_base::Reference;
-
-// Opens a guarantee of 10,000.00 for a holder, with the code AB12.
-fn open(rt: &impl Abort, number: u32, at: i64) -> Stamped {
-    let command = Command::OpenGuarantee {
-        holder: holder(rt, number),
-        reference: Reference::new(1_000_000).expect(rt, "an amount"),
-        cover: cover(rt, 50),
-        code: code(rt, b"AB12"),
-    };
-    Stamped { at, command }
-}
 
 // A holder lodges a declaration of a line on the first guarantee of holder 000001.
 fn lodge(

@@ -1,0 +1,11 @@
+mod OptionFacts
+mod RecordsFacts
+mod RowFacts
+mod PartFacts
+mod Taking
+mod Done
+mod Again
+mod AgainAtDesk
+mod AreDeclarations
+mod Told
+mod AnsweredAtDesk

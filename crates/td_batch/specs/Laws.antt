@@ -1,0 +1,58 @@
+-- What a batch of declarations does that is sent again.
+use Rattle.std.specs.Prelude.{◌≡◌, ℕ, ◌≤◌, ℤ, List, ◌∷◌, ◌++◌, length, Option, Some, None}
+use Rattle.std.specs.List.{AllByRecursion}
+use Rattle.td_base.specs.Days.{moment_of}
+use Rattle.td_commands.specs.Commands.{owner_of}
+use Rattle.td_commands.specs.declared.command.Command.{Command}
+use Rattle.td_commands.specs.declared.command.Stamped.{Stamped}
+use Rattle.td_commands.specs.declared.said.Answer.{Answer}
+use Rattle.td_commands.specs.declared.said.Said.{Said}
+use Rattle.td_commands.specs.declared.said.Said.TheVariants.{Answered}
+use Rattle.td_model.specs.declared.holder_row.HolderRow.{HolderRow}
+use Rattle.td_model.specs.Book.{Book}
+use Rattle.td_model.specs.Machine.{machine_book}
+use Rattle.td_desk.specs.declared.fault.Fault.{Fault}
+use Rattle.td_desk.specs.Content.{Content, account_in, IsSound}
+use Rattle.td_desk.specs.Runs.{IsTied}
+use Rattle.td_desk.specs.View.{DeskView}
+use Rattle.td_batch.specs.declared.running.BatchRun.{BatchRun}
+use Rattle.td_batch.specs.Again.{IsDeclaration}
+use Rattle.td_batch.specs.Results.{declaration_result, declarations_header}
+use Rattle.td_batch.specs.Runs.{IsBatchDone, IsRunOf}
+
+-- A batch of declarations that no fault stopped, done again at the same moment with no command between, changes nothing, whether
+-- a fault stops it then or not. (It may be answered otherwise: a row that was refused for its code, under an LRN that a later
+-- row then used, is refused for the LRN.)
+abbrev pub AgainChangesNothing : {D : Type 0} → DeskView D → (D → Option Fault → D → Type 0) → Type 0
+AgainChangesNothing {D} view called = (at : ℤ) (rows : List Command) (first again : BatchRun) (old mid new : D)
+    → AllByRecursion IsDeclaration rows
+    → IsRunOf view called declaration_result declarations_header at rows first old mid → first.stopped ≡ None
+    → IsRunOf view called declaration_result declarations_header at rows again mid new
+    → view.is_clean new → view.is_live new → IsSound (view.content old) → view.content new ≡ view.content mid
+
+-- Where these rows were done, this was said to that one: at some place of the batch.
+abbrev pub IsSaidTo : Command → Said → List Command → List Said → Type 0
+IsSaidTo d s rows said = (before after : List Command) × (said_before said_after : List Said)
+    × (rows ≡ before ++ d ∷ after) × (said ≡ said_before ++ s ∷ said_after) × (length said_before ≡ length before)
+
+-- A content that others came to after another one, whatever came between: of each holder it has what the holder's machine leaves
+-- by some commands, from any book that says what the holder had. Runs, streams and connections promise so.
+pub record IsLater (before after : Content) : Type 0 where
+  pub country : after.country ≡ before.country
+  pub sound : IsSound after
+  pub books : (books : ℕ → Book) → IsTied before books
+      → (between : ℕ → List Stamped) × IsTied after (λ H. machine_book H (books H) (between H))
+
+-- A declaration of a batch that was answered has the same answer where it is done again in a batch, at any moment in range that
+-- isn't before the holder's own last change then, whatever came between. (So it has the same result row, and the MRN of the
+-- movement that stands; no other movement of the holder has its LRN in a sound content.)
+abbrev pub AnsweredAgain : {D : Type 0} → DeskView D → (D → Option Fault → D → Type 0) → Type 0
+AnsweredAgain {D} view called = (at later : ℤ) (t : ℕ) (rows others : List Command) (first again : BatchRun) (old mid middle new : D)
+    (H : ℕ) (row : HolderRow) (d : Command) (a : Answer) (s : Said)
+    → (one : IsBatchDone view called declaration_result declarations_header at rows first old mid)
+    → (more : IsBatchDone view called declaration_result declarations_header later others again middle new)
+    → view.is_clean mid → view.is_live mid → IsSound (view.content old) → IsLater (view.content mid) (view.content middle)
+    → view.is_clean new → view.is_live middle
+    → IsDeclaration d → IsSaidTo d (Answered a) rows one.said → IsSaidTo d s others more.said
+    → owner_of (view.content middle).country d ≡ Some H → (account_in H (view.content middle)).holder ≡ Some row
+    → moment_of later ≡ Some t → row.last_at ≤ t → s ≡ Answered a

@@ -1,0 +1,16 @@
+//! Laws of batches, as contracts of functions that do nothing.
+ghost use Rattle.td_batch.specs.Laws.{AgainChangesNothing, AnsweredAgain};
+
+use td_desk::Desk;
+
+/// A batch of declarations that no fault stopped changes nothing where it is done again at the same moment, with no
+/// command between.
+pub fn a_batch_done_again_changes_nothing<D: Desk>()
+    ensures { AgainChangesNothing D.seen D.called }
+{}
+
+/// A declaration of a batch that was answered has the same answer, and so the same result row, where it is done again
+/// in a batch at any moment in range that isn't before the holder's own last change, whatever came between.
+pub fn an_answered_declaration_is_answered_again<D: Desk>()
+    ensures { AnsweredAgain D.seen D.called }
+{}
