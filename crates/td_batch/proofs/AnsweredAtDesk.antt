@@ -156,9 +156,10 @@ answered_again_at_desk view called at later t rows others first again old mid mi
     ∙ ap (λ b. machine_book H b now.before) (sym (machine_book-parts H (book_after H book (at_moment at d)) was.after (between H)))
     ∙ sym (machine_book-parts H (book_after H book (at_moment at d)) (was.after ++ between H) now.before)
     ∙ ap (machine_book H (book_after H book (at_moment at d))) (append_assoc was.after (between H) now.before) in
-    let last : last_of (books_middle H) ≤ t =
-    rw (sym (row_tells H (last_of (books_middle H)) (grn_count_of (books_middle H)) (mrn_count_of (books_middle H)) (eori_of (books_middle H)) row
-    (ap (λ account. account.holder) (sym (later_books.1.each H)) ∙ holder))) since in
+    let tells : row.last_at ≡ last_of (books_middle H) =
+    row_tells H (last_of (books_middle H)) (grn_count_of (books_middle H)) (mrn_count_of (books_middle H)) (eori_of (books_middle H)) row
+    (ap (λ account. account.holder) (sym (later_books.1.each H)) ∙ holder) in
+    let last : last_of (books_middle H) ≤ t = subst (λ n. n ≤ t) tells since in
     let not_before : last_of (machine_book H (book_after H book (at_moment at d)) (was.after ++ (between H ++ now.before))) ≤ t =
     subst (λ b. last_of b ≤ t) end (last_stays H later t now.before (books_middle H) shown now.at_once last) in
     let answered = answered_again H book at later d (was.after ++ (between H ++ now.before)) a t is (owner_any d country book.opening.country H is (owner_any d (view.content middle).country country H is own))

@@ -1,14 +1,16 @@
 -- Rows that were done so far, and one more.
-use Rattle.std.proofs.Common.{◌≡◌, ◌≢◌, false, ℕ, ℤ, ◌+◌, ◌-◌, ◌<◌, List, [], ◌∷◌, ◌++◌, length, map, take, Option, Some, None, refl, sym, ◌∙◌, ap, arith, rules}
+use Rattle.std.proofs.Common.{◌≡◌, ◌≢◌, ◌||◌, Bool, false, ℕ, ℤ, ◌+◌, ◌-◌, ◌<◌, List, [], ◌∷◌, ◌++◌, length, map, take, Option, Some, None, refl, sym, ◌∙◌, ap, arith, rules}
 use Rattle.std.specs.Prelude.{zip}
-use Rattle.std.specs.List.{FoldsTo}
+use Rattle.std.specs.List.{FoldsTo, list_any}
 use Rattle.std.proofs.lemmas.Fn.{FoldsTo-push}
+use Rattle.std.proofs.lemmas.List.Folds.{list_any-append}
 use Rattle.std.proofs.lemmas.List.{append_assoc, append-nil, map-append, length-append, length-map, length-take-le, take-map}
 use Rattle.td_acts.specs.declared.rows.Change.{Change}
 use Rattle.td_acts.specs.declared.rows.Change.TheVariants as change
 use Rattle.td_acts.specs.Changes.{is_change}
 use Rattle.td_commands.specs.declared.command.Command.{Command}
 use Rattle.td_commands.specs.declared.said.Said.{Said}
+use Rattle.td_commands.specs.declared.said.Said.TheVariants.{Answered, Refused}
 use Rattle.td_desk.specs.declared.fault.Fault.{Fault}
 use Rattle.td_desk.specs.declared.fault.Fault.TheVariants as fault
 use Rattle.td_desk.specs.declared.running.Outcome.{Outcome}
@@ -17,7 +19,7 @@ use Rattle.td_desk.specs.View.{DeskView}
 use Rattle.td_desk.proofs.Turns.{run_on}
 use Rattle.td_batch.specs.declared.running.BatchRun.{BatchRun}
 use Rattle.td_batch.specs.Results.{result_rows}
-use Rattle.td_batch.specs.Runs.{at_moment, outcomes_of, IsBatchDone, IsDone, IsPrivate, IsRowDone}
+use Rattle.td_batch.specs.Runs.{at_moment, is_refusal, outcomes_of, IsBatchDone, IsDone, IsPrivate, IsRowDone}
 
 pub same_fault : (f g : Fault) → outcome.Failed f ≡ outcome.Failed g → f ≡ g
 same_fault f g is = cc
@@ -62,28 +64,37 @@ rows_more line (a ∷ rows) (s ∷ said) row words same =
     ap (λ (more : List ℕ). line a s ++ more) (rows_more line rows said row words (omega (arith, same)))
     ∙ sym (append_assoc (line a s) (result_rows line rows said) (line row words))
 
+last_only : (words : Said) → list_any is_refusal (words ∷ []) ≡ is_refusal words
+last_only (Answered answer) = refl
+last_only (Refused refusal) = refl
+
+any_more : (said : List Said) (words : Said) → list_any is_refusal (said ++ words ∷ []) ≡ (list_any is_refusal said || is_refusal words)
+any_more said words = list_any-append is_refusal said (words ∷ []) ∙ ap (λ b. list_any is_refusal said || b) (last_only words)
+
 -- ---- rows of a batch
 
 module _ {D : Type 0} (view : DeskView D) (called : D → Option Fault → D → Type 0) (line : Command → Said → List ℕ) (header : List ℕ) (at : ℤ) (rows : List Command) (old : D) where
   -- the first i rows were done
-  pub record HasDone (i : ℕ) (text : List ℕ) (new : D) : Type 0 where
+  pub record HasDone (i : ℕ) (text : List ℕ) (refused : Bool) (new : D) : Type 0 where
     pub said : List Said
+    pub refused_is : refused ≡ list_any is_refusal said
     pub count : length said ≡ i
     pub text_is : text ≡ header ++ result_rows line (take i rows) said
     pub steps : FoldsTo (IsRowDone view called at) old (zip (take i rows) (map (λ s. outcome.Said s) said)) new
     pub private : IsPrivate view at (take i rows) (map (λ s. outcome.Said s) said) old new
 
-  pub begun : (text : List ℕ) → text ≡ header → HasDone 0 text old
+  pub begun : (text : List ℕ) → text ≡ header → HasDone 0 text false old
   unfolding result_rows
   begun text is = record {
     said = [];
+    refused_is = refl;
     count = refl;
     text_is = is ∙ sym (append-nil header);
     steps = refl;
     private = λ clean live sound books tied. (view.content old, search rules, λ _. refl);
   }
 
-  module _ (i : ℕ) (text : List ℕ) (mid new : D) (row : Command) (was : HasDone i text mid) (within : i < length rows)
+  module _ (i : ℕ) (text : List ℕ) (refused : Bool) (mid new : D) (row : Command) (was : HasDone i text refused mid) (within : i < length rows)
       (next : take (i + 1) rows ≡ take i rows ++ row ∷ []) where
     size : length was.said ≡ length (take i rows)
     size = was.count ∙ sym (length-take-le i rows (omega (arith, within)))
@@ -104,9 +115,10 @@ module _ {D : Type 0} (view : DeskView D) (called : D → Option Fault → D →
         before.0 (view.content mid) (view.content new) (view.is_live mid) (view.is_live new) before.1 before.2 (is.live clean) o (is.performs clean))
 
     pub done_more : (words : Said) (more : List ℕ) → IsDone view called at row (outcome.Said words) mid new → more ≡ text ++ line row words
-        → HasDone (i + 1) more new
+        → HasDone (i + 1) more (refused || is_refusal words) new
     done_more words more is text_more = record {
       said = was.said ++ words ∷ [];
+      refused_is = ap (λ b. b || is_refusal words) was.refused_is ∙ sym (any_more was.said words);
       count = length-append was.said (words ∷ []) ∙ ap (λ n. n + 1) was.count;
       text_is = text_more ∙ ap (λ (t : List ℕ). t ++ line row words) was.text_is
           ∙ append_assoc header (result_rows line (take i rows) was.said) (line row words)
@@ -116,8 +128,8 @@ module _ {D : Type 0} (view : DeskView D) (called : D → Option Fault → D →
     }
 
     pub stopped_at : (r : BatchRun) (why : Fault) → IsDone view called at row (outcome.Failed why) mid new → r.done ≡ i → r.text.items ≡ text
-        → r.stopped ≡ Some why → IsBatchDone view called line header at rows r old new
-    stopped_at r why is done_is text_is stop =
+        → r.has_refusal ≡ refused → r.stopped ≡ Some why → IsBatchDone view called line header at rows r old new
+    stopped_at r why is done_is text_is refusal_is stop =
         let outcomes : outcomes_of was.said r.stopped ≡ map (λ s. outcome.Said s) was.said ++ outcome.Failed why ∷ [] = ap (outcomes_of was.said) stop in
         let number : length (map (λ s. outcome.Said s) was.said ++ outcome.Failed why ∷ []) ≡ i + 1 =
         length-append (map (λ s. outcome.Said s) was.said) (outcome.Failed why ∷ []) ∙ ap (λ n. n + 1) (length-map was.said (λ s. outcome.Said s) ∙ was.count) in
@@ -128,13 +140,14 @@ module _ {D : Type 0} (view : DeskView D) (called : D → Option Fault → D →
           text = text_is ∙ was.text_is ∙ ap (λ n. header ++ result_rows line (take n rows) was.said) (sym was.count);
           done = done_is ∙ sym was.count;
           ends = rw stop (length rows - (i + 1), rest);
+          refused = refusal_is ∙ was.refused_is;
           steps = rw (outcomes, number) (steps_more (outcome.Failed why) is);
           private = rw (outcomes, number) (private_more (outcome.Failed why) is);
         }
 
-  pub all_done : (r : BatchRun) (i : ℕ) (text : List ℕ) (new : D) → HasDone i text new → r.done ≡ i → r.text.items ≡ text → i ≡ length rows
+  pub all_done : (r : BatchRun) (i : ℕ) (text : List ℕ) (refused : Bool) (new : D) → HasDone i text refused new → r.done ≡ i → r.text.items ≡ text → r.has_refusal ≡ refused → i ≡ length rows
       → r.stopped ≡ None → IsBatchDone view called line header at rows r old new
-  all_done r i text new was done_is text_is all stop =
+  all_done r i text refused new was done_is text_is refusal_is all stop =
       let outcomes : outcomes_of was.said r.stopped ≡ map (λ s. outcome.Said s) was.said = ap (outcomes_of was.said) stop in
       let number : length (map (λ s. outcome.Said s) was.said) ≡ i = length-map was.said (λ s. outcome.Said s) ∙ was.count in
       record {
@@ -142,6 +155,7 @@ module _ {D : Type 0} (view : DeskView D) (called : D → Option Fault → D →
         text = text_is ∙ was.text_is ∙ ap (λ n. header ++ result_rows line (take n rows) was.said) (sym was.count);
         done = done_is ∙ sym was.count;
         ends = rw stop (was.count ∙ all);
+        refused = refusal_is ∙ was.refused_is;
         steps = rw (outcomes, number) was.steps;
         private = rw (outcomes, number) was.private;
       }

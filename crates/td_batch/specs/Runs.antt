@@ -1,10 +1,11 @@
 -- Rows of a batch, done at a desk one after another.
-use Rattle.std.specs.Prelude.{◌≡◌, ◌≢◌, ◌⊎◌, ℕ, ◌+◌, ℤ, List, [], ◌∷◌, ◌++◌, false, length, map, take, zip, Option, Some, None, Result, Ok, Err}
-use Rattle.std.specs.List.{FoldsTo}
+use Rattle.std.specs.Prelude.{◌≡◌, ◌≢◌, ◌⊎◌, ℕ, ◌+◌, ℤ, List, [], ◌∷◌, ◌++◌, Bool, true, false, length, map, take, zip, Option, Some, None, Result, Ok, Err}
+use Rattle.std.specs.List.{FoldsTo, list_any}
 use Rattle.td_commands.specs.Commands.{IsProper}
 use Rattle.td_commands.specs.declared.command.Command.{Command}
 use Rattle.td_commands.specs.declared.command.Stamped.{Stamped}
 use Rattle.td_commands.specs.declared.said.Said.{Said}
+use Rattle.td_commands.specs.declared.said.Said.TheVariants.{Answered, Refused}
 use Rattle.td_model.specs.Book.{Book}
 use Rattle.td_desk.specs.declared.fault.Fault.{Fault}
 use Rattle.td_desk.specs.declared.fault.Fault.TheVariants as fault
@@ -53,6 +54,11 @@ pub record IsDone {D : Type 0} (view : DeskView D) (called : D → Option Fault 
 abbrev pub IsRowDone : {D : Type 0} → DeskView D → (D → Option Fault → D → Type 0) → ℤ → D → Command × Outcome → D → Type 0
 IsRowDone view called at old row new = IsDone view called at row.0 row.1 old new
 
+-- it is no answer
+abbrev pub is_refusal : Said → Bool
+is_refusal (Answered answer) = false
+is_refusal (Refused refusal) = true
+
 -- how the rows ended: those that were done by what was said, and perhaps one more by a fault
 abbrev pub outcomes_of : List Said → Option Fault → List Outcome
 outcomes_of said None = map (λ s. outcome.Said s) said
@@ -83,6 +89,7 @@ pub record IsBatchDone {D : Type 0} (view : DeskView D) (called : D → Option F
   pub text : r.text.items ≡ header ++ result_rows line (take (length said) rows) said
   pub done : r.done ≡ length said
   pub ends : Ends rows said r.stopped
+  pub refused : r.has_refusal ≡ list_any is_refusal said
   pub steps : FoldsTo (IsRowDone view called at) old (zip (tried rows said r.stopped) (outcomes_of said r.stopped)) new
   pub private : IsPrivate view at (tried rows said r.stopped) (outcomes_of said r.stopped) old new
 

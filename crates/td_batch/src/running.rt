@@ -2,7 +2,7 @@
 ghost use Rattle.std.specs.Prelude.{◌≡◌, ◌++◌, codes, map, Ok, Err, OnErr, IfOk, string_bytes};
 ghost use Rattle.td_desk.specs.declared.fault.Fault.TheVariants as fault;
 ghost use Rattle.td_batch.specs.Results.{act_result, acts_header, declaration_result, declarations_header};
-ghost use Rattle.td_batch.specs.Runs.{IsDone, IsRunOf, outcome_of};
+ghost use Rattle.td_batch.specs.Runs.{IsDone, IsRunOf, is_refusal, outcome_of};
 
 use crate::acts::ActRow;
 use crate::declarations::DeclarationRow;
@@ -20,6 +20,19 @@ pub struct BatchRun {
     pub done: usize,
     /// The fault that stopped it, if any.
     pub stopped: Option<Fault>,
+    // whether a row that was done was refused
+    has_refusal: bool,
+}
+
+impl BatchRun {
+    ghost use Rattle.std.specs.Prelude.{◌≡◌};
+
+    /// Whether a row that was done was refused.
+    pub fn has_refusal(&self) -> bool
+        ensures { result ≡ self.now.has_refusal }
+    {
+        self.has_refusal
+    }
 }
 
 /// A row of a batch.
@@ -106,6 +119,12 @@ fn do_row<D: Desk, R: BatchRow>(
     }
 }
 
+fn is_refusal(said: &Said) -> bool
+    ensures { result ≡ is_refusal said.now }
+{
+    matches!(said, Said::Refused(_))
+}
+
 // Does the rows in order, up to the first fault.
 fn run_rows<D: Desk, R: BatchRow>(
     alloc: Global,
@@ -122,17 +141,23 @@ fn run_rows<D: Desk, R: BatchRow>(
             text: Vec::new(alloc),
             done: 0,
             stopped: Some(Fault::NoMemory),
+            has_refusal: false,
         };
     }
     let mut done = 0;
+    let mut has_refusal = false;
     for row in rows {
         match do_row(alloc, desk, at, row, &mut text) {
-            Ok(_said) => done += 1,
+            Ok(said) => {
+                done += 1;
+                has_refusal |= is_refusal(&said);
+            }
             Err(fault) => {
                 return BatchRun {
                     text,
                     done,
                     stopped: Some(fault),
+                    has_refusal,
                 };
             }
         }
@@ -141,6 +166,7 @@ fn run_rows<D: Desk, R: BatchRow>(
         text,
         done,
         stopped: None,
+        has_refusal,
     }
 }
 

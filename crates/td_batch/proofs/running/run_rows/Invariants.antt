@@ -6,4 +6,4 @@ abbrev pub invariant-loop-row : goal.invariant-loop-row
 invariant-loop-row g l =
     (l.done ≡ l.row-index)
     × HasDone g.D.Desk.seen g.D.Desk.called g.R.BatchRow.line l.fn.header l.fn.at (map g.R.BatchRow.command l.fn.rows) l.fn.desk
-    l.row-index l.text.items l.desk
+    l.row-index l.text.items l.has_refusal l.desk
