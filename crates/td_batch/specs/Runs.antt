@@ -59,6 +59,10 @@ abbrev pub is_refusal : Said → Bool
 is_refusal (Answered answer) = false
 is_refusal (Refused refusal) = true
 
+-- whether a row that was done was refused
+abbrev pub has_refusal : BatchRun → Bool
+has_refusal r = r.has_refusal
+
 -- how the rows ended: those that were done by what was said, and perhaps one more by a fault
 abbrev pub outcomes_of : List Said → Option Fault → List Outcome
 outcomes_of said None = map (λ s. outcome.Said s) said
@@ -89,7 +93,7 @@ pub record IsBatchDone {D : Type 0} (view : DeskView D) (called : D → Option F
   pub text : r.text.items ≡ header ++ result_rows line (take (length said) rows) said
   pub done : r.done ≡ length said
   pub ends : Ends rows said r.stopped
-  pub refused : r.has_refusal ≡ list_any is_refusal said
+  pub refused : has_refusal r ≡ list_any is_refusal said
   pub steps : FoldsTo (IsRowDone view called at) old (zip (tried rows said r.stopped) (outcomes_of said r.stopped)) new
   pub private : IsPrivate view at (tried rows said r.stopped) (outcomes_of said r.stopped) old new
 

@@ -26,10 +26,11 @@ pub struct BatchRun {
 
 impl BatchRun {
     ghost use Rattle.std.specs.Prelude.{◌≡◌};
+    ghost use Rattle.td_batch.specs.Runs.{has_refusal};
 
     /// Whether a row that was done was refused.
     pub fn has_refusal(&self) -> bool
-        ensures { result ≡ self.now.has_refusal }
+        ensures { result ≡ has_refusal self.now }
     {
         self.has_refusal
     }

@@ -4,3 +4,4 @@ mod Pipes
 mod ServedConnections
 mod Agreeing
 mod Runs
+mod Batches

@@ -5,5 +5,6 @@ pub mod Piped
 pub mod Listening
 pub mod StreamsSeen
 pub mod ConnectionsSeen
+pub mod Batched
 pub mod Performed
 pub mod Runs

@@ -11,9 +11,10 @@ use Rattle.td_files.specs.declared.desks.DeskFault.{DeskFault}
 use Rattle.http_wire.specs.declared.stream.StreamEnd.{StreamEnd}
 use Rattle.td_words.specs.declared.words.NoJob.{NoJob}
 use Rattle.td_words.specs.declared.words.Task.{Task}
-use Rattle.td_words.specs.declared.words.Task.TheVariants.{Serve, Pipe, Check}
+use Rattle.td_words.specs.declared.words.Task.TheVariants.{Serve, Pipe, Batch, Check}
 use Rattle.td_words.specs.Words.{AsksFor, IsNoJob}
 use Rattle.td_cli.specs.declared.serving.ServingEnd.{ServingEnd}
+use Rattle.td_cli.specs.Batched.{IsBatched}
 use Rattle.td_cli.specs.Desks.{BeginsKept}
 use Rattle.td_cli.specs.Piped.{PipesAs}
 use Rattle.td_cli.specs.Listening.{IsServing}
@@ -30,7 +31,7 @@ IsChecked {disk = disk} contents said image country out out_left errors errors_l
     × IsFaultTold said errors errors_left why status)
 
 -- A task was done, in this country and at this moment or by the machine's clock, and how it ended was told: one stream from the
--- input to the first writer; connections, for which the input isn't read; or a file was tested, of which the image is what it
+-- input to the first writer; connections, for which the input isn't read; a file of rows; or a file was tested, of which the image is what it
 -- held. The file is what a connection to it shows before the task and after it, if one is there.
 abbrev pub IsDone : {R W E S : Type 0} {disk : Ghosts S} → (R → Option (List ℕ)) → (W → Option (List ℕ)) → (E → Option (List ℕ)) → Image
     → Task → List ℕ → Option ℤ → Counted R → Counted R → Counted W → Counted W → Counted E → Counted E
@@ -43,6 +44,8 @@ IsDone remaining contents said image (Serve listening records) country at reader
     (end : Result ServingEnd DeskFault)
     × IsServing contents image country at records listening.port listening.connections reader reader_left writer writer_left before file end
     × IsServingTold said errors errors_left end status
+IsDone remaining contents said image (Batch which csv records) country at reader reader_left writer writer_left errors errors_left before file status =
+    (reader_left ≡ reader) × IsBatched contents said image country at which writer writer_left errors errors_left before file status
 IsDone remaining contents said image (Check path) country at reader reader_left writer writer_left errors errors_left before file status =
     (reader_left ≡ reader) × IsChecked contents said image country writer writer_left errors errors_left before file status
 

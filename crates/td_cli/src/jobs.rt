@@ -5,6 +5,7 @@ ghost use Rattle.td_cli.specs.Performed.{IsChecked, IsDone, IsPerformed};
 ghost use Rattle.td_cli.specs.Statuses.{IsAnswered};
 
 use crate::at_desk::{Office, at_desk};
+use crate::batching::batch;
 use crate::piping::Piping;
 use crate::telling::{WRONG_WORDS, fault, print, tell_desk_fault, tell_end, tell_serving};
 use sqlite::Start;
@@ -58,6 +59,9 @@ fn do_job<S: Start, R: Read, W: Write, E: Write>(
         Task::Pipe(records) => {
             let end = at_desk(rt, office, &records, file, &Piping, input, out);
             tell_end(rt.alloc(), end, errors)
+        }
+        Task::Batch(kind, csv, records) => {
+            batch(rt, office, kind, &csv, &records, file, out, errors)
         }
         Task::Check(path) => check(rt, country, &path, file, out, errors),
     }

@@ -3,6 +3,7 @@
 #![tactic(auto)]
 
 mod at_desk;
+mod batching;
 mod clock;
 mod jobs;
 mod laws;

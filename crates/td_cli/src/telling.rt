@@ -13,13 +13,13 @@ use td_files::{DeskFault, OpenFault};
 use td_http::StreamEnd;
 
 /// The status of a job that is done.
-const DONE: u8 = 0;
+pub(crate) const DONE: u8 = 0;
 /// The status of a job that a fault ended.
-const FAULT: u8 = 1;
+pub(crate) const FAULT: u8 = 1;
 /// The status of wrong words.
 pub(crate) const WRONG_WORDS: u8 = 2;
 
-const NO_MEMORY: &str = "transit-desk: no-memory\n";
+pub(crate) const NO_MEMORY: &str = "transit-desk: no-memory\n";
 
 /// Prints a text that was asked for, and gives the status.
 pub(crate) fn print<W: Write, E: Write>(

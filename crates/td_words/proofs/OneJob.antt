@@ -1,13 +1,14 @@
 -- Words ask for at most one job.
-use Rattle.std.proofs.Common.{◌≡◌, ◌∙◌, ap, sym, subst, ℕ, ℤ, pos, List, Option, None, Some, codes, slice_index, arith}
+use Rattle.std.proofs.Common.{◌≡◌, ◌∙◌, ap, refl, sym, subst, ℕ, ℤ, pos, List, Option, None, Some, codes, slice_index, arith}
 use Rattle.clap.specs.Words.{Row, Text}
 use Rattle.td_words.specs.Laws.{AreSameRecords, IsSameTask, WordsAskForOneJob}
 use Rattle.td_words.specs.Words.{AreRecordsBy, IsIdleOf, IsJob, IsMomentOf, IsNumberOf, IsTask}
+use Rattle.td_words.specs.declared.words.BatchKind.TheVariants.{Declarations, Acts}
 use Rattle.td_words.specs.declared.words.Job.{Job}
 use Rattle.td_words.specs.declared.words.Records.{Records}
 use Rattle.td_words.specs.declared.words.Records.TheVariants.{Memory, File, NewFile}
 use Rattle.td_words.specs.declared.words.Task.{Task}
-use Rattle.td_words.specs.declared.words.Task.TheVariants.{Serve, Pipe, Check}
+use Rattle.td_words.specs.declared.words.Task.TheVariants.{Serve, Pipe, Batch, Check}
 use Rattle.td_words.proofs.Asked.{same_met}
 
 number_once : (least greatest : ℕ) (value : Option Text) (m n : ℕ) → IsNumberOf least greatest value m → IsNumberOf least greatest value n → m ≡ n
@@ -31,18 +32,23 @@ no_value value a none some = cc
 two_flags : (value : Option Text) → value ≡ Some (codes "false") → value ≡ Some (codes "true") → ⊥
 two_flags value without with_it = cc
 
--- no text is the name of two commands
-serve_or_pipe : (name : Text) → name ≡ codes "serve" → name ≡ codes "pipe" → ⊥
-serve_or_pipe name one other = cc
+-- the letter that the name of a task's command begins with, and so no text is the name of two commands
+abbrev first_letter : Task → ℕ
+first_letter (Serve l r) = 115
+first_letter (Pipe r) = 112
+first_letter (Batch Declarations file db) = 98
+first_letter (Batch Acts file db) = 97
+first_letter (Check path) = 99
 
-serve_or_check : (name : Text) → name ≡ codes "serve" → name ≡ codes "check" → ⊥
-serve_or_check name one other =
-    let first : slice_index (codes "serve") 0 ≡ slice_index (codes "check") 0 = ap (λ t. slice_index t 0) (sym one ∙ other) in
-    let codes_are : ◌≡◌ {A = ℕ} 115 99 = first in
-    omega (arith, codes_are)
+letter_is : (name : Text) (rows : List Row) (task : Task) → IsTask name rows task → slice_index name 0 ≡ first_letter task
+letter_is name rows (Serve l r) is = ap (λ t. slice_index t 0) is.0
+letter_is name rows (Pipe r) is = ap (λ t. slice_index t 0) is.0
+letter_is name rows (Batch Declarations file db) is = ap (λ t. slice_index t 0) is.0
+letter_is name rows (Batch Acts file db) is = ap (λ t. slice_index t 0) is.0
+letter_is name rows (Check path) is = ap (λ t. slice_index t 0) is.0
 
-pipe_or_check : (name : Text) → name ≡ codes "pipe" → name ≡ codes "check" → ⊥
-pipe_or_check name one other = cc
+clash : (name : Text) (rows : List Row) (a b : Task) → IsTask name rows a → IsTask name rows b → first_letter a ≡ first_letter b
+clash name rows a b is other = sym (letter_is name rows a is) ∙ letter_is name rows b other
 
 records_once : (r s : Records) (db new : Option Text) → AreRecordsBy r db new → AreRecordsBy s db new → AreSameRecords r s
 records_once Memory Memory db new is other = tt
@@ -62,13 +68,29 @@ task_once name rows (Serve l r) (Serve m s) is other = (
   idle_once _ _ _ is.1.idle other.1.idle,
   records_once r s _ _ is.2 other.2,
 )
-task_once name rows (Serve l r) (Pipe s) is other = serve_or_pipe name is.0 other.0
-task_once name rows (Serve l r) (Check path) is other = serve_or_check name is.0 other.0
-task_once name rows (Pipe r) (Serve m s) is other = serve_or_pipe name other.0 is.0
+task_once name rows (Serve l r) (Pipe s) is other = absurd (omega (arith, clash name rows (Serve l r) (Pipe s) is other))
+task_once name rows (Serve l r) (Batch Declarations there records) is other = absurd (omega (arith, clash name rows (Serve l r) (Batch Declarations there records) is other))
+task_once name rows (Serve l r) (Batch Acts there records) is other = absurd (omega (arith, clash name rows (Serve l r) (Batch Acts there records) is other))
+task_once name rows (Serve l r) (Check there) is other = absurd (omega (arith, clash name rows (Serve l r) (Check there) is other))
+task_once name rows (Pipe r) (Serve m s) is other = absurd (omega (arith, clash name rows (Pipe r) (Serve m s) is other))
 task_once name rows (Pipe r) (Pipe s) is other = records_once r s _ _ is.1 other.1
-task_once name rows (Pipe r) (Check path) is other = pipe_or_check name is.0 other.0
-task_once name rows (Check path) (Serve m s) is other = serve_or_check name other.0 is.0
-task_once name rows (Check path) (Pipe s) is other = pipe_or_check name other.0 is.0
+task_once name rows (Pipe r) (Batch Declarations there records) is other = absurd (omega (arith, clash name rows (Pipe r) (Batch Declarations there records) is other))
+task_once name rows (Pipe r) (Batch Acts there records) is other = absurd (omega (arith, clash name rows (Pipe r) (Batch Acts there records) is other))
+task_once name rows (Pipe r) (Check there) is other = absurd (omega (arith, clash name rows (Pipe r) (Check there) is other))
+task_once name rows (Batch Declarations file db) (Serve m s) is other = absurd (omega (arith, clash name rows (Batch Declarations file db) (Serve m s) is other))
+task_once name rows (Batch Declarations file db) (Pipe s) is other = absurd (omega (arith, clash name rows (Batch Declarations file db) (Pipe s) is other))
+task_once name rows (Batch Declarations file db) (Batch Declarations there records) is other = (refl, same_value _ _ _ is.1 other.1, same_value _ _ _ is.2 other.2)
+task_once name rows (Batch Declarations file db) (Batch Acts there records) is other = absurd (omega (arith, clash name rows (Batch Declarations file db) (Batch Acts there records) is other))
+task_once name rows (Batch Declarations file db) (Check there) is other = absurd (omega (arith, clash name rows (Batch Declarations file db) (Check there) is other))
+task_once name rows (Batch Acts file db) (Serve m s) is other = absurd (omega (arith, clash name rows (Batch Acts file db) (Serve m s) is other))
+task_once name rows (Batch Acts file db) (Pipe s) is other = absurd (omega (arith, clash name rows (Batch Acts file db) (Pipe s) is other))
+task_once name rows (Batch Acts file db) (Batch Declarations there records) is other = absurd (omega (arith, clash name rows (Batch Acts file db) (Batch Declarations there records) is other))
+task_once name rows (Batch Acts file db) (Batch Acts there records) is other = (refl, same_value _ _ _ is.1 other.1, same_value _ _ _ is.2 other.2)
+task_once name rows (Batch Acts file db) (Check there) is other = absurd (omega (arith, clash name rows (Batch Acts file db) (Check there) is other))
+task_once name rows (Check path) (Serve m s) is other = absurd (omega (arith, clash name rows (Check path) (Serve m s) is other))
+task_once name rows (Check path) (Pipe s) is other = absurd (omega (arith, clash name rows (Check path) (Pipe s) is other))
+task_once name rows (Check path) (Batch Declarations there records) is other = absurd (omega (arith, clash name rows (Check path) (Batch Declarations there records) is other))
+task_once name rows (Check path) (Batch Acts there records) is other = absurd (omega (arith, clash name rows (Check path) (Batch Acts there records) is other))
 task_once name rows (Check path) (Check there) is other = same_value _ _ _ is.1 other.1
 
 pub one_job : WordsAskForOneJob

@@ -5,7 +5,7 @@ use Rattle.td_words.specs.Words.{AsksFor}
 use Rattle.td_words.specs.declared.words.Records.{Records}
 use Rattle.td_words.specs.declared.words.Records.TheVariants.{Memory, File, NewFile}
 use Rattle.td_words.specs.declared.words.Task.{Task}
-use Rattle.td_words.specs.declared.words.Task.TheVariants.{Serve, Pipe, Check}
+use Rattle.td_words.specs.declared.words.Task.TheVariants.{Serve, Pipe, Batch, Check}
 
 -- the records stand at the same place
 abbrev pub AreSameRecords : Records → Records → Type 0
@@ -20,6 +20,8 @@ IsSameTask (Serve listening records) (Serve other others) =
     (listening.port ≡ other.port) × (listening.connections ≡ other.connections) × (listening.idle ≡ other.idle)
     × AreSameRecords records others
 IsSameTask (Pipe records) (Pipe others) = AreSameRecords records others
+IsSameTask (Batch kind file db) (Batch other there records) =
+    (kind ≡ other) × (string_bytes file ≡ string_bytes there) × (string_bytes db ≡ string_bytes records)
 IsSameTask (Check path) (Check other) = string_bytes path ≡ string_bytes other
 IsSameTask _ _ = ⊥
 

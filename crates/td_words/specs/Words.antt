@@ -7,6 +7,8 @@ use Rattle.clap.specs.declared.builder.ArgAction.TheVariants.{Set, SetTrue}
 use Rattle.clap.specs.declared.error.kind.ErrorKind.{ErrorKind}
 use Rattle.clap.specs.declared.error.kind.ErrorKind.TheVariants.{DisplayHelp, DisplayVersion, OutOfMemory}
 use Rattle.td_base.specs.Codes.{IsCountry}
+use Rattle.td_words.specs.declared.words.BatchKind.{BatchKind}
+use Rattle.td_words.specs.declared.words.BatchKind.TheVariants.{Declarations, Acts}
 use Rattle.td_words.specs.declared.words.Job.{Job}
 use Rattle.td_words.specs.declared.words.Listening.{Listening}
 use Rattle.td_words.specs.declared.words.NoJob.{NoJob}
@@ -14,7 +16,7 @@ use Rattle.td_words.specs.declared.words.NoJob.TheVariants.{Help, Wrong, NoMemor
 use Rattle.td_words.specs.declared.words.Records.{Records}
 use Rattle.td_words.specs.declared.words.Records.TheVariants.{Memory, File, NewFile}
 use Rattle.td_words.specs.declared.words.Task.{Task}
-use Rattle.td_words.specs.declared.words.Task.TheVariants.{Serve, Pipe, Check}
+use Rattle.td_words.specs.declared.words.Task.TheVariants.{Serve, Pipe, Batch, Check}
 
 -- an option that takes one value
 abbrev pub option_rule : Text → Rule
@@ -35,7 +37,7 @@ with_office app =
     with_rule (with_rule (with_rule (with_country app) (option_rule (codes "db"))) new_file_rule)
     (option_rule (codes "at"))
 
--- the commands `serve`, `pipe` and `check`, and the program that has them
+-- the commands `serve`, `pipe`, `batch`, `acts` and `check`, and the program that has them
 abbrev pub serve_app : App
 serve_app =
     with_rule
@@ -46,6 +48,19 @@ serve_app =
 
 abbrev pub pipe_app : App
 pipe_app = with_office (new_app (codes "pipe"))
+
+-- the two that do the rows of a file, each by its name
+abbrev pub batch_app : Text → App
+batch_app name =
+    with_rule
+    (with_rule
+    (with_rule (with_country (new_app name)) (record (option_rule (codes "db")) { required = true }))
+    (record (option_rule (codes "file")) { required = true }))
+    (option_rule (codes "at"))
+
+abbrev pub batch_name : BatchKind → Text
+batch_name Declarations = codes "batch"
+batch_name Acts = codes "acts"
 
 abbrev pub check_app : App
 check_app = with_rule (with_country (new_app (codes "check"))) (record (option_rule (codes "db")) { required = true })
@@ -59,7 +74,11 @@ bare_app =
 
 abbrev pub program_app : App
 program_app =
-    with_subcommand (with_subcommand (with_subcommand bare_app serve_app.top) pipe_app.top) check_app.top
+    with_subcommand
+    (with_subcommand
+    (with_subcommand (with_subcommand (with_subcommand bare_app serve_app.top) pipe_app.top) (batch_app (codes "batch")).top)
+    (batch_app (codes "acts")).top)
+    check_app.top
 
 -- A text of decimal digits, one or more and nothing else, that shows this number, and it is from the least to the greatest
 -- that there may be. So a sign, a blank, and no digit at all are no number.
@@ -103,11 +122,14 @@ pub record IsListening (rows : List Row) (listening : Listening) : Type 0 where
   pub idle : IsIdleOf (first_of (codes "idle") rows) listening.idle
 
 -- The task of this name, with the values of its own options: where the records stand, of `serve` a port, a number of
--- connections and perhaps an idle limit, and of `check` the file.
+-- connections and perhaps an idle limit, of `batch` and `acts` the file with the rows, and of `check` the file.
 abbrev pub IsTask : Text → List Row → Task → Type 0
 IsTask name rows (Pipe records) = (name ≡ codes "pipe") × AreRecords rows records
 IsTask name rows (Serve listening records) =
     (name ≡ codes "serve") × IsListening rows listening × AreRecords rows records
+IsTask name rows (Batch kind file db) =
+    (name ≡ batch_name kind) × (first_of (codes "file") rows ≡ Some (string_bytes file))
+    × (first_of (codes "db") rows ≡ Some (string_bytes db))
 IsTask name rows (Check path) =
     (name ≡ codes "check") × (first_of (codes "db") rows ≡ Some (string_bytes path))
 

@@ -1,8 +1,8 @@
 //! The commands and their options, and what help tells of them.
-ghost use Rattle.std.specs.Prelude.{◌≡◌, false, IfOk};
+ghost use Rattle.std.specs.Prelude.{◌≡◌, codes, false, IfOk};
 ghost use Rattle.clap.specs.Words.{App, app_of, new_app, rule_of, with_subcommand};
 ghost use Rattle.clap.specs.declared.Command.TheViews.{out-Command};
-ghost use Rattle.td_words.specs.Words.{bare_app, check_app, new_file_rule, option_rule, pipe_app, program_app, serve_app, with_country, with_office};
+ghost use Rattle.td_words.specs.Words.{bare_app, batch_app, check_app, new_file_rule, option_rule, pipe_app, program_app, serve_app, with_country, with_office};
 
 use clap::{Arg, ArgAction, Command};
 use std::alloc::{AllocError, Global};
@@ -21,9 +21,15 @@ pub(crate) const DB: &str = "db";
 
 pub(crate) const NEW: &str = "new";
 
+pub(crate) const FILE: &str = "file";
+
 const SERVE: &str = "serve";
 
 const PIPE: &str = "pipe";
+
+const BATCH: &str = "batch";
+
+const ACTS: &str = "acts";
 
 const CHECK: &str = "check";
 
@@ -37,12 +43,20 @@ const SERVE_USAGE: &str =
 
 const PIPE_USAGE: &str = "transit-desk pipe --country <CC> [--db <FILE> [--new]] [--at <SECONDS>]";
 
+const BATCH_USAGE: &str =
+    "transit-desk batch --country <CC> --db <FILE> --file <CSV> [--at <SECONDS>]";
+
+const ACTS_USAGE: &str =
+    "transit-desk acts --country <CC> --db <FILE> --file <CSV> [--at <SECONDS>]";
+
 const CHECK_USAGE: &str = "transit-desk check --country <CC> --db <FILE>";
 
 const USAGE: &str =
     "transit-desk serve --country <CC> --port <N> --connections <K> [--idle <SECONDS>]
          [--db <FILE> [--new]] [--at <SECONDS>]
        transit-desk pipe --country <CC> [--db <FILE> [--new]] [--at <SECONDS>]
+       transit-desk batch --country <CC> --db <FILE> --file <CSV> [--at <SECONDS>]
+       transit-desk acts --country <CC> --db <FILE> --file <CSV> [--at <SECONDS>]
        transit-desk check --country <CC> --db <FILE>";
 
 /// What help says behind the options.
@@ -55,11 +69,15 @@ Examples:
   transit-desk pipe --country CH --at 1740819600 < examples/first.http
   transit-desk serve --country CH --port 8080 --connections 1000
   transit-desk serve --country CH --port 8080 --connections 1000 --db desk.db --new
+  transit-desk batch --country CH --db desk.db --file declarations.csv > result.csv
+  transit-desk acts --country CH --db desk.db --file acts.csv > result.csv
   transit-desk check --country CH --db desk.db
 
 Status:
-  0  Done: the stream ended well, all connections were served, or the file is a desk's
-  1  A fault, which one line on standard error tells, as: transit-desk: stream cut
+  0  Done: the stream ended well, all connections were served, all rows were answered,
+     or the file is a desk's
+  1  A fault, which one line on standard error tells, as: transit-desk: stream cut;
+     or a row was refused
   2  Wrong words: one line on standard error tells what was wrong";
 
 fn option<'a>(alloc: Global, name: &'a str, value: &'a str, help: &'a str) -> Arg<'a>
@@ -173,6 +191,54 @@ fn pipe_command<'a>(alloc: Global) -> Result<Command<'a>, AllocError>
     )
 }
 
+// A command of that name that does the rows of a file, one after another.
+fn batch_command<'a>(
+    alloc: Global,
+    name: &'a str,
+    about: &'a str,
+    usage: &'a str,
+) -> Result<Command<'a>, AllocError>
+    ensures { IfOk result (λ c. (app_of c ≡ batch_app name.now) × ((out-Command c).has_globals ≡ false)) }
+{
+    country_command(alloc, name, about, usage)?
+        .arg(option(
+            alloc,
+            DB,
+            "FILE",
+            "The file with the records, an SQLite database",
+        )
+        .required(true))?
+        .arg(option(alloc, FILE, "CSV", "The file with the rows, as CSV").required(true))?
+        .arg(option(
+            alloc,
+            AT,
+            "SECONDS",
+            "The moment of all requests, in seconds since 1970; else the clock is asked",
+        ))
+}
+
+fn declarations_command<'a>(alloc: Global) -> Result<Command<'a>, AllocError>
+    ensures { IfOk result (λ c. (app_of c ≡ batch_app (codes "batch")) × ((out-Command c).has_globals ≡ false)) }
+{
+    batch_command(
+        alloc,
+        BATCH,
+        "Does the declarations of a file, and prints what became of each",
+        BATCH_USAGE,
+    )
+}
+
+fn acts_command<'a>(alloc: Global) -> Result<Command<'a>, AllocError>
+    ensures { IfOk result (λ c. (app_of c ≡ batch_app (codes "acts")) × ((out-Command c).has_globals ≡ false)) }
+{
+    batch_command(
+        alloc,
+        ACTS,
+        "Does the acts of an office in a file, and prints what became of each",
+        ACTS_USAGE,
+    )
+}
+
 fn check_command<'a>(alloc: Global) -> Result<Command<'a>, AllocError>
     ensures { IfOk result (λ c. (app_of c ≡ check_app) × ((out-Command c).has_globals ≡ false)) }
 {
@@ -217,5 +283,7 @@ pub(crate) fn program<'a>(alloc: Global) -> Result<Command<'a>, AllocError>
 {
     let program = with_job(bare_program(alloc)?, serve_command(alloc))?;
     let program = with_job(program, pipe_command(alloc))?;
+    let program = with_job(program, declarations_command(alloc))?;
+    let program = with_job(program, acts_command(alloc))?;
     with_job(program, check_command(alloc))
 }

@@ -4,9 +4,9 @@ ghost use Rattle.ascii_text.specs.Digits.{digits_value};
 ghost use Rattle.clap.specs.Values.{kind_of};
 ghost use Rattle.clap.specs.Words.{first_of, found_of, rows_of};
 ghost use Rattle.td_words.specs.declared.words.NoJob.TheVariants.{NoMemory};
-ghost use Rattle.td_words.specs.Words.{AreRecords, AsksFor, IsCountryIn, IsDecimal, IsIdleOf, IsJob, IsListening, IsMomentOf, IsNoJob, IsNoneSuch, IsNumberOf, IsTask, IsTold};
+ghost use Rattle.td_words.specs.Words.{AreRecords, AsksFor, IsCountryIn, IsDecimal, IsIdleOf, IsJob, IsListening, IsMomentOf, IsNoJob, IsNoneSuch, IsNumberOf, IsTask, IsTold, batch_name};
 
-use crate::options::{AT, CONNECTIONS, COUNTRY, DB, IDLE, NEW, PORT, program};
+use crate::options::{AT, CONNECTIONS, COUNTRY, DB, FILE, IDLE, NEW, PORT, program};
 use ascii_text::is_digits;
 use clap::ArgMatches;
 use clap::error::ErrorKind;
@@ -35,6 +35,15 @@ pub enum Records {
     NewFile(String),
 }
 
+/// What the rows of a batch are.
+#[derive(Clone, Copy, Debug, PartialEq, Eq)]
+pub enum BatchKind {
+    /// Declarations of holders.
+    Declarations,
+    /// Acts of offices.
+    Acts,
+}
+
 /// What is done with a desk.
 #[derive(Debug, PartialEq, Eq, Drop)]
 pub enum Task {
@@ -42,6 +51,9 @@ pub enum Task {
     Serve(Listening, Records),
     /// One stream of requests is served, from standard input to standard output.
     Pipe(Records),
+    /// The rows of a file are done, one after another: what they are, the file with them (CSV), and the file with the
+    /// records.
+    Batch(BatchKind, String, String),
     /// The file at this path is tested: whether a desk of the country can be opened over it.
     Check(String),
 }
@@ -258,9 +270,20 @@ fn task_in(alloc: Global, name: &str, matches: &ArgMatches<'_>) -> Result<Task, 
             Ok(Task::Serve(listening_in(alloc, matches)?, records))
         }
         "pipe" => Ok(Task::Pipe(records_in(alloc, matches)?)),
-        "check" => Ok(Task::Check(file_in(alloc, matches)?)),
+        "batch" => batch_in(alloc, matches, BatchKind::Declarations),
+        "acts" => batch_in(alloc, matches, BatchKind::Acts),
+        "check" => Ok(Task::Check(file_in(alloc, matches, DB)?)),
         _ => Err(NoJob::NoMemory),
     }
+}
+
+// The batch of that kind.
+fn batch_in(alloc: Global, matches: &ArgMatches<'_>, kind: BatchKind) -> Result<Task, NoJob>
+    ensures task { IfOk result (IsTask (batch_name kind) (rows_of (found_of matches.now))) }
+    ensures memory { IfErr result (λ e. e ≡ NoMemory) }
+{
+    let file = file_in(alloc, matches, FILE)?;
+    Ok(Task::Batch(kind, file, file_in(alloc, matches, DB)?))
 }
 
 // Where the records stand. `clap` has "false" for a `--new` that isn't there.
@@ -277,12 +300,12 @@ fn records_in(alloc: Global, matches: &ArgMatches<'_>) -> Result<Records, NoJob>
     }
 }
 
-// The file that is to be tested.
-fn file_in(alloc: Global, matches: &ArgMatches<'_>) -> Result<String, NoJob>
-    ensures file { IfOk result (λ path. first_of (codes "db") (rows_of (found_of matches.now)) ≡ Some (string_bytes path)) }
+// The path that the option of that name has for its value.
+fn file_in(alloc: Global, matches: &ArgMatches<'_>, name: &str) -> Result<String, NoJob>
+    ensures file { IfOk result (λ path. first_of name.now (rows_of (found_of matches.now)) ≡ Some (string_bytes path)) }
     ensures memory { IfErr result (λ e. e ≡ NoMemory) }
 {
-    match value_of(matches, DB) {
+    match value_of(matches, name) {
         Some(path) => Ok(String::from_str(alloc, path)?),
         None => Err(NoJob::NoMemory),
     }

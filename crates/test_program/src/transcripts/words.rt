@@ -5,9 +5,9 @@ use std::test::Fail;
 const CASES: &str = r#"
 == what was wrong is told
 $
-! 2 error: 'transit-desk' requires a subcommand but one was not provided [subcommands: serve, pipe, check, help]
-$ batch --country CH
-! 2 error: unrecognized subcommand 'batch'
+! 2 error: 'transit-desk' requires a subcommand but one was not provided [subcommands: serve, pipe, batch, acts, check, help]
+$ report --country CH
+! 2 error: unrecognized subcommand 'report'
 $ serve
 ! 2 error: the following required arguments were not provided: --country <CC> --port <N> --connections <K>
 $ pipe --country CH --version
@@ -99,11 +99,21 @@ $ check --country CH --db F --new
 $ check --country CH --db F --port 80
 ! 2 error: unexpected argument '--port' found
 
+== what was wrong on a batch is told
+$ batch --country CH --db F
+! 2 error: the following required arguments were not provided: --file <CSV>
+$ acts --country CH --file F
+! 2 error: the following required arguments were not provided: --db <FILE>
+$ batch --country CH --db F --file F --new
+! 2 error: unexpected argument '--new' found
+$ acts --country CH --db F --file F --at one
+! 2 error: invalid value 'one' for '--at <SECONDS>': it must be a whole number of seconds from 0 to 9223372036854775807
+
 == wrong words do nothing
 # The request is not served, whatever the words ask for.
 $
 > GET /holders/000001
-! 2 error: 'transit-desk' requires a subcommand but one was not provided [subcommands: serve, pipe, check, help]
+! 2 error: 'transit-desk' requires a subcommand but one was not provided [subcommands: serve, pipe, batch, acts, check, help]
 $ pipe --country ch
 > GET /holders/000001
 ! 2 error: invalid value 'ch' for '--country <CC>': it must be two capital letters
@@ -128,11 +138,15 @@ $ --help
 <| Usage: transit-desk serve --country <CC> --port <N> --connections <K> [--idle <SECONDS>]\n
 <|          [--db <FILE> [--new]] [--at <SECONDS>]\n
 <|        transit-desk pipe --country <CC> [--db <FILE> [--new]] [--at <SECONDS>]\n
+<|        transit-desk batch --country <CC> --db <FILE> --file <CSV> [--at <SECONDS>]\n
+<|        transit-desk acts --country <CC> --db <FILE> --file <CSV> [--at <SECONDS>]\n
 <|        transit-desk check --country <CC> --db <FILE>\n
 <| \n
 <| Commands:\n
 <|   serve  Serves connections to a port of this machine, one after another\n
 <|   pipe   Serves one stream of HTTP requests, from standard input to standard output\n
+<|   batch  Does the declarations of a file, and prints what became of each\n
+<|   acts   Does the acts of an office in a file, and prints what became of each\n
 <|   check  Tests whether a desk of the country can be opened over a file\n
 <|   help   Print this message or the help of the given subcommand(s)\n
 <| \n
@@ -148,11 +162,15 @@ $ --help
 <|   transit-desk pipe --country CH --at 1740819600 < examples/first.http\n
 <|   transit-desk serve --country CH --port 8080 --connections 1000\n
 <|   transit-desk serve --country CH --port 8080 --connections 1000 --db desk.db --new\n
+<|   transit-desk batch --country CH --db desk.db --file declarations.csv > result.csv\n
+<|   transit-desk acts --country CH --db desk.db --file acts.csv > result.csv\n
 <|   transit-desk check --country CH --db desk.db\n
 <| \n
 <| Status:\n
-<|   0  Done: the stream ended well, all connections were served, or the file is a desk's\n
-<|   1  A fault, which one line on standard error tells, as: transit-desk: stream cut\n
+<|   0  Done: the stream ended well, all connections were served, all rows were answered,\n
+<|      or the file is a desk's\n
+<|   1  A fault, which one line on standard error tells, as: transit-desk: stream cut;\n
+<|      or a row was refused\n
 <|   2  Wrong words: one line on standard error tells what was wrong\n
 
 == the help of serve tells its options
@@ -180,11 +198,15 @@ $ serve --help
 <|   transit-desk pipe --country CH --at 1740819600 < examples/first.http\n
 <|   transit-desk serve --country CH --port 8080 --connections 1000\n
 <|   transit-desk serve --country CH --port 8080 --connections 1000 --db desk.db --new\n
+<|   transit-desk batch --country CH --db desk.db --file declarations.csv > result.csv\n
+<|   transit-desk acts --country CH --db desk.db --file acts.csv > result.csv\n
 <|   transit-desk check --country CH --db desk.db\n
 <| \n
 <| Status:\n
-<|   0  Done: the stream ended well, all connections were served, or the file is a desk's\n
-<|   1  A fault, which one line on standard error tells, as: transit-desk: stream cut\n
+<|   0  Done: the stream ended well, all connections were served, all rows were answered,\n
+<|      or the file is a desk's\n
+<|   1  A fault, which one line on standard error tells, as: transit-desk: stream cut;\n
+<|      or a row was refused\n
 <|   2  Wrong words: one line on standard error tells what was wrong\n
 
 == the help of pipe tells its options
@@ -208,11 +230,15 @@ $ pipe --help
 <|   transit-desk pipe --country CH --at 1740819600 < examples/first.http\n
 <|   transit-desk serve --country CH --port 8080 --connections 1000\n
 <|   transit-desk serve --country CH --port 8080 --connections 1000 --db desk.db --new\n
+<|   transit-desk batch --country CH --db desk.db --file declarations.csv > result.csv\n
+<|   transit-desk acts --country CH --db desk.db --file acts.csv > result.csv\n
 <|   transit-desk check --country CH --db desk.db\n
 <| \n
 <| Status:\n
-<|   0  Done: the stream ended well, all connections were served, or the file is a desk's\n
-<|   1  A fault, which one line on standard error tells, as: transit-desk: stream cut\n
+<|   0  Done: the stream ended well, all connections were served, all rows were answered,\n
+<|      or the file is a desk's\n
+<|   1  A fault, which one line on standard error tells, as: transit-desk: stream cut;\n
+<|      or a row was refused\n
 <|   2  Wrong words: one line on standard error tells what was wrong\n
 
 == the help of check tells its options
@@ -234,11 +260,15 @@ $ check --help
 <|   transit-desk pipe --country CH --at 1740819600 < examples/first.http\n
 <|   transit-desk serve --country CH --port 8080 --connections 1000\n
 <|   transit-desk serve --country CH --port 8080 --connections 1000 --db desk.db --new\n
+<|   transit-desk batch --country CH --db desk.db --file declarations.csv > result.csv\n
+<|   transit-desk acts --country CH --db desk.db --file acts.csv > result.csv\n
 <|   transit-desk check --country CH --db desk.db\n
 <| \n
 <| Status:\n
-<|   0  Done: the stream ended well, all connections were served, or the file is a desk's\n
-<|   1  A fault, which one line on standard error tells, as: transit-desk: stream cut\n
+<|   0  Done: the stream ended well, all connections were served, all rows were answered,\n
+<|      or the file is a desk's\n
+<|   1  A fault, which one line on standard error tells, as: transit-desk: stream cut;\n
+<|      or a row was refused\n
 <|   2  Wrong words: one line on standard error tells what was wrong\n
 "#;
 

@@ -1,0 +1,110 @@
+-- A file of rows, done at a desk over a file.
+use Rattle.std.specs.Prelude.{◌≡◌, ◌⊎◌, ℕ, ℤ, Bool, true, false, List, ◌++◌, codes, Option, Some, None, Result, Ok, Err, if◌then◌else◌}
+use Rattle.std.specs.Fmt.{decimal}
+use Rattle.std.specs.Io.KnownBytes.{Appends}
+use Rattle.sqlite_wal.specs.Recovery.{Image}
+use Rattle.counted_io.specs.declared.counted.Counted.{Counted}
+use Rattle.counted_io.specs.Counted.{known_bytes}
+use Rattle.counted_io.specs.Chains.{IsCutShort}
+use Rattle.sqlite_disk.specs.declared.Disk.{Ghosts}
+use Rattle.td_commands.specs.declared.command.Command.{Command}
+use Rattle.td_commands.specs.declared.said.Said.{Said}
+use Rattle.td_desk.specs.declared.fault.Fault.{Fault}
+use Rattle.td_desk.specs.declared.fault.Fault.TheVariants as fault
+use Rattle.td_files.specs.Found.{FileSeen, IsKeptDesk, IsLeftAsFound, IsToldOf, over_file}
+use Rattle.td_files.specs.declared.desks.DeskFault.{DeskFault}
+use Rattle.td_batch.specs.declared.fault.BatchFault.{BatchFault}
+use Rattle.td_batch.specs.declared.fault.BatchFault.TheVariants as batch
+use Rattle.td_batch.specs.declared.running.BatchRun.{BatchRun}
+use Rattle.td_batch.specs.Acts.{acts_in}
+use Rattle.td_batch.specs.Declarations.{declarations_in}
+use Rattle.td_batch.specs.Results.{act_result, acts_header, declaration_result, declarations_header}
+use Rattle.td_batch.specs.Rows.{Place, Tells}
+use Rattle.td_batch.specs.Runs.{IsRunOf, has_refusal}
+use Rattle.td_words.specs.declared.words.BatchKind.{BatchKind}
+use Rattle.td_words.specs.declared.words.BatchKind.TheVariants as kind
+use Rattle.td_cli.specs.declared.batching.Rows.{Rows}
+use Rattle.td_cli.specs.declared.batching.Rows.TheVariants as rows
+use Rattle.td_cli.specs.Desks.{BeginsKept, IsMoment}
+use Rattle.td_cli.specs.Statuses.{IsFaultTold, IsTold}
+
+-- the rows that bytes are, or the first bad row and column
+abbrev pub rows_in : BatchKind → List ℕ → Result (List Command) Place
+rows_in kind.Declarations bytes = declarations_in bytes
+rows_in kind.Acts bytes = acts_in bytes
+
+-- a result row, and the header above it
+abbrev pub line_of : BatchKind → Command → Said → List ℕ
+line_of kind.Declarations = declaration_result
+line_of kind.Acts = act_result
+
+abbrev pub header_of : BatchKind → List ℕ
+header_of kind.Declarations = declarations_header
+header_of kind.Acts = acts_header
+
+abbrev pub kind_of : Rows → BatchKind
+kind_of (rows.Declarations all) = kind.Declarations
+kind_of (rows.Acts all) = kind.Acts
+
+abbrev pub commands_of : Rows → List Command
+commands_of (rows.Declarations all) = all.items
+commands_of (rows.Acts all) = all.items
+
+-- the message where no rows were read
+abbrev pub message_of_batch_fault : BatchFault → List ℕ
+message_of_batch_fault (batch.BadCsv row column) =
+    codes "transit-desk: bad csv row " ++ (decimal row ++ (codes " column " ++ (decimal column ++ codes "\n")))
+message_of_batch_fault batch.NoMemory = codes "transit-desk: no-memory\n"
+
+-- Why no rows were read, by the status and by what was told: its line, or, where there was no memory for that, this.
+abbrev pub IsBatchFaultTold : {E : Type 0} → (E → Option (List ℕ)) → Counted E → Counted E → BatchFault → ℕ → Type 0
+IsBatchFaultTold said errors errors_left why status =
+    (status ≡ 1) × (IsTold said errors errors_left (message_of_batch_fault why)
+    ⊎ IsTold said errors errors_left (codes "transit-desk: no-memory\n"))
+
+-- the message for the fault that stopped a batch
+abbrev pub message_of_stop : Fault → List ℕ
+message_of_stop fault.NoMemory = codes "transit-desk: no-memory\n"
+message_of_stop fault.Store = codes "transit-desk: store\n"
+
+-- The text was printed, or that it couldn't be was told; the status is 1 where a row was refused, too. Where a fault stopped the
+-- batch its text is printed, or as much of it as was taken, and then the fault is told.
+abbrev pub IsTextTold : {W E : Type 0} → (W → Option (List ℕ)) → (E → Option (List ℕ)) → List ℕ → Bool → Option Fault
+    → Counted W → Counted W → Counted E → Counted E → ℕ → Type 0
+IsTextTold contents said text refused None out out_left errors errors_left status =
+    (Appends (known_bytes contents out) (known_bytes contents out_left) text × (errors_left ≡ errors) × (status ≡ (if refused then 1 else 0)))
+    ⊎ (IsCutShort contents out out_left text × (status ≡ 1) × IsTold said errors errors_left (codes "transit-desk: write\n"))
+IsTextTold contents said text refused (Some why) out out_left errors errors_left status =
+    IsTold contents out out_left text × (status ≡ 1) × IsTold said errors errors_left (message_of_stop why)
+
+-- what a run left was told
+abbrev pub IsRunTold : {W E : Type 0} → (W → Option (List ℕ)) → (E → Option (List ℕ)) → BatchRun → Counted W → Counted W
+    → Counted E → Counted E → ℕ → Type 0
+IsRunTold contents said r out out_left errors errors_left status =
+    IsTextTold contents said r.text.items (has_refusal r) r.stopped out out_left errors errors_left status
+
+-- Rows were done at a desk of the country over what the file held, all at one moment, which is this one or the machine's, and what
+-- became of them was told; the file shows the desk that they left. Or there was no desk, for this fault, nothing was printed, and
+-- the file shows what it held.
+abbrev pub IsBatchAtDesk : {W E S : Type 0} {disk : Ghosts S} → (W → Option (List ℕ)) → (E → Option (List ℕ)) → Image → List ℕ → Option ℤ
+    → BatchKind → List Command → Counted W → Counted W → Counted E → Counted E
+    → Option (FileSeen disk) → Option (FileSeen disk) → ℕ → Type 0
+IsBatchAtDesk {disk = disk} contents said image country at which commands out out_left errors errors_left before file status =
+    ((opened left : FileSeen disk) × (moment : ℤ) × (r : BatchRun)
+    × BeginsKept image country opened × (file ≡ Some left) × IsKeptDesk left × IsMoment at tt moment tt
+    × IsRunOf over_file (λ _ _ _. Unit {0}) (line_of which) (header_of which) moment commands r opened left
+    × IsRunTold contents said r out out_left errors errors_left status)
+    ⊎ ((why : DeskFault) × IsToldOf image country file why × IsLeftAsFound image before file × (out_left ≡ out)
+    × IsFaultTold said errors errors_left why status)
+
+-- A file of rows was done. It couldn't be read, or it isn't wholly rows: then nothing was printed, and the desk's file wasn't opened.
+-- Or these bytes were read of it, which are these rows, and they were done at the desk.
+abbrev pub IsBatched : {W E S : Type 0} {disk : Ghosts S} → (W → Option (List ℕ)) → (E → Option (List ℕ)) → Image → List ℕ → Option ℤ
+    → BatchKind → Counted W → Counted W → Counted E → Counted E → Option (FileSeen disk) → Option (FileSeen disk) → ℕ → Type 0
+IsBatched contents said image country at which out out_left errors errors_left before file status =
+    ((out_left ≡ out) × (file ≡ before) × (status ≡ 1)
+    × (IsTold said errors errors_left (codes "transit-desk: file\n") ⊎ IsTold said errors errors_left (codes "transit-desk: no-memory\n")))
+    ⊎ (((bytes : List ℕ) × (why : BatchFault) × Tells (rows_in which bytes) why
+    × (out_left ≡ out) × (file ≡ before) × IsBatchFaultTold said errors errors_left why status)
+    ⊎ ((bytes : List ℕ) × (commands : List Command) × (rows_in which bytes ≡ Ok commands)
+    × IsBatchAtDesk contents said image country at which commands out out_left errors errors_left before file status))
