@@ -1,7 +1,7 @@
 //! What the words ask for. (Wrong words, help and the version stand in the transcripts of test_program.)
 use crate::examples::country;
 use std::process::Abort;
-use td_words::{Job, Listening, Records, Task, read_words};
+use td_words::{BatchKind, Job, Listening, Records, Task, read_words};
 
 fn owned(rt: &(impl AllocGlobal + Abort), words: &[&str]) -> Vec<String> {
     let mut owned = Vec::new(rt.alloc());
@@ -225,4 +225,39 @@ const CHECKED: [&str; 6] = [
 fn a_test_of_a_file_is_asked_for(rt: HostRuntime) {
     let task = Task::Check(path(&rt, "desk.db"));
     assert_job(&rt, &CHECKED, task, None);
+}
+
+/// Words of a batch of declarations.
+const BATCH: [&str; 8] = [
+    "transit-desk",
+    "batch",
+    "--country",
+    "CH",
+    "--db",
+    "desk.db",
+    "--file",
+    "rows.csv",
+];
+
+/// Words of a batch of acts, at a moment.
+const ACTS: [&str; 8] = [
+    "transit-desk",
+    "acts",
+    "--file=rows.csv",
+    "--at",
+    "7",
+    "--db=desk.db",
+    "--country",
+    "CH",
+];
+
+#[test]
+fn a_batch_is_asked_for(rt: HostRuntime) {
+    for (words, kind, at) in [
+        (&BATCH, BatchKind::Declarations, None),
+        (&ACTS, BatchKind::Acts, Some(7)),
+    ] {
+        let task = Task::Batch(kind, path(&rt, "rows.csv"), path(&rt, "desk.db"));
+        assert_job(&rt, words, task, at);
+    }
 }
