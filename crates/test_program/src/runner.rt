@@ -5,7 +5,7 @@
 //! A line begins with what it is:
 //!
 //! - `== NAME`: a case. Its file isn't there before it.
-//! - `$ WORDS`: a run of the program with these words, in which FILE is the file of the case. A stream that is served
+//! - `$ WORDS`: a run of the program with these words, in which FILE is the file of the case, and CSV one that lines below give. A stream that is served
 //!   in memory is served over a new file as well.
 //! - `@ SECONDS`: what follows comes at this moment, at a desk of CH. All of the case is one stream in memory, whose
 //!   clock shows the moments, and a run of `pipe` over the case's file for each moment.
@@ -13,7 +13,10 @@
 //!   bytes so many times.
 //! - `< STATUS FIELDS BODY`: the reply that is due; of fields, as `Allow: GET; Connection: close`, and the body one may
 //!   be left out. `<|` and `<*` are for bytes.
-//! - `! STATUS LINE`: the run ends with that status, and that line on standard error. Without it, with 0 and none.
+//! - `+ TEXT`: a line of the file CSV, which the run is to read: it is written before the run. `- TEXT`: a line that is
+//!   due on standard output.
+//! - `! STATUS LINE`: the run ends with that status, and that line on standard error, if one is given. Without it, with
+//!   0 and none.
 //! - `$ sql STATEMENT`: another program changes the file. `$ sql-refused WHY STATEMENT`: the database doesn't take the
 //!   change, since it breaks a constraint of this kind. `$ sql-finds NUMBER QUERY`: the query finds this number there.
 //! - `$ check-after STATEMENT`: a run of `check` for a desk of CH over a copy of the file, in which the statement
@@ -21,12 +24,8 @@
 //! - `$ no-file`: the case's file isn't there, nor its log.
 //! - `# TEXT`: for who reads it.
 //!
-//! Bytes, and words, have the escapes `\r`, `\n`, `\t`, `\s` for a space, `\b` for a backslash, and `\xff` for that
-//! byte.
-//!
-//! Two marks are free: `+` for the lines of a file that a run is to read, and `-` for those of the file that it has to
-//! leave. A run `$ batch --file CSV` would write the first ones into its file CSV before it, and compare the others
-//! after it.
+//! Bytes, words and lines have the escapes `\r`, `\n`, `\t`, `\s` for a space, `\b` for a backslash, and `\xff` for that
+//! byte, as well as `\xef`, `\xbb` and `\xbf`, the three of a mark in front of a file.
 mod bytes;
 mod cases;
 mod files;

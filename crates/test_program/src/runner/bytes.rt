@@ -1,5 +1,6 @@
 //! The lines of a transcript as bytes of requests and replies. They are added to what is there, so that no function has
 //! bytes of its own where it fails.
+use super::files::ROWS;
 use super::told::Place;
 use std::alloc::{AllocError, Global};
 use std::test::Fail;
@@ -83,6 +84,18 @@ fn push_reply(
     Ok(push_texts(bytes, &["\r\n", body])?)
 }
 
+// A byte that is named by its two digits, and the text after it.
+fn byte(piece: &str) -> Option<(u8, &str)> {
+    let (digits, rest) = piece.split_at_checked(2)?;
+    match digits {
+        "ff" => Some((0xff, rest)),
+        "ef" => Some((0xef, rest)),
+        "bb" => Some((0xbb, rest)),
+        "bf" => Some((0xbf, rest)),
+        _ => None,
+    }
+}
+
 // What stands behind a backslash, and the text after it.
 fn escape(piece: &str) -> Option<(u8, &str)> {
     let (name, rest) = piece.split_at_checked(1)?;
@@ -92,7 +105,7 @@ fn escape(piece: &str) -> Option<(u8, &str)> {
         "t" => Some((b'\t', rest)),
         "s" => Some((b' ', rest)),
         "b" => Some((b'\\', rest)),
-        "x" => Some((0xff, rest.strip_prefix("ff")?)),
+        "x" => byte(rest),
         _ => None,
     }
 }
@@ -118,6 +131,12 @@ fn push_repeated(bytes: &mut Vec<u8>, place: Place<'_>, text: &str) -> Result<()
         push_raw(bytes, place, unit)?;
     }
     Ok(())
+}
+
+// A text with escapes, and the end of its line.
+fn push_line(bytes: &mut Vec<u8>, place: Place<'_>, text: &str) -> Result<(), Fail> {
+    push_raw(bytes, place, text)?;
+    Ok(bytes.push(b'\n')?)
 }
 
 // The bytes of a line that is sent, or none where it isn't one.
@@ -160,11 +179,37 @@ pub fn push_due(
         Some(("<", text)) => push_reply(alloc, bytes, place, text),
         Some(("<|", text)) => push_raw(bytes, place, text),
         Some(("<*", text)) => push_repeated(bytes, place, text),
+        Some(("-", text)) => push_line(bytes, place, text),
         _ => Ok(()),
     }
 }
 
-// A word, with escapes; FILE is the file of the run.
+fn push_rows(bytes: &mut Vec<u8>, place: Place<'_>, lines: &str) -> Result<(), Fail> {
+    for (number, line) in lines.lines().enumerate() {
+        if let Some(text) = line.strip_prefix("+ ") {
+            push_line(bytes, place.below(number), text)?;
+        }
+    }
+    Ok(())
+}
+
+/// The lines of the file CSV in these lines, the first of which stands here.
+pub fn rows_of(alloc: Global, place: Place<'_>, lines: &str) -> Result<Vec<u8>, Fail> {
+    let mut rows = Vec::new(alloc);
+    push_rows(&mut rows, place, lines)?;
+    Ok(rows)
+}
+
+// The path that a word stands for: FILE is the file of the run, and CSV the one that it is to read.
+fn path_of<'a>(word: &'a str, file: &'a str) -> &'a str {
+    match word {
+        "FILE" => file,
+        "CSV" => ROWS,
+        _ => word,
+    }
+}
+
+// A word, with escapes.
 fn push_word(
     alloc: Global,
     words: &mut Vec<String>,
@@ -173,7 +218,7 @@ fn push_word(
     file: &str,
 ) -> Result<(), Fail> {
     let mut bytes = Vec::new(alloc);
-    push_raw(&mut bytes, place, if word == "FILE" { file } else { word })?;
+    push_raw(&mut bytes, place, path_of(word, file))?;
     let text = str::from_utf8(&bytes).unwrap_or("what is no text");
     Ok(words.push(text.to_string(alloc)?)?)
 }

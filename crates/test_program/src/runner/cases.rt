@@ -1,7 +1,8 @@
 //! The cases of a transcript, run one after another.
-use super::bytes::{input_of, words_of};
+use super::bytes::{input_of, rows_of, words_of};
 use super::files::{
     COPY, FILE, assert_found, assert_no_file, assert_refused, change, change_copy, remove,
+    write_rows,
 };
 use super::told::{Place, assert_ending, assert_replies, end_of};
 use crate::helpers::{Done, done_over, served_at};
@@ -16,6 +17,9 @@ fn done_of(
     file: &str,
     lines: &str,
 ) -> Result<Done, Fail> {
+    if words.contains(" CSV") {
+        write_rows(rt, &rows_of(rt.alloc(), place.below(1), lines)?)?;
+    }
     let input = input_of(rt.alloc(), place.below(1), lines)?;
     let words = words_of(rt.alloc(), place, words, file)?;
     Ok(done_over(rt, words, input.as_slice()))
@@ -183,8 +187,8 @@ fn assert_timed(rt: &HostRuntime, place: Place<'_>, case: &str) -> Result<(), Fa
 }
 
 // What a line of a case begins with.
-const MARKS: [&str; 10] = [
-    "$ ", "@ ", "> ", ">| ", ">* ", "< ", "<| ", "<* ", "! ", "# ",
+const MARKS: [&str; 12] = [
+    "$ ", "@ ", "> ", ">| ", ">* ", "+ ", "< ", "<| ", "<* ", "- ", "! ", "# ",
 ];
 
 fn is_known(line: &str) -> bool {

@@ -11,13 +11,21 @@ pub const FILE: &str = "case.db";
 /// The copy of it that is changed and then tested.
 pub const COPY: &str = "copy.db";
 
-const PATHS: [&str; 4] = [FILE, COPY, "case.db-wal", "copy.db-wal"];
+/// The file of rows that a run is to read.
+pub const ROWS: &str = "rows.csv";
 
-/// Removes both, and their logs, as far as they are there.
+const PATHS: [&str; 5] = [FILE, COPY, "case.db-wal", "copy.db-wal", ROWS];
+
+/// Removes them, and their logs, as far as they are there.
 pub fn remove(rt: &HostRuntime) {
     for path in &PATHS {
         let _file = fs::remove_file(rt, *path);
     }
+}
+
+/// Writes the file of rows.
+pub fn write_rows(rt: &HostRuntime, rows: &[u8]) -> Result<(), Fail> {
+    Ok(fs::write(rt, ROWS, rows)?)
 }
 
 /// The file isn't there, nor its log.

@@ -80,14 +80,15 @@ pub fn end_of(lines: &str) -> &str {
     lines
         .lines()
         .find_map(|line| line.strip_prefix("! "))
-        .unwrap_or("0 ")
+        .unwrap_or("0")
 }
 
-// The status and the line on standard error, as a transcript has them.
+// The status and the line on standard error, if any, as a transcript has them.
 fn ending(alloc: Global, done: &Done) -> Result<String, AllocError> {
     let line = text_of(&done.errors);
+    let space = if line.is_empty() { "" } else { " " };
     let line = line.strip_suffix("\n").unwrap_or(line);
-    format!(in alloc; "{} {line}", done.status)
+    format!(in alloc; "{}{space}{line}", done.status)
 }
 
 /// The run ends as these lines say.
