@@ -5,7 +5,8 @@ mod PartFacts
 mod Taking
 mod Done
 mod Again
-mod AgainAtDesk
+pub mod AgainAtDesk
 mod AreDeclarations
-mod Told
-mod AnsweredAtDesk
+pub mod Told
+pub mod AnsweredAtDesk
+pub mod RowsRun

@@ -71,7 +71,7 @@ module _ (country : List ℕ) (H : ℕ) where
   heard_parts_by s w xs ys os ps true is rest = rw (heard_one s w (xs ++ ys) (os ++ ps) true is, heard_one s w xs os true is) (ap (λ more. s ∷ more) rest)
   heard_parts_by s w xs ys os ps false is rest = rw (heard_one s w (xs ++ ys) (os ++ ps) false is, heard_one s w xs os false is) rest
 
-  heard_parts : (xs ys : List Stamped) (os ps : List Outcome) → length os ≡ length xs
+  pub heard_parts : (xs ys : List Stamped) (os ps : List Outcome) → length os ≡ length xs
       → heard country H (xs ++ ys) (os ++ ps) ≡ heard country H xs os ++ heard country H ys ps
   heard_parts [] ys [] ps same = refl
   heard_parts [] ys (o ∷ os) ps same = absurd (omega (arith, same))

@@ -5,3 +5,6 @@ mod ServedConnections
 mod Agreeing
 mod Runs
 mod Batches
+mod KeptRows
+mod SentAgain
+mod Later

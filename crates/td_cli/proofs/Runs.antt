@@ -11,6 +11,7 @@ use Rattle.td_desk.specs.View.{IsSettled}
 use Rattle.http_wire.specs.Stream.{Exchange, Ending, silence, refusal, to_head, no_memory, IsEnding}
 use Rattle.td_http.specs.Private.{IsServedOver, books_over}
 use Rattle.td_http.specs.Serving.{IsServed}
+use Rattle.td_http.proofs.Kept.{Keeps, keeps_first}
 use Rattle.td_http.proofs.Private.{served_both, served_nothing, served_over}
 use Rattle.td_files.specs.Found.{FileSeen, IsClean, content_in, over_file}
 use Rattle.td_cli.specs.Desks.{BeginsIn, IsHeadHandledAt}
@@ -44,9 +45,16 @@ module _ {S : Type 0} {disk : Ghosts S} where
   begun_sound false image country s begins clean = (begins clean).holds.trees.sound
   begun_sound true image country s begins clean = (begins clean).holds.trees.sound
 
-  pub begun_settled : (is_new : Bool) (image : Image) (country : List ℕ) (s : FileSeen disk) → BeginsIn is_new image country s → IsClean s → IsSettled over_file s
+  begun_settled : (is_new : Bool) (image : Image) (country : List ℕ) (s : FileSeen disk) → BeginsIn is_new image country s → IsClean s → IsSettled over_file s
   begun_settled false image country s begins clean = λ live. (begins clean).leaves
   begun_settled true image country s begins clean = λ live. (begins clean).leaves
+
+  -- what a crash leaves of it
+  pub begun_keeps : (is_new : Bool) (image : Image) (country : List ℕ) (books : ℕ → Book) (s : FileSeen disk) → BeginsIn is_new image country s → IsClean s
+      → IsTied (over_file.content s) books → Keeps over_file country (λ s. ⊥) books s
+  begun_keeps is_new image country books s begins clean tied =
+      keeps_first over_file country books s (begun_live is_new image country s begins clean) (begun_country is_new image country s begins clean)
+      (begun_sound is_new image country s begins clean) tied (begun_settled is_new image country s begins clean)
 
   -- a run that was served from what a desk began with
   pub run_of : (is_new : Bool) (image : Image) (country : List ℕ) (opened left : FileSeen disk) (streams : List (List Exchange)) → BeginsIn is_new image country opened

@@ -8,3 +8,4 @@ pub mod ConnectionsSeen
 pub mod Batched
 pub mod Performed
 pub mod Runs
+pub mod BatchLaws

@@ -1,6 +1,7 @@
 -- Runs over a file, one after another, and what a crash leaves on the way.
 use Rattle.std.specs.Prelude.{◌≡◌, ℕ, List, IsTrue}
 use Rattle.sqlite_disk.specs.declared.Disk.{Ghosts}
+use Rattle.sqlite_trees.specs.Tree.{Trees}
 use Rattle.sqlite_wal.specs.Recovery.{Image}
 use Rattle.sqlite.specs.Files.{HoldsDatabase, file_state}
 use Rattle.td_model.specs.Book.{Book}
@@ -26,5 +27,15 @@ module _ {S : Type 0} {disk : Ghosts S} where
   pub record GoesOnFrom (country : List ℕ) (left opened : FileSeen disk) : Type 0 where
     pub image : Image
     pub holds : HoldsDatabase image (file_state left).now.trees
+    pub begins : BeginsKept image country opened
+    pub clean : IsClean opened
+
+  -- The next run opened the file with what a crash left of this one: an image of the file that holds trees which the crash may leave
+  -- is the one that it found, while its disk was clean.
+  pub record OpensAfterCrash (country : List ℕ) (crashed opened : FileSeen disk) : Type 0 where
+    pub image : Image
+    pub trees : Trees
+    pub left : (file_state crashed).may_leave trees
+    pub holds : HoldsDatabase image trees
     pub begins : BeginsKept image country opened
     pub clean : IsClean opened

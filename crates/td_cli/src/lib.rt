@@ -3,6 +3,7 @@
 #![tactic(auto)]
 
 mod at_desk;
+mod batch_laws;
 mod batching;
 mod clock;
 mod jobs;
@@ -13,6 +14,10 @@ mod run_laws;
 mod serving;
 mod telling;
 
+pub use batch_laws::{
+    a_batch_cut_short_is_sent_again, acknowledged_rows_are_kept_in_the_file,
+    runs_over_one_file_lead_on,
+};
 pub use clock::{FixedClock, MachineClock};
 pub use jobs::perform;
 pub use laws::{

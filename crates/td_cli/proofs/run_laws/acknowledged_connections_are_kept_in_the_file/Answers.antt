@@ -1,11 +1,10 @@
 use Rattle.std.proofs.Common.{None, length, subst, sym}
 use Rattle.td_files.specs.Found.{IsClean, over_file}
 use Rattle.td_http.specs.Connections.{beside}
-use Rattle.td_http.proofs.Kept.{keeps_first}
 use Rattle.td_http.proofs.KeptOver.{kept_within, last_is}
 use Rattle.td_cli.specs.Desks.{IsHeadHandledAt, IsMoment, fresh_books}
 use Rattle.td_cli.proofs.Desks.{fresh_tied}
-use Rattle.td_cli.proofs.Runs.{begun_country, begun_live, begun_settled, begun_sound}
+use Rattle.td_cli.proofs.Runs.{begun_keeps}
 use Rattle.td_cli.proofs.run_laws.acknowledged_connections_are_kept_in_the_file.Goals as goal
 
 pub returns : goal.returns
@@ -17,8 +16,6 @@ returns g c = λ country is_new image at file port connections writer writer_lef
     kept_within (λ _. None) (λ _. None) (λ _ _ _ _. Unit {0}) (λ _ _ _ _. Unit {0}) (IsMoment at) (λ d. d) IsHeadHandledAt
     (λ old new target reply is. is.stays) over_file country (fresh_books content) served.all_served before connection after first others
     (beside tt one.opened) served.last
-    (keeps_first over_file country (fresh_books content) one.opened (begun_live is_new image country one.opened one.begun was)
-    (begun_country is_new image country one.opened one.begun was) (begun_sound is_new image country one.opened one.begun was) (fresh_tied content)
-    (begun_settled is_new image country one.opened one.begun was)) served.were_served
+    (begun_keeps is_new image country (fresh_books content) one.opened one.begun was (fresh_tied content)) served.were_served
     (subst IsClean (last_is (λ _ _ _. Unit {0}) served.last (beside one.clock_left one.left) (length served.all_served) connections answer served.ended) left_clean)
     list_is exchanges_are

@@ -1,9 +1,9 @@
 use Rattle.std.proofs.Common.{subst, sym}
 use Rattle.td_files.specs.Found.{IsClean, over_file}
-use Rattle.td_http.proofs.Kept.{keeps_first, kept_between}
+use Rattle.td_http.proofs.Kept.{kept_between}
 use Rattle.td_cli.specs.Desks.{IsMoment, fresh_books}
 use Rattle.td_cli.proofs.Desks.{fresh_tied}
-use Rattle.td_cli.proofs.Runs.{begun_country, begun_live, begun_settled, begun_sound, ending_same}
+use Rattle.td_cli.proofs.Runs.{begun_keeps, ending_same}
 use Rattle.td_cli.proofs.run_laws.acknowledged_replies_are_kept_in_the_file.Goals as goal
 
 pub returns : goal.returns
@@ -13,7 +13,5 @@ returns g c = λ country is_new image at file reader reader_left writer writer_l
     let was = one.clean left_clean in
     let content = over_file.content one.opened in
     kept_between (IsMoment at) (λ d. d) over_file country (fresh_books content) run.exchanges first others (tt, one.opened) (one.clock_left, run.handler)
-    (keeps_first over_file country (fresh_books content) one.opened (begun_live is_new image country one.opened one.begun was)
-    (begun_country is_new image country one.opened one.begun was) (begun_sound is_new image country one.opened one.begun was) (fresh_tied content)
-    (begun_settled is_new image country one.opened one.begun was)) one.served.chain
+    (begun_keeps is_new image country (fresh_books content) one.opened one.begun was (fresh_tied content)) one.served.chain
     (subst IsClean (ending_same run.handler one.left run.rest run.ending one.served.ending) left_clean) are
