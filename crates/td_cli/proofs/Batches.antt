@@ -1,5 +1,5 @@
 -- A run of rows, where nothing is said of the calls that it makes of the desk; and a text that was written or not.
-use Rattle.std.proofs.Common.{◌≡◌, ◌⊎◌, inl, inr, ℕ, ℤ, Bool, true, false, List, [], ◌∷◌, Option, None, Some, refl}
+use Rattle.std.proofs.Common.{◌≡◌, inl, inr, ℕ, ℤ, Bool, true, false, List, [], ◌∷◌, Option, refl}
 use Rattle.std.specs.List.{FoldsTo}
 use Rattle.std.specs.Io.KnownBytes.{Appends}
 use Rattle.counted_io.specs.declared.counted.Counted.{Counted}
@@ -12,7 +12,7 @@ use Rattle.td_desk.specs.declared.running.Outcome.{Outcome}
 use Rattle.td_desk.specs.declared.running.Outcome.TheVariants as outcome
 use Rattle.td_desk.specs.View.{DeskView}
 use Rattle.td_batch.specs.declared.running.BatchRun.{BatchRun}
-use Rattle.td_batch.specs.Runs.{IsBatchDone, IsCausedBy, IsDone, IsRowDone, IsRunOf}
+use Rattle.td_batch.specs.Runs.{IsCausedBy, IsDone, IsRowDone, IsRunOf}
 use Rattle.td_cli.specs.Statuses.{IsTold}
 
 module _ {D : Type 0} (view : DeskView D) (called : D → Option Fault → D → Type 0) (at : ℤ) where

@@ -4,7 +4,6 @@ use Rattle.std.specs.Prelude.{if◌then◌else◌, IsTrue}
 use Rattle.std.specs.List.{FoldsTo}
 use Rattle.sqlite_disk.specs.declared.Disk.{Ghosts}
 use Rattle.sqlite_trees.specs.Tree.{Trees}
-use Rattle.sqlite_wal.specs.Recovery.{Image}
 use Rattle.sqlite.specs.Files.{file_state}
 use Rattle.td_commands.specs.Commands.{owner_of}
 use Rattle.td_commands.specs.declared.command.Command.{Command}
@@ -24,9 +23,9 @@ use Rattle.td_batch.specs.Laws.{IsLater}
 use Rattle.td_batch.specs.Runs.{at_moment, outcomes_of, tried, IsRowDone, IsRunOf}
 use Rattle.td_batch.proofs.AgainAtDesk.{clean_back}
 use Rattle.td_batch.proofs.Told.{machine_book-parts}
-use Rattle.td_files.specs.Found.{FileSeen, IsClean, content_in, over_file}
+use Rattle.td_files.specs.Found.{FileSeen, IsClean, over_file}
 use Rattle.td_cli.specs.BatchLaws.{HasFailedAmong, TriedRow}
-use Rattle.td_cli.specs.Desks.{BeginsKept, fresh_books}
+use Rattle.td_cli.specs.Desks.{fresh_books}
 use Rattle.td_cli.specs.Runs.{IsRun, OpensAfterCrash}
 use Rattle.td_cli.proofs.Desks.{fresh_tied}
 use Rattle.td_cli.proofs.KeptRows.{keeps_rows}

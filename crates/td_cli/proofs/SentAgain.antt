@@ -15,7 +15,7 @@ use Rattle.td_desk.specs.Content.{Content, IsSound}
 use Rattle.td_desk.specs.Runs.{is_holder, IsTied}
 use Rattle.td_desk.specs.View.{DeskView}
 use Rattle.td_http.specs.Kept.{books_with}
-use Rattle.td_batch.specs.Runs.{at_moment, IsRowDone}
+use Rattle.td_batch.specs.Runs.{IsRowDone}
 use Rattle.td_batch.proofs.AnsweredAtDesk.{HasSaid, has_said_at, owner_any, said_again}
 use Rattle.td_batch.proofs.RowsRun.{AreRunTo, rows_run}
 use Rattle.td_batch.proofs.Told.{machine_book-parts}
