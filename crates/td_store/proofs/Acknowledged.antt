@@ -4,7 +4,7 @@ use Rattle.sqlite_catalog.proofs.ReadLemmas.{lists_once}
 use Rattle.sqlite_trees.specs.declared.store.Store.{Ghosts}
 use Rattle.sqlite_trees.specs.Objects.{catalog_tree}
 use Rattle.sqlite.specs.Held.{state}
-use Rattle.td_schema.specs.Tables.{desk_schema}
+use Rattle.td_schema.specs.Layouts.{desk_schema}
 use Rattle.td_store_rows.specs.StoreTables.{AreTreesOf}
 use Rattle.td_store.specs.Laws.{AcknowledgedIsKept, AcknowledgedIsKeptMeanwhile, DesksTreesOpen}
 

@@ -12,7 +12,7 @@ use Rattle.td_acts.specs.Deciding.{IsLoaded}
 use Rattle.td_acts.specs.declared.rows.Loaded.{Loaded}
 use Rattle.td_commands.specs.Commands.{Need}
 use Rattle.td_table_model.proofs.Gathered.{content_is}
-use Rattle.td_schema.specs.Tables.{desk_schema}
+use Rattle.td_schema.specs.Layouts.{desk_schema}
 use Rattle.typed_sql.specs.Writing.{HasSchema}
 use Rattle.td_store_rows.specs.StoreTables.{AreTreesOf, HoldsContent, tables_in, content_in}
 use Rattle.td_store_rows.proofs.Holding.{holds_still}

@@ -11,7 +11,8 @@ use Rattle.td_base.proofs.Decided.{capitals_decided, some_where}
 use Rattle.td_table_model.specs.declared.rule.Rule.{Rule}
 use Rattle.td_table_model.specs.declared.rule.Rule.TheVariants.{S1}
 use Rattle.typed_sql.specs.Typed.{AreTyped, typed_rows}
-use Rattle.td_store_rows.specs.Columns.{MetaRow, meta_row, meta_typing, newest_version}
+use Rattle.td_store_rows.specs.Columns.{MetaRow, meta_row, meta_typing}
+use Rattle.td_schema.specs.Layouts.{newest_version}
 use Rattle.td_store_rows.specs.MetaTable.{stored_of}
 use Rattle.td_store_rows.specs.StoreTables.{HasOfficeRow}
 use Rattle.td_store_rows.specs.declared.meta.stored.StoredMeta.{StoredMeta}

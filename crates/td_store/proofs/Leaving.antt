@@ -10,7 +10,7 @@ use Rattle.sqlite.proofs.Callers.{survives_begin}
 use Rattle.sqlite.proofs.StateLemmas.{survives_then, survives_weaker}
 use Rattle.td_desk.specs.Content.{Content}
 use Rattle.td_desk.specs.View.{AddsAtMost, IsSettled, LeavesOnly}
-use Rattle.td_schema.specs.Tables.{desk_schema}
+use Rattle.td_schema.specs.Layouts.{desk_schema}
 use Rattle.typed_sql.proofs.OnlyRead.{stays_on}
 use Rattle.typed_sql.specs.Reading.{Reads, StaysInside}
 use Rattle.typed_sql.specs.Writing.{HasSchema}

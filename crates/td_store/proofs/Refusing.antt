@@ -8,9 +8,9 @@ use Rattle.sqlite_trees.specs.Tree.{Trees}
 use Rattle.sqlite.specs.Effect.{Database, IsDatabase}
 use Rattle.sqlite.specs.State.{State, IsLive}
 use Rattle.td_desk.specs.Content.{Content}
-use Rattle.td_schema.specs.Tables.{desk_schema}
+use Rattle.td_schema.specs.Layouts.{desk_schema, newest_version}
 use Rattle.typed_sql.specs.Typed.{row_of, typed_rows}
-use Rattle.td_store_rows.specs.Columns.{meta_row, meta_typing, newest_version}
+use Rattle.td_store_rows.specs.Columns.{meta_row, meta_typing}
 use Rattle.td_store_rows.specs.StoreTables.{HasOfficeRow, HoldsContent, country_in, content_in}
 use Rattle.td_store_rows.proofs.Turned.{listed_there}
 use Rattle.td_store_audit_rows.specs.Laws.{ContentKeepsRules}

@@ -6,9 +6,9 @@ use Rattle.sqlite_schema.specs.declared.schema.Schema.{Schema}
 use Rattle.sqlite_trees.specs.Tree.{Trees}
 use Rattle.sqlite.specs.Effect.{Database}
 use Rattle.td_table_model.specs.declared.rule.Rule.{Rule}
-use Rattle.td_schema.specs.Tables.{desk_schema}
+use Rattle.td_schema.specs.Layouts.{desk_schema, newest_version}
 use Rattle.typed_sql.specs.Typed.{AreTyped, typed_rows}
-use Rattle.td_store_rows.specs.Columns.{MetaIsFirst, meta_typing, newest_version}
+use Rattle.td_store_rows.specs.Columns.{MetaIsFirst, meta_typing}
 use Rattle.td_store_rows.specs.MetaTable.{stored_of}
 use Rattle.td_store_rows.specs.declared.meta.stored.StoredMeta.{StoredMeta}
 use Rattle.td_store_audit_rows.specs.Untyped.{IsFirstBrokenUntyped}

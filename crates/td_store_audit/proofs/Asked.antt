@@ -20,7 +20,7 @@ use Rattle.td_store_audit.proofs.Reading.{so_before}
 use Rattle.td_store_audit.proofs.Succession.{broken_here, codes_next, first_next, holders_next, kept_on, table_next, told_before}
 use Rattle.typed_sql.proofs.OnlyRead.{none_read}
 use Rattle.typed_sql.specs.Reading.{OnlyRead}
-use Rattle.td_schema.specs.Tables.{desk_schema}
+use Rattle.td_schema.specs.Layouts.{desk_schema}
 
 module _ (country : List ℕ) (holders : List RawHolder) (readable : Readable) (a : State) where
   abbrev Q : Trees → Type 0

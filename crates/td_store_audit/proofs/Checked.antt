@@ -12,7 +12,7 @@ use Rattle.sqlite_sql.specs.Ops.{binary}
 use Rattle.sqlite_schema.specs.declared.schema.Constraint.TheVariants.{Check}
 use Rattle.sqlite_schema.specs.Rules.{passes}
 use Rattle.sqlite_typed.proofs.TestLemmas.{at_and, at_ints, truth_or}
-use Rattle.td_schema.specs.Tables.{desk_schema}
+use Rattle.td_schema.specs.Layouts.{desk_schema}
 use Rattle.typed_sql.specs.Values.{number_value}
 use Rattle.td_store_audit.proofs.Ruled.{both, holders_there}
 

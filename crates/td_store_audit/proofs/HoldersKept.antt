@@ -13,7 +13,7 @@ use Rattle.sqlite_schema.specs.declared.schema.Constraint.TheVariants.{Check}
 use Rattle.sqlite_schema.specs.Rules.{Obeys, passes}
 use Rattle.td_model.specs.declared.holder_row.HolderRow.{HolderRow}
 use Rattle.td_base.specs.Codes.{IsHolderNumber}
-use Rattle.td_schema.specs.Tables.{desk_schema}
+use Rattle.td_schema.specs.Layouts.{desk_schema}
 use Rattle.td_table_model.specs.Gathering.{IsApart, holder_no}
 use Rattle.typed_sql.specs.Writing.{HaveIds}
 use Rattle.typed_sql.specs.Typed.{row_of, typed_rows}

@@ -3,7 +3,7 @@ use Rattle.std.proofs.Common.{subst}
 use Rattle.sqlite_trees.specs.Tree.{Trees}
 use Rattle.sqlite_schema.specs.Rules.{Obeys}
 use Rattle.sqlite.specs.State.{IsLive, State}
-use Rattle.td_schema.specs.Tables.{desk_schema}
+use Rattle.td_schema.specs.Layouts.{desk_schema}
 use Rattle.td_store_audit_rows.specs.Ids.{HaveAllIds}
 use Rattle.td_store_audit_rows.specs.Laws.{AreKept}
 use Rattle.td_store_audit.specs.Keeping.{KeepsTables, SchemaKeeps, SchemaKeepsTables}

@@ -15,7 +15,7 @@ use Rattle.sqlite_typed.proofs.TestLemmas.{then_value}
 use Rattle.sqlite_value.specs.declared.value.Value.{Value}
 use Rattle.sqlite_value.specs.declared.value.Value.TheVariants.{Int, Text}
 use Rattle.sqlite_value.specs.Order.{Row, column}
-use Rattle.td_schema.specs.Tables.{desk_schema}
+use Rattle.td_schema.specs.Layouts.{desk_schema}
 use Rattle.typed_sql.specs.Meanings.{MeansSelect}
 use Rattle.typed_sql.specs.Reading.{IsAnswerOf, Selects, row_order, shown_by}
 use Rattle.typed_sql.specs.Typed.{IsTypedRow, row_of}

@@ -4,7 +4,7 @@ use Rattle.std.specs.Prelude.{is_ok, IsTrue}
 use Rattle.sqlite_trees.specs.Tree.{Trees}
 use Rattle.sqlite.specs.Effect.{Database}
 use Rattle.sqlite.specs.State.{State, HasCleanDisk}
-use Rattle.td_schema.specs.Tables.{desk_schema}
+use Rattle.td_schema.specs.Layouts.{desk_schema}
 use Rattle.typed_sql.specs.Reading.{OnlyRead, Reads, StaysInside}
 use Rattle.typed_sql.proofs.OnlyRead.{still_has}
 use Rattle.td_store_audit.specs.InFile.{IsSoWhere}

@@ -10,7 +10,8 @@ use Rattle.sqlite_schema.specs.declared.schema.Constraint.TheVariants.{ForeignKe
 use Rattle.sqlite_schema.specs.declared.schema.Table.{Table}
 use Rattle.sqlite_schema.specs.Names.{same_name}
 use Rattle.sqlite_schema.specs.Rules.{Obeys, agree, clashes, has_null, passes}
-use Rattle.td_schema.specs.Tables.{codes_table, desk_schema, guarantees, holders, lines, movements}
+use Rattle.td_schema.specs.Layouts.{desk_schema}
+use Rattle.td_schema.specs.Tables.{codes_table, guarantees, holders, lines, movements}
 use Rattle.td_store_audit.proofs.Unique.{HaveKey}
 
 -- both of two tests pass

@@ -9,7 +9,7 @@ use Rattle.sqlite_trees.proofs.ListLemmas.{all-map, all_both, all_of}
 use Rattle.sqlite_schema.specs.Rules.{Obeys}
 use Rattle.td_guarantee.specs.declared.guarantee.Guarantee.{Guarantee}
 use Rattle.td_movement.specs.declared.movement.Movement.{Movement}
-use Rattle.td_schema.specs.Tables.{desk_schema}
+use Rattle.td_schema.specs.Layouts.{desk_schema}
 use Rattle.td_table_model.specs.Gathering.{holder_no, no_of, owner, place}
 use Rattle.td_table_model.specs.Stored.{AreOfHolders}
 use Rattle.td_table_model.specs.Tables.{Keyed}

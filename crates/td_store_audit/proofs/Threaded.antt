@@ -26,7 +26,7 @@ use Rattle.td_store_audit.proofs.Reading.{so_before}
 use Rattle.td_store_audit.proofs.Succession.{all_kept, broken_here, kept_on, lines_next, table_next, told_before}
 use Rattle.typed_sql.proofs.OnlyRead.{none_read}
 use Rattle.typed_sql.specs.Reading.{OnlyRead}
-use Rattle.td_schema.specs.Tables.{desk_schema}
+use Rattle.td_schema.specs.Layouts.{desk_schema}
 
 module _ (country : List ℕ) (holders : List RawHolder) (readable : Readable) (a : State) where
   abbrev Q : Trees → Type 0

@@ -7,7 +7,7 @@ use Rattle.td_guarantee.specs.declared.guarantee.Guarantee.{Guarantee}
 use Rattle.td_table_model.specs.Gathering.{IsApart, guarantees_by, movements_by, part, place}
 use Rattle.td_table_model.specs.Looking.{cents_of, lines_in_use}
 use Rattle.td_table_model.specs.Tables.{Keyed}
-use Rattle.td_schema.specs.Tables.{desk_schema}
+use Rattle.td_schema.specs.Layouts.{desk_schema}
 use Rattle.typed_sql.specs.Typed.{AreTyped, Typing, typed_rows}
 use Rattle.typed_sql.specs.Writing.{HasSchema}
 use Rattle.td_store_rows.specs.StoreTables.{tables_in}

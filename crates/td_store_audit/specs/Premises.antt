@@ -3,7 +3,7 @@
 use Rattle.std.specs.Prelude.{ℕ, List, IsSome, unwrap_or}
 use Rattle.sqlite.specs.State.{State}
 use Rattle.sqlite_trees.specs.Tree.{Trees}
-use Rattle.td_schema.specs.Tables.{desk_schema}
+use Rattle.td_schema.specs.Layouts.{desk_schema}
 use Rattle.typed_sql.specs.Writing.{HaveIds, HasSchema}
 use Rattle.typed_sql.specs.Typed.{IsTypedRow, typed_rows}
 use Rattle.td_table_model.specs.declared.rule.Rule.TheVariants.{S3, S5}

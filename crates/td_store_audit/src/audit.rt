@@ -2,7 +2,7 @@
 ghost use Rattle.std.specs.Prelude.{◌≡◌, IsTrue, IfOk, OnOk, is_ok};
 ghost use Rattle.sqlite.specs.Held.{state};
 ghost use Rattle.sqlite.specs.State.{HasCleanDisk, KeepsCommit, Survives};
-ghost use Rattle.td_schema.specs.Tables.{desk_schema};
+ghost use Rattle.td_schema.specs.Layouts.{desk_schema};
 ghost use Rattle.td_table_model.specs.declared.rule.Rule.TheVariants.{S5};
 ghost use Rattle.typed_sql.specs.Reading.{IsInside, LeavesAll, Reads};
 ghost use Rattle.typed_sql.specs.Writing.{HasSchema};

@@ -8,7 +8,7 @@ ghost use Rattle.td_store_audit_rows.specs.Untyped.{KeepsUntyped};
 ghost use Rattle.td_store_audit.specs.Tallies.{IsCoverAuditable, IsCoveredBy, IsHandedOn, raw_holder_of};
 ghost use Rattle.td_store_audit.specs.InFile.{IsHolderCoveredInFile, TellsWhere};
 ghost use Rattle.typed_sql.specs.Reading.{IsInside, Reads};
-ghost use Rattle.td_schema.specs.Tables.{desk_schema};
+ghost use Rattle.td_schema.specs.Layouts.{desk_schema};
 
 use crate::tallies::HolderLines;
 use sqlite::{Error, Transaction};

@@ -10,7 +10,7 @@ ghost use Rattle.td_store_audit_rows.specs.Scans.{TellsRead};
 ghost use Rattle.td_store_audit.specs.Auditable.{TellsRule};
 ghost use Rattle.td_store_audit.specs.InFile.{AreTypedApart, HasGuaranteesInPlace, TellsWhere};
 ghost use Rattle.typed_sql.specs.Reading.{IsInside, OnlyRead, Reads};
-ghost use Rattle.td_schema.specs.Tables.{desk_schema};
+ghost use Rattle.td_schema.specs.Layouts.{desk_schema};
 
 use sqlite::{Error, Transaction};
 use sqlite_trees::store::Alter;

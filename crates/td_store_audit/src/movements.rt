@@ -13,7 +13,7 @@ ghost use Rattle.td_store_audit.specs.Auditable.{TellsRule};
 ghost use Rattle.td_store_audit.specs.Tallies.{AreAllCounting, AreCounting, is_counting_row, raw_of};
 ghost use Rattle.td_store_audit.specs.InFile.{AreTypedApart, HasMovementsInPlace, IsSoWhere, TellsWhere};
 ghost use Rattle.typed_sql.specs.Reading.{IsInside, Reads};
-ghost use Rattle.td_schema.specs.Tables.{desk_schema};
+ghost use Rattle.td_schema.specs.Layouts.{desk_schema};
 
 use crate::tallies::CountingSerials;
 use sqlite::{Error, Transaction};

@@ -2,7 +2,7 @@
 ghost use Rattle.std.specs.Prelude.{◌≡◌, [], ◌∷◌, IsTrue, IfOk, OnOk, is_ok};
 ghost use Rattle.sqlite.specs.Held.{state};
 ghost use Rattle.sqlite.specs.State.{HasCleanDisk};
-ghost use Rattle.td_schema.specs.Tables.{desk_schema};
+ghost use Rattle.td_schema.specs.Layouts.{desk_schema};
 ghost use Rattle.typed_sql.specs.Reading.{IsInside, Reads};
 ghost use Rattle.typed_sql.specs.Writing.{HasSchema};
 ghost use Rattle.td_store_audit.specs.Broken.{ShowsCountry, TellsCountry};

@@ -7,7 +7,7 @@ use Rattle.sqlite_value.specs.declared.keys.Collation.TheVariants.{Binary}
 use Rattle.sqlite_value.specs.declared.keys.Key.{Key}
 use Rattle.sqlite_value.specs.Keys.{ascending}
 use Rattle.sqlite_sql.specs.Term.{Term, col}
-use Rattle.td_schema.specs.Tables.{desk_schema}
+use Rattle.td_schema.specs.Layouts.{desk_schema}
 use Rattle.typed_sql.specs.Meanings.{MeansSelect}
 use Rattle.td_store_audit_rows.specs.declared.texts.TheConstants.{CODES, GUARANTEES, HOLDERS, HOLDER_IDS, LINES, META_IDS, MOVEMENTS}
 

@@ -9,7 +9,7 @@ use Rattle.sqlite_trees.proofs.ListLemmas.{all_weaker, map-map}
 use Rattle.sqlite_value.specs.declared.keys.Key.{Key}
 use Rattle.sqlite_value.specs.Order.{Row}
 use Rattle.td_store_rows.specs.Columns.{holder_typing}
-use Rattle.td_schema.specs.Tables.{desk_schema}
+use Rattle.td_schema.specs.Layouts.{desk_schema}
 use Rattle.typed_sql.specs.Meanings.{MeansSelect}
 use Rattle.typed_sql.specs.Reading.{Fetches, row_order, shown_by}
 use Rattle.typed_sql.specs.Typed.{Typing}

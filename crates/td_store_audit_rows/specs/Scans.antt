@@ -5,7 +5,7 @@ use Rattle.sqlite_value.specs.declared.keys.Key.{Key}
 use Rattle.sqlite_value.specs.declared.value.Value.TheVariants.{Text}
 use Rattle.sqlite_value.specs.Order.{Row, column}
 use Rattle.sqlite_sql.specs.Term.{Term}
-use Rattle.td_schema.specs.Tables.{desk_schema}
+use Rattle.td_schema.specs.Layouts.{desk_schema}
 use Rattle.td_movement.specs.States.{state_name}
 use Rattle.td_movement.specs.declared.state.State.{State as MovementState}
 use Rattle.typed_sql.specs.Meanings.{MeansSelect}

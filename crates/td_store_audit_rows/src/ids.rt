@@ -6,7 +6,7 @@ ghost use Rattle.sqlite.specs.Given.{IsPlain};
 ghost use Rattle.sqlite.specs.Held.{state};
 ghost use Rattle.sqlite.specs.Listing.{understood};
 ghost use Rattle.sqlite.specs.State.{HasCleanDisk, IsUnchanged, Survives};
-ghost use Rattle.td_schema.specs.Tables.{desk_schema};
+ghost use Rattle.td_schema.specs.Layouts.{desk_schema};
 ghost use Rattle.typed_sql.specs.Walked.{IsLeftAlone};
 ghost use Rattle.td_store_audit_rows.specs.Ids.{IsAbove, ShowsIds};
 ghost use Rattle.td_store_audit_rows.specs.Rising.{HaveRisen};

@@ -2,7 +2,7 @@
 ghost use Rattle.std.specs.Prelude.{◌≡◌, false, IfOk, OnOk};
 ghost use Rattle.sqlite.specs.Held.{state};
 ghost use Rattle.sqlite.specs.State.{HasCleanDisk, IsUnchanged, Survives};
-ghost use Rattle.td_schema.specs.Tables.{desk_schema};
+ghost use Rattle.td_schema.specs.Layouts.{desk_schema};
 ghost use Rattle.typed_sql.specs.Walked.{IsLeftAlone};
 ghost use Rattle.td_store_audit_rows.specs.Ids.{HaveAllIds, HavePartIds};
 ghost use Rattle.td_store_audit_rows.specs.Scans.{TellReadable};

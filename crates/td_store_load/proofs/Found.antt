@@ -21,7 +21,7 @@ use Rattle.td_table_model.specs.Rules.{KeepRules}
 use Rattle.td_table_model.proofs.KeepingRules.{keep_rules}
 use Rattle.td_table_model.proofs.Looked.{account_is, are_found}
 use Rattle.td_table_model.proofs.Told.{references_tell}
-use Rattle.td_schema.specs.Tables.{desk_schema}
+use Rattle.td_schema.specs.Layouts.{desk_schema}
 use Rattle.typed_sql.specs.Reading.{OnlyRead}
 use Rattle.td_store_rows.specs.CodeTable.{AreByCode, code_row_of as row_of_code}
 use Rattle.td_store_rows.specs.declared.codes.stored.StoredCode.{StoredCode}

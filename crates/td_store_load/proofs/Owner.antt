@@ -19,7 +19,7 @@ use Rattle.td_store_load.proofs.Reading.{held_after}
 use Rattle.td_store_load.proofs.Whole.{found_alone}
 use Rattle.td_store_load.specs.Needed.{IsLoadedFor}
 use Rattle.typed_sql.specs.Reading.{OnlyRead}
-use Rattle.td_schema.specs.Tables.{desk_schema}
+use Rattle.td_schema.specs.Layouts.{desk_schema}
 
 -- nothing is kept of a number without a row
 nothing_kept : (country : List ℕ) (o : Option HolderRows) → (account_with country o).holder ≡ None → account_with country o ≡ empty_account country

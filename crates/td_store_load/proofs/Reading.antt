@@ -4,7 +4,7 @@ use Rattle.sqlite.specs.Effect.{Database}
 use Rattle.sqlite.specs.State.{State}
 use Rattle.td_desk.specs.Content.{Content}
 use Rattle.td_table_model.specs.Tables.{Tables}
-use Rattle.td_schema.specs.Tables.{desk_schema}
+use Rattle.td_schema.specs.Layouts.{desk_schema}
 use Rattle.typed_sql.specs.Reading.{OnlyRead}
 use Rattle.typed_sql.proofs.OnlyRead.{still_has}
 use Rattle.td_store_load.specs.Loaded.{IsOfContent, IsOfTables}

@@ -23,7 +23,7 @@ use Rattle.td_table_model.proofs.Looked.{account_is}
 use Rattle.td_table_model.proofs.Numbered.{map_same}
 use Rattle.td_table_model.proofs.Rebuilt.{all_in_order}
 use Rattle.td_table_model.proofs.Told.{tell_keys}
-use Rattle.td_schema.specs.Tables.{desk_schema}
+use Rattle.td_schema.specs.Layouts.{desk_schema}
 use Rattle.typed_sql.specs.Reading.{OnlyRead}
 use Rattle.td_store_rows.specs.GuaranteeTable.{AreBySerial, is_of, guarantee_row_of}
 use Rattle.td_store_rows.specs.declared.guarantees.stored.StoredGuarantee.{StoredGuarantee}

@@ -5,7 +5,7 @@ use Rattle.keyed_rows.specs.Rows.{row_at}
 use Rattle.sqlite.specs.State.{State}
 use Rattle.td_base.specs.Money.{IsCents}
 use Rattle.td_table_model.specs.Looking.{cents_of, lines_in_use}
-use Rattle.td_schema.specs.Tables.{desk_schema}
+use Rattle.td_schema.specs.Layouts.{desk_schema}
 use Rattle.typed_sql.specs.Typed.{AreTyped}
 use Rattle.typed_sql.specs.Writing.{HasSchema}
 use Rattle.td_store_rows.specs.Columns.{movement_typing, line_typing}

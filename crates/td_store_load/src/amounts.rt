@@ -4,7 +4,7 @@ ghost use Rattle.keyed_rows.specs.Rows.{Rises};
 ghost use Rattle.sqlite.specs.Held.{state};
 ghost use Rattle.sqlite.specs.State.{HasCleanDisk};
 ghost use Rattle.td_base.specs.Money.{IsCents};
-ghost use Rattle.td_schema.specs.Tables.{desk_schema};
+ghost use Rattle.td_schema.specs.Layouts.{desk_schema};
 ghost use Rattle.typed_sql.specs.Reading.{IsInside, Reads};
 ghost use Rattle.td_store_rows.specs.MovementTable.{serial_of_stored};
 ghost use Rattle.td_store_load.specs.InUse.{IsInUse, IsInUseIfInRange, total_on};

@@ -6,7 +6,7 @@ ghost use Rattle.sqlite.specs.Held.{state};
 ghost use Rattle.sqlite.specs.State.{HasCleanDisk};
 ghost use Rattle.td_model.specs.Account.{entry_in};
 ghost use Rattle.td_desk.specs.Content.{Content, account_in};
-ghost use Rattle.td_schema.specs.Tables.{desk_schema};
+ghost use Rattle.td_schema.specs.Layouts.{desk_schema};
 ghost use Rattle.typed_sql.specs.Reading.{IsInside, Reads};
 ghost use Rattle.td_store_rows.specs.GuaranteeTable.{guarantee_row_of};
 ghost use Rattle.td_store_rows.specs.StoreTables.{HoldsContent};

@@ -11,7 +11,7 @@ ghost use Rattle.td_desk.specs.Weighing.{kept_for};
 ghost use Rattle.td_store_rows.specs.StoreTables.{HoldsContent};
 ghost use Rattle.td_store_load.specs.Needed.{IsLoadedFor};
 ghost use Rattle.typed_sql.specs.Reading.{IsInside, Reads};
-ghost use Rattle.td_schema.specs.Tables.{desk_schema};
+ghost use Rattle.td_schema.specs.Layouts.{desk_schema};
 
 use crate::entries::{load_all_entries, load_entries_of, load_entry};
 use crate::guarantees::load_guarantees_of;

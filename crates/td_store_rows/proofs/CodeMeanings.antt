@@ -11,13 +11,13 @@ use Rattle.sqlite_sql.specs.Term.{Term, lit, col, op2}
 use Rattle.sqlite_sql.specs.declared.ops.BinaryOp.TheVariants.{Compare}
 use Rattle.sqlite_sql.specs.declared.ops.CompareOp.TheVariants.{Eq}
 use Rattle.td_schema.proofs.Acting.{none_acts}
-use Rattle.td_schema.specs.Tables.{desk_schema}
+use Rattle.td_schema.specs.Layouts.{desk_schema, newest_layout}
 use Rattle.typed_sql.specs.Meanings.{HasTable, MeansInsert, MeansDelete, MeansSelect}
 use Rattle.td_store_rows.specs.Columns.{stored_table}
 use Rattle.td_store_rows.specs.declared.codes.texts.TheConstants.{INSERT, DELETE, OF_GUARANTEE}
 
 codes_there : HasTable desk_schema 2 stored_table
-codes_there = record { there = refl; free = none_acts 2 }
+codes_there = record { there = refl; free = none_acts newest_layout 2 }
 
 -- the holder and the serial are those that were given
 abbrev pub key_tests : List Term

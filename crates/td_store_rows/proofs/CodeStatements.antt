@@ -28,7 +28,7 @@ use Rattle.sqlite_rules.specs.Cast.{cast_all}
 use Rattle.sqlite_sql.specs.Term.{eval_all}
 use Rattle.sqlite_value.specs.Order.{Row, column}
 use Rattle.td_store_rows.specs.Columns.{code_cells, code_from, code_typing, stored_table}
-use Rattle.td_schema.specs.Tables.{desk_schema}
+use Rattle.td_schema.specs.Layouts.{desk_schema}
 use Rattle.typed_sql.specs.Values.{number_value}
 use Rattle.td_table_model.specs.Tables.{Keyed}
 

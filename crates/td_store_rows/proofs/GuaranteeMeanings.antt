@@ -11,13 +11,13 @@ use Rattle.sqlite_sql.specs.Term.{Term, lit, col, op2}
 use Rattle.sqlite_sql.specs.declared.ops.BinaryOp.TheVariants.{Compare, Coalesce}
 use Rattle.sqlite_sql.specs.declared.ops.CompareOp.TheVariants.{Eq}
 use Rattle.td_schema.proofs.Acting.{none_acts}
-use Rattle.td_schema.specs.Tables.{desk_schema}
+use Rattle.td_schema.specs.Layouts.{desk_schema, newest_layout}
 use Rattle.typed_sql.specs.Meanings.{HasTable, MeansInsert, MeansUpdate, MeansSelect}
 use Rattle.td_store_rows.specs.Columns.{guarantees_table}
 use Rattle.td_store_rows.specs.declared.guarantees.texts.TheConstants.{INSERT, SET_TERMS, BY_GRN, BY_SERIAL, OF_HOLDER}
 
 guarantees_there : HasTable desk_schema 4 guarantees_table
-guarantees_there = record { there = refl; free = none_acts 8 }
+guarantees_there = record { there = refl; free = none_acts newest_layout 8 }
 
 -- a column is the value that was given at a place
 abbrev pub equals : ℕ → ℕ → Term

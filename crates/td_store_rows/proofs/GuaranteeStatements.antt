@@ -19,7 +19,7 @@ use Rattle.td_store_rows.proofs.GuaranteeMeanings.{grn_tests, holder_tests, inse
 use Rattle.td_store_rows.specs.Columns.{guarantee_cells, guarantee_columns, guarantee_typing, guarantees_table}
 use Rattle.td_store_rows.specs.GuaranteeTable.{TurnsGuarantees, has_grn, has_serial, is_of, terms_values, with_new_terms, AreBySerial, AreGuarantees, guarantee_row_of}
 use Rattle.td_store_rows.specs.declared.guarantees.texts.TheConstants.{INSERT, SET_TERMS}
-use Rattle.td_schema.specs.Tables.{desk_schema}
+use Rattle.td_schema.specs.Layouts.{desk_schema}
 use Rattle.typed_sql.proofs.Columns.{given_or, number_is, text_is}
 use Rattle.typed_sql.proofs.TypedRows.{inserted_typed, updated_typed}
 use Rattle.typed_sql.specs.Typed.{IsTypedRow, row_of, AreInOrder, typed_rows}

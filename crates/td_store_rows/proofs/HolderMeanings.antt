@@ -9,13 +9,13 @@ use Rattle.sqlite_sql.specs.Term.{Term, lit, col, op2}
 use Rattle.sqlite_sql.specs.declared.ops.BinaryOp.TheVariants.{Compare}
 use Rattle.sqlite_sql.specs.declared.ops.CompareOp.TheVariants.{Eq}
 use Rattle.td_schema.proofs.Acting.{none_acts}
-use Rattle.td_schema.specs.Tables.{desk_schema}
+use Rattle.td_schema.specs.Layouts.{desk_schema, newest_layout}
 use Rattle.typed_sql.specs.Meanings.{HasTable, MeansInsert, MeansUpdate, MeansSelect}
 use Rattle.td_store_rows.specs.Columns.{holders_table}
 use Rattle.td_store_rows.specs.declared.holders.texts.TheConstants.{INSERT, SET, BY_NUMBER}
 
 holders_there : HasTable desk_schema 1 holders_table
-holders_there = record { there = refl; free = none_acts 1 }
+holders_there = record { there = refl; free = none_acts newest_layout 1 }
 
 -- the number is the value that was given first
 abbrev pub number_tests : List Term

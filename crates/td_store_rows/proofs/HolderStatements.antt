@@ -9,7 +9,7 @@ use Rattle.sqlite_sql.specs.Term.{eval_all}
 use Rattle.sqlite.specs.State.{State}
 use Rattle.td_model.specs.declared.holder_row.HolderRow.{HolderRow}
 use Rattle.td_table_model.specs.Changes.{with_row}
-use Rattle.td_schema.specs.Tables.{desk_schema}
+use Rattle.td_schema.specs.Layouts.{desk_schema}
 use Rattle.typed_sql.specs.Typed.{HasNow, IsTypedRow, row_of, typed_rows}
 use Rattle.typed_sql.specs.Values.{number_value}
 use Rattle.typed_sql.specs.Writing.{Inserts, Updates, columns_put, columns_set, passes}

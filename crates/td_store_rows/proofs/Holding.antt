@@ -3,7 +3,7 @@ use Rattle.std.proofs.Common.{◌≡◌, sym, subst}
 use Rattle.sqlite.specs.Effect.{Database}
 use Rattle.sqlite.specs.State.{State}
 use Rattle.td_desk.specs.Content.{Content}
-use Rattle.td_schema.specs.Tables.{desk_schema}
+use Rattle.td_schema.specs.Layouts.{desk_schema}
 use Rattle.typed_sql.specs.Writing.{HasSchema}
 use Rattle.td_store_rows.specs.StoreTables.{AreTreesOf, HoldsContent}
 

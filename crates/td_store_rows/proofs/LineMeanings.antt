@@ -11,13 +11,13 @@ use Rattle.sqlite_sql.specs.Term.{Term, lit, col, op2}
 use Rattle.sqlite_sql.specs.declared.ops.BinaryOp.TheVariants.{Compare}
 use Rattle.sqlite_sql.specs.declared.ops.CompareOp.TheVariants.{Eq}
 use Rattle.td_schema.proofs.Acting.{none_acts}
-use Rattle.td_schema.specs.Tables.{desk_schema}
+use Rattle.td_schema.specs.Layouts.{desk_schema, newest_layout}
 use Rattle.typed_sql.specs.Meanings.{HasTable, MeansInsert, MeansSelect}
 use Rattle.td_store_rows.specs.Columns.{lines_table}
 use Rattle.td_store_rows.specs.declared.lines.texts.TheConstants.{INSERT, OF_MOVEMENT, ON_GUARANTEE}
 
 lines_there : HasTable desk_schema 5 lines_table
-lines_there = record { there = refl; free = none_acts 11 }
+lines_there = record { there = refl; free = none_acts newest_layout 11 }
 
 -- the holder and the serial are those that were given
 abbrev pub key_tests : List Term

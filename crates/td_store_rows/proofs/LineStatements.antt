@@ -13,7 +13,7 @@ use Rattle.td_store_rows.specs.declared.lines.stored.StoredLine.{StoredLine}
 use Rattle.td_store_rows.specs.Columns.{line_cells, line_from, line_typing, lines_table}
 use Rattle.td_store_rows.specs.LineTable.{AreByNumber, AreLines, TurnsLines, is_line_of, is_line_on, line_rows_in, line_row_of}
 use Rattle.td_store_rows.specs.declared.lines.texts.TheConstants.{INSERT}
-use Rattle.td_schema.specs.Tables.{desk_schema}
+use Rattle.td_schema.specs.Layouts.{desk_schema}
 use Rattle.typed_sql.proofs.Columns.{number_is}
 use Rattle.typed_sql.proofs.Ordered.{Passes, both_pass, by_third, numbers_compared}
 use Rattle.td_table_model.proofs.Counting.{filter_both}

@@ -10,13 +10,13 @@ use Rattle.sqlite_schema.specs.declared.schema.View.{View}
 use Rattle.sqlite_value.specs.declared.value.Value.TheVariants.{Int, Null}
 use Rattle.sqlite_sql.specs.Term.{Term, lit, col}
 use Rattle.td_schema.proofs.Acting.{none_acts}
-use Rattle.td_schema.specs.Tables.{desk_schema}
+use Rattle.td_schema.specs.Layouts.{desk_schema, newest_layout}
 use Rattle.typed_sql.specs.Meanings.{HasTable, MeansInsert, MeansSelect}
 use Rattle.td_store_rows.specs.Columns.{MetaIsFirst, meta_table}
 use Rattle.td_store_rows.specs.declared.meta.texts.TheConstants.{INSERT, FIND}
 
 meta_there : HasTable desk_schema 0 meta_table
-meta_there = record { there = refl; free = none_acts 0 }
+meta_there = record { there = refl; free = none_acts newest_layout 0 }
 
 -- the columns of a new row, under the rowid 1, and of one that is shown
 abbrev pub new_row : List Term

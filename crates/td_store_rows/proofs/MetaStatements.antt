@@ -8,7 +8,7 @@ use Rattle.sqlite_sql.specs.Term.{eval_all}
 use Rattle.sqlite_trees.proofs.ListLemmas.{all-permutation}
 use Rattle.sqlite_value.specs.Order.{Row}
 use Rattle.sqlite_value.specs.declared.value.Value.TheVariants.{Null, Text}
-use Rattle.td_schema.specs.Tables.{desk_schema}
+use Rattle.td_schema.specs.Layouts.{desk_schema}
 use Rattle.typed_sql.proofs.Columns.{cast_null}
 use Rattle.typed_sql.proofs.Effects.{cast_int}
 use Rattle.typed_sql.proofs.TypedRows.{inserted_typed, selected_typed}

@@ -11,13 +11,13 @@ use Rattle.sqlite_sql.specs.Term.{Term, lit, col, op2}
 use Rattle.sqlite_sql.specs.declared.ops.BinaryOp.TheVariants.{Compare, Coalesce, Or}
 use Rattle.sqlite_sql.specs.declared.ops.CompareOp.TheVariants.{Eq}
 use Rattle.td_schema.proofs.Acting.{none_acts}
-use Rattle.td_schema.specs.Tables.{desk_schema}
+use Rattle.td_schema.specs.Layouts.{desk_schema, newest_layout}
 use Rattle.typed_sql.specs.Meanings.{HasTable, MeansInsert, MeansUpdate, MeansSelect}
 use Rattle.td_store_rows.specs.Columns.{movements_table}
 use Rattle.td_store_rows.specs.declared.movements.texts.TheConstants.{INSERT, SET_STATUS, BY_MRN, BY_LRN, OF_HOLDER, COUNTING_SERIALS}
 
 movements_there : HasTable desk_schema 3 movements_table
-movements_there = record { there = refl; free = none_acts 4 }
+movements_there = record { there = refl; free = none_acts newest_layout 4 }
 
 -- a column is the value that was given at a place
 abbrev pub equals : ℕ → ℕ → Term

@@ -11,7 +11,7 @@ use Rattle.sqlite.specs.State.{State}
 use Rattle.sqlite.specs.declared.error.Error.{Error}
 use Rattle.td_movement.specs.States.{is_counting}
 use Rattle.td_table_model.specs.Gathering.{place}
-use Rattle.td_schema.specs.Tables.{desk_schema}
+use Rattle.td_schema.specs.Layouts.{desk_schema}
 use Rattle.typed_sql.proofs.Ordered.{both_pass, selected_sorted}
 use Rattle.typed_sql.proofs.TypedRows.{selected_typed}
 use Rattle.typed_sql.specs.Reading.{Fetches, IsAnswerOf, Selects, row_order, shown_by}

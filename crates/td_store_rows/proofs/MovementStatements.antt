@@ -27,7 +27,7 @@ use Rattle.td_movement.specs.States.{state_name}
 use Rattle.td_movement.specs.declared.movement.Movement.{Movement}
 use Rattle.td_store_rows.specs.Columns.{movement_cells, movement_columns, movement_typing, movements_table}
 use Rattle.td_store_rows.specs.declared.movements.texts.TheConstants.{INSERT, SET_STATUS}
-use Rattle.td_schema.specs.Tables.{desk_schema}
+use Rattle.td_schema.specs.Layouts.{desk_schema}
 use Rattle.typed_sql.proofs.Columns.{given_or, number_is, text_is}
 use Rattle.typed_sql.proofs.TypedRows.{inserted_typed, updated_typed}
 use Rattle.typed_sql.specs.Values.{number_or_null, number_value, text_or_null}

@@ -6,7 +6,7 @@ use Rattle.sqlite_trees.specs.Tree.{Trees}
 use Rattle.td_base.specs.Codes.{IsAccessCode}
 use Rattle.td_table_model.specs.Gathering.{IsTextApart, code_rank, in_order, of_key, part, place}
 use Rattle.td_table_model.specs.Tables.{Keyed}
-use Rattle.td_schema.specs.Tables.{desk_schema}
+use Rattle.td_schema.specs.Layouts.{desk_schema}
 use Rattle.typed_sql.specs.Typed.{AreThose, AreTyped, Turns, typed_rows}
 use Rattle.typed_sql.specs.Writing.{HasSchema}
 use Rattle.td_store_rows.specs.Columns.{code_typing}

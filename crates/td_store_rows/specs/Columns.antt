@@ -16,10 +16,6 @@ use Rattle.td_movement.specs.declared.movement.Movement.{Movement}
 use Rattle.td_movement.specs.declared.state.State.{State}
 use Rattle.td_movement.specs.declared.state.State.TheVariants.{Accepted, Cancelled, Released, Enquired, Arrived, Discrepant, Cleared, WrittenOff}
 
--- the newest version of the tables
-abbrev pub newest_version : ℕ
-newest_version = 1
-
 -- the version of the tables and the country, as a file has them: any integer, and any text
 pub record MetaRow : Type 0 where
   pub version : ℤ

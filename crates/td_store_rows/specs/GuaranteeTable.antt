@@ -7,7 +7,7 @@ use Rattle.td_acts.specs.Changes.{with_terms}
 use Rattle.td_acts.specs.declared.rows.NewTerms.{NewTerms}
 use Rattle.td_table_model.specs.Gathering.{IsApart, in_order, place}
 use Rattle.td_table_model.specs.Tables.{Keyed}
-use Rattle.td_schema.specs.Tables.{desk_schema}
+use Rattle.td_schema.specs.Layouts.{desk_schema}
 use Rattle.typed_sql.specs.Typed.{AreThose, AreTyped, Turns, typed_rows}
 use Rattle.typed_sql.specs.Values.{number_value, number_or_null}
 use Rattle.typed_sql.specs.Writing.{HasSchema}

@@ -3,7 +3,7 @@ use Rattle.std.specs.Prelude.{ℕ, ◌==◌, List, Option}
 use Rattle.std.specs.Option.{option_to_list}
 use Rattle.sqlite.specs.State.{State}
 use Rattle.td_model.specs.declared.holder_row.HolderRow.{HolderRow}
-use Rattle.td_schema.specs.Tables.{desk_schema}
+use Rattle.td_schema.specs.Layouts.{desk_schema}
 use Rattle.typed_sql.specs.Typed.{AreThose, Turns}
 use Rattle.td_store_rows.specs.Columns.{holder_typing}
 

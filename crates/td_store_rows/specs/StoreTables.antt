@@ -6,10 +6,10 @@ use Rattle.sqlite.specs.State.{State}
 use Rattle.td_desk.specs.Content.{Content, IsSound}
 use Rattle.td_table_model.specs.Tables.{Tables, AreTablesOf}
 use Rattle.td_table_model.specs.Changes.{HaveSameRows}
-use Rattle.td_schema.specs.Tables.{desk_schema}
+use Rattle.td_schema.specs.Layouts.{desk_schema, newest_version}
 use Rattle.typed_sql.specs.Typed.{AreTyped, typed_rows}
 use Rattle.typed_sql.specs.Writing.{HasSchema}
-use Rattle.td_store_rows.specs.Columns.{MetaRow, meta_row, meta_typing, newest_version, holder_typing, guarantee_typing, code_typing, movement_typing, line_typing}
+use Rattle.td_store_rows.specs.Columns.{MetaRow, meta_row, meta_typing, holder_typing, guarantee_typing, code_typing, movement_typing, line_typing}
 use Rattle.td_table_model.specs.Gathering.{content_of}
 
 -- the country in the office's own row; none where there is no such row

@@ -15,9 +15,9 @@ use Rattle.td_table_model.specs.Tables.{AreTablesOf}
 use Rattle.td_table_model.specs.Changes.{HaveSameRows, tables_after}
 use Rattle.td_table_model.proofs.Decided.{decisions_are_written}
 use Rattle.td_table_model.proofs.Told.{references_tell}
-use Rattle.td_schema.specs.Tables.{desk_schema}
+use Rattle.td_schema.specs.Layouts.{desk_schema, newest_version}
 use Rattle.typed_sql.specs.Writing.{HasSchema}
-use Rattle.td_store_rows.specs.Columns.{meta_row, newest_version}
+use Rattle.td_store_rows.specs.Columns.{meta_row}
 use Rattle.td_store_rows.specs.StoreTables.{AreTreesOf, tables_in}
 use Rattle.td_store_rows.proofs.Holding.{holds_still}
 use Rattle.td_store_write.specs.Written.{WritesChange}

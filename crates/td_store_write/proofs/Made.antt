@@ -9,10 +9,10 @@ use Rattle.sqlite.proofs.Callers.{one_permutation}
 use Rattle.td_desk.specs.Content.{empty_content}
 use Rattle.td_base.specs.Codes.{IsCountry}
 use Rattle.td_schema.specs.Tables.{IsEmptyOf}
-use Rattle.td_schema.specs.Tables.{desk_schema}
+use Rattle.td_schema.specs.Layouts.{desk_schema, newest_version}
 use Rattle.typed_sql.specs.Writing.{HaveIds}
 use Rattle.typed_sql.specs.Typed.{AreTyped, HasNow, IsTypedRow, Typing, row_of, typed_rows}
-use Rattle.td_store_rows.specs.Columns.{meta_row, meta_typing, newest_version, holder_typing, guarantee_typing, code_typing, movement_typing, line_typing}
+use Rattle.td_store_rows.specs.Columns.{meta_row, meta_typing, holder_typing, guarantee_typing, code_typing, movement_typing, line_typing}
 use Rattle.td_store_rows.specs.MetaTable.{TurnsMeta}
 use Rattle.td_store_rows.specs.StoreTables.{AreTreesOf, HoldsContent, country_in}
 use Rattle.td_store_rows.proofs.Turned.{listed_there}

@@ -9,7 +9,7 @@ use Rattle.td_acts.specs.declared.rows.NewTerms.{NewTerms}
 use Rattle.td_table_model.specs.Tables.{Keyed}
 use Rattle.td_table_model.specs.Changes.{tables_after}
 use Rattle.td_table_model.specs.Looking.{MayBeAskedByKey}
-use Rattle.td_schema.specs.Tables.{desk_schema}
+use Rattle.td_schema.specs.Layouts.{desk_schema}
 use Rattle.typed_sql.specs.Writing.{HasSchema}
 use Rattle.td_store_rows.specs.MovementTable.{has_mrn, with_new_status}
 use Rattle.td_store_rows.specs.GuaranteeTable.{has_grn, with_new_terms}

@@ -1,7 +1,7 @@
 use Rattle.std.proofs.Common.{rules, true}
 use Rattle.sqlite.specs.Held.{state}
 use Rattle.sqlite.specs.State.{State, HasCleanDisk, KeepsCommit, Survives}
-use Rattle.td_schema.specs.Tables.{desk_schema}
+use Rattle.td_schema.specs.Layouts.{desk_schema}
 use Rattle.typed_sql.specs.Reading.{LeavesAll, Reads}
 use Rattle.typed_sql.proofs.OnlyRead.{one_read}
 use Rattle.td_store.proofs.Leaving.{seen_commits}

@@ -1,7 +1,7 @@
 use Rattle.std.proofs.Common.{rules, true}
 use Rattle.sqlite.specs.Held.{state}
 use Rattle.sqlite.specs.State.{State}
-use Rattle.td_schema.specs.Tables.{desk_schema}
+use Rattle.td_schema.specs.Layouts.{desk_schema}
 use Rattle.typed_sql.specs.Reading.{Reads}
 use Rattle.td_store.proofs.Leaving.{seen_commits}
 use Rattle.td_store.proofs.reading.read.Goals as goal

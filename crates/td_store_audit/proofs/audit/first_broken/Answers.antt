@@ -5,7 +5,7 @@ use Rattle.td_store_audit.proofs.FromFile.{told_first}
 use Rattle.td_store_audit.proofs.Reading.{inside_ok, still_ok}
 use Rattle.typed_sql.proofs.OnlyRead.{read_more, reads_on}
 use Rattle.typed_sql.specs.Reading.{Reads}
-use Rattle.td_schema.specs.Tables.{desk_schema}
+use Rattle.td_schema.specs.Layouts.{desk_schema}
 use Rattle.typed_sql.proofs.Leaving.{on_ok}
 use Rattle.td_store_audit.proofs.audit.first_broken.Goals as goal
 

@@ -12,7 +12,7 @@ use Rattle.td_store_audit.proofs.Walking.{one_more, one_of_all}
 use Rattle.td_store_audit.proofs.cover.all_holders_covered.Goals as goal
 use Rattle.typed_sql.specs.Reading.{Reads}
 use Rattle.typed_sql.proofs.OnlyRead.{reads_on}
-use Rattle.td_schema.specs.Tables.{desk_schema}
+use Rattle.td_schema.specs.Layouts.{desk_schema}
 
 pub holders-preserved : goal.holders-preserved
 holders-preserved g c = (

@@ -6,7 +6,7 @@ use Rattle.td_store_audit.specs.Tallies.{IsHandedOn, raw_holder_of}
 use Rattle.td_store_audit.specs.InFile.{IsHolderCoveredInFile, IsSoWhere}
 use Rattle.td_store_audit.proofs.cover.all_holders_covered.Given as goal
 use Rattle.typed_sql.specs.Reading.{Reads}
-use Rattle.td_schema.specs.Tables.{desk_schema}
+use Rattle.td_schema.specs.Layouts.{desk_schema}
 
 -- nothing is changed, and those before are covered
 abbrev pub invariant-holders : goal.invariant-holders

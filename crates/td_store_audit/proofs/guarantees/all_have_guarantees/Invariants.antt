@@ -6,7 +6,7 @@ use Rattle.td_store_rows.specs.Columns.{guarantee_typing}
 use Rattle.td_store_audit.specs.InFile.{AreTypedApart, HasGuaranteesInPlace, IsSoWhere}
 use Rattle.td_store_audit.proofs.guarantees.all_have_guarantees.Given as goal
 use Rattle.typed_sql.specs.Reading.{Reads}
-use Rattle.td_schema.specs.Tables.{desk_schema}
+use Rattle.td_schema.specs.Layouts.{desk_schema}
 
 -- nothing is changed, and those before have theirs
 abbrev pub invariant-holders : goal.invariant-holders

@@ -13,7 +13,7 @@ use Rattle.td_store_audit.proofs.Walking.{one_made, one_more, one_of_all, one_pu
 use Rattle.td_store_audit.proofs.movements.all_kept_movements.Goals as goal
 use Rattle.typed_sql.specs.Reading.{Reads}
 use Rattle.typed_sql.proofs.OnlyRead.{reads_on}
-use Rattle.td_schema.specs.Tables.{desk_schema}
+use Rattle.td_schema.specs.Layouts.{desk_schema}
 
 pub holders-preserved : goal.holders-preserved
 holders-preserved g c = (

@@ -7,7 +7,7 @@ use Rattle.td_store_audit.specs.Tallies.{AreAllCounting, raw_of}
 use Rattle.td_store_audit.specs.InFile.{AreTypedApart, HasMovementsInPlace, IsSoWhere}
 use Rattle.td_store_audit.proofs.movements.all_kept_movements.Given as goal
 use Rattle.typed_sql.specs.Reading.{Reads}
-use Rattle.td_schema.specs.Tables.{desk_schema}
+use Rattle.td_schema.specs.Layouts.{desk_schema}
 
 -- nothing is changed, those before have theirs, and what was handed on of them is theirs
 abbrev pub invariant-holders : goal.invariant-holders

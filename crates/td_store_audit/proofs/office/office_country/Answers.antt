@@ -1,5 +1,5 @@
 use Rattle.sqlite.specs.Held.{state}
-use Rattle.td_schema.specs.Tables.{desk_schema}
+use Rattle.td_schema.specs.Layouts.{desk_schema}
 use Rattle.typed_sql.proofs.Leaving.{any_ok, reads_ok, stays}
 use Rattle.typed_sql.proofs.OnlyRead.{reads_well}
 use Rattle.td_store_audit.specs.declared.texts.TheConstants.{OFFICE}

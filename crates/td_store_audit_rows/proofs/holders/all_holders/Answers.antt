@@ -1,5 +1,5 @@
 use Rattle.sqlite.specs.Held.{state}
-use Rattle.td_schema.specs.Tables.{desk_schema}
+use Rattle.td_schema.specs.Layouts.{desk_schema}
 use Rattle.typed_sql.proofs.Leaving.{reads_ok}
 use Rattle.td_store_audit_rows.specs.declared.texts.TheConstants.{HOLDERS}
 use Rattle.td_store_audit_rows.proofs.Meanings.{holders_mean}

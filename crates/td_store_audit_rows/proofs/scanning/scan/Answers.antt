@@ -2,7 +2,7 @@ use Rattle.std.proofs.Common.{[], ◌∷◌, arith, refl}
 use Rattle.sqlite.specs.Held.{state}
 use Rattle.sqlite.specs.State.{HasCleanDisk}
 use Rattle.sqlite_sql.specs.Term.{col}
-use Rattle.td_schema.specs.Tables.{desk_schema}
+use Rattle.td_schema.specs.Layouts.{desk_schema}
 use Rattle.typed_sql.specs.Reading.{row_order, shown_by}
 use Rattle.td_store_audit_rows.proofs.Shown.{ids_of_rows, told_of_rows}
 use Rattle.td_store_audit_rows.proofs.scanning.scan.Goals as goal

@@ -7,7 +7,7 @@ use Rattle.td_store_load.specs.Needed.{entry_from}
 use Rattle.td_store_load.proofs.entries.entries_in_rows.Goals as goal
 use Rattle.typed_sql.specs.Reading.{Reads}
 use Rattle.typed_sql.proofs.OnlyRead.{reads_on, reads_well}
-use Rattle.td_schema.specs.Tables.{desk_schema}
+use Rattle.td_schema.specs.Layouts.{desk_schema}
 
 pub rows-preserved : goal.rows-preserved
 rows-preserved g c = (

@@ -14,7 +14,7 @@ use Rattle.td_store_load.proofs.entries.load_entries_of.Goals as goal
 use Rattle.td_store_load.proofs.entries.load_entries_of.Goals.{in-Some+in_ok-push, in_default}
 use Rattle.typed_sql.specs.Reading.{Reads}
 use Rattle.typed_sql.proofs.OnlyRead.{reads_on, reads_well}
-use Rattle.td_schema.specs.Tables.{desk_schema}
+use Rattle.td_schema.specs.Layouts.{desk_schema}
 
 pub lines-preserved : goal.lines-preserved
 lines-preserved g c = (c.load_entry.ensures.same_reference ∙ c.lines.invariant.0, more, next)

@@ -7,7 +7,7 @@ use Rattle.td_desk.specs.Content.{account_in}
 use Rattle.td_store_load.specs.Loaded.{IsOfContent}
 use Rattle.td_store_load.proofs.entries.load_entries_of.Given as goal
 use Rattle.typed_sql.specs.Reading.{Reads}
-use Rattle.td_schema.specs.Tables.{desk_schema}
+use Rattle.td_schema.specs.Layouts.{desk_schema}
 
 abbrev pub invariant-lines : goal.invariant-lines
 invariant-lines g l =

@@ -2,7 +2,7 @@ use Rattle.std.proofs.Common.{refl}
 use Rattle.std.specs.Prelude.{[], ◌∷◌}
 use Rattle.sqlite.specs.Held.{state}
 use Rattle.sqlite_value.specs.declared.value.Value.TheVariants.{Text}
-use Rattle.td_schema.specs.Tables.{desk_schema}
+use Rattle.td_schema.specs.Layouts.{desk_schema}
 use Rattle.typed_sql.proofs.Fetched.{one_fetched}
 use Rattle.typed_sql.proofs.Leaving.{reads_by}
 use Rattle.typed_sql.specs.Values.{number_value}

@@ -2,7 +2,7 @@ use Rattle.std.proofs.Common.{refl, rules, IsPermutation, Ok, map, subst, sym, �
 use Rattle.std.specs.Prelude.{[], ◌∷◌, ◌==◌, filter}
 use Rattle.std.specs.Option.{option_to_list}
 use Rattle.sqlite.specs.Held.{state}
-use Rattle.td_schema.specs.Tables.{desk_schema}
+use Rattle.td_schema.specs.Layouts.{desk_schema}
 use Rattle.typed_sql.proofs.Fetched.{one_fetched}
 use Rattle.typed_sql.proofs.Leaving.{reads_ok}
 use Rattle.typed_sql.specs.Typed.{typed_rows}

@@ -1,5 +1,5 @@
 use Rattle.sqlite.specs.Held.{state}
-use Rattle.td_schema.specs.Tables.{desk_schema}
+use Rattle.td_schema.specs.Layouts.{desk_schema}
 use Rattle.typed_sql.proofs.Leaving.{reads_by}
 use Rattle.td_store_rows.proofs.MovementMeanings.{counting_means}
 use Rattle.td_store_rows.proofs.MovementSerials.{serials_fetched, serials_in_order}

@@ -1,7 +1,7 @@
 use Rattle.std.proofs.Common.{nat_cmp, refl}
 use Rattle.std.specs.Prelude.{[], ◌∷◌}
 use Rattle.sqlite.specs.Held.{state}
-use Rattle.td_schema.specs.Tables.{desk_schema}
+use Rattle.td_schema.specs.Layouts.{desk_schema}
 use Rattle.typed_sql.proofs.Fetched.{in_order_fetched, those_fetched}
 use Rattle.typed_sql.proofs.Leaving.{if_both, reads_by}
 use Rattle.typed_sql.specs.Values.{number_value}
