@@ -1,5 +1,5 @@
 -- The layouts of a store's file: which tables stand in it, and where.
-use Rattle.std.specs.Prelude.{ℕ}
+use Rattle.std.specs.Prelude.{◌≡◌, ℕ}
 use Rattle.sqlite_catalog.specs.Change.{created}
 use Rattle.sqlite_schema.specs.declared.schema.Schema.{Schema}
 use Rattle.sqlite_schema.specs.declared.schema.Table.{Table}
@@ -40,9 +40,12 @@ guarantees_tree Made1 = 8
 guarantees_tree Made2 = 8
 guarantees_tree Grown2 = 14
 
--- the newest version, and the layout of a file that is made at it
+-- the newest version; that a file of this layout is of it; and the layout of a file that is made at it
 abbrev pub newest_version : ℕ
 newest_version = NEWEST_VERSION
+
+abbrev pub IsNewest : Layout → Type 0
+IsNewest l = version_of l ≡ newest_version
 
 abbrev pub newest_layout : Layout
 newest_layout = NEWEST_LAYOUT

@@ -36,15 +36,15 @@ same_then t u v a b = record {
 
 -- nothing was done
 pub turned_nothing : (f : Tables → Tables) → ((t : Tables) → HaveSameRows (f t) t) → (a : State) → TurnsTables f a a
-turned_nothing f same a has typed =
-    record { same = same (tables_in a.now.trees); office = refl; typed = typed; listed = λ was. was; schema = has }
+turned_nothing f same a l newest has typed =
+    record { same = same (tables_in l a.now.trees); office = refl; typed = typed; listed = λ was. was; schema = has }
 
 -- two statements
 pub turned_then : (f g : Tables → Tables) → RespectsRows g → (a b d : State) → TurnsTables f a b → TurnsTables g b d
     → TurnsTables (λ t. g (f t)) a d
-turned_then f g respects a b d first second has typed =
-    let one = first has typed in
-    let two = second one.schema one.typed in
+turned_then f g respects a b d first second l newest has typed =
+    let one = first l newest has typed in
+    let two = second l newest one.schema one.typed in
     record {
       same = same_then _ _ _ (respects _ _ one.same) two.same;
       office = two.office ∙ one.office;
@@ -56,8 +56,8 @@ turned_then f g respects a b d first second has typed =
 -- the tables that they leave, said otherwise
 pub turned_as : (f g : Tables → Tables) (old new : State) → ((t : Tables) → HaveSameRows (g t) (f t))
     → TurnsTables f old new → TurnsTables g old new
-turned_as f g old new same turns has typed =
-    let one = turns has typed in
+turned_as f g old new same turns l newest has typed =
+    let one = turns l newest has typed in
     record {
       same = same_then _ _ _ (same _) one.same;
       office = one.office;

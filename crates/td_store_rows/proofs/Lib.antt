@@ -1,4 +1,5 @@
-mod MetaMeanings
+pub mod Each
+pub mod MetaMeanings
 mod MetaStatements
 mod HolderMeanings
 mod HolderStatements
