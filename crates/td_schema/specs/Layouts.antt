@@ -40,13 +40,18 @@ guarantees_tree Made1 = 8
 guarantees_tree Made2 = 8
 guarantees_tree Grown2 = 14
 
--- the newest version; that a file of this layout is of it; and the layout of a file that is made at it
+-- the newest version, and that a file of this layout is of it
 abbrev pub newest_version : ℕ
 newest_version = NEWEST_VERSION
 
 abbrev pub IsNewest : Layout → Type 0
 IsNewest l = version_of l ≡ newest_version
 
+-- the tables are those of a layout of it
+abbrev pub IsNewestSchema : Schema → Type 0
+IsNewestSchema s = (l : Layout) × IsNewest l × (s ≡ schema_of l)
+
+-- the layout of a file that is made at it
 abbrev pub newest_layout : Layout
 newest_layout = NEWEST_LAYOUT
 

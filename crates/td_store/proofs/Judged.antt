@@ -12,7 +12,7 @@ use Rattle.td_table_model.specs.declared.rule.Rule.{Rule}
 use Rattle.td_table_model.specs.declared.rule.Rule.TheVariants.{S1}
 use Rattle.typed_sql.specs.Typed.{AreTyped, typed_rows}
 use Rattle.td_store_rows.specs.Columns.{MetaRow, meta_row, meta_typing}
-use Rattle.td_schema.specs.Layouts.{newest_version}
+use Rattle.td_schema.specs.Layouts.{newest_layout, newest_version}
 use Rattle.td_store_rows.specs.MetaTable.{stored_of}
 use Rattle.td_store_rows.specs.StoreTables.{HasOfficeRow}
 use Rattle.td_store_rows.specs.declared.meta.stored.StoredMeta.{StoredMeta}
@@ -93,10 +93,10 @@ module _ (country : List ℕ) (trees : Trees) (office : Option StoredMeta)
   judged (Some NoMemory) letters said some = said
 
   -- and where it isn't refused, what the rules tell
-  pub audited : (broken : Option Rule) → TellsOffice country office None → HaveAllIds trees → KeptRulesMeanContent
-      → AreKept trees → TellsBroken trees broken → TellsTables country trees (option_map Damaged broken)
+  pub audited : (broken : Option Rule) → TellsOffice country office None → HaveAllIds newest_layout trees → KeptRulesMeanContent
+      → AreKept newest_layout trees → TellsBroken trees broken → TellsTables country trees (option_map Damaged broken)
   audited None said ids law kept all =
-      record { content = law trees kept all; office = of_this said (record { ids = ids.meta; cells = (all S1).0.1 }) }
+      record { content = law newest_layout trees kept all; office = of_this said (record { ids = ids.meta; cells = (all S1).0.1 }) }
   audited (Some rule) said ids law kept first = record { first = first; office = of_this said }
 
   -- and what is then told of the rows

@@ -20,7 +20,7 @@ use Rattle.td_store_audit.proofs.Reading.{so_before}
 use Rattle.td_store_audit.proofs.Succession.{broken_here, codes_next, first_next, holders_next, kept_on, table_next, told_before}
 use Rattle.typed_sql.proofs.OnlyRead.{none_read}
 use Rattle.typed_sql.specs.Reading.{OnlyRead}
-use Rattle.td_schema.specs.Layouts.{desk_schema}
+use Rattle.td_schema.specs.Layouts.{desk_schema, newest_layout}
 
 module _ (country : List ℕ) (holders : List RawHolder) (readable : Readable) (a : State) where
   abbrev Q : Trees → Type 0
@@ -29,10 +29,10 @@ module _ (country : List ℕ) (holders : List RawHolder) (readable : Readable) (
   first : IsSoWhere Q (IsNextRule S2 country holders readable) a
   first has office = first_next country holders readable a.now.trees office
 
-  holders_told : (keeps : Bool) → TellsS2 holders keeps → TellsWhere Q (λ trees. KeepsUntyped trees S2) a keeps
+  holders_told : (keeps : Bool) → TellsS2 holders keeps → TellsWhere Q (λ trees. KeepsUntyped newest_layout trees S2) a keeps
   holders_told keeps told = told_before country holders readable Q a S2 first keeps a (none_read a) (holders_next country holders readable a keeps told)
 
-  pub holders_broken : (keeps : Bool) → keeps ≡ false → TellsS2 holders keeps → IsSoWhere Q (λ trees. IsFirstBrokenUntyped trees S2) a
+  pub holders_broken : (keeps : Bool) → keeps ≡ false → TellsS2 holders keeps → IsSoWhere Q (λ trees. IsFirstBrokenUntyped newest_layout trees S2) a
   holders_broken keeps is told = broken_here country holders readable Q a S2 first keeps (holders_told keeps told) is
 
   -- S2 is kept
@@ -41,14 +41,14 @@ module _ (country : List ℕ) (holders : List RawHolder) (readable : Readable) (
     after_holders = kept_on country holders readable Q a S2 first keeps (holders_told keeps told) is S3 refl
 
     abbrev TellsGuarantees : Bool → Type 0
-    TellsGuarantees b = TellsRead guarantee_typing AreGuaranteeFields a.now.trees readable.guarantees → TellsRule S3 country holders a b
+    TellsGuarantees b = TellsRead (guarantee_typing newest_layout) AreGuaranteeFields a.now.trees readable.guarantees → TellsRule S3 country holders a b
 
-    guarantees_told : (b : Bool) → TellsGuarantees b → TellsWhere Q (λ trees. KeepsUntyped trees S3) a b
+    guarantees_told : (b : Bool) → TellsGuarantees b → TellsWhere Q (λ trees. KeepsUntyped newest_layout trees S3) a b
     guarantees_told b tells =
         told_before country holders readable Q a S3 after_holders b a (none_read a)
         (table_next country holders readable a S3 b (λ has next. tells next.office.told.guarantees))
 
-    pub guarantees_broken : (b : Bool) → b ≡ false → TellsGuarantees b → IsSoWhere Q (λ trees. IsFirstBrokenUntyped trees S3) a
+    pub guarantees_broken : (b : Bool) → b ≡ false → TellsGuarantees b → IsSoWhere Q (λ trees. IsFirstBrokenUntyped newest_layout trees S3) a
     guarantees_broken b here tells = broken_here country holders readable Q a S3 after_holders b (guarantees_told b tells) here
 
     -- so is S3
@@ -58,12 +58,12 @@ module _ (country : List ℕ) (holders : List RawHolder) (readable : Readable) (
 
       abbrev TellsCodes : Bool → Type 0
       TellsCodes k =
-          AreCodesAuditable m holders → TellsRead code_typing AreCodeFields m.now.trees readable.codes → IsTrue k ↔ KeepsUntyped m.now.trees S4
+          AreCodesAuditable m holders → TellsRead code_typing AreCodeFields m.now.trees readable.codes → IsTrue k ↔ KeepsUntyped newest_layout m.now.trees S4
 
-      codes_told : (k : Bool) → TellsCodes k → TellsWhere Q (λ trees. KeepsUntyped trees S4) a k
+      codes_told : (k : Bool) → TellsCodes k → TellsWhere Q (λ trees. KeepsUntyped newest_layout trees S4) a k
       codes_told k says = told_before country holders readable Q a S4 after_guarantees k m read (codes_next country holders readable m k says)
 
-      pub codes_broken : (k : Bool) → k ≡ false → TellsCodes k → IsSoWhere Q (λ trees. IsFirstBrokenUntyped trees S4) a
+      pub codes_broken : (k : Bool) → k ≡ false → TellsCodes k → IsSoWhere Q (λ trees. IsFirstBrokenUntyped newest_layout trees S4) a
       codes_broken k so says = broken_here country holders readable Q a S4 after_guarantees k (codes_told k says) so
 
       -- so is S4: what is told of the rules behind it is told of all

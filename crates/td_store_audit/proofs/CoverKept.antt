@@ -21,6 +21,7 @@ use Rattle.td_table_model.specs.Rules.{HasGuarantees, HasLines, IsHolderCovered}
 use Rattle.td_table_model.specs.Tables.{Keyed, Tables}
 use Rattle.td_table_model.proofs.Ruled.{are_mine}
 use Rattle.typed_sql.specs.Typed.{AreTyped}
+use Rattle.td_schema.specs.Layouts.{newest_layout}
 use Rattle.td_store_rows.specs.Columns.{guarantee_typing, movement_typing, line_typing}
 use Rattle.td_store_rows.specs.StoreTables.{tables_in}
 use Rattle.td_store_audit_rows.specs.Found.{FoundHoldersTell}
@@ -35,16 +36,16 @@ use Rattle.td_store_audit.proofs.InUse.{found_by_own, used_is}
 
 -- the tables are typed, where the rules before S8 are kept
 module _ (trees : Trees) (country : List ℕ) (holders : List RawHolder) (known : IsAuditable trees country holders) (before : KeepsBefore trees S8) where
-  guarantees_kept : KeepsUntyped trees S3
+  guarantees_kept : KeepsUntyped newest_layout trees S3
   guarantees_kept = before S3 (omega arith)
 
-  movements_kept : KeepsUntyped trees S5
+  movements_kept : KeepsUntyped newest_layout trees S5
   movements_kept = before S5 (omega arith)
 
-  lines_kept : KeepsUntyped trees S6
+  lines_kept : KeepsUntyped newest_layout trees S6
   lines_kept = before S6 (omega arith)
 
-  pub guarantees_typed : AreTypedApart guarantee_typing trees
+  pub guarantees_typed : AreTypedApart (guarantee_typing newest_layout) trees
   guarantees_typed = record {
     typed = record { ids = known.kept.ids.guarantees; cells = guarantees_kept.0.1 };
     apart = (known.kept.guarantees guarantees_kept.0.1).apart;
@@ -62,7 +63,7 @@ module _ (trees : Trees) (country : List ℕ) (holders : List RawHolder) (known 
 module _ (law : FoundHoldersTell) (trees : Trees) (country : List ℕ) (holders : List RawHolder) (known : IsAuditable trees country holders)
     (before : KeepsBefore trees S8) where
   abbrev t : Tables
-  t = tables_in trees
+  t = tables_in newest_layout trees
 
   -- what is known of a holder's row
   record IsKnown (row : HolderRow) : Type 0 where
@@ -115,7 +116,7 @@ module _ (law : FoundHoldersTell) (trees : Trees) (country : List ℕ) (holders 
   abbrev AreCovered : ℕ → Type 0
   AreCovered H = AllByRecursion (IsRowCovered trees) (guarantees_by H t)
 
-  pub kept_each : KeepsUntyped trees S8 ↔ AllByRecursion (IsHolderCoveredInFile trees) holders
+  pub kept_each : KeepsUntyped newest_layout trees S8 ↔ AllByRecursion (IsHolderCoveredInFile trees) holders
   kept_each =
       let pairs = of_pairs holder_no (λ (h : RawHolder). h.holder) AreCovered t.holders holders (holders_tell law trees country holders known).same in (
         λ keeps. pairs.0 (all_both IsKnown (IsHolderCovered t) (λ row. AreCovered (holder_no row)) covered t.holders all_known keeps.1),
@@ -136,7 +137,7 @@ all_handed_on trees country handed is =
 -- so it is told
 pub told_cover : (a : State) (handed : List HolderLines) → FoundHoldersTell → (result : Result Bool Error)
     → IfOk result (TellsWhere (λ trees. AllByRecursion (IsHandedOn trees) handed) (λ trees. AllByRecursion (λ h. IsHolderCoveredInFile trees (raw_holder_of h)) handed) a)
-    → IfOk result (λ keeps. (country : List ℕ) → TellsWhere (IsCoverAuditable country handed) (λ trees. KeepsUntyped trees S8) a keeps)
+    → IfOk result (λ keeps. (country : List ℕ) → TellsWhere (IsCoverAuditable country handed) (λ trees. KeepsUntyped newest_layout trees S8) a keeps)
 told_cover a handed law (Err e) each = each
 told_cover a handed law (Ok told) each = λ country has is.
     let trees = a.now.trees in

@@ -14,6 +14,7 @@ use Rattle.td_table_model.specs.Rules.{HasGuarantees, IsGuaranteeInRange}
 use Rattle.td_table_model.specs.Tables.{Tables}
 use Rattle.td_table_model.proofs.Rebuilt.{all_in_order}
 use Rattle.typed_sql.specs.Typed.{IsTypedRow, row_of}
+use Rattle.td_schema.specs.Layouts.{newest_layout}
 use Rattle.td_store_rows.specs.Columns.{holder_typing, guarantee_typing}
 use Rattle.td_store_rows.specs.StoreTables.{tables_in}
 use Rattle.td_store_audit_rows.specs.InPlace.{AreGuaranteesInPlace, IsGuaranteeInPlace}
@@ -28,31 +29,31 @@ use Rattle.td_store_audit.specs.InFile.{AreTypedApart, HasGuaranteesInPlace, Tel
 use Rattle.td_store_audit.proofs.HoldersTold.{holders_tell, of_pairs, owners}
 
 abbrev AreAllRead : Trees → Type 0
-AreAllRead trees = AllRows guarantee_typing (IsReadRow guarantee_typing AreGuaranteeFields) trees
+AreAllRead trees = AllRows (guarantee_typing newest_layout) (IsReadRow (guarantee_typing newest_layout) AreGuaranteeFields) trees
 
 module _ (law : FoundHoldersTell) (trees : Trees) (country : List ℕ) (holders : List RawHolder) (known : IsAuditable trees country holders) where
   abbrev t : Tables
-  t = tables_in trees
+  t = tables_in newest_layout trees
 
   -- where S3 is kept each row is read
-  pub kept_read : GuaranteesAreRead → KeepsUntyped trees S1 → KeepsUntyped trees S3 → AreAllRead trees
+  pub kept_read : GuaranteesAreRead → KeepsUntyped newest_layout trees S1 → KeepsUntyped newest_layout trees S3 → AreAllRead trees
   kept_read read first keeps =
       let keyed = known.kept.guarantees keeps.0.1 in
-      read trees (owners law trees country holders known first) keyed.owned keyed.apart keeps
+      read newest_layout trees (owners law trees country holders known first) keyed.owned keyed.apart keeps
 
   module _ (read : AreAllRead trees) where
-    cells : AllRows guarantee_typing (IsTypedRow guarantee_typing) trees
-    cells = all_weaker (IsReadRow guarantee_typing AreGuaranteeFields) (IsTypedRow guarantee_typing) (λ r is. is.0) (trees guarantee_typing.table.tree) read
+    cells : AllRows (guarantee_typing newest_layout) (IsTypedRow (guarantee_typing newest_layout)) trees
+    cells = all_weaker (IsReadRow (guarantee_typing newest_layout) AreGuaranteeFields) (IsTypedRow (guarantee_typing newest_layout)) (λ r is. is.0) (trees (guarantee_typing newest_layout).table.tree) read
 
-    pub typed_apart : AreTypedApart guarantee_typing trees
+    pub typed_apart : AreTypedApart (guarantee_typing newest_layout) trees
     typed_apart = record { typed = record { ids = known.kept.ids.guarantees; cells = cells }; apart = (known.kept.guarantees cells).apart }
 
     fields : (H : ℕ) → AllByRecursion AreGuaranteeFields (guarantees_by H t)
     fields H =
         all_in_order place AreGuaranteeFields (part H t.guarantees)
         (all-filter AreGuaranteeFields (λ r. owner r == H) t.guarantees
-        (all-map AreGuaranteeFields (row_of guarantee_typing) (trees guarantee_typing.table.tree)
-        (all_weaker (IsReadRow guarantee_typing AreGuaranteeFields) (λ r. AreGuaranteeFields (row_of guarantee_typing r)) (λ r is. is.1) (trees guarantee_typing.table.tree) read)))
+        (all-map AreGuaranteeFields (row_of (guarantee_typing newest_layout)) (trees (guarantee_typing newest_layout).table.tree)
+        (all_weaker (IsReadRow (guarantee_typing newest_layout) AreGuaranteeFields) (λ r. AreGuaranteeFields (row_of (guarantee_typing newest_layout) r)) (λ r is. is.1) (trees (guarantee_typing newest_layout).table.tree) read)))
 
     -- a holder's count and guarantees keep S3 exactly where they are in their places
     abbrev IsInPlace : ℕ × ℕ → Type 0
@@ -82,7 +83,7 @@ module _ (law : FoundHoldersTell) (trees : Trees) (country : List ℕ) (holders 
     }
 
     -- the counts of rows that keep S3 are in range
-    counted : KeepsUntyped trees S3 → AllByRecursion HasGrns holders
+    counted : KeepsUntyped newest_layout trees S3 → AllByRecursion HasGrns holders
     counted keeps =
         let told = holders_tell law trees country holders known in
         told.grn_kinds.0
@@ -97,7 +98,7 @@ module _ (law : FoundHoldersTell) (trees : Trees) (country : List ℕ) (holders 
     of_tables : (h : RawHolder) → HasGuaranteesInPlace country trees h → IsInPlace (raw_grn_pair h)
     of_tables h is = subst (λ c. AreGuaranteesInPlace c (raw_grn_pair h).1 (guarantees_by h.holder t)) (sym known.country_is) is.1
 
-    pub kept_each : KeepsUntyped trees S3 ↔ AllByRecursion (HasGuaranteesInPlace country trees) holders
+    pub kept_each : KeepsUntyped newest_layout trees S3 ↔ AllByRecursion (HasGuaranteesInPlace country trees) holders
     kept_each =
         let told = holders_tell law trees country holders known in (
           λ keeps.
@@ -121,7 +122,7 @@ module _ (law : FoundHoldersTell) (trees : Trees) (country : List ℕ) (holders 
 
 -- what is told by the scan of the table, where a row isn't read
 pub told_unread : (scanned : Bool) (a : State) (country : List ℕ) (holders : List RawHolder) → FoundHoldersTell → GuaranteesAreRead
-    → TellsRead guarantee_typing AreGuaranteeFields a.now.trees scanned → scanned ≡ false → TellsRule S3 country holders a false
+    → TellsRead (guarantee_typing newest_layout) AreGuaranteeFields a.now.trees scanned → scanned ≡ false → TellsRule S3 country holders a false
 told_unread scanned a country holders law read tells unread has known before = (
   λ t. absurd (false≢true t),
   λ keeps. absurd (false≢true (sym unread ∙ tells.1 (kept_read law a.now.trees country holders known read (before S1 (omega arith)) keeps))),
@@ -130,8 +131,8 @@ told_unread scanned a country holders law read tells unread has known before = (
 -- and by the holders' own, where each row is
 pub told_each : (scanned : Bool) (a : State) (country : List ℕ) (holders : List RawHolder) → FoundHoldersTell
     → IsTrue scanned → (result : Result Bool Error)
-    → IfOk result (TellsWhere (AreTypedApart guarantee_typing) (λ trees. AllByRecursion (HasGuaranteesInPlace country trees) holders) a)
-    → IfOk result (λ keeps. TellsRead guarantee_typing AreGuaranteeFields a.now.trees scanned → TellsRule S3 country holders a keeps)
+    → IfOk result (TellsWhere (AreTypedApart (guarantee_typing newest_layout)) (λ trees. AllByRecursion (HasGuaranteesInPlace country trees) holders) a)
+    → IfOk result (λ keeps. TellsRead (guarantee_typing newest_layout) AreGuaranteeFields a.now.trees scanned → TellsRule S3 country holders a keeps)
 told_each scanned a country holders law is (Err e) each = each
 told_each scanned a country holders law is (Ok told) each = λ tells has known before.
     let trees = a.now.trees in

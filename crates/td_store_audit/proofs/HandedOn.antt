@@ -12,6 +12,7 @@ use Rattle.td_table_model.specs.Tables.{Keyed, Tables}
 use Rattle.td_table_model.proofs.Counting.{filter_both}
 use Rattle.td_table_model.proofs.Orders.{in_order_permutes}
 use Rattle.td_table_model.proofs.Ruled.{are_mine}
+use Rattle.td_schema.specs.Layouts.{newest_layout}
 use Rattle.td_store_rows.specs.GuaranteeTable.{guarantee_row_of}
 use Rattle.td_store_rows.specs.declared.guarantees.stored.StoredGuarantee.{StoredGuarantee}
 use Rattle.td_store_rows.specs.MovementTable.{serial_of_stored}
@@ -29,7 +30,7 @@ module _ (trees : Trees) (h : HolderLines) (is : IsHandedOn trees h) where
   H = h.movements.raw.holder
 
   abbrev t : Tables
-  t = tables_in trees
+  t = tables_in newest_layout trees
 
   abbrev serials : List MovementSerial
   serials = h.movements.serials.items

@@ -13,7 +13,7 @@ use Rattle.sqlite_schema.specs.declared.schema.Constraint.TheVariants.{Check}
 use Rattle.sqlite_schema.specs.Rules.{Obeys, passes}
 use Rattle.td_model.specs.declared.holder_row.HolderRow.{HolderRow}
 use Rattle.td_base.specs.Codes.{IsHolderNumber}
-use Rattle.td_schema.specs.Layouts.{desk_schema}
+use Rattle.td_schema.specs.Layouts.{desk_schema, newest_layout}
 use Rattle.td_table_model.specs.Gathering.{IsApart, holder_no}
 use Rattle.typed_sql.specs.Writing.{HaveIds}
 use Rattle.typed_sql.specs.Typed.{row_of, typed_rows}
@@ -67,7 +67,7 @@ module _ (trees : Trees) (ids : HaveIds (trees 1)) where
             let number : is.number ≡ k = grind (arith, nat_tests, own, test) in
             has_own (pos k) r (is.is ∙ ap number_value number)
 
-    pub holders_kept : AllRows holder_typing HasNumber trees × AreHoldersKept (tables_in trees)
+    pub holders_kept : AllRows holder_typing HasNumber trees × AreHoldersKept (tables_in newest_layout trees)
     holders_kept = (
       all_weaker IsNumbered HasNumber (λ r is. (is.number, is.is)) (trees 1) numbered,
       record {

@@ -14,6 +14,7 @@ use Rattle.td_table_model.specs.Rules.{HasMovements, IsMovementInRange}
 use Rattle.td_table_model.specs.Tables.{Tables}
 use Rattle.td_table_model.proofs.Rebuilt.{all_in_order}
 use Rattle.typed_sql.specs.Typed.{IsTypedRow, row_of}
+use Rattle.td_schema.specs.Layouts.{newest_layout}
 use Rattle.td_store_rows.specs.Columns.{holder_typing, movement_typing}
 use Rattle.td_store_rows.specs.StoreTables.{tables_in}
 use Rattle.td_store_audit_rows.specs.InPlace.{AreMovementsInPlace, IsMovementInPlace}
@@ -32,13 +33,13 @@ AreAllRead trees = AllRows movement_typing (IsReadRow movement_typing AreMovemen
 
 module _ (law : FoundHoldersTell) (trees : Trees) (country : List ℕ) (holders : List RawHolder) (known : IsAuditable trees country holders) where
   abbrev t : Tables
-  t = tables_in trees
+  t = tables_in newest_layout trees
 
   -- where S5 is kept each row is read
-  pub kept_read : MovementsAreRead → KeepsUntyped trees S1 → KeepsUntyped trees S5 → AreAllRead trees
+  pub kept_read : MovementsAreRead → KeepsUntyped newest_layout trees S1 → KeepsUntyped newest_layout trees S5 → AreAllRead trees
   kept_read read first keeps =
       let keyed = known.kept.movements keeps.0.1 in
-      read trees (owners law trees country holders known first) keyed.owned keyed.apart keeps
+      read newest_layout trees (owners law trees country holders known first) keyed.owned keyed.apart keeps
 
   module _ (read : AreAllRead trees) where
     cells : AllRows movement_typing (IsTypedRow movement_typing) trees
@@ -84,7 +85,7 @@ module _ (law : FoundHoldersTell) (trees : Trees) (country : List ℕ) (holders 
     }
 
     -- the counts of rows that keep S5 are in range
-    counted : KeepsUntyped trees S5 → AllByRecursion HasMrns holders
+    counted : KeepsUntyped newest_layout trees S5 → AllByRecursion HasMrns holders
     counted keeps =
         let told = holders_tell law trees country holders known in
         told.mrn_kinds.0
@@ -99,7 +100,7 @@ module _ (law : FoundHoldersTell) (trees : Trees) (country : List ℕ) (holders 
     of_tables : (h : RawHolder) → HasMovementsInPlace country trees h → IsInPlace (raw_mrn_pair h)
     of_tables h is = subst (λ c. AreMovementsInPlace c (raw_mrn_pair h).1 (movements_by h.holder t)) (sym known.country_is) is.1
 
-    pub kept_each : KeepsUntyped trees S5 ↔ AllByRecursion (HasMovementsInPlace country trees) holders
+    pub kept_each : KeepsUntyped newest_layout trees S5 ↔ AllByRecursion (HasMovementsInPlace country trees) holders
     kept_each =
         let told = holders_tell law trees country holders known in (
           λ keeps.

@@ -15,7 +15,7 @@ use Rattle.sqlite_typed.proofs.TestLemmas.{then_value}
 use Rattle.sqlite_value.specs.declared.value.Value.{Value}
 use Rattle.sqlite_value.specs.declared.value.Value.TheVariants.{Int, Text}
 use Rattle.sqlite_value.specs.Order.{Row, column}
-use Rattle.td_schema.specs.Layouts.{desk_schema}
+use Rattle.td_schema.specs.Layouts.{desk_schema, newest_layout}
 use Rattle.typed_sql.specs.Meanings.{MeansSelect}
 use Rattle.typed_sql.specs.Reading.{IsAnswerOf, Selects, row_order, shown_by}
 use Rattle.typed_sql.specs.Typed.{IsTypedRow, row_of}
@@ -114,7 +114,7 @@ module _ (rows answer : List Row) (a : IsAnswerOf rows (passes [] []) show (row_
 -- so the country that is shown tells of S1
 told : (trees : Trees) (answer : List Row) → IsAnswerOf (trees 0) (passes [] []) show (row_order [] []) answer
     → (country : Option (List ℕ)) → ShowsCountry answer country → TellsCountry trees country
-told trees answer a None none = λ keeps. none (tables_in trees).country (office_of (trees 0) answer a keeps.0.0 keeps.0.1) keeps.1
+told trees answer a None none = λ keeps. none (tables_in newest_layout trees).country (office_of (trees 0) answer a keeps.0.0 keeps.0.1) keeps.1
 told trees answer a (Some country) shows =
     let is = country_of (trees 0) answer a country shows.0 in
     (((sym (as_many (trees 0) answer a) ∙ ap length shows.0.alone, typed_rows (trees 0) answer a country shows.0), subst IsCountry (sym is) shows.1), is)

@@ -5,7 +5,7 @@ use Rattle.std.proofs.lemmas.Bool.Decides.{nat_tests}
 use Rattle.std.specs.Prelude.{◌↔◌, IsTrue}
 use Rattle.sqlite_trees.specs.Tree.{Trees}
 use Rattle.sqlite.specs.State.{State}
-use Rattle.td_schema.specs.Layouts.{desk_schema}
+use Rattle.td_schema.specs.Layouts.{desk_schema, newest_layout}
 use Rattle.typed_sql.specs.Writing.{HasSchema}
 use Rattle.td_table_model.specs.declared.rule.Rule.{Rule}
 use Rattle.td_table_model.specs.declared.rule.Rule.TheVariants.{S1, S2, S3, S4, S5, S6, S7, S8}
@@ -62,14 +62,14 @@ same_rule a b is = sym (it_is a) ∙ ap rule_of is ∙ it_is b
 
 -- each rule below a number is kept
 abbrev AreKeptBelow : ℕ → Trees → Type 0
-AreKeptBelow n trees = (other : Rule) → rule_no other < n → KeepsUntyped trees other
+AreKeptBelow n trees = (other : Rule) → rule_no other < n → KeepsUntyped newest_layout trees other
 
 -- so is each below the next, if the rule with the number is
-one_more_kept : (trees : Trees) (rule : Rule) → AreKeptBelow (rule_no rule) trees → KeepsUntyped trees rule → AreKeptBelow (rule_no rule + 1) trees
+one_more_kept : (trees : Trees) (rule : Rule) → AreKeptBelow (rule_no rule) trees → KeepsUntyped newest_layout trees rule → AreKeptBelow (rule_no rule + 1) trees
 one_more_kept trees rule before keeps other below = by_test (nat_eq (rule_no other) (rule_no rule)) refl
   where
-    by_test : (b : Bool) → nat_eq (rule_no other) (rule_no rule) ≡ b → KeepsUntyped trees other
-    by_test true same = subst (KeepsUntyped trees) (same_rule rule other (grind (arith, nat_tests, same))) keeps
+    by_test : (b : Bool) → nat_eq (rule_no other) (rule_no rule) ≡ b → KeepsUntyped newest_layout trees other
+    by_test true same = subst (KeepsUntyped newest_layout trees) (same_rule rule other (grind (arith, nat_tests, same))) keeps
     by_test false differs = before other (grind (arith, nat_tests, differs, below))
 
 module _ (country : List ℕ) (holders : List RawHolder) (readable : Readable) where
@@ -81,13 +81,13 @@ module _ (country : List ℕ) (holders : List RawHolder) (readable : Readable) w
   first_next trees office = record {
     office = office;
     before = λ other below.
-        subst (KeepsUntyped trees) (same_rule S1 other (omega (arith, below, (bounds other).0))) office.keeps;
+        subst (KeepsUntyped newest_layout trees) (same_rule S1 other (omega (arith, below, (bounds other).0))) office.keeps;
   }
 
   module _ (state : State) where
     -- it is told whether the rule is kept, where those before it are
     abbrev TellsNext : Rule → Bool → Type 0
-    TellsNext rule keeps = TellsWhere (IsNext rule) (λ trees. KeepsUntyped trees rule) state keeps
+    TellsNext rule keeps = TellsWhere (IsNext rule) (λ trees. KeepsUntyped newest_layout trees rule) state keeps
 
     pub holders_next : (keeps : Bool) → TellsS2 holders keeps → TellsNext S2 keeps
     holders_next keeps told has next = told state.now.trees next.office.known.holders_are next.office.known.order
@@ -108,7 +108,7 @@ module _ (country : List ℕ) (holders : List RawHolder) (readable : Readable) w
     }
 
     pub codes_next : (keeps : Bool)
-        → (AreCodesAuditable state holders → TellsRead code_typing AreCodeFields state.now.trees readable.codes → IsTrue keeps ↔ KeepsUntyped state.now.trees S4) → TellsNext S4 keeps
+        → (AreCodesAuditable state holders → TellsRead code_typing AreCodeFields state.now.trees readable.codes → IsTrue keeps ↔ KeepsUntyped newest_layout state.now.trees S4) → TellsNext S4 keeps
     codes_next keeps told has next =
         told (record {
           common = common S4 (omega arith) has next;
@@ -117,7 +117,7 @@ module _ (country : List ℕ) (holders : List RawHolder) (readable : Readable) w
         }) next.office.told.codes
 
     pub lines_next : (keeps : Bool)
-        → (AreLinesAuditable state holders → TellsRead line_typing AreLineFields state.now.trees readable.lines → IsTrue keeps ↔ KeepsUntyped state.now.trees S6) → TellsNext S6 keeps
+        → (AreLinesAuditable state holders → TellsRead line_typing AreLineFields state.now.trees readable.lines → IsTrue keeps ↔ KeepsUntyped newest_layout state.now.trees S6) → TellsNext S6 keeps
     lines_next keeps told has next =
         told (record {
           common = common S6 (omega arith) has next;
@@ -130,10 +130,10 @@ module _ (country : List ℕ) (holders : List RawHolder) (readable : Readable) w
   -- One of them is asked, where those before it are kept.
   module _ (Q : Trees → Type 0) (a : State) (rule : Rule) (next : IsSoWhere Q (IsNext rule) a) (keeps : Bool) where
     -- what was told of the file afterwards
-    pub told_before : (b : State) → OnlyRead desk_schema a b → TellsNext b rule keeps → TellsWhere Q (λ trees. KeepsUntyped trees rule) a keeps
-    told_before b read told has so = so_before (IsNext rule) (λ trees. IsTrue keeps ↔ KeepsUntyped trees rule) a b read told has (next has so)
+    pub told_before : (b : State) → OnlyRead desk_schema a b → TellsNext b rule keeps → TellsWhere Q (λ trees. KeepsUntyped newest_layout trees rule) a keeps
+    told_before b read told has so = so_before (IsNext rule) (λ trees. IsTrue keeps ↔ KeepsUntyped newest_layout trees rule) a b read told has (next has so)
 
-    module _ (told : TellsWhere Q (λ trees. KeepsUntyped trees rule) a keeps) where
+    module _ (told : TellsWhere Q (λ trees. KeepsUntyped newest_layout trees rule) a keeps) where
       all_below : IsTrue keeps → IsSoWhere Q (AreKeptBelow (rule_no rule + 1)) a
       all_below is has so = one_more_kept a.now.trees rule (next has so).before ((told has so).0 is)
 
@@ -143,11 +143,11 @@ module _ (country : List ℕ) (holders : List RawHolder) (readable : Readable) w
         before = λ other below. all_below is has so other (omega (arith, below, number));
       }
 
-      pub broken_here : keeps ≡ false → IsSoWhere Q (λ trees. IsFirstBrokenUntyped trees rule) a
+      pub broken_here : keeps ≡ false → IsSoWhere Q (λ trees. IsFirstBrokenUntyped newest_layout trees rule) a
       broken_here is has so = record {
         broken = λ kept. false≢true (sym is ∙ (told has so).1 kept);
         before = (next has so).before;
       }
 
-      pub all_kept : IsTrue keeps → rule_no rule ≡ 8 → IsSoWhere Q (λ trees. (other : Rule) → KeepsUntyped trees other) a
+      pub all_kept : IsTrue keeps → rule_no rule ≡ 8 → IsSoWhere Q (λ trees. (other : Rule) → KeepsUntyped newest_layout trees other) a
       all_kept is last has so other = all_below is has so other (omega (arith, last, (bounds other).1))

@@ -9,7 +9,7 @@ use Rattle.sqlite_trees.proofs.ListLemmas.{all-map, all_both, all_of}
 use Rattle.sqlite_schema.specs.Rules.{Obeys}
 use Rattle.td_guarantee.specs.declared.guarantee.Guarantee.{Guarantee}
 use Rattle.td_movement.specs.declared.movement.Movement.{Movement}
-use Rattle.td_schema.specs.Layouts.{desk_schema}
+use Rattle.td_schema.specs.Layouts.{desk_schema, newest_layout}
 use Rattle.td_table_model.specs.Gathering.{holder_no, no_of, owner, place}
 use Rattle.td_table_model.specs.Stored.{AreOfHolders}
 use Rattle.td_table_model.specs.Tables.{Keyed}
@@ -25,7 +25,7 @@ use Rattle.td_store_audit.proofs.Keyed.{all_three, numbers_equal, of_three, of_t
 use Rattle.td_store_audit.proofs.Ruled.{HasParent, both, code_keys, codes_named, guarantee_keys, guarantees_named, line_keys, lines_named, lrn_keys, movement_keys, movements_named}
 use Rattle.td_store_audit.proofs.Unique.{HaveSame, one_typed}
 
-module _ (trees : Trees) (obeys : Obeys desk_schema trees) (ids : HaveAllIds trees) where
+module _ (trees : Trees) (obeys : Obeys desk_schema trees) (ids : HaveAllIds newest_layout trees) where
   -- rows that name a holder in their first column are of holders that are there
   owned_rows : {X : Type 0} (ty : Typing (Keyed X)) → ((r : Row) → IsTypedRow ty r → column r 1 ≡ number_value (owner (row_of ty r)))
       → AllByRecursion (HasParent trees (1 ∷ []) 1 (0 ∷ [])) (trees ty.table.tree) → AllRows ty (IsTypedRow ty) trees
@@ -47,17 +47,17 @@ module _ (trees : Trees) (obeys : Obeys desk_schema trees) (ids : HaveAllIds tre
         (numbers_equal (column a 2) (column b 2) (place (row_of ty a)) (place (row_of ty b)) k (second a is_a) (second b is_b) of_a.1 of_b.1, tt),
       )
 
-  pub guarantees_kept : AllRows guarantee_typing (IsTypedRow guarantee_typing) trees → AreGuaranteesKept (tables_in trees)
+  pub guarantees_kept : AllRows (guarantee_typing newest_layout) (IsTypedRow (guarantee_typing newest_layout)) trees → AreGuaranteesKept (tables_in newest_layout trees)
   guarantees_kept typed = record {
-    apart = λ H k. of_two (λ g. place g == k) (λ g. owner g == H) (typed_rows guarantee_typing trees)
-        (one_typed guarantee_typing trees (1 ∷ 2 ∷ []) ids.guarantees (guarantee_keys trees obeys) typed (λ g. (owner g == H) && (place g == k))
-        (same_keys guarantee_typing (λ r is. ap (λ l. column l 0) is) (λ r is. ap (λ l. column l 1) is) H k));
-    owned = owned_rows guarantee_typing (λ r is. ap (λ l. column l 0) is) (guarantees_named trees obeys) typed;
-    without_codes = all-map (λ (g : Keyed Guarantee). g.row.codes ≡ []) (row_of guarantee_typing) (trees 8)
-        (all_of (λ r. (row_of guarantee_typing r).row.codes ≡ []) (λ r. refl) (trees 8));
+    apart = λ H k. of_two (λ g. place g == k) (λ g. owner g == H) (typed_rows (guarantee_typing newest_layout) trees)
+        (one_typed (guarantee_typing newest_layout) trees (1 ∷ 2 ∷ []) ids.guarantees (guarantee_keys trees obeys) typed (λ g. (owner g == H) && (place g == k))
+        (same_keys (guarantee_typing newest_layout) (λ r is. ap (λ l. column l 0) is) (λ r is. ap (λ l. column l 1) is) H k));
+    owned = owned_rows (guarantee_typing newest_layout) (λ r is. ap (λ l. column l 0) is) (guarantees_named trees obeys) typed;
+    without_codes = all-map (λ (g : Keyed Guarantee). g.row.codes ≡ []) (row_of (guarantee_typing newest_layout)) (trees 8)
+        (all_of (λ r. (row_of (guarantee_typing newest_layout) r).row.codes ≡ []) (λ r. refl) (trees 8));
   }
 
-  pub codes_kept : AllRows code_typing (IsTypedRow code_typing) trees → AreCodesKept (tables_in trees)
+  pub codes_kept : AllRows code_typing (IsTypedRow code_typing) trees → AreCodesKept (tables_in newest_layout trees)
   codes_kept typed = record {
     apart = λ H n k. of_three (λ (c : Keyed (List ℕ)). bytes_eq c.row k) (λ c. place c == n) (λ c. owner c == H) (typed_rows code_typing trees)
         (one_typed code_typing trees (1 ∷ 2 ∷ 3 ∷ []) ids.codes (code_keys trees obeys) typed (λ c. (owner c == H) && ((place c == n) && bytes_eq c.row k)) (same H n k));
@@ -80,7 +80,7 @@ module _ (trees : Trees) (obeys : Obeys desk_schema trees) (ids : HaveAllIds tre
             ),
           )
 
-  pub movements_kept : AllRows movement_typing (IsTypedRow movement_typing) trees → AreMovementsKept (tables_in trees)
+  pub movements_kept : AllRows movement_typing (IsTypedRow movement_typing) trees → AreMovementsKept (tables_in newest_layout trees)
   movements_kept typed = record {
     apart = λ H k. of_two (λ m. place m == k) (λ m. owner m == H) (typed_rows movement_typing trees)
         (one_typed movement_typing trees (1 ∷ 2 ∷ []) ids.movements (movement_keys trees obeys) typed (λ m. (owner m == H) && (place m == k))
@@ -105,7 +105,7 @@ module _ (trees : Trees) (obeys : Obeys desk_schema trees) (ids : HaveAllIds tre
             (texts_equal (column a 4) (column b 4) x.row.lrn y.row.lrn k (ap (λ l. column l 3) is_a) (ap (λ l. column l 3) is_b) of_a.1 of_b.1, tt),
           )
 
-  pub lines_kept : AllRows line_typing (IsTypedRow line_typing) trees → AreLinesKept (tables_in trees)
+  pub lines_kept : AllRows line_typing (IsTypedRow line_typing) trees → AreLinesKept (tables_in newest_layout trees)
   lines_kept typed = record {
     apart = λ H n k. of_three (λ l. no_of l == k) (λ l. place l == n) (λ l. owner l == H) (typed_rows line_typing trees)
         (one_typed line_typing trees (1 ∷ 2 ∷ 3 ∷ []) ids.lines (line_keys trees obeys) typed (λ l. (owner l == H) && ((place l == n) && (no_of l == k))) (same H n k));

@@ -26,7 +26,7 @@ use Rattle.td_store_audit.proofs.Reading.{so_before}
 use Rattle.td_store_audit.proofs.Succession.{all_kept, broken_here, kept_on, lines_next, table_next, told_before}
 use Rattle.typed_sql.proofs.OnlyRead.{none_read}
 use Rattle.typed_sql.specs.Reading.{OnlyRead}
-use Rattle.td_schema.specs.Layouts.{desk_schema}
+use Rattle.td_schema.specs.Layouts.{desk_schema, newest_layout}
 
 module _ (country : List ℕ) (holders : List RawHolder) (readable : Readable) (a : State) where
   abbrev Q : Trees → Type 0
@@ -37,13 +37,13 @@ module _ (country : List ℕ) (holders : List RawHolder) (readable : Readable) (
 
   -- the rules before S5 are kept, and it is told whether it is
   movements_told : (keeps : Bool) → (TellsRead movement_typing AreMovementFields a.now.trees readable.movements → TellsRule S5 country holders a keeps)
-      → TellsWhere Q (λ trees. KeepsUntyped trees S5) a keeps
+      → TellsWhere Q (λ trees. KeepsUntyped newest_layout trees S5) a keeps
   movements_told keeps told =
       told_before country holders readable Q a S5 first keeps a (none_read a)
       (table_next country holders readable a S5 keeps (λ has next. told next.office.told.movements))
 
   pub movements_broken : (TellsRead movement_typing AreMovementFields a.now.trees readable.movements → TellsRule S5 country holders a false)
-      → IsSoWhere Q (λ trees. IsFirstBrokenUntyped trees S5) a
+      → IsSoWhere Q (λ trees. IsFirstBrokenUntyped newest_layout trees S5) a
   movements_broken told = broken_here country holders readable Q a S5 first false (movements_told false told) refl
 
   -- it is kept, and the next is told of what was read after it
@@ -54,15 +54,15 @@ module _ (country : List ℕ) (holders : List RawHolder) (readable : Readable) (
 
     abbrev TellsLines : Bool → Type 0
     TellsLines keeps =
-        AreLinesAuditable b (map raw_of counting) → TellsRead line_typing AreLineFields b.now.trees readable.lines → IsTrue keeps ↔ KeepsUntyped b.now.trees S6
+        AreLinesAuditable b (map raw_of counting) → TellsRead line_typing AreLineFields b.now.trees readable.lines → IsTrue keeps ↔ KeepsUntyped newest_layout b.now.trees S6
 
-    lines_told : (keeps : Bool) → TellsLines keeps → TellsWhere Q (λ trees. KeepsUntyped trees S6) a keeps
+    lines_told : (keeps : Bool) → TellsLines keeps → TellsWhere Q (λ trees. KeepsUntyped newest_layout trees S6) a keeps
     lines_told keeps tells =
         told_before country holders readable Q a S6 after_movements keeps b read
         (lines_next country holders readable b keeps
-        (subst (λ hs. AreLinesAuditable b hs → TellsRead line_typing AreLineFields b.now.trees readable.lines → IsTrue keeps ↔ KeepsUntyped b.now.trees S6) of_holders tells))
+        (subst (λ hs. AreLinesAuditable b hs → TellsRead line_typing AreLineFields b.now.trees readable.lines → IsTrue keeps ↔ KeepsUntyped newest_layout b.now.trees S6) of_holders tells))
 
-    pub lines_broken : TellsLines false → IsSoWhere Q (λ trees. IsFirstBrokenUntyped trees S6) a
+    pub lines_broken : TellsLines false → IsSoWhere Q (λ trees. IsFirstBrokenUntyped newest_layout trees S6) a
     lines_broken tells = broken_here country holders readable Q a S6 after_movements false (lines_told false tells) refl
 
     -- so is this one
@@ -71,7 +71,7 @@ module _ (country : List ℕ) (holders : List RawHolder) (readable : Readable) (
       after_lines : IsSoWhere Q (IsNextRule S7 country holders readable) a
       after_lines = kept_on country holders readable Q a S6 after_movements true (lines_told true tells) refl S7 refl
 
-      amounts_told : TellsWhere Q (λ trees. KeepsUntyped trees S7) a true
+      amounts_told : TellsWhere Q (λ trees. KeepsUntyped newest_layout trees S7) a true
       amounts_told has so = (λ t. (tt, tt), λ keeps. refl)
 
       after_amounts : IsSoWhere Q (IsNextRule S8 country holders readable) a
@@ -93,14 +93,14 @@ module _ (country : List ℕ) (holders : List RawHolder) (readable : Readable) (
                 (lines_typed trees country holders next.office.known next.before);
           }
 
-      cover_told : (keeps : Bool) → TellsWhere (IsCoverAuditable country handed) (λ trees. KeepsUntyped trees S8) d keeps → TellsWhere Q (λ trees. KeepsUntyped trees S8) a keeps
+      cover_told : (keeps : Bool) → TellsWhere (IsCoverAuditable country handed) (λ trees. KeepsUntyped newest_layout trees S8) d keeps → TellsWhere Q (λ trees. KeepsUntyped newest_layout trees S8) a keeps
       cover_told keeps says has so =
-          so_before (IsCoverAuditable country handed) (λ trees. IsTrue keeps ↔ KeepsUntyped trees S8) a d read_on says has (known has so)
+          so_before (IsCoverAuditable country handed) (λ trees. IsTrue keeps ↔ KeepsUntyped newest_layout trees S8) a d read_on says has (known has so)
 
-      pub cover_broken : (keeps : Bool) → keeps ≡ false → TellsWhere (IsCoverAuditable country handed) (λ trees. KeepsUntyped trees S8) d keeps
-          → IsSoWhere Q (λ trees. IsFirstBrokenUntyped trees S8) a
+      pub cover_broken : (keeps : Bool) → keeps ≡ false → TellsWhere (IsCoverAuditable country handed) (λ trees. KeepsUntyped newest_layout trees S8) d keeps
+          → IsSoWhere Q (λ trees. IsFirstBrokenUntyped newest_layout trees S8) a
       cover_broken keeps is says = broken_here country holders readable Q a S8 after_amounts keeps (cover_told keeps says) is
 
-      pub none_broken : (keeps : Bool) → IsTrue keeps → TellsWhere (IsCoverAuditable country handed) (λ trees. KeepsUntyped trees S8) d keeps
+      pub none_broken : (keeps : Bool) → IsTrue keeps → TellsWhere (IsCoverAuditable country handed) (λ trees. KeepsUntyped newest_layout trees S8) d keeps
           → IsSoWhere Q (λ trees. TellsBroken trees None) a
       none_broken keeps is says = all_kept country holders readable Q a S8 after_amounts keeps (cover_told keeps says) is refl

@@ -7,6 +7,7 @@ use Rattle.sqlite.specs.State.{State}
 use Rattle.td_base.specs.Codes.{IsCountry}
 use Rattle.td_table_model.specs.declared.rule.Rule.{Rule}
 use Rattle.td_table_model.specs.declared.rule.Rule.TheVariants.{S1}
+use Rattle.td_schema.specs.Layouts.{newest_layout}
 use Rattle.td_store_rows.specs.StoreTables.{tables_in}
 use Rattle.td_store_audit_rows.specs.Ids.{HaveAllIds}
 use Rattle.td_store_audit_rows.specs.Untyped.{IsFirstBrokenUntyped, KeepsUntyped}
@@ -18,12 +19,12 @@ use Rattle.td_store_audit.specs.Auditable.{IsAuditable, KeepsBefore}
 
 -- the first rule that the tables break as they stand, or none
 abbrev pub TellsBroken : Trees → Option Rule → Type 0
-TellsBroken trees None = (rule : Rule) → KeepsUntyped trees rule
-TellsBroken trees (Some rule) = IsFirstBrokenUntyped trees rule
+TellsBroken trees None = (rule : Rule) → KeepsUntyped newest_layout trees rule
+TellsBroken trees (Some rule) = IsFirstBrokenUntyped newest_layout trees rule
 
 -- where the rowids of the tables are integers, no two the same, a database keeps of them what it does
 abbrev pub KeepsItsTables : State → Type 0
-KeepsItsTables state = HaveAllIds state.now.trees → AreKept state.now.trees
+KeepsItsTables state = HaveAllIds newest_layout state.now.trees → AreKept newest_layout state.now.trees
 
 -- the office's own row is the only one that is shown: a version, and this text
 pub record IsOffice (rows : List Row) (text : List ℕ) : Type 0 where
@@ -40,14 +41,14 @@ ShowsCountry rows (Some country) = IsOffice rows country × IsCountry country
 
 -- the tables keep S1, and this is the country; or they don't
 abbrev pub TellsCountry : Trees → Option (List ℕ) → Type 0
-TellsCountry trees None = ¬ KeepsUntyped trees S1
-TellsCountry trees (Some country) = KeepsUntyped trees S1 × ((tables_in trees).country ≡ country)
+TellsCountry trees None = ¬ KeepsUntyped newest_layout trees S1
+TellsCountry trees (Some country) = KeepsUntyped newest_layout trees S1 × ((tables_in newest_layout trees).country ≡ country)
 
 -- what the rules after S1 are asked by, and which tables can be read row by row
 pub record HasOffice (country : List ℕ) (holders : List RawHolder) (readable : Readable) (trees : Trees) : Type 0 where
   pub known : IsAuditable trees country holders
-  pub keeps : KeepsUntyped trees S1
-  pub told : TellReadable readable trees
+  pub keeps : KeepsUntyped newest_layout trees S1
+  pub told : TellReadable newest_layout readable trees
 
 -- and one of them, where the rules before it are kept
 pub record IsNextRule (rule : Rule) (country : List ℕ) (holders : List RawHolder) (readable : Readable) (trees : Trees) : Type 0 where

@@ -7,7 +7,7 @@ use Rattle.td_guarantee.specs.declared.guarantee.Guarantee.{Guarantee}
 use Rattle.td_table_model.specs.Gathering.{IsApart, guarantees_by, movements_by, part, place}
 use Rattle.td_table_model.specs.Looking.{cents_of, lines_in_use}
 use Rattle.td_table_model.specs.Tables.{Keyed}
-use Rattle.td_schema.specs.Layouts.{desk_schema}
+use Rattle.td_schema.specs.Layouts.{desk_schema, newest_layout}
 use Rattle.typed_sql.specs.Typed.{AreTyped, Typing, typed_rows}
 use Rattle.typed_sql.specs.Writing.{HasSchema}
 use Rattle.td_store_rows.specs.StoreTables.{tables_in}
@@ -18,12 +18,12 @@ use Rattle.td_store_audit_rows.specs.declared.holders.RawHolder.{RawHolder}
 -- the holder's guarantees are counted, and in their places
 abbrev pub HasGuaranteesInPlace : List ℕ → Trees → RawHolder → Type 0
 HasGuaranteesInPlace country trees h =
-    HasGrns h × AreGuaranteesInPlace country (unwrap_or h.grn_count 0) (guarantees_by h.holder (tables_in trees))
+    HasGrns h × AreGuaranteesInPlace country (unwrap_or h.grn_count 0) (guarantees_by h.holder (tables_in newest_layout trees))
 
 -- so are the holder's movements
 abbrev pub HasMovementsInPlace : List ℕ → Trees → RawHolder → Type 0
 HasMovementsInPlace country trees h =
-    HasMrns h × AreMovementsInPlace country (unwrap_or h.mrn_count 0) (movements_by h.holder (tables_in trees))
+    HasMrns h × AreMovementsInPlace country (unwrap_or h.mrn_count 0) (movements_by h.holder (tables_in newest_layout trees))
 
 -- a table's rows are typed, and no two of one holder have one serial
 pub record AreTypedApart {X : Type 0} (ty : Typing (Keyed X)) (trees : Trees) : Type 0 where
@@ -32,11 +32,11 @@ pub record AreTypedApart {X : Type 0} (ty : Typing (Keyed X)) (trees : Trees) : 
 
 -- what is in use on the guarantee in a row is at most its reference amount
 abbrev pub IsRowCovered : Trees → Keyed Guarantee → Type 0
-IsRowCovered trees g = sum_by cents_of (lines_in_use g.holder g.serial (tables_in trees)) ≤ g.row.reference
+IsRowCovered trees g = sum_by cents_of (lines_in_use g.holder g.serial (tables_in newest_layout trees)) ≤ g.row.reference
 
 -- so it is on each of the holder's
 abbrev pub IsHolderCoveredInFile : Trees → RawHolder → Type 0
-IsHolderCoveredInFile trees h = AllByRecursion (IsRowCovered trees) (guarantees_by h.holder (tables_in trees))
+IsHolderCoveredInFile trees h = AllByRecursion (IsRowCovered trees) (guarantees_by h.holder (tables_in newest_layout trees))
 
 -- where the first is so of the file's tables, so is the second; and it is told whether it is
 abbrev pub IsSoWhere : (Trees → Type 0) → (Trees → Type 0) → State → Type 0

@@ -3,7 +3,7 @@
 use Rattle.std.specs.Prelude.{ℕ, List, IsSome, unwrap_or}
 use Rattle.sqlite.specs.State.{State}
 use Rattle.sqlite_trees.specs.Tree.{Trees}
-use Rattle.td_schema.specs.Layouts.{desk_schema}
+use Rattle.td_schema.specs.Layouts.{desk_schema, newest_layout}
 use Rattle.typed_sql.specs.Writing.{HaveIds, HasSchema}
 use Rattle.typed_sql.specs.Typed.{IsTypedRow, typed_rows}
 use Rattle.td_table_model.specs.declared.rule.Rule.TheVariants.{S3, S5}
@@ -22,15 +22,15 @@ pub record AreHoldersAuditable (state : State) (found : List RawHolder) : Type 0
   pub schema : HasSchema state desk_schema
   pub holders : AreHoldersIn state.now.trees found
   pub order : NumbersRise found
-  pub country : HasCountry (tables_in state.now.trees)
-  pub guarantees : KeepsUntyped state.now.trees S3
+  pub country : HasCountry (tables_in newest_layout state.now.trees)
+  pub guarantees : KeepsUntyped newest_layout state.now.trees S3
 
 -- beside that, what the database keeps of codes: their rowids, and that each is of a holder who is there
 pub record AreCodesAuditable (state : State) (found : List RawHolder) : Type 0 where
   pub common : AreHoldersAuditable state found
   pub ids : HaveIds (state.now.trees code_typing.table.tree)
   pub owned : AllRows code_typing (IsTypedRow code_typing) state.now.trees
-      → AreOfHolders (tables_in state.now.trees).holders (tables_in state.now.trees).codes
+      → AreOfHolders (tables_in newest_layout state.now.trees).holders (tables_in newest_layout state.now.trees).codes
 
 -- and what it keeps of lines: their rowids, that each is of a holder who is there, and that no two lines of a movement have one
 -- number; and the movements keep their rule
@@ -38,10 +38,10 @@ pub record AreLinesAuditable (state : State) (found : List RawHolder) : Type 0 w
   pub common : AreHoldersAuditable state found
   pub ids : HaveIds (state.now.trees line_typing.table.tree)
   pub owned : AllRows line_typing (IsTypedRow line_typing) state.now.trees
-      → AreOfHolders (tables_in state.now.trees).holders (tables_in state.now.trees).lines
+      → AreOfHolders (tables_in newest_layout state.now.trees).holders (tables_in newest_layout state.now.trees).lines
   pub apart : AllRows line_typing (IsTypedRow line_typing) state.now.trees
-      → (H : ℕ) → AreNumbersApart (part H (tables_in state.now.trees).lines)
-  pub movements : KeepsUntyped state.now.trees S5
+      → (H : ℕ) → AreNumbersApart (part H (tables_in newest_layout state.now.trees).lines)
+  pub movements : KeepsUntyped newest_layout state.now.trees S5
 
 -- The holder's count of guarantees can be read, and the holder's codes are in their places by it.
 abbrev pub HasCodesInPlace : Trees → RawHolder → Type 0

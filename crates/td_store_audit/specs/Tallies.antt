@@ -10,6 +10,7 @@ use Rattle.td_table_model.specs.Gathering.{IsApart, movements_by, part, place}
 use Rattle.td_table_model.specs.Tables.{Keyed}
 use Rattle.td_table_model.specs.declared.rule.Rule.TheVariants.{S8}
 use Rattle.typed_sql.specs.Typed.{AreTyped}
+use Rattle.td_schema.specs.Layouts.{newest_layout}
 use Rattle.td_store_rows.specs.Columns.{guarantee_typing, line_typing, movement_typing}
 use Rattle.td_store_rows.specs.declared.guarantees.stored.StoredGuarantee.{StoredGuarantee}
 use Rattle.td_store_rows.specs.LineTable.{line_row_of}
@@ -38,11 +39,11 @@ is_counting_row m = is_counting m.row.state
 
 -- these are the serials of the holder's movements that count, in their order
 abbrev pub AreCounting : Trees → CountingSerials → Type 0
-AreCounting trees h = map serial_of_stored h.serials.items ≡ map place (filter is_counting_row (movements_by h.raw.holder (tables_in trees)))
+AreCounting trees h = map serial_of_stored h.serials.items ≡ map place (filter is_counting_row (movements_by h.raw.holder (tables_in newest_layout trees)))
 
 -- these are the holder's lines
 abbrev pub AreItsLines : Trees → HolderLines → Type 0
-AreItsLines trees h = IsPermutation (part h.movements.raw.holder (tables_in trees).lines) (map line_row_of h.lines.items)
+AreItsLines trees h = IsPermutation (part h.movements.raw.holder (tables_in newest_layout trees).lines) (map line_row_of h.lines.items)
 
 -- so they are of each holder, where the tables that they are of are typed
 abbrev pub AreAllCounting : State → List CountingSerials → Type 0
@@ -53,8 +54,8 @@ AreAllLines state handed = IsSoWhere (AreTyped line_typing) (λ trees. AllByRecu
 
 -- what was handed on of a holder is so, and the holder's guarantees are typed
 pub record IsHandedOn (trees : Trees) (h : HolderLines) : Type 0 where
-  pub guarantees : AreTypedApart guarantee_typing trees
-  pub apart : IsApart place (part h.movements.raw.holder (tables_in trees).movements)
+  pub guarantees : AreTypedApart (guarantee_typing newest_layout) trees
+  pub apart : IsApart place (part h.movements.raw.holder (tables_in newest_layout trees).movements)
   pub counting : AreCounting trees h.movements
   pub lines : AreItsLines trees h
 

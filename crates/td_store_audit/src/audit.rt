@@ -36,8 +36,8 @@ pub fn first_broken<S: Alter>(
     requires { HasCleanDisk (state S.Store tx.old.conn.now) → IsTrue (state S.Store tx.old.conn.now).in_transaction }
     ensures same_reference { tx.new.conn.ghost_name ≡ tx.old.conn.ghost_name }
     ensures told { HasCleanDisk (state S.Store tx.new.conn.now)
-        → IfOk result (λ broken. HasSchema (state S.Store tx.old.conn.now) desk_schema → AreKept (state S.Store tx.old.conn.now).now.trees
-        → TellReadable readable (state S.Store tx.old.conn.now).now.trees → TellsBroken (state S.Store tx.old.conn.now).now.trees broken) }
+        → IfOk result (λ broken. HasSchema (state S.Store tx.old.conn.now) desk_schema → AreKept newest_layout (state S.Store tx.old.conn.now).now.trees
+        → TellReadable newest_layout readable (state S.Store tx.old.conn.now).now.trees → TellsBroken (state S.Store tx.old.conn.now).now.trees broken) }
     ensures still { HasCleanDisk (state S.Store tx.new.conn.now)
         → OnOk result (LeavesAll desk_schema (state S.Store tx.old.conn.now) (state S.Store tx.new.conn.now)) }
     ensures inside { HasCleanDisk (state S.Store tx.new.conn.now) → OnOk result (IsTrue (state S.Store tx.new.conn.now).in_transaction) }

@@ -78,7 +78,7 @@ pub fn codes_keep_rule<S: Alter>(
     ensures same_reference { tx.new.conn.ghost_name ≡ tx.old.conn.ghost_name }
     ensures told { HasCleanDisk (state S.Store tx.new.conn.now)
         → IfOk result (λ keeps. AreCodesAuditable (state S.Store tx.old.conn.now) holders.now
-        → TellsRead code_typing AreCodeFields (state S.Store tx.old.conn.now).now.trees are_read → IsTrue keeps ↔ KeepsUntyped (state S.Store tx.old.conn.now).now.trees S4) }
+        → TellsRead code_typing AreCodeFields (state S.Store tx.old.conn.now).now.trees are_read → IsTrue keeps ↔ KeepsUntyped newest_layout (state S.Store tx.old.conn.now).now.trees S4) }
     ensures still { HasCleanDisk (state S.Store tx.new.conn.now)
         → OnOk result (OnlyRead desk_schema (state S.Store tx.old.conn.now) (state S.Store tx.new.conn.now)) }
     ensures inside { HasCleanDisk (state S.Store tx.new.conn.now) → OnOk result (IsTrue (state S.Store tx.new.conn.now).in_transaction) }

@@ -30,7 +30,7 @@ pub(crate) fn cover_keeps_rule<S: Alter>(
     ensures same_reference { tx.new.conn.ghost_name ≡ tx.old.conn.ghost_name }
     ensures told { HasCleanDisk (state S.Store tx.new.conn.now)
         → IfOk result (λ keeps. (country : List ℕ)
-        → TellsWhere (IsCoverAuditable country handed.now) (λ trees. KeepsUntyped trees S8) (state S.Store tx.old.conn.now) keeps) }
+        → TellsWhere (IsCoverAuditable country handed.now) (λ trees. KeepsUntyped newest_layout trees S8) (state S.Store tx.old.conn.now) keeps) }
     ensures reads { Reads desk_schema (is_ok result) (state S.Store tx.old.conn.now) (state S.Store tx.new.conn.now) }
 {
     found_holders_tell();

@@ -34,7 +34,7 @@ pub fn guarantees_keep_rule<S: Alter>(
     requires { HasCleanDisk (state S.Store tx.old.conn.now) → IsTrue (state S.Store tx.old.conn.now).in_transaction }
     ensures same_reference { tx.new.conn.ghost_name ≡ tx.old.conn.ghost_name }
     ensures told { HasCleanDisk (state S.Store tx.new.conn.now)
-        → IfOk result (λ keeps. TellsRead guarantee_typing AreGuaranteeFields (state S.Store tx.old.conn.now).now.trees are_read
+        → IfOk result (λ keeps. TellsRead (guarantee_typing newest_layout) AreGuaranteeFields (state S.Store tx.old.conn.now).now.trees are_read
         → TellsRule S3 country holders.now (state S.Store tx.old.conn.now) keeps) }
     ensures still { HasCleanDisk (state S.Store tx.new.conn.now)
         → OnOk result (OnlyRead desk_schema (state S.Store tx.old.conn.now) (state S.Store tx.new.conn.now)) }
@@ -61,7 +61,7 @@ fn all_have_guarantees<S: Alter>(
     requires { IsInside (state S.Store tx.old.conn.now) }
     ensures same_reference { tx.new.conn.ghost_name ≡ tx.old.conn.ghost_name }
     ensures told { HasCleanDisk (state S.Store tx.new.conn.now)
-        → IfOk result (TellsWhere (AreTypedApart guarantee_typing) (λ trees. AllByRecursion (HasGuaranteesInPlace country trees) holders.now)
+        → IfOk result (TellsWhere (AreTypedApart (guarantee_typing newest_layout)) (λ trees. AllByRecursion (HasGuaranteesInPlace country trees) holders.now)
         (state S.Store tx.old.conn.now)) }
     ensures reads { Reads desk_schema (is_ok result) (state S.Store tx.old.conn.now) (state S.Store tx.new.conn.now) }
 {
@@ -83,7 +83,7 @@ fn has_guarantees<S: Alter>(
     requires { IsInside (state S.Store tx.old.conn.now) }
     ensures same_reference { tx.new.conn.ghost_name ≡ tx.old.conn.ghost_name }
     ensures told { HasCleanDisk (state S.Store tx.new.conn.now)
-        → IfOk result (TellsWhere (AreTypedApart guarantee_typing) (λ trees. HasGuaranteesInPlace country trees raw.now) (state S.Store tx.old.conn.now)) }
+        → IfOk result (TellsWhere (AreTypedApart (guarantee_typing newest_layout)) (λ trees. HasGuaranteesInPlace country trees raw.now) (state S.Store tx.old.conn.now)) }
     ensures reads { Reads desk_schema (is_ok result) (state S.Store tx.old.conn.now) (state S.Store tx.new.conn.now) }
 {
     let Some(count) = raw.grn_count else {

@@ -102,7 +102,7 @@ pub(crate) fn lines_keep_rule<S: Alter>(
     ensures same_reference { tx.new.conn.ghost_name ≡ tx.old.conn.ghost_name }
     ensures told { HasCleanDisk (state S.Store tx.new.conn.now)
         → IfOk result (λ found. AreLinesAuditable (state S.Store tx.old.conn.now) (map raw_of counting.items)
-        → TellsRead line_typing AreLineFields (state S.Store tx.old.conn.now).now.trees are_read → IsTrue (is_some found) ↔ KeepsUntyped (state S.Store tx.old.conn.now).now.trees S6) }
+        → TellsRead line_typing AreLineFields (state S.Store tx.old.conn.now).now.trees are_read → IsTrue (is_some found) ↔ KeepsUntyped newest_layout (state S.Store tx.old.conn.now).now.trees S6) }
     ensures movements { IfOk result (λ found. IfSome found (λ each. map movements_in each.items ≡ counting.items)) }
     ensures handed { HasCleanDisk (state S.Store tx.new.conn.now)
         → IfOk result (λ found. IfSome found (λ each. AreAllLines (state S.Store tx.old.conn.now) each.items)) }

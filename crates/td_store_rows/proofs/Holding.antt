@@ -6,7 +6,7 @@ use Rattle.sqlite.specs.State.{State}
 use Rattle.td_desk.specs.Content.{Content}
 use Rattle.td_store_rows.specs.StoreTables.{AreTreesOf, HoldsContent}
 
-abbrev trees_still : (c : Content) (a b : Database) → b ≡ a → AreTreesOf c a.trees → AreTreesOf c b.trees
+abbrev pub trees_still : (c : Content) (a b : Database) → b ≡ a → AreTreesOf c a.trees → AreTreesOf c b.trees
 trees_still c a b same trees = record {
   layout = trees.layout;
   newest = trees.newest;
@@ -17,7 +17,7 @@ trees_still c a b same trees = record {
   office = rw same trees.office;
 }
 
-pub holds_still : (c : Content) (a b : State) → b.now ≡ a.now → (IsTrue b.is_open → IsTrue a.is_open) → HoldsContent c a → HoldsContent c b
+abbrev pub holds_still : (c : Content) (a b : State) → b.now ≡ a.now → (IsTrue b.is_open → IsTrue a.is_open) → HoldsContent c a → HoldsContent c b
 holds_still c a b same was holds = record {
   trees = trees_still c a.now b.now same holds.trees;
   schema = λ is. ap (λ (d : Database). d.schema) same ∙ holds.schema (was is);

@@ -1,4 +1,5 @@
 pub mod Each
+pub mod StoreReads
 pub mod MetaMeanings
 mod MetaStatements
 mod HolderMeanings

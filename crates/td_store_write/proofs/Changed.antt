@@ -25,7 +25,7 @@ row_then : (row : HolderRow) (f : Tables → Tables) → RespectsRows f → (a b
     → TurnsTables (λ t. f (record t { holders = map (with_row row) t.holders })) a d
 row_then row f respects a b d set more =
     turned_then (λ t. record t { holders = map (with_row row) t.holders }) f respects a b d
-    (λ has typed. holders_turned a b has typed (map (with_row row)) set) more
+    (λ l newest has typed. holders_turned l a b has typed (map (with_row row)) (set l)) more
 
 pub opened : (row : HolderRow) (guarantee : Guarantee) (a b d e : State) → TurnsHolders (map (with_row row)) a b
     → TurnsGuarantees (λ rows. guarantee_row row.holder (row.grn_count, guarantee) ∷ rows) b d
@@ -39,7 +39,7 @@ opened row guarantee a b d e set put codes =
     (λ t. record t { codes = these ++ t.codes }) (codes_respect (λ rows. these ++ rows) (append_respects these)) a d e
     (row_then row (λ t. record t { guarantees = one ∷ t.guarantees })
     (guarantees_respect (λ rows. one ∷ rows) (cons_respects one)) a b d set
-    (λ has typed. guarantees_turned b d has typed (λ rows. one ∷ rows) put)) codes
+    (λ l newest has typed. guarantees_turned l b d has typed (λ rows. one ∷ rows) (put l newest))) codes
 
 pub declared : (country : List ℕ) (row : HolderRow) (movement : Movement) (a b d e : State)
     → TurnsHolders (map (with_row row)) a b
@@ -58,7 +58,7 @@ declared country row movement a b d e set put lines =
     (λ t. record t { lines = these ++ t.lines }) (lines_respect (λ rows. these ++ rows) (append_respects these)) a d e
     (row_then row (λ t. record t { movements = one ∷ t.movements })
     (movements_respect (λ rows. one ∷ rows) (cons_respects one)) a b d set
-    (λ has typed. movements_turned b d has typed (λ rows. one ∷ rows) put)) lines
+    (λ l newest has typed. movements_turned l b d has typed (λ rows. one ∷ rows) (put l))) lines
 
 pub moved_on : (row : HolderRow) (n : ℕ) (status : NewStatus) (a b d : State) → TurnsHolders (map (with_row row)) a b
     → TurnsMovements (map (status_by_key row.holder n status)) b d
@@ -70,7 +70,7 @@ moved_on row n status a b d set put =
     let f = status_by_key row.holder n status in
     row_then row (λ t. record t { movements = map f t.movements })
     (movements_respect (map f) (map_respects f)) a b d set
-    (λ has typed. movements_turned b d has typed (map f) put)
+    (λ l newest has typed. movements_turned l b d has typed (map f) (put l))
 
 pub terms_were_set : (row : HolderRow) (n : ℕ) (terms : NewTerms) (a b d : State)
     → TurnsHolders (map (with_row row)) a b → TurnsGuarantees (map (terms_by_key row.holder n terms)) b d
@@ -82,7 +82,7 @@ terms_were_set row n terms a b d set put =
     let f = terms_by_key row.holder n terms in
     row_then row (λ t. record t { guarantees = map f t.guarantees })
     (guarantees_respect (map f) (map_respects f)) a b d set
-    (λ has typed. guarantees_turned b d has typed (map f) put)
+    (λ l newest has typed. guarantees_turned l b d has typed (map f) (put l newest))
 
 pub code_added : (row : HolderRow) (code : Keyed (List ℕ)) (a b d : State)
     → TurnsHolders (map (with_row row)) a b → TurnsCodes (λ rows. code ∷ rows) b d
@@ -90,11 +90,11 @@ pub code_added : (row : HolderRow) (code : Keyed (List ℕ)) (a b d : State)
 code_added row code a b d set put =
     row_then row (λ t. record t { codes = code ∷ t.codes })
     (codes_respect (λ rows. code ∷ rows) (cons_respects code)) a b d set
-    (λ has typed. codes_turned b d has typed (λ rows. code ∷ rows) put)
+    (λ l newest has typed. codes_turned l b d has typed (λ rows. code ∷ rows) (put l))
 
 pub code_removed : (row : HolderRow) (p : Keyed (List ℕ) → Bool) (a b d : State)
     → TurnsHolders (map (with_row row)) a b → TurnsCodes (filter p) b d
     → TurnsTables (λ t. record t { holders = map (with_row row) t.holders; codes = filter p t.codes }) a d
 code_removed row p a b d set put =
     row_then row (λ t. record t { codes = filter p t.codes }) (codes_respect (filter p) (filter_respects p)) a b d set
-    (λ has typed. codes_turned b d has typed (filter p) put)
+    (λ l newest has typed. codes_turned l b d has typed (filter p) (put l))

@@ -12,7 +12,7 @@ use Rattle.td_store_audit.proofs.Walking.{one_more, one_of_all}
 use Rattle.td_store_audit.proofs.guarantees.all_have_guarantees.Goals as goal
 use Rattle.typed_sql.specs.Reading.{Reads}
 use Rattle.typed_sql.proofs.OnlyRead.{reads_on}
-use Rattle.td_schema.specs.Layouts.{desk_schema}
+use Rattle.td_schema.specs.Layouts.{desk_schema, newest_layout}
 
 pub holders-preserved : goal.holders-preserved
 holders-preserved g c = (
@@ -38,8 +38,8 @@ holders-preserved g c = (
     clean_b : HasCleanDisk d → HasCleanDisk b
     clean_b clean = omega (arith, clean, c.has_guarantees.ensures.reads.within.survives.clean)
 
-    told : HasCleanDisk d → TellsWhere (AreTypedApart guarantee_typing) (λ trees. HasGuaranteesInPlace c.args.country trees c.raw-item.result) a c.in_ok-has_guarantees.field-0
-    told clean = so_before (AreTypedApart guarantee_typing) (λ trees. IsTrue c.in_ok-has_guarantees.field-0 ↔ HasGuaranteesInPlace c.args.country trees c.raw-item.result) a b (c.holders.invariant.1.still (clean_b clean) refl) (c.in_ok-has_guarantees.ensures.told clean)
+    told : HasCleanDisk d → TellsWhere (AreTypedApart (guarantee_typing newest_layout)) (λ trees. HasGuaranteesInPlace c.args.country trees c.raw-item.result) a c.in_ok-has_guarantees.field-0
+    told clean = so_before (AreTypedApart (guarantee_typing newest_layout)) (λ trees. IsTrue c.in_ok-has_guarantees.field-0 ↔ HasGuaranteesInPlace c.args.country trees c.raw-item.result) a b (c.holders.invariant.1.still (clean_b clean) refl) (c.in_ok-has_guarantees.ensures.told clean)
 
 -- one of them hasn't
 pub returns-then-not-branch-clause-told : goal.returns-then-not-branch-clause-told
@@ -59,9 +59,9 @@ returns-then-not-branch-clause-told g c clean has so = (
     clean_b : HasCleanDisk b
     clean_b = omega (arith, clean, c.has_guarantees.ensures.reads.within.survives.clean)
 
-    told : TellsWhere (AreTypedApart guarantee_typing) (λ trees. HasGuaranteesInPlace c.args.country trees c.raw-item.result) a c.in_ok-has_guarantees.field-0
+    told : TellsWhere (AreTypedApart (guarantee_typing newest_layout)) (λ trees. HasGuaranteesInPlace c.args.country trees c.raw-item.result) a c.in_ok-has_guarantees.field-0
     told =
-        so_before (AreTypedApart guarantee_typing) (λ trees. IsTrue c.in_ok-has_guarantees.field-0 ↔ HasGuaranteesInPlace c.args.country trees c.raw-item.result) a b
+        so_before (AreTypedApart (guarantee_typing newest_layout)) (λ trees. IsTrue c.in_ok-has_guarantees.field-0 ↔ HasGuaranteesInPlace c.args.country trees c.raw-item.result) a b
         (c.holders.invariant.1.still clean_b refl) (c.in_ok-has_guarantees.ensures.told clean)
 
 pub returns-clause-told : goal.returns-clause-told

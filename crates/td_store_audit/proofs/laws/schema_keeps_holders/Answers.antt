@@ -1,3 +1,4 @@
+use Rattle.td_schema.specs.Layouts.{newest_layout}
 use Rattle.td_store_rows.specs.Columns.{holder_typing}
 use Rattle.td_store_rows.specs.StoreTables.{tables_in}
 use Rattle.td_store_audit_rows.specs.Kept.{AreHoldersKept}
@@ -8,5 +9,5 @@ use Rattle.td_store_audit.proofs.laws.schema_keeps_holders.Goals as goal
 
 pub returns : goal.returns
 returns c =
-    schema_keeps (λ trees. AllRows holder_typing HasNumber trees × AreHoldersKept (tables_in trees))
+    schema_keeps (λ trees. AllRows holder_typing HasNumber trees × AreHoldersKept (tables_in newest_layout trees))
     (λ trees obeys ids. holders_kept trees ids.holders obeys)

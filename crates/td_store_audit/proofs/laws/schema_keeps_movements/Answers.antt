@@ -1,4 +1,5 @@
 use Rattle.typed_sql.specs.Typed.{IsTypedRow}
+use Rattle.td_schema.specs.Layouts.{newest_layout}
 use Rattle.td_store_rows.specs.Columns.{movement_typing}
 use Rattle.td_store_rows.specs.StoreTables.{tables_in}
 use Rattle.td_store_audit_rows.specs.Kept.{AreMovementsKept}
@@ -9,4 +10,4 @@ use Rattle.td_store_audit.proofs.laws.schema_keeps_movements.Goals as goal
 
 pub returns : goal.returns
 returns c =
-    schema_keeps (λ trees. AllRows movement_typing (IsTypedRow movement_typing) trees → AreMovementsKept (tables_in trees)) movements_kept
+    schema_keeps (λ trees. AllRows movement_typing (IsTypedRow movement_typing) trees → AreMovementsKept (tables_in newest_layout trees)) movements_kept

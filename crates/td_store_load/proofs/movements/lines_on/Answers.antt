@@ -1,13 +1,12 @@
 use Rattle.std.proofs.Common.{◌∙◌, arith, refl, true}
 use Rattle.sqlite.specs.Held.{state}
 use Rattle.sqlite.specs.State.{State, HasCleanDisk}
+use Rattle.td_store_rows.specs.StoreReads.{ReadsNewest}
+use Rattle.td_store_rows.proofs.StoreReads.{reads_on, reads_well}
 use Rattle.td_store_rows.specs.LineTable.{line_row_of}
 use Rattle.td_table_model.specs.Gathering.{line_from}
 use Rattle.td_store_load.proofs.Found.{next_of}
 use Rattle.td_store_load.proofs.movements.lines_on.Goals as goal
-use Rattle.typed_sql.specs.Reading.{Reads}
-use Rattle.typed_sql.proofs.OnlyRead.{reads_on, reads_well}
-use Rattle.td_schema.specs.Layouts.{desk_schema}
 
 pub rows-preserved : goal.rows-preserved
 rows-preserved g c = (
@@ -28,7 +27,7 @@ rows-preserved g c = (
     d : State
     d = state g.S.Store c.line_on.new.tx.conn.now
 
-    more : Reads desk_schema true a d
+    more : ReadsNewest true a d
     more = reads_on c.rows.invariant.1 c.in_ok-line.ensures.reads
 
     clean_b : HasCleanDisk d → HasCleanDisk b

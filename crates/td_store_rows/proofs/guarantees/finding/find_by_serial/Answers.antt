@@ -2,11 +2,11 @@ use Rattle.std.proofs.Common.{map, refl}
 use Rattle.std.specs.Option.{option_to_list}
 use Rattle.std.specs.Prelude.{[], ◌∷◌}
 use Rattle.sqlite.specs.Held.{state}
-use Rattle.td_schema.specs.Layouts.{schema_of}
+use Rattle.td_schema.specs.Layouts.{IsNewest, schema_of}
 use Rattle.typed_sql.proofs.Fetched.{one_fetched}
-use Rattle.typed_sql.proofs.Leaving.{reads_by}
 use Rattle.typed_sql.specs.Values.{number_value}
 use Rattle.typed_sql.specs.Typed.{AreThose}
+use Rattle.td_store_rows.proofs.StoreReads.{reads_in}
 use Rattle.td_store_rows.proofs.Each.{newest_ok}
 use Rattle.td_store_rows.specs.Columns.{guarantee_typing}
 use Rattle.td_store_rows.specs.GuaranteeTable.{has_serial, guarantee_row_of}
@@ -24,5 +24,5 @@ returns-clause-found g c clean =
     (state g.S.Store c.args.tx.now.conn.now) c.fetch_one.result (c.fetch_one.ensures.found clean))
 
 pub returns-clause-reads : goal.returns-clause-reads
-returns-clause-reads g c l newest =
-    reads_by (schema_of l) BY_SERIAL.now (by_serial_means l newest).plain _ _ c.fetch_one.result c.fetch_one.ensures.still c.fetch_one.ensures.within
+returns-clause-reads g c =
+    reads_in IsNewest BY_SERIAL.now (λ l newest. (by_serial_means l newest).plain) _ _ c.fetch_one.result c.fetch_one.ensures.still c.fetch_one.ensures.within

@@ -1,12 +1,13 @@
 use Rattle.std.proofs.Common.{map, nat_cmp, refl}
 use Rattle.std.specs.Prelude.{[], ◌∷◌}
 use Rattle.sqlite.specs.Held.{state}
-use Rattle.td_schema.specs.Layouts.{schema_of}
+use Rattle.td_schema.specs.Layouts.{IsNewest, schema_of}
 use Rattle.typed_sql.proofs.Fetched.{in_order_fetched, those_fetched}
-use Rattle.typed_sql.proofs.Leaving.{if_both, reads_by}
+use Rattle.typed_sql.proofs.Leaving.{if_both}
 use Rattle.typed_sql.specs.Values.{number_value}
 use Rattle.td_table_model.specs.Gathering.{place}
 use Rattle.typed_sql.specs.Typed.{AreInOrder, AreThose}
+use Rattle.td_store_rows.proofs.StoreReads.{reads_in}
 use Rattle.td_store_rows.proofs.Each.{newest_ok}
 use Rattle.td_store_rows.specs.Columns.{guarantee_typing}
 use Rattle.td_store_rows.specs.GuaranteeTable.{is_of, guarantee_row_of}
@@ -36,5 +37,5 @@ returns-clause-order g c clean =
     (λ a b. nat_cmp (place a) (place b)) (compared l c.args.holder) c.fetch.result (c.fetch.ensures.found clean)))
 
 pub returns-clause-reads : goal.returns-clause-reads
-returns-clause-reads g c l newest =
-    reads_by (schema_of l) OF_HOLDER.now (of_holder_means l newest).plain _ _ c.fetch.result c.fetch.ensures.still c.fetch.ensures.within
+returns-clause-reads g c =
+    reads_in IsNewest OF_HOLDER.now (λ l newest. (of_holder_means l newest).plain) _ _ c.fetch.result c.fetch.ensures.still c.fetch.ensures.within

@@ -4,7 +4,8 @@ use Rattle.std.specs.Option.{option_to_list}
 use Rattle.sqlite.specs.Held.{state}
 use Rattle.td_schema.specs.Layouts.{schema_of}
 use Rattle.typed_sql.proofs.Fetched.{one_fetched}
-use Rattle.typed_sql.proofs.Leaving.{reads_ok}
+use Rattle.typed_sql.proofs.Leaving.{stays}
+use Rattle.typed_sql.proofs.OnlyRead.{one_read}
 use Rattle.typed_sql.specs.Typed.{typed_rows}
 use Rattle.typed_sql.specs.Values.{number_value}
 use Rattle.td_store_rows.proofs.HolderMeanings.{all_columns, by_number_means, number_tests}
@@ -25,5 +26,7 @@ returns-clause-found g c clean l has typed =
     (c.in_ok-found.ensures.found clean) has typed)
 
 pub returns-clause-reads : goal.returns-clause-reads
-returns-clause-reads g c l =
-    reads_ok (schema_of l) BY_NUMBER.now (by_number_means l).plain _ _ c.in_ok-found.ensures.still c.in_ok-found.ensures.within
+returns-clause-reads g c = record {
+  still = λ clean well l any. one_read _ _ (stays (schema_of l) BY_NUMBER.now (by_number_means l).plain _ _ (c.in_ok-found.ensures.still clean));
+  within = c.in_ok-found.ensures.within;
+}

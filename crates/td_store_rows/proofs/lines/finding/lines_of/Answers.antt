@@ -3,9 +3,11 @@ use Rattle.std.specs.Prelude.{[], ◌∷◌}
 use Rattle.sqlite.specs.Held.{state}
 use Rattle.td_schema.specs.Layouts.{schema_of}
 use Rattle.typed_sql.proofs.Fetched.{in_order_fetched, those_fetched}
-use Rattle.typed_sql.proofs.Leaving.{if_both, reads_by}
+use Rattle.typed_sql.proofs.Leaving.{if_both}
 use Rattle.typed_sql.specs.Values.{number_value}
 use Rattle.td_table_model.specs.Gathering.{no_of}
+use Rattle.td_store_rows.specs.StoreReads.{IsAny}
+use Rattle.td_store_rows.proofs.StoreReads.{reads_in}
 use Rattle.td_store_rows.proofs.LineMeanings.{all_columns, by_number, key_tests, of_movement_means}
 use Rattle.td_store_rows.proofs.LineStatements.{by_numbers, compared, key_passes}
 use Rattle.typed_sql.specs.Typed.{AreInOrder, AreThose}
@@ -37,5 +39,5 @@ returns-clause-order g c clean =
     (compared c.args.holder c.args.serial) c.fetch.result (c.fetch.ensures.found clean)))
 
 pub returns-clause-reads : goal.returns-clause-reads
-returns-clause-reads g c l =
-    reads_by (schema_of l) OF_MOVEMENT.now (of_movement_means l).plain _ _ c.fetch.result c.fetch.ensures.still c.fetch.ensures.within
+returns-clause-reads g c =
+    reads_in IsAny OF_MOVEMENT.now (λ l any. (of_movement_means l).plain) _ _ c.fetch.result c.fetch.ensures.still c.fetch.ensures.within

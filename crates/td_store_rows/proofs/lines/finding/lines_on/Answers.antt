@@ -3,8 +3,9 @@ use Rattle.std.specs.Prelude.{[], ◌∷◌}
 use Rattle.sqlite.specs.Held.{state}
 use Rattle.td_schema.specs.Layouts.{schema_of}
 use Rattle.typed_sql.proofs.Fetched.{those_fetched}
-use Rattle.typed_sql.proofs.Leaving.{reads_by}
 use Rattle.typed_sql.specs.Values.{number_value}
+use Rattle.td_store_rows.specs.StoreReads.{IsAny}
+use Rattle.td_store_rows.proofs.StoreReads.{reads_in}
 use Rattle.td_store_rows.proofs.LineMeanings.{all_columns, guarantee_tests, on_guarantee_means}
 use Rattle.td_store_rows.proofs.LineStatements.{guarantee_passes}
 use Rattle.typed_sql.specs.Typed.{AreThose}
@@ -23,5 +24,5 @@ returns-clause-found g c clean =
     (state g.S.Store c.args.tx.now.conn.now) c.fetch.result (c.fetch.ensures.found clean))
 
 pub returns-clause-reads : goal.returns-clause-reads
-returns-clause-reads g c l =
-    reads_by (schema_of l) ON_GUARANTEE.now (on_guarantee_means l).plain _ _ c.fetch.result c.fetch.ensures.still c.fetch.ensures.within
+returns-clause-reads g c =
+    reads_in IsAny ON_GUARANTEE.now (λ l any. (on_guarantee_means l).plain) _ _ c.fetch.result c.fetch.ensures.still c.fetch.ensures.within

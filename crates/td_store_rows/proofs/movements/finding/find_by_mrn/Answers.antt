@@ -5,8 +5,9 @@ use Rattle.sqlite.specs.Held.{state}
 use Rattle.sqlite_value.specs.declared.value.Value.TheVariants.{Text}
 use Rattle.td_schema.specs.Layouts.{schema_of}
 use Rattle.typed_sql.proofs.Fetched.{one_fetched}
-use Rattle.typed_sql.proofs.Leaving.{reads_by}
 use Rattle.typed_sql.specs.Values.{number_value}
+use Rattle.td_store_rows.specs.StoreReads.{IsAny}
+use Rattle.td_store_rows.proofs.StoreReads.{reads_in}
 use Rattle.td_store_rows.proofs.MovementMeanings.{all_columns, by_mrn_means, key_tests}
 use Rattle.td_store_rows.proofs.MovementStatements.{key_passes}
 use Rattle.typed_sql.specs.Typed.{AreThose}
@@ -25,5 +26,5 @@ returns-clause-found g c clean =
     (state g.S.Store c.args.tx.now.conn.now) c.fetch_one.result (c.fetch_one.ensures.found clean))
 
 pub returns-clause-reads : goal.returns-clause-reads
-returns-clause-reads g c l =
-    reads_by (schema_of l) BY_MRN.now (by_mrn_means l).plain _ _ c.fetch_one.result c.fetch_one.ensures.still c.fetch_one.ensures.within
+returns-clause-reads g c =
+    reads_in IsAny BY_MRN.now (λ l any. (by_mrn_means l).plain) _ _ c.fetch_one.result c.fetch_one.ensures.still c.fetch_one.ensures.within
