@@ -1,5 +1,7 @@
-use Rattle.std.proofs.Common.{◌∙◌, ap, arith, subst, refl, true}
+use Rattle.std.proofs.Common.{ap, arith, map, refl, subst, true, ◌∙◌}
 use Rattle.td_movement.specs.declared.movement.Movement.{Movement}
+use Rattle.std.proofs.lemmas.List.{take_all}
+use Rattle.td_store_rows.specs.StoreTables.{tables_in}
 use Rattle.td_store_rows.specs.StoreReads.{ReadsNewest}
 use Rattle.td_store_rows.proofs.StoreReads.{reads_on, reads_well}
 use Rattle.td_store_rows.specs.declared.movements.stored.StoredMovement.{StoredMovement}
@@ -45,3 +47,9 @@ rows-preserved g c = (
 
 pub returns-in_err-push-clause-reads : goal.returns-in_err-push-clause-reads
 returns-in_err-push-clause-reads g c = reads_well (reads_on c.rows.invariant.1 c.in_ok-movement.ensures.reads)
+
+pub returns-clause-whole : goal.returns-clause-whole
+returns-clause-whole g c clean content holds =
+    c.rows.invariant.2 clean content holds
+    ∙ ap (map (λ m. with_lines (tables_in holds.trees.layout (state g.S.Store c.args.tx.now.conn.now).now.trees) (movement_row_of m)))
+    (take_all c.rows.row-index c.args.rows.now c.rows-test.false)

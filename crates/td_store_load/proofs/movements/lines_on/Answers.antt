@@ -1,6 +1,8 @@
-use Rattle.std.proofs.Common.{◌∙◌, arith, refl, true}
+use Rattle.std.proofs.Common.{ap, arith, map, refl, true, ◌∙◌}
 use Rattle.sqlite.specs.Held.{state}
 use Rattle.sqlite.specs.State.{State, HasCleanDisk}
+use Rattle.std.proofs.lemmas.List.{take_all}
+use Rattle.td_store_rows.specs.StoreTables.{tables_in}
 use Rattle.td_store_rows.specs.StoreReads.{ReadsNewest}
 use Rattle.td_store_rows.proofs.StoreReads.{reads_on, reads_well}
 use Rattle.td_store_rows.specs.LineTable.{line_row_of}
@@ -35,3 +37,9 @@ rows-preserved g c = (
 
 pub returns-in_err-push-clause-reads : goal.returns-in_err-push-clause-reads
 returns-in_err-push-clause-reads g c = reads_well (reads_on c.rows.invariant.1 c.in_ok-line.ensures.reads)
+
+pub returns-clause-lines : goal.returns-clause-lines
+returns-clause-lines g c clean content holds =
+    c.rows.invariant.2 clean content holds
+    ∙ ap (map (λ r. line_from (tables_in holds.trees.layout (state g.S.Store c.args.tx.now.conn.now).now.trees) (line_row_of r)))
+    (take_all c.rows.row-index c.args.rows.now c.rows-test.false)
