@@ -93,6 +93,7 @@ schema_there country old new was turns =
 pub holds_empty : (country : List ℕ) (old made new : State) → IsCountry country → IsEmptyOf desk_schema old.now
     → TurnsMeta (λ rows. meta_row newest_version country ∷ rows) old made → new.now ≡ made.now
     → HoldsContent (empty_content country) new
+unfolding of_empty_desk
 holds_empty country old made new is was turns same = record {
   trees = trees_still (empty_content country) made.now new.now same (of_empty_desk country old made is was turns);
   schema = λ _. ap (λ (d : Database). d.schema) same ∙ schema_there country old made was turns;
