@@ -1,5 +1,5 @@
 -- A statement that turned the rows of one table, seen at all tables: the others are as they were.
-use Rattle.std.proofs.Common.{◌≡◌, ◌≢◌, ◌∙◌, ℕ, List, map, ap, refl, sym, subst, IsPermutation}
+use Rattle.std.proofs.Common.{◌≡◌, ◌≢◌, ◌≤◌, ◌∙◌, ℕ, List, map, ap, refl, sym, subst, IsPermutation}
 use Rattle.std.specs.List.{AllByRecursion}
 use Rattle.sqlite_trees.specs.Tree.{Trees}
 use Rattle.sqlite_trees.proofs.ListLemmas.{IsPermutation-same}
@@ -8,12 +8,13 @@ use Rattle.sqlite.specs.State.{State}
 use Rattle.td_model.specs.declared.holder_row.HolderRow.{HolderRow}
 use Rattle.td_guarantee.specs.declared.guarantee.Guarantee.{Guarantee}
 use Rattle.td_movement.specs.declared.movement.Movement.{Movement}
-use Rattle.td_table_model.specs.Tables.{Keyed, LineCells, Tables}
+use Rattle.td_table_model.specs.Tables.{Keyed, LineCells, Tables, version_with_amounts}
 use Rattle.td_schema.specs.Tables.{desk_schema}
 use Rattle.typed_sql.specs.Writing.{AreOthersKept, HaveIds, HasSchema}
 use Rattle.typed_sql.specs.Typed.{Typing, AreTyped, IsTypedRow, Turns, row_of, typed_rows}
 use Rattle.td_store_rows.specs.Columns.{meta_typing, holder_typing, guarantee_typing, code_typing, movement_typing, line_typing}
 use Rattle.td_store_rows.specs.StoreTables.{AreAllTyped, AreStoreTrees, HasTables, tables_in, country_in}
+use Rattle.td_store_rows.proofs.WithoutAmounts.{none_kept}
 
 -- a table whose tree is as it was has the same rows, typed as before
 rows_still : {R : Type 0} (ty : Typing R) (old new : Trees) → new ty.table.tree ≡ old ty.table.tree
@@ -64,7 +65,8 @@ still : {R : Type 0} (ty : Typing R) (old new : Trees) → AreTyped ty old → n
 still ty old new typed is = record { same = rows_still ty old new is; typed = typed_still ty old new is typed }
 
 -- all of them, each as it is now
-assembled : (f : Tables → Tables) (old new : State) → (f (tables_in old.now.trees)).country ≡ (tables_in old.now.trees).country
+assembled : (f : Tables → Tables) (old new : State) → (f (tables_in old.now.trees)).version ≡ (tables_in old.now.trees).version
+    → (f (tables_in old.now.trees)).country ≡ (tables_in old.now.trees).country
     → typed_rows meta_typing new.now.trees ≡ typed_rows meta_typing old.now.trees → AreTyped meta_typing new.now.trees
     → Now holder_typing (f (tables_in old.now.trees)).holders new.now.trees
     → Now guarantee_typing (f (tables_in old.now.trees)).guarantees new.now.trees
@@ -72,11 +74,13 @@ assembled : (f : Tables → Tables) (old new : State) → (f (tables_in old.now.
     → Now movement_typing (f (tables_in old.now.trees)).movements new.now.trees
     → Now line_typing (f (tables_in old.now.trees)).lines new.now.trees
     → new.now.schema ≡ desk_schema → IsDatabase new.now → HasTables f old new
-assembled f old new country office meta holders guarantees codes movements lines schema sound = record {
+assembled f old new version country office meta holders guarantees codes movements lines schema sound = record {
   same = record {
+    version = sym version;
     country = ap country_in office ∙ sym country;
     holders = holders.same;
     guarantees = guarantees.same;
+    kept = λ keep. absurd (none_kept old.now.trees (subst (λ v. version_with_amounts ≤ v) version keep));
     codes = codes.same;
     movements = movements.same;
     lines = lines.same;
@@ -106,7 +110,7 @@ module _ (old new : State) (has : HasSchema old desk_schema) (typed : AreAllType
   holders_turned f turns =
       let now = turns has typed.holders in
       let rest = kept 1 a b now.others in
-      assembled (λ t. record t { holders = f t.holders }) old new refl (office_still a b (rest.meta (λ e. cc)))
+      assembled (λ t. record t { holders = f t.holders }) old new refl refl (office_still a b (rest.meta (λ e. cc)))
       (typed_still meta_typing a b (rest.meta (λ e. cc)) typed.meta)
       (record { same = now.same; typed = now.typed })
       (still guarantee_typing a b typed.guarantees (rest.guarantees (λ e. cc)))
@@ -120,7 +124,7 @@ module _ (old new : State) (has : HasSchema old desk_schema) (typed : AreAllType
   guarantees_turned f turns =
       let now = turns has typed.guarantees in
       let rest = kept 8 a b now.others in
-      assembled (λ t. record t { guarantees = f t.guarantees }) old new refl (office_still a b (rest.meta (λ e. cc)))
+      assembled (λ t. record t { guarantees = f t.guarantees }) old new refl refl (office_still a b (rest.meta (λ e. cc)))
       (typed_still meta_typing a b (rest.meta (λ e. cc)) typed.meta)
       (still holder_typing a b typed.holders (rest.holders (λ e. cc)))
       (record { same = now.same; typed = now.typed })
@@ -134,7 +138,7 @@ module _ (old new : State) (has : HasSchema old desk_schema) (typed : AreAllType
   codes_turned f turns =
       let now = turns has typed.codes in
       let rest = kept 2 a b now.others in
-      assembled (λ t. record t { codes = f t.codes }) old new refl (office_still a b (rest.meta (λ e. cc)))
+      assembled (λ t. record t { codes = f t.codes }) old new refl refl (office_still a b (rest.meta (λ e. cc)))
       (typed_still meta_typing a b (rest.meta (λ e. cc)) typed.meta)
       (still holder_typing a b typed.holders (rest.holders (λ e. cc)))
       (still guarantee_typing a b typed.guarantees (rest.guarantees (λ e. cc)))
@@ -148,7 +152,7 @@ module _ (old new : State) (has : HasSchema old desk_schema) (typed : AreAllType
   movements_turned f turns =
       let now = turns has typed.movements in
       let rest = kept 4 a b now.others in
-      assembled (λ t. record t { movements = f t.movements }) old new refl (office_still a b (rest.meta (λ e. cc)))
+      assembled (λ t. record t { movements = f t.movements }) old new refl refl (office_still a b (rest.meta (λ e. cc)))
       (typed_still meta_typing a b (rest.meta (λ e. cc)) typed.meta)
       (still holder_typing a b typed.holders (rest.holders (λ e. cc)))
       (still guarantee_typing a b typed.guarantees (rest.guarantees (λ e. cc)))
@@ -162,7 +166,7 @@ module _ (old new : State) (has : HasSchema old desk_schema) (typed : AreAllType
   lines_turned f turns =
       let now = turns has typed.lines in
       let rest = kept 11 a b now.others in
-      assembled (λ t. record t { lines = f t.lines }) old new refl (office_still a b (rest.meta (λ e. cc)))
+      assembled (λ t. record t { lines = f t.lines }) old new refl refl (office_still a b (rest.meta (λ e. cc)))
       (typed_still meta_typing a b (rest.meta (λ e. cc)) typed.meta)
       (still holder_typing a b typed.holders (rest.holders (λ e. cc)))
       (still guarantee_typing a b typed.guarantees (rest.guarantees (λ e. cc)))
