@@ -4,11 +4,14 @@ use Rattle.std.proofs.lemmas.Simd.{map-map}
 use Rattle.std.specs.Prelude.{◌↔◌, IsTrue}
 use Rattle.std.specs.List.{AllByRecursion}
 use Rattle.sqlite_trees.specs.Tree.{Trees}
-use Rattle.sqlite_trees.proofs.ListLemmas.{all_from_map}
+use Rattle.sqlite_trees.proofs.ListLemmas.{all_from_map, all_of}
 use Rattle.sqlite.specs.State.{State}
 use Rattle.td_table_model.specs.declared.rule.Rule.TheVariants.{S5, S6, S7, S8}
+use Rattle.td_table_model.specs.Rules.{HasAmounts}
 use Rattle.typed_sql.specs.Typed.{AreTyped}
 use Rattle.td_store_rows.specs.Columns.{line_typing, movement_typing}
+use Rattle.td_store_rows.specs.StoreTables.{tables_in}
+use Rattle.td_store_rows.proofs.WithoutAmounts.{none_kept}
 use Rattle.td_store_audit_rows.specs.Fields.{AreLineFields, AreMovementFields}
 use Rattle.td_store_audit_rows.specs.Untyped.{IsFirstBrokenUntyped, KeepsUntyped}
 use Rattle.td_store_audit_rows.specs.Scans.{TellsRead}
@@ -72,7 +75,9 @@ module _ (country : List ℕ) (holders : List RawHolder) (readable : Readable) (
       after_lines = kept_on country holders readable Q a S6 after_movements true (lines_told true tells) refl S7 refl
 
       amounts_told : TellsWhere Q (λ trees. KeepsUntyped newest_layout trees S7) a true
-      amounts_told has so = (λ t. (tt, tt), λ keeps. refl)
+      amounts_told has so =
+          let t = tables_in newest_layout a.now.trees in
+          (λ kept. (tt, all_of (HasAmounts t) (λ row keep. absurd (none_kept newest_layout a.now.trees keep)) t.holders), λ keeps. refl)
 
       after_amounts : IsSoWhere Q (IsNextRule S8 country holders readable) a
       after_amounts = kept_on country holders readable Q a S7 after_lines true amounts_told refl S8 refl

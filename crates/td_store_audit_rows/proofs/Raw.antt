@@ -21,6 +21,7 @@ use Rattle.typed_sql.specs.Values.{number_in, number_value, text_in}
 use Rattle.td_schema.specs.declared.layout.Layout.{Layout}
 use Rattle.td_store_rows.specs.Columns.{meta_typing, holder_typing}
 use Rattle.td_store_rows.specs.StoreTables.{AreAllTyped, country_in, tables_in}
+use Rattle.td_store_rows.proofs.WithoutAmounts.{none_kept}
 use Rattle.td_store_audit_rows.specs.Untyped.{HasColumnTypes, HasGrnCount, HasIdentity, HasMrnCount, HasNumber, IsNumber, IsText}
 use Rattle.td_store_audit_rows.specs.Laws.{AreKept, ContentKeepsRules, KeptRulesMeanContent}
 
@@ -78,6 +79,7 @@ stored_of_kept l trees kept typed =
       lines_owned = lines.owned;
       without_codes = guarantees.without_codes;
       without_lines = movements.without_lines;
+      kept = λ keep. absurd (none_kept l trees keep);
     }
 
 pub rules_mean_content : KeptRulesMeanContent

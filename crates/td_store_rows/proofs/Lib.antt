@@ -15,6 +15,7 @@ pub mod MovementStatements
 pub mod MovementSerials
 mod LineMeanings
 mod LineStatements
+pub mod WithoutAmounts
 pub mod Turned
 pub mod Chained
 pub mod Holding

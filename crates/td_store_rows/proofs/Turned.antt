@@ -1,5 +1,5 @@
 -- A statement that turned the rows of one table, seen at all tables: the others are as they were.
-use Rattle.std.proofs.Common.{◌≡◌, ◌≢◌, ◌∙◌, ℕ, List, map, ap, refl, sym, subst, IsPermutation}
+use Rattle.std.proofs.Common.{◌≡◌, ◌≢◌, ◌≤◌, ◌∙◌, ℕ, List, map, ap, refl, sym, subst, IsPermutation}
 use Rattle.std.specs.List.{AllByRecursion}
 use Rattle.sqlite_trees.specs.Tree.{Trees}
 use Rattle.sqlite_trees.proofs.ListLemmas.{IsPermutation-same}
@@ -8,7 +8,7 @@ use Rattle.sqlite.specs.State.{State}
 use Rattle.td_model.specs.declared.holder_row.HolderRow.{HolderRow}
 use Rattle.td_guarantee.specs.declared.guarantee.Guarantee.{Guarantee}
 use Rattle.td_movement.specs.declared.movement.Movement.{Movement}
-use Rattle.td_table_model.specs.Tables.{Keyed, LineCells, Tables}
+use Rattle.td_table_model.specs.Tables.{Keyed, LineCells, Tables, version_with_amounts}
 use Rattle.td_schema.specs.Layouts.{guarantees_tree, schema_of}
 use Rattle.td_schema.specs.declared.layout.Layout.{Layout}
 use Rattle.td_schema.specs.declared.layout.Layout.TheVariants.{Made1, Made2, Grown2}
@@ -16,6 +16,7 @@ use Rattle.typed_sql.specs.Writing.{AreOthersKept, HaveIds, HasSchema}
 use Rattle.typed_sql.specs.Typed.{Typing, AreTyped, IsTypedRow, Turns, row_of, typed_rows}
 use Rattle.td_store_rows.specs.Columns.{meta_typing, holder_typing, guarantee_typing, code_typing, movement_typing, line_typing}
 use Rattle.td_store_rows.specs.StoreTables.{AreAllTyped, AreStoreTrees, HasTables, tables_in, country_in}
+use Rattle.td_store_rows.proofs.WithoutAmounts.{none_kept}
 
 -- a table whose tree is as it was has the same rows, typed as before
 rows_still : {R : Type 0} (ty : Typing R) (old new : Trees) → new ty.table.tree ≡ old ty.table.tree
@@ -96,6 +97,7 @@ still ty old new typed is = record { same = rows_still ty old new is; typed = ty
 
 -- all of them, each as it is now
 assembled : (l : Layout) (f : Tables → Tables) (old new : State)
+    → (f (tables_in l old.now.trees)).version ≡ (tables_in l old.now.trees).version
     → (f (tables_in l old.now.trees)).country ≡ (tables_in l old.now.trees).country
     → typed_rows meta_typing new.now.trees ≡ typed_rows meta_typing old.now.trees → AreTyped meta_typing new.now.trees
     → Now holder_typing (f (tables_in l old.now.trees)).holders new.now.trees
@@ -104,11 +106,13 @@ assembled : (l : Layout) (f : Tables → Tables) (old new : State)
     → Now movement_typing (f (tables_in l old.now.trees)).movements new.now.trees
     → Now line_typing (f (tables_in l old.now.trees)).lines new.now.trees
     → new.now.schema ≡ schema_of l → IsDatabase new.now → HasTables l f old new
-assembled l f old new country office meta holders guarantees codes movements lines schema sound = record {
+assembled l f old new version country office meta holders guarantees codes movements lines schema sound = record {
   same = record {
+    version = sym version;
     country = ap country_in office ∙ sym country;
     holders = holders.same;
     guarantees = guarantees.same;
+    kept = λ keep. absurd (none_kept l old.now.trees (subst (λ v. version_with_amounts ≤ v) version keep));
     codes = codes.same;
     movements = movements.same;
     lines = lines.same;
@@ -138,7 +142,7 @@ module _ (l : Layout) (old new : State) (has : HasSchema old (schema_of l)) (typ
   holders_turned f turns =
       let now = turns has typed.holders in
       let rest = kept l 1 a b now.others in
-      assembled l (λ t. record t { holders = f t.holders }) old new refl (office_still a b (rest.meta (λ e. cc)))
+      assembled l (λ t. record t { holders = f t.holders }) old new refl refl (office_still a b (rest.meta (λ e. cc)))
       (typed_still meta_typing a b (rest.meta (λ e. cc)) typed.meta)
       (record { same = now.same; typed = now.typed })
       (still (guarantee_typing l) a b typed.guarantees (rest.guarantees (apart l).holders))
@@ -152,7 +156,7 @@ module _ (l : Layout) (old new : State) (has : HasSchema old (schema_of l)) (typ
   guarantees_turned f turns =
       let now = turns has typed.guarantees in
       let rest = kept l (guarantees_tree l) a b now.others in
-      assembled l (λ t. record t { guarantees = f t.guarantees }) old new refl (office_still a b (rest.meta (λ e. (apart l).meta (sym e))))
+      assembled l (λ t. record t { guarantees = f t.guarantees }) old new refl refl (office_still a b (rest.meta (λ e. (apart l).meta (sym e))))
       (typed_still meta_typing a b (rest.meta (λ e. (apart l).meta (sym e))) typed.meta)
       (still holder_typing a b typed.holders (rest.holders (λ e. (apart l).holders (sym e))))
       (record { same = now.same; typed = now.typed })
@@ -166,7 +170,7 @@ module _ (l : Layout) (old new : State) (has : HasSchema old (schema_of l)) (typ
   codes_turned f turns =
       let now = turns has typed.codes in
       let rest = kept l 2 a b now.others in
-      assembled l (λ t. record t { codes = f t.codes }) old new refl (office_still a b (rest.meta (λ e. cc)))
+      assembled l (λ t. record t { codes = f t.codes }) old new refl refl (office_still a b (rest.meta (λ e. cc)))
       (typed_still meta_typing a b (rest.meta (λ e. cc)) typed.meta)
       (still holder_typing a b typed.holders (rest.holders (λ e. cc)))
       (still (guarantee_typing l) a b typed.guarantees (rest.guarantees (apart l).codes))
@@ -180,7 +184,7 @@ module _ (l : Layout) (old new : State) (has : HasSchema old (schema_of l)) (typ
   movements_turned f turns =
       let now = turns has typed.movements in
       let rest = kept l 4 a b now.others in
-      assembled l (λ t. record t { movements = f t.movements }) old new refl (office_still a b (rest.meta (λ e. cc)))
+      assembled l (λ t. record t { movements = f t.movements }) old new refl refl (office_still a b (rest.meta (λ e. cc)))
       (typed_still meta_typing a b (rest.meta (λ e. cc)) typed.meta)
       (still holder_typing a b typed.holders (rest.holders (λ e. cc)))
       (still (guarantee_typing l) a b typed.guarantees (rest.guarantees (apart l).movements))
@@ -194,7 +198,7 @@ module _ (l : Layout) (old new : State) (has : HasSchema old (schema_of l)) (typ
   lines_turned f turns =
       let now = turns has typed.lines in
       let rest = kept l 11 a b now.others in
-      assembled l (λ t. record t { lines = f t.lines }) old new refl (office_still a b (rest.meta (λ e. cc)))
+      assembled l (λ t. record t { lines = f t.lines }) old new refl refl (office_still a b (rest.meta (λ e. cc)))
       (typed_still meta_typing a b (rest.meta (λ e. cc)) typed.meta)
       (still holder_typing a b typed.holders (rest.holders (λ e. cc)))
       (still (guarantee_typing l) a b typed.guarantees (rest.guarantees (apart l).lines))

@@ -4,7 +4,7 @@ use Rattle.sqlite_trees.specs.Tree.{Trees}
 use Rattle.sqlite.specs.Effect.{IsDatabase}
 use Rattle.sqlite.specs.State.{State}
 use Rattle.td_desk.specs.Content.{Content, IsSound}
-use Rattle.td_table_model.specs.Tables.{Tables, AreTablesOf}
+use Rattle.td_table_model.specs.Tables.{Tables, AreTablesOf, first_version}
 use Rattle.td_table_model.specs.Changes.{HaveSameRows}
 use Rattle.td_schema.specs.declared.layout.Layout.{Layout}
 use Rattle.td_schema.specs.Layouts.{IsNewest, newest_layout, newest_version, schema_of}
@@ -18,12 +18,14 @@ abbrev pub country_in : List MetaRow → List ℕ
 country_in [] = []
 country_in (row ∷ rows) = row.country
 
--- the tables that stand in the trees of a layout
+-- the tables that stand in the trees of a layout; no file keeps amounts in use yet
 abbrev pub tables_in : Layout → Trees → Tables
 tables_in l trees = record {
+  version = first_version;
   country = country_in (typed_rows meta_typing trees);
   holders = typed_rows holder_typing trees;
   guarantees = typed_rows (guarantee_typing l) trees;
+  kept = [];
   codes = typed_rows code_typing trees;
   movements = typed_rows movement_typing trees;
   lines = typed_rows line_typing trees;

@@ -17,6 +17,7 @@ use Rattle.td_store_rows.specs.MetaTable.{TurnsMeta}
 use Rattle.td_store_rows.specs.StoreTables.{AreTreesOf, HoldsContent, country_in}
 use Rattle.td_store_rows.proofs.Holding.{trees_still}
 use Rattle.td_store_rows.proofs.Turned.{listed_there}
+use Rattle.td_store_rows.proofs.WithoutAmounts.{none_kept}
 
 -- a table without rows is typed, and has no typed row
 none_typed : {R : Type 0} (ty : Typing R) (trees : Trees) → trees ty.table.tree ≡ [] → AreTyped ty trees
@@ -48,6 +49,7 @@ of_empty_desk country old new is was turns = record {
     country = ap country_in meta;
     holders = none_there holder_typing b holders;
     guarantees = none_there (guarantee_typing newest_layout) b guarantees;
+    kept = λ keep. absurd (none_kept newest_layout b keep);
     codes = none_there code_typing b codes;
     movements = none_there movement_typing b movements;
     lines = none_there line_typing b lines;
