@@ -96,8 +96,8 @@ TellsOtherVersion trees fault = (fault ≡ Store) ⊎ ((fault ≡ UnknownVersion
 -- where the rowids are integers, no two the same, and these tables can be read, it is told what the rules say of the tables
 abbrev pub TellsRules : Readable → Trees → Option Rule → Type 0
 TellsRules readable trees broken =
-    HaveAllIds newest_layout trees → TellReadable newest_layout readable trees → AreKept newest_layout trees × TellsBroken trees broken
+    HaveAllIds newest_layout trees → TellReadable newest_layout readable trees → AreKept newest_layout trees × TellsBroken newest_layout trees broken
 
 -- and what a fault, or none, then says of them: the first rule that they break
 abbrev pub TellsRows : Trees → Option OpenFault → Type 0
-TellsRows trees fault = (broken : Option Rule) × (fault ≡ option_map Damaged broken) × HaveAllIds newest_layout trees × AreKept newest_layout trees × TellsBroken trees broken
+TellsRows trees fault = (broken : Option Rule) × (fault ≡ option_map Damaged broken) × HaveAllIds newest_layout trees × AreKept newest_layout trees × TellsBroken newest_layout trees broken

@@ -7,9 +7,9 @@ use Rattle.sqlite.specs.State.{State, HasCleanDisk}
 use Rattle.td_schema.specs.declared.layout.Layout.{Layout}
 use Rattle.td_schema.specs.Layouts.{schema_of}
 use Rattle.typed_sql.proofs.Leaving.{reads_by}
-use Rattle.typed_sql.proofs.OnlyRead.{read_more, stays_on, stays_well}
+use Rattle.typed_sql.proofs.OnlyRead.{none_read, read_more, stays_on, stays_well}
 use Rattle.typed_sql.specs.Reading.{OnlyReads, StaysInside}
-use Rattle.td_store_rows.specs.StoreReads.{ReadsIn, ReadsNewest, ReadsStore}
+use Rattle.td_store_rows.specs.StoreReads.{OnlyReadNewest, ReadsIn, ReadsNewest, ReadsStore}
 
 -- a statement that doesn't write, whatever came of it
 pub reads_in : {T E : Type 0} (P : Layout → Type 0) (text : List ℕ) → ((l : Layout) → P l → IsPlain (understood (schema_of l) text))
@@ -35,3 +35,10 @@ reads_on {P} {w} {a} {b} {d} first second = record {
 -- calls that were well, whatever is answered after them
 pub reads_well : {P : Layout → Type 0} {w : Bool} {a b : State} → ReadsIn P true a b → ReadsIn P w a b
 reads_well first = record { still = λ clean well. first.still clean refl; within = stays_well first.within }
+
+-- of the newest version: no call, and calls after others
+pub none_newest : (a : State) → OnlyReadNewest a a
+none_newest a l newest = none_read a
+
+pub newest_more : (a b d : State) → OnlyReadNewest a b → OnlyReadNewest b d → OnlyReadNewest a d
+newest_more a b d first second l newest = read_more a b d (first l newest) (second l newest)

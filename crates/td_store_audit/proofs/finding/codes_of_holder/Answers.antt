@@ -1,9 +1,9 @@
 use Rattle.std.proofs.Common.{map, refl}
 use Rattle.std.specs.Prelude.{[], ◌∷◌}
 use Rattle.sqlite.specs.Held.{state}
-use Rattle.td_schema.specs.Layouts.{desk_schema, newest_layout, schema_of}
+use Rattle.td_schema.specs.Layouts.{schema_of}
 use Rattle.typed_sql.proofs.Fetched.{in_order_fetched, those_fetched}
-use Rattle.typed_sql.proofs.Leaving.{stays_ok}
+use Rattle.typed_sql.proofs.Leaving.{on_ok, stays}
 use Rattle.typed_sql.specs.Typed.{AreInOrder, AreThose}
 use Rattle.typed_sql.specs.Values.{number_value}
 use Rattle.td_store_rows.proofs.Each.{each_ok}
@@ -32,7 +32,7 @@ returns-clause-order g c clean =
 
 pub returns-clause-still : goal.returns-clause-still
 returns-clause-still g c clean =
-    stays_ok desk_schema CODES_OF_HOLDER.now (codes_mean newest_layout).plain _ _ c.fetch.result (c.fetch.ensures.still clean)
+    on_ok c.fetch.result (λ only l. stays (schema_of l) CODES_OF_HOLDER.now (codes_mean l).plain _ _ only) (c.fetch.ensures.still clean)
 
 pub returns-clause-inside : goal.returns-clause-inside
 returns-clause-inside g c = inside_ok c.fetch.result c.fetch.ensures.within

@@ -1,5 +1,4 @@
 use Rattle.typed_sql.specs.Typed.{IsTypedRow}
-use Rattle.td_schema.specs.Layouts.{newest_layout}
 use Rattle.td_store_rows.specs.Columns.{guarantee_typing}
 use Rattle.td_store_rows.specs.StoreTables.{tables_in}
 use Rattle.td_store_audit_rows.specs.Kept.{AreGuaranteesKept}
@@ -10,4 +9,4 @@ use Rattle.td_store_audit.proofs.laws.schema_keeps_guarantees.Goals as goal
 
 pub returns : goal.returns
 returns c =
-    schema_keeps (λ trees. AllRows (guarantee_typing newest_layout) (IsTypedRow (guarantee_typing newest_layout)) trees → AreGuaranteesKept (tables_in newest_layout trees)) guarantees_kept
+    schema_keeps (λ layout trees. AllRows (guarantee_typing layout) (IsTypedRow (guarantee_typing layout)) trees → AreGuaranteesKept (tables_in layout trees)) guarantees_kept

@@ -1,4 +1,3 @@
-use Rattle.td_schema.specs.Layouts.{newest_layout}
 use Rattle.td_store_rows.specs.Columns.{holder_typing}
 use Rattle.td_store_rows.specs.StoreTables.{tables_in}
 use Rattle.td_store_audit_rows.specs.Kept.{AreHoldersKept}
@@ -9,5 +8,5 @@ use Rattle.td_store_audit.proofs.laws.schema_keeps_holders.Goals as goal
 
 pub returns : goal.returns
 returns c =
-    schema_keeps (λ trees. AllRows holder_typing HasNumber trees × AreHoldersKept (tables_in newest_layout trees))
-    (λ trees obeys ids. holders_kept trees ids.holders obeys)
+    schema_keeps (λ layout trees. AllRows holder_typing HasNumber trees × AreHoldersKept (tables_in layout trees))
+    (λ layout trees obeys ids. holders_kept layout trees ids.holders obeys)
