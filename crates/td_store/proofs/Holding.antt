@@ -12,11 +12,12 @@ use Rattle.td_acts.specs.Deciding.{IsLoaded}
 use Rattle.td_acts.specs.declared.rows.Loaded.{Loaded}
 use Rattle.td_commands.specs.Commands.{Need}
 use Rattle.td_table_model.proofs.Gathered.{content_is}
+use Rattle.td_table_model.specs.Tables.{AreTablesOf}
 use Rattle.td_schema.specs.Layouts.{IsNewest, desk_schema, newest_layout, schema_of}
 use Rattle.typed_sql.specs.Writing.{HasSchema}
 use Rattle.td_schema.specs.declared.layout.Layout.{Layout}
 use Rattle.td_schema.specs.declared.layout.Layout.TheVariants.{Grown2, Made1, Made2}
-use Rattle.td_store_rows.specs.StoreTables.{AreTreesOf, HoldsContent, tables_in, content_in}
+use Rattle.td_store_rows.specs.StoreTables.{AreAllTyped, AreTreesOf, HoldsContent, content_in, tables_in}
 use Rattle.td_store_rows.proofs.Holding.{holds_still}
 use Rattle.td_store_write.specs.Carried.{CarriesChange, IsDecidedOver}
 use Rattle.td_store_write.proofs.After.{after_country}

@@ -1,7 +1,7 @@
-use Rattle.std.proofs.Common.{arith, refl, rules, true}
+use Rattle.std.proofs.Common.{◌≡◌, ◌∙◌, [], arith, false, refl, rules, true}
 use Rattle.std.specs.Prelude.{IsTrue}
 use Rattle.sqlite.specs.Held.{state}
-use Rattle.sqlite.specs.State.{State, HasCleanDisk, KeepsCommit, Survives}
+use Rattle.sqlite.specs.State.{State, HasCleanDisk, KeepsCommit, KeepsCounts, Shows, Survives}
 use Rattle.td_schema.specs.Layouts.{desk_schema, newest_layout}
 use Rattle.typed_sql.specs.Reading.{Reads}
 use Rattle.td_store_rows.specs.StoreReads.{LeavesNewest}
@@ -58,3 +58,19 @@ returns-clause-told g c clean =
     let is_open : IsTrue o.is_open = (left clean_l newest_layout refl (λ _. c.requires.tables clean_o)).0.was_open in
     rules_told o c.database_keeps.ensures is_open (c.requires.tables clean_o) c.args.readable c.in_ok-broken.broken
     (rw c.transaction-tx.ensures.begun at (c.in_ok-broken.ensures.told clean_l))
+
+pub returns-clause-same : goal.returns-clause-same
+returns-clause-same g c clean is_open =
+    let o : State = state g.S.Store c.args.conn.now in
+    let a : State = state g.S.Store (record c.args.conn.now { in_transaction = true }) in
+    let l : State = state g.S.Store c.first_broken.new.tx.conn.now in
+    let m : State = state g.S.Store c.see_open.new.tx.conn.now in
+    let e : State = state g.S.Store c.conn-2-1.given.0 in
+    let ended : Survives m e (λ db. db ≡ m.now.trees) = search rules in
+    let clean_m : HasCleanDisk m = omega (arith, clean, ended.clean) in
+    let clean_l : HasCleanDisk l = omega (arith, clean_m, c.in_ok-see_open.ensures.within.survives.clean) in
+    let survives : Survives a l (λ _. ⊥) = rw c.transaction-tx.ensures.begun at c.in_ok-broken.ensures.survives in
+    let clean_o : HasCleanDisk o = omega (arith, clean_l, survives.clean) in
+    let left : HasCleanDisk l → LeavesNewest a l = rw c.transaction-tx.ensures.begun at c.in_ok-broken.ensures.still in
+    let done : IsTrue m.in_transaction × Shows m e m.now m.now false × KeepsCounts m e × (e.marks ≡ []) = search rules in
+    done.1.now_is ∙ (c.in_ok-see_open.ensures.still clean_m).0.now_is ∙ (left clean_l newest_layout refl (λ _. c.requires.tables clean_o)).0.now_is

@@ -17,6 +17,7 @@ returns-clause-told g c clean =
     let clean_a : HasCleanDisk a = omega (arith, clean_b, c.readable_tables.ensures.survives.clean) in
     let at = c.requires.tables clean_a in
     let ids = c.in_ok-readable.ensures.ids clean_b newest_layout refl at in
-    let told : TellsRules c.in_ok-readable.readable a.now.trees =
-    subst (λ (d : Database). TellsRules c.in_ok-readable.readable d.trees) (c.in_ok-readable.ensures.still clean_b).0.now_is (c.in_ok-broken.ensures.told clean) in
-    (c.in_ok-broken.broken, c.damage.ensures, ids, told ids (c.in_ok-readable.ensures.told clean_b newest_layout refl at))
+    let told : TellsRules c.in_ok-readable.readable a.now.trees c.in_ok-broken.broken =
+    subst (λ (d : Database). TellsRules c.in_ok-readable.readable d.trees c.in_ok-broken.broken) (c.in_ok-readable.ensures.still clean_b).0.now_is (c.in_ok-broken.ensures.told clean) in
+    let both = told ids (c.in_ok-readable.ensures.told clean_b newest_layout refl at) in
+    (c.in_ok-broken.broken, c.damage.ensures, ids, both.0, both.1)
