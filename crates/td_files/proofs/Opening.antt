@@ -13,7 +13,7 @@ use Rattle.sqlite.specs.State.{State, HasCleanDisk, Opens, Survives}
 use Rattle.sqlite_trees.specs.Tree.{Trees}
 use Rattle.td_desk.specs.Content.{Content}
 use Rattle.td_table_model.specs.declared.rule.Rule.{Rule}
-use Rattle.td_schema.specs.Tables.{desk_schema}
+use Rattle.td_schema.specs.Layouts.{desk_schema}
 use Rattle.td_store_rows.specs.StoreTables.{AreTreesOf, HoldsContent}
 use Rattle.td_store.specs.Kept.{CrashLeavesShown}
 use Rattle.td_store.specs.Opened.{AreDamaged, IsOfAnother, IsOfUnknownVersion, TellsDatabase}

@@ -7,9 +7,17 @@ use Rattle.sqlite_rules.specs.Action.{works, work_by, pairs, deed_for}
 use Rattle.sqlite_schema.specs.declared.schema.Keys.TheVariants.{Enforced}
 use Rattle.sqlite_schema.specs.declared.schema.Table.{Table}
 use Rattle.sqlite_schema.specs.Rules.{parent_key}
-use Rattle.td_schema.specs.Tables.{desk_schema}
+use Rattle.td_schema.specs.Layouts.{schema_of}
+use Rattle.td_schema.specs.declared.layout.Layout.{Layout}
+use Rattle.td_schema.specs.declared.layout.Layout.TheVariants.{Made1, Made2, Grown2}
 
-pub none_acts : (tree : ℕ) (olds news : List Row) → works desk_schema Enforced 0 tree olds news ≡ []
-none_acts tree olds news =
-    elim (length news == 0) as (λ b. flat_map (λ (child : Table). filter_map (λ ref. work_by 0 tree (pairs olds news) child ref (deed_for Enforced b ref) (parent_key desk_schema.tables ref)) child.references) desk_schema.tables ≡ [])
+pub none_acts : (l : Layout) (tree : ℕ) (olds news : List Row) → works (schema_of l) Enforced 0 tree olds news ≡ []
+none_acts Made1 tree olds news =
+    elim (length news == 0) as (λ b. flat_map (λ (child : Table). filter_map (λ ref. work_by 0 tree (pairs olds news) child ref (deed_for Enforced b ref) (parent_key (schema_of Made1).tables ref)) child.references) (schema_of Made1).tables ≡ [])
+    [ true ↦ refl | false ↦ refl ]
+none_acts Made2 tree olds news =
+    elim (length news == 0) as (λ b. flat_map (λ (child : Table). filter_map (λ ref. work_by 0 tree (pairs olds news) child ref (deed_for Enforced b ref) (parent_key (schema_of Made2).tables ref)) child.references) (schema_of Made2).tables ≡ [])
+    [ true ↦ refl | false ↦ refl ]
+none_acts Grown2 tree olds news =
+    elim (length news == 0) as (λ b. flat_map (λ (child : Table). filter_map (λ ref. work_by 0 tree (pairs olds news) child ref (deed_for Enforced b ref) (parent_key (schema_of Grown2).tables ref)) child.references) (schema_of Grown2).tables ≡ [])
     [ true ↦ refl | false ↦ refl ]

@@ -14,7 +14,8 @@ use Rattle.sqlite.specs.Listing.{understood}
 use Rattle.sqlite.specs.State.{State, Writes, ExecutesInside}
 use Rattle.sqlite.proofs.Callers.{statement_of, runs_as}
 use Rattle.typed_sql.proofs.Steps.{command_is, same_value, went}
-use Rattle.td_schema.specs.Making.{own_text, MakesOne}
+use Rattle.typed_sql.specs.Writing.{HasSchema}
+use Rattle.td_schema.specs.Making.{own_text, MakesOne, IsMade}
 use Rattle.td_schema.specs.Tables.{IsEmptyOf}
 
 -- the own text, in the words of the kit
@@ -29,24 +30,28 @@ no_rows [] new old after empty keeps none = (none, tt)
 no_rows (t ∷ ts) new old after empty keeps none = (keeps.0 ∙ empty.0, no_rows ts new old after empty.1 keeps.1 none)
 
 -- a text that makes one table makes it without rows
-pub makes : (old new : State) (text : List ℕ) (count : ℕ) → ExecutesInside 0 text [] old new (Ok count) → (s : Schema) (t : Table) → MakesOne s text t → IsEmptyOf s old.now
-    → IsEmptyOf (created s t) new.now
-makes old new text count h s t one was =
+pub makes : (old new : State) (text : List ℕ) (count : ℕ) → ExecutesInside 0 text [] old new (Ok count) → (s : Schema) (t : Table) → MakesOne s text t → HasSchema old s
+    → IsMade s t old.now new.now
+makes old new text count h s t one has =
+    let was : old.now.schema ≡ s = has h.1.was_open in
     let command = command_is (understood s text) ∙ one.command in
     let whole = text_is text (understood s text) ∙ one.whole in
-    let w = subst (λ t. Writes old new None CreateTable t [] count) whole (runs_as text [] old new s was.schema CreateTable command one.plain count h.0) in
+    let w = subst (λ t. Writes old new None CreateTable t [] count) whole (runs_as text [] old new s was CreateTable command one.plain count h.0) in
     let all = went w.changed in
     let first = went all.1 in
     let made = first.1 in
     let both : Ok made.table ≡ Ok t = sym made.defined ∙ one.table in
     let same : made.table ≡ t = cc in
-    let schema : first.0.schema ≡ created s t = made.is ∙ ap (λ s. created s made.table) was.schema ∙ ap (created s) same in
+    let schema : first.0.schema ≡ created s t = made.is ∙ ap (λ s. created s made.table) was ∙ ap (created s) same in
     let plain : lacks_sequence first.0.schema ≡ false = ap lacks_sequence schema ∙ one.uncounted in
     let now : new.now ≡ first.0 = ap (λ (p : Tally × Database). p.1) (same_value all.2) ∙ same_value (rw plain at first.2) in
-    let empty : first.0.trees (next_tree s) ≡ [] = subst (λ s. first.0.trees (next_tree s) ≡ []) was.schema made.empty in
-    let others : KeepsRows s.tables old.now.trees first.0.trees = subst (λ (s : Schema). KeepsRows s.tables old.now.trees first.0.trees) was.schema made.others in
-    record {
-      schema = ap (λ (d : Database). d.schema) now ∙ schema;
-      empty = subst (λ (d : Database). AllByRecursion (λ (t : Table). d.trees t.tree ≡ []) (created s t).tables) (sym now)
-          (no_rows s.tables (record t { tree = next_tree s }) old.now.trees first.0.trees was.empty others empty);
-    }
+    let empty : first.0.trees (next_tree s) ≡ [] = subst (λ s. first.0.trees (next_tree s) ≡ []) was made.empty in
+    let others : KeepsRows s.tables old.now.trees first.0.trees = subst (λ (s : Schema). KeepsRows s.tables old.now.trees first.0.trees) was made.others in
+    subst (IsMade s t old.now) (sym now) (record { schema = schema; empty = empty; others = others })
+
+-- where no table had a row, none has one
+pub made_empty : (s : Schema) (t : Table) (old new : Database) → IsEmptyOf s old → IsMade s t old new → IsEmptyOf (created s t) new
+made_empty s t old new was made = record {
+  schema = made.schema;
+  empty = no_rows s.tables (record t { tree = next_tree s }) old.trees new.trees was.empty made.others made.empty;
+}

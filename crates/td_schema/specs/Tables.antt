@@ -1,5 +1,4 @@
--- The tables of version 1, as SQLite understands their texts; where their rows stand is settled as they are made. Those that no
--- later version changes are made first, so that they have the same places in each.
+-- The tables, as SQLite understands their texts; where their rows stand is settled as they are made.
 use Rattle.std.specs.Prelude.{ℕ, pos, true, false, List, [], ◌∷◌, Some, None, codes, ◌≡◌}
 use Rattle.sqlite_value.specs.declared.keys.Collation.TheVariants.{Binary}
 use Rattle.sqlite_value.specs.declared.keys.Order.{Order}
@@ -8,7 +7,6 @@ use Rattle.sqlite_value.specs.declared.value.Value.TheVariants.{Null, Int, Text}
 use Rattle.sqlite_sql.specs.Term.{Term, lit, col, op2}
 use Rattle.sqlite_sql.specs.declared.ops.BinaryOp.TheVariants.{Compare, And, Or}
 use Rattle.sqlite_sql.specs.declared.ops.CompareOp.TheVariants.{Eq, Le, Ge}
-use Rattle.sqlite_catalog.specs.Change.{created}
 use Rattle.sqlite_schema.specs.declared.schema.Table.{Table}
 use Rattle.sqlite_schema.specs.declared.schema.Column.{Column}
 use Rattle.sqlite_schema.specs.declared.schema.Schema.{Schema}
@@ -41,6 +39,10 @@ equals at v = op2 (Compare Eq Binary) (col 1 at) (lit v)
 
 abbrev pub between : ℕ → ℕ → ℕ → Term
 between at low high = op2 And (op2 (Compare Ge Binary) (col 1 at) (lit (Int (pos low)))) (op2 (Compare Le Binary) (col 1 at) (lit (Int (pos high))))
+
+-- the value at a place of a row is from 0 to the one at another
+abbrev pub up_to : ℕ → ℕ → Term
+up_to at most = op2 And (op2 (Compare Ge Binary) (col 1 at) (lit (Int (pos 0)))) (op2 (Compare Le Binary) (col 1 at) (col 1 most))
 
 -- the columns at these places name a row of the parent by its primary key; what a row refers to isn't taken away
 abbrev pub refers : List ℕ → List ℕ → Reference
@@ -142,6 +144,16 @@ guarantees = record {
   is_counted = false;
 }
 
+-- from version 2 on: the same with the amount in use, which is from 0 to the reference amount
+abbrev pub guarantees2 : Table
+guarantees2 = record guarantees {
+  name = codes "guarantees2";
+  columns = always kind.Integer (codes "holder") ∷ always kind.Integer (codes "serial") ∷ always kind.Text (codes "grn")
+      ∷ always kind.Integer (codes "reference") ∷ always kind.Integer (codes "cover") ∷ optional kind.Integer (codes "ends")
+      ∷ always kind.Integer (codes "used") ∷ [];
+  checks = between 4 1 1000000000000000 ∷ is_cover ∷ up_to 7 4 ∷ [];
+}
+
 abbrev pub lines : Table
 lines = record {
   name = codes "lines1";
@@ -162,10 +174,6 @@ lines = record {
 -- no table
 abbrev pub no_schema : Schema
 no_schema = record { tables = []; indexes = []; views = [] }
-
--- the tables of a desk, in the order in which they are made, each with the indexes of its keys
-abbrev pub desk_schema : Schema
-desk_schema = created (created (created (created (created (created no_schema meta) holders) codes_table) movements) guarantees) lines
 
 -- the database has these tables, and no row in any
 pub record IsEmptyOf (s : Schema) (db : Database) : Type 0 where

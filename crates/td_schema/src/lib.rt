@@ -1,7 +1,9 @@
-//! The tables of a store of SQLite: their texts, how they are made, and the fields of a desk's rows as their columns.
+//! The tables of a store of SQLite: which of them stand in a file, their texts, how they are made, and the fields of a desk's
+//! rows as their columns.
 #![tactic(auto)]
 
 mod columns;
+mod layout;
 mod making;
 mod texts;
 
@@ -11,4 +13,5 @@ pub use columns::{
     number_of, office_at, office_or_null, optional_day_at, optional_office_at, serial_at,
     serial_key, state_at,
 };
+pub use layout::{Layout, NEWEST_LAYOUT, NEWEST_VERSION};
 pub use making::make_tables;

@@ -6,39 +6,83 @@ ghost use Rattle.sqlite_catalog.specs.Change.{created};
 ghost use Rattle.sqlite_schema.specs.declared.schema.Schema.{Schema};
 ghost use Rattle.sqlite_schema.specs.declared.schema.Table.{Table};
 ghost use Rattle.typed_sql.specs.Reading.{IsInside, StaysInside};
-ghost use Rattle.td_schema.specs.Tables.{no_schema, desk_schema, IsEmptyOf};
-ghost use Rattle.td_schema.specs.Making.{MakesOne};
+ghost use Rattle.typed_sql.specs.Writing.{HasSchema};
+ghost use Rattle.td_schema.specs.Tables.{no_schema, IsEmptyOf};
+ghost use Rattle.td_schema.specs.Layouts.{base_schema, schema_of};
+ghost use Rattle.td_schema.specs.Making.{MakesOne, IsMade};
 
-use crate::texts::{CODES, GUARANTEES, HOLDERS, LINES, META, MOVEMENTS};
+use crate::layout::Layout;
+use crate::texts::{CODES, GUARANTEES, GUARANTEES2, HOLDERS, LINES, META, MOVEMENTS};
 use sqlite::{Error, Transaction};
 use sqlite_trees::store::Alter;
 
-// Makes a table, inside a transaction.
+// Makes a table beside those that there are, inside a transaction.
 fn make<S: Alter>(tx: &mut Transaction<'_, S>, text: &str) -> Result<(), Error>
     requires { IsInside (state S.Store tx.old.conn.now) }
     ensures same_reference { tx.new.conn.ghost_name ≡ tx.old.conn.ghost_name }
     ensures made { HasCleanDisk (state S.Store tx.new.conn.now)
-        → OnOk result ((s : Schema) (t : Table) → MakesOne s text.now t
-        → IsEmptyOf s (state S.Store tx.old.conn.now).now → IsEmptyOf (created s t) (state S.Store tx.new.conn.now).now) }
+        → OnOk result ((s : Schema) (t : Table) → MakesOne s text.now t → HasSchema (state S.Store tx.old.conn.now) s
+        → IsMade s t (state S.Store tx.old.conn.now).now (state S.Store tx.new.conn.now).now) }
     ensures within { StaysInside (is_ok result) (state S.Store tx.old.conn.now) (state S.Store tx.new.conn.now) }
 {
     tx.execute(text, &[])?;
     Ok(())
 }
 
-/// Makes the tables of version 1 where there is none, inside a transaction that the caller commits: none has a row then. An
-/// error is the database's own, and commits nothing.
-pub fn make_tables<S: Alter>(tx: &mut Transaction<'_, S>) -> Result<(), Error>
+// Makes the tables that no version changes, where there is none.
+fn make_base<S: Alter>(tx: &mut Transaction<'_, S>) -> Result<(), Error>
     requires { IsInside (state S.Store tx.old.conn.now) }
     ensures same_reference { tx.new.conn.ghost_name ≡ tx.old.conn.ghost_name }
     ensures made { HasCleanDisk (state S.Store tx.new.conn.now)
-        → OnOk result (IsEmptyOf no_schema (state S.Store tx.old.conn.now).now → IsEmptyOf desk_schema (state S.Store tx.new.conn.now).now) }
+        → OnOk result (IsEmptyOf no_schema (state S.Store tx.old.conn.now).now → IsEmptyOf base_schema (state S.Store tx.new.conn.now).now) }
     ensures within { StaysInside (is_ok result) (state S.Store tx.old.conn.now) (state S.Store tx.new.conn.now) }
 {
     make(tx, META)?;
     make(tx, HOLDERS)?;
     make(tx, CODES)?;
-    make(tx, MOVEMENTS)?;
-    make(tx, GUARANTEES)?;
-    make(tx, LINES)
+    make(tx, MOVEMENTS)
+}
+
+// Makes two tables, one after the other, where no table has a row.
+fn make_two<S: Alter>(tx: &mut Transaction<'_, S>, first: &str, second: &str) -> Result<(), Error>
+    requires { IsInside (state S.Store tx.old.conn.now) }
+    ensures same_reference { tx.new.conn.ghost_name ≡ tx.old.conn.ghost_name }
+    ensures made { HasCleanDisk (state S.Store tx.new.conn.now)
+        → OnOk result ((s : Schema) (t u : Table) → MakesOne s first.now t → MakesOne (created s t) second.now u
+        → IsEmptyOf s (state S.Store tx.old.conn.now).now → IsEmptyOf (created (created s t) u) (state S.Store tx.new.conn.now).now) }
+    ensures within { StaysInside (is_ok result) (state S.Store tx.old.conn.now) (state S.Store tx.new.conn.now) }
+{
+    make(tx, first)?;
+    make(tx, second)
+}
+
+// Makes the tables of a layout behind those that no version changes.
+fn make_rest<S: Alter>(tx: &mut Transaction<'_, S>, layout: Layout) -> Result<(), Error>
+    requires { IsInside (state S.Store tx.old.conn.now) }
+    ensures same_reference { tx.new.conn.ghost_name ≡ tx.old.conn.ghost_name }
+    ensures made { HasCleanDisk (state S.Store tx.new.conn.now)
+        → OnOk result (IsEmptyOf base_schema (state S.Store tx.old.conn.now).now → IsEmptyOf (schema_of layout) (state S.Store tx.new.conn.now).now) }
+    ensures within { StaysInside (is_ok result) (state S.Store tx.old.conn.now) (state S.Store tx.new.conn.now) }
+{
+    match layout {
+        Layout::Made1 => make_two(tx, GUARANTEES, LINES),
+        Layout::Made2 => make_two(tx, GUARANTEES2, LINES),
+        Layout::Grown2 => {
+            make_two(tx, GUARANTEES, LINES)?;
+            make(tx, GUARANTEES2)
+        }
+    }
+}
+
+/// Makes the tables of a layout where there is none, inside a transaction that the caller commits: none has a row then. An
+/// error is the database's own, and commits nothing.
+pub fn make_tables<S: Alter>(tx: &mut Transaction<'_, S>, layout: Layout) -> Result<(), Error>
+    requires { IsInside (state S.Store tx.old.conn.now) }
+    ensures same_reference { tx.new.conn.ghost_name ≡ tx.old.conn.ghost_name }
+    ensures made { HasCleanDisk (state S.Store tx.new.conn.now)
+        → OnOk result (IsEmptyOf no_schema (state S.Store tx.old.conn.now).now → IsEmptyOf (schema_of layout) (state S.Store tx.new.conn.now).now) }
+    ensures within { StaysInside (is_ok result) (state S.Store tx.old.conn.now) (state S.Store tx.new.conn.now) }
+{
+    make_base(tx)?;
+    make_rest(tx, layout)
 }

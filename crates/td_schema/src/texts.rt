@@ -1,4 +1,4 @@
-//! The texts that make the tables of version 1. All are STRICT: a column takes values of its own type alone.
+//! The texts that make the tables. All are STRICT: a column takes values of its own type alone.
 
 /// The office's own row: the version of the tables and the office's country.
 pub const META: &str =
@@ -16,10 +16,14 @@ pub const CODES: &str =
 pub const MOVEMENTS: &str =
     "CREATE TABLE movements (holder INTEGER NOT NULL REFERENCES holders, serial INTEGER NOT NULL, mrn TEXT NOT NULL UNIQUE, lrn TEXT NOT NULL, departure TEXT NOT NULL, destination TEXT NOT NULL, accepted INTEGER NOT NULL, state TEXT NOT NULL CHECK (state IN ('accepted', 'cancelled', 'released', 'enquired', 'arrived', 'discrepant', 'cleared', 'written-off')), limit_day INTEGER, arrival INTEGER, actual TEXT, PRIMARY KEY (holder, serial), UNIQUE (holder, lrn)) STRICT";
 
-/// The guarantees: the reference amount in cents, the cover in hundredths, and the day on which it ends.
+/// The guarantees at version 1: the reference amount in cents, the cover in hundredths, and the day on which it ends.
 pub const GUARANTEES: &str =
     "CREATE TABLE guarantees1 (holder INTEGER NOT NULL REFERENCES holders, serial INTEGER NOT NULL, grn TEXT NOT NULL UNIQUE, reference INTEGER NOT NULL CHECK (reference BETWEEN 1 AND 1000000000000000), cover INTEGER NOT NULL CHECK (cover IN (0, 30, 50, 100)), ends INTEGER, PRIMARY KEY (holder, serial)) STRICT";
 
 /// The lines of movements: the serial of the guarantee, and the liability in cents.
 pub const LINES: &str =
     "CREATE TABLE lines1 (holder INTEGER NOT NULL, serial INTEGER NOT NULL, no INTEGER NOT NULL CHECK (no BETWEEN 1 AND 9), guarantee INTEGER NOT NULL, cents INTEGER NOT NULL CHECK (cents BETWEEN 1 AND 1000000000000), PRIMARY KEY (holder, serial, no), UNIQUE (holder, serial, guarantee), FOREIGN KEY (holder, serial) REFERENCES movements) STRICT";
+
+/// The guarantees from version 2 on: the same, and the amount in use in cents.
+pub const GUARANTEES2: &str =
+    "CREATE TABLE guarantees2 (holder INTEGER NOT NULL REFERENCES holders, serial INTEGER NOT NULL, grn TEXT NOT NULL UNIQUE, reference INTEGER NOT NULL CHECK (reference BETWEEN 1 AND 1000000000000000), cover INTEGER NOT NULL CHECK (cover IN (0, 30, 50, 100)), ends INTEGER, used INTEGER NOT NULL CHECK (used BETWEEN 0 AND reference), PRIMARY KEY (holder, serial)) STRICT";

@@ -4,16 +4,16 @@ use Rattle.sqlite_catalog.proofs.ReadLemmas.{lists_once}
 use Rattle.sqlite_trees.specs.declared.store.Store.{Ghosts}
 use Rattle.sqlite_trees.specs.Objects.{catalog_tree}
 use Rattle.sqlite.specs.Held.{state}
-use Rattle.td_schema.specs.Tables.{desk_schema}
+use Rattle.td_schema.specs.Layouts.{schema_of}
 use Rattle.td_store_rows.specs.StoreTables.{AreTreesOf}
 use Rattle.td_store.specs.Laws.{AcknowledgedIsKept, AcknowledgedIsKeptMeanwhile, DesksTreesOpen}
 
 -- the list of a store's tables is that of no other schema
 pub opens_again : {S : Type 0} (g : Ghosts S) → DesksTreesOpen g
 opens_again g conn c live trees = record {
-  schema = λ is_open.
-      lists_once ((state g conn).now.trees catalog_tree) (state g conn).now.schema desk_schema (live is_open).0.lists trees.listed.lists;
   trees = trees;
+  schema = λ is_open.
+      lists_once ((state g conn).now.trees catalog_tree) (state g conn).now.schema (schema_of trees.layout) (live is_open).0.lists trees.listed.lists;
 }
 
 pub is_kept : {S : Type 0} (g : Ghosts S) → AcknowledgedIsKept g

@@ -1,6 +1,6 @@
 -- What the office's own row and the rules tell of a store's tables.
 use Rattle.std.proofs.Common.{◌≡◌, ◌∙◌, ℕ, Bool, true, false, if◌then◌else◌, List, [], ◌∷◌, Option, Some, None, Err, Ok, Result, ap, length, map, refl, subst, sym}
-use Rattle.std.specs.Prelude.{◌≢◌, pos, is_some, option_map, IfOk}
+use Rattle.std.specs.Prelude.{◌≢◌, pos, is_some, option_map, IfOk, IsTrue}
 use Rattle.std.specs.Bool.{Decides}
 use Rattle.std.specs.Option.{option_to_list}
 use Rattle.std.proofs.lemmas.Bool.Decides.{Decides-and, Decides-eqb, Decides-like}
@@ -11,7 +11,13 @@ use Rattle.td_base.proofs.Decided.{capitals_decided, some_where}
 use Rattle.td_table_model.specs.declared.rule.Rule.{Rule}
 use Rattle.td_table_model.specs.declared.rule.Rule.TheVariants.{S1}
 use Rattle.typed_sql.specs.Typed.{AreTyped, typed_rows}
-use Rattle.td_store_rows.specs.Columns.{MetaRow, meta_row, meta_typing, newest_version}
+use Rattle.sqlite.specs.State.{State}
+use Rattle.td_store_audit_rows.specs.declared.tables.Readable.{Readable}
+use Rattle.td_store_audit_rows.specs.Scans.{TellReadable}
+use Rattle.td_store_audit.specs.Keeping.{KeepsTables}
+use Rattle.td_store_audit.specs.InFile.{IsSoWhere}
+use Rattle.td_store_rows.specs.Columns.{MetaRow, meta_row, meta_typing}
+use Rattle.td_schema.specs.Layouts.{desk_schema, newest_layout, newest_version}
 use Rattle.td_store_rows.specs.MetaTable.{stored_of}
 use Rattle.td_store_rows.specs.StoreTables.{HasOfficeRow}
 use Rattle.td_store_rows.specs.declared.meta.stored.StoredMeta.{StoredMeta}
@@ -20,7 +26,7 @@ use Rattle.td_store_audit_rows.specs.Laws.{AreKept, KeptRulesMeanContent}
 use Rattle.td_store_audit.specs.Broken.{TellsBroken}
 use Rattle.td_store.specs.declared.refused.OpenFault.{OpenFault}
 use Rattle.td_store.specs.declared.refused.OpenFault.TheVariants.{UnknownVersion, NeedsMigration, OtherCountry, Damaged, Store, NoMemory}
-use Rattle.td_store.specs.Opened.{IsOfAnother, IsOfVersion, TellsOffice, TellsRows, TellsTables}
+use Rattle.td_store.specs.Opened.{IsOfAnother, IsOfVersion, TellsOffice, TellsRows, TellsRules, TellsTables}
 
 country_decided : (text : List ℕ) → Decides (is_country text) (IsCountry text)
 country_decided text =
@@ -92,10 +98,10 @@ module _ (country : List ℕ) (trees : Trees) (office : Option StoredMeta)
   judged (Some NoMemory) letters said some = said
 
   -- and where it isn't refused, what the rules tell
-  pub audited : (broken : Option Rule) → TellsOffice country office None → HaveAllIds trees → KeptRulesMeanContent
-      → AreKept trees → TellsBroken trees broken → TellsTables country trees (option_map Damaged broken)
+  pub audited : (broken : Option Rule) → TellsOffice country office None → HaveAllIds newest_layout trees → KeptRulesMeanContent
+      → AreKept newest_layout trees → TellsBroken newest_layout trees broken → TellsTables country trees (option_map Damaged broken)
   audited None said ids law kept all =
-      record { content = law trees kept all; office = of_this said (record { ids = ids.meta; cells = (all S1).0.1 }) }
+      record { content = law newest_layout trees kept all; office = of_this said (record { ids = ids.meta; cells = (all S1).0.1 }) }
   audited (Some rule) said ids law kept first = record { first = first; office = of_this said }
 
   -- and what is then told of the rows
@@ -104,3 +110,11 @@ module _ (country : List ℕ) (trees : Trees) (office : Option StoredMeta)
   rows_judged said law (Ok fault) rows =
       subst (TellsTables country trees) (sym rows.1) (audited rows.0 said rows.2 law rows.3 rows.4)
   rows_judged said law (Err error) rows = rows
+
+-- what the first rule that is broken, or none, tells of tables of which an open connection tells what the database keeps
+pub rules_told : (s : State) → KeepsTables s → IsTrue s.is_open → s.now.schema ≡ desk_schema → (readable : Readable) (broken : Option Rule)
+    → IsSoWhere AreKept (λ layout trees. TellReadable layout readable trees → TellsBroken layout trees broken) s
+    → TellsRules readable s.now.trees broken
+rules_told s keeps is_open has readable broken told ids read =
+    let kept = keeps newest_layout is_open (λ _. has) ids in
+    (kept, told newest_layout refl (λ _. has) kept read)

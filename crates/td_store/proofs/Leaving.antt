@@ -10,10 +10,11 @@ use Rattle.sqlite.proofs.Callers.{survives_begin}
 use Rattle.sqlite.proofs.StateLemmas.{survives_then, survives_weaker}
 use Rattle.td_desk.specs.Content.{Content}
 use Rattle.td_desk.specs.View.{AddsAtMost, IsSettled, LeavesOnly}
-use Rattle.td_schema.specs.Tables.{desk_schema}
+use Rattle.td_schema.specs.Layouts.{desk_schema, newest_layout}
 use Rattle.typed_sql.proofs.OnlyRead.{stays_on}
 use Rattle.typed_sql.specs.Reading.{Reads, StaysInside}
 use Rattle.typed_sql.specs.Writing.{HasSchema}
+use Rattle.td_store_rows.specs.StoreReads.{ReadsNewest}
 use Rattle.td_store_rows.specs.StoreTables.{AreTreesOf, HoldsContent, content_in}
 use Rattle.td_store.specs.Kept.{CountsFaults, CrashLeavesShown, sql_view}
 use Rattle.td_store.proofs.Holding.{holds_shown, one_content}
@@ -44,6 +45,10 @@ read_commits g old read new settled reading still committing =
     (λ clean trees is.
     let there = still (omega (arith, clean, committing.clean)) in
     (settled there.0 trees).1 (is ∙ ap (λ (d : Database). d.trees) there.1)) reading committing))
+
+-- what only read a store's file of the newest version did so under the tables of its layout
+pub at_newest : {a b : State} → ReadsNewest true a b → Reads desk_schema true a b
+at_newest reads = record { still = λ clean well. reads.still clean well newest_layout refl; within = reads.within }
 
 -- so where it was seen after that
 pub seen_commits : {S : Type 0} (g : Ghosts S) (old : Held S) (read seen new : State) → CrashLeavesShown (state g old)

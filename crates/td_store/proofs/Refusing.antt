@@ -8,13 +8,14 @@ use Rattle.sqlite_trees.specs.Tree.{Trees}
 use Rattle.sqlite.specs.Effect.{Database, IsDatabase}
 use Rattle.sqlite.specs.State.{State, IsLive}
 use Rattle.td_desk.specs.Content.{Content}
-use Rattle.td_schema.specs.Tables.{desk_schema}
+use Rattle.td_schema.specs.Layouts.{desk_schema, newest_layout, newest_version}
 use Rattle.typed_sql.specs.Typed.{row_of, typed_rows}
-use Rattle.td_store_rows.specs.Columns.{meta_row, meta_typing, newest_version}
+use Rattle.td_store_rows.specs.Columns.{meta_row, meta_typing}
 use Rattle.td_store_rows.specs.StoreTables.{HasOfficeRow, HoldsContent, country_in, content_in}
 use Rattle.td_store_rows.proofs.Turned.{listed_there}
 use Rattle.td_store_audit_rows.specs.Laws.{ContentKeepsRules}
 use Rattle.td_store.proofs.Begins.{store_begins}
+use Rattle.td_store.proofs.Holding.{schema_newest, tables_newest, typed_newest}
 use Rattle.td_store.specs.declared.refused.OpenFault.{OpenFault}
 use Rattle.td_store.specs.declared.refused.OpenFault.TheVariants.{UnknownVersion, NeedsMigration, OtherCountry, Damaged, Store, NoMemory}
 use Rattle.td_store.specs.Opened.{AreOfDesk, IsOfAnother, IsOfUnknownVersion, LacksMeta, TellsDatabase, TellsTables}
@@ -29,14 +30,16 @@ of_desk country db (inr (inr told)) = told
 holds : (country : List ℕ) (s : State) → s.now.schema ≡ desk_schema → IsDatabase s.now → AreOfDesk country s.now.trees
     → HoldsContent (content_in s.now.trees) s
 holds country s has obeys desk = record {
-  schema = λ _. has;
   trees = record {
-    listed = listed_there s.now has obeys;
+    layout = newest_layout;
+    newest = refl;
+    listed = listed_there newest_layout s.now has obeys;
     typed = desk.content.typed;
     sound = desk.content.sound;
     tables = desk.content.tables;
     office = desk.office ∙ ap (λ k. meta_row newest_version k ∷ []) (sym (ap country_in desk.office));
   };
+  schema = λ _. has;
 }
 
 -- so an open connection that sees that database holds the content of its trees, which is of that country
@@ -96,12 +99,13 @@ module _ (country : List ℕ) (s : State) (is_open : IsTrue s.is_open) (c : Cont
   sound_tables (NeedsMigration version) told = told
   sound_tables OtherCountry told = let other = told has.trees.typed.meta in other.2 (ap country_in (sym other.1 ∙ row))
   sound_tables (Damaged rule) told =
-      told.first.broken (keeps s.now.trees c has.trees.typed (one_row country s.now.trees row) has.trees.sound has.trees.tables rule)
+      told.first.broken (keeps newest_layout s.now.trees c (typed_newest c s.now.trees has.trees) (one_row country s.now.trees row) has.trees.sound
+      (tables_newest c s.now.trees has.trees) rule)
   sound_tables Store told = told
   sound_tables NoMemory told = told
 
   known : ¬ IsOfUnknownVersion s.now
-  known (inl lacks) = none_lacks s.now.schema (has.schema is_open) lacks
+  known (inl lacks) = none_lacks s.now.schema (schema_newest c s has is_open) lacks
   known (inr other) = other.1 (record { typed = has.trees.typed.meta; country = country; row = row })
 
   -- where sound content of that country stands, nothing is said of the database

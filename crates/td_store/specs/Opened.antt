@@ -6,9 +6,9 @@ use Rattle.sqlite_schema.specs.declared.schema.Schema.{Schema}
 use Rattle.sqlite_trees.specs.Tree.{Trees}
 use Rattle.sqlite.specs.Effect.{Database}
 use Rattle.td_table_model.specs.declared.rule.Rule.{Rule}
-use Rattle.td_schema.specs.Tables.{desk_schema}
+use Rattle.td_schema.specs.Layouts.{desk_schema, newest_layout, newest_version}
 use Rattle.typed_sql.specs.Typed.{AreTyped, typed_rows}
-use Rattle.td_store_rows.specs.Columns.{MetaIsFirst, meta_typing, newest_version}
+use Rattle.td_store_rows.specs.Columns.{MetaIsFirst, meta_typing}
 use Rattle.td_store_rows.specs.MetaTable.{stored_of}
 use Rattle.td_store_rows.specs.declared.meta.stored.StoredMeta.{StoredMeta}
 use Rattle.td_store_audit_rows.specs.Untyped.{IsFirstBrokenUntyped}
@@ -46,12 +46,12 @@ IsOfAnother country trees =
 
 -- the tables break this rule first; where the office's own row is typed, it says version 1 and this country
 pub record AreDamaged (country : List ℕ) (rule : Rule) (trees : Trees) : Type 0 where
-  pub first : IsFirstBrokenUntyped trees rule
+  pub first : IsFirstBrokenUntyped newest_layout trees rule
   pub office : AreTyped meta_typing trees → HasOfficeRow newest_version country trees
 
 -- they hold sound content, and the office's own row says version 1 and this country
 pub record AreOfDesk (country : List ℕ) (trees : Trees) : Type 0 where
-  pub content : HoldSoundContent trees
+  pub content : HoldSoundContent newest_layout trees
   pub office : HasOfficeRow newest_version country trees
 
 -- what a fault, or none, says of a store's tables
@@ -96,8 +96,8 @@ TellsOtherVersion trees fault = (fault ≡ Store) ⊎ ((fault ≡ UnknownVersion
 -- where the rowids are integers, no two the same, and these tables can be read, it is told what the rules say of the tables
 abbrev pub TellsRules : Readable → Trees → Option Rule → Type 0
 TellsRules readable trees broken =
-    HaveAllIds trees → TellReadable readable trees → AreKept trees × TellsBroken trees broken
+    HaveAllIds newest_layout trees → TellReadable newest_layout readable trees → AreKept newest_layout trees × TellsBroken newest_layout trees broken
 
 -- and what a fault, or none, then says of them: the first rule that they break
 abbrev pub TellsRows : Trees → Option OpenFault → Type 0
-TellsRows trees fault = (broken : Option Rule) × (fault ≡ option_map Damaged broken) × HaveAllIds trees × AreKept trees × TellsBroken trees broken
+TellsRows trees fault = (broken : Option Rule) × (fault ≡ option_map Damaged broken) × HaveAllIds newest_layout trees × AreKept newest_layout trees × TellsBroken newest_layout trees broken

@@ -3,7 +3,8 @@ ghost use Rattle.td_store.specs.Opened.{TellsOffice};
 
 use crate::refused::OpenFault;
 use td_base::Country;
-use td_store_rows::{NEWEST_VERSION, StoredMeta};
+use td_schema::NEWEST_VERSION;
+use td_store_rows::StoredMeta;
 
 /// What the office's own row is refused for, at an office of that country: `UnknownVersion` where there is none, or its version
 /// isn't the newest; else `OtherCountry` where its country isn't that one.

@@ -5,12 +5,12 @@ ghost use Rattle.sqlite.specs.State.{HasCleanDisk, Survives};
 ghost use Rattle.td_desk.specs.Content.{Content};
 ghost use Rattle.td_desk.specs.View.{IsSettled};
 ghost use Rattle.td_table_model.specs.declared.rule.Rule.{Rule};
-ghost use Rattle.td_schema.specs.Tables.{desk_schema};
+ghost use Rattle.td_schema.specs.Layouts.{desk_schema};
 ghost use Rattle.td_store_rows.specs.StoreTables.{HasOfficeRow, HoldsContent, content_in};
 ghost use Rattle.td_store.specs.declared.refused.OpenFault.TheVariants as fault;
 ghost use Rattle.td_store.specs.Kept.{CrashLeavesShown, sql_view};
 ghost use Rattle.td_store.specs.Opened.{AreDamaged, IsOfAnother, IsOfUnknownVersion, LacksMeta};
-ghost use Rattle.td_store_rows.specs.Columns.{newest_version};
+ghost use Rattle.td_schema.specs.Layouts.{newest_version};
 
 use crate::desk::SqlDesk;
 use crate::judging::refusal;

@@ -4,14 +4,15 @@ ghost use Rattle.sqlite.specs.Held.{state};
 ghost use Rattle.sqlite.specs.State.{HasCleanDisk};
 ghost use Rattle.sqlite.specs.Steps.{over_memory};
 ghost use Rattle.td_schema.specs.Tables.{IsEmptyOf};
-ghost use Rattle.td_schema.specs.Tables.{desk_schema, no_schema};
+ghost use Rattle.td_schema.specs.Layouts.{desk_schema};
+ghost use Rattle.td_schema.specs.Tables.{no_schema};
 ghost use Rattle.td_store.specs.Opened.{AreTold, LacksMeta};
 
 use same_schema::{has_same_first_table, is_same_schema};
 use sqlite::{Connection, Error, MemStore};
 use sqlite_trees::store::Alter;
 use std::alloc::Global;
-use td_schema::make_tables;
+use td_schema::{NEWEST_LAYOUT, make_tables};
 
 /// Whether the database has no table `meta`.
 pub(crate) fn lacks_meta<S: Alter>(conn: &Connection<S>) -> bool
@@ -27,7 +28,7 @@ fn make_store_tables<S: Alter>(conn: &mut Connection<S>) -> Result<(), Error>
         → (state S.Store conn.new).now.schema ≡ desk_schema) }
 {
     let mut tx = conn.transaction();
-    make_tables(&mut tx)?;
+    make_tables(&mut tx, NEWEST_LAYOUT)?;
     tx.commit()
 }
 

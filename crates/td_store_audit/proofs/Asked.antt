@@ -6,33 +6,33 @@ use Rattle.sqlite.specs.State.{State}
 use Rattle.sqlite.specs.declared.error.Error.{Error}
 use Rattle.td_table_model.specs.declared.rule.Rule.{Rule}
 use Rattle.td_table_model.specs.declared.rule.Rule.TheVariants.{S2, S3, S4, S5}
-use Rattle.td_store_rows.specs.Columns.{code_typing, guarantee_typing}
-use Rattle.td_store_audit_rows.specs.Fields.{AreCodeFields, AreGuaranteeFields}
+use Rattle.td_schema.specs.declared.layout.Layout.{Layout}
+use Rattle.td_store_rows.specs.StoreReads.{OnlyReadNewest}
+use Rattle.td_store_rows.proofs.StoreReads.{none_newest}
+use Rattle.td_store_rows.specs.Columns.{guarantee_typing}
+use Rattle.td_store_audit_rows.specs.Fields.{AreGuaranteeFields}
 use Rattle.td_store_audit_rows.specs.Untyped.{IsFirstBrokenUntyped, KeepsUntyped}
 use Rattle.td_store_audit_rows.specs.Scans.{TellsRead}
 use Rattle.td_store_audit_rows.specs.declared.holders.RawHolder.{RawHolder}
 use Rattle.td_store_audit_rows.specs.declared.tables.Readable.{Readable}
+use Rattle.td_store_audit.specs.Premises.{TellsCodes}
 use Rattle.td_store_audit.specs.Auditable.{TellsRule, TellsS2}
 use Rattle.td_store_audit.specs.Broken.{HasOffice, IsNextRule, TellsBroken}
 use Rattle.td_store_audit.specs.InFile.{IsSoWhere, TellsWhere}
-use Rattle.td_store_audit.specs.Premises.{AreCodesAuditable}
 use Rattle.td_store_audit.proofs.Reading.{so_before}
 use Rattle.td_store_audit.proofs.Succession.{broken_here, codes_next, first_next, holders_next, kept_on, table_next, told_before}
-use Rattle.typed_sql.proofs.OnlyRead.{none_read}
-use Rattle.typed_sql.specs.Reading.{OnlyRead}
-use Rattle.td_schema.specs.Tables.{desk_schema}
 
 module _ (country : List ℕ) (holders : List RawHolder) (readable : Readable) (a : State) where
-  abbrev Q : Trees → Type 0
+  abbrev Q : Layout → Trees → Type 0
   Q = HasOffice country holders readable
 
   first : IsSoWhere Q (IsNextRule S2 country holders readable) a
-  first has office = first_next country holders readable a.now.trees office
+  first layout newest has office = first_next country holders readable layout a.now.trees office
 
-  holders_told : (keeps : Bool) → TellsS2 holders keeps → TellsWhere Q (λ trees. KeepsUntyped trees S2) a keeps
-  holders_told keeps told = told_before country holders readable Q a S2 first keeps a (none_read a) (holders_next country holders readable a keeps told)
+  holders_told : (keeps : Bool) → TellsS2 holders keeps → TellsWhere Q (λ layout trees. KeepsUntyped layout trees S2) a keeps
+  holders_told keeps told = told_before country holders readable Q a S2 first keeps a (none_newest a) (holders_next country holders readable a keeps told)
 
-  pub holders_broken : (keeps : Bool) → keeps ≡ false → TellsS2 holders keeps → IsSoWhere Q (λ trees. IsFirstBrokenUntyped trees S2) a
+  pub holders_broken : (keeps : Bool) → keeps ≡ false → TellsS2 holders keeps → IsSoWhere Q (λ layout trees. IsFirstBrokenUntyped layout trees S2) a
   holders_broken keeps is told = broken_here country holders readable Q a S2 first keeps (holders_told keeps told) is
 
   -- S2 is kept
@@ -41,36 +41,34 @@ module _ (country : List ℕ) (holders : List RawHolder) (readable : Readable) (
     after_holders = kept_on country holders readable Q a S2 first keeps (holders_told keeps told) is S3 refl
 
     abbrev TellsGuarantees : Bool → Type 0
-    TellsGuarantees b = TellsRead guarantee_typing AreGuaranteeFields a.now.trees readable.guarantees → TellsRule S3 country holders a b
+    TellsGuarantees b =
+        TellsRule (λ layout trees. TellsRead (guarantee_typing layout) AreGuaranteeFields trees readable.guarantees) S3 country holders a b
 
-    guarantees_told : (b : Bool) → TellsGuarantees b → TellsWhere Q (λ trees. KeepsUntyped trees S3) a b
+    guarantees_told : (b : Bool) → TellsGuarantees b → TellsWhere Q (λ layout trees. KeepsUntyped layout trees S3) a b
     guarantees_told b tells =
-        told_before country holders readable Q a S3 after_holders b a (none_read a)
-        (table_next country holders readable a S3 b (λ has next. tells next.office.told.guarantees))
+        told_before country holders readable Q a S3 after_holders b a (none_newest a)
+        (table_next country holders readable a S3 b
+        (λ layout newest has next. tells layout newest has next.office.told.guarantees next.office.known next.before))
 
-    pub guarantees_broken : (b : Bool) → b ≡ false → TellsGuarantees b → IsSoWhere Q (λ trees. IsFirstBrokenUntyped trees S3) a
+    pub guarantees_broken : (b : Bool) → b ≡ false → TellsGuarantees b → IsSoWhere Q (λ layout trees. IsFirstBrokenUntyped layout trees S3) a
     guarantees_broken b here tells = broken_here country holders readable Q a S3 after_holders b (guarantees_told b tells) here
 
     -- so is S3
-    module _ (b : Bool) (here : IsTrue b) (tells : TellsGuarantees b) (m : State) (read : OnlyRead desk_schema a m) where
+    module _ (b : Bool) (here : IsTrue b) (tells : TellsGuarantees b) (m : State) (read : OnlyReadNewest a m) where
       after_guarantees : IsSoWhere Q (IsNextRule S4 country holders readable) a
       after_guarantees = kept_on country holders readable Q a S3 after_holders b (guarantees_told b tells) here S4 refl
 
-      abbrev TellsCodes : Bool → Type 0
-      TellsCodes k =
-          AreCodesAuditable m holders → TellsRead code_typing AreCodeFields m.now.trees readable.codes → IsTrue k ↔ KeepsUntyped m.now.trees S4
-
-      codes_told : (k : Bool) → TellsCodes k → TellsWhere Q (λ trees. KeepsUntyped trees S4) a k
+      codes_told : (k : Bool) → TellsCodes readable.codes holders m k → TellsWhere Q (λ layout trees. KeepsUntyped layout trees S4) a k
       codes_told k says = told_before country holders readable Q a S4 after_guarantees k m read (codes_next country holders readable m k says)
 
-      pub codes_broken : (k : Bool) → k ≡ false → TellsCodes k → IsSoWhere Q (λ trees. IsFirstBrokenUntyped trees S4) a
+      pub codes_broken : (k : Bool) → k ≡ false → TellsCodes readable.codes holders m k → IsSoWhere Q (λ layout trees. IsFirstBrokenUntyped layout trees S4) a
       codes_broken k so says = broken_here country holders readable Q a S4 after_guarantees k (codes_told k says) so
 
       -- so is S4: what is told of the rules behind it is told of all
-      module _ (k : Bool) (so : IsTrue k) (says : TellsCodes k) (d : State) (read_on : OnlyRead desk_schema a d) where
-        pub all_told : (result : Result (Option Rule) Error) → IfOk result (λ broken. IsSoWhere (IsNextRule S5 country holders readable) (λ trees. TellsBroken trees broken) d)
-            → IfOk result (λ broken. IsSoWhere Q (λ trees. TellsBroken trees broken) a)
+      module _ (k : Bool) (so : IsTrue k) (says : TellsCodes readable.codes holders m k) (d : State) (read_on : OnlyReadNewest a d) where
+        pub all_told : (result : Result (Option Rule) Error) → IfOk result (λ broken. IsSoWhere (IsNextRule S5 country holders readable) (λ layout trees. TellsBroken layout trees broken) d)
+            → IfOk result (λ broken. IsSoWhere Q (λ layout trees. TellsBroken layout trees broken) a)
         all_told (Err e) rest = rest
-        all_told (Ok broken) rest = λ has office.
-            so_before (IsNextRule S5 country holders readable) (λ trees. TellsBroken trees broken) a d read_on rest has
-            (kept_on country holders readable Q a S4 after_guarantees k (codes_told k says) so S5 refl has office)
+        all_told (Ok broken) rest = λ layout newest has office.
+            so_before (IsNextRule S5 country holders readable) (λ layout trees. TellsBroken layout trees broken) a d read_on rest layout newest has
+            (kept_on country holders readable Q a S4 after_guarantees k (codes_told k says) so S5 refl layout newest has office)

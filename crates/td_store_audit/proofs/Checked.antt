@@ -9,12 +9,9 @@ use Rattle.sqlite_trees.specs.Tree.{Trees, rowid}
 use Rattle.sqlite_sql.specs.declared.ops.BinaryOp.TheVariants.{And, Compare}
 use Rattle.sqlite_sql.specs.declared.ops.CompareOp.TheVariants.{Ge, Le}
 use Rattle.sqlite_sql.specs.Ops.{binary}
-use Rattle.sqlite_schema.specs.declared.schema.Constraint.TheVariants.{Check}
-use Rattle.sqlite_schema.specs.Rules.{passes}
 use Rattle.sqlite_typed.proofs.TestLemmas.{at_and, at_ints, truth_or}
-use Rattle.td_schema.specs.Tables.{desk_schema}
 use Rattle.typed_sql.specs.Values.{number_value}
-use Rattle.td_store_audit.proofs.Ruled.{both, holders_there}
+use Rattle.td_store_audit.proofs.Ruled.{IsChecked, both}
 
 -- the row's rowid is a number of six digits, and not 0
 pub record IsNumbered (row : Row) : Type 0 where
@@ -23,8 +20,8 @@ pub record IsNumbered (row : Row) : Type 0 where
   pub least : 1 ≤ number
   pub most : number ≤ 999999
 
-pub checked : (trees : Trees) (row : Row) (id : ℤ) → rowid row ≡ Int id → passes Check desk_schema trees holders_there row ≡ true → IsNumbered row
-checked trees row id is passed =
+pub checked : (row : Row) (id : ℤ) → rowid row ≡ Int id → IsChecked row → IsNumbered row
+checked row id is passed =
     let low = binary (Compare Ge Binary) (rowid row) (Int (pos 1)) in
     let high = binary (Compare Le Binary) (rowid row) (Int (pos 999999)) in
     let tests = at_and true low high (ap (λ v. truth_or true (binary (Compare Ge Binary) v (Int (pos 1)))) is ∙ at_ints true Ge id (pos 1))

@@ -21,6 +21,7 @@ use Rattle.td_table_model.specs.Rules.{HasGuarantees, HasLines, IsHolderCovered}
 use Rattle.td_table_model.specs.Tables.{Keyed, Tables}
 use Rattle.td_table_model.proofs.Ruled.{are_mine}
 use Rattle.typed_sql.specs.Typed.{AreTyped}
+use Rattle.td_schema.specs.declared.layout.Layout.{Layout}
 use Rattle.td_store_rows.specs.Columns.{guarantee_typing, movement_typing, line_typing}
 use Rattle.td_store_rows.specs.StoreTables.{tables_in}
 use Rattle.td_store_audit_rows.specs.Found.{FoundHoldersTell}
@@ -34,17 +35,17 @@ use Rattle.td_store_audit.proofs.HoldersTold.{holders_tell, of_pairs}
 use Rattle.td_store_audit.proofs.InUse.{found_by_own, used_is}
 
 -- the tables are typed, where the rules before S8 are kept
-module _ (trees : Trees) (country : List ℕ) (holders : List RawHolder) (known : IsAuditable trees country holders) (before : KeepsBefore trees S8) where
-  guarantees_kept : KeepsUntyped trees S3
+module _ (layout : Layout) (trees : Trees) (country : List ℕ) (holders : List RawHolder) (known : IsAuditable layout trees country holders) (before : KeepsBefore layout trees S8) where
+  guarantees_kept : KeepsUntyped layout trees S3
   guarantees_kept = before S3 (omega arith)
 
-  movements_kept : KeepsUntyped trees S5
+  movements_kept : KeepsUntyped layout trees S5
   movements_kept = before S5 (omega arith)
 
-  lines_kept : KeepsUntyped trees S6
+  lines_kept : KeepsUntyped layout trees S6
   lines_kept = before S6 (omega arith)
 
-  pub guarantees_typed : AreTypedApart guarantee_typing trees
+  pub guarantees_typed : AreTypedApart (guarantee_typing layout) trees
   guarantees_typed = record {
     typed = record { ids = known.kept.ids.guarantees; cells = guarantees_kept.0.1 };
     apart = (known.kept.guarantees guarantees_kept.0.1).apart;
@@ -59,10 +60,10 @@ module _ (trees : Trees) (country : List ℕ) (holders : List RawHolder) (known 
   pub lines_typed : AreTyped line_typing trees
   lines_typed = record { ids = known.kept.ids.lines; cells = lines_kept.0 }
 
-module _ (law : FoundHoldersTell) (trees : Trees) (country : List ℕ) (holders : List RawHolder) (known : IsAuditable trees country holders)
-    (before : KeepsBefore trees S8) where
+module _ (law : FoundHoldersTell) (layout : Layout) (trees : Trees) (country : List ℕ) (holders : List RawHolder) (known : IsAuditable layout trees country holders)
+    (before : KeepsBefore layout trees S8) where
   abbrev t : Tables
-  t = tables_in trees
+  t = tables_in layout trees
 
   -- what is known of a holder's row
   record IsKnown (row : HolderRow) : Type 0 where
@@ -75,7 +76,7 @@ module _ (law : FoundHoldersTell) (trees : Trees) (country : List ℕ) (holders 
       all_both (λ row. HasGuarantees t row × HasLines t row) (λ (row : HolderRow). IsHolderNumber row.holder) IsKnown
       (λ row has number. record { number = number; guarantees = has.0; lines = has.1 }) t.holders
       (all_both (HasGuarantees t) (HasLines t) (λ row. HasGuarantees t row × HasLines t row) (λ row a b. (a, b)) t.holders (before S3 (omega arith)).1 (before S6 (omega arith)).1)
-      (holders_tell law trees country holders known).numbers
+      (holders_tell law layout trees country holders known).numbers
 
   module _ (row : HolderRow) (is : IsKnown row) where
     abbrev H : ℕ
@@ -100,48 +101,48 @@ module _ (law : FoundHoldersTell) (trees : Trees) (country : List ℕ) (holders 
         (guarantees_by H t) (are_mine H t.guarantees) (found_by_own place 0 (guarantees_by H t) is.guarantees.serials)
 
     -- so the holder is covered exactly where each row is
-    covered : IsHolderCovered t row → AllByRecursion (IsRowCovered trees) (guarantees_by H t)
+    covered : IsHolderCovered t row → AllByRecursion (IsRowCovered layout trees) (guarantees_by H t)
     covered keeps =
         all_both (λ (g : Keyed Guarantee). sum_by cents_of (lines_in_use g.holder g.serial t) ≡ used_on g.row.grn movements)
-        (λ g. IsCovered movements (with_codes t g)) (IsRowCovered trees) (λ g sum low. omega (arith, sum, low)) (guarantees_by H t) all_same
+        (λ g. IsCovered movements (with_codes t g)) (IsRowCovered layout trees) (λ g sum low. omega (arith, sum, low)) (guarantees_by H t) all_same
         (all_from_map (IsCovered movements) (with_codes t) (guarantees_by H t) keeps)
 
-    kept : AllByRecursion (IsRowCovered trees) (guarantees_by H t) → IsHolderCovered t row
+    kept : AllByRecursion (IsRowCovered layout trees) (guarantees_by H t) → IsHolderCovered t row
     kept each =
         all-map (IsCovered movements) (with_codes t) (guarantees_by H t)
         (all_both (λ (g : Keyed Guarantee). sum_by cents_of (lines_in_use g.holder g.serial t) ≡ used_on g.row.grn movements)
-        (IsRowCovered trees) (λ g. IsCovered movements (with_codes t g)) (λ g sum low. omega (arith, sum, low)) (guarantees_by H t) all_same each)
+        (IsRowCovered layout trees) (λ g. IsCovered movements (with_codes t g)) (λ g sum low. omega (arith, sum, low)) (guarantees_by H t) all_same each)
 
   abbrev AreCovered : ℕ → Type 0
-  AreCovered H = AllByRecursion (IsRowCovered trees) (guarantees_by H t)
+  AreCovered H = AllByRecursion (IsRowCovered layout trees) (guarantees_by H t)
 
-  pub kept_each : KeepsUntyped trees S8 ↔ AllByRecursion (IsHolderCoveredInFile trees) holders
+  pub kept_each : KeepsUntyped layout trees S8 ↔ AllByRecursion (IsHolderCoveredInFile layout trees) holders
   kept_each =
-      let pairs = of_pairs holder_no (λ (h : RawHolder). h.holder) AreCovered t.holders holders (holders_tell law trees country holders known).same in (
+      let pairs = of_pairs holder_no (λ (h : RawHolder). h.holder) AreCovered t.holders holders (holders_tell law layout trees country holders known).same in (
         λ keeps. pairs.0 (all_both IsKnown (IsHolderCovered t) (λ row. AreCovered (holder_no row)) covered t.holders all_known keeps.1),
         λ each. (tt, all_both IsKnown (λ row. AreCovered (holder_no row)) (IsHolderCovered t) kept t.holders all_known (pairs.1 each)),
       )
 
 -- what was handed on of each holder is so
-all_handed_on : (trees : Trees) (country : List ℕ) (handed : List HolderLines) → IsCoverAuditable country handed trees → AllByRecursion (IsHandedOn trees) handed
-all_handed_on trees country handed is =
-    all_both (λ h. AreCounting trees (movements_in h)) (AreItsLines trees) (IsHandedOn trees)
+all_handed_on : (layout : Layout) (trees : Trees) (country : List ℕ) (handed : List HolderLines) → IsCoverAuditable country handed layout trees → AllByRecursion (IsHandedOn layout trees) handed
+all_handed_on layout trees country handed is =
+    all_both (λ h. AreCounting layout trees (movements_in h)) (AreItsLines layout trees) (IsHandedOn layout trees)
     (λ h counting lines. record {
-      guarantees = guarantees_typed trees country (map raw_holder_of handed) is.known is.before;
-      apart = (movements_typed trees country (map raw_holder_of handed) is.known is.before).apart h.movements.raw.holder;
+      guarantees = guarantees_typed layout trees country (map raw_holder_of handed) is.known is.before;
+      apart = (movements_typed layout trees country (map raw_holder_of handed) is.known is.before).apart h.movements.raw.holder;
       counting = counting;
       lines = lines;
     }) handed is.counting is.lines
 
 -- so it is told
 pub told_cover : (a : State) (handed : List HolderLines) → FoundHoldersTell → (result : Result Bool Error)
-    → IfOk result (TellsWhere (λ trees. AllByRecursion (IsHandedOn trees) handed) (λ trees. AllByRecursion (λ h. IsHolderCoveredInFile trees (raw_holder_of h)) handed) a)
-    → IfOk result (λ keeps. (country : List ℕ) → TellsWhere (IsCoverAuditable country handed) (λ trees. KeepsUntyped trees S8) a keeps)
+    → IfOk result (TellsWhere (λ layout trees. AllByRecursion (IsHandedOn layout trees) handed) (λ layout trees. AllByRecursion (λ h. IsHolderCoveredInFile layout trees (raw_holder_of h)) handed) a)
+    → IfOk result (λ keeps. (country : List ℕ) → TellsWhere (IsCoverAuditable country handed) (λ layout trees. KeepsUntyped layout trees S8) a keeps)
 told_cover a handed law (Err e) each = each
-told_cover a handed law (Ok told) each = λ country has is.
+told_cover a handed law (Ok told) each = λ country layout newest has is.
     let trees = a.now.trees in
-    let whole = each has (all_handed_on trees country handed is) in
-    let rule = kept_each law trees country (map raw_holder_of handed) is.known is.before in (
-      λ t. rule.1 (all-map (IsHolderCoveredInFile trees) raw_holder_of handed (whole.0 t)),
-      λ keeps. whole.1 (all_from_map (IsHolderCoveredInFile trees) raw_holder_of handed (rule.0 keeps)),
+    let whole = each layout newest has (all_handed_on layout trees country handed is) in
+    let rule = kept_each law layout trees country (map raw_holder_of handed) is.known is.before in (
+      λ t. rule.1 (all-map (IsHolderCoveredInFile layout trees) raw_holder_of handed (whole.0 t)),
+      λ keeps. whole.1 (all_from_map (IsHolderCoveredInFile layout trees) raw_holder_of handed (rule.0 keeps)),
     )

@@ -1,5 +1,5 @@
 -- S3 is kept exactly where each row of guarantees is read, and each holder's are in their places.
-use Rattle.std.proofs.Common.{◌≡◌, ◌∙◌, ◌<◌, ◌^◌, ℕ, Bool, false, List, Ok, Err, Result, subst, sym, arith}
+use Rattle.std.proofs.Common.{◌≡◌, ◌∙◌, ◌<◌, ◌^◌, ℕ, Bool, false, List, Ok, Err, Result, subst, sym, arith, Some, map, refl}
 use Rattle.std.proofs.lemmas.Bool.{false≢true}
 use Rattle.std.specs.Prelude.{◌↔◌, ◌==◌, IfOk, IsTrue}
 use Rattle.std.specs.List.{AllByRecursion}
@@ -14,6 +14,9 @@ use Rattle.td_table_model.specs.Rules.{HasGuarantees, IsGuaranteeInRange}
 use Rattle.td_table_model.specs.Tables.{Tables}
 use Rattle.td_table_model.proofs.Rebuilt.{all_in_order}
 use Rattle.typed_sql.specs.Typed.{IsTypedRow, row_of}
+use Rattle.td_schema.specs.declared.layout.Layout.{Layout}
+use Rattle.td_store_rows.specs.GuaranteeTable.{AreBySerial, is_of, guarantee_row_of}
+use Rattle.td_store_rows.specs.declared.guarantees.stored.StoredGuarantee.{StoredGuarantee}
 use Rattle.td_store_rows.specs.Columns.{holder_typing, guarantee_typing}
 use Rattle.td_store_rows.specs.StoreTables.{tables_in}
 use Rattle.td_store_audit_rows.specs.InPlace.{AreGuaranteesInPlace, IsGuaranteeInPlace}
@@ -27,32 +30,32 @@ use Rattle.td_store_audit.specs.Auditable.{IsAuditable, TellsRule}
 use Rattle.td_store_audit.specs.InFile.{AreTypedApart, HasGuaranteesInPlace, TellsWhere}
 use Rattle.td_store_audit.proofs.HoldersTold.{holders_tell, of_pairs, owners}
 
-abbrev AreAllRead : Trees → Type 0
-AreAllRead trees = AllRows guarantee_typing (IsReadRow guarantee_typing AreGuaranteeFields) trees
+abbrev AreAllRead : Layout → Trees → Type 0
+AreAllRead layout trees = AllRows (guarantee_typing layout) (IsReadRow (guarantee_typing layout) AreGuaranteeFields) trees
 
-module _ (law : FoundHoldersTell) (trees : Trees) (country : List ℕ) (holders : List RawHolder) (known : IsAuditable trees country holders) where
+module _ (law : FoundHoldersTell) (layout : Layout) (trees : Trees) (country : List ℕ) (holders : List RawHolder) (known : IsAuditable layout trees country holders) where
   abbrev t : Tables
-  t = tables_in trees
+  t = tables_in layout trees
 
   -- where S3 is kept each row is read
-  pub kept_read : GuaranteesAreRead → KeepsUntyped trees S1 → KeepsUntyped trees S3 → AreAllRead trees
+  pub kept_read : GuaranteesAreRead → KeepsUntyped layout trees S1 → KeepsUntyped layout trees S3 → AreAllRead layout trees
   kept_read read first keeps =
       let keyed = known.kept.guarantees keeps.0.1 in
-      read trees (owners law trees country holders known first) keyed.owned keyed.apart keeps
+      read layout trees (owners law layout trees country holders known first) keyed.owned keyed.apart keeps
 
-  module _ (read : AreAllRead trees) where
-    cells : AllRows guarantee_typing (IsTypedRow guarantee_typing) trees
-    cells = all_weaker (IsReadRow guarantee_typing AreGuaranteeFields) (IsTypedRow guarantee_typing) (λ r is. is.0) (trees guarantee_typing.table.tree) read
+  module _ (read : AreAllRead layout trees) where
+    cells : AllRows (guarantee_typing layout) (IsTypedRow (guarantee_typing layout)) trees
+    cells = all_weaker (IsReadRow (guarantee_typing layout) AreGuaranteeFields) (IsTypedRow (guarantee_typing layout)) (λ r is. is.0) (trees (guarantee_typing layout).table.tree) read
 
-    pub typed_apart : AreTypedApart guarantee_typing trees
+    pub typed_apart : AreTypedApart (guarantee_typing layout) trees
     typed_apart = record { typed = record { ids = known.kept.ids.guarantees; cells = cells }; apart = (known.kept.guarantees cells).apart }
 
     fields : (H : ℕ) → AllByRecursion AreGuaranteeFields (guarantees_by H t)
     fields H =
         all_in_order place AreGuaranteeFields (part H t.guarantees)
         (all-filter AreGuaranteeFields (λ r. owner r == H) t.guarantees
-        (all-map AreGuaranteeFields (row_of guarantee_typing) (trees guarantee_typing.table.tree)
-        (all_weaker (IsReadRow guarantee_typing AreGuaranteeFields) (λ r. AreGuaranteeFields (row_of guarantee_typing r)) (λ r is. is.1) (trees guarantee_typing.table.tree) read)))
+        (all-map AreGuaranteeFields (row_of (guarantee_typing layout)) (trees (guarantee_typing layout).table.tree)
+        (all_weaker (IsReadRow (guarantee_typing layout) AreGuaranteeFields) (λ r. AreGuaranteeFields (row_of (guarantee_typing layout) r)) (λ r is. is.1) (trees (guarantee_typing layout).table.tree) read)))
 
     -- a holder's count and guarantees keep S3 exactly where they are in their places
     abbrev IsInPlace : ℕ × ℕ → Type 0
@@ -82,31 +85,31 @@ module _ (law : FoundHoldersTell) (trees : Trees) (country : List ℕ) (holders 
     }
 
     -- the counts of rows that keep S3 are in range
-    counted : KeepsUntyped trees S3 → AllByRecursion HasGrns holders
+    counted : KeepsUntyped layout trees S3 → AllByRecursion HasGrns holders
     counted keeps =
-        let told = holders_tell law trees country holders known in
+        let told = holders_tell law layout trees country holders known in
         told.grn_kinds.0
         (all_both HasGrnCount (λ r. HasGuarantees t (row_of holder_typing r)) (λ r. HasGrnCount r × ((row_of holder_typing r).grn_count < 2 ^ 32))
         (λ r number has. (number, omega (arith, has.most))) (trees holder_typing.table.tree) keeps.0.0
         (all_from_map (HasGuarantees t) (row_of holder_typing) (trees holder_typing.table.tree) keeps.1))
 
-    of_country : (h : RawHolder) → HasGrns h → IsInPlace (raw_grn_pair h) → HasGuaranteesInPlace country trees h
+    of_country : (h : RawHolder) → HasGrns h → IsInPlace (raw_grn_pair h) → HasGuaranteesInPlace layout country trees h
     of_country h some is =
         (some, subst (λ c. AreGuaranteesInPlace c (raw_grn_pair h).1 (guarantees_by h.holder t)) known.country_is is)
 
-    of_tables : (h : RawHolder) → HasGuaranteesInPlace country trees h → IsInPlace (raw_grn_pair h)
+    of_tables : (h : RawHolder) → HasGuaranteesInPlace layout country trees h → IsInPlace (raw_grn_pair h)
     of_tables h is = subst (λ c. AreGuaranteesInPlace c (raw_grn_pair h).1 (guarantees_by h.holder t)) (sym known.country_is) is.1
 
-    pub kept_each : KeepsUntyped trees S3 ↔ AllByRecursion (HasGuaranteesInPlace country trees) holders
+    pub kept_each : KeepsUntyped layout trees S3 ↔ AllByRecursion (HasGuaranteesInPlace layout country trees) holders
     kept_each =
-        let told = holders_tell law trees country holders known in (
+        let told = holders_tell law layout trees country holders known in (
           λ keeps.
               let some = counted keeps in
-              all_both HasGrns (λ h. IsInPlace (raw_grn_pair h)) (HasGuaranteesInPlace country trees) of_country holders some
+              all_both HasGrns (λ h. IsInPlace (raw_grn_pair h)) (HasGuaranteesInPlace layout country trees) of_country holders some
               ((of_pairs grn_pair raw_grn_pair IsInPlace t.holders holders (told.grn_counts some)).0
               (all_weaker (HasGuarantees t) (λ row. IsInPlace (grn_pair row)) placed t.holders keeps.1)),
           λ each.
-              let some = all_weaker (HasGuaranteesInPlace country trees) HasGrns (λ h is. is.0) holders each in
+              let some = all_weaker (HasGuaranteesInPlace layout country trees) HasGrns (λ h is. is.0) holders each in
               let kinds = told.grn_kinds.1 some in (
                 (
                   all_weaker (λ r. HasGrnCount r × ((row_of holder_typing r).grn_count < 2 ^ 32)) HasGrnCount (λ r is. is.0)
@@ -115,27 +118,38 @@ module _ (law : FoundHoldersTell) (trees : Trees) (country : List ℕ) (holders 
                 ),
                 all_weaker (λ row. IsInPlace (grn_pair row)) (HasGuarantees t) ranged t.holders
                     ((of_pairs grn_pair raw_grn_pair IsInPlace t.holders holders (told.grn_counts some)).1
-                    (all_weaker (HasGuaranteesInPlace country trees) (λ h. IsInPlace (raw_grn_pair h)) of_tables holders each)),
+                    (all_weaker (HasGuaranteesInPlace layout country trees) (λ h. IsInPlace (raw_grn_pair h)) of_tables holders each)),
               ),
         )
 
 -- what is told by the scan of the table, where a row isn't read
 pub told_unread : (scanned : Bool) (a : State) (country : List ℕ) (holders : List RawHolder) → FoundHoldersTell → GuaranteesAreRead
-    → TellsRead guarantee_typing AreGuaranteeFields a.now.trees scanned → scanned ≡ false → TellsRule S3 country holders a false
-told_unread scanned a country holders law read tells unread has known before = (
+    → scanned ≡ false → TellsRule (λ layout trees. TellsRead (guarantee_typing layout) AreGuaranteeFields trees scanned) S3 country holders a false
+told_unread scanned a country holders law read unread layout newest has tells known before = (
   λ t. absurd (false≢true t),
-  λ keeps. absurd (false≢true (sym unread ∙ tells.1 (kept_read law a.now.trees country holders known read (before S1 (omega arith)) keeps))),
+  λ keeps. absurd (false≢true (sym unread ∙ tells.1 (kept_read law layout a.now.trees country holders known read (before S1 (omega arith)) keeps))),
 )
 
 -- and by the holders' own, where each row is
 pub told_each : (scanned : Bool) (a : State) (country : List ℕ) (holders : List RawHolder) → FoundHoldersTell
     → IsTrue scanned → (result : Result Bool Error)
-    → IfOk result (TellsWhere (AreTypedApart guarantee_typing) (λ trees. AllByRecursion (HasGuaranteesInPlace country trees) holders) a)
-    → IfOk result (λ keeps. TellsRead guarantee_typing AreGuaranteeFields a.now.trees scanned → TellsRule S3 country holders a keeps)
+    → IfOk result (TellsWhere (λ layout. AreTypedApart (guarantee_typing layout)) (λ layout trees. AllByRecursion (HasGuaranteesInPlace layout country trees) holders) a)
+    → IfOk result (λ keeps. TellsRule (λ layout trees. TellsRead (guarantee_typing layout) AreGuaranteeFields trees scanned) S3 country holders a keeps)
 told_each scanned a country holders law is (Err e) each = each
-told_each scanned a country holders law is (Ok told) each = λ tells has known before.
+told_each scanned a country holders law is (Ok told) each = λ layout newest has tells known before.
     let trees = a.now.trees in
     let read = tells.0 is in
-    let whole = each has (typed_apart law trees country holders known read) in
-    let rule = kept_each law trees country holders known read in
+    let whole = each layout newest has (typed_apart law layout trees country holders known read) in
+    let rule = kept_each law layout trees country holders known read in
     (λ t. rule.1 (whole.0 t), λ keeps. whole.1 (rule.0 keeps))
+
+-- of one holder, by the rows that were found
+pub told_one : (country : List ℕ) (a : State) (raw : RawHolder) (count : ℕ) (rows : List StoredGuarantee) (b : Bool) → raw.grn_count ≡ Some count
+    → AreBySerial (is_of raw.holder) a rows → (IsTrue b ↔ AreGuaranteesInPlace country count (map guarantee_row_of rows))
+    → TellsWhere (λ layout. AreTypedApart (guarantee_typing layout)) (λ layout trees. HasGuaranteesInPlace layout country trees raw) a b
+told_one country a raw count rows b is order tells layout newest has apart =
+    let same : map guarantee_row_of rows ≡ guarantees_by raw.holder (tables_in layout a.now.trees) =
+    order layout newest has apart.typed (apart.apart raw.holder) in (
+      λ t. rw is (refl, subst (AreGuaranteesInPlace country count) same (tells.0 t)),
+      λ placed. tells.1 (subst (AreGuaranteesInPlace country count) (sym same) (rw is at placed.1)),
+    )

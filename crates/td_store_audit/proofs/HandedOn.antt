@@ -12,6 +12,7 @@ use Rattle.td_table_model.specs.Tables.{Keyed, Tables}
 use Rattle.td_table_model.proofs.Counting.{filter_both}
 use Rattle.td_table_model.proofs.Orders.{in_order_permutes}
 use Rattle.td_table_model.proofs.Ruled.{are_mine}
+use Rattle.td_schema.specs.declared.layout.Layout.{Layout}
 use Rattle.td_store_rows.specs.GuaranteeTable.{guarantee_row_of}
 use Rattle.td_store_rows.specs.declared.guarantees.stored.StoredGuarantee.{StoredGuarantee}
 use Rattle.td_store_rows.specs.MovementTable.{serial_of_stored}
@@ -24,12 +25,12 @@ use Rattle.td_store_audit.specs.Tallies.{IsCoveredBy, IsHandedOn, is_counting_ro
 use Rattle.td_store_audit.specs.InFile.{IsRowCovered}
 use Rattle.td_store_audit.specs.declared.tallies.HolderLines.{HolderLines}
 
-module _ (trees : Trees) (h : HolderLines) (is : IsHandedOn trees h) where
+module _ (layout : Layout) (trees : Trees) (h : HolderLines) (is : IsHandedOn layout trees h) where
   abbrev H : ℕ
   H = h.movements.raw.holder
 
   abbrev t : Tables
-  t = tables_in trees
+  t = tables_in layout trees
 
   abbrev serials : List MovementSerial
   serials = h.movements.serials.items
@@ -52,17 +53,17 @@ module _ (trees : Trees) (h : HolderLines) (is : IsHandedOn trees h) where
   abbrev Is : Keyed Guarantee → Type 0
   Is g = total_on g.serial serials lines ≤ g.row.reference
 
-  row_covered : (g : Keyed Guarantee) → owner g ≡ H → Is g → IsRowCovered trees g
+  row_covered : (g : Keyed Guarantee) → owner g ≡ H → Is g → IsRowCovered layout trees g
   row_covered g own low = omega (arith, in_use g.serial, ap (λ k. sum_by cents_of (lines_in_use k g.serial t)) own, low)
 
-  row_is : (g : Keyed Guarantee) → owner g ≡ H → IsRowCovered trees g → Is g
+  row_is : (g : Keyed Guarantee) → owner g ≡ H → IsRowCovered layout trees g → Is g
   row_is g own low = omega (arith, in_use g.serial, ap (λ k. sum_by cents_of (lines_in_use k g.serial t)) own, low)
 
   pub rows_tell : (rows : List StoredGuarantee) → map guarantee_row_of rows ≡ guarantees_by H t
-      → AllByRecursion (IsCoveredBy h) rows ↔ AllByRecursion (IsRowCovered trees) (guarantees_by H t)
+      → AllByRecursion (IsCoveredBy h) rows ↔ AllByRecursion (IsRowCovered layout trees) (guarantees_by H t)
   rows_tell rows found = (
-    λ all. all_both (λ g. owner g ≡ H) Is (IsRowCovered trees) row_covered (guarantees_by H t) (are_mine H t.guarantees)
+    λ all. all_both (λ g. owner g ≡ H) Is (IsRowCovered layout trees) row_covered (guarantees_by H t) (are_mine H t.guarantees)
         (subst (AllByRecursion Is) found (all-map Is guarantee_row_of rows all)),
     λ all. all_from_map Is guarantee_row_of rows
-        (subst (AllByRecursion Is) (sym found) (all_both (λ g. owner g ≡ H) (IsRowCovered trees) Is row_is (guarantees_by H t) (are_mine H t.guarantees) all)),
+        (subst (AllByRecursion Is) (sym found) (all_both (λ g. owner g ≡ H) (IsRowCovered layout trees) Is row_is (guarantees_by H t) (are_mine H t.guarantees) all)),
   )

@@ -9,16 +9,16 @@ use Rattle.sqlite_value.specs.Order.{Row, column}
 use Rattle.sqlite_trees.specs.Tree.{Trees, has_rowid, rowid}
 use Rattle.sqlite_trees.proofs.ListLemmas.{all-map, all_both, all_weaker, filter-map}
 use Rattle.sqlite_rules.specs.Edit.{id_in}
-use Rattle.sqlite_schema.specs.declared.schema.Constraint.TheVariants.{Check}
-use Rattle.sqlite_schema.specs.Rules.{Obeys, passes}
+use Rattle.sqlite_schema.specs.Rules.{Obeys}
 use Rattle.td_model.specs.declared.holder_row.HolderRow.{HolderRow}
 use Rattle.td_base.specs.Codes.{IsHolderNumber}
-use Rattle.td_schema.specs.Tables.{desk_schema}
 use Rattle.td_table_model.specs.Gathering.{IsApart, holder_no}
 use Rattle.typed_sql.specs.Writing.{HaveIds}
 use Rattle.typed_sql.specs.Typed.{row_of, typed_rows}
 use Rattle.typed_sql.specs.Values.{number_in, number_value}
 use Rattle.typed_sql.proofs.Ids.{has_own}
+use Rattle.td_schema.specs.Layouts.{schema_of}
+use Rattle.td_schema.specs.declared.layout.Layout.{Layout}
 use Rattle.td_store_rows.specs.Columns.{holder_typing}
 use Rattle.td_store_rows.specs.StoreTables.{tables_in}
 use Rattle.td_store_audit_rows.specs.Kept.{AreHoldersKept}
@@ -26,10 +26,10 @@ use Rattle.td_store_audit_rows.specs.Untyped.{AllRows, HasNumber}
 use Rattle.td_store_audit.proofs.Checked.{IsNumbered, checked}
 use Rattle.td_store_audit.proofs.Equal.{number_ties}
 use Rattle.td_store_audit.proofs.Parents.{each_found, named_holder, named_movement}
-use Rattle.td_store_audit.proofs.Ruled.{HasParent, holders_there, movements_named}
+use Rattle.td_store_audit.proofs.Ruled.{AreRuled, HasParent, IsChecked, ruled}
 use Rattle.td_store_audit.proofs.Unique.{few, length_mapped}
 
-module _ (trees : Trees) (ids : HaveIds (trees 1)) where
+module _ (layout : Layout) (trees : Trees) (ids : HaveIds (trees 1)) where
   -- what is named by a holder's rowid is there
   found : (H : ℕ) → AllByRecursion (λ p. rowid p ≡ number_value H → IsSome (row_at holder_no H (typed_rows holder_typing trees))) (trees 1)
   found H =
@@ -43,17 +43,20 @@ module _ (trees : Trees) (ids : HaveIds (trees 1)) where
   owned row H is has =
       named_holder trees (IsSome (row_at holder_no H (typed_rows holder_typing trees))) H ids (found H) row (number_ties (column row 1) H is) has
 
-  module _ (obeys : Obeys desk_schema trees) where
+  module _ (obeys : Obeys (schema_of layout) trees) where
+    rules : AreRuled layout trees
+    rules = ruled layout trees obeys
+
     pub owned_through : (row : Row) (H n : ℕ) → column row 1 ≡ number_value H → column row 2 ≡ number_value n
         → HasParent trees (1 ∷ 2 ∷ []) 4 (1 ∷ 2 ∷ []) row → IsSome (row_at holder_no H (typed_rows holder_typing trees))
     owned_through row H n =
-        named_movement trees (IsSome (row_at holder_no H (typed_rows holder_typing trees))) H n ids (found H) (movements_named trees obeys) row
+        named_movement trees (IsSome (row_at holder_no H (typed_rows holder_typing trees))) H n ids (found H) rules.movements_named row
 
     -- each rowid is a holder's number
     numbered : AllByRecursion IsNumbered (trees 1)
     numbered =
-        all_both (λ r. rowid r ≡ Int (id_in (rowid r))) (λ r. passes Check desk_schema trees holders_there r ≡ true) IsNumbered
-        (λ r is passed. checked trees r (id_in (rowid r)) is passed) (trees 1) ids.ints (obeys.rules Check).1.0
+        all_both (λ r. rowid r ≡ Int (id_in (rowid r))) IsChecked IsNumbered
+        (λ r is passed. checked r (id_in (rowid r)) is passed) (trees 1) ids.ints rules.holders_checked
 
     apart : IsApart holder_no (typed_rows holder_typing trees)
     apart k =
@@ -67,7 +70,7 @@ module _ (trees : Trees) (ids : HaveIds (trees 1)) where
             let number : is.number ≡ k = grind (arith, nat_tests, own, test) in
             has_own (pos k) r (is.is ∙ ap number_value number)
 
-    pub holders_kept : AllRows holder_typing HasNumber trees × AreHoldersKept (tables_in trees)
+    pub holders_kept : AllRows holder_typing HasNumber trees × AreHoldersKept (tables_in layout trees)
     holders_kept = (
       all_weaker IsNumbered HasNumber (λ r is. (is.number, is.is)) (trees 1) numbered,
       record {

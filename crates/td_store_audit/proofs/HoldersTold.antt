@@ -10,6 +10,7 @@ use Rattle.sqlite_trees.specs.Tree.{Trees}
 use Rattle.sqlite_trees.proofs.ListLemmas.{all-map, all-permutation, all_from_map}
 use Rattle.td_model.specs.declared.holder_row.HolderRow.{HolderRow}
 use Rattle.td_table_model.specs.declared.rule.Rule.TheVariants.{S1}
+use Rattle.td_schema.specs.declared.layout.Layout.{Layout}
 use Rattle.td_store_rows.specs.StoreTables.{tables_in}
 use Rattle.td_store_audit_rows.specs.Found.{FoundHoldersTell, HasFieldsOfS2, TellOfHolders}
 use Rattle.td_store_audit_rows.specs.Untyped.{KeepsUntyped}
@@ -39,9 +40,9 @@ of_pairs pair raw_pair P rows found same = (
       (all-permutation P (map raw_pair found) (map pair rows) (IsPermutation-sym (map pair rows) (map raw_pair found) same) (all-map P raw_pair found all)),
 )
 
-module _ (law : FoundHoldersTell) (trees : Trees) (country : List ℕ) (holders : List RawHolder) (known : IsAuditable trees country holders) where
-  pub holders_tell : TellOfHolders trees holders
-  holders_tell = law trees holders known.holders_are known.order
+module _ (law : FoundHoldersTell) (layout : Layout) (trees : Trees) (country : List ℕ) (holders : List RawHolder) (known : IsAuditable layout trees country holders) where
+  pub holders_tell : TellOfHolders layout trees holders
+  holders_tell = law layout trees holders known.holders_are known.order
 
-  pub owners : KeepsUntyped trees S1 → HaveOwners (tables_in trees)
+  pub owners : KeepsUntyped layout trees S1 → HaveOwners (tables_in layout trees)
   owners first = record { numbers = holders_tell.numbers; country = first.1 }

@@ -1,5 +1,5 @@
 -- S5 is kept exactly where each row of movements is read, and each holder's are in their places.
-use Rattle.std.proofs.Common.{◌≡◌, ◌∙◌, ◌<◌, ◌^◌, ℕ, Bool, false, List, Option, Ok, Err, Result, subst, sym, arith}
+use Rattle.std.proofs.Common.{◌≡◌, ◌∙◌, ◌<◌, ◌^◌, ℕ, Bool, false, List, Option, Ok, Err, Result, subst, sym, arith, Some, map, refl}
 use Rattle.std.proofs.lemmas.Bool.{false≢true}
 use Rattle.std.specs.Prelude.{◌↔◌, ◌==◌, IfOk, IsTrue, is_some}
 use Rattle.std.specs.List.{AllByRecursion}
@@ -14,6 +14,9 @@ use Rattle.td_table_model.specs.Rules.{HasMovements, IsMovementInRange}
 use Rattle.td_table_model.specs.Tables.{Tables}
 use Rattle.td_table_model.proofs.Rebuilt.{all_in_order}
 use Rattle.typed_sql.specs.Typed.{IsTypedRow, row_of}
+use Rattle.td_schema.specs.declared.layout.Layout.{Layout}
+use Rattle.td_store_rows.specs.MovementTable.{AreBySerial, is_of, movement_row_of}
+use Rattle.td_store_rows.specs.declared.movements.stored.StoredMovement.{StoredMovement}
 use Rattle.td_store_rows.specs.Columns.{holder_typing, movement_typing}
 use Rattle.td_store_rows.specs.StoreTables.{tables_in}
 use Rattle.td_store_audit_rows.specs.InPlace.{AreMovementsInPlace, IsMovementInPlace}
@@ -27,20 +30,20 @@ use Rattle.td_store_audit.specs.Auditable.{IsAuditable, TellsRule}
 use Rattle.td_store_audit.specs.InFile.{AreTypedApart, HasMovementsInPlace, TellsWhere}
 use Rattle.td_store_audit.proofs.HoldersTold.{holders_tell, of_pairs, owners}
 
-abbrev AreAllRead : Trees → Type 0
-AreAllRead trees = AllRows movement_typing (IsReadRow movement_typing AreMovementFields) trees
+abbrev AreAllRead : Layout → Trees → Type 0
+AreAllRead layout trees = AllRows movement_typing (IsReadRow movement_typing AreMovementFields) trees
 
-module _ (law : FoundHoldersTell) (trees : Trees) (country : List ℕ) (holders : List RawHolder) (known : IsAuditable trees country holders) where
+module _ (law : FoundHoldersTell) (layout : Layout) (trees : Trees) (country : List ℕ) (holders : List RawHolder) (known : IsAuditable layout trees country holders) where
   abbrev t : Tables
-  t = tables_in trees
+  t = tables_in layout trees
 
   -- where S5 is kept each row is read
-  pub kept_read : MovementsAreRead → KeepsUntyped trees S1 → KeepsUntyped trees S5 → AreAllRead trees
+  pub kept_read : MovementsAreRead → KeepsUntyped layout trees S1 → KeepsUntyped layout trees S5 → AreAllRead layout trees
   kept_read read first keeps =
       let keyed = known.kept.movements keeps.0.1 in
-      read trees (owners law trees country holders known first) keyed.owned keyed.apart keeps
+      read layout trees (owners law layout trees country holders known first) keyed.owned keyed.apart keeps
 
-  module _ (read : AreAllRead trees) where
+  module _ (read : AreAllRead layout trees) where
     cells : AllRows movement_typing (IsTypedRow movement_typing) trees
     cells = all_weaker (IsReadRow movement_typing AreMovementFields) (IsTypedRow movement_typing) (λ r is. is.0) (trees movement_typing.table.tree) read
 
@@ -84,31 +87,31 @@ module _ (law : FoundHoldersTell) (trees : Trees) (country : List ℕ) (holders 
     }
 
     -- the counts of rows that keep S5 are in range
-    counted : KeepsUntyped trees S5 → AllByRecursion HasMrns holders
+    counted : KeepsUntyped layout trees S5 → AllByRecursion HasMrns holders
     counted keeps =
-        let told = holders_tell law trees country holders known in
+        let told = holders_tell law layout trees country holders known in
         told.mrn_kinds.0
         (all_both HasMrnCount (λ r. HasMovements t (row_of holder_typing r)) (λ r. HasMrnCount r × ((row_of holder_typing r).mrn_count < 2 ^ 32))
         (λ r number has. (number, omega (arith, has.most))) (trees holder_typing.table.tree) keeps.0.0
         (all_from_map (HasMovements t) (row_of holder_typing) (trees holder_typing.table.tree) keeps.1))
 
-    of_country : (h : RawHolder) → HasMrns h → IsInPlace (raw_mrn_pair h) → HasMovementsInPlace country trees h
+    of_country : (h : RawHolder) → HasMrns h → IsInPlace (raw_mrn_pair h) → HasMovementsInPlace layout country trees h
     of_country h some is =
         (some, subst (λ c. AreMovementsInPlace c (raw_mrn_pair h).1 (movements_by h.holder t)) known.country_is is)
 
-    of_tables : (h : RawHolder) → HasMovementsInPlace country trees h → IsInPlace (raw_mrn_pair h)
+    of_tables : (h : RawHolder) → HasMovementsInPlace layout country trees h → IsInPlace (raw_mrn_pair h)
     of_tables h is = subst (λ c. AreMovementsInPlace c (raw_mrn_pair h).1 (movements_by h.holder t)) (sym known.country_is) is.1
 
-    pub kept_each : KeepsUntyped trees S5 ↔ AllByRecursion (HasMovementsInPlace country trees) holders
+    pub kept_each : KeepsUntyped layout trees S5 ↔ AllByRecursion (HasMovementsInPlace layout country trees) holders
     kept_each =
-        let told = holders_tell law trees country holders known in (
+        let told = holders_tell law layout trees country holders known in (
           λ keeps.
               let some = counted keeps in
-              all_both HasMrns (λ h. IsInPlace (raw_mrn_pair h)) (HasMovementsInPlace country trees) of_country holders some
+              all_both HasMrns (λ h. IsInPlace (raw_mrn_pair h)) (HasMovementsInPlace layout country trees) of_country holders some
               ((of_pairs mrn_pair raw_mrn_pair IsInPlace t.holders holders (told.mrn_counts some)).0
               (all_weaker (HasMovements t) (λ row. IsInPlace (mrn_pair row)) placed t.holders keeps.1)),
           λ each.
-              let some = all_weaker (HasMovementsInPlace country trees) HasMrns (λ h is. is.0) holders each in
+              let some = all_weaker (HasMovementsInPlace layout country trees) HasMrns (λ h is. is.0) holders each in
               let kinds = told.mrn_kinds.1 some in (
                 (
                   all_weaker (λ r. HasMrnCount r × ((row_of holder_typing r).mrn_count < 2 ^ 32)) HasMrnCount (λ r is. is.0)
@@ -117,27 +120,38 @@ module _ (law : FoundHoldersTell) (trees : Trees) (country : List ℕ) (holders 
                 ),
                 all_weaker (λ row. IsInPlace (mrn_pair row)) (HasMovements t) ranged t.holders
                     ((of_pairs mrn_pair raw_mrn_pair IsInPlace t.holders holders (told.mrn_counts some)).1
-                    (all_weaker (HasMovementsInPlace country trees) (λ h. IsInPlace (raw_mrn_pair h)) of_tables holders each)),
+                    (all_weaker (HasMovementsInPlace layout country trees) (λ h. IsInPlace (raw_mrn_pair h)) of_tables holders each)),
               ),
         )
 
 -- what is told by the scan of the table, where a row isn't read
 pub told_unread : (scanned : Bool) (a : State) (country : List ℕ) (holders : List RawHolder) → FoundHoldersTell → MovementsAreRead
-    → TellsRead movement_typing AreMovementFields a.now.trees scanned → scanned ≡ false → TellsRule S5 country holders a false
-told_unread scanned a country holders law read tells unread has known before = (
+    → scanned ≡ false → TellsRule (λ layout trees. TellsRead movement_typing AreMovementFields trees scanned) S5 country holders a false
+told_unread scanned a country holders law read unread layout newest has tells known before = (
   λ t. absurd (false≢true t),
-  λ keeps. absurd (false≢true (sym unread ∙ tells.1 (kept_read law a.now.trees country holders known read (before S1 (omega arith)) keeps))),
+  λ keeps. absurd (false≢true (sym unread ∙ tells.1 (kept_read law layout a.now.trees country holders known read (before S1 (omega arith)) keeps))),
 )
 
 -- and by the holders' own, where each row is
 pub told_each : (scanned : Bool) (a : State) (country : List ℕ) (holders : List RawHolder) → FoundHoldersTell
     → IsTrue scanned → {X : Type 0} (result : Result (Option X) Error)
-    → IfOk result (λ found. TellsWhere (AreTypedApart movement_typing) (λ trees. AllByRecursion (HasMovementsInPlace country trees) holders) a (is_some found))
-    → IfOk result (λ found. TellsRead movement_typing AreMovementFields a.now.trees scanned → TellsRule S5 country holders a (is_some found))
+    → IfOk result (λ found. TellsWhere (λ layout. AreTypedApart movement_typing) (λ layout trees. AllByRecursion (HasMovementsInPlace layout country trees) holders) a (is_some found))
+    → IfOk result (λ found. TellsRule (λ layout trees. TellsRead movement_typing AreMovementFields trees scanned) S5 country holders a (is_some found))
 told_each scanned a country holders law is (Err e) each = each
-told_each scanned a country holders law is (Ok found) each = λ tells has known before.
+told_each scanned a country holders law is (Ok found) each = λ layout newest has tells known before.
     let trees = a.now.trees in
     let read = tells.0 is in
-    let whole = each has (typed_apart law trees country holders known read) in
-    let rule = kept_each law trees country holders known read in
+    let whole = each layout newest has (typed_apart law layout trees country holders known read) in
+    let rule = kept_each law layout trees country holders known read in
     (λ t. rule.1 (whole.0 t), λ keeps. whole.1 (rule.0 keeps))
+
+-- of one holder, by the rows that were found
+pub told_one : (country : List ℕ) (a : State) (raw : RawHolder) (count : ℕ) (rows : List StoredMovement) (b : Bool) → raw.mrn_count ≡ Some count
+    → AreBySerial (is_of raw.holder) a rows → (IsTrue b ↔ AreMovementsInPlace country count (map movement_row_of rows))
+    → TellsWhere (λ layout. AreTypedApart movement_typing) (λ layout trees. HasMovementsInPlace layout country trees raw) a b
+told_one country a raw count rows b is order tells layout newest has apart =
+    let same : map movement_row_of rows ≡ movements_by raw.holder (tables_in layout a.now.trees) =
+    order layout has apart.typed (apart.apart raw.holder) in (
+      λ t. rw is (refl, subst (AreMovementsInPlace country count) same (tells.0 t)),
+      λ placed. tells.1 (subst (AreMovementsInPlace country count) (sym same) (rw is at placed.1)),
+    )

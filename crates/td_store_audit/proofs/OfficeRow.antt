@@ -15,25 +15,29 @@ use Rattle.sqlite_typed.proofs.TestLemmas.{then_value}
 use Rattle.sqlite_value.specs.declared.value.Value.{Value}
 use Rattle.sqlite_value.specs.declared.value.Value.TheVariants.{Int, Text}
 use Rattle.sqlite_value.specs.Order.{Row, column}
-use Rattle.td_schema.specs.Tables.{desk_schema}
 use Rattle.typed_sql.specs.Meanings.{MeansSelect}
 use Rattle.typed_sql.specs.Reading.{IsAnswerOf, Selects, row_order, shown_by}
 use Rattle.typed_sql.specs.Typed.{IsTypedRow, row_of}
 use Rattle.typed_sql.specs.Values.{as_integer, text_in}
-use Rattle.typed_sql.specs.Writing.{HasSchema, passes}
+use Rattle.typed_sql.specs.Writing.{passes}
 use Rattle.td_base.specs.Codes.{IsCountry}
+use Rattle.td_schema.specs.Layouts.{schema_of}
+use Rattle.td_schema.specs.declared.layout.Layout.{Layout}
+use Rattle.td_schema.specs.declared.layout.Layout.TheVariants.{Grown2, Made1, Made2}
 use Rattle.td_store_rows.specs.Columns.{meta_typing}
 use Rattle.td_store_rows.specs.StoreTables.{country_in, tables_in}
-use Rattle.td_store_audit.specs.Broken.{IsOffice, ShowsCountry, TellsCountry}
+use Rattle.td_store_audit.specs.Broken.{IsOffice, ShowsCountry, TellsCountry, TellsCountryIn}
 use Rattle.td_store_audit.specs.declared.texts.TheConstants.{OFFICE}
 
 -- the columns that are shown
 abbrev pub office_terms : List Term
 office_terms = col 1 2 ∷ col 1 3 ∷ []
 
-pub office_means : MeansSelect desk_schema OFFICE.now 0 [] office_terms []
+pub office_means : (l : Layout) → MeansSelect (schema_of l) OFFICE.now 0 [] office_terms []
 unfolding understood everything
-office_means = record { names = codes "version" ∷ codes "country" ∷ []; command = refl; plain = (refl, refl); unlisted = refl }
+office_means Made1 = record { names = codes "version" ∷ codes "country" ∷ []; command = refl; plain = (refl, refl); unlisted = refl }
+office_means Made2 = record { names = codes "version" ∷ codes "country" ∷ []; command = refl; plain = (refl, refl); unlisted = refl }
+office_means Grown2 = record { names = codes "version" ∷ codes "country" ∷ []; command = refl; plain = (refl, refl); unlisted = refl }
 
 abbrev show : Row → Row
 show = shown_by office_terms []
@@ -112,15 +116,15 @@ module _ (rows answer : List Row) (a : IsAnswerOf rows (passes [] []) show (row_
       record { row = alone.0; alone = alone.1; version = shown.version; version_is = shown.version_is; text_is = shown.text_is }
 
 -- so the country that is shown tells of S1
-told : (trees : Trees) (answer : List Row) → IsAnswerOf (trees 0) (passes [] []) show (row_order [] []) answer
-    → (country : Option (List ℕ)) → ShowsCountry answer country → TellsCountry trees country
-told trees answer a None none = λ keeps. none (tables_in trees).country (office_of (trees 0) answer a keeps.0.0 keeps.0.1) keeps.1
-told trees answer a (Some country) shows =
+told : (layout : Layout) (trees : Trees) (answer : List Row) → IsAnswerOf (trees 0) (passes [] []) show (row_order [] []) answer
+    → (country : Option (List ℕ)) → ShowsCountry answer country → TellsCountry layout trees country
+told layout trees answer a None none = λ keeps. none (tables_in layout trees).country (office_of (trees 0) answer a keeps.0.0 keeps.0.1) keeps.1
+told layout trees answer a (Some country) shows =
     let is = country_of (trees 0) answer a country shows.0 in
     (((sym (as_many (trees 0) answer a) ∙ ap length shows.0.alone, typed_rows (trees 0) answer a country shows.0), subst IsCountry (sym is) shows.1), is)
 
 pub told_country : (old : State) (answer : List Row) → Selects OFFICE.now [] old answer → (result : Result (Option (List ℕ)) Error)
-    → IfOk result (ShowsCountry answer) → IfOk result (λ country. HasSchema old desk_schema → TellsCountry old.now.trees country)
+    → IfOk result (ShowsCountry answer) → IfOk result (TellsCountryIn old)
 told_country old answer selects (Err e) shows = shows
-told_country old answer selects (Ok country) shows = λ has.
-    told old.now.trees answer (selects desk_schema 0 [] office_terms [] has office_means) country shows
+told_country old answer selects (Ok country) shows = λ layout has.
+    told layout old.now.trees answer (selects (schema_of layout) 0 [] office_terms [] has (office_means layout)) country shows

@@ -13,6 +13,7 @@ use Rattle.td_table_model.specs.Rules.{HasCodes, HasGuarantees, HasLines, HasMov
 use Rattle.td_table_model.specs.Tables.{Keyed, Tables}
 use Rattle.td_table_model.proofs.Ruled.{are_mine}
 use Rattle.typed_sql.specs.Typed.{row_of, typed_rows}
+use Rattle.td_schema.specs.declared.layout.Layout.{Layout}
 use Rattle.td_store_rows.specs.Columns.{holder_typing}
 use Rattle.td_store_rows.specs.StoreTables.{tables_in}
 use Rattle.td_store_audit_rows.specs.Holders.{AreHoldersIn, HolderFields, fields_of, fields_of_raw}
@@ -28,7 +29,7 @@ value_is : (o : Option ℕ) (n d : ℕ) → IsSome o → IfSome o (λ k. k ≡ n
 value_is None n d some is = cc
 value_is (Some k) n d some is = is
 
-module _ (trees : Trees) (found : List RawHolder) (all : AreHoldersIn trees found) (tell : HolderFieldsTell) where
+module _ (layout : Layout) (trees : Trees) (found : List RawHolder) (all : AreHoldersIn trees found) (tell : HolderFieldsTell) where
   abbrev rows : List Row
   rows = trees holder_typing.table.tree
 
@@ -69,14 +70,14 @@ module _ (trees : Trees) (found : List RawHolder) (all : AreHoldersIn trees foun
       both = all_both (λ r. IsSome (fields_of r).holder) K (λ r. IsSome (fields_of r).holder × K r) (λ r some k. (some, k)) rows numbered known
 
   -- the count of guarantees of a row whose guarantees keep their rule
-  grn_there : (r : Row) → HasGrnCount r → HasGuarantees (tables_in trees) (row_of holder_typing r) → IsSome (fields_of r).grn_count
+  grn_there : (r : Row) → HasGrnCount r → HasGuarantees (tables_in layout trees) (row_of holder_typing r) → IsSome (fields_of r).grn_count
   grn_there r kind has = (tell r).0.grn_count.1 (kind, omega (arith, has.most))
 
-  grn_is : (r : Row) → HasGrnCount r → HasGuarantees (tables_in trees) (row_of holder_typing r) → unwrap_or (fields_of r).grn_count 0 ≡ (row_of holder_typing r).grn_count
+  grn_is : (r : Row) → HasGrnCount r → HasGuarantees (tables_in layout trees) (row_of holder_typing r) → unwrap_or (fields_of r).grn_count 0 ≡ (row_of holder_typing r).grn_count
   grn_is r kind has = value_is (fields_of r).grn_count (row_of holder_typing r).grn_count 0 (grn_there r kind has) (tell r).1.grn_count
 
   abbrev t : Tables
-  t = tables_in trees
+  t = tables_in layout trees
 
   -- the codes of each holder that was found are in their places exactly where those of each holder's row keep the rule
   pub codes_told : AllRows holder_typing HasGrnCount trees → AllByRecursion (HasGuarantees t) t.holders

@@ -5,23 +5,22 @@ use Rattle.std.proofs.lemmas.Bool.Decides.{nat_tests}
 use Rattle.std.specs.Prelude.{◌↔◌, IsTrue}
 use Rattle.sqlite_trees.specs.Tree.{Trees}
 use Rattle.sqlite.specs.State.{State}
-use Rattle.td_schema.specs.Tables.{desk_schema}
 use Rattle.typed_sql.specs.Writing.{HasSchema}
 use Rattle.td_table_model.specs.declared.rule.Rule.{Rule}
 use Rattle.td_table_model.specs.declared.rule.Rule.TheVariants.{S1, S2, S3, S4, S5, S6, S7, S8}
 use Rattle.td_table_model.specs.Rules.{rule_no}
+use Rattle.td_schema.specs.Layouts.{IsNewest, schema_of}
+use Rattle.td_schema.specs.declared.layout.Layout.{Layout}
+use Rattle.td_store_rows.specs.StoreReads.{OnlyReadNewest}
 use Rattle.td_store_audit_rows.specs.Untyped.{IsFirstBrokenUntyped, KeepsUntyped}
-use Rattle.td_store_rows.specs.Columns.{code_typing, line_typing}
-use Rattle.td_store_audit_rows.specs.Fields.{AreCodeFields, AreLineFields}
-use Rattle.td_store_audit_rows.specs.Scans.{TellsRead}
+use Rattle.td_store_rows.specs.Columns.{line_typing}
 use Rattle.td_store_audit_rows.specs.declared.holders.RawHolder.{RawHolder}
 use Rattle.td_store_audit_rows.specs.declared.tables.Readable.{Readable}
-use Rattle.td_store_audit.specs.Auditable.{TellsRule, TellsS2}
+use Rattle.td_store_audit.specs.Auditable.{TellsS2}
 use Rattle.td_store_audit.specs.Broken.{HasOffice, IsNextRule}
 use Rattle.td_store_audit.specs.InFile.{IsSoWhere, TellsWhere}
-use Rattle.td_store_audit.specs.Premises.{AreCodesAuditable, AreHoldersAuditable, AreLinesAuditable}
+use Rattle.td_store_audit.specs.Premises.{AreHoldersAuditable, TellsCodes, TellsLines}
 use Rattle.td_store_audit.proofs.Reading.{so_before}
-use Rattle.typed_sql.specs.Reading.{OnlyRead}
 
 -- the numbers are from 1 to 8
 bounds : (rule : Rule) → (1 ≤ rule_no rule) × (rule_no rule ≤ 8)
@@ -61,45 +60,46 @@ same_rule : (a b : Rule) → rule_no a ≡ rule_no b → a ≡ b
 same_rule a b is = sym (it_is a) ∙ ap rule_of is ∙ it_is b
 
 -- each rule below a number is kept
-abbrev AreKeptBelow : ℕ → Trees → Type 0
-AreKeptBelow n trees = (other : Rule) → rule_no other < n → KeepsUntyped trees other
+abbrev AreKeptBelow : ℕ → Layout → Trees → Type 0
+AreKeptBelow n layout trees = (other : Rule) → rule_no other < n → KeepsUntyped layout trees other
 
 -- so is each below the next, if the rule with the number is
-one_more_kept : (trees : Trees) (rule : Rule) → AreKeptBelow (rule_no rule) trees → KeepsUntyped trees rule → AreKeptBelow (rule_no rule + 1) trees
-one_more_kept trees rule before keeps other below = by_test (nat_eq (rule_no other) (rule_no rule)) refl
+one_more_kept : (layout : Layout) (trees : Trees) (rule : Rule) → AreKeptBelow (rule_no rule) layout trees → KeepsUntyped layout trees rule → AreKeptBelow (rule_no rule + 1) layout trees
+one_more_kept layout trees rule before keeps other below = by_test (nat_eq (rule_no other) (rule_no rule)) refl
   where
-    by_test : (b : Bool) → nat_eq (rule_no other) (rule_no rule) ≡ b → KeepsUntyped trees other
-    by_test true same = subst (KeepsUntyped trees) (same_rule rule other (grind (arith, nat_tests, same))) keeps
+    by_test : (b : Bool) → nat_eq (rule_no other) (rule_no rule) ≡ b → KeepsUntyped layout trees other
+    by_test true same = subst (KeepsUntyped layout trees) (same_rule rule other (grind (arith, nat_tests, same))) keeps
     by_test false differs = before other (grind (arith, nat_tests, differs, below))
 
 module _ (country : List ℕ) (holders : List RawHolder) (readable : Readable) where
-  abbrev IsNext : Rule → Trees → Type 0
+  abbrev IsNext : Rule → Layout → Trees → Type 0
   IsNext rule = IsNextRule rule country holders readable
 
   -- the first is asked where S1 is kept
-  pub first_next : (trees : Trees) → HasOffice country holders readable trees → IsNext S2 trees
-  first_next trees office = record {
+  pub first_next : (layout : Layout) (trees : Trees) → HasOffice country holders readable layout trees → IsNext S2 layout trees
+  first_next layout trees office = record {
     office = office;
     before = λ other below.
-        subst (KeepsUntyped trees) (same_rule S1 other (omega (arith, below, (bounds other).0))) office.keeps;
+        subst (KeepsUntyped layout trees) (same_rule S1 other (omega (arith, below, (bounds other).0))) office.keeps;
   }
 
   module _ (state : State) where
     -- it is told whether the rule is kept, where those before it are
     abbrev TellsNext : Rule → Bool → Type 0
-    TellsNext rule keeps = TellsWhere (IsNext rule) (λ trees. KeepsUntyped trees rule) state keeps
+    TellsNext rule keeps = TellsWhere (IsNext rule) (λ layout trees. KeepsUntyped layout trees rule) state keeps
 
     pub holders_next : (keeps : Bool) → TellsS2 holders keeps → TellsNext S2 keeps
-    holders_next keeps told has next = told state.now.trees next.office.known.holders_are next.office.known.order
+    holders_next keeps told layout newest has next = told layout state.now.trees next.office.known.holders_are next.office.known.order
 
     -- the rule of a table whose rows were walked along
-    pub table_next : (rule : Rule) (keeps : Bool) → (HasSchema state desk_schema → IsNext rule state.now.trees → TellsRule rule country holders state keeps)
+    pub table_next : (rule : Rule) (keeps : Bool) → ((layout : Layout) → IsNewest layout → HasSchema state (schema_of layout) → IsNext rule layout state.now.trees → IsTrue keeps ↔ KeepsUntyped layout state.now.trees rule)
         → TellsNext rule keeps
-    table_next rule keeps told has next = told has next has next.office.known next.before
+    table_next rule keeps told = told
 
     -- what codes and lines are audited by
-    common : (rule : Rule) → 3 < rule_no rule → HasSchema state desk_schema → IsNext rule state.now.trees → AreHoldersAuditable state holders
-    common rule later has next = record {
+    common : (rule : Rule) → 3 < rule_no rule → (layout : Layout) → IsNewest layout → HasSchema state (schema_of layout) → IsNext rule layout state.now.trees → AreHoldersAuditable layout state holders
+    common rule later layout newest has next = record {
+      newest = newest;
       schema = has;
       holders = next.office.known.holders_are;
       order = next.office.known.order;
@@ -108,19 +108,19 @@ module _ (country : List ℕ) (holders : List RawHolder) (readable : Readable) w
     }
 
     pub codes_next : (keeps : Bool)
-        → (AreCodesAuditable state holders → TellsRead code_typing AreCodeFields state.now.trees readable.codes → IsTrue keeps ↔ KeepsUntyped state.now.trees S4) → TellsNext S4 keeps
-    codes_next keeps told has next =
-        told (record {
-          common = common S4 (omega arith) has next;
+        → TellsCodes readable.codes holders state keeps → TellsNext S4 keeps
+    codes_next keeps told layout newest has next =
+        told layout (record {
+          common = common S4 (omega arith) layout newest has next;
           ids = next.office.known.kept.ids.codes;
           owned = λ typed. (next.office.known.kept.codes typed).owned;
         }) next.office.told.codes
 
     pub lines_next : (keeps : Bool)
-        → (AreLinesAuditable state holders → TellsRead line_typing AreLineFields state.now.trees readable.lines → IsTrue keeps ↔ KeepsUntyped state.now.trees S6) → TellsNext S6 keeps
-    lines_next keeps told has next =
-        told (record {
-          common = common S6 (omega arith) has next;
+        → TellsLines readable.lines holders state keeps → TellsNext S6 keeps
+    lines_next keeps told layout newest has next =
+        told layout (record {
+          common = common S6 (omega arith) layout newest has next;
           ids = next.office.known.kept.ids.lines;
           owned = λ typed. (next.office.known.kept.lines typed).owned;
           apart = λ typed. (next.office.known.kept.lines typed).apart;
@@ -128,26 +128,26 @@ module _ (country : List ℕ) (holders : List RawHolder) (readable : Readable) w
         }) next.office.told.lines
 
   -- One of them is asked, where those before it are kept.
-  module _ (Q : Trees → Type 0) (a : State) (rule : Rule) (next : IsSoWhere Q (IsNext rule) a) (keeps : Bool) where
+  module _ (Q : Layout → Trees → Type 0) (a : State) (rule : Rule) (next : IsSoWhere Q (IsNext rule) a) (keeps : Bool) where
     -- what was told of the file afterwards
-    pub told_before : (b : State) → OnlyRead desk_schema a b → TellsNext b rule keeps → TellsWhere Q (λ trees. KeepsUntyped trees rule) a keeps
-    told_before b read told has so = so_before (IsNext rule) (λ trees. IsTrue keeps ↔ KeepsUntyped trees rule) a b read told has (next has so)
+    pub told_before : (b : State) → OnlyReadNewest a b → TellsNext b rule keeps → TellsWhere Q (λ layout trees. KeepsUntyped layout trees rule) a keeps
+    told_before b read told layout newest has so = so_before (IsNext rule) (λ layout trees. IsTrue keeps ↔ KeepsUntyped layout trees rule) a b read told layout newest has (next layout newest has so)
 
-    module _ (told : TellsWhere Q (λ trees. KeepsUntyped trees rule) a keeps) where
+    module _ (told : TellsWhere Q (λ layout trees. KeepsUntyped layout trees rule) a keeps) where
       all_below : IsTrue keeps → IsSoWhere Q (AreKeptBelow (rule_no rule + 1)) a
-      all_below is has so = one_more_kept a.now.trees rule (next has so).before ((told has so).0 is)
+      all_below is layout newest has so = one_more_kept layout a.now.trees rule (next layout newest has so).before ((told layout newest has so).0 is)
 
       pub kept_on : IsTrue keeps → (following : Rule) → rule_no following ≡ rule_no rule + 1 → IsSoWhere Q (IsNext following) a
-      kept_on is following number has so = record {
-        office = (next has so).office;
-        before = λ other below. all_below is has so other (omega (arith, below, number));
+      kept_on is following number layout newest has so = record {
+        office = (next layout newest has so).office;
+        before = λ other below. all_below is layout newest has so other (omega (arith, below, number));
       }
 
-      pub broken_here : keeps ≡ false → IsSoWhere Q (λ trees. IsFirstBrokenUntyped trees rule) a
-      broken_here is has so = record {
-        broken = λ kept. false≢true (sym is ∙ (told has so).1 kept);
-        before = (next has so).before;
+      pub broken_here : keeps ≡ false → IsSoWhere Q (λ layout trees. IsFirstBrokenUntyped layout trees rule) a
+      broken_here is layout newest has so = record {
+        broken = λ kept. false≢true (sym is ∙ (told layout newest has so).1 kept);
+        before = (next layout newest has so).before;
       }
 
-      pub all_kept : IsTrue keeps → rule_no rule ≡ 8 → IsSoWhere Q (λ trees. (other : Rule) → KeepsUntyped trees other) a
-      all_kept is last has so other = all_below is has so other (omega (arith, last, (bounds other).1))
+      pub all_kept : IsTrue keeps → rule_no rule ≡ 8 → IsSoWhere Q (λ layout trees. (other : Rule) → KeepsUntyped layout trees other) a
+      all_kept is last layout newest has so other = all_below is layout newest has so other (omega (arith, last, (bounds other).1))

@@ -9,12 +9,13 @@ use Rattle.sqlite_trees.proofs.ListLemmas.{all-map, all_both, all_of}
 use Rattle.sqlite_schema.specs.Rules.{Obeys}
 use Rattle.td_guarantee.specs.declared.guarantee.Guarantee.{Guarantee}
 use Rattle.td_movement.specs.declared.movement.Movement.{Movement}
-use Rattle.td_schema.specs.Tables.{desk_schema}
 use Rattle.td_table_model.specs.Gathering.{holder_no, no_of, owner, place}
 use Rattle.td_table_model.specs.Stored.{AreOfHolders}
 use Rattle.td_table_model.specs.Tables.{Keyed}
 use Rattle.typed_sql.specs.Typed.{IsTypedRow, Typing, row_of, typed_rows}
 use Rattle.typed_sql.specs.Values.{number_value}
+use Rattle.td_schema.specs.Layouts.{guarantees_tree, schema_of}
+use Rattle.td_schema.specs.declared.layout.Layout.{Layout}
 use Rattle.td_store_rows.specs.Columns.{holder_typing, guarantee_typing, code_typing, movement_typing, line_typing}
 use Rattle.td_store_rows.specs.StoreTables.{tables_in}
 use Rattle.td_store_audit_rows.specs.Ids.{HaveAllIds}
@@ -22,10 +23,13 @@ use Rattle.td_store_audit_rows.specs.Kept.{AreCodesKept, AreGuaranteesKept, AreL
 use Rattle.td_store_audit_rows.specs.Untyped.{AllRows}
 use Rattle.td_store_audit.proofs.HoldersKept.{owned, owned_through}
 use Rattle.td_store_audit.proofs.Keyed.{all_three, numbers_equal, of_three, of_two, texts_equal}
-use Rattle.td_store_audit.proofs.Ruled.{HasParent, both, code_keys, codes_named, guarantee_keys, guarantees_named, line_keys, lines_named, lrn_keys, movement_keys, movements_named}
+use Rattle.td_store_audit.proofs.Ruled.{AreRuled, HasParent, both, ruled}
 use Rattle.td_store_audit.proofs.Unique.{HaveSame, one_typed}
 
-module _ (trees : Trees) (obeys : Obeys desk_schema trees) (ids : HaveAllIds trees) where
+module _ (layout : Layout) (trees : Trees) (obeys : Obeys (schema_of layout) trees) (ids : HaveAllIds layout trees) where
+  rules : AreRuled layout trees
+  rules = ruled layout trees obeys
+
   -- rows that name a holder in their first column are of holders that are there
   owned_rows : {X : Type 0} (ty : Typing (Keyed X)) → ((r : Row) → IsTypedRow ty r → column r 1 ≡ number_value (owner (row_of ty r)))
       → AllByRecursion (HasParent trees (1 ∷ []) 1 (0 ∷ [])) (trees ty.table.tree) → AllRows ty (IsTypedRow ty) trees
@@ -33,7 +37,7 @@ module _ (trees : Trees) (obeys : Obeys desk_schema trees) (ids : HaveAllIds tre
   owned_rows ty first named typed =
       all-map (λ k. IsSome (row_at holder_no (owner k) (typed_rows holder_typing trees))) (row_of ty) (trees ty.table.tree)
       (all_both (IsTypedRow ty) (HasParent trees (1 ∷ []) 1 (0 ∷ [])) (λ r. IsSome (row_at holder_no (owner (row_of ty r)) (typed_rows holder_typing trees)))
-      (λ r is has. owned trees ids.holders r (owner (row_of ty r)) (first r is) has) (trees ty.table.tree) typed named)
+      (λ r is has. owned layout trees ids.holders r (owner (row_of ty r)) (first r is) has) (trees ty.table.tree) typed named)
 
   -- rows of one holder's number and one serial have their first two columns the same
   same_keys : {X : Type 0} (ty : Typing (Keyed X)) → ((r : Row) → IsTypedRow ty r → column r 1 ≡ number_value (owner (row_of ty r)))
@@ -47,21 +51,21 @@ module _ (trees : Trees) (obeys : Obeys desk_schema trees) (ids : HaveAllIds tre
         (numbers_equal (column a 2) (column b 2) (place (row_of ty a)) (place (row_of ty b)) k (second a is_a) (second b is_b) of_a.1 of_b.1, tt),
       )
 
-  pub guarantees_kept : AllRows guarantee_typing (IsTypedRow guarantee_typing) trees → AreGuaranteesKept (tables_in trees)
+  pub guarantees_kept : AllRows (guarantee_typing layout) (IsTypedRow (guarantee_typing layout)) trees → AreGuaranteesKept (tables_in layout trees)
   guarantees_kept typed = record {
-    apart = λ H k. of_two (λ g. place g == k) (λ g. owner g == H) (typed_rows guarantee_typing trees)
-        (one_typed guarantee_typing trees (1 ∷ 2 ∷ []) ids.guarantees (guarantee_keys trees obeys) typed (λ g. (owner g == H) && (place g == k))
-        (same_keys guarantee_typing (λ r is. ap (λ l. column l 0) is) (λ r is. ap (λ l. column l 1) is) H k));
-    owned = owned_rows guarantee_typing (λ r is. ap (λ l. column l 0) is) (guarantees_named trees obeys) typed;
-    without_codes = all-map (λ (g : Keyed Guarantee). g.row.codes ≡ []) (row_of guarantee_typing) (trees 8)
-        (all_of (λ r. (row_of guarantee_typing r).row.codes ≡ []) (λ r. refl) (trees 8));
+    apart = λ H k. of_two (λ g. place g == k) (λ g. owner g == H) (typed_rows (guarantee_typing layout) trees)
+        (one_typed (guarantee_typing layout) trees (1 ∷ 2 ∷ []) ids.guarantees rules.guarantee_keys typed (λ g. (owner g == H) && (place g == k))
+        (same_keys (guarantee_typing layout) (λ r is. ap (λ l. column l 0) is) (λ r is. ap (λ l. column l 1) is) H k));
+    owned = owned_rows (guarantee_typing layout) (λ r is. ap (λ l. column l 0) is) rules.guarantees_named typed;
+    without_codes = all-map (λ (g : Keyed Guarantee). g.row.codes ≡ []) (row_of (guarantee_typing layout)) (trees (guarantees_tree layout))
+        (all_of (λ r. (row_of (guarantee_typing layout) r).row.codes ≡ []) (λ r. refl) (trees (guarantees_tree layout)));
   }
 
-  pub codes_kept : AllRows code_typing (IsTypedRow code_typing) trees → AreCodesKept (tables_in trees)
+  pub codes_kept : AllRows code_typing (IsTypedRow code_typing) trees → AreCodesKept (tables_in layout trees)
   codes_kept typed = record {
     apart = λ H n k. of_three (λ (c : Keyed (List ℕ)). bytes_eq c.row k) (λ c. place c == n) (λ c. owner c == H) (typed_rows code_typing trees)
-        (one_typed code_typing trees (1 ∷ 2 ∷ 3 ∷ []) ids.codes (code_keys trees obeys) typed (λ c. (owner c == H) && ((place c == n) && bytes_eq c.row k)) (same H n k));
-    owned = owned_rows code_typing (λ r is. ap (λ l. column l 0) is) (codes_named trees obeys) typed;
+        (one_typed code_typing trees (1 ∷ 2 ∷ 3 ∷ []) ids.codes rules.code_keys typed (λ c. (owner c == H) && ((place c == n) && bytes_eq c.row k)) (same H n k));
+    owned = owned_rows code_typing (λ r is. ap (λ l. column l 0) is) rules.codes_named typed;
   }
     where
       same : (H n : ℕ) (k : List ℕ) (a b : Row) → IsTypedRow code_typing a → IsTypedRow code_typing b
@@ -80,14 +84,14 @@ module _ (trees : Trees) (obeys : Obeys desk_schema trees) (ids : HaveAllIds tre
             ),
           )
 
-  pub movements_kept : AllRows movement_typing (IsTypedRow movement_typing) trees → AreMovementsKept (tables_in trees)
+  pub movements_kept : AllRows movement_typing (IsTypedRow movement_typing) trees → AreMovementsKept (tables_in layout trees)
   movements_kept typed = record {
     apart = λ H k. of_two (λ m. place m == k) (λ m. owner m == H) (typed_rows movement_typing trees)
-        (one_typed movement_typing trees (1 ∷ 2 ∷ []) ids.movements (movement_keys trees obeys) typed (λ m. (owner m == H) && (place m == k))
+        (one_typed movement_typing trees (1 ∷ 2 ∷ []) ids.movements rules.movement_keys typed (λ m. (owner m == H) && (place m == k))
         (same_keys movement_typing (λ r is. ap (λ l. column l 0) is) (λ r is. ap (λ l. column l 1) is) H k));
     lrns = λ H k. of_two (λ (m : Keyed Movement). bytes_eq m.row.lrn k) (λ m. owner m == H) (typed_rows movement_typing trees)
-        (one_typed movement_typing trees (1 ∷ 4 ∷ []) ids.movements (lrn_keys trees obeys) typed (λ m. (owner m == H) && bytes_eq m.row.lrn k) (same H k));
-    owned = owned_rows movement_typing (λ r is. ap (λ l. column l 0) is) (movements_named trees obeys) typed;
+        (one_typed movement_typing trees (1 ∷ 4 ∷ []) ids.movements rules.lrn_keys typed (λ m. (owner m == H) && bytes_eq m.row.lrn k) (same H k));
+    owned = owned_rows movement_typing (λ r is. ap (λ l. column l 0) is) rules.movements_named typed;
     without_lines = all-map (λ (m : Keyed Movement). m.row.lines ≡ []) (row_of movement_typing) (trees 4)
         (all_of (λ r. (row_of movement_typing r).row.lines ≡ []) (λ r. refl) (trees 4));
   }
@@ -105,15 +109,15 @@ module _ (trees : Trees) (obeys : Obeys desk_schema trees) (ids : HaveAllIds tre
             (texts_equal (column a 4) (column b 4) x.row.lrn y.row.lrn k (ap (λ l. column l 3) is_a) (ap (λ l. column l 3) is_b) of_a.1 of_b.1, tt),
           )
 
-  pub lines_kept : AllRows line_typing (IsTypedRow line_typing) trees → AreLinesKept (tables_in trees)
+  pub lines_kept : AllRows line_typing (IsTypedRow line_typing) trees → AreLinesKept (tables_in layout trees)
   lines_kept typed = record {
     apart = λ H n k. of_three (λ l. no_of l == k) (λ l. place l == n) (λ l. owner l == H) (typed_rows line_typing trees)
-        (one_typed line_typing trees (1 ∷ 2 ∷ 3 ∷ []) ids.lines (line_keys trees obeys) typed (λ l. (owner l == H) && ((place l == n) && (no_of l == k))) (same H n k));
+        (one_typed line_typing trees (1 ∷ 2 ∷ 3 ∷ []) ids.lines rules.line_keys typed (λ l. (owner l == H) && ((place l == n) && (no_of l == k))) (same H n k));
     owned = all-map (λ l. IsSome (row_at holder_no (owner l) (typed_rows holder_typing trees))) (row_of line_typing) (trees 11)
         (all_both (IsTypedRow line_typing) (HasParent trees (1 ∷ 2 ∷ []) 4 (1 ∷ 2 ∷ []))
         (λ r. IsSome (row_at holder_no (owner (row_of line_typing r)) (typed_rows holder_typing trees)))
-        (λ r is has. owned_through trees ids.holders obeys r (owner (row_of line_typing r)) (place (row_of line_typing r))
-        (ap (λ l. column l 0) is) (ap (λ l. column l 1) is) has) (trees 11) typed (lines_named trees obeys));
+        (λ r is has. owned_through layout trees ids.holders obeys r (owner (row_of line_typing r)) (place (row_of line_typing r))
+        (ap (λ l. column l 0) is) (ap (λ l. column l 1) is) has) (trees 11) typed rules.lines_named);
   }
     where
       same : (H n k : ℕ) (a b : Row) → IsTypedRow line_typing a → IsTypedRow line_typing b

@@ -12,6 +12,7 @@ use Rattle.typed_sql.specs.Typed.{IsTypedRow, row_of, typed_rows}
 use Rattle.td_table_model.specs.declared.rule.Rule.TheVariants.{S4, S6}
 use Rattle.td_table_model.specs.Gathering.{owner, part}
 use Rattle.td_table_model.specs.Tables.{Keyed, LineCells}
+use Rattle.td_schema.specs.declared.layout.Layout.{Layout}
 use Rattle.td_store_rows.specs.Columns.{code_typing, line_typing}
 use Rattle.td_store_rows.specs.StoreTables.{tables_in}
 use Rattle.td_store_audit_rows.specs.Fields.{AreCodeFields, AreLineFields}
@@ -37,39 +38,39 @@ holder_told raw trees count rows b is same sorted tells =
       λ has. it.1 (codes_permuted count mine rows same (subst (λ o. IsSome o × AreCodesInPlace (unwrap_or o 0) mine) is has).1),
     )
 
-module _ (tell : HolderFieldsTell) (state : State) (found : List RawHolder) where
-  pub owners : AreHoldersAuditable state found → HaveOwners (tables_in state.now.trees)
-  owners common = record { numbers = numbers state.now.trees found common.holders tell; country = common.country }
+module _ (tell : HolderFieldsTell) (layout : Layout) (state : State) (found : List RawHolder) where
+  pub owners : AreHoldersAuditable layout state found → HaveOwners (tables_in layout state.now.trees)
+  owners common = record { numbers = numbers layout state.now.trees found common.holders tell; country = common.country }
 
   -- codes that keep their rule are read
-  pub codes_read : CodesAreRead → AreCodesAuditable state found → KeepsUntyped state.now.trees S4 → AllRows code_typing (IsReadRow code_typing AreCodeFields) state.now.trees
-  codes_read read auditable keeps = read state.now.trees (owners auditable.common) (auditable.owned keeps.0) auditable.common.guarantees.1 keeps
+  pub codes_read : CodesAreRead → AreCodesAuditable layout state found → KeepsUntyped layout state.now.trees S4 → AllRows code_typing (IsReadRow code_typing AreCodeFields) state.now.trees
+  codes_read read auditable keeps = read layout state.now.trees (owners auditable.common) (auditable.owned keeps.0) auditable.common.guarantees.1 keeps
 
   -- codes that are read keep it exactly where those of each holder are in their places
-  pub codes_rule : AreCodesAuditable state found → AllRows code_typing (IsReadRow code_typing AreCodeFields) state.now.trees
-      → AllByRecursion (HasCodesInPlace state.now.trees) found ↔ KeepsUntyped state.now.trees S4
+  pub codes_rule : AreCodesAuditable layout state found → AllRows code_typing (IsReadRow code_typing AreCodeFields) state.now.trees
+      → AllByRecursion (HasCodesInPlace state.now.trees) found ↔ KeepsUntyped layout state.now.trees S4
   codes_rule auditable read =
       let trees = state.now.trees in
       let rows = trees code_typing.table.tree in
       let forms : AllByRecursion (λ (c : Keyed (List ℕ)). IsAccessCode c.row) (typed_rows code_typing trees) =
       all-map (λ (c : Keyed (List ℕ)). IsAccessCode c.row) (row_of code_typing) rows
       (all_weaker (IsReadRow code_typing AreCodeFields) (λ r. IsAccessCode (row_of code_typing r).row) (λ r is. is.1.code) rows read) in
-      let told = codes_told trees found auditable.common.holders tell auditable.common.guarantees.0.0 auditable.common.guarantees.1
+      let told = codes_told layout trees found auditable.common.holders tell auditable.common.guarantees.0.0 auditable.common.guarantees.1
       (λ H. all-filter (λ (c : Keyed (List ℕ)). IsAccessCode c.row) (λ c. owner c == H) (typed_rows code_typing trees) forms) in (
         λ each. (all_weaker (IsReadRow code_typing AreCodeFields) (IsTypedRow code_typing) (λ r is. is.0) rows read, told.0 each),
         λ keeps. told.1 keeps.1,
       )
 
   -- lines that keep their rule are read
-  pub lines_read : LinesAreRead → AreLinesAuditable state found → KeepsUntyped state.now.trees S6 → AllRows line_typing (IsReadRow line_typing AreLineFields) state.now.trees
+  pub lines_read : LinesAreRead → AreLinesAuditable layout state found → KeepsUntyped layout state.now.trees S6 → AllRows line_typing (IsReadRow line_typing AreLineFields) state.now.trees
   lines_read read auditable keeps =
-      read state.now.trees (owners auditable.common) (auditable.owned keeps.0) (auditable.apart keeps.0) auditable.common.guarantees.1 auditable.movements.1 keeps
+      read layout state.now.trees (owners auditable.common) (auditable.owned keeps.0) (auditable.apart keeps.0) auditable.common.guarantees.1 auditable.movements.1 keeps
 
   -- lines that are read keep it exactly where those of each holder are in their places
-  pub lines_rule : AreLinesAuditable state found → AllRows line_typing (IsTypedRow line_typing) state.now.trees
-      → AllByRecursion (HasLinesInPlace state.now.trees) found ↔ KeepsUntyped state.now.trees S6
+  pub lines_rule : AreLinesAuditable layout state found → AllRows line_typing (IsTypedRow line_typing) state.now.trees
+      → AllByRecursion (HasLinesInPlace state.now.trees) found ↔ KeepsUntyped layout state.now.trees S6
   lines_rule auditable typed =
-      let told = lines_told state.now.trees found auditable.common.holders tell auditable.common.guarantees.0.0 auditable.common.guarantees.1
+      let told = lines_told layout state.now.trees found auditable.common.holders tell auditable.common.guarantees.0.0 auditable.common.guarantees.1
       auditable.movements.0.0 auditable.movements.1 in
       (λ each. (typed, told.0 each), λ keeps. told.1 keeps.1)
 

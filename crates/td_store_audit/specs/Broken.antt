@@ -1,5 +1,5 @@
 -- Which rule of sound tables a store's file breaks first, as it stands.
-use Rattle.std.specs.Prelude.{◌≡◌, ℕ, ℤ, List, [], ◌∷◌, Option, Some, None}
+use Rattle.std.specs.Prelude.{IsTrue, ◌≡◌, ℕ, ℤ, List, [], ◌∷◌, Option, Some, None}
 use Rattle.sqlite_value.specs.declared.value.Value.TheVariants.{Int, Text}
 use Rattle.sqlite_value.specs.Order.{Row, column}
 use Rattle.sqlite_trees.specs.Tree.{Trees}
@@ -7,6 +7,9 @@ use Rattle.sqlite.specs.State.{State}
 use Rattle.td_base.specs.Codes.{IsCountry}
 use Rattle.td_table_model.specs.declared.rule.Rule.{Rule}
 use Rattle.td_table_model.specs.declared.rule.Rule.TheVariants.{S1}
+use Rattle.td_schema.specs.Layouts.{schema_of}
+use Rattle.td_schema.specs.declared.layout.Layout.{Layout}
+use Rattle.typed_sql.specs.Writing.{HasSchema}
 use Rattle.td_store_rows.specs.StoreTables.{tables_in}
 use Rattle.td_store_audit_rows.specs.Ids.{HaveAllIds}
 use Rattle.td_store_audit_rows.specs.Untyped.{IsFirstBrokenUntyped, KeepsUntyped}
@@ -17,13 +20,13 @@ use Rattle.td_store_audit_rows.specs.declared.tables.Readable.{Readable}
 use Rattle.td_store_audit.specs.Auditable.{IsAuditable, KeepsBefore}
 
 -- the first rule that the tables break as they stand, or none
-abbrev pub TellsBroken : Trees → Option Rule → Type 0
-TellsBroken trees None = (rule : Rule) → KeepsUntyped trees rule
-TellsBroken trees (Some rule) = IsFirstBrokenUntyped trees rule
+abbrev pub TellsBroken : Layout → Trees → Option Rule → Type 0
+TellsBroken layout trees None = (rule : Rule) → KeepsUntyped layout trees rule
+TellsBroken layout trees (Some rule) = IsFirstBrokenUntyped layout trees rule
 
 -- where the rowids of the tables are integers, no two the same, a database keeps of them what it does
-abbrev pub KeepsItsTables : State → Type 0
-KeepsItsTables state = HaveAllIds state.now.trees → AreKept state.now.trees
+abbrev pub KeepsItsTables : Layout → State → Type 0
+KeepsItsTables layout state = HaveAllIds layout state.now.trees → AreKept layout state.now.trees
 
 -- the office's own row is the only one that is shown: a version, and this text
 pub record IsOffice (rows : List Row) (text : List ℕ) : Type 0 where
@@ -39,17 +42,25 @@ ShowsCountry rows None = (text : List ℕ) → IsOffice rows text → ¬ IsCount
 ShowsCountry rows (Some country) = IsOffice rows country × IsCountry country
 
 -- the tables keep S1, and this is the country; or they don't
-abbrev pub TellsCountry : Trees → Option (List ℕ) → Type 0
-TellsCountry trees None = ¬ KeepsUntyped trees S1
-TellsCountry trees (Some country) = KeepsUntyped trees S1 × ((tables_in trees).country ≡ country)
+abbrev pub TellsCountry : Layout → Trees → Option (List ℕ) → Type 0
+TellsCountry layout trees None = ¬ KeepsUntyped layout trees S1
+TellsCountry layout trees (Some country) = KeepsUntyped layout trees S1 × ((tables_in layout trees).country ≡ country)
 
 -- what the rules after S1 are asked by, and which tables can be read row by row
-pub record HasOffice (country : List ℕ) (holders : List RawHolder) (readable : Readable) (trees : Trees) : Type 0 where
-  pub known : IsAuditable trees country holders
-  pub keeps : KeepsUntyped trees S1
-  pub told : TellReadable readable trees
+pub record HasOffice (country : List ℕ) (holders : List RawHolder) (readable : Readable) (layout : Layout) (trees : Trees) : Type 0 where
+  pub known : IsAuditable layout trees country holders
+  pub keeps : KeepsUntyped layout trees S1
+  pub told : TellReadable layout readable trees
 
 -- and one of them, where the rules before it are kept
-pub record IsNextRule (rule : Rule) (country : List ℕ) (holders : List RawHolder) (readable : Readable) (trees : Trees) : Type 0 where
-  pub office : HasOffice country holders readable trees
-  pub before : KeepsBefore trees rule
+pub record IsNextRule (rule : Rule) (country : List ℕ) (holders : List RawHolder) (readable : Readable) (layout : Layout) (trees : Trees) : Type 0 where
+  pub office : HasOffice country holders readable layout trees
+  pub before : KeepsBefore layout trees rule
+
+-- so it is in a file with the tables of a layout
+abbrev pub TellsCountryIn : State → Option (List ℕ) → Type 0
+TellsCountryIn state country = (layout : Layout) → HasSchema state (schema_of layout) → TellsCountry layout state.now.trees country
+
+-- where the tables are those of a layout as far as the connection is open, it is open
+abbrev pub IsOpenStore : State → Type 0
+IsOpenStore state = (layout : Layout) → HasSchema state (schema_of layout) → IsTrue state.is_open

@@ -4,10 +4,11 @@ use Rattle.std.specs.Cmp.Lexicographic.{slice_cmp}
 use Rattle.std.specs.Ordering.{nat_cmp, ordering_then}
 use Rattle.std.specs.declared.cmp.Ordering.{Ordering}
 use Rattle.sqlite.specs.State.{State}
-use Rattle.td_schema.specs.Tables.{desk_schema}
 use Rattle.typed_sql.specs.Typed.{AreInOrder}
 use Rattle.td_table_model.specs.Gathering.{no_of, owner, place}
 use Rattle.td_table_model.specs.Tables.{Keyed, LineCells}
+use Rattle.td_schema.specs.Layouts.{schema_of}
+use Rattle.td_schema.specs.declared.layout.Layout.{Layout}
 use Rattle.td_store_rows.specs.Columns.{code_typing, line_typing}
 use Rattle.td_store_rows.specs.CodeTable.{code_row_of as row_of_code}
 use Rattle.td_store_rows.specs.declared.codes.stored.StoredCode.{StoredCode}
@@ -28,10 +29,10 @@ line_order a b = ordering_then (nat_cmp (place a) (place b)) (nat_cmp (no_of a) 
 
 -- where the rows of the table are typed, these are in that order
 abbrev pub AreInCodeOrder : State → List StoredCode → Type 0
-AreInCodeOrder state found = AreInOrder code_typing desk_schema code_order state (map row_of_code found)
+AreInCodeOrder state found = (l : Layout) → AreInOrder code_typing (schema_of l) code_order state (map row_of_code found)
 
 abbrev pub AreInLineOrder : State → List StoredLine → Type 0
-AreInLineOrder state found = AreInOrder line_typing desk_schema line_order state (map row_of_line found)
+AreInLineOrder state found = (l : Layout) → AreInOrder line_typing (schema_of l) line_order state (map row_of_line found)
 
 -- the serial of the guarantee that a code is of, and of the movement that a line is of
 abbrev pub serial_of_code : StoredCode → ℕ

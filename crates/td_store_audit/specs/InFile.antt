@@ -7,23 +7,24 @@ use Rattle.td_guarantee.specs.declared.guarantee.Guarantee.{Guarantee}
 use Rattle.td_table_model.specs.Gathering.{IsApart, guarantees_by, movements_by, part, place}
 use Rattle.td_table_model.specs.Looking.{cents_of, lines_in_use}
 use Rattle.td_table_model.specs.Tables.{Keyed}
-use Rattle.td_schema.specs.Tables.{desk_schema}
 use Rattle.typed_sql.specs.Typed.{AreTyped, Typing, typed_rows}
 use Rattle.typed_sql.specs.Writing.{HasSchema}
+use Rattle.td_schema.specs.Layouts.{IsNewest, schema_of}
+use Rattle.td_schema.specs.declared.layout.Layout.{Layout}
 use Rattle.td_store_rows.specs.StoreTables.{tables_in}
 use Rattle.td_store_audit_rows.specs.InPlace.{AreGuaranteesInPlace, AreMovementsInPlace}
 use Rattle.td_store_audit_rows.specs.Found.{HasGrns, HasMrns}
 use Rattle.td_store_audit_rows.specs.declared.holders.RawHolder.{RawHolder}
 
 -- the holder's guarantees are counted, and in their places
-abbrev pub HasGuaranteesInPlace : List ℕ → Trees → RawHolder → Type 0
-HasGuaranteesInPlace country trees h =
-    HasGrns h × AreGuaranteesInPlace country (unwrap_or h.grn_count 0) (guarantees_by h.holder (tables_in trees))
+abbrev pub HasGuaranteesInPlace : Layout → List ℕ → Trees → RawHolder → Type 0
+HasGuaranteesInPlace layout country trees h =
+    HasGrns h × AreGuaranteesInPlace country (unwrap_or h.grn_count 0) (guarantees_by h.holder (tables_in layout trees))
 
 -- so are the holder's movements
-abbrev pub HasMovementsInPlace : List ℕ → Trees → RawHolder → Type 0
-HasMovementsInPlace country trees h =
-    HasMrns h × AreMovementsInPlace country (unwrap_or h.mrn_count 0) (movements_by h.holder (tables_in trees))
+abbrev pub HasMovementsInPlace : Layout → List ℕ → Trees → RawHolder → Type 0
+HasMovementsInPlace layout country trees h =
+    HasMrns h × AreMovementsInPlace country (unwrap_or h.mrn_count 0) (movements_by h.holder (tables_in layout trees))
 
 -- a table's rows are typed, and no two of one holder have one serial
 pub record AreTypedApart {X : Type 0} (ty : Typing (Keyed X)) (trees : Trees) : Type 0 where
@@ -31,16 +32,17 @@ pub record AreTypedApart {X : Type 0} (ty : Typing (Keyed X)) (trees : Trees) : 
   pub apart : (H : ℕ) → IsApart place (part H (typed_rows ty trees))
 
 -- what is in use on the guarantee in a row is at most its reference amount
-abbrev pub IsRowCovered : Trees → Keyed Guarantee → Type 0
-IsRowCovered trees g = sum_by cents_of (lines_in_use g.holder g.serial (tables_in trees)) ≤ g.row.reference
+abbrev pub IsRowCovered : Layout → Trees → Keyed Guarantee → Type 0
+IsRowCovered layout trees g = sum_by cents_of (lines_in_use g.holder g.serial (tables_in layout trees)) ≤ g.row.reference
 
 -- so it is on each of the holder's
-abbrev pub IsHolderCoveredInFile : Trees → RawHolder → Type 0
-IsHolderCoveredInFile trees h = AllByRecursion (IsRowCovered trees) (guarantees_by h.holder (tables_in trees))
+abbrev pub IsHolderCoveredInFile : Layout → Trees → RawHolder → Type 0
+IsHolderCoveredInFile layout trees h = AllByRecursion (IsRowCovered layout trees) (guarantees_by h.holder (tables_in layout trees))
 
--- where the first is so of the file's tables, so is the second; and it is told whether it is
-abbrev pub IsSoWhere : (Trees → Type 0) → (Trees → Type 0) → State → Type 0
-IsSoWhere Q P state = HasSchema state desk_schema → Q state.now.trees → P state.now.trees
+-- where the first is so of the tables of a file of the newest version, so is the second; and it is told whether it is
+abbrev pub IsSoWhere : (Layout → Trees → Type 0) → (Layout → Trees → Type 0) → State → Type 0
+IsSoWhere Q P state =
+    (layout : Layout) → IsNewest layout → HasSchema state (schema_of layout) → Q layout state.now.trees → P layout state.now.trees
 
-abbrev pub TellsWhere : (Trees → Type 0) → (Trees → Type 0) → State → Bool → Type 0
-TellsWhere Q P state is = IsSoWhere Q (λ trees. IsTrue is ↔ P trees) state
+abbrev pub TellsWhere : (Layout → Trees → Type 0) → (Layout → Trees → Type 0) → State → Bool → Type 0
+TellsWhere Q P state is = IsSoWhere Q (λ layout trees. IsTrue is ↔ P layout trees) state

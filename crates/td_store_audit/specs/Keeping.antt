@@ -3,9 +3,10 @@ use Rattle.std.specs.Prelude.{◌≡◌, IsTrue}
 use Rattle.sqlite_trees.specs.Tree.{Trees}
 use Rattle.sqlite.specs.Effect.{Database, IsDatabase}
 use Rattle.sqlite.specs.State.{State}
-use Rattle.td_schema.specs.Tables.{desk_schema}
 use Rattle.typed_sql.specs.Typed.{IsTypedRow}
 use Rattle.typed_sql.specs.Writing.{HasSchema}
+use Rattle.td_schema.specs.Layouts.{schema_of}
+use Rattle.td_schema.specs.declared.layout.Layout.{Layout}
 use Rattle.td_store_rows.specs.Columns.{holder_typing, guarantee_typing, code_typing, movement_typing, line_typing}
 use Rattle.td_store_rows.specs.StoreTables.{tables_in}
 use Rattle.td_store_audit_rows.specs.Ids.{HaveAllIds}
@@ -14,27 +15,28 @@ use Rattle.td_store_audit_rows.specs.Untyped.{AllRows, HasNumber}
 use Rattle.td_store_audit_rows.specs.Laws.{AreKept}
 
 -- a database with a store's tables keeps this of their rows, where their rowids are integers and no two are the same
-abbrev pub SchemaKeeps : (Trees → Type 0) → Type 0
-SchemaKeeps P = (db : Database) → IsDatabase db → db.schema ≡ desk_schema → HaveAllIds db.trees → P db.trees
+abbrev pub SchemaKeeps : (Layout → Trees → Type 0) → Type 0
+SchemaKeeps P =
+    (layout : Layout) (db : Database) → IsDatabase db → db.schema ≡ schema_of layout → HaveAllIds layout db.trees → P layout db.trees
 
 -- of the holders: the CHECK of their numbers, which are the rowids
 abbrev pub SchemaKeepsHolders : Type 0
-SchemaKeepsHolders = SchemaKeeps (λ trees. AllRows holder_typing HasNumber trees × AreHoldersKept (tables_in trees))
+SchemaKeepsHolders = SchemaKeeps (λ layout trees. AllRows holder_typing HasNumber trees × AreHoldersKept (tables_in layout trees))
 
 -- of each other table, where its own rows are typed: its UNIQUE keys, and the FOREIGN KEYs that lead to a holder
 abbrev pub SchemaKeepsGuarantees : Type 0
 SchemaKeepsGuarantees =
-    SchemaKeeps (λ trees. AllRows guarantee_typing (IsTypedRow guarantee_typing) trees → AreGuaranteesKept (tables_in trees))
+    SchemaKeeps (λ layout trees. AllRows (guarantee_typing layout) (IsTypedRow (guarantee_typing layout)) trees → AreGuaranteesKept (tables_in layout trees))
 
 abbrev pub SchemaKeepsCodes : Type 0
-SchemaKeepsCodes = SchemaKeeps (λ trees. AllRows code_typing (IsTypedRow code_typing) trees → AreCodesKept (tables_in trees))
+SchemaKeepsCodes = SchemaKeeps (λ layout trees. AllRows code_typing (IsTypedRow code_typing) trees → AreCodesKept (tables_in layout trees))
 
 abbrev pub SchemaKeepsMovements : Type 0
 SchemaKeepsMovements =
-    SchemaKeeps (λ trees. AllRows movement_typing (IsTypedRow movement_typing) trees → AreMovementsKept (tables_in trees))
+    SchemaKeeps (λ layout trees. AllRows movement_typing (IsTypedRow movement_typing) trees → AreMovementsKept (tables_in layout trees))
 
 abbrev pub SchemaKeepsLines : Type 0
-SchemaKeepsLines = SchemaKeeps (λ trees. AllRows line_typing (IsTypedRow line_typing) trees → AreLinesKept (tables_in trees))
+SchemaKeepsLines = SchemaKeeps (λ layout trees. AllRows line_typing (IsTypedRow line_typing) trees → AreLinesKept (tables_in layout trees))
 
 -- all of it
 abbrev pub SchemaKeepsTables : Type 0
@@ -42,4 +44,6 @@ SchemaKeepsTables = SchemaKeeps AreKept
 
 -- so it is of the tables that an open connection shows
 abbrev pub KeepsTables : State → Type 0
-KeepsTables state = IsTrue state.is_open → HasSchema state desk_schema → HaveAllIds state.now.trees → AreKept state.now.trees
+KeepsTables state =
+    (layout : Layout) → IsTrue state.is_open → HasSchema state (schema_of layout) → HaveAllIds layout state.now.trees
+    → AreKept layout state.now.trees

@@ -10,6 +10,7 @@ use Rattle.td_table_model.specs.Gathering.{IsApart, movements_by, part, place}
 use Rattle.td_table_model.specs.Tables.{Keyed}
 use Rattle.td_table_model.specs.declared.rule.Rule.TheVariants.{S8}
 use Rattle.typed_sql.specs.Typed.{AreTyped}
+use Rattle.td_schema.specs.declared.layout.Layout.{Layout}
 use Rattle.td_store_rows.specs.Columns.{guarantee_typing, line_typing, movement_typing}
 use Rattle.td_store_rows.specs.declared.guarantees.stored.StoredGuarantee.{StoredGuarantee}
 use Rattle.td_store_rows.specs.LineTable.{line_row_of}
@@ -37,34 +38,34 @@ abbrev pub is_counting_row : Keyed Movement → Bool
 is_counting_row m = is_counting m.row.state
 
 -- these are the serials of the holder's movements that count, in their order
-abbrev pub AreCounting : Trees → CountingSerials → Type 0
-AreCounting trees h = map serial_of_stored h.serials.items ≡ map place (filter is_counting_row (movements_by h.raw.holder (tables_in trees)))
+abbrev pub AreCounting : Layout → Trees → CountingSerials → Type 0
+AreCounting layout trees h = map serial_of_stored h.serials.items ≡ map place (filter is_counting_row (movements_by h.raw.holder (tables_in layout trees)))
 
 -- these are the holder's lines
-abbrev pub AreItsLines : Trees → HolderLines → Type 0
-AreItsLines trees h = IsPermutation (part h.movements.raw.holder (tables_in trees).lines) (map line_row_of h.lines.items)
+abbrev pub AreItsLines : Layout → Trees → HolderLines → Type 0
+AreItsLines layout trees h = IsPermutation (part h.movements.raw.holder (tables_in layout trees).lines) (map line_row_of h.lines.items)
 
 -- so they are of each holder, where the tables that they are of are typed
 abbrev pub AreAllCounting : State → List CountingSerials → Type 0
-AreAllCounting state handed = IsSoWhere (AreTypedApart movement_typing) (λ trees. AllByRecursion (AreCounting trees) handed) state
+AreAllCounting state handed = IsSoWhere (λ layout. AreTypedApart movement_typing) (λ layout trees. AllByRecursion (AreCounting layout trees) handed) state
 
 abbrev pub AreAllLines : State → List HolderLines → Type 0
-AreAllLines state handed = IsSoWhere (AreTyped line_typing) (λ trees. AllByRecursion (AreItsLines trees) handed) state
+AreAllLines state handed = IsSoWhere (λ layout. AreTyped line_typing) (λ layout trees. AllByRecursion (AreItsLines layout trees) handed) state
 
 -- what was handed on of a holder is so, and the holder's guarantees are typed
-pub record IsHandedOn (trees : Trees) (h : HolderLines) : Type 0 where
-  pub guarantees : AreTypedApart guarantee_typing trees
-  pub apart : IsApart place (part h.movements.raw.holder (tables_in trees).movements)
-  pub counting : AreCounting trees h.movements
-  pub lines : AreItsLines trees h
+pub record IsHandedOn (layout : Layout) (trees : Trees) (h : HolderLines) : Type 0 where
+  pub guarantees : AreTypedApart (guarantee_typing layout) trees
+  pub apart : IsApart place (part h.movements.raw.holder (tables_in layout trees).movements)
+  pub counting : AreCounting layout trees h.movements
+  pub lines : AreItsLines layout trees h
 
 -- by it what is in use on the guarantee in a row is at most its reference amount
 abbrev pub IsCoveredBy : HolderLines → StoredGuarantee → Type 0
 IsCoveredBy h g = total_on g.serial h.movements.serials.items h.lines.items ≤ g.guarantee.reference
 
 -- the rules before S8 are kept, and what was handed on of each holder is so
-pub record IsCoverAuditable (country : List ℕ) (handed : List HolderLines) (trees : Trees) : Type 0 where
-  pub known : IsAuditable trees country (map raw_holder_of handed)
-  pub before : KeepsBefore trees S8
-  pub counting : AllByRecursion (λ h. AreCounting trees (movements_in h)) handed
-  pub lines : AllByRecursion (AreItsLines trees) handed
+pub record IsCoverAuditable (country : List ℕ) (handed : List HolderLines) (layout : Layout) (trees : Trees) : Type 0 where
+  pub known : IsAuditable layout trees country (map raw_holder_of handed)
+  pub before : KeepsBefore layout trees S8
+  pub counting : AllByRecursion (λ h. AreCounting layout trees (movements_in h)) handed
+  pub lines : AllByRecursion (AreItsLines layout trees) handed

@@ -2,10 +2,9 @@
 ghost use Rattle.std.specs.Prelude.{◌≡◌, IsTrue, IfOk, OnOk, is_ok};
 ghost use Rattle.sqlite.specs.Held.{state};
 ghost use Rattle.sqlite.specs.State.{HasCleanDisk, KeepsCommit, Survives};
-ghost use Rattle.td_schema.specs.Tables.{desk_schema};
 ghost use Rattle.td_table_model.specs.declared.rule.Rule.TheVariants.{S5};
-ghost use Rattle.typed_sql.specs.Reading.{IsInside, LeavesAll, Reads};
-ghost use Rattle.typed_sql.specs.Writing.{HasSchema};
+ghost use Rattle.typed_sql.specs.Reading.{IsInside};
+ghost use Rattle.td_store_rows.specs.StoreReads.{LeavesNewest, ReadsNewest};
 ghost use Rattle.td_store_audit_rows.specs.Laws.{AreKept};
 ghost use Rattle.td_store_audit_rows.specs.Scans.{TellReadable};
 ghost use Rattle.td_store_audit.specs.Broken.{HasOffice, IsNextRule, TellsBroken};
@@ -36,10 +35,9 @@ pub fn first_broken<S: Alter>(
     requires { HasCleanDisk (state S.Store tx.old.conn.now) → IsTrue (state S.Store tx.old.conn.now).in_transaction }
     ensures same_reference { tx.new.conn.ghost_name ≡ tx.old.conn.ghost_name }
     ensures told { HasCleanDisk (state S.Store tx.new.conn.now)
-        → IfOk result (λ broken. HasSchema (state S.Store tx.old.conn.now) desk_schema → AreKept (state S.Store tx.old.conn.now).now.trees
-        → TellReadable readable (state S.Store tx.old.conn.now).now.trees → TellsBroken (state S.Store tx.old.conn.now).now.trees broken) }
+        → IfOk result (λ broken. IsSoWhere AreKept (λ layout trees. TellReadable layout readable trees → TellsBroken layout trees broken) (state S.Store tx.old.conn.now)) }
     ensures still { HasCleanDisk (state S.Store tx.new.conn.now)
-        → OnOk result (LeavesAll desk_schema (state S.Store tx.old.conn.now) (state S.Store tx.new.conn.now)) }
+        → OnOk result (LeavesNewest (state S.Store tx.old.conn.now) (state S.Store tx.new.conn.now)) }
     ensures inside { HasCleanDisk (state S.Store tx.new.conn.now) → OnOk result (IsTrue (state S.Store tx.new.conn.now).in_transaction) }
     ensures kept { HasCleanDisk (state S.Store tx.new.conn.now)
         → KeepsCommit (state S.Store tx.old.conn.now) (state S.Store tx.new.conn.now) }
@@ -63,8 +61,8 @@ fn first_after_office<S: Alter>(
     requires { IsInside (state S.Store tx.old.conn.now) }
     ensures same_reference { tx.new.conn.ghost_name ≡ tx.old.conn.ghost_name }
     ensures told { HasCleanDisk (state S.Store tx.new.conn.now)
-        → IfOk result (λ broken. IsSoWhere (HasOffice country holders.now readable) (λ trees. TellsBroken trees broken) (state S.Store tx.old.conn.now)) }
-    ensures reads { Reads desk_schema (is_ok result) (state S.Store tx.old.conn.now) (state S.Store tx.new.conn.now) }
+        → IfOk result (λ broken. IsSoWhere (HasOffice country holders.now readable) (λ layout trees. TellsBroken layout trees broken) (state S.Store tx.old.conn.now)) }
+    ensures reads { ReadsNewest (is_ok result) (state S.Store tx.old.conn.now) (state S.Store tx.new.conn.now) }
 {
     if !holders_keep_rule(holders) {
         return Ok(Some(Rule::S2));
@@ -90,8 +88,8 @@ fn first_of_movements<S: Alter>(
     requires { IsInside (state S.Store tx.old.conn.now) }
     ensures same_reference { tx.new.conn.ghost_name ≡ tx.old.conn.ghost_name }
     ensures told { HasCleanDisk (state S.Store tx.new.conn.now)
-        → IfOk result (λ broken. IsSoWhere (IsNextRule S5 country holders.now readable) (λ trees. TellsBroken trees broken) (state S.Store tx.old.conn.now)) }
-    ensures reads { Reads desk_schema (is_ok result) (state S.Store tx.old.conn.now) (state S.Store tx.new.conn.now) }
+        → IfOk result (λ broken. IsSoWhere (IsNextRule S5 country holders.now readable) (λ layout trees. TellsBroken layout trees broken) (state S.Store tx.old.conn.now)) }
+    ensures reads { ReadsNewest (is_ok result) (state S.Store tx.old.conn.now) (state S.Store tx.new.conn.now) }
 {
     let Some(counting) = movements_keep_rule(alloc, tx, country, holders, readable.movements)?
     else {

@@ -3,16 +3,13 @@ ghost use Rattle.std.specs.Prelude.{◌≡◌, ◌↔◌, IsTrue, IfOk, OnOk, is
 ghost use Rattle.std.specs.List.{AllByRecursion};
 ghost use Rattle.sqlite.specs.Held.{state};
 ghost use Rattle.sqlite.specs.State.{HasCleanDisk, KeepsCommit, Survives};
-ghost use Rattle.td_schema.specs.Tables.{desk_schema};
-ghost use Rattle.typed_sql.specs.Reading.{IsInside, OnlyRead, Reads};
+ghost use Rattle.typed_sql.specs.Reading.{IsInside};
 ghost use Rattle.typed_sql.specs.Typed.{AreTyped};
-ghost use Rattle.typed_sql.specs.Writing.{HasSchema};
+ghost use Rattle.td_store_rows.specs.StoreReads.{OnlyReadNewest, ReadsNewest};
+ghost use Rattle.td_store_audit.specs.InFile.{TellsWhere};
 ghost use Rattle.td_store_rows.specs.Columns.{code_typing};
 ghost use Rattle.td_table_model.specs.declared.rule.Rule.TheVariants.{S4};
-ghost use Rattle.td_store_audit_rows.specs.Fields.{AreCodeFields};
-ghost use Rattle.td_store_audit_rows.specs.Scans.{TellsRead};
-ghost use Rattle.td_store_audit_rows.specs.Untyped.{KeepsUntyped};
-ghost use Rattle.td_store_audit.specs.Premises.{AreCodesAuditable, HasCodesInPlace};
+ghost use Rattle.td_store_audit.specs.Premises.{HasCodesInPlace, TellsCodes};
 
 use crate::codes_in_place::codes_are_in_place;
 use crate::finding::codes_of_holder;
@@ -30,10 +27,8 @@ fn has_codes<S: Alter>(
     requires { IsInside (state S.Store tx.old.conn.now) }
     ensures same_reference { tx.new.conn.ghost_name ≡ tx.old.conn.ghost_name }
     ensures told { HasCleanDisk (state S.Store tx.new.conn.now)
-        → IfOk result (λ has. HasSchema (state S.Store tx.old.conn.now) desk_schema
-        → AreTyped code_typing (state S.Store tx.old.conn.now).now.trees
-        → IsTrue has ↔ HasCodesInPlace (state S.Store tx.old.conn.now).now.trees raw.now) }
-    ensures reads { Reads desk_schema (is_ok result) (state S.Store tx.old.conn.now) (state S.Store tx.new.conn.now) }
+        → IfOk result (TellsWhere (λ layout. AreTyped code_typing) (λ layout trees. HasCodesInPlace trees raw.now) (state S.Store tx.old.conn.now)) }
+    ensures reads { ReadsNewest (is_ok result) (state S.Store tx.old.conn.now) (state S.Store tx.new.conn.now) }
 {
     let codes = codes_of_holder(alloc, tx, raw.holder)?;
     let Some(guarantees) = raw.grn_count else {
@@ -51,10 +46,8 @@ fn all_have_codes<S: Alter>(
     requires { IsInside (state S.Store tx.old.conn.now) }
     ensures same_reference { tx.new.conn.ghost_name ≡ tx.old.conn.ghost_name }
     ensures told { HasCleanDisk (state S.Store tx.new.conn.now)
-        → IfOk result (λ all. HasSchema (state S.Store tx.old.conn.now) desk_schema
-        → AreTyped code_typing (state S.Store tx.old.conn.now).now.trees
-        → IsTrue all ↔ AllByRecursion (HasCodesInPlace (state S.Store tx.old.conn.now).now.trees) holders.now) }
-    ensures reads { Reads desk_schema (is_ok result) (state S.Store tx.old.conn.now) (state S.Store tx.new.conn.now) }
+        → IfOk result (TellsWhere (λ layout. AreTyped code_typing) (λ layout trees. AllByRecursion (HasCodesInPlace trees) holders.now) (state S.Store tx.old.conn.now)) }
+    ensures reads { ReadsNewest (is_ok result) (state S.Store tx.old.conn.now) (state S.Store tx.new.conn.now) }
 {
     'holders: for raw in holders {
         if !has_codes(alloc, tx, raw)? {
@@ -77,10 +70,9 @@ pub fn codes_keep_rule<S: Alter>(
     requires { HasCleanDisk (state S.Store tx.old.conn.now) → IsTrue (state S.Store tx.old.conn.now).in_transaction }
     ensures same_reference { tx.new.conn.ghost_name ≡ tx.old.conn.ghost_name }
     ensures told { HasCleanDisk (state S.Store tx.new.conn.now)
-        → IfOk result (λ keeps. AreCodesAuditable (state S.Store tx.old.conn.now) holders.now
-        → TellsRead code_typing AreCodeFields (state S.Store tx.old.conn.now).now.trees are_read → IsTrue keeps ↔ KeepsUntyped (state S.Store tx.old.conn.now).now.trees S4) }
+        → IfOk result (TellsCodes are_read holders.now (state S.Store tx.old.conn.now)) }
     ensures still { HasCleanDisk (state S.Store tx.new.conn.now)
-        → OnOk result (OnlyRead desk_schema (state S.Store tx.old.conn.now) (state S.Store tx.new.conn.now)) }
+        → OnOk result (OnlyReadNewest (state S.Store tx.old.conn.now) (state S.Store tx.new.conn.now)) }
     ensures inside { HasCleanDisk (state S.Store tx.new.conn.now) → OnOk result (IsTrue (state S.Store tx.new.conn.now).in_transaction) }
     ensures kept { HasCleanDisk (state S.Store tx.new.conn.now)
         → KeepsCommit (state S.Store tx.old.conn.now) (state S.Store tx.new.conn.now) }

@@ -4,11 +4,11 @@ ghost use Rattle.std.specs.List.{AllByRecursion};
 ghost use Rattle.sqlite.specs.Held.{state};
 ghost use Rattle.sqlite.specs.State.{HasCleanDisk};
 ghost use Rattle.td_table_model.specs.declared.rule.Rule.TheVariants.{S8};
+ghost use Rattle.td_store_rows.specs.StoreReads.{ReadsNewest};
 ghost use Rattle.td_store_audit_rows.specs.Untyped.{KeepsUntyped};
 ghost use Rattle.td_store_audit.specs.Tallies.{IsCoverAuditable, IsCoveredBy, IsHandedOn, raw_holder_of};
 ghost use Rattle.td_store_audit.specs.InFile.{IsHolderCoveredInFile, TellsWhere};
-ghost use Rattle.typed_sql.specs.Reading.{IsInside, Reads};
-ghost use Rattle.td_schema.specs.Tables.{desk_schema};
+ghost use Rattle.typed_sql.specs.Reading.{IsInside};
 
 use crate::tallies::HolderLines;
 use sqlite::{Error, Transaction};
@@ -30,8 +30,8 @@ pub(crate) fn cover_keeps_rule<S: Alter>(
     ensures same_reference { tx.new.conn.ghost_name ≡ tx.old.conn.ghost_name }
     ensures told { HasCleanDisk (state S.Store tx.new.conn.now)
         → IfOk result (λ keeps. (country : List ℕ)
-        → TellsWhere (IsCoverAuditable country handed.now) (λ trees. KeepsUntyped trees S8) (state S.Store tx.old.conn.now) keeps) }
-    ensures reads { Reads desk_schema (is_ok result) (state S.Store tx.old.conn.now) (state S.Store tx.new.conn.now) }
+        → TellsWhere (IsCoverAuditable country handed.now) (λ layout trees. KeepsUntyped layout trees S8) (state S.Store tx.old.conn.now) keeps) }
+    ensures reads { ReadsNewest (is_ok result) (state S.Store tx.old.conn.now) (state S.Store tx.new.conn.now) }
 {
     found_holders_tell();
     all_holders_covered(alloc, tx, handed)
@@ -46,9 +46,9 @@ fn all_holders_covered<S: Alter>(
     requires { IsInside (state S.Store tx.old.conn.now) }
     ensures same_reference { tx.new.conn.ghost_name ≡ tx.old.conn.ghost_name }
     ensures told { HasCleanDisk (state S.Store tx.new.conn.now)
-        → IfOk result (TellsWhere (λ trees. AllByRecursion (IsHandedOn trees) handed.now)
-        (λ trees. AllByRecursion (λ h. IsHolderCoveredInFile trees (raw_holder_of h)) handed.now) (state S.Store tx.old.conn.now)) }
-    ensures reads { Reads desk_schema (is_ok result) (state S.Store tx.old.conn.now) (state S.Store tx.new.conn.now) }
+        → IfOk result (TellsWhere (λ layout trees. AllByRecursion (IsHandedOn layout trees) handed.now)
+        (λ layout trees. AllByRecursion (λ h. IsHolderCoveredInFile layout trees (raw_holder_of h)) handed.now) (state S.Store tx.old.conn.now)) }
+    ensures reads { ReadsNewest (is_ok result) (state S.Store tx.old.conn.now) (state S.Store tx.new.conn.now) }
 {
     'holders: for parts in handed {
         if !is_holder_covered(alloc, tx, parts)? {
@@ -67,8 +67,8 @@ fn is_holder_covered<S: Alter>(
     requires { IsInside (state S.Store tx.old.conn.now) }
     ensures same_reference { tx.new.conn.ghost_name ≡ tx.old.conn.ghost_name }
     ensures told { HasCleanDisk (state S.Store tx.new.conn.now)
-        → IfOk result (TellsWhere (λ trees. IsHandedOn trees parts.now) (λ trees. IsHolderCoveredInFile trees (raw_holder_of parts.now)) (state S.Store tx.old.conn.now)) }
-    ensures reads { Reads desk_schema (is_ok result) (state S.Store tx.old.conn.now) (state S.Store tx.new.conn.now) }
+        → IfOk result (TellsWhere (λ layout trees. IsHandedOn layout trees parts.now) (λ layout trees. IsHolderCoveredInFile layout trees (raw_holder_of parts.now)) (state S.Store tx.old.conn.now)) }
+    ensures reads { ReadsNewest (is_ok result) (state S.Store tx.old.conn.now) (state S.Store tx.new.conn.now) }
 {
     let rows = guarantees_of(alloc, tx, parts.movements.raw.holder)?;
     Ok(all_rows_covered(parts, &rows))

@@ -3,14 +3,14 @@ ghost use Rattle.std.specs.Prelude.{◌≡◌, IsTrue, IfOk, OnOk, is_ok};
 ghost use Rattle.std.specs.List.{AllByRecursion};
 ghost use Rattle.sqlite.specs.Held.{state};
 ghost use Rattle.sqlite.specs.State.{HasCleanDisk, KeepsCommit, Survives};
+ghost use Rattle.td_store_rows.specs.StoreReads.{OnlyReadNewest, ReadsNewest};
 ghost use Rattle.td_store_rows.specs.Columns.{guarantee_typing};
 ghost use Rattle.td_table_model.specs.declared.rule.Rule.TheVariants.{S3};
 ghost use Rattle.td_store_audit_rows.specs.Fields.{AreGuaranteeFields};
 ghost use Rattle.td_store_audit_rows.specs.Scans.{TellsRead};
 ghost use Rattle.td_store_audit.specs.Auditable.{TellsRule};
 ghost use Rattle.td_store_audit.specs.InFile.{AreTypedApart, HasGuaranteesInPlace, TellsWhere};
-ghost use Rattle.typed_sql.specs.Reading.{IsInside, OnlyRead, Reads};
-ghost use Rattle.td_schema.specs.Tables.{desk_schema};
+ghost use Rattle.typed_sql.specs.Reading.{IsInside};
 
 use sqlite::{Error, Transaction};
 use sqlite_trees::store::Alter;
@@ -34,10 +34,9 @@ pub fn guarantees_keep_rule<S: Alter>(
     requires { HasCleanDisk (state S.Store tx.old.conn.now) → IsTrue (state S.Store tx.old.conn.now).in_transaction }
     ensures same_reference { tx.new.conn.ghost_name ≡ tx.old.conn.ghost_name }
     ensures told { HasCleanDisk (state S.Store tx.new.conn.now)
-        → IfOk result (λ keeps. TellsRead guarantee_typing AreGuaranteeFields (state S.Store tx.old.conn.now).now.trees are_read
-        → TellsRule S3 country holders.now (state S.Store tx.old.conn.now) keeps) }
+        → IfOk result (TellsRule (λ layout trees. TellsRead (guarantee_typing layout) AreGuaranteeFields trees are_read) S3 country holders.now (state S.Store tx.old.conn.now)) }
     ensures still { HasCleanDisk (state S.Store tx.new.conn.now)
-        → OnOk result (OnlyRead desk_schema (state S.Store tx.old.conn.now) (state S.Store tx.new.conn.now)) }
+        → OnOk result (OnlyReadNewest (state S.Store tx.old.conn.now) (state S.Store tx.new.conn.now)) }
     ensures inside { HasCleanDisk (state S.Store tx.new.conn.now) → OnOk result (IsTrue (state S.Store tx.new.conn.now).in_transaction) }
     ensures kept { HasCleanDisk (state S.Store tx.new.conn.now)
         → KeepsCommit (state S.Store tx.old.conn.now) (state S.Store tx.new.conn.now) }
@@ -61,9 +60,9 @@ fn all_have_guarantees<S: Alter>(
     requires { IsInside (state S.Store tx.old.conn.now) }
     ensures same_reference { tx.new.conn.ghost_name ≡ tx.old.conn.ghost_name }
     ensures told { HasCleanDisk (state S.Store tx.new.conn.now)
-        → IfOk result (TellsWhere (AreTypedApart guarantee_typing) (λ trees. AllByRecursion (HasGuaranteesInPlace country trees) holders.now)
+        → IfOk result (TellsWhere (λ layout. AreTypedApart (guarantee_typing layout)) (λ layout trees. AllByRecursion (HasGuaranteesInPlace layout country trees) holders.now)
         (state S.Store tx.old.conn.now)) }
-    ensures reads { Reads desk_schema (is_ok result) (state S.Store tx.old.conn.now) (state S.Store tx.new.conn.now) }
+    ensures reads { ReadsNewest (is_ok result) (state S.Store tx.old.conn.now) (state S.Store tx.new.conn.now) }
 {
     'holders: for raw in holders {
         if !has_guarantees(alloc, tx, country, raw)? {
@@ -83,8 +82,8 @@ fn has_guarantees<S: Alter>(
     requires { IsInside (state S.Store tx.old.conn.now) }
     ensures same_reference { tx.new.conn.ghost_name ≡ tx.old.conn.ghost_name }
     ensures told { HasCleanDisk (state S.Store tx.new.conn.now)
-        → IfOk result (TellsWhere (AreTypedApart guarantee_typing) (λ trees. HasGuaranteesInPlace country trees raw.now) (state S.Store tx.old.conn.now)) }
-    ensures reads { Reads desk_schema (is_ok result) (state S.Store tx.old.conn.now) (state S.Store tx.new.conn.now) }
+        → IfOk result (TellsWhere (λ layout. AreTypedApart (guarantee_typing layout)) (λ layout trees. HasGuaranteesInPlace layout country trees raw.now) (state S.Store tx.old.conn.now)) }
+    ensures reads { ReadsNewest (is_ok result) (state S.Store tx.old.conn.now) (state S.Store tx.new.conn.now) }
 {
     let Some(count) = raw.grn_count else {
         return Ok(false);

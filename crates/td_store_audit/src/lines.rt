@@ -3,21 +3,18 @@ ghost use Rattle.std.specs.Prelude.{◌≡◌, ◌↔◌, ℕ, is_some, map, IsT
 ghost use Rattle.std.specs.List.{AllByRecursion};
 ghost use Rattle.sqlite.specs.Held.{state};
 ghost use Rattle.sqlite.specs.State.{HasCleanDisk};
-ghost use Rattle.td_schema.specs.Tables.{desk_schema};
-ghost use Rattle.typed_sql.specs.Reading.{IsInside, Reads};
+ghost use Rattle.typed_sql.specs.Reading.{IsInside};
 ghost use Rattle.typed_sql.specs.Typed.{AreTyped, typed_rows};
-ghost use Rattle.typed_sql.specs.Writing.{HasSchema};
+ghost use Rattle.td_store_rows.specs.StoreReads.{ReadsNewest};
+ghost use Rattle.td_store_audit.specs.InFile.{IsSoWhere};
 ghost use Rattle.td_store_rows.specs.Columns.{line_typing};
 ghost use Rattle.td_store_rows.specs.LineTable.{AreLines};
 ghost use Rattle.td_table_model.specs.declared.rule.Rule.TheVariants.{S6};
 ghost use Rattle.td_table_model.specs.Gathering.{part};
-ghost use Rattle.td_store_audit_rows.specs.Fields.{AreLineFields};
-ghost use Rattle.td_store_audit_rows.specs.Scans.{TellsRead};
-ghost use Rattle.td_store_audit_rows.specs.Untyped.{KeepsUntyped};
 ghost use Rattle.td_store_audit.specs.Found.{is_of_holder};
 ghost use Rattle.td_store_audit.specs.Tallies.{AreAllLines, movements_in, raw_of};
 ghost use Rattle.td_store_audit.specs.InPlace.{AreNumbersApart};
-ghost use Rattle.td_store_audit.specs.Premises.{AreLinesAuditable, HasLinesInPlace};
+ghost use Rattle.td_store_audit.specs.Premises.{HasLinesInPlace, TellsLines};
 
 use crate::finding::lines_of_holder;
 use crate::lines_in_place::all_lines_are_in_place;
@@ -38,13 +35,11 @@ fn kept_lines<S: Alter>(
     requires { IsInside (state S.Store tx.old.conn.now) }
     ensures same_reference { tx.new.conn.ghost_name ≡ tx.old.conn.ghost_name }
     ensures told { HasCleanDisk (state S.Store tx.new.conn.now)
-        → IfOk result (λ found. HasSchema (state S.Store tx.old.conn.now) desk_schema
-        → AreTyped line_typing (state S.Store tx.old.conn.now).now.trees
-        → AreNumbersApart (part raw.now.holder (typed_rows line_typing (state S.Store tx.old.conn.now).now.trees))
-        → IsTrue (is_some found) ↔ HasLinesInPlace (state S.Store tx.old.conn.now).now.trees raw.now) }
+        → IfOk result (λ found. IsSoWhere (λ layout. AreTyped line_typing)
+        (λ layout trees. AreNumbersApart (part raw.now.holder (typed_rows line_typing trees)) → IsTrue (is_some found) ↔ HasLinesInPlace trees raw.now) (state S.Store tx.old.conn.now)) }
     ensures handed { HasCleanDisk (state S.Store tx.new.conn.now)
         → IfOk result (λ found. IfSome found (λ lines. AreLines (is_of_holder raw.now.holder) (state S.Store tx.old.conn.now) lines.items)) }
-    ensures reads { Reads desk_schema (is_ok result) (state S.Store tx.old.conn.now) (state S.Store tx.new.conn.now) }
+    ensures reads { ReadsNewest (is_ok result) (state S.Store tx.old.conn.now) (state S.Store tx.new.conn.now) }
 {
     let lines = lines_of_holder(alloc, tx, raw.holder)?;
     let Some(guarantees) = raw.grn_count else {
@@ -68,14 +63,13 @@ fn all_kept_lines<S: Alter>(
     requires { IsInside (state S.Store tx.old.conn.now) }
     ensures same_reference { tx.new.conn.ghost_name ≡ tx.old.conn.ghost_name }
     ensures told { HasCleanDisk (state S.Store tx.new.conn.now)
-        → IfOk result (λ found. HasSchema (state S.Store tx.old.conn.now) desk_schema
-        → AreTyped line_typing (state S.Store tx.old.conn.now).now.trees
-        → ((H : ℕ) → AreNumbersApart (part H (typed_rows line_typing (state S.Store tx.old.conn.now).now.trees)))
-        → IsTrue (is_some found) ↔ AllByRecursion (HasLinesInPlace (state S.Store tx.old.conn.now).now.trees) (map raw_of counting.items)) }
+        → IfOk result (λ found. IsSoWhere (λ layout. AreTyped line_typing)
+        (λ layout trees. ((H : ℕ) → AreNumbersApart (part H (typed_rows line_typing trees)))
+        → IsTrue (is_some found) ↔ AllByRecursion (HasLinesInPlace trees) (map raw_of counting.items)) (state S.Store tx.old.conn.now)) }
     ensures movements { IfOk result (λ found. IfSome found (λ each. map movements_in each.items ≡ counting.items)) }
     ensures handed { HasCleanDisk (state S.Store tx.new.conn.now)
         → IfOk result (λ found. IfSome found (λ each. AreAllLines (state S.Store tx.old.conn.now) each.items)) }
-    ensures reads { Reads desk_schema (is_ok result) (state S.Store tx.old.conn.now) (state S.Store tx.new.conn.now) }
+    ensures reads { ReadsNewest (is_ok result) (state S.Store tx.old.conn.now) (state S.Store tx.new.conn.now) }
 {
     let mut handed = Vec::with_capacity(alloc, counting.len())?;
     'holders: for movements in counting {
@@ -101,12 +95,11 @@ pub(crate) fn lines_keep_rule<S: Alter>(
     requires { IsInside (state S.Store tx.old.conn.now) }
     ensures same_reference { tx.new.conn.ghost_name ≡ tx.old.conn.ghost_name }
     ensures told { HasCleanDisk (state S.Store tx.new.conn.now)
-        → IfOk result (λ found. AreLinesAuditable (state S.Store tx.old.conn.now) (map raw_of counting.items)
-        → TellsRead line_typing AreLineFields (state S.Store tx.old.conn.now).now.trees are_read → IsTrue (is_some found) ↔ KeepsUntyped (state S.Store tx.old.conn.now).now.trees S6) }
+        → IfOk result (λ found. TellsLines are_read (map raw_of counting.items) (state S.Store tx.old.conn.now) (is_some found)) }
     ensures movements { IfOk result (λ found. IfSome found (λ each. map movements_in each.items ≡ counting.items)) }
     ensures handed { HasCleanDisk (state S.Store tx.new.conn.now)
         → IfOk result (λ found. IfSome found (λ each. AreAllLines (state S.Store tx.old.conn.now) each.items)) }
-    ensures reads { Reads desk_schema (is_ok result) (state S.Store tx.old.conn.now) (state S.Store tx.new.conn.now) }
+    ensures reads { ReadsNewest (is_ok result) (state S.Store tx.old.conn.now) (state S.Store tx.new.conn.now) }
 {
     holder_fields_tell();
     kept_rules_are_read();

@@ -3,6 +3,7 @@ ghost use Rattle.std.specs.Prelude.{◌≡◌, filter, is_some, map, IfOk, IfSom
 ghost use Rattle.std.specs.List.{AllByRecursion};
 ghost use Rattle.sqlite.specs.Held.{state};
 ghost use Rattle.sqlite.specs.State.{HasCleanDisk};
+ghost use Rattle.td_store_rows.specs.StoreReads.{ReadsNewest};
 ghost use Rattle.td_store_rows.specs.Columns.{movement_typing};
 ghost use Rattle.td_store_rows.specs.MovementTable.{movement_row_of, serial_of_stored};
 ghost use Rattle.td_table_model.specs.Gathering.{place};
@@ -12,8 +13,7 @@ ghost use Rattle.td_store_audit_rows.specs.Scans.{TellsRead};
 ghost use Rattle.td_store_audit.specs.Auditable.{TellsRule};
 ghost use Rattle.td_store_audit.specs.Tallies.{AreAllCounting, AreCounting, is_counting_row, raw_of};
 ghost use Rattle.td_store_audit.specs.InFile.{AreTypedApart, HasMovementsInPlace, IsSoWhere, TellsWhere};
-ghost use Rattle.typed_sql.specs.Reading.{IsInside, Reads};
-ghost use Rattle.td_schema.specs.Tables.{desk_schema};
+ghost use Rattle.typed_sql.specs.Reading.{IsInside};
 
 use crate::tallies::CountingSerials;
 use sqlite::{Error, Transaction};
@@ -39,12 +39,12 @@ pub(crate) fn movements_keep_rule<S: Alter>(
     requires { IsInside (state S.Store tx.old.conn.now) }
     ensures same_reference { tx.new.conn.ghost_name ≡ tx.old.conn.ghost_name }
     ensures told { HasCleanDisk (state S.Store tx.new.conn.now)
-        → IfOk result (λ found. TellsRead movement_typing AreMovementFields (state S.Store tx.old.conn.now).now.trees are_read
-        → TellsRule S5 country holders.now (state S.Store tx.old.conn.now) (is_some found)) }
+        → IfOk result (λ found. TellsRule (λ layout trees. TellsRead movement_typing AreMovementFields trees are_read) S5 country holders.now
+        (state S.Store tx.old.conn.now) (is_some found)) }
     ensures holders { IfOk result (λ found. IfSome found (λ each. map raw_of each.items ≡ holders.now)) }
     ensures handed { HasCleanDisk (state S.Store tx.new.conn.now)
         → IfOk result (λ found. IfSome found (λ each. AreAllCounting (state S.Store tx.old.conn.now) each.items)) }
-    ensures reads { Reads desk_schema (is_ok result) (state S.Store tx.old.conn.now) (state S.Store tx.new.conn.now) }
+    ensures reads { ReadsNewest (is_ok result) (state S.Store tx.old.conn.now) (state S.Store tx.new.conn.now) }
 {
     found_holders_tell();
     kept_rules_are_read();
@@ -64,12 +64,12 @@ fn all_kept_movements<S: Alter>(
     requires { IsInside (state S.Store tx.old.conn.now) }
     ensures same_reference { tx.new.conn.ghost_name ≡ tx.old.conn.ghost_name }
     ensures told { HasCleanDisk (state S.Store tx.new.conn.now)
-        → IfOk result (λ found. TellsWhere (AreTypedApart movement_typing) (λ trees. AllByRecursion (HasMovementsInPlace country trees) holders.now)
+        → IfOk result (λ found. TellsWhere (λ layout. AreTypedApart movement_typing) (λ layout trees. AllByRecursion (HasMovementsInPlace layout country trees) holders.now)
         (state S.Store tx.old.conn.now) (is_some found)) }
     ensures holders { IfOk result (λ found. IfSome found (λ each. map raw_of each.items ≡ holders.now)) }
     ensures handed { HasCleanDisk (state S.Store tx.new.conn.now)
         → IfOk result (λ found. IfSome found (λ each. AreAllCounting (state S.Store tx.old.conn.now) each.items)) }
-    ensures reads { Reads desk_schema (is_ok result) (state S.Store tx.old.conn.now) (state S.Store tx.new.conn.now) }
+    ensures reads { ReadsNewest (is_ok result) (state S.Store tx.old.conn.now) (state S.Store tx.new.conn.now) }
 {
     let mut handed = Vec::with_capacity(alloc, holders.len())?;
     'holders: for raw in holders {
@@ -91,12 +91,12 @@ fn kept_movements<S: Alter>(
     requires { IsInside (state S.Store tx.old.conn.now) }
     ensures same_reference { tx.new.conn.ghost_name ≡ tx.old.conn.ghost_name }
     ensures told { HasCleanDisk (state S.Store tx.new.conn.now)
-        → IfOk result (λ found. TellsWhere (AreTypedApart movement_typing) (λ trees. HasMovementsInPlace country trees raw.now)
+        → IfOk result (λ found. TellsWhere (λ layout. AreTypedApart movement_typing) (λ layout trees. HasMovementsInPlace layout country trees raw.now)
         (state S.Store tx.old.conn.now) (is_some found)) }
     ensures holder { IfOk result (λ found. IfSome found (λ h. raw_of h ≡ raw.now)) }
     ensures handed { HasCleanDisk (state S.Store tx.new.conn.now)
-        → IfOk result (λ found. IfSome found (λ h. IsSoWhere (AreTypedApart movement_typing) (λ trees. AreCounting trees h) (state S.Store tx.old.conn.now))) }
-    ensures reads { Reads desk_schema (is_ok result) (state S.Store tx.old.conn.now) (state S.Store tx.new.conn.now) }
+        → IfOk result (λ found. IfSome found (λ h. IsSoWhere (λ layout. AreTypedApart movement_typing) (λ layout trees. AreCounting layout trees h) (state S.Store tx.old.conn.now))) }
+    ensures reads { ReadsNewest (is_ok result) (state S.Store tx.old.conn.now) (state S.Store tx.new.conn.now) }
 {
     let Some(count) = raw.mrn_count else {
         return Ok(None);

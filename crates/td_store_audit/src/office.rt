@@ -2,10 +2,9 @@
 ghost use Rattle.std.specs.Prelude.{◌≡◌, [], ◌∷◌, IsTrue, IfOk, OnOk, is_ok};
 ghost use Rattle.sqlite.specs.Held.{state};
 ghost use Rattle.sqlite.specs.State.{HasCleanDisk};
-ghost use Rattle.td_schema.specs.Tables.{desk_schema};
-ghost use Rattle.typed_sql.specs.Reading.{IsInside, Reads};
-ghost use Rattle.typed_sql.specs.Writing.{HasSchema};
-ghost use Rattle.td_store_audit.specs.Broken.{ShowsCountry, TellsCountry};
+ghost use Rattle.typed_sql.specs.Reading.{IsInside};
+ghost use Rattle.td_store_rows.specs.StoreReads.{ReadsNewest};
+ghost use Rattle.td_store_audit.specs.Broken.{IsOpenStore, ShowsCountry, TellsCountryIn};
 
 use crate::texts::OFFICE;
 use sqlite::{Error, ErrorCode, Row, Transaction};
@@ -22,11 +21,10 @@ pub(crate) fn office_country<S: Alter>(
     requires { IsInside (state S.Store tx.old.conn.now) }
     ensures same_reference { tx.new.conn.ghost_name ≡ tx.old.conn.ghost_name }
     ensures told { HasCleanDisk (state S.Store tx.new.conn.now)
-        → IfOk result (λ country. HasSchema (state S.Store tx.old.conn.now) desk_schema
-        → TellsCountry (state S.Store tx.old.conn.now).now.trees country) }
-    ensures reads { Reads desk_schema (is_ok result) (state S.Store tx.old.conn.now) (state S.Store tx.new.conn.now) }
+        → IfOk result (TellsCountryIn (state S.Store tx.old.conn.now)) }
+    ensures reads { ReadsNewest (is_ok result) (state S.Store tx.old.conn.now) (state S.Store tx.new.conn.now) }
     ensures was_open { HasCleanDisk (state S.Store tx.new.conn.now)
-        → OnOk result (HasSchema (state S.Store tx.old.conn.now) desk_schema → IsTrue (state S.Store tx.old.conn.now).is_open) }
+        → OnOk result (IsOpenStore (state S.Store tx.old.conn.now)) }
 {
     let rows = select(tx, OFFICE, &[])?;
     only_country(&rows)

@@ -126,8 +126,8 @@ module _ (trees : Trees) (found : List RawHolder) (all : AreHoldersIn trees foun
   )
 
 pub found_tell : FoundHoldersTell
-found_tell trees found all ascend =
-    let s2 = tell_s2 trees in
+found_tell l trees found all ascend =
+    let s2 = tell_s2 l trees in
     record {
       kinds = kinds_there trees found all;
       numbers = numbers_there trees found all;

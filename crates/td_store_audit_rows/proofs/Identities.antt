@@ -98,7 +98,7 @@ abbrev InRange : Row → Type 0
 InRange r = IsHolderInRange (row_of holder_typing r)
 
 pub tell_s2 : HoldersTellS2
-tell_s2 trees =
+tell_s2 l trees =
     let rows = trees holder_typing.table.tree in (
       λ keeps. all_both HasIdentity InRange IsThere (λ r kind range. (tell r).identity.1 (kind, range)) rows keeps.0
           (all_from_map IsHolderInRange (row_of holder_typing) rows keeps.1),

@@ -1,14 +1,16 @@
--- What the statements of the audit mean, where the tables are those of a store.
+-- What the statements of the audit mean, in a store's file of each layout: on guarantees, of each of the newest version.
 use Rattle.std.proofs.Common.{refl}
-use Rattle.std.specs.Prelude.{List, [], ◌∷◌, codes}
+use Rattle.std.specs.Prelude.{ℕ, List, [], ◌∷◌, codes}
 use Rattle.sqlite_tied.specs.Compute.{everything}
 use Rattle.sqlite.specs.Listing.{understood}
 use Rattle.sqlite_value.specs.declared.keys.Collation.TheVariants.{Binary}
 use Rattle.sqlite_value.specs.declared.keys.Key.{Key}
 use Rattle.sqlite_value.specs.Keys.{ascending}
 use Rattle.sqlite_sql.specs.Term.{Term, col}
-use Rattle.td_schema.specs.Tables.{desk_schema}
 use Rattle.typed_sql.specs.Meanings.{MeansSelect}
+use Rattle.td_schema.specs.Layouts.{IsNewest, guarantees_tree, schema_of}
+use Rattle.td_schema.specs.declared.layout.Layout.{Layout}
+use Rattle.td_schema.specs.declared.layout.Layout.TheVariants.{Grown2, Made1, Made2}
 use Rattle.td_store_audit_rows.specs.declared.texts.TheConstants.{CODES, GUARANTEES, HOLDERS, HOLDER_IDS, LINES, META_IDS, MOVEMENTS}
 
 -- by the rowid
@@ -35,56 +37,58 @@ movement_terms =
 abbrev pub line_terms : List Term
 line_terms = col 1 1 ∷ col 1 2 ∷ col 1 3 ∷ col 1 4 ∷ col 1 5 ∷ []
 
-pub meta_ids_mean : MeansSelect desk_schema META_IDS.now 0 [] rowid_alone by_rowid
+pub meta_ids_mean : (l : Layout) → MeansSelect (schema_of l) META_IDS.now 0 [] rowid_alone by_rowid
 unfolding understood everything
-meta_ids_mean = record { names = codes "one" ∷ []; command = refl; plain = (refl, refl); unlisted = refl }
+meta_ids_mean Made1 = record { names = codes "one" ∷ []; command = refl; plain = (refl, refl); unlisted = refl }
+meta_ids_mean Made2 = record { names = codes "one" ∷ []; command = refl; plain = (refl, refl); unlisted = refl }
+meta_ids_mean Grown2 = record { names = codes "one" ∷ []; command = refl; plain = (refl, refl); unlisted = refl }
 
-pub holder_ids_mean : MeansSelect desk_schema HOLDER_IDS.now 1 [] rowid_alone by_rowid
+pub holder_ids_mean : (l : Layout) → MeansSelect (schema_of l) HOLDER_IDS.now 1 [] rowid_alone by_rowid
 unfolding understood everything
-holder_ids_mean = record { names = codes "holder" ∷ []; command = refl; plain = (refl, refl); unlisted = refl }
+holder_ids_mean Made1 = record { names = codes "holder" ∷ []; command = refl; plain = (refl, refl); unlisted = refl }
+holder_ids_mean Made2 = record { names = codes "holder" ∷ []; command = refl; plain = (refl, refl); unlisted = refl }
+holder_ids_mean Grown2 = record { names = codes "holder" ∷ []; command = refl; plain = (refl, refl); unlisted = refl }
 
-pub holders_mean : MeansSelect desk_schema HOLDERS.now 1 [] holder_terms by_rowid
-unfolding understood everything
-holders_mean = record {
-  names = codes "holder" ∷ codes "eori" ∷ codes "last_at" ∷ codes "grn_count" ∷ codes "mrn_count" ∷ [];
-  command = refl;
-  plain = (refl, refl);
-  unlisted = refl;
-}
+abbrev holder_names : List (List ℕ)
+holder_names = codes "holder" ∷ codes "eori" ∷ codes "last_at" ∷ codes "grn_count" ∷ codes "mrn_count" ∷ []
 
-pub guarantees_mean : MeansSelect desk_schema GUARANTEES.now 8 [] (col 1 0 ∷ guarantee_terms) by_rowid
+pub holders_mean : (l : Layout) → MeansSelect (schema_of l) HOLDERS.now 1 [] holder_terms by_rowid
 unfolding understood everything
-guarantees_mean = record {
-  names = codes "rowid" ∷ codes "holder" ∷ codes "serial" ∷ codes "grn" ∷ codes "reference" ∷ codes "cover" ∷ codes "ends" ∷ [];
-  command = refl;
-  plain = (refl, refl);
-  unlisted = refl;
-}
+holders_mean Made1 = record { names = holder_names; command = refl; plain = (refl, refl); unlisted = refl }
+holders_mean Made2 = record { names = holder_names; command = refl; plain = (refl, refl); unlisted = refl }
+holders_mean Grown2 = record { names = holder_names; command = refl; plain = (refl, refl); unlisted = refl }
 
-pub codes_mean : MeansSelect desk_schema CODES.now 2 [] (col 1 0 ∷ code_terms) by_rowid
+pub guarantees_mean : (l : Layout) → IsNewest l → MeansSelect (schema_of l) GUARANTEES.now (guarantees_tree l) [] (col 1 0 ∷ guarantee_terms) by_rowid
 unfolding understood everything
-codes_mean = record {
-  names = codes "rowid" ∷ codes "holder" ∷ codes "serial" ∷ codes "code" ∷ [];
-  command = refl;
-  plain = (refl, refl);
-  unlisted = refl;
-}
+guarantees_mean Made1 newest = record { names = codes "rowid" ∷ codes "holder" ∷ codes "serial" ∷ codes "grn" ∷ codes "reference" ∷ codes "cover" ∷ codes "ends" ∷ []; command = refl; plain = (refl, refl); unlisted = refl }
+guarantees_mean Made2 newest = absurd cc
+guarantees_mean Grown2 newest = absurd cc
 
-pub movements_mean : MeansSelect desk_schema MOVEMENTS.now 4 [] (col 1 0 ∷ movement_terms) by_rowid
-unfolding understood everything
-movements_mean = record {
-  names = codes "rowid" ∷ codes "holder" ∷ codes "serial" ∷ codes "mrn" ∷ codes "lrn" ∷ codes "departure" ∷ codes "destination"
-      ∷ codes "accepted" ∷ codes "state" ∷ codes "limit_day" ∷ codes "arrival" ∷ codes "actual" ∷ [];
-  command = refl;
-  plain = (refl, refl);
-  unlisted = refl;
-}
+abbrev code_names : List (List ℕ)
+code_names = codes "rowid" ∷ codes "holder" ∷ codes "serial" ∷ codes "code" ∷ []
 
-pub lines_mean : MeansSelect desk_schema LINES.now 11 [] (col 1 0 ∷ line_terms) by_rowid
+pub codes_mean : (l : Layout) → MeansSelect (schema_of l) CODES.now 2 [] (col 1 0 ∷ code_terms) by_rowid
 unfolding understood everything
-lines_mean = record {
-  names = codes "rowid" ∷ codes "holder" ∷ codes "serial" ∷ codes "no" ∷ codes "guarantee" ∷ codes "cents" ∷ [];
-  command = refl;
-  plain = (refl, refl);
-  unlisted = refl;
-}
+codes_mean Made1 = record { names = code_names; command = refl; plain = (refl, refl); unlisted = refl }
+codes_mean Made2 = record { names = code_names; command = refl; plain = (refl, refl); unlisted = refl }
+codes_mean Grown2 = record { names = code_names; command = refl; plain = (refl, refl); unlisted = refl }
+
+abbrev movement_names : List (List ℕ)
+movement_names =
+    codes "rowid" ∷ codes "holder" ∷ codes "serial" ∷ codes "mrn" ∷ codes "lrn" ∷ codes "departure"
+    ∷ codes "destination" ∷ codes "accepted" ∷ codes "state" ∷ codes "limit_day" ∷ codes "arrival" ∷ codes "actual" ∷ []
+
+pub movements_mean : (l : Layout) → MeansSelect (schema_of l) MOVEMENTS.now 4 [] (col 1 0 ∷ movement_terms) by_rowid
+unfolding understood everything
+movements_mean Made1 = record { names = movement_names; command = refl; plain = (refl, refl); unlisted = refl }
+movements_mean Made2 = record { names = movement_names; command = refl; plain = (refl, refl); unlisted = refl }
+movements_mean Grown2 = record { names = movement_names; command = refl; plain = (refl, refl); unlisted = refl }
+
+abbrev line_names : List (List ℕ)
+line_names = codes "rowid" ∷ codes "holder" ∷ codes "serial" ∷ codes "no" ∷ codes "guarantee" ∷ codes "cents" ∷ []
+
+pub lines_mean : (l : Layout) → MeansSelect (schema_of l) LINES.now 11 [] (col 1 0 ∷ line_terms) by_rowid
+unfolding understood everything
+lines_mean Made1 = record { names = line_names; command = refl; plain = (refl, refl); unlisted = refl }
+lines_mean Made2 = record { names = line_names; command = refl; plain = (refl, refl); unlisted = refl }
+lines_mean Grown2 = record { names = line_names; command = refl; plain = (refl, refl); unlisted = refl }

@@ -18,8 +18,10 @@ use Rattle.td_table_model.proofs.Ruled.{are_of_content}
 use Rattle.td_table_model.proofs.RuledSound.{content_is_sound}
 use Rattle.typed_sql.specs.Typed.{IsTypedRow, row_of}
 use Rattle.typed_sql.specs.Values.{number_in, number_value, text_in}
+use Rattle.td_schema.specs.declared.layout.Layout.{Layout}
 use Rattle.td_store_rows.specs.Columns.{meta_typing, holder_typing}
 use Rattle.td_store_rows.specs.StoreTables.{AreAllTyped, country_in, tables_in}
+use Rattle.td_store_rows.proofs.WithoutAmounts.{none_kept}
 use Rattle.td_store_audit_rows.specs.Untyped.{HasColumnTypes, HasGrnCount, HasIdentity, HasMrnCount, HasNumber, IsNumber, IsText}
 use Rattle.td_store_audit_rows.specs.Laws.{AreKept, ContentKeepsRules, KeptRulesMeanContent}
 
@@ -43,8 +45,8 @@ holders_typed [] number identity grns mrns = tt
 holders_typed (r ∷ rows) number identity grns mrns =
     (holder_typed r number.0 identity.0 grns.0 mrns.0, holders_typed rows number.1 identity.1 grns.1 mrns.1)
 
-all_typed : (trees : Trees) → AreKept trees → ((rule : Rule) → HasColumnTypes rule trees) → AreAllTyped trees
-all_typed trees kept kinds = record {
+all_typed : (l : Layout) (trees : Trees) → AreKept l trees → ((rule : Rule) → HasColumnTypes l rule trees) → AreAllTyped l trees
+all_typed l trees kept kinds = record {
   meta = record { ids = kept.ids.meta; cells = (kinds S1).1 };
   holders = record {
     ids = kept.ids.holders;
@@ -57,8 +59,8 @@ all_typed trees kept kinds = record {
 }
 
 -- what the database keeps of each typed table, put together
-stored_of_kept : (trees : Trees) → AreKept trees → AreAllTyped trees → AreStored (tables_in trees)
-stored_of_kept trees kept typed =
+stored_of_kept : (l : Layout) (trees : Trees) → AreKept l trees → AreAllTyped l trees → AreStored (tables_in l trees)
+stored_of_kept l trees kept typed =
     let guarantees = kept.guarantees typed.guarantees.cells in
     let codes = kept.codes typed.codes.cells in
     let movements = kept.movements typed.movements.cells in
@@ -77,13 +79,14 @@ stored_of_kept trees kept typed =
       lines_owned = lines.owned;
       without_codes = guarantees.without_codes;
       without_lines = movements.without_lines;
+      kept = λ keep. absurd (none_kept l trees keep);
     }
 
 pub rules_mean_content : KeptRulesMeanContent
-rules_mean_content trees kept keeps =
-    let typed = all_typed trees kept (λ rule. (keeps rule).0) in
-    let keep : KeepRules (tables_in trees) = (kept_each (tables_in trees) (stored_of_kept trees kept typed)).1 (λ rule. (keeps rule).1) in
-    record { typed = typed; sound = content_is_sound (tables_in trees) keep; tables = are_of_content (tables_in trees) keep }
+rules_mean_content l trees kept keeps =
+    let typed = all_typed l trees kept (λ rule. (keeps rule).0) in
+    let keep : KeepRules (tables_in l trees) = (kept_each (tables_in l trees) (stored_of_kept l trees kept typed)).1 (λ rule. (keeps rule).1) in
+    record { typed = typed; sound = content_is_sound (tables_in l trees) keep; tables = are_of_content (tables_in l trees) keep }
 
 -- where there is a country there is the office's row
 one_row : (rows : List Row) → length rows ≤ 1 → IsCountry (country_in (map (row_of meta_typing) rows)) → length rows ≡ 1
@@ -91,29 +94,29 @@ one_row [] most is = let none = is.size in cc
 one_row (r ∷ rows) most is = omega (arith, most)
 
 -- the columns of typed rows are of their kinds
-kinds_kept : (trees : Trees) → AreAllTyped trees → length (trees meta_typing.table.tree) ≤ 1 → IsCountry (tables_in trees).country
-    → (rule : Rule) → HasColumnTypes rule trees
-kinds_kept trees typed most country S1 = (one_row (trees meta_typing.table.tree) most country, typed.meta.cells)
-kinds_kept trees typed most country S2 =
+kinds_kept : (l : Layout) (trees : Trees) → AreAllTyped l trees → length (trees meta_typing.table.tree) ≤ 1 → IsCountry (tables_in l trees).country
+    → (rule : Rule) → HasColumnTypes l rule trees
+kinds_kept l trees typed most country S1 = (one_row (trees meta_typing.table.tree) most country, typed.meta.cells)
+kinds_kept l trees typed most country S2 =
     all_weaker (IsTypedRow holder_typing) HasIdentity
-    (λ r is. (((row_of holder_typing r).eori, ap (λ l. column l 1) is), ((row_of holder_typing r).last_at, ap (λ l. column l 2) is)))
+    (λ r is. (((row_of holder_typing r).eori, ap (λ cells. column cells 1) is), ((row_of holder_typing r).last_at, ap (λ cells. column cells 2) is)))
     (trees holder_typing.table.tree) typed.holders.cells
-kinds_kept trees typed most country S3 = (
-  all_weaker (IsTypedRow holder_typing) HasGrnCount (λ r is. ((row_of holder_typing r).grn_count, ap (λ l. column l 3) is))
+kinds_kept l trees typed most country S3 = (
+  all_weaker (IsTypedRow holder_typing) HasGrnCount (λ r is. ((row_of holder_typing r).grn_count, ap (λ cells. column cells 3) is))
       (trees holder_typing.table.tree) typed.holders.cells,
   typed.guarantees.cells,
 )
-kinds_kept trees typed most country S4 = typed.codes.cells
-kinds_kept trees typed most country S5 = (
-  all_weaker (IsTypedRow holder_typing) HasMrnCount (λ r is. ((row_of holder_typing r).mrn_count, ap (λ l. column l 4) is))
+kinds_kept l trees typed most country S4 = typed.codes.cells
+kinds_kept l trees typed most country S5 = (
+  all_weaker (IsTypedRow holder_typing) HasMrnCount (λ r is. ((row_of holder_typing r).mrn_count, ap (λ cells. column cells 4) is))
       (trees holder_typing.table.tree) typed.holders.cells,
   typed.movements.cells,
 )
-kinds_kept trees typed most country S6 = typed.lines.cells
-kinds_kept trees typed most country S7 = tt
-kinds_kept trees typed most country S8 = tt
+kinds_kept l trees typed most country S6 = typed.lines.cells
+kinds_kept l trees typed most country S7 = tt
+kinds_kept l trees typed most country S8 = tt
 
 pub content_keeps : ContentKeepsRules
-content_keeps trees c typed most sound are rule =
-    let keep = keep_rules (tables_in trees) c sound are in
-    (kinds_kept trees typed most keep.country rule, (kept_each (tables_in trees) keep.stored).0 keep rule)
+content_keeps l trees c typed most sound are rule =
+    let keep = keep_rules (tables_in l trees) c sound are in
+    (kinds_kept l trees typed most keep.country rule, (kept_each (tables_in l trees) keep.stored).0 keep rule)

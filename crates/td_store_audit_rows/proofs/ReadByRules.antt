@@ -183,28 +183,28 @@ rows_read ty AreFields rows typed fields =
     (all_from_map AreFields (row_of ty) rows fields)
 
 pub guarantees_read : GuaranteesAreRead
-guarantees_read trees owners owned apart keeps =
-    let t = tables_in trees in
-    rows_read guarantee_typing AreGuaranteeFields (trees guarantee_typing.table.tree) keeps.0.1
+guarantees_read layout trees owners owned apart keeps =
+    let t = tables_in layout trees in
+    rows_read (guarantee_typing layout) AreGuaranteeFields (trees (guarantee_typing layout).table.tree) keeps.0.1
     (parts_all t owners (HasGuarantees t) AreGuaranteeFields t.guarantees keeps.1 (λ row has number. guarantee_fields t owners row number (apart row.holder) has) owned)
 
 pub codes_read : CodesAreRead
-codes_read trees owners owned before keeps =
-    let t = tables_in trees in
+codes_read layout trees owners owned before keeps =
+    let t = tables_in layout trees in
     rows_read code_typing AreCodeFields (trees code_typing.table.tree) keeps.0
     (parts_all t owners (λ row. HasGuarantees t row × HasCodes t row) AreCodeFields t.codes
     (all_both (HasGuarantees t) (HasCodes t) (λ row. HasGuarantees t row × HasCodes t row) (λ row a b. (a, b)) t.holders before keeps.1)
     (λ row has number. code_fields t owners row number has.0 has.1) owned)
 
 pub movements_read : MovementsAreRead
-movements_read trees owners owned apart keeps =
-    let t = tables_in trees in
+movements_read layout trees owners owned apart keeps =
+    let t = tables_in layout trees in
     rows_read movement_typing AreMovementFields (trees movement_typing.table.tree) keeps.0.1
     (parts_all t owners (HasMovements t) AreMovementFields t.movements keeps.1 (λ row has number. movement_fields t owners row number (apart row.holder) has) owned)
 
 pub lines_read : LinesAreRead
-lines_read trees owners owned apart guarantees movements keeps =
-    let t = tables_in trees in
+lines_read layout trees owners owned apart guarantees movements keeps =
+    let t = tables_in layout trees in
     rows_read line_typing AreLineFields (trees line_typing.table.tree) keeps.0
     (parts_all t owners (λ row. (HasGuarantees t row × HasMovements t row) × HasLines t row) AreLineFields t.lines
     (all_both (λ row. HasGuarantees t row × HasMovements t row) (HasLines t) (λ row. (HasGuarantees t row × HasMovements t row) × HasLines t row) (λ row a b. (a, b)) t.holders

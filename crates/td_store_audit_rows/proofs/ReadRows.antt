@@ -10,13 +10,14 @@ use Rattle.td_movement.specs.States.{state_name}
 use Rattle.td_movement.specs.declared.state.State.{State}
 use Rattle.td_movement.specs.declared.state.State.TheVariants.{Accepted, Arrived, Cancelled, Cleared, Discrepant, Enquired, Released, WrittenOff}
 use Rattle.typed_sql.specs.Values.{text_in}
+use Rattle.td_schema.specs.declared.layout.Layout.{Layout}
 use Rattle.td_store_rows.specs.Columns.{code_columns, code_typing, guarantee_columns, guarantee_typing, line_columns, line_typing, movement_columns, movement_typing, state_in}
 use Rattle.td_store_audit_rows.specs.Fields.{AreCodeFields, AreGuaranteeFields, AreLineFields, AreMovementFields}
 use Rattle.td_store_audit_rows.specs.Scans.{AreCodeColumns, AreGuaranteeColumns, AreLineColumns, AreMovementColumns, IsReadRow}
 use Rattle.td_store_audit_rows.proofs.Fields.{amount_field, code_field, cover_field, day_field, day_if_field, grn_field, holder_field, lrn_field, mrn_field, office_field, office_if_field, serial_field}
 
-pub guarantee_read : (r : Row) → AreGuaranteeColumns (rowid r ∷ guarantee_columns r) ↔ IsReadRow guarantee_typing AreGuaranteeFields r
-guarantee_read r = (
+pub guarantee_read : (layout : Layout) (r : Row) → AreGuaranteeColumns (rowid r ∷ guarantee_columns r) ↔ IsReadRow (guarantee_typing layout) AreGuaranteeFields r
+guarantee_read layout r = (
   λ h.
       let holder = (holder_field (column r 1)).0 h.key.holder in
       let serial = (serial_field (column r 2)).0 h.key.serial in

@@ -8,6 +8,7 @@ use Rattle.td_base.specs.Codes.{IsHolderNumber}
 use Rattle.td_table_model.specs.declared.rule.Rule.TheVariants.{S2}
 use Rattle.td_table_model.specs.Gathering.{IsApart, holder_no}
 use Rattle.typed_sql.specs.Typed.{row_of, typed_rows}
+use Rattle.td_schema.specs.declared.layout.Layout.{Layout}
 use Rattle.td_store_rows.specs.Columns.{holder_typing}
 use Rattle.td_store_audit_rows.specs.Holders.{AreHoldersIn, NumbersRise}
 use Rattle.td_store_audit_rows.specs.Untyped.{AllRows, HasGrnCount, HasMrnCount, HasNumber, KeepsUntyped}
@@ -38,12 +39,12 @@ HasMrns h = IsSome h.mrn_count
 
 -- Each holder's number is a number in range, no two have one, and these are they. S2 is kept exactly where the fields are there,
 -- and each count is of its kind, in 32 bits, exactly where it is there; then the counts are those of the rows.
-pub record TellOfHolders (trees : Trees) (found : List RawHolder) : Type 0 where
+pub record TellOfHolders (l : Layout) (trees : Trees) (found : List RawHolder) : Type 0 where
   pub kinds : AllRows holder_typing HasNumber trees
   pub numbers : AllByRecursion (λ (row : HolderRow). IsHolderNumber row.holder) (typed_rows holder_typing trees)
   pub apart : IsApart holder_no (typed_rows holder_typing trees)
   pub same : IsPermutation (map holder_no (typed_rows holder_typing trees)) (map (λ (h : RawHolder). h.holder) found)
-  pub identity : KeepsUntyped trees S2 ↔ AllByRecursion HasFieldsOfS2 found
+  pub identity : KeepsUntyped l trees S2 ↔ AllByRecursion HasFieldsOfS2 found
   pub grn_kinds : AllRows holder_typing (λ r. HasGrnCount r × ((row_of holder_typing r).grn_count < 2 ^ 32)) trees
       ↔ AllByRecursion HasGrns found
   pub mrn_kinds : AllRows holder_typing (λ r. HasMrnCount r × ((row_of holder_typing r).mrn_count < 2 ^ 32)) trees
@@ -54,4 +55,5 @@ pub record TellOfHolders (trees : Trees) (found : List RawHolder) : Type 0 where
       → IsPermutation (map mrn_pair (typed_rows holder_typing trees)) (map raw_mrn_pair found)
 
 abbrev pub FoundHoldersTell : Type 0
-FoundHoldersTell = (trees : Trees) (found : List RawHolder) → AreHoldersIn trees found → NumbersRise found → TellOfHolders trees found
+FoundHoldersTell =
+    (l : Layout) (trees : Trees) (found : List RawHolder) → AreHoldersIn trees found → NumbersRise found → TellOfHolders l trees found

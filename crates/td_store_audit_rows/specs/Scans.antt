@@ -5,7 +5,8 @@ use Rattle.sqlite_value.specs.declared.keys.Key.{Key}
 use Rattle.sqlite_value.specs.declared.value.Value.TheVariants.{Text}
 use Rattle.sqlite_value.specs.Order.{Row, column}
 use Rattle.sqlite_sql.specs.Term.{Term}
-use Rattle.td_schema.specs.Tables.{desk_schema}
+use Rattle.sqlite.specs.Effect.{Database}
+use Rattle.td_schema.specs.declared.layout.Layout.{Layout}
 use Rattle.td_movement.specs.States.{state_name}
 use Rattle.td_movement.specs.declared.state.State.{State as MovementState}
 use Rattle.typed_sql.specs.Meanings.{MeansSelect}
@@ -62,11 +63,11 @@ pub record AreLineColumns (cells : Row) : Type 0 where
   pub guarantee : IsSome (serial_in (column cells 4))
   pub cents : IsSome (amount_in (column cells 5))
 
--- whatever table of a store the text shows, it is told whether the columns that are shown of each row are read
-abbrev pub Scans : (Row → Type 0) → List ℕ → Trees → Bool → Type 0
-Scans AreRead text trees all =
-    (tree : ℕ) (shows : List Term) (order : List (Term × Key)) → MeansSelect desk_schema text tree [] shows order
-    → IsTrue all ↔ AllByRecursion (λ r. AreRead (shown_by shows [] r)) (trees tree)
+-- whatever table the text shows, it is told whether the columns that are shown of each row are read
+abbrev pub Scans : (Row → Type 0) → List ℕ → Database → Bool → Type 0
+Scans AreRead text db all =
+    (tree : ℕ) (shows : List Term) (order : List (Term × Key)) → MeansSelect db.schema text tree [] shows order
+    → IsTrue all ↔ AllByRecursion (λ r. AreRead (shown_by shows [] r)) (db.trees tree)
 
 -- the row is of its kinds, and its fields are in range
 abbrev pub IsReadRow : {R : Type 0} → Typing R → (R → Type 0) → Row → Type 0
@@ -76,9 +77,9 @@ IsReadRow ty AreFields r = IsTypedRow ty r × AreFields (row_of ty r)
 abbrev pub TellsRead : {R : Type 0} → Typing R → (R → Type 0) → Trees → Bool → Type 0
 TellsRead ty AreFields trees all = IsTrue all ↔ AllRows ty (IsReadRow ty AreFields) trees
 
--- so it is of each table that belongs to holders
-pub record TellReadable (readable : Readable) (trees : Trees) : Type 0 where
-  pub guarantees : TellsRead guarantee_typing AreGuaranteeFields trees readable.guarantees
+-- so it is of each table of a layout that belongs to holders
+pub record TellReadable (l : Layout) (readable : Readable) (trees : Trees) : Type 0 where
+  pub guarantees : TellsRead (guarantee_typing l) AreGuaranteeFields trees readable.guarantees
   pub codes : TellsRead code_typing AreCodeFields trees readable.codes
   pub movements : TellsRead movement_typing AreMovementFields trees readable.movements
   pub lines : TellsRead line_typing AreLineFields trees readable.lines

@@ -11,6 +11,7 @@ use Rattle.td_table_model.specs.Gathering.{IsApart, no_of, of_key, part, place}
 use Rattle.td_table_model.specs.Stored.{AreOfHolders}
 use Rattle.td_table_model.specs.Tables.{Tables}
 use Rattle.typed_sql.specs.Typed.{row_of}
+use Rattle.td_schema.specs.declared.layout.Layout.{Layout}
 use Rattle.td_store_rows.specs.Columns.{holder_typing, guarantee_typing, code_typing, movement_typing, line_typing}
 use Rattle.td_store_rows.specs.StoreTables.{tables_in}
 use Rattle.td_store_audit_rows.specs.Fields.{AreCodeFields, AreGuaranteeFields, AreLineFields, AreMovementFields}
@@ -39,7 +40,7 @@ HolderFieldsTell = (r : Row) → FieldsTell r × FieldsAreThose r
 -- so S2 is kept exactly where each holder's EORI and moment are there
 abbrev pub HoldersTellS2 : Type 0
 HoldersTellS2 =
-    (trees : Trees) → KeepsUntyped trees S2
+    (l : Layout) (trees : Trees) → KeepsUntyped l trees S2
     ↔ AllRows holder_typing (λ r. IsSome (fields_of r).eori × IsSome (fields_of r).last_at) trees
 
 -- what a rule is asked after: the holders' numbers are in range, and the country is one
@@ -50,27 +51,27 @@ pub record HaveOwners (t : Tables) : Type 0 where
 -- where S3 is kept each row of guarantees is read, if each is of a holder that is there, and no two of one have one serial
 abbrev pub GuaranteesAreRead : Type 0
 GuaranteesAreRead =
-    (trees : Trees) → HaveOwners (tables_in trees) → AreOfHolders (tables_in trees).holders (tables_in trees).guarantees
-    → ((H : ℕ) → IsApart place (part H (tables_in trees).guarantees)) → KeepsUntyped trees S3
-    → AllRows guarantee_typing (IsReadRow guarantee_typing AreGuaranteeFields) trees
+    (l : Layout) (trees : Trees) → HaveOwners (tables_in l trees) → AreOfHolders (tables_in l trees).holders (tables_in l trees).guarantees
+    → ((H : ℕ) → IsApart place (part H (tables_in l trees).guarantees)) → KeepsUntyped l trees S3
+    → AllRows (guarantee_typing l) (IsReadRow (guarantee_typing l) AreGuaranteeFields) trees
 
 -- where S4 is kept, and S3 was, each row of codes is read
 abbrev pub CodesAreRead : Type 0
 CodesAreRead =
-    (trees : Trees) → HaveOwners (tables_in trees) → AreOfHolders (tables_in trees).holders (tables_in trees).codes
-    → Keeps (tables_in trees) S3 → KeepsUntyped trees S4 → AllRows code_typing (IsReadRow code_typing AreCodeFields) trees
+    (l : Layout) (trees : Trees) → HaveOwners (tables_in l trees) → AreOfHolders (tables_in l trees).holders (tables_in l trees).codes
+    → Keeps (tables_in l trees) S3 → KeepsUntyped l trees S4 → AllRows code_typing (IsReadRow code_typing AreCodeFields) trees
 
 -- where S5 is kept each row of movements is read, if each is of a holder that is there, and no two of one have one serial
 abbrev pub MovementsAreRead : Type 0
 MovementsAreRead =
-    (trees : Trees) → HaveOwners (tables_in trees) → AreOfHolders (tables_in trees).holders (tables_in trees).movements
-    → ((H : ℕ) → IsApart place (part H (tables_in trees).movements)) → KeepsUntyped trees S5
+    (l : Layout) (trees : Trees) → HaveOwners (tables_in l trees) → AreOfHolders (tables_in l trees).holders (tables_in l trees).movements
+    → ((H : ℕ) → IsApart place (part H (tables_in l trees).movements)) → KeepsUntyped l trees S5
     → AllRows movement_typing (IsReadRow movement_typing AreMovementFields) trees
 
 -- where S6 is kept, and S3 and S5 were, each row of lines is read, if no two lines of a movement have one number
 abbrev pub LinesAreRead : Type 0
 LinesAreRead =
-    (trees : Trees) → HaveOwners (tables_in trees) → AreOfHolders (tables_in trees).holders (tables_in trees).lines
-    → ((H n : ℕ) → IsApart no_of (of_key place n (part H (tables_in trees).lines)))
-    → Keeps (tables_in trees) S3 → Keeps (tables_in trees) S5 → KeepsUntyped trees S6
+    (l : Layout) (trees : Trees) → HaveOwners (tables_in l trees) → AreOfHolders (tables_in l trees).holders (tables_in l trees).lines
+    → ((H n : ℕ) → IsApart no_of (of_key place n (part H (tables_in l trees).lines)))
+    → Keeps (tables_in l trees) S3 → Keeps (tables_in l trees) S5 → KeepsUntyped l trees S6
     → AllRows line_typing (IsReadRow line_typing AreLineFields) trees

@@ -11,6 +11,7 @@ use Rattle.td_table_model.specs.declared.rule.Rule.TheVariants.{S1, S2, S3, S4, 
 use Rattle.td_table_model.specs.Rules.{Keeps, rule_no}
 use Rattle.typed_sql.specs.Typed.{Typing, IsTypedRow}
 use Rattle.typed_sql.specs.Values.{number_value}
+use Rattle.td_schema.specs.declared.layout.Layout.{Layout}
 use Rattle.td_store_rows.specs.Columns.{meta_typing, holder_typing, guarantee_typing, code_typing, movement_typing, line_typing}
 use Rattle.td_store_rows.specs.StoreTables.{tables_in}
 
@@ -39,21 +40,21 @@ abbrev pub HasMrnCount : Row → Type 0
 HasMrnCount r = IsNumber (column r 5)
 
 -- The columns that the rule speaks of are of their kinds, in each row: of S1 in the office's own row, which is there once.
-abbrev pub HasColumnTypes : Rule → Trees → Type 0
-HasColumnTypes S1 trees = (length (trees meta_typing.table.tree) ≡ 1) × AllRows meta_typing (IsTypedRow meta_typing) trees
-HasColumnTypes S2 trees = AllRows holder_typing HasIdentity trees
-HasColumnTypes S3 trees = AllRows holder_typing HasGrnCount trees × AllRows guarantee_typing (IsTypedRow guarantee_typing) trees
-HasColumnTypes S4 trees = AllRows code_typing (IsTypedRow code_typing) trees
-HasColumnTypes S5 trees = AllRows holder_typing HasMrnCount trees × AllRows movement_typing (IsTypedRow movement_typing) trees
-HasColumnTypes S6 trees = AllRows line_typing (IsTypedRow line_typing) trees
-HasColumnTypes S7 trees = Unit {0}
-HasColumnTypes S8 trees = Unit {0}
+abbrev pub HasColumnTypes : Layout → Rule → Trees → Type 0
+HasColumnTypes l S1 trees = (length (trees meta_typing.table.tree) ≡ 1) × AllRows meta_typing (IsTypedRow meta_typing) trees
+HasColumnTypes l S2 trees = AllRows holder_typing HasIdentity trees
+HasColumnTypes l S3 trees = AllRows holder_typing HasGrnCount trees × AllRows (guarantee_typing l) (IsTypedRow (guarantee_typing l)) trees
+HasColumnTypes l S4 trees = AllRows code_typing (IsTypedRow code_typing) trees
+HasColumnTypes l S5 trees = AllRows holder_typing HasMrnCount trees × AllRows movement_typing (IsTypedRow movement_typing) trees
+HasColumnTypes l S6 trees = AllRows line_typing (IsTypedRow line_typing) trees
+HasColumnTypes l S7 trees = Unit {0}
+HasColumnTypes l S8 trees = Unit {0}
 
 -- the tables keep the rule as they stand: a column of another kind breaks it
-abbrev pub KeepsUntyped : Trees → Rule → Type 0
-KeepsUntyped trees rule = HasColumnTypes rule trees × Keeps (tables_in trees) rule
+abbrev pub KeepsUntyped : Layout → Trees → Rule → Type 0
+KeepsUntyped l trees rule = HasColumnTypes l rule trees × Keeps (tables_in l trees) rule
 
 -- it is the first that they break
-pub record IsFirstBrokenUntyped (trees : Trees) (rule : Rule) : Type 0 where
-  pub broken : ¬ KeepsUntyped trees rule
-  pub before : (other : Rule) → rule_no other < rule_no rule → KeepsUntyped trees other
+pub record IsFirstBrokenUntyped (l : Layout) (trees : Trees) (rule : Rule) : Type 0 where
+  pub broken : ¬ KeepsUntyped l trees rule
+  pub before : (other : Rule) → rule_no other < rule_no rule → KeepsUntyped l trees other

@@ -6,7 +6,6 @@ ghost use Rattle.sqlite.specs.Given.{IsPlain};
 ghost use Rattle.sqlite.specs.Held.{state};
 ghost use Rattle.sqlite.specs.Listing.{understood};
 ghost use Rattle.sqlite.specs.State.{HasCleanDisk, IsUnchanged, Survives};
-ghost use Rattle.td_schema.specs.Tables.{desk_schema};
 ghost use Rattle.typed_sql.specs.Walked.{IsLeftAlone};
 ghost use Rattle.td_store_audit_rows.specs.Ids.{IsAbove, ShowsIds};
 ghost use Rattle.td_store_audit_rows.specs.Rising.{HaveRisen};
@@ -68,10 +67,9 @@ impl Walker for RisingIds {
 /// aren't, or weren't shown rising; any other error is the database's own. It changes nothing, and keeps no row.
 pub(crate) fn ids_rise<S: Alter>(conn: &mut Connection<S>, text: &str) -> Result<(), Error>
     requires outside { conn.old.in_transaction ≡ false }
-    requires tables { HasCleanDisk (state S.Store conn.old) → (state S.Store conn.old).now.schema ≡ desk_schema }
-    requires plain { IsPlain (understood desk_schema text.now) }
+    requires plain { HasCleanDisk (state S.Store conn.old) → IsPlain (understood (state S.Store conn.old).now.schema text.now) }
     ensures ended { conn.new.in_transaction ≡ false }
-    ensures ids { HasCleanDisk (state S.Store conn.new) → OnOk result (ShowsIds text.now (state S.Store conn.old).now.trees) }
+    ensures ids { HasCleanDisk (state S.Store conn.new) → OnOk result (ShowsIds text.now (state S.Store conn.old).now) }
     ensures still { HasCleanDisk (state S.Store conn.new)
         → OnOk result (IsUnchanged (state S.Store conn.old) (state S.Store conn.new)) }
     ensures left { HasCleanDisk (state S.Store conn.new) → IsLeftAlone (state S.Store conn.old) (state S.Store conn.new) }

@@ -2,10 +2,11 @@
 ghost use Rattle.std.specs.Prelude.{◌≡◌, false, IfOk, OnOk};
 ghost use Rattle.sqlite.specs.Held.{state};
 ghost use Rattle.sqlite.specs.State.{HasCleanDisk, IsUnchanged, Survives};
-ghost use Rattle.td_schema.specs.Tables.{desk_schema};
+ghost use Rattle.td_schema.specs.Layouts.{IsNewestSchema};
 ghost use Rattle.typed_sql.specs.Walked.{IsLeftAlone};
 ghost use Rattle.td_store_audit_rows.specs.Ids.{HaveAllIds, HavePartIds};
 ghost use Rattle.td_store_audit_rows.specs.Scans.{TellReadable};
+ghost use Rattle.td_store_rows.specs.StoreReads.{InNewest};
 
 use crate::ids::ids_rise;
 use crate::scanning::scan;
@@ -27,11 +28,11 @@ pub struct Readable {
 // the database's own.
 fn scan_tables<S: Alter>(conn: &mut Connection<S>) -> Result<Readable, Error>
     requires outside { conn.old.in_transaction ≡ false }
-    requires tables { HasCleanDisk (state S.Store conn.old) → (state S.Store conn.old).now.schema ≡ desk_schema }
+    requires tables { HasCleanDisk (state S.Store conn.old) → IsNewestSchema (state S.Store conn.old).now.schema }
     ensures ended { conn.new.in_transaction ≡ false }
-    ensures ids { HasCleanDisk (state S.Store conn.new) → OnOk result (HavePartIds (state S.Store conn.old).now.trees) }
+    ensures ids { HasCleanDisk (state S.Store conn.new) → OnOk result (InNewest HavePartIds (state S.Store conn.old).now) }
     ensures told { HasCleanDisk (state S.Store conn.new)
-        → IfOk result (λ readable. TellReadable readable (state S.Store conn.old).now.trees) }
+        → IfOk result (λ readable. InNewest (λ l. TellReadable l readable) (state S.Store conn.old).now) }
     ensures still { HasCleanDisk (state S.Store conn.new)
         → OnOk result (IsUnchanged (state S.Store conn.old) (state S.Store conn.new)) }
     ensures left { HasCleanDisk (state S.Store conn.new) → IsLeftAlone (state S.Store conn.old) (state S.Store conn.new) }
@@ -54,11 +55,11 @@ fn scan_tables<S: Alter>(conn: &mut Connection<S>) -> Result<Readable, Error>
 /// want of memory.
 pub fn readable_tables<S: Alter>(conn: &mut Connection<S>) -> Result<Readable, Error>
     requires outside { conn.old.in_transaction ≡ false }
-    requires tables { HasCleanDisk (state S.Store conn.old) → (state S.Store conn.old).now.schema ≡ desk_schema }
+    requires tables { HasCleanDisk (state S.Store conn.old) → IsNewestSchema (state S.Store conn.old).now.schema }
     ensures ended { conn.new.in_transaction ≡ false }
-    ensures ids { HasCleanDisk (state S.Store conn.new) → OnOk result (HaveAllIds (state S.Store conn.old).now.trees) }
+    ensures ids { HasCleanDisk (state S.Store conn.new) → OnOk result (InNewest HaveAllIds (state S.Store conn.old).now) }
     ensures told { HasCleanDisk (state S.Store conn.new)
-        → IfOk result (λ readable. TellReadable readable (state S.Store conn.old).now.trees) }
+        → IfOk result (λ readable. InNewest (λ l. TellReadable l readable) (state S.Store conn.old).now) }
     ensures still { HasCleanDisk (state S.Store conn.new)
         → OnOk result (IsUnchanged (state S.Store conn.old) (state S.Store conn.new)) }
     ensures left { HasCleanDisk (state S.Store conn.new) → IsLeftAlone (state S.Store conn.old) (state S.Store conn.new) }

@@ -21,8 +21,7 @@ use Rattle.td_table_model.specs.Rules.{KeepRules}
 use Rattle.td_table_model.proofs.KeepingRules.{keep_rules}
 use Rattle.td_table_model.proofs.Looked.{account_is, are_found}
 use Rattle.td_table_model.proofs.Told.{references_tell}
-use Rattle.td_schema.specs.Tables.{desk_schema}
-use Rattle.typed_sql.specs.Reading.{OnlyRead}
+use Rattle.td_store_rows.specs.StoreReads.{OnlyReadNewest}
 use Rattle.td_store_rows.specs.CodeTable.{AreByCode, code_row_of as row_of_code}
 use Rattle.td_store_rows.specs.declared.codes.stored.StoredCode.{StoredCode}
 use Rattle.td_store_rows.specs.GuaranteeTable.{IsTheGuarantee, has_grn, has_serial, guarantee_row_of as row_of_guarantee}
@@ -49,10 +48,10 @@ next_put rows i d row within is order have new before added =
 pub whole_guarantee : (a : State) (stored : StoredGuarantee) (rows : List StoredCode) (codes : List (List ℕ)) → AreByCode stored.holder stored.serial a rows
     → (AreAscending (map code_of rows) → codes ≡ map code_of rows) → IsOfTables (λ t. with_codes t (row_of_guarantee stored)) a (record stored.guarantee { codes = codes })
 whole_guarantee a stored rows codes order gathered content holds =
-    let t : Tables = tables_in a.now.trees in
+    let t : Tables = tables_in holds.trees.layout a.now.trees in
     let keep : KeepRules t = keep_rules t content holds.trees.sound holds.trees.tables in
     let found : map row_of_code rows ≡ codes_by stored.holder stored.serial t =
-    order holds.schema holds.trees.typed.codes (code_forms t keep stored.holder stored.serial) (keep.stored.codes stored.holder stored.serial) in
+    order holds.trees.layout holds.schema holds.trees.typed.codes (code_forms t keep stored.holder stored.serial) (keep.stored.codes stored.holder stored.serial) in
     let same : map code_of rows ≡ map (λ (c : Keyed (List ℕ)). c.row) (codes_by stored.holder stored.serial t) =
     sym (map-map (λ (c : Keyed (List ℕ)). c.row) row_of_code rows) ∙ ap (map (λ (c : Keyed (List ℕ)). c.row)) found in
     ap (λ (l : List (List ℕ)). record stored.guarantee { codes = l }) (gathered (subst AreAscending (sym same) (codes_ascend t keep stored.holder stored.serial)) ∙ same)
@@ -62,34 +61,34 @@ pub line_loaded : (a : State) (row : StoredLine) (g : StoredGuarantee) → IsThe
     → IsOfTables (λ t. line_from t (row_of_line row)) a (record { grn = g.guarantee.grn; cents = row.cents })
 line_loaded a row g found content holds =
     ap (λ (grn : List ℕ). record { grn = grn; cents = row.cents })
-    (sym (grn_alone (tables_in a.now.trees) row.holder row.guarantee (row_of_guarantee g) (found holds.schema holds.trees.typed.guarantees)))
+    (sym (grn_alone (tables_in holds.trees.layout a.now.trees) row.holder row.guarantee (row_of_guarantee g) (found holds.trees.layout holds.trees.newest holds.schema holds.trees.typed.guarantees)))
 
 -- one more of what rows say
-pub next_of : {R X : Type 0} (f : Tables → R → X) (a b : State) (rows : List R) (i : ℕ) (d row : R) (found : List X) (x : X) → i < length rows → row ≡ get_or rows i d → OnlyRead desk_schema a b
+pub next_of : {R X : Type 0} (f : Tables → R → X) (a b : State) (rows : List R) (i : ℕ) (d row : R) (found : List X) (x : X) → i < length rows → row ≡ get_or rows i d → OnlyReadNewest a b
     → IsOfTables (λ t. map (f t) (take i rows)) a found → IsOfTables (λ t. f t row) b x → IsOfTables (λ t. map (f t) (take (i + 1) rows)) a (found ++ x ∷ [])
 next_of f a b rows i d row found x within is left before next content holds =
-    let t : Tables = tables_in a.now.trees in
+    let t : Tables = tables_in holds.trees.layout a.now.trees in
     ap₂ (λ l e. l ++ e ∷ []) (before content holds) (said_before (λ t. f t row) a b x left next content holds ∙ ap (f t) is)
     ∙ sym (map-append (f t) (take i rows) (get_or rows i d ∷ [])) ∙ ap (map (f t)) (sym (take_more rows i d within))
 
 -- a movement with its lines
-pub whole_movement : (a b : State) (stored : StoredMovement) (rows : List StoredLine) (lines : List Line) → AreByNumber stored.holder stored.serial a rows → OnlyRead desk_schema a b
+pub whole_movement : (a b : State) (stored : StoredMovement) (rows : List StoredLine) (lines : List Line) → AreByNumber stored.holder stored.serial a rows → OnlyReadNewest a b
     → IsOfTables (λ t. map (λ r. line_from t (row_of_line r)) rows) b lines → IsOfTables (λ t. with_lines t (row_of_movement stored)) a (record stored.movement { lines = lines })
 whole_movement a b stored rows lines order still each content holds =
-    let t : Tables = tables_in a.now.trees in
+    let t : Tables = tables_in holds.trees.layout a.now.trees in
     let keep : KeepRules t = keep_rules t content holds.trees.sound holds.trees.tables in
-    let found : map row_of_line rows ≡ lines_by stored.holder stored.serial t = order holds.schema holds.trees.typed.lines (keep.stored.lines stored.holder stored.serial) in
+    let found : map row_of_line rows ≡ lines_by stored.holder stored.serial t = order holds.trees.layout holds.schema holds.trees.typed.lines (keep.stored.lines stored.holder stored.serial) in
     ap (λ (l : List Line). record stored.movement { lines = l })
     (said_before (λ t. map (λ r. line_from t (row_of_line r)) rows) a b lines still each content holds
     ∙ sym (map-map (line_from t) row_of_line rows) ∙ ap (map (line_from t)) found)
 
 -- all movements of a holder
-pub all_movements : (a b : State) (H : ℕ) (rows : List StoredMovement) (movements : List Movement) → AreBySerial (is_of H) a rows → OnlyRead desk_schema a b
+pub all_movements : (a b : State) (H : ℕ) (rows : List StoredMovement) (movements : List Movement) → AreBySerial (is_of H) a rows → OnlyReadNewest a b
     → IsOfTables (λ t. map (λ r. with_lines t (row_of_movement r)) rows) b movements → (content : Content) → HoldsContent content a → movements ≡ (account_in H content).movements
 all_movements a b H rows movements order still each content holds =
-    let t : Tables = tables_in a.now.trees in
+    let t : Tables = tables_in holds.trees.layout a.now.trees in
     let keep : KeepRules t = keep_rules t content holds.trees.sound holds.trees.tables in
-    let found : map row_of_movement rows ≡ movements_by H t = order holds.schema holds.trees.typed.movements (keep.stored.movements H) in
+    let found : map row_of_movement rows ≡ movements_by H t = order holds.trees.layout holds.schema holds.trees.typed.movements (keep.stored.movements H) in
     said_before (λ t. map (λ r. with_lines t (row_of_movement r)) rows) a b movements still each content holds
     ∙ sym (map-map (with_lines t) row_of_movement rows) ∙ ap (map (with_lines t)) found
     ∙ ap (λ (account : Account). account.movements) (sym (account_is t content holds.trees.sound holds.trees.tables H))
@@ -108,7 +107,7 @@ asked_by_key H n told rows o tells found =
 
 module _ (a : State) (H : ℕ) (content : Content) (holds : HoldsContent content a) where
   abbrev t : Tables
-  t = tables_in a.now.trees
+  t = tables_in holds.trees.layout a.now.trees
 
   pub by_mrn : (country mrn : List ℕ) → content.country ≡ country → (found : Option StoredMovement) → IsTheMovement (has_mrn H (movement_no country mrn) mrn) a found
       → movement_by_mrn mrn (account_in H content).movements ≡ option_map (with_lines t) (option_map row_of_movement found)
@@ -116,14 +115,14 @@ module _ (a : State) (H : ℕ) (content : Content) (holds : HoldsContent content
       (are_found t content holds.trees.sound holds.trees.tables H).mrns mrn
       ∙ ap (option_map (with_lines t)) (asked_by_key H (movement_no country mrn) (λ (m : Keyed Movement). bytes_eq m.row.mrn mrn) t.movements (option_map row_of_movement found)
       (subst (λ k. AllByRecursion (λ (m : Keyed Movement). bytes_eq m.row.mrn mrn ≡ (m.serial == movement_no k mrn && bytes_eq m.row.mrn mrn)) t.movements) (holds.trees.tables.country ∙ at) ((references_tell t content holds.trees.sound holds.trees.tables).1.mrns mrn))
-      (subst (λ l. IsPermutation (filter (has_mrn H (movement_no country mrn) mrn) t.movements) l) (listed row_of_movement found) (is holds.schema holds.trees.typed.movements)))
+      (subst (λ l. IsPermutation (filter (has_mrn H (movement_no country mrn) mrn) t.movements) l) (listed row_of_movement found) (is holds.trees.layout holds.schema holds.trees.typed.movements)))
 
   pub by_lrn : (lrn : List ℕ) (found : Option StoredMovement) → IsTheMovement (has_lrn H lrn) a found
       → movement_by_lrn lrn (account_in H content).movements ≡ option_map (with_lines t) (option_map row_of_movement found)
   by_lrn lrn found is =
       (are_found t content holds.trees.sound holds.trees.tables H).lrns lrn
       ∙ ap (option_map (with_lines t)) (found_alone (λ (m : Keyed Movement). m.holder == H && bytes_eq m.row.lrn lrn) t.movements (option_map row_of_movement found)
-      (subst (λ l. IsPermutation (filter (has_lrn H lrn) t.movements) l) (listed row_of_movement found) (is holds.schema holds.trees.typed.movements)))
+      (subst (λ l. IsPermutation (filter (has_lrn H lrn) t.movements) l) (listed row_of_movement found) (is holds.trees.layout holds.schema holds.trees.typed.movements)))
 
   pub by_grn : (country grn : List ℕ) → content.country ≡ country → (found : Option StoredGuarantee) → IsTheGuarantee (has_grn H (guarantee_no country grn) grn) a found
       → guarantee_by_grn grn (account_in H content).guarantees ≡ option_map (with_codes t) (option_map row_of_guarantee found)
@@ -131,4 +130,4 @@ module _ (a : State) (H : ℕ) (content : Content) (holds : HoldsContent content
       (are_found t content holds.trees.sound holds.trees.tables H).grns grn
       ∙ ap (option_map (with_codes t)) (asked_by_key H (guarantee_no country grn) (λ (g : Keyed Guarantee). bytes_eq g.row.grn grn) t.guarantees (option_map row_of_guarantee found)
       (subst (λ k. AllByRecursion (λ (g : Keyed Guarantee). bytes_eq g.row.grn grn ≡ (g.serial == guarantee_no k grn && bytes_eq g.row.grn grn)) t.guarantees) (holds.trees.tables.country ∙ at) ((references_tell t content holds.trees.sound holds.trees.tables).1.grns grn))
-      (subst (λ l. IsPermutation (filter (has_grn H (guarantee_no country grn) grn) t.guarantees) l) (listed row_of_guarantee found) (is holds.schema holds.trees.typed.guarantees)))
+      (subst (λ l. IsPermutation (filter (has_grn H (guarantee_no country grn) grn) t.guarantees) l) (listed row_of_guarantee found) (is holds.trees.layout holds.trees.newest holds.schema holds.trees.typed.guarantees)))

@@ -13,13 +13,12 @@ use Rattle.td_desk.specs.Content.{Content, account_in, rows_of}
 use Rattle.td_table_model.specs.Tables.{Tables}
 use Rattle.td_table_model.specs.Gathering.{holder_no}
 use Rattle.td_table_model.proofs.Looked.{account_is}
+use Rattle.td_store_rows.specs.StoreReads.{OnlyReadNewest}
 use Rattle.td_store_rows.specs.HolderTable.{IsTheHolder}
 use Rattle.td_store_rows.specs.StoreTables.{HoldsContent, tables_in}
 use Rattle.td_store_load.proofs.Reading.{held_after}
 use Rattle.td_store_load.proofs.Whole.{found_alone}
 use Rattle.td_store_load.specs.Needed.{IsLoadedFor}
-use Rattle.typed_sql.specs.Reading.{OnlyRead}
-use Rattle.td_schema.specs.Tables.{desk_schema}
 
 -- nothing is kept of a number without a row
 nothing_kept : (country : List ℕ) (o : Option HolderRows) → (account_with country o).holder ≡ None → account_with country o ≡ empty_account country
@@ -28,10 +27,10 @@ nothing_kept country (Some h) is = cc
 
 module _ (a : State) (H : ℕ) (content : Content) (holds : HoldsContent content a) where
   abbrev t : Tables
-  t = tables_in a.now.trees
+  t = tables_in holds.trees.layout a.now.trees
 
   found_at : (found : Option HolderRow) → IsTheHolder H a found → row_at holder_no H t.holders ≡ found
-  found_at found is = found_alone (λ r. holder_no r == H) t.holders found (is holds.schema holds.trees.typed.holders)
+  found_at found is = found_alone (λ r. holder_no r == H) t.holders found (is holds.trees.layout holds.schema holds.trees.typed.holders)
 
   -- the row that was found is the account's
   row_is : (found : Option HolderRow) → IsTheHolder H a found → (account_in H content).holder ≡ found
@@ -49,7 +48,7 @@ nothing_loaded a H country need loaded is nothing content holds at =
     (sym (nothing_kept content.country (rows_of H content) (row_is a H content holds None is) ∙ ap empty_account at)) nothing
 
 -- where a row was found, what is needed beside it
-pub loaded_for : (a b : State) (H : ℕ) (country : List ℕ) (row : HolderRow) (need : Need) (loaded : Loaded) → IsTheHolder H a (Some row) → OnlyRead desk_schema a b → IsLoadedFor country row need b loaded
+pub loaded_for : (a b : State) (H : ℕ) (country : List ℕ) (row : HolderRow) (need : Need) (loaded : Loaded) → IsTheHolder H a (Some row) → OnlyReadNewest a b → IsLoadedFor country row need b loaded
     → (content : Content) → HoldsContent content a → content.country ≡ country → IsLoaded (account_in H content) need loaded
 loaded_for a b H country row need loaded is left says content holds at =
     let number : row.holder ≡ H = number_is a H content holds row is in

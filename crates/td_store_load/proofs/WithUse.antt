@@ -23,8 +23,7 @@ use Rattle.td_table_model.proofs.Looked.{account_is}
 use Rattle.td_table_model.proofs.Numbered.{map_same}
 use Rattle.td_table_model.proofs.Rebuilt.{all_in_order}
 use Rattle.td_table_model.proofs.Told.{tell_keys}
-use Rattle.td_schema.specs.Tables.{desk_schema}
-use Rattle.typed_sql.specs.Reading.{OnlyRead}
+use Rattle.td_store_rows.specs.StoreReads.{OnlyReadNewest}
 use Rattle.td_store_rows.specs.GuaranteeTable.{AreBySerial, is_of, guarantee_row_of}
 use Rattle.td_store_rows.specs.declared.guarantees.stored.StoredGuarantee.{StoredGuarantee}
 use Rattle.td_store_rows.specs.StoreTables.{HoldsContent, tables_in}
@@ -60,7 +59,7 @@ found_by_own (g ∷ gs) = (
 
 module _ (a : State) (H : ℕ) (content : Content) (holds : HoldsContent content a) where
   abbrev t : Tables
-  t = tables_in a.now.trees
+  t = tables_in holds.trees.layout a.now.trees
 
   abbrev account : Account
   account = account_in H content
@@ -74,7 +73,7 @@ module _ (a : State) (H : ℕ) (content : Content) (holds : HoldsContent content
       → Some (g, cents) ≡ entry_in account grn
   entry_is country grn at g cents found used =
       let amount : cents ≡ used_on grn account.movements =
-      used holds.schema holds.trees.typed.movements holds.trees.typed.lines
+      used holds.trees.layout holds.schema holds.trees.typed.movements holds.trees.typed.lines
       ∙ ap (λ k. sum_by cents_of (lines_in_use H (guarantee_no k grn) t)) (sym (holds.trees.tables.country ∙ at)) ∙ in_use grn (subst IsSome found refl) in
       let own : g.grn ≡ grn = subst (λ o. IfSome o (λ (x : Guarantee). x.grn ≡ grn)) (sym found) (found_named grn account.guarantees) in
       ap (λ n. Some (g, n)) (amount ∙ ap (λ k. used_on k account.movements) (sym own)) ∙ ap (option_map (with_use account)) found
@@ -114,11 +113,11 @@ module _ (a : State) (H : ℕ) (content : Content) (holds : HoldsContent content
       (all_both (λ r. owner r ≡ H) IsTold (λ r. (owner r ≡ H) × IsTold r) (λ r is tells. (is, tells)) (guarantees_by H t) own told) there
 
   -- all guarantees of the holder, and the amounts in use on them
-  pub all_entries : (b : State) (rows : List StoredGuarantee) (entries : List (Guarantee × ℕ)) → AreBySerial (is_of H) a rows → OnlyRead desk_schema a b
+  pub all_entries : (b : State) (rows : List StoredGuarantee) (entries : List (Guarantee × ℕ)) → AreBySerial (is_of H) a rows → OnlyReadNewest a b
       → IsOfTables (λ t. map (λ r. entry_from t (guarantee_row_of r)) rows) b entries → entries ≡ map (with_use account) account.guarantees
   all_entries b rows entries order still each =
       let keep : KeepRules t = keep_rules t content holds.trees.sound holds.trees.tables in
-      let found : map guarantee_row_of rows ≡ guarantees_by H t = order holds.schema holds.trees.typed.guarantees (keep.stored.guarantees H) in
+      let found : map guarantee_row_of rows ≡ guarantees_by H t = order holds.trees.layout holds.trees.newest holds.schema holds.trees.typed.guarantees (keep.stored.guarantees H) in
       said_before (λ t. map (λ r. entry_from t (guarantee_row_of r)) rows) a b entries still each content holds
       ∙ sym (map-map (entry_from t) guarantee_row_of rows) ∙ ap (map (entry_from t)) found
       ∙ map_same (entry_from t) (λ r. with_use account (with_codes t r)) (guarantees_by H t) rows_used

@@ -5,7 +5,8 @@ use Rattle.keyed_rows.specs.Rows.{row_at}
 use Rattle.sqlite.specs.State.{State}
 use Rattle.td_base.specs.Money.{IsCents}
 use Rattle.td_table_model.specs.Looking.{cents_of, lines_in_use}
-use Rattle.td_schema.specs.Tables.{desk_schema}
+use Rattle.td_schema.specs.declared.layout.Layout.{Layout}
+use Rattle.td_schema.specs.Layouts.{schema_of}
 use Rattle.typed_sql.specs.Typed.{AreTyped}
 use Rattle.typed_sql.specs.Writing.{HasSchema}
 use Rattle.td_store_rows.specs.Columns.{movement_typing, line_typing}
@@ -26,11 +27,11 @@ total_on n serials lines = sum_by (λ l. if l.guarantee == n then counted serial
 -- movements that count
 abbrev pub IsInUse : ℕ → ℕ → State → ℕ → Type 0
 IsInUse H n state cents =
-    HasSchema state desk_schema → AreTyped movement_typing state.now.trees → AreTyped line_typing state.now.trees
-    → cents ≡ sum_by cents_of (lines_in_use H n (tables_in state.now.trees))
+    (l : Layout) → HasSchema state (schema_of l) → AreTyped movement_typing state.now.trees → AreTyped line_typing state.now.trees
+    → cents ≡ sum_by cents_of (lines_in_use H n (tables_in l state.now.trees))
 
 -- so many cents are, if an amount can be so many
 abbrev pub IsInUseIfInRange : ℕ → ℕ → State → Option ℕ → Type 0
 IsInUseIfInRange H n state found =
-    HasSchema state desk_schema → AreTyped movement_typing state.now.trees → AreTyped line_typing state.now.trees
-    → let cents = sum_by cents_of (lines_in_use H n (tables_in state.now.trees)) in SomeIff found (IsCents cents) cents
+    (l : Layout) → HasSchema state (schema_of l) → AreTyped movement_typing state.now.trees → AreTyped line_typing state.now.trees
+    → let cents = sum_by cents_of (lines_in_use H n (tables_in l state.now.trees)) in SomeIff found (IsCents cents) cents

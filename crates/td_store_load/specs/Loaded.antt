@@ -12,7 +12,7 @@ code_of row = row.code
 
 -- where the store holds a content, this is what f says of its tables
 abbrev pub IsOfTables : {X : Type 0} → (Tables → X) → State → X → Type 0
-IsOfTables f s x = (c : Content) → HoldsContent c s → x ≡ f (tables_in s.now.trees)
+IsOfTables f s x = (c : Content) (holds : HoldsContent c s) → x ≡ f (tables_in holds.trees.layout s.now.trees)
 
 -- where the store holds a content of that country, this is what f says of the content
 abbrev pub IsOfContent : {X : Type 0} → List ℕ → (Content → X) → State → X → Type 0

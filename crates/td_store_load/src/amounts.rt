@@ -4,8 +4,8 @@ ghost use Rattle.keyed_rows.specs.Rows.{Rises};
 ghost use Rattle.sqlite.specs.Held.{state};
 ghost use Rattle.sqlite.specs.State.{HasCleanDisk};
 ghost use Rattle.td_base.specs.Money.{IsCents};
-ghost use Rattle.td_schema.specs.Tables.{desk_schema};
-ghost use Rattle.typed_sql.specs.Reading.{IsInside, Reads};
+ghost use Rattle.typed_sql.specs.Reading.{IsInside};
+ghost use Rattle.td_store_rows.specs.StoreReads.{ReadsStore};
 ghost use Rattle.td_store_rows.specs.MovementTable.{serial_of_stored};
 ghost use Rattle.td_store_load.specs.InUse.{IsInUse, IsInUseIfInRange, total_on};
 
@@ -60,7 +60,7 @@ fn amount_if_in_range<S: Alter>(
     ensures same_reference { tx.new.conn.ghost_name ≡ tx.old.conn.ghost_name }
     ensures found { HasCleanDisk (state S.Store tx.new.conn.now)
         → IfOk result (IsInUseIfInRange holder guarantee (state S.Store tx.old.conn.now)) }
-    ensures reads { Reads desk_schema (is_ok result) (state S.Store tx.old.conn.now) (state S.Store tx.new.conn.now) }
+    ensures reads { ReadsStore (is_ok result) (state S.Store tx.old.conn.now) (state S.Store tx.new.conn.now) }
 {
     let serials = counting_serials(alloc, tx, holder)?;
     if !rise(&serials) {
@@ -82,7 +82,7 @@ pub fn amount_in_use<S: Alter>(
     ensures same_reference { tx.new.conn.ghost_name ≡ tx.old.conn.ghost_name }
     ensures found { HasCleanDisk (state S.Store tx.new.conn.now)
         → IfOk result (IsInUse holder guarantee (state S.Store tx.old.conn.now)) }
-    ensures reads { Reads desk_schema (is_ok result) (state S.Store tx.old.conn.now) (state S.Store tx.new.conn.now) }
+    ensures reads { ReadsStore (is_ok result) (state S.Store tx.old.conn.now) (state S.Store tx.new.conn.now) }
 {
     amount_if_in_range(alloc, tx, holder, guarantee)?.ok_or(Error::SqliteFailure(
         ErrorCode::DatabaseCorrupt,

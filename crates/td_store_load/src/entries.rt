@@ -6,8 +6,8 @@ ghost use Rattle.sqlite.specs.Held.{state};
 ghost use Rattle.sqlite.specs.State.{HasCleanDisk};
 ghost use Rattle.td_model.specs.Account.{entry_in};
 ghost use Rattle.td_desk.specs.Content.{Content, account_in};
-ghost use Rattle.td_schema.specs.Tables.{desk_schema};
-ghost use Rattle.typed_sql.specs.Reading.{IsInside, Reads};
+ghost use Rattle.typed_sql.specs.Reading.{IsInside};
+ghost use Rattle.td_store_rows.specs.StoreReads.{ReadsNewest};
 ghost use Rattle.td_store_rows.specs.GuaranteeTable.{guarantee_row_of};
 ghost use Rattle.td_store_rows.specs.StoreTables.{HoldsContent};
 ghost use Rattle.td_store_load.specs.Loaded.{IsOfContent, IsOfTables};
@@ -35,7 +35,7 @@ pub fn load_entry<S: Alter>(
     ensures same_reference { tx.new.conn.ghost_name ≡ tx.old.conn.ghost_name }
     ensures found { HasCleanDisk (state S.Store tx.new.conn.now)
         → IfOk result (IsOfContent country (λ c. entry_in (account_in holder c) grn.now) (state S.Store tx.old.conn.now)) }
-    ensures reads { Reads desk_schema (is_ok result) (state S.Store tx.old.conn.now) (state S.Store tx.new.conn.now) }
+    ensures reads { ReadsNewest (is_ok result) (state S.Store tx.old.conn.now) (state S.Store tx.new.conn.now) }
 {
     let Some(guarantee) = load_guarantee(alloc, tx, country, holder, grn)? else {
         return Ok(None);
@@ -59,7 +59,7 @@ pub fn load_entries_of<S: Alter>(
     ensures found { HasCleanDisk (state S.Store tx.new.conn.now)
         → IfOk result (λ found. IsOfContent country (λ c. filter_map (λ l. entry_in (account_in holder c) l.grn) lines.now)
         (state S.Store tx.old.conn.now) found.items) }
-    ensures reads { Reads desk_schema (is_ok result) (state S.Store tx.old.conn.now) (state S.Store tx.new.conn.now) }
+    ensures reads { ReadsNewest (is_ok result) (state S.Store tx.old.conn.now) (state S.Store tx.new.conn.now) }
 {
     let mut found = Vec::new(alloc);
     'lines: for line in lines {
@@ -80,7 +80,7 @@ fn entry_in_row<S: Alter>(
     ensures same_reference { tx.new.conn.ghost_name ≡ tx.old.conn.ghost_name }
     ensures entry { HasCleanDisk (state S.Store tx.new.conn.now)
         → IfOk result (IsOfTables (λ t. entry_from t (guarantee_row_of row.now)) (state S.Store tx.old.conn.now)) }
-    ensures reads { Reads desk_schema (is_ok result) (state S.Store tx.old.conn.now) (state S.Store tx.new.conn.now) }
+    ensures reads { ReadsNewest (is_ok result) (state S.Store tx.old.conn.now) (state S.Store tx.new.conn.now) }
 {
     let used = amount_in_use(alloc, tx, row.holder, row.serial)?;
     let stored = StoredGuarantee {
@@ -103,7 +103,7 @@ fn entries_in_rows<S: Alter>(
     ensures entries { HasCleanDisk (state S.Store tx.new.conn.now)
         → IfOk result (λ entries. IsOfTables (λ t. map (λ r. entry_from t (guarantee_row_of r)) rows.now)
         (state S.Store tx.old.conn.now) entries.items) }
-    ensures reads { Reads desk_schema (is_ok result) (state S.Store tx.old.conn.now) (state S.Store tx.new.conn.now) }
+    ensures reads { ReadsNewest (is_ok result) (state S.Store tx.old.conn.now) (state S.Store tx.new.conn.now) }
 {
     let mut entries = Vec::with_capacity(alloc, rows.len())?;
     'rows: for row in rows {
@@ -124,7 +124,7 @@ pub fn load_all_entries<S: Alter>(
     ensures found { HasCleanDisk (state S.Store tx.new.conn.now)
         → IfOk result (λ found. (c : Content) → HoldsContent c (state S.Store tx.old.conn.now)
         → found.items ≡ map (with_use (account_in holder c)) (account_in holder c).guarantees) }
-    ensures reads { Reads desk_schema (is_ok result) (state S.Store tx.old.conn.now) (state S.Store tx.new.conn.now) }
+    ensures reads { ReadsNewest (is_ok result) (state S.Store tx.old.conn.now) (state S.Store tx.new.conn.now) }
 {
     let rows = guarantees_of(alloc, tx, holder)?;
     entries_in_rows(alloc, tx, &rows)

@@ -6,9 +6,9 @@ ghost use Rattle.sqlite.specs.State.{HasCleanDisk};
 ghost use Rattle.td_guarantee.specs.Codes.{AreAscending};
 ghost use Rattle.td_model.specs.Account.{guarantee_by_grn};
 ghost use Rattle.td_desk.specs.Content.{account_in};
-ghost use Rattle.td_schema.specs.Tables.{desk_schema};
 ghost use Rattle.td_table_model.specs.Gathering.{with_codes};
-ghost use Rattle.typed_sql.specs.Reading.{IsInside, Reads};
+ghost use Rattle.typed_sql.specs.Reading.{IsInside};
+ghost use Rattle.td_store_rows.specs.StoreReads.{ReadsNewest};
 ghost use Rattle.td_store_rows.specs.GuaranteeTable.{guarantee_row_of};
 ghost use Rattle.td_store_load.specs.Loaded.{IsOfContent, IsOfTables, code_of};
 
@@ -41,7 +41,7 @@ pub fn guarantee_with_codes<S: Alter>(
     ensures same_reference { tx.new.conn.ghost_name ≡ tx.old.conn.ghost_name }
     ensures whole { HasCleanDisk (state S.Store tx.new.conn.now)
         → IfOk result (IsOfTables (λ t. with_codes t (guarantee_row_of stored)) (state S.Store tx.old.conn.now)) }
-    ensures reads { Reads desk_schema (is_ok result) (state S.Store tx.old.conn.now) (state S.Store tx.new.conn.now) }
+    ensures reads { ReadsNewest (is_ok result) (state S.Store tx.old.conn.now) (state S.Store tx.new.conn.now) }
 {
     let rows = codes_of(alloc, tx, stored.holder, stored.serial)?;
     let mut guarantee = stored.guarantee;
@@ -62,7 +62,7 @@ pub fn load_guarantee<S: Alter>(
     ensures found { HasCleanDisk (state S.Store tx.new.conn.now)
         → IfOk result (IsOfContent country (λ c. guarantee_by_grn grn.now (account_in holder c).guarantees)
         (state S.Store tx.old.conn.now)) }
-    ensures reads { Reads desk_schema (is_ok result) (state S.Store tx.old.conn.now) (state S.Store tx.new.conn.now) }
+    ensures reads { ReadsNewest (is_ok result) (state S.Store tx.old.conn.now) (state S.Store tx.new.conn.now) }
 {
     let serial = grn.serial(country).unwrap_or(0);
     let Some(stored) = find_by_grn(alloc, tx, holder, serial, grn)? else {
@@ -85,7 +85,7 @@ pub fn load_guarantees_of<S: Alter>(
     ensures found { HasCleanDisk (state S.Store tx.new.conn.now)
         → IfOk result (λ found. IsOfContent country (λ c. filter_map (λ l. guarantee_by_grn l.0.grn
         (account_in holder c).guarantees) lines.now) (state S.Store tx.old.conn.now) (map (λ e. e.0) found.items)) }
-    ensures reads { Reads desk_schema (is_ok result) (state S.Store tx.old.conn.now) (state S.Store tx.new.conn.now) }
+    ensures reads { ReadsNewest (is_ok result) (state S.Store tx.old.conn.now) (state S.Store tx.new.conn.now) }
 {
     let unasked = Cents::new(0).unwrap();
     let mut found = Vec::new(alloc);

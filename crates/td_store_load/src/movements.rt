@@ -5,9 +5,9 @@ ghost use Rattle.sqlite.specs.Held.{state};
 ghost use Rattle.sqlite.specs.State.{HasCleanDisk};
 ghost use Rattle.td_model.specs.Account.{movement_by_lrn, movement_by_mrn};
 ghost use Rattle.td_desk.specs.Content.{Content, account_in};
-ghost use Rattle.td_schema.specs.Tables.{desk_schema};
 ghost use Rattle.td_table_model.specs.Gathering.{line_from, with_lines};
-ghost use Rattle.typed_sql.specs.Reading.{IsInside, Reads};
+ghost use Rattle.typed_sql.specs.Reading.{IsInside};
+ghost use Rattle.td_store_rows.specs.StoreReads.{ReadsNewest};
 ghost use Rattle.td_store_rows.specs.LineTable.{line_row_of as row_of_line};
 ghost use Rattle.td_store_rows.specs.MovementTable.{movement_row_of};
 ghost use Rattle.td_store_load.specs.Loaded.{IsOfContent, IsOfTables};
@@ -32,7 +32,7 @@ fn line_on<S: Alter>(
     ensures same_reference { tx.new.conn.ghost_name ≡ tx.old.conn.ghost_name }
     ensures line { HasCleanDisk (state S.Store tx.new.conn.now)
         → IfOk result (IsOfTables (λ t. line_from t (row_of_line row.now)) (state S.Store tx.old.conn.now)) }
-    ensures reads { Reads desk_schema (is_ok result) (state S.Store tx.old.conn.now) (state S.Store tx.new.conn.now) }
+    ensures reads { ReadsNewest (is_ok result) (state S.Store tx.old.conn.now) (state S.Store tx.new.conn.now) }
 {
     let found = find_by_serial(alloc, tx, row.holder, row.guarantee)?;
     let Some(stored) = &found else {
@@ -55,7 +55,7 @@ fn lines_on<S: Alter>(
     ensures lines { HasCleanDisk (state S.Store tx.new.conn.now)
         → IfOk result (λ lines. IsOfTables (λ t. map (λ l. line_from t (row_of_line l)) rows.now)
         (state S.Store tx.old.conn.now) lines.items) }
-    ensures reads { Reads desk_schema (is_ok result) (state S.Store tx.old.conn.now) (state S.Store tx.new.conn.now) }
+    ensures reads { ReadsNewest (is_ok result) (state S.Store tx.old.conn.now) (state S.Store tx.new.conn.now) }
 {
     let mut lines = Vec::with_capacity(alloc, rows.len())?;
     'rows: for row in rows {
@@ -75,7 +75,7 @@ pub fn movement_with_lines<S: Alter>(
     ensures same_reference { tx.new.conn.ghost_name ≡ tx.old.conn.ghost_name }
     ensures whole { HasCleanDisk (state S.Store tx.new.conn.now)
         → IfOk result (IsOfTables (λ t. with_lines t (movement_row_of stored)) (state S.Store tx.old.conn.now)) }
-    ensures reads { Reads desk_schema (is_ok result) (state S.Store tx.old.conn.now) (state S.Store tx.new.conn.now) }
+    ensures reads { ReadsNewest (is_ok result) (state S.Store tx.old.conn.now) (state S.Store tx.new.conn.now) }
 {
     let rows = lines_of(alloc, tx, stored.holder, stored.serial)?;
     let lines = lines_on(alloc, tx, &rows)?;
@@ -97,7 +97,7 @@ pub fn load_movement_by_mrn<S: Alter>(
     ensures found { HasCleanDisk (state S.Store tx.new.conn.now)
         → IfOk result (IsOfContent country (λ c. movement_by_mrn mrn.now (account_in holder c).movements)
         (state S.Store tx.old.conn.now)) }
-    ensures reads { Reads desk_schema (is_ok result) (state S.Store tx.old.conn.now) (state S.Store tx.new.conn.now) }
+    ensures reads { ReadsNewest (is_ok result) (state S.Store tx.old.conn.now) (state S.Store tx.new.conn.now) }
 {
     let serial = mrn.serial(country).unwrap_or(0);
     let Some(stored) = find_by_mrn(alloc, tx, holder, serial, mrn)? else {
@@ -118,7 +118,7 @@ pub fn load_movement_by_lrn<S: Alter>(
     ensures found { HasCleanDisk (state S.Store tx.new.conn.now)
         → IfOk result (λ found. (c : Content) → HoldsContent c (state S.Store tx.old.conn.now)
         → found ≡ movement_by_lrn lrn.now (account_in holder c).movements) }
-    ensures reads { Reads desk_schema (is_ok result) (state S.Store tx.old.conn.now) (state S.Store tx.new.conn.now) }
+    ensures reads { ReadsNewest (is_ok result) (state S.Store tx.old.conn.now) (state S.Store tx.new.conn.now) }
 {
     let Some(stored) = find_by_lrn(alloc, tx, holder, lrn)? else {
         return Ok(None);
@@ -137,7 +137,7 @@ pub fn load_all_movements<S: Alter>(
     ensures found { HasCleanDisk (state S.Store tx.new.conn.now)
         → IfOk result (λ found. (c : Content) → HoldsContent c (state S.Store tx.old.conn.now)
         → found.items ≡ (account_in holder c).movements) }
-    ensures reads { Reads desk_schema (is_ok result) (state S.Store tx.old.conn.now) (state S.Store tx.new.conn.now) }
+    ensures reads { ReadsNewest (is_ok result) (state S.Store tx.old.conn.now) (state S.Store tx.new.conn.now) }
 {
     let rows = movements_of(alloc, tx, holder)?;
     all_with_lines(alloc, tx, &rows)
@@ -154,7 +154,7 @@ fn all_with_lines<S: Alter>(
     ensures whole { HasCleanDisk (state S.Store tx.new.conn.now)
         → IfOk result (λ found. IsOfTables (λ t. map (λ m. with_lines t (movement_row_of m)) rows.now)
         (state S.Store tx.old.conn.now) found.items) }
-    ensures reads { Reads desk_schema (is_ok result) (state S.Store tx.old.conn.now) (state S.Store tx.new.conn.now) }
+    ensures reads { ReadsNewest (is_ok result) (state S.Store tx.old.conn.now) (state S.Store tx.new.conn.now) }
 {
     let mut movements = Vec::with_capacity(alloc, rows.len())?;
     'rows: for row in rows {

@@ -8,10 +8,10 @@ ghost use Rattle.td_commands.specs.Commands.{need_said, lodging, movement, relea
 ghost use Rattle.td_acts.specs.Deciding.{IsLoaded};
 ghost use Rattle.td_desk.specs.Content.{Content};
 ghost use Rattle.td_desk.specs.Weighing.{kept_for};
+ghost use Rattle.td_store_rows.specs.StoreReads.{ReadsNewest};
 ghost use Rattle.td_store_rows.specs.StoreTables.{HoldsContent};
 ghost use Rattle.td_store_load.specs.Needed.{IsLoadedFor};
-ghost use Rattle.typed_sql.specs.Reading.{IsInside, Reads};
-ghost use Rattle.td_schema.specs.Tables.{desk_schema};
+ghost use Rattle.typed_sql.specs.Reading.{IsInside};
 
 use crate::entries::{load_all_entries, load_entries_of, load_entry};
 use crate::guarantees::load_guarantees_of;
@@ -37,7 +37,7 @@ pub fn load<S: Alter>(
     ensures loaded { HasCleanDisk (state S.Store tx.new.conn.now)
         → IfOk result (λ loaded. (c : Content) → HoldsContent c (state S.Store tx.old.conn.now) → c.country ≡ country
         → IsLoaded (kept_for owner c) (need_said needs.now) loaded) }
-    ensures reads { Reads desk_schema (is_ok result) (state S.Store tx.old.conn.now) (state S.Store tx.new.conn.now) }
+    ensures reads { ReadsNewest (is_ok result) (state S.Store tx.old.conn.now) (state S.Store tx.new.conn.now) }
 {
     let Some(holder) = owner else {
         return Ok(Loaded::nothing(alloc, country));
@@ -60,7 +60,7 @@ fn load_for<S: Alter>(
     ensures same_reference { tx.new.conn.ghost_name ≡ tx.old.conn.ghost_name }
     ensures loaded { HasCleanDisk (state S.Store tx.new.conn.now)
         → IfOk result (IsLoadedFor country row (need_said needs.now) (state S.Store tx.old.conn.now)) }
-    ensures reads { Reads desk_schema (is_ok result) (state S.Store tx.old.conn.now) (state S.Store tx.new.conn.now) }
+    ensures reads { ReadsNewest (is_ok result) (state S.Store tx.old.conn.now) (state S.Store tx.new.conn.now) }
 {
     match needs {
         Needs::Nothing => Ok(row_alone(alloc, country, row)),
@@ -112,7 +112,7 @@ fn load_lodging<S: Alter>(
     ensures same_reference { tx.new.conn.ghost_name ≡ tx.old.conn.ghost_name }
     ensures loaded { HasCleanDisk (state S.Store tx.new.conn.now)
         → IfOk result (IsLoadedFor country row (lodging lrn.now lines.now) (state S.Store tx.old.conn.now)) }
-    ensures reads { Reads desk_schema (is_ok result) (state S.Store tx.old.conn.now) (state S.Store tx.new.conn.now) }
+    ensures reads { ReadsNewest (is_ok result) (state S.Store tx.old.conn.now) (state S.Store tx.new.conn.now) }
 {
     let found = load_movement_by_lrn(alloc, tx, row.holder, lrn)?;
     let movements = in_list(alloc, found)?;
@@ -137,7 +137,7 @@ fn load_movement<S: Alter>(
     ensures same_reference { tx.new.conn.ghost_name ≡ tx.old.conn.ghost_name }
     ensures loaded { HasCleanDisk (state S.Store tx.new.conn.now)
         → IfOk result (IsLoadedFor country row (movement mrn.now) (state S.Store tx.old.conn.now)) }
-    ensures reads { Reads desk_schema (is_ok result) (state S.Store tx.old.conn.now) (state S.Store tx.new.conn.now) }
+    ensures reads { ReadsNewest (is_ok result) (state S.Store tx.old.conn.now) (state S.Store tx.new.conn.now) }
 {
     let found = load_movement_by_mrn(alloc, tx, country, row.holder, mrn)?;
     let mut loaded = row_alone(alloc, country, row);
@@ -157,7 +157,7 @@ fn load_release<S: Alter>(
     ensures same_reference { tx.new.conn.ghost_name ≡ tx.old.conn.ghost_name }
     ensures loaded { HasCleanDisk (state S.Store tx.new.conn.now)
         → IfOk result (IsLoadedFor country row (release mrn.now) (state S.Store tx.old.conn.now)) }
-    ensures reads { Reads desk_schema (is_ok result) (state S.Store tx.old.conn.now) (state S.Store tx.new.conn.now) }
+    ensures reads { ReadsNewest (is_ok result) (state S.Store tx.old.conn.now) (state S.Store tx.new.conn.now) }
 {
     let Some(found) = load_movement_by_mrn(alloc, tx, country, row.holder, mrn)? else {
         return Ok(row_alone(alloc, country, row));
@@ -183,7 +183,7 @@ fn load_movements<S: Alter>(
     ensures same_reference { tx.new.conn.ghost_name ≡ tx.old.conn.ghost_name }
     ensures loaded { HasCleanDisk (state S.Store tx.new.conn.now)
         → IfOk result (IsLoadedFor country row all_movements (state S.Store tx.old.conn.now)) }
-    ensures reads { Reads desk_schema (is_ok result) (state S.Store tx.old.conn.now) (state S.Store tx.new.conn.now) }
+    ensures reads { ReadsNewest (is_ok result) (state S.Store tx.old.conn.now) (state S.Store tx.new.conn.now) }
 {
     let movements = load_all_movements(alloc, tx, row.holder)?;
     let mut loaded = row_alone(alloc, country, row);
@@ -203,7 +203,7 @@ fn load_guarantee<S: Alter>(
     ensures same_reference { tx.new.conn.ghost_name ≡ tx.old.conn.ghost_name }
     ensures loaded { HasCleanDisk (state S.Store tx.new.conn.now)
         → IfOk result (IsLoadedFor country row (guarantee grn.now) (state S.Store tx.old.conn.now)) }
-    ensures reads { Reads desk_schema (is_ok result) (state S.Store tx.old.conn.now) (state S.Store tx.new.conn.now) }
+    ensures reads { ReadsNewest (is_ok result) (state S.Store tx.old.conn.now) (state S.Store tx.new.conn.now) }
 {
     let found = load_entry(alloc, tx, country, row.holder, grn)?;
     let mut loaded = row_alone(alloc, country, row);
@@ -222,7 +222,7 @@ fn load_guarantees<S: Alter>(
     ensures same_reference { tx.new.conn.ghost_name ≡ tx.old.conn.ghost_name }
     ensures loaded { HasCleanDisk (state S.Store tx.new.conn.now)
         → IfOk result (IsLoadedFor country row all_guarantees (state S.Store tx.old.conn.now)) }
-    ensures reads { Reads desk_schema (is_ok result) (state S.Store tx.old.conn.now) (state S.Store tx.new.conn.now) }
+    ensures reads { ReadsNewest (is_ok result) (state S.Store tx.old.conn.now) (state S.Store tx.new.conn.now) }
 {
     let guarantees = load_all_entries(alloc, tx, row.holder)?;
     let mut loaded = row_alone(alloc, country, row);

@@ -16,9 +16,11 @@ RespectsRows f = (t u : Tables) → HaveSameRows t u → HaveSameRows (f t) (f u
 
 pub same_rows : (t : Tables) → HaveSameRows t t
 same_rows t = record {
+  version = refl;
   country = refl;
   holders = IsPermutation-refl t.holders;
   guarantees = IsPermutation-refl t.guarantees;
+  kept = λ keep. IsPermutation-refl t.kept;
   codes = IsPermutation-refl t.codes;
   movements = IsPermutation-refl t.movements;
   lines = IsPermutation-refl t.lines;
@@ -26,9 +28,11 @@ same_rows t = record {
 
 pub same_then : (t u v : Tables) → HaveSameRows t u → HaveSameRows u v → HaveSameRows t v
 same_then t u v a b = record {
+  version = b.version ∙ a.version;
   country = b.country ∙ a.country;
   holders = IsPermutation-trans _ _ _ a.holders b.holders;
   guarantees = IsPermutation-trans _ _ _ a.guarantees b.guarantees;
+  kept = λ keep. IsPermutation-trans _ _ _ (a.kept keep) (b.kept (rw a.version keep));
   codes = IsPermutation-trans _ _ _ a.codes b.codes;
   movements = IsPermutation-trans _ _ _ a.movements b.movements;
   lines = IsPermutation-trans _ _ _ a.lines b.lines;
@@ -36,15 +40,15 @@ same_then t u v a b = record {
 
 -- nothing was done
 pub turned_nothing : (f : Tables → Tables) → ((t : Tables) → HaveSameRows (f t) t) → (a : State) → TurnsTables f a a
-turned_nothing f same a has typed =
-    record { same = same (tables_in a.now.trees); office = refl; typed = typed; listed = λ was. was; schema = has }
+turned_nothing f same a l newest has typed =
+    record { same = same (tables_in l a.now.trees); office = refl; typed = typed; listed = λ was. was; schema = has }
 
 -- two statements
 pub turned_then : (f g : Tables → Tables) → RespectsRows g → (a b d : State) → TurnsTables f a b → TurnsTables g b d
     → TurnsTables (λ t. g (f t)) a d
-turned_then f g respects a b d first second has typed =
-    let one = first has typed in
-    let two = second one.schema one.typed in
+turned_then f g respects a b d first second l newest has typed =
+    let one = first l newest has typed in
+    let two = second l newest one.schema one.typed in
     record {
       same = same_then _ _ _ (respects _ _ one.same) two.same;
       office = two.office ∙ one.office;
@@ -56,8 +60,8 @@ turned_then f g respects a b d first second has typed =
 -- the tables that they leave, said otherwise
 pub turned_as : (f g : Tables → Tables) (old new : State) → ((t : Tables) → HaveSameRows (g t) (f t))
     → TurnsTables f old new → TurnsTables g old new
-turned_as f g old new same turns has typed =
-    let one = turns has typed in
+turned_as f g old new same turns l newest has typed =
+    let one = turns l newest has typed in
     record {
       same = same_then _ _ _ (same _) one.same;
       office = one.office;
@@ -87,9 +91,11 @@ filter_respects p xs ys same = IsPermutation-filter p xs ys same
 pub guarantees_same : (t u : Tables) (xs ys : List (Keyed Guarantee)) → HaveSameRows t u → IsPermutation xs ys
     → HaveSameRows (record t { guarantees = xs }) (record u { guarantees = ys })
 guarantees_same t u xs ys same rows = record {
+  version = same.version;
   country = same.country;
   holders = same.holders;
   guarantees = rows;
+  kept = same.kept;
   codes = same.codes;
   movements = same.movements;
   lines = same.lines;
@@ -101,9 +107,11 @@ guarantees_respect f respects t u same = guarantees_same t u _ _ same (respects 
 pub codes_same : (t u : Tables) (xs ys : List (Keyed (List ℕ))) → HaveSameRows t u → IsPermutation xs ys
     → HaveSameRows (record t { codes = xs }) (record u { codes = ys })
 codes_same t u xs ys same rows = record {
+  version = same.version;
   country = same.country;
   holders = same.holders;
   guarantees = same.guarantees;
+  kept = same.kept;
   codes = rows;
   movements = same.movements;
   lines = same.lines;
@@ -115,9 +123,11 @@ codes_respect f respects t u same = codes_same t u _ _ same (respects t.codes u.
 pub movements_same : (t u : Tables) (xs ys : List (Keyed Movement)) → HaveSameRows t u → IsPermutation xs ys
     → HaveSameRows (record t { movements = xs }) (record u { movements = ys })
 movements_same t u xs ys same rows = record {
+  version = same.version;
   country = same.country;
   holders = same.holders;
   guarantees = same.guarantees;
+  kept = same.kept;
   codes = same.codes;
   movements = rows;
   lines = same.lines;
@@ -129,9 +139,11 @@ movements_respect f respects t u same = movements_same t u _ _ same (respects t.
 pub lines_same : (t u : Tables) (xs ys : List (Keyed LineCells)) → HaveSameRows t u → IsPermutation xs ys
     → HaveSameRows (record t { lines = xs }) (record u { lines = ys })
 lines_same t u xs ys same rows = record {
+  version = same.version;
   country = same.country;
   holders = same.holders;
   guarantees = same.guarantees;
+  kept = same.kept;
   codes = same.codes;
   movements = same.movements;
   lines = rows;

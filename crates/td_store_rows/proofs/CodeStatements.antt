@@ -28,7 +28,8 @@ use Rattle.sqlite_rules.specs.Cast.{cast_all}
 use Rattle.sqlite_sql.specs.Term.{eval_all}
 use Rattle.sqlite_value.specs.Order.{Row, column}
 use Rattle.td_store_rows.specs.Columns.{code_cells, code_from, code_typing, stored_table}
-use Rattle.td_schema.specs.Tables.{desk_schema}
+use Rattle.td_schema.specs.Layouts.{schema_of}
+use Rattle.td_schema.specs.declared.layout.Layout.{Layout}
 use Rattle.typed_sql.specs.Values.{number_value}
 use Rattle.td_table_model.specs.Tables.{Keyed}
 
@@ -41,12 +42,12 @@ cells_stored l = then_value (cast_int (pos l.holder)) (then_value (cast_int (pos
 pub inserted : (l : Keyed (List ℕ)) (values : Row) → values ≡ code_cells l → (old new : State)
     → Inserts INSERT.now values old new
     → TurnsCodes (λ rows. l ∷ rows) old new
-inserted l values is old new h has typed =
+inserted l values is old new h layout has typed =
     let did : Inserts INSERT.now (code_cells l) old new = subst (λ v. Inserts INSERT.now v old new) is h in
-    let done = did desk_schema stored_table new_row has insert_means in
-    inserted_typed code_typing desk_schema (eval_all new_row (code_cells l ∷ [])) (code_cells l) l old.now new.now
+    let done = did (schema_of layout) stored_table new_row has (insert_means layout) in
+    inserted_typed code_typing (schema_of layout) (eval_all new_row (code_cells l ∷ [])) (code_cells l) l old.now new.now
     (λ id. refl) (back l)
-    (subst (λ c. IsInserted desk_schema stored_table (eval_all new_row (code_cells l ∷ [])) c old.now new.now)
+    (subst (λ c. IsInserted (schema_of layout) stored_table (eval_all new_row (code_cells l ∷ [])) c old.now new.now)
     (cells_stored l) done) typed
 
 code_passes : (c : Keyed (List ℕ)) (r : Row) → IsTypedRow code_typing r
@@ -59,10 +60,10 @@ code_passes c r is =
 pub deleted : (c : Keyed (List ℕ)) (values : Row) → values ≡ code_cells c → (old new : State)
     → Deletes DELETE.now values old new
     → TurnsCodes (filter (λ r. not (is_code_of c.holder c.serial c.row r))) old new
-deleted c values is old new h has typed =
+deleted c values is old new h layout has typed =
     let did : Deletes DELETE.now (code_cells c) old new = subst (λ v. Deletes DELETE.now v old new) is h in
-    let done = did desk_schema stored_table code_tests has delete_means typed.ids in
-    deleted_typed code_typing desk_schema (passes (code_cells c) code_tests)
+    let done = did (schema_of layout) stored_table code_tests has (delete_means layout) typed.ids in
+    deleted_typed code_typing (schema_of layout) (passes (code_cells c) code_tests)
     (is_code_of c.holder c.serial c.row) old.now
     new.now (code_passes c) done typed
 
@@ -91,17 +92,17 @@ compared H n =
 
 -- so those that were fetched are they in ascending order
 pub by_codes : (H n : ℕ) (old : State) (found : List StoredCode) → AreCodes (is_code_of_guarantee H n) old found
-    → AreInOrder code_typing desk_schema code_cmp old (map code_row_of found)
+    → ((l : Layout) → AreInOrder code_typing (schema_of l) code_cmp old (map code_row_of found))
     → AreByCode H n old found
-by_codes H n old found those sorted has typed form apart =
+by_codes H n old found those sorted layout has typed form apart =
     let rows : List (Keyed (List ℕ)) = map code_row_of found in
     let same : IsPermutation (code_rows_in H n old.now.trees) rows =
     subst (λ l. IsPermutation l rows)
-    (filter_both (λ c. place c == n) (λ c. c.holder == H) (typed_rows code_typing old.now.trees)) (those has typed) in
+    (filter_both (λ c. place c == n) (λ c. c.holder == H) (typed_rows code_typing old.now.trees)) (those layout has typed) in
     let ranked : IsSorted (λ a b. nat_cmp (code_rank a) (code_rank b)) rows =
     sorted_alike (λ (c : Keyed (List ℕ)). IsAccessCode c.row) code_cmp (λ a b. nat_cmp (code_rank a) (code_rank b))
     (λ a b is other. ranks_compare a.row b.row is other) rows
     (all-permutation (λ (c : Keyed (List ℕ)). IsAccessCode c.row) (code_rows_in H n old.now.trees) rows same form)
-    (sorted has typed) in
+    (sorted layout has typed) in
     sorted_is_order code_rank rows (code_rows_in H n old.now.trees) same ranked
     (ranks_apart (code_rows_in H n old.now.trees) form apart)

@@ -6,7 +6,8 @@ use Rattle.sqlite_sql.specs.Ops.{binary}
 use Rattle.sqlite_sql.specs.declared.ops.BinaryOp.TheVariants.{Coalesce}
 use Rattle.sqlite_typed.proofs.TestLemmas.{then_value}
 use Rattle.td_guarantee.specs.declared.guarantee.Guarantee.{Guarantee}
-use Rattle.td_store_rows.specs.Columns.{guarantee_cells, guarantee_from, guarantees_table}
+use Rattle.td_schema.specs.Tables.{guarantees}
+use Rattle.td_store_rows.specs.Columns.{guarantee_cells, guarantee_from}
 use Rattle.typed_sql.proofs.Columns.{cast_number_if, number_back}
 use Rattle.typed_sql.proofs.Effects.{cast_int}
 use Rattle.typed_sql.specs.Values.{number_or_null, number_value}
@@ -20,7 +21,7 @@ pub back : (g : Keyed Guarantee) → guarantee_from (guarantee_cells g) ≡ bare
 back g = rw (number_back g.row.ends) refl
 
 pub cells_stored : (g : Keyed Guarantee)
-    → cast_all guarantees_table.columns (guarantee_cells g) ≡ guarantee_cells g
+    → cast_all guarantees.columns (guarantee_cells g) ≡ guarantee_cells g
 cells_stored g =
     then_value (cast_int (pos g.holder))
     (then_value (cast_int (pos g.serial)) (then_value refl (then_value (cast_int (pos g.row.reference))

@@ -1,4 +1,4 @@
--- What the statements on the table of guarantees mean, where the tables are those of a store.
+-- What the statements on the table of guarantees mean, in a store's file of each layout of the newest version.
 use Rattle.std.proofs.Common.{refl}
 use Rattle.std.specs.Prelude.{ℕ, List, [], ◌∷◌, codes}
 use Rattle.sqlite_tied.specs.Compute.{everything}
@@ -11,13 +11,17 @@ use Rattle.sqlite_sql.specs.Term.{Term, lit, col, op2}
 use Rattle.sqlite_sql.specs.declared.ops.BinaryOp.TheVariants.{Compare, Coalesce}
 use Rattle.sqlite_sql.specs.declared.ops.CompareOp.TheVariants.{Eq}
 use Rattle.td_schema.proofs.Acting.{none_acts}
-use Rattle.td_schema.specs.Tables.{desk_schema}
+use Rattle.td_schema.specs.Layouts.{IsNewest, guarantees_place, guarantees_tree, schema_of}
+use Rattle.td_schema.specs.declared.layout.Layout.{Layout}
+use Rattle.td_schema.specs.declared.layout.Layout.TheVariants.{Made1, Made2, Grown2}
 use Rattle.typed_sql.specs.Meanings.{HasTable, MeansInsert, MeansUpdate, MeansSelect}
 use Rattle.td_store_rows.specs.Columns.{guarantees_table}
 use Rattle.td_store_rows.specs.declared.guarantees.texts.TheConstants.{INSERT, SET_TERMS, BY_GRN, BY_SERIAL, OF_HOLDER}
 
-guarantees_there : HasTable desk_schema 4 guarantees_table
-guarantees_there = record { there = refl; free = none_acts 8 }
+guarantees_there : (l : Layout) → HasTable (schema_of l) (guarantees_place l) (guarantees_table l)
+guarantees_there Made1 = record { there = refl; free = none_acts Made1 (guarantees_tree Made1) }
+guarantees_there Made2 = record { there = refl; free = none_acts Made2 (guarantees_tree Made2) }
+guarantees_there Grown2 = record { there = refl; free = none_acts Grown2 (guarantees_tree Grown2) }
 
 -- a column is the value that was given at a place
 abbrev pub equals : ℕ → ℕ → Term
@@ -51,31 +55,32 @@ abbrev names : List (List ℕ)
 names =
     codes "holder" ∷ codes "serial" ∷ codes "grn" ∷ codes "reference" ∷ codes "cover" ∷ codes "ends" ∷ []
 
-pub insert_means : MeansInsert desk_schema INSERT.now guarantees_table new_row
+pub insert_means : (l : Layout) → IsNewest l → MeansInsert (schema_of l) INSERT.now (guarantees_table l) new_row
 unfolding understood everything
-insert_means =
-    record {
-      place = 4;
-      width = 7;
-      table = guarantees_there;
-      command = refl;
-      plain = (refl, refl);
-      one =
-          λ values. refl;
-    }
+insert_means Made1 newest = record { place = 4; width = 7; table = guarantees_there Made1; command = refl; plain = (refl, refl); one = λ values. refl }
+insert_means Made2 newest = absurd cc
+insert_means Grown2 newest = absurd cc
 
-pub set_means : MeansUpdate desk_schema SET_TERMS.now guarantees_table grn_tests set_columns
+pub set_means : (l : Layout) → IsNewest l → MeansUpdate (schema_of l) SET_TERMS.now (guarantees_table l) grn_tests set_columns
 unfolding understood everything
-set_means = record { place = 4; table = guarantees_there; command = refl; plain = (refl, refl) }
+set_means Made1 newest = record { place = 4; table = guarantees_there Made1; command = refl; plain = (refl, refl) }
+set_means Made2 newest = absurd cc
+set_means Grown2 newest = absurd cc
 
-pub by_grn_means : MeansSelect desk_schema BY_GRN.now 8 grn_tests all_columns []
+pub by_grn_means : (l : Layout) → IsNewest l → MeansSelect (schema_of l) BY_GRN.now (guarantees_tree l) grn_tests all_columns []
 unfolding understood everything
-by_grn_means = record { names = names; command = refl; plain = (refl, refl); unlisted = refl }
+by_grn_means Made1 newest = record { names = names; command = refl; plain = (refl, refl); unlisted = refl }
+by_grn_means Made2 newest = absurd cc
+by_grn_means Grown2 newest = absurd cc
 
-pub by_serial_means : MeansSelect desk_schema BY_SERIAL.now 8 serial_tests all_columns []
+pub by_serial_means : (l : Layout) → IsNewest l → MeansSelect (schema_of l) BY_SERIAL.now (guarantees_tree l) serial_tests all_columns []
 unfolding understood everything
-by_serial_means = record { names = names; command = refl; plain = (refl, refl); unlisted = refl }
+by_serial_means Made1 newest = record { names = names; command = refl; plain = (refl, refl); unlisted = refl }
+by_serial_means Made2 newest = absurd cc
+by_serial_means Grown2 newest = absurd cc
 
-pub of_holder_means : MeansSelect desk_schema OF_HOLDER.now 8 holder_tests all_columns by_serial
+pub of_holder_means : (l : Layout) → IsNewest l → MeansSelect (schema_of l) OF_HOLDER.now (guarantees_tree l) holder_tests all_columns by_serial
 unfolding understood everything
-of_holder_means = record { names = names; command = refl; plain = (refl, refl); unlisted = refl }
+of_holder_means Made1 newest = record { names = names; command = refl; plain = (refl, refl); unlisted = refl }
+of_holder_means Made2 newest = absurd cc
+of_holder_means Grown2 newest = absurd cc

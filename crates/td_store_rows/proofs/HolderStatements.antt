@@ -9,7 +9,7 @@ use Rattle.sqlite_sql.specs.Term.{eval_all}
 use Rattle.sqlite.specs.State.{State}
 use Rattle.td_model.specs.declared.holder_row.HolderRow.{HolderRow}
 use Rattle.td_table_model.specs.Changes.{with_row}
-use Rattle.td_schema.specs.Tables.{desk_schema}
+use Rattle.td_schema.specs.Layouts.{schema_of}
 use Rattle.typed_sql.specs.Typed.{HasNow, IsTypedRow, row_of, typed_rows}
 use Rattle.typed_sql.specs.Values.{number_value}
 use Rattle.typed_sql.specs.Writing.{Inserts, Updates, columns_put, columns_set, passes}
@@ -30,10 +30,10 @@ put_columns row =
     ap₂ ◌∷◌ cast_null (ap (λ l. Text row.eori ∷ l) (ap₂ ◌∷◌ (cast_int (pos row.last_at)) (ap₂ ◌∷◌ (cast_int (pos row.grn_count)) (ap₂ ◌∷◌ (cast_int (pos row.mrn_count)) refl))))
 
 pub inserted : (row : HolderRow) (old new : State) → Inserts INSERT.now (holder_cells row) old new → TurnsHolders (λ rows. row ∷ rows) old new
-inserted row old new did has typed =
-    let h = did desk_schema holders_table new_row has insert_means in
+inserted row old new did layout has typed =
+    let h = did (schema_of layout) holders_table new_row has (insert_means layout) in
     let id : h.id ≡ pos row.holder = h.given (pos row.holder) refl in
-    inserted_typed_under holder_typing desk_schema (eval_all new_row (holder_cells row ∷ [])) (columns_put holders_table new_row (holder_cells row)) row old.now new.now h
+    inserted_typed_under holder_typing (schema_of layout) (eval_all new_row (holder_cells row ∷ [])) (columns_put holders_table new_row (holder_cells row)) row old.now new.now h
     (ap (λ l. holder_columns (Int h.id ∷ l)) (put_columns row) ∙ ap (λ n. holder_columns (Int n ∷ stored row)) id) refl typed
 
 -- the row under the number that it has
@@ -59,10 +59,10 @@ set_is row x = by_test (x.holder == row.holder) refl
     by_test false other = refl
 
 pub set_anew : (row : HolderRow) (old new : State) → Updates SET.now (holder_cells row) old new → TurnsHolders (map (with_row row)) old new
-set_anew row old new did has typed =
-    subst (λ rows. HasNow holder_typing desk_schema rows old.now new.now) (λ i. map (λ x. set_is row x i) (typed_rows holder_typing old.now.trees))
-    (updated_typed holder_typing desk_schema (passes (holder_cells row) number_tests) (columns_set holders_table set_columns (holder_cells row)) (λ h. h.holder == row.holder) (anew row) old.now new.now
+set_anew row old new did layout has typed =
+    subst (λ rows. HasNow holder_typing (schema_of layout) rows old.now new.now) (λ i. map (λ x. set_is row x i) (typed_rows holder_typing old.now.trees))
+    (updated_typed holder_typing (schema_of layout) (passes (holder_cells row) number_tests) (columns_set holders_table set_columns (holder_cells row)) (λ h. h.holder == row.holder) (anew row) old.now new.now
     (λ r is. passes_number row.holder (Text row.eori ∷ number_value row.last_at ∷ number_value row.grn_count ∷ number_value row.mrn_count ∷ []) r is)
     (λ r is. ap (λ l. holder_columns (rowid r ∷ l)) (put_columns row) ∙ ap (λ v. v ∷ Text row.eori ∷ number_value row.last_at ∷ number_value row.grn_count ∷ number_value row.mrn_count ∷ []) (ap (λ l. column l 0) is))
     (λ r. refl)
-    (did desk_schema holders_table number_tests set_columns has set_means typed.ids) typed)
+    (did (schema_of layout) holders_table number_tests set_columns has (set_means layout) typed.ids) typed)

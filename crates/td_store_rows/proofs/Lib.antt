@@ -1,4 +1,6 @@
-mod MetaMeanings
+pub mod Each
+pub mod StoreReads
+pub mod MetaMeanings
 mod MetaStatements
 mod HolderMeanings
 mod HolderStatements
@@ -13,6 +15,7 @@ pub mod MovementStatements
 pub mod MovementSerials
 mod LineMeanings
 mod LineStatements
+pub mod WithoutAmounts
 pub mod Turned
 pub mod Chained
 pub mod Holding

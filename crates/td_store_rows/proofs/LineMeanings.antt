@@ -1,6 +1,6 @@
--- What the statements on the table of lines mean, where the tables are those of a store.
+-- What the statements on the table of lines mean, in a store's file of each layout.
 use Rattle.std.proofs.Common.{refl}
-use Rattle.std.specs.Prelude.{List, [], ◌∷◌, codes}
+use Rattle.std.specs.Prelude.{ℕ, List, [], ◌∷◌, codes}
 use Rattle.sqlite_tied.specs.Compute.{everything}
 use Rattle.sqlite.specs.Listing.{understood}
 use Rattle.sqlite_value.specs.declared.keys.Collation.TheVariants.{Binary}
@@ -11,13 +11,17 @@ use Rattle.sqlite_sql.specs.Term.{Term, lit, col, op2}
 use Rattle.sqlite_sql.specs.declared.ops.BinaryOp.TheVariants.{Compare}
 use Rattle.sqlite_sql.specs.declared.ops.CompareOp.TheVariants.{Eq}
 use Rattle.td_schema.proofs.Acting.{none_acts}
-use Rattle.td_schema.specs.Tables.{desk_schema}
+use Rattle.td_schema.specs.Layouts.{schema_of}
+use Rattle.td_schema.specs.declared.layout.Layout.{Layout}
+use Rattle.td_schema.specs.declared.layout.Layout.TheVariants.{Made1, Made2, Grown2}
 use Rattle.typed_sql.specs.Meanings.{HasTable, MeansInsert, MeansSelect}
 use Rattle.td_store_rows.specs.Columns.{lines_table}
 use Rattle.td_store_rows.specs.declared.lines.texts.TheConstants.{INSERT, OF_MOVEMENT, ON_GUARANTEE}
 
-lines_there : HasTable desk_schema 5 lines_table
-lines_there = record { there = refl; free = none_acts 11 }
+lines_there : (l : Layout) → HasTable (schema_of l) 5 lines_table
+lines_there Made1 = record { there = refl; free = none_acts Made1 11 }
+lines_there Made2 = record { there = refl; free = none_acts Made2 11 }
+lines_there Grown2 = record { there = refl; free = none_acts Grown2 11 }
 
 -- the holder and the serial are those that were given
 abbrev pub key_tests : List Term
@@ -37,33 +41,23 @@ all_columns = col 1 1 ∷ col 1 2 ∷ col 1 3 ∷ col 1 4 ∷ col 1 5 ∷ []
 abbrev pub by_number : List (Term × Key)
 by_number = (col 1 1, ascending Binary) ∷ (col 1 2, ascending Binary) ∷ (col 1 3, ascending Binary) ∷ []
 
-pub insert_means : MeansInsert desk_schema INSERT.now lines_table new_row
-unfolding understood everything
-insert_means =
-    record {
-      place = 5;
-      width = 6;
-      table = lines_there;
-      command = refl;
-      plain = (refl, refl);
-      one =
-          λ values. refl;
-    }
+abbrev names : List (List ℕ)
+names = codes "holder" ∷ codes "serial" ∷ codes "no" ∷ codes "guarantee" ∷ codes "cents" ∷ []
 
-pub of_movement_means : MeansSelect desk_schema OF_MOVEMENT.now 11 key_tests all_columns by_number
+pub insert_means : (l : Layout) → MeansInsert (schema_of l) INSERT.now lines_table new_row
 unfolding understood everything
-of_movement_means = record {
-  names = codes "holder" ∷ codes "serial" ∷ codes "no" ∷ codes "guarantee" ∷ codes "cents" ∷ [];
-  command = refl;
-  plain = (refl, refl);
-  unlisted = refl;
-}
+insert_means Made1 = record { place = 5; width = 6; table = lines_there Made1; command = refl; plain = (refl, refl); one = λ values. refl }
+insert_means Made2 = record { place = 5; width = 6; table = lines_there Made2; command = refl; plain = (refl, refl); one = λ values. refl }
+insert_means Grown2 = record { place = 5; width = 6; table = lines_there Grown2; command = refl; plain = (refl, refl); one = λ values. refl }
 
-pub on_guarantee_means : MeansSelect desk_schema ON_GUARANTEE.now 11 guarantee_tests all_columns []
+pub of_movement_means : (l : Layout) → MeansSelect (schema_of l) OF_MOVEMENT.now 11 key_tests all_columns by_number
 unfolding understood everything
-on_guarantee_means = record {
-  names = codes "holder" ∷ codes "serial" ∷ codes "no" ∷ codes "guarantee" ∷ codes "cents" ∷ [];
-  command = refl;
-  plain = (refl, refl);
-  unlisted = refl;
-}
+of_movement_means Made1 = record { names = names; command = refl; plain = (refl, refl); unlisted = refl }
+of_movement_means Made2 = record { names = names; command = refl; plain = (refl, refl); unlisted = refl }
+of_movement_means Grown2 = record { names = names; command = refl; plain = (refl, refl); unlisted = refl }
+
+pub on_guarantee_means : (l : Layout) → MeansSelect (schema_of l) ON_GUARANTEE.now 11 guarantee_tests all_columns []
+unfolding understood everything
+on_guarantee_means Made1 = record { names = names; command = refl; plain = (refl, refl); unlisted = refl }
+on_guarantee_means Made2 = record { names = names; command = refl; plain = (refl, refl); unlisted = refl }
+on_guarantee_means Grown2 = record { names = names; command = refl; plain = (refl, refl); unlisted = refl }

@@ -13,7 +13,8 @@ use Rattle.td_store_rows.specs.declared.lines.stored.StoredLine.{StoredLine}
 use Rattle.td_store_rows.specs.Columns.{line_cells, line_from, line_typing, lines_table}
 use Rattle.td_store_rows.specs.LineTable.{AreByNumber, AreLines, TurnsLines, is_line_of, is_line_on, line_rows_in, line_row_of}
 use Rattle.td_store_rows.specs.declared.lines.texts.TheConstants.{INSERT}
-use Rattle.td_schema.specs.Tables.{desk_schema}
+use Rattle.td_schema.specs.Layouts.{schema_of}
+use Rattle.td_schema.specs.declared.layout.Layout.{Layout}
 use Rattle.typed_sql.proofs.Columns.{number_is}
 use Rattle.typed_sql.proofs.Ordered.{Passes, both_pass, by_third, numbers_compared}
 use Rattle.td_table_model.proofs.Counting.{filter_both}
@@ -37,12 +38,12 @@ cells_stored l =
 pub inserted : (l : Keyed LineCells) (values : Row) → values ≡ line_cells l → (old new : State)
     → Inserts INSERT.now values old new
     → TurnsLines (λ rows. l ∷ rows) old new
-inserted l values is old new h has typed =
+inserted l values is old new h layout has typed =
     let did : Inserts INSERT.now (line_cells l) old new = subst (λ v. Inserts INSERT.now v old new) is h in
-    let done = did desk_schema lines_table new_row has insert_means in
-    inserted_typed line_typing desk_schema (eval_all new_row (line_cells l ∷ [])) (line_cells l) l old.now new.now
+    let done = did (schema_of layout) lines_table new_row has (insert_means layout) in
+    inserted_typed line_typing (schema_of layout) (eval_all new_row (line_cells l ∷ [])) (line_cells l) l old.now new.now
     (λ id. refl) (back l)
-    (subst (λ c. IsInserted desk_schema lines_table (eval_all new_row (line_cells l ∷ [])) c old.now new.now)
+    (subst (λ c. IsInserted (schema_of layout) lines_table (eval_all new_row (line_cells l ∷ [])) c old.now new.now)
     (cells_stored l) done) typed
 
 -- a row passes where it is of the movement
@@ -73,10 +74,10 @@ compared H n =
 
 -- so those that were fetched are they by their numbers
 pub by_numbers : (H n : ℕ) (old : State) (found : List StoredLine) → AreLines (is_line_of H n) old found
-    → AreInOrder line_typing desk_schema (λ a b. nat_cmp (no_of a) (no_of b)) old (map line_row_of found)
+    → ((l : Layout) → AreInOrder line_typing (schema_of l) (λ a b. nat_cmp (no_of a) (no_of b)) old (map line_row_of found))
     → AreByNumber H n old found
-by_numbers H n old found those sorted has typed apart =
+by_numbers H n old found those sorted layout has typed apart =
     sorted_is_order no_of (map line_row_of found) (line_rows_in H n old.now.trees)
     (subst (λ l. IsPermutation l (map line_row_of found))
-    (filter_both (λ l. place l == n) (λ l. l.holder == H) (typed_rows line_typing old.now.trees)) (those has typed))
-    (sorted has typed) apart
+    (filter_both (λ l. place l == n) (λ l. l.holder == H) (typed_rows line_typing old.now.trees)) (those layout has typed))
+    (sorted layout has typed) apart

@@ -1,4 +1,4 @@
--- What the statements on the table `meta` mean, where the tables are those of a store, or begin with it.
+-- What the statements on the table `meta` mean, in a store's file of each layout, and where the tables begin with it.
 use Rattle.std.proofs.Common.{refl, subst, sym}
 use Rattle.std.specs.Prelude.{pos, List, [], ◌∷◌, codes}
 use Rattle.sqlite_tied.specs.Compute.{everything}
@@ -10,13 +10,17 @@ use Rattle.sqlite_schema.specs.declared.schema.View.{View}
 use Rattle.sqlite_value.specs.declared.value.Value.TheVariants.{Int, Null}
 use Rattle.sqlite_sql.specs.Term.{Term, lit, col}
 use Rattle.td_schema.proofs.Acting.{none_acts}
-use Rattle.td_schema.specs.Tables.{desk_schema}
+use Rattle.td_schema.specs.Layouts.{schema_of}
+use Rattle.td_schema.specs.declared.layout.Layout.{Layout}
+use Rattle.td_schema.specs.declared.layout.Layout.TheVariants.{Made1, Made2, Grown2}
 use Rattle.typed_sql.specs.Meanings.{HasTable, MeansInsert, MeansSelect}
 use Rattle.td_store_rows.specs.Columns.{MetaIsFirst, meta_table}
 use Rattle.td_store_rows.specs.declared.meta.texts.TheConstants.{INSERT, FIND}
 
-meta_there : HasTable desk_schema 0 meta_table
-meta_there = record { there = refl; free = none_acts 0 }
+meta_there : (l : Layout) → HasTable (schema_of l) 0 meta_table
+meta_there Made1 = record { there = refl; free = none_acts Made1 0 }
+meta_there Made2 = record { there = refl; free = none_acts Made2 0 }
+meta_there Grown2 = record { there = refl; free = none_acts Grown2 0 }
 
 -- the columns of a new row, under the rowid 1, and of one that is shown
 abbrev pub new_row : List Term
@@ -25,9 +29,11 @@ new_row = lit (Int (pos 1)) ∷ lit Null ∷ col 0 0 ∷ col 0 1 ∷ []
 abbrev pub all_columns : List Term
 all_columns = col 1 2 ∷ col 1 3 ∷ []
 
-pub insert_means : MeansInsert desk_schema INSERT.now meta_table new_row
+pub insert_means : (l : Layout) → MeansInsert (schema_of l) INSERT.now meta_table new_row
 unfolding understood everything
-insert_means = record { place = 0; width = 4; table = meta_there; command = refl; plain = (refl, refl); one = λ values. refl }
+insert_means Made1 = record { place = 0; width = 4; table = meta_there Made1; command = refl; plain = (refl, refl); one = λ values. refl }
+insert_means Made2 = record { place = 0; width = 4; table = meta_there Made2; command = refl; plain = (refl, refl); one = λ values. refl }
+insert_means Grown2 = record { place = 0; width = 4; table = meta_there Grown2; command = refl; plain = (refl, refl); one = λ values. refl }
 
 find_first : (others : List Table) (indexes : List Index) (views : List View)
     → MeansSelect (record { tables = meta_table ∷ others; indexes = indexes; views = views }) FIND.now 0 [] all_columns []
@@ -39,3 +45,9 @@ pub find_means : (s : Schema) → MetaIsFirst s → MeansSelect s FIND.now 0 [] 
 find_means s first =
     subst (λ tables. MeansSelect (record { tables = tables; indexes = s.indexes; views = s.views }) FIND.now 0 [] all_columns [])
     (sym first.1) (find_first first.0 s.indexes s.views)
+
+-- so it stands in each layout
+pub meta_first : (l : Layout) → MetaIsFirst (schema_of l)
+meta_first Made1 = (_, refl)
+meta_first Made2 = (_, refl)
+meta_first Grown2 = (_, refl)

@@ -8,7 +8,7 @@ use Rattle.sqlite_sql.specs.Term.{eval_all}
 use Rattle.sqlite_trees.proofs.ListLemmas.{all-permutation}
 use Rattle.sqlite_value.specs.Order.{Row}
 use Rattle.sqlite_value.specs.declared.value.Value.TheVariants.{Null, Text}
-use Rattle.td_schema.specs.Tables.{desk_schema}
+use Rattle.td_schema.specs.Layouts.{schema_of}
 use Rattle.typed_sql.proofs.Columns.{cast_null}
 use Rattle.typed_sql.proofs.Effects.{cast_int}
 use Rattle.typed_sql.proofs.TypedRows.{inserted_typed, selected_typed}
@@ -30,13 +30,13 @@ put_columns version country = then_value cast_null (then_value (cast_int (pos ve
 
 pub inserted : (version : ℕ) (country : List ℕ) (values : Row) → values ≡ meta_cells (meta_row version country)
     → (old new : State) → Inserts INSERT.now values old new → TurnsMeta (λ rows. meta_row version country ∷ rows) old new
-inserted version country values is old new h has typed =
+inserted version country values is old new h l has typed =
     let given : Row = meta_cells (meta_row version country) in
     let did : Inserts INSERT.now given old new = subst (λ v. Inserts INSERT.now v old new) is h in
-    inserted_typed meta_typing desk_schema (eval_all new_row (given ∷ [])) (columns_put meta_table new_row given)
+    inserted_typed meta_typing (schema_of l) (eval_all new_row (given ∷ [])) (columns_put meta_table new_row given)
     (meta_row version country) old.now new.now
     (λ id. ap meta_columns (ap (λ l. number_value 1 ∷ l) (put_columns version country))) refl
-    (did desk_schema meta_table new_row has insert_means) typed
+    (did (schema_of l) meta_table new_row has (insert_means l)) typed
 
 -- a list of one element at most has one order
 few_are_same : {X : Type 0} (xs : List X) (one : Option X) → IsPermutation xs (option_to_list one)

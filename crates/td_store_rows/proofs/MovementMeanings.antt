@@ -1,4 +1,4 @@
--- What the statements on the table of movements mean, where the tables are those of a store.
+-- What the statements on the table of movements mean, in a store's file of each layout.
 use Rattle.std.proofs.Common.{refl}
 use Rattle.std.specs.Prelude.{ℕ, List, [], ◌∷◌, codes}
 use Rattle.sqlite_tied.specs.Compute.{everything}
@@ -11,13 +11,17 @@ use Rattle.sqlite_sql.specs.Term.{Term, lit, col, op2}
 use Rattle.sqlite_sql.specs.declared.ops.BinaryOp.TheVariants.{Compare, Coalesce, Or}
 use Rattle.sqlite_sql.specs.declared.ops.CompareOp.TheVariants.{Eq}
 use Rattle.td_schema.proofs.Acting.{none_acts}
-use Rattle.td_schema.specs.Tables.{desk_schema}
+use Rattle.td_schema.specs.Layouts.{schema_of}
+use Rattle.td_schema.specs.declared.layout.Layout.{Layout}
+use Rattle.td_schema.specs.declared.layout.Layout.TheVariants.{Made1, Made2, Grown2}
 use Rattle.typed_sql.specs.Meanings.{HasTable, MeansInsert, MeansUpdate, MeansSelect}
 use Rattle.td_store_rows.specs.Columns.{movements_table}
 use Rattle.td_store_rows.specs.declared.movements.texts.TheConstants.{INSERT, SET_STATUS, BY_MRN, BY_LRN, OF_HOLDER, COUNTING_SERIALS}
 
-movements_there : HasTable desk_schema 3 movements_table
-movements_there = record { there = refl; free = none_acts 4 }
+movements_there : (l : Layout) → HasTable (schema_of l) 3 movements_table
+movements_there Made1 = record { there = refl; free = none_acts Made1 4 }
+movements_there Made2 = record { there = refl; free = none_acts Made2 4 }
+movements_there Grown2 = record { there = refl; free = none_acts Grown2 4 }
 
 -- a column is the value that was given at a place
 abbrev pub equals : ℕ → ℕ → Term
@@ -68,39 +72,42 @@ names =
     codes "holder" ∷ codes "serial" ∷ codes "mrn" ∷ codes "lrn" ∷ codes "departure" ∷ codes "destination"
     ∷ codes "accepted" ∷ codes "state" ∷ codes "limit_day" ∷ codes "arrival" ∷ codes "actual" ∷ []
 
-pub insert_means : MeansInsert desk_schema INSERT.now movements_table new_row
+pub insert_means : (l : Layout) → MeansInsert (schema_of l) INSERT.now movements_table new_row
 unfolding understood everything
-insert_means =
-    record {
-      place = 3;
-      width = 12;
-      table = movements_there;
-      command = refl;
-      plain = (refl, refl);
-      one =
-          λ values. refl;
-    }
+insert_means Made1 = record { place = 3; width = 12; table = movements_there Made1; command = refl; plain = (refl, refl); one = λ values. refl }
+insert_means Made2 = record { place = 3; width = 12; table = movements_there Made2; command = refl; plain = (refl, refl); one = λ values. refl }
+insert_means Grown2 = record { place = 3; width = 12; table = movements_there Grown2; command = refl; plain = (refl, refl); one = λ values. refl }
 
-pub set_means : MeansUpdate desk_schema SET_STATUS.now movements_table key_tests set_columns
+pub set_means : (l : Layout) → MeansUpdate (schema_of l) SET_STATUS.now movements_table key_tests set_columns
 unfolding understood everything
-set_means = record { place = 3; table = movements_there; command = refl; plain = (refl, refl) }
+set_means Made1 = record { place = 3; table = movements_there Made1; command = refl; plain = (refl, refl) }
+set_means Made2 = record { place = 3; table = movements_there Made2; command = refl; plain = (refl, refl) }
+set_means Grown2 = record { place = 3; table = movements_there Grown2; command = refl; plain = (refl, refl) }
 
-pub by_mrn_means : MeansSelect desk_schema BY_MRN.now 4 key_tests all_columns []
+pub by_mrn_means : (l : Layout) → MeansSelect (schema_of l) BY_MRN.now 4 key_tests all_columns []
 unfolding understood everything
-by_mrn_means = record { names = names; command = refl; plain = (refl, refl); unlisted = refl }
+by_mrn_means Made1 = record { names = names; command = refl; plain = (refl, refl); unlisted = refl }
+by_mrn_means Made2 = record { names = names; command = refl; plain = (refl, refl); unlisted = refl }
+by_mrn_means Grown2 = record { names = names; command = refl; plain = (refl, refl); unlisted = refl }
 
-pub by_lrn_means : MeansSelect desk_schema BY_LRN.now 4 lrn_tests all_columns []
+pub by_lrn_means : (l : Layout) → MeansSelect (schema_of l) BY_LRN.now 4 lrn_tests all_columns []
 unfolding understood everything
-by_lrn_means = record { names = names; command = refl; plain = (refl, refl); unlisted = refl }
+by_lrn_means Made1 = record { names = names; command = refl; plain = (refl, refl); unlisted = refl }
+by_lrn_means Made2 = record { names = names; command = refl; plain = (refl, refl); unlisted = refl }
+by_lrn_means Grown2 = record { names = names; command = refl; plain = (refl, refl); unlisted = refl }
 
-pub of_holder_means : MeansSelect desk_schema OF_HOLDER.now 4 holder_tests all_columns by_serial
+pub of_holder_means : (l : Layout) → MeansSelect (schema_of l) OF_HOLDER.now 4 holder_tests all_columns by_serial
 unfolding understood everything
-of_holder_means = record { names = names; command = refl; plain = (refl, refl); unlisted = refl }
+of_holder_means Made1 = record { names = names; command = refl; plain = (refl, refl); unlisted = refl }
+of_holder_means Made2 = record { names = names; command = refl; plain = (refl, refl); unlisted = refl }
+of_holder_means Grown2 = record { names = names; command = refl; plain = (refl, refl); unlisted = refl }
 
 -- the serial alone
 abbrev pub serial_column : List Term
 serial_column = col 1 2 ∷ []
 
-pub counting_means : MeansSelect desk_schema COUNTING_SERIALS.now 4 counting_tests serial_column by_serial
+pub counting_means : (l : Layout) → MeansSelect (schema_of l) COUNTING_SERIALS.now 4 counting_tests serial_column by_serial
 unfolding understood everything
-counting_means = record { names = codes "serial" ∷ []; command = refl; plain = (refl, refl); unlisted = refl }
+counting_means Made1 = record { names = codes "serial" ∷ []; command = refl; plain = (refl, refl); unlisted = refl }
+counting_means Made2 = record { names = codes "serial" ∷ []; command = refl; plain = (refl, refl); unlisted = refl }
+counting_means Grown2 = record { names = codes "serial" ∷ []; command = refl; plain = (refl, refl); unlisted = refl }

@@ -11,7 +11,8 @@ use Rattle.sqlite.specs.State.{State}
 use Rattle.sqlite.specs.declared.error.Error.{Error}
 use Rattle.td_movement.specs.States.{is_counting}
 use Rattle.td_table_model.specs.Gathering.{place}
-use Rattle.td_schema.specs.Tables.{desk_schema}
+use Rattle.td_schema.specs.Layouts.{schema_of}
+use Rattle.td_schema.specs.declared.layout.Layout.{Layout}
 use Rattle.typed_sql.proofs.Ordered.{both_pass, selected_sorted}
 use Rattle.typed_sql.proofs.TypedRows.{selected_typed}
 use Rattle.typed_sql.specs.Reading.{Fetches, IsAnswerOf, Selects, row_order, shown_by}
@@ -52,23 +53,23 @@ module _ (H : ℕ) where
     abbrev Read : List MovementSerial → Type 0
     Read found = Fetches serial_of_stored serial_shown COUNTING_SERIALS.now given old found
 
-    answer_of : (found : List MovementSerial) → (h : Read found) → HasSchema old desk_schema → Shows (old.now.trees 4) h.0
-    answer_of found h has =
+    answer_of : (found : List MovementSerial) → (h : Read found) → (l : Layout) → HasSchema old (schema_of l) → Shows (old.now.trees 4) h.0
+    answer_of found h l has =
         let did : Selects COUNTING_SERIALS.now values old h.0 = subst (λ v. Selects COUNTING_SERIALS.now v old h.0) is h.1 in
-        did desk_schema 4 counting_tests serial_column by_serial has counting_means
+        did (schema_of l) 4 counting_tests serial_column by_serial has (counting_means l)
 
     found_is : (found : List MovementSerial) → Read found → AreSerialsOf (counts_for H) old found
-    found_is found h has typed =
-        let a = answer_of found h has in
+    found_is found h l has typed =
+        let a = answer_of found h l has in
         subst (IsPermutation (map place (filter (counts_for H) (typed_rows movement_typing old.now.trees))))
         (sym (h.2 ∙ same (old.now.trees 4) h.0 a))
         (IsPermutation-map place _ _
-        (selected_typed movement_typing desk_schema (passes values counting_tests) movement_columns (counts_for H) (row_order by_serial values) old.now.trees
+        (selected_typed movement_typing (schema_of l) (passes values counting_tests) movement_columns (counts_for H) (row_order by_serial values) old.now.trees
         (map movement_columns a.found) (λ r is. counting_passes r is H) (λ r. refl) (whole (old.now.trees 4) h.0 a) typed))
 
     order_is : (found : List MovementSerial) → Read found → AreSerialsInOrder old found
-    order_is found h has typed =
-        let a = answer_of found h has in
+    order_is found h l has typed =
+        let a = answer_of found h l has in
         subst (IsSorted nat_cmp) (sym (h.2 ∙ same (old.now.trees 4) h.0 a))
         (IsSorted-map nat_cmp place (map movement_from (map movement_columns a.found))
         (selected_sorted movement_typing (counts_for H) (passes values counting_tests) movement_columns (row_order by_serial values)

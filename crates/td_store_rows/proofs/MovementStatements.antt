@@ -27,7 +27,8 @@ use Rattle.td_movement.specs.States.{state_name}
 use Rattle.td_movement.specs.declared.movement.Movement.{Movement}
 use Rattle.td_store_rows.specs.Columns.{movement_cells, movement_columns, movement_typing, movements_table}
 use Rattle.td_store_rows.specs.declared.movements.texts.TheConstants.{INSERT, SET_STATUS}
-use Rattle.td_schema.specs.Tables.{desk_schema}
+use Rattle.td_schema.specs.Layouts.{schema_of}
+use Rattle.td_schema.specs.declared.layout.Layout.{Layout}
 use Rattle.typed_sql.proofs.Columns.{given_or, number_is, text_is}
 use Rattle.typed_sql.proofs.TypedRows.{inserted_typed, updated_typed}
 use Rattle.typed_sql.specs.Values.{number_or_null, number_value, text_or_null}
@@ -36,12 +37,12 @@ use Rattle.td_table_model.specs.Tables.{Keyed}
 
 pub inserted : (m : Keyed Movement) → bare m ≡ m → (values : Row) → values ≡ movement_cells m → (old new : State)
     → Inserts INSERT.now values old new → TurnsMovements (λ rows. m ∷ rows) old new
-inserted m plain values is old new h has typed =
+inserted m plain values is old new h layout has typed =
     let did : Inserts INSERT.now (movement_cells m) old new = subst (λ v. Inserts INSERT.now v old new) is h in
-    let done = did desk_schema movements_table new_row has insert_means in
-    inserted_typed movement_typing desk_schema (eval_all new_row (movement_cells m ∷ []))
+    let done = did (schema_of layout) movements_table new_row has (insert_means layout) in
+    inserted_typed movement_typing (schema_of layout) (eval_all new_row (movement_cells m ∷ []))
     (movement_cells m) m old.now new.now (λ id. refl) (back m ∙ plain)
-    (subst (λ c. IsInserted desk_schema movements_table
+    (subst (λ c. IsInserted (schema_of layout) movements_table
     (eval_all new_row (movement_cells m ∷ [])) c old.now new.now) (cells_stored m) done) typed
 
 module _ (r : Row) (is : IsTypedRow movement_typing r) where
@@ -99,11 +100,11 @@ module _ (r : Row) (is : IsTypedRow movement_typing r) where
 pub status_turned : (H n : ℕ) (status : NewStatus) (values : Row) → values ≡ status_values H n status
     → (old new : State) → Updates SET_STATUS.now values old new
     → TurnsMovements (map (λ m. if has_mrn H n status.mrn m then with_new_status status m else m)) old new
-status_turned H n status values is old new h has typed =
+status_turned H n status values is old new h layout has typed =
     let did : Updates SET_STATUS.now (status_values H n status) old new =
     subst (λ v. Updates SET_STATUS.now v old new) is h in
-    let done = did desk_schema movements_table key_tests set_columns has set_means typed.ids in
-    updated_typed movement_typing desk_schema (passes (status_values H n status) key_tests)
+    let done = did (schema_of layout) movements_table key_tests set_columns has (set_means layout) typed.ids in
+    updated_typed movement_typing (schema_of layout) (passes (status_values H n status) key_tests)
     (columns_set movements_table set_columns (status_values H n status)) (has_mrn H n status.mrn)
     (with_new_status status) old.now new.now
     (λ r row_is. key_passes r row_is H n status.mrn
@@ -123,8 +124,8 @@ module _ (H : ℕ) (p : Keyed Movement → Bool)
 
 -- so those that were fetched are they by their serials
 pub by_serials : (p : Keyed Movement → Bool) (old : State) (found : List StoredMovement) → AreMovements p old found
-    → AreInOrder movement_typing desk_schema (λ a b. nat_cmp (place a) (place b)) old (map movement_row_of found)
+    → ((l : Layout) → AreInOrder movement_typing (schema_of l) (λ a b. nat_cmp (place a) (place b)) old (map movement_row_of found))
     → AreBySerial p old found
-by_serials p old found those sorted has typed apart =
+by_serials p old found those sorted layout has typed apart =
     sorted_is_order place (map movement_row_of found) (filter p (typed_rows movement_typing old.now.trees))
-    (those has typed) (sorted has typed) apart
+    (those layout has typed) (sorted layout has typed) apart

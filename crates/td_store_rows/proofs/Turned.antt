@@ -1,5 +1,5 @@
 -- A statement that turned the rows of one table, seen at all tables: the others are as they were.
-use Rattle.std.proofs.Common.{◌≡◌, ◌≢◌, ◌∙◌, ℕ, List, map, ap, refl, sym, subst, IsPermutation}
+use Rattle.std.proofs.Common.{◌≡◌, ◌≢◌, ◌≤◌, ◌∙◌, ℕ, List, map, ap, refl, sym, subst, IsPermutation}
 use Rattle.std.specs.List.{AllByRecursion}
 use Rattle.sqlite_trees.specs.Tree.{Trees}
 use Rattle.sqlite_trees.proofs.ListLemmas.{IsPermutation-same}
@@ -8,12 +8,15 @@ use Rattle.sqlite.specs.State.{State}
 use Rattle.td_model.specs.declared.holder_row.HolderRow.{HolderRow}
 use Rattle.td_guarantee.specs.declared.guarantee.Guarantee.{Guarantee}
 use Rattle.td_movement.specs.declared.movement.Movement.{Movement}
-use Rattle.td_table_model.specs.Tables.{Keyed, LineCells, Tables}
-use Rattle.td_schema.specs.Tables.{desk_schema}
+use Rattle.td_table_model.specs.Tables.{Keyed, LineCells, Tables, version_with_amounts}
+use Rattle.td_schema.specs.Layouts.{guarantees_tree, schema_of}
+use Rattle.td_schema.specs.declared.layout.Layout.{Layout}
+use Rattle.td_schema.specs.declared.layout.Layout.TheVariants.{Made1, Made2, Grown2}
 use Rattle.typed_sql.specs.Writing.{AreOthersKept, HaveIds, HasSchema}
 use Rattle.typed_sql.specs.Typed.{Typing, AreTyped, IsTypedRow, Turns, row_of, typed_rows}
 use Rattle.td_store_rows.specs.Columns.{meta_typing, holder_typing, guarantee_typing, code_typing, movement_typing, line_typing}
 use Rattle.td_store_rows.specs.StoreTables.{AreAllTyped, AreStoreTrees, HasTables, tables_in, country_in}
+use Rattle.td_store_rows.proofs.WithoutAmounts.{none_kept}
 
 -- a table whose tree is as it was has the same rows, typed as before
 rows_still : {R : Type 0} (ty : Typing R) (old new : Trees) → new ty.table.tree ≡ old ty.table.tree
@@ -32,25 +35,54 @@ office_still : (old new : Trees) → new 0 ≡ old 0 → typed_rows meta_typing 
 office_still old new is = ap (map (row_of meta_typing)) is
 
 -- what lists a store's tables, and obeys them
-pub listed_there : (db : Database) → db.schema ≡ desk_schema → IsDatabase db → AreStoreTrees db.trees
-listed_there db has sound = subst (λ s. IsDatabase (record { schema = s; trees = db.trees })) has sound
+pub listed_there : (l : Layout) (db : Database) → db.schema ≡ schema_of l → IsDatabase db → AreStoreTrees l db.trees
+listed_there l db has sound = subst (λ s. IsDatabase (record { schema = s; trees = db.trees })) has sound
+
+-- the tree of guarantees is none of the other tables'
+record IsApart (l : Layout) : Type 0 where
+  meta : guarantees_tree l ≢ 0
+  holders : guarantees_tree l ≢ 1
+  codes : guarantees_tree l ≢ 2
+  movements : guarantees_tree l ≢ 4
+  lines : guarantees_tree l ≢ 11
+
+apart : (l : Layout) → IsApart l
+apart Made1 = record { meta = λ e. cc; holders = λ e. cc; codes = λ e. cc; movements = λ e. cc; lines = λ e. cc }
+apart Made2 = record { meta = λ e. cc; holders = λ e. cc; codes = λ e. cc; movements = λ e. cc; lines = λ e. cc }
+apart Grown2 = record { meta = λ e. cc; holders = λ e. cc; codes = λ e. cc; movements = λ e. cc; lines = λ e. cc }
 
 -- which trees are not this one, and so are as they were
-record AreKept (tree : ℕ) (old new : Trees) : Type 0 where
+record AreKept (l : Layout) (tree : ℕ) (old new : Trees) : Type 0 where
   meta : 0 ≢ tree → new 0 ≡ old 0
   holders : 1 ≢ tree → new 1 ≡ old 1
   codes : 2 ≢ tree → new 2 ≡ old 2
   movements : 4 ≢ tree → new 4 ≡ old 4
-  guarantees : 8 ≢ tree → new 8 ≡ old 8
+  guarantees : guarantees_tree l ≢ tree → new (guarantees_tree l) ≡ old (guarantees_tree l)
   lines : 11 ≢ tree → new 11 ≡ old 11
 
-kept : (tree : ℕ) (old new : Trees) → AreOthersKept desk_schema tree old new → AreKept tree old new
-kept tree old new others = record {
+kept : (l : Layout) (tree : ℕ) (old new : Trees) → AreOthersKept (schema_of l) tree old new → AreKept l tree old new
+kept Made1 tree old new others = record {
   meta = others.0;
   holders = others.1.0;
   codes = others.1.1.0;
   movements = others.1.1.1.0;
   guarantees = others.1.1.1.1.0;
+  lines = others.1.1.1.1.1.0;
+}
+kept Made2 tree old new others = record {
+  meta = others.0;
+  holders = others.1.0;
+  codes = others.1.1.0;
+  movements = others.1.1.1.0;
+  guarantees = others.1.1.1.1.0;
+  lines = others.1.1.1.1.1.0;
+}
+kept Grown2 tree old new others = record {
+  meta = others.0;
+  holders = others.1.0;
+  codes = others.1.1.0;
+  movements = others.1.1.1.0;
+  guarantees = others.1.1.1.1.1.1.0;
   lines = others.1.1.1.1.1.0;
 }
 
@@ -64,19 +96,23 @@ still : {R : Type 0} (ty : Typing R) (old new : Trees) → AreTyped ty old → n
 still ty old new typed is = record { same = rows_still ty old new is; typed = typed_still ty old new is typed }
 
 -- all of them, each as it is now
-assembled : (f : Tables → Tables) (old new : State) → (f (tables_in old.now.trees)).country ≡ (tables_in old.now.trees).country
+assembled : (l : Layout) (f : Tables → Tables) (old new : State)
+    → (f (tables_in l old.now.trees)).version ≡ (tables_in l old.now.trees).version
+    → (f (tables_in l old.now.trees)).country ≡ (tables_in l old.now.trees).country
     → typed_rows meta_typing new.now.trees ≡ typed_rows meta_typing old.now.trees → AreTyped meta_typing new.now.trees
-    → Now holder_typing (f (tables_in old.now.trees)).holders new.now.trees
-    → Now guarantee_typing (f (tables_in old.now.trees)).guarantees new.now.trees
-    → Now code_typing (f (tables_in old.now.trees)).codes new.now.trees
-    → Now movement_typing (f (tables_in old.now.trees)).movements new.now.trees
-    → Now line_typing (f (tables_in old.now.trees)).lines new.now.trees
-    → new.now.schema ≡ desk_schema → IsDatabase new.now → HasTables f old new
-assembled f old new country office meta holders guarantees codes movements lines schema sound = record {
+    → Now holder_typing (f (tables_in l old.now.trees)).holders new.now.trees
+    → Now (guarantee_typing l) (f (tables_in l old.now.trees)).guarantees new.now.trees
+    → Now code_typing (f (tables_in l old.now.trees)).codes new.now.trees
+    → Now movement_typing (f (tables_in l old.now.trees)).movements new.now.trees
+    → Now line_typing (f (tables_in l old.now.trees)).lines new.now.trees
+    → new.now.schema ≡ schema_of l → IsDatabase new.now → HasTables l f old new
+assembled l f old new version country office meta holders guarantees codes movements lines schema sound = record {
   same = record {
+    version = sym version;
     country = ap country_in office ∙ sym country;
     holders = holders.same;
     guarantees = guarantees.same;
+    kept = λ keep. absurd (none_kept l old.now.trees (subst (λ v. version_with_amounts ≤ v) version keep));
     codes = codes.same;
     movements = movements.same;
     lines = lines.same;
@@ -90,82 +126,82 @@ assembled f old new country office meta holders guarantees codes movements lines
     lines = lines.typed;
   };
   office = office;
-  listed = λ _. listed_there new.now schema sound;
+  listed = λ _. listed_there l new.now schema sound;
   schema = λ _. schema;
 }
 
-module _ (old new : State) (has : HasSchema old desk_schema) (typed : AreAllTyped old.now.trees) where
+module _ (l : Layout) (old new : State) (has : HasSchema old (schema_of l)) (typed : AreAllTyped l old.now.trees) where
   abbrev a : Trees
   a = old.now.trees
 
   abbrev b : Trees
   b = new.now.trees
 
-  pub holders_turned : (f : List HolderRow → List HolderRow) → Turns holder_typing desk_schema f old new
-      → HasTables (λ t. record t { holders = f t.holders }) old new
+  pub holders_turned : (f : List HolderRow → List HolderRow) → Turns holder_typing (schema_of l) f old new
+      → HasTables l (λ t. record t { holders = f t.holders }) old new
   holders_turned f turns =
       let now = turns has typed.holders in
-      let rest = kept 1 a b now.others in
-      assembled (λ t. record t { holders = f t.holders }) old new refl (office_still a b (rest.meta (λ e. cc)))
+      let rest = kept l 1 a b now.others in
+      assembled l (λ t. record t { holders = f t.holders }) old new refl refl (office_still a b (rest.meta (λ e. cc)))
       (typed_still meta_typing a b (rest.meta (λ e. cc)) typed.meta)
       (record { same = now.same; typed = now.typed })
-      (still guarantee_typing a b typed.guarantees (rest.guarantees (λ e. cc)))
+      (still (guarantee_typing l) a b typed.guarantees (rest.guarantees (apart l).holders))
       (still code_typing a b typed.codes (rest.codes (λ e. cc)))
       (still movement_typing a b typed.movements (rest.movements (λ e. cc)))
       (still line_typing a b typed.lines (rest.lines (λ e. cc)))
       now.schema now.sound
 
-  pub guarantees_turned : (f : List (Keyed Guarantee) → List (Keyed Guarantee)) → Turns guarantee_typing desk_schema f old new
-      → HasTables (λ t. record t { guarantees = f t.guarantees }) old new
+  pub guarantees_turned : (f : List (Keyed Guarantee) → List (Keyed Guarantee)) → Turns (guarantee_typing l) (schema_of l) f old new
+      → HasTables l (λ t. record t { guarantees = f t.guarantees }) old new
   guarantees_turned f turns =
       let now = turns has typed.guarantees in
-      let rest = kept 8 a b now.others in
-      assembled (λ t. record t { guarantees = f t.guarantees }) old new refl (office_still a b (rest.meta (λ e. cc)))
-      (typed_still meta_typing a b (rest.meta (λ e. cc)) typed.meta)
-      (still holder_typing a b typed.holders (rest.holders (λ e. cc)))
+      let rest = kept l (guarantees_tree l) a b now.others in
+      assembled l (λ t. record t { guarantees = f t.guarantees }) old new refl refl (office_still a b (rest.meta (λ e. (apart l).meta (sym e))))
+      (typed_still meta_typing a b (rest.meta (λ e. (apart l).meta (sym e))) typed.meta)
+      (still holder_typing a b typed.holders (rest.holders (λ e. (apart l).holders (sym e))))
       (record { same = now.same; typed = now.typed })
-      (still code_typing a b typed.codes (rest.codes (λ e. cc)))
-      (still movement_typing a b typed.movements (rest.movements (λ e. cc)))
-      (still line_typing a b typed.lines (rest.lines (λ e. cc)))
+      (still code_typing a b typed.codes (rest.codes (λ e. (apart l).codes (sym e))))
+      (still movement_typing a b typed.movements (rest.movements (λ e. (apart l).movements (sym e))))
+      (still line_typing a b typed.lines (rest.lines (λ e. (apart l).lines (sym e))))
       now.schema now.sound
 
-  pub codes_turned : (f : List (Keyed (List ℕ)) → List (Keyed (List ℕ))) → Turns code_typing desk_schema f old new
-      → HasTables (λ t. record t { codes = f t.codes }) old new
+  pub codes_turned : (f : List (Keyed (List ℕ)) → List (Keyed (List ℕ))) → Turns code_typing (schema_of l) f old new
+      → HasTables l (λ t. record t { codes = f t.codes }) old new
   codes_turned f turns =
       let now = turns has typed.codes in
-      let rest = kept 2 a b now.others in
-      assembled (λ t. record t { codes = f t.codes }) old new refl (office_still a b (rest.meta (λ e. cc)))
+      let rest = kept l 2 a b now.others in
+      assembled l (λ t. record t { codes = f t.codes }) old new refl refl (office_still a b (rest.meta (λ e. cc)))
       (typed_still meta_typing a b (rest.meta (λ e. cc)) typed.meta)
       (still holder_typing a b typed.holders (rest.holders (λ e. cc)))
-      (still guarantee_typing a b typed.guarantees (rest.guarantees (λ e. cc)))
+      (still (guarantee_typing l) a b typed.guarantees (rest.guarantees (apart l).codes))
       (record { same = now.same; typed = now.typed })
       (still movement_typing a b typed.movements (rest.movements (λ e. cc)))
       (still line_typing a b typed.lines (rest.lines (λ e. cc)))
       now.schema now.sound
 
-  pub movements_turned : (f : List (Keyed Movement) → List (Keyed Movement)) → Turns movement_typing desk_schema f old new
-      → HasTables (λ t. record t { movements = f t.movements }) old new
+  pub movements_turned : (f : List (Keyed Movement) → List (Keyed Movement)) → Turns movement_typing (schema_of l) f old new
+      → HasTables l (λ t. record t { movements = f t.movements }) old new
   movements_turned f turns =
       let now = turns has typed.movements in
-      let rest = kept 4 a b now.others in
-      assembled (λ t. record t { movements = f t.movements }) old new refl (office_still a b (rest.meta (λ e. cc)))
+      let rest = kept l 4 a b now.others in
+      assembled l (λ t. record t { movements = f t.movements }) old new refl refl (office_still a b (rest.meta (λ e. cc)))
       (typed_still meta_typing a b (rest.meta (λ e. cc)) typed.meta)
       (still holder_typing a b typed.holders (rest.holders (λ e. cc)))
-      (still guarantee_typing a b typed.guarantees (rest.guarantees (λ e. cc)))
+      (still (guarantee_typing l) a b typed.guarantees (rest.guarantees (apart l).movements))
       (still code_typing a b typed.codes (rest.codes (λ e. cc)))
       (record { same = now.same; typed = now.typed })
       (still line_typing a b typed.lines (rest.lines (λ e. cc)))
       now.schema now.sound
 
-  pub lines_turned : (f : List (Keyed LineCells) → List (Keyed LineCells)) → Turns line_typing desk_schema f old new
-      → HasTables (λ t. record t { lines = f t.lines }) old new
+  pub lines_turned : (f : List (Keyed LineCells) → List (Keyed LineCells)) → Turns line_typing (schema_of l) f old new
+      → HasTables l (λ t. record t { lines = f t.lines }) old new
   lines_turned f turns =
       let now = turns has typed.lines in
-      let rest = kept 11 a b now.others in
-      assembled (λ t. record t { lines = f t.lines }) old new refl (office_still a b (rest.meta (λ e. cc)))
+      let rest = kept l 11 a b now.others in
+      assembled l (λ t. record t { lines = f t.lines }) old new refl refl (office_still a b (rest.meta (λ e. cc)))
       (typed_still meta_typing a b (rest.meta (λ e. cc)) typed.meta)
       (still holder_typing a b typed.holders (rest.holders (λ e. cc)))
-      (still guarantee_typing a b typed.guarantees (rest.guarantees (λ e. cc)))
+      (still (guarantee_typing l) a b typed.guarantees (rest.guarantees (apart l).lines))
       (still code_typing a b typed.codes (rest.codes (λ e. cc)))
       (still movement_typing a b typed.movements (rest.movements (λ e. cc)))
       (record { same = now.same; typed = now.typed })

@@ -4,7 +4,9 @@ use Rattle.sqlite_value.specs.declared.value.Value.TheVariants.{Int, Text}
 use Rattle.sqlite_value.specs.Order.{Row, column}
 use Rattle.sqlite_schema.specs.declared.schema.Schema.{Schema}
 use Rattle.sqlite_schema.specs.declared.schema.Table.{Table}
-use Rattle.td_schema.specs.Tables.{meta, holders, guarantees, codes_table, movements, lines}
+use Rattle.td_schema.specs.declared.layout.Layout.{Layout}
+use Rattle.td_schema.specs.Layouts.{guarantees_shape, guarantees_tree}
+use Rattle.td_schema.specs.Tables.{meta, holders, codes_table, movements, lines}
 use Rattle.typed_sql.specs.Typed.{Typing}
 use Rattle.typed_sql.specs.Values.{as_integer, text_in, number_in, number_value, number_if, number_or_null, text_if, text_or_null}
 use Rattle.td_model.specs.declared.holder_row.HolderRow.{HolderRow}
@@ -15,10 +17,6 @@ use Rattle.td_movement.specs.States.{state_name}
 use Rattle.td_movement.specs.declared.movement.Movement.{Movement}
 use Rattle.td_movement.specs.declared.state.State.{State}
 use Rattle.td_movement.specs.declared.state.State.TheVariants.{Accepted, Cancelled, Released, Enquired, Arrived, Discrepant, Cleared, WrittenOff}
-
--- the newest version of the tables
-abbrev pub newest_version : ℕ
-newest_version = 1
 
 -- the version of the tables and the country, as a file has them: any integer, and any text
 pub record MetaRow : Type 0 where
@@ -106,13 +104,13 @@ guarantee_from cells = record {
   };
 }
 
--- the table of guarantees in a store's file, and how its rows are typed
-abbrev pub guarantees_table : Table
-guarantees_table = record guarantees { tree = 8 }
+-- the table of guarantees in a store's file of a layout, and how its rows are typed: by these six columns in each
+abbrev pub guarantees_table : Layout → Table
+guarantees_table l = record (guarantees_shape l) { tree = guarantees_tree l }
 
-abbrev pub guarantee_typing : Typing (Keyed Guarantee)
-guarantee_typing = record {
-  table = guarantees_table;
+abbrev pub guarantee_typing : Layout → Typing (Keyed Guarantee)
+guarantee_typing l = record {
+  table = guarantees_table l;
   columns = guarantee_columns;
   cells = guarantee_cells;
   from = guarantee_from;

@@ -7,7 +7,8 @@ use Rattle.td_acts.specs.Changes.{with_terms}
 use Rattle.td_acts.specs.declared.rows.NewTerms.{NewTerms}
 use Rattle.td_table_model.specs.Gathering.{IsApart, in_order, place}
 use Rattle.td_table_model.specs.Tables.{Keyed}
-use Rattle.td_schema.specs.Tables.{desk_schema}
+use Rattle.td_schema.specs.Layouts.{IsNewest, schema_of}
+use Rattle.td_schema.specs.declared.layout.Layout.{Layout}
 use Rattle.typed_sql.specs.Typed.{AreThose, AreTyped, Turns, typed_rows}
 use Rattle.typed_sql.specs.Values.{number_value, number_or_null}
 use Rattle.typed_sql.specs.Writing.{HasSchema}
@@ -35,20 +36,21 @@ is_of H g = g.holder == H
 abbrev pub with_new_terms : NewTerms → Keyed Guarantee → Keyed Guarantee
 with_new_terms terms g = record g { row = with_terms terms g.row }
 
--- the statement turned the guarantees into what f makes of them
+-- the statement, which is one of the newest version, turned the guarantees into what f makes of them
 abbrev pub TurnsGuarantees : (List (Keyed Guarantee) → List (Keyed Guarantee)) → State → State → Type 0
-TurnsGuarantees f = Turns guarantee_typing desk_schema f
+TurnsGuarantees f old new = (l : Layout) → IsNewest l → Turns (guarantee_typing l) (schema_of l) f old new
 
 -- these are the guarantees that pass the test
 abbrev pub AreGuarantees : (Keyed Guarantee → Bool) → State → List StoredGuarantee → Type 0
-AreGuarantees p state found = AreThose guarantee_typing desk_schema p state (map guarantee_row_of found)
+AreGuarantees p state found =
+    (l : Layout) → IsNewest l → AreThose (guarantee_typing l) (schema_of l) p state (map guarantee_row_of found)
 
 -- where no two of them have one serial, these are they by their serials
 abbrev pub AreBySerial : (Keyed Guarantee → Bool) → State → List StoredGuarantee → Type 0
 AreBySerial p state found =
-    HasSchema state desk_schema → AreTyped guarantee_typing state.now.trees
-    → IsApart place (filter p (typed_rows guarantee_typing state.now.trees))
-    → map guarantee_row_of found ≡ in_order place (filter p (typed_rows guarantee_typing state.now.trees))
+    (l : Layout) → IsNewest l → HasSchema state (schema_of l) → AreTyped (guarantee_typing l) state.now.trees
+    → IsApart place (filter p (typed_rows (guarantee_typing l) state.now.trees))
+    → map guarantee_row_of found ≡ in_order place (filter p (typed_rows (guarantee_typing l) state.now.trees))
 
 -- this is the guarantee that passes the test, or there is none
 abbrev pub IsTheGuarantee : (Keyed Guarantee → Bool) → State → Option StoredGuarantee → Type 0

@@ -1,4 +1,5 @@
 pub mod Columns
+pub mod StoreReads
 pub mod MetaTable
 pub mod HolderTable
 pub mod GuaranteeTable

@@ -4,7 +4,8 @@ use Rattle.sqlite.specs.State.{State}
 use Rattle.sqlite_trees.specs.Tree.{Trees}
 use Rattle.td_table_model.specs.Gathering.{IsApart, in_order, no_of, of_key, part, place}
 use Rattle.td_table_model.specs.Tables.{Keyed, LineCells}
-use Rattle.td_schema.specs.Tables.{desk_schema}
+use Rattle.td_schema.specs.Layouts.{schema_of}
+use Rattle.td_schema.specs.declared.layout.Layout.{Layout}
 use Rattle.typed_sql.specs.Typed.{AreThose, AreTyped, Turns, typed_rows}
 use Rattle.typed_sql.specs.Writing.{HasSchema}
 use Rattle.td_store_rows.specs.Columns.{line_typing}
@@ -28,11 +29,11 @@ is_line_on H n l = l.holder == H && l.row.guarantee == n
 
 -- the statement turned the lines into what f makes of them
 abbrev pub TurnsLines : (List (Keyed LineCells) → List (Keyed LineCells)) → State → State → Type 0
-TurnsLines f = Turns line_typing desk_schema f
+TurnsLines f old new = (l : Layout) → Turns line_typing (schema_of l) f old new
 
 -- these are the lines that pass the test
 abbrev pub AreLines : (Keyed LineCells → Bool) → State → List StoredLine → Type 0
-AreLines p state found = AreThose line_typing desk_schema p state (map line_row_of found)
+AreLines p state found = (l : Layout) → AreThose line_typing (schema_of l) p state (map line_row_of found)
 
 -- the lines of a holder's movement in a store's file, in no order
 abbrev pub line_rows_in : ℕ → ℕ → Trees → List (Keyed LineCells)
@@ -41,5 +42,5 @@ line_rows_in H n trees = of_key place n (part H (typed_rows line_typing trees))
 -- where no two of them have one number, these are they by their numbers
 abbrev pub AreByNumber : ℕ → ℕ → State → List StoredLine → Type 0
 AreByNumber H n state found =
-    HasSchema state desk_schema → AreTyped line_typing state.now.trees → IsApart no_of (line_rows_in H n state.now.trees)
+    (l : Layout) → HasSchema state (schema_of l) → AreTyped line_typing state.now.trees → IsApart no_of (line_rows_in H n state.now.trees)
     → map line_row_of found ≡ in_order no_of (line_rows_in H n state.now.trees)

@@ -4,7 +4,8 @@ use Rattle.std.specs.Option.{option_to_list}
 use Rattle.sqlite.specs.State.{State}
 use Rattle.sqlite_schema.specs.declared.schema.Schema.{Schema}
 use Rattle.td_base.specs.Codes.{country_read}
-use Rattle.td_schema.specs.Tables.{desk_schema}
+use Rattle.td_schema.specs.Layouts.{schema_of}
+use Rattle.td_schema.specs.declared.layout.Layout.{Layout}
 use Rattle.typed_sql.specs.Typed.{AreTyped, Turns, typed_rows}
 use Rattle.typed_sql.specs.Writing.{HasSchema}
 use Rattle.td_store_rows.specs.Columns.{MetaIsFirst, MetaRow, meta_typing}
@@ -16,7 +17,7 @@ stored_of m = record { version = m.version; country = country_read m.country }
 
 -- the statement turned the rows into what f makes of them
 abbrev pub TurnsMeta : (List MetaRow → List MetaRow) → State → State → Type 0
-TurnsMeta f = Turns meta_typing desk_schema f
+TurnsMeta f old new = (l : Layout) → Turns meta_typing (schema_of l) f old new
 
 -- where the table is the first, it has just the row that was found, or none where none was found
 abbrev pub IsTheMeta : State → Option StoredMeta → Type 0

@@ -9,7 +9,8 @@ use Rattle.td_movement.specs.declared.movement.Movement.{Movement}
 use Rattle.td_acts.specs.Changes.{with_status}
 use Rattle.td_acts.specs.declared.rows.NewStatus.{NewStatus}
 use Rattle.td_table_model.specs.Tables.{Keyed}
-use Rattle.td_schema.specs.Tables.{desk_schema}
+use Rattle.td_schema.specs.Layouts.{schema_of}
+use Rattle.td_schema.specs.declared.layout.Layout.{Layout}
 use Rattle.typed_sql.specs.Typed.{AreThose, AreTyped, Turns, typed_rows}
 use Rattle.typed_sql.specs.Writing.{HasSchema}
 use Rattle.td_table_model.specs.Gathering.{IsApart, in_order, place}
@@ -45,16 +46,16 @@ with_new_status status m = record m { row = with_status status m.row }
 
 -- the statement turned the movements into what f makes of them
 abbrev pub TurnsMovements : (List (Keyed Movement) → List (Keyed Movement)) → State → State → Type 0
-TurnsMovements f = Turns movement_typing desk_schema f
+TurnsMovements f old new = (l : Layout) → Turns movement_typing (schema_of l) f old new
 
 -- these are the movements that pass the test
 abbrev pub AreMovements : (Keyed Movement → Bool) → State → List StoredMovement → Type 0
-AreMovements p state found = AreThose movement_typing desk_schema p state (map movement_row_of found)
+AreMovements p state found = (l : Layout) → AreThose movement_typing (schema_of l) p state (map movement_row_of found)
 
 -- where no two of them have one serial, these are they by their serials
 abbrev pub AreBySerial : (Keyed Movement → Bool) → State → List StoredMovement → Type 0
 AreBySerial p state found =
-    HasSchema state desk_schema → AreTyped movement_typing state.now.trees
+    (l : Layout) → HasSchema state (schema_of l) → AreTyped movement_typing state.now.trees
     → IsApart place (filter p (typed_rows movement_typing state.now.trees))
     → map movement_row_of found ≡ in_order place (filter p (typed_rows movement_typing state.now.trees))
 
@@ -66,12 +67,12 @@ serial_of_stored s = s.serial
 -- has it; and they don't fall
 abbrev pub AreSerialsOf : (Keyed Movement → Bool) → State → List MovementSerial → Type 0
 AreSerialsOf p state found =
-    HasSchema state desk_schema → AreTyped movement_typing state.now.trees
+    (l : Layout) → HasSchema state (schema_of l) → AreTyped movement_typing state.now.trees
     → IsPermutation (map place (filter p (typed_rows movement_typing state.now.trees))) (map serial_of_stored found)
 
 abbrev pub AreSerialsInOrder : State → List MovementSerial → Type 0
 AreSerialsInOrder state found =
-    HasSchema state desk_schema → AreTyped movement_typing state.now.trees → IsSorted nat_cmp (map serial_of_stored found)
+    (l : Layout) → HasSchema state (schema_of l) → AreTyped movement_typing state.now.trees → IsSorted nat_cmp (map serial_of_stored found)
 
 -- this is the movement that passes the test, or there is none
 abbrev pub IsTheMovement : (Keyed Movement → Bool) → State → Option StoredMovement → Type 0

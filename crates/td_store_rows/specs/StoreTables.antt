@@ -4,12 +4,13 @@ use Rattle.sqlite_trees.specs.Tree.{Trees}
 use Rattle.sqlite.specs.Effect.{IsDatabase}
 use Rattle.sqlite.specs.State.{State}
 use Rattle.td_desk.specs.Content.{Content, IsSound}
-use Rattle.td_table_model.specs.Tables.{Tables, AreTablesOf}
+use Rattle.td_table_model.specs.Tables.{Tables, AreTablesOf, first_version}
 use Rattle.td_table_model.specs.Changes.{HaveSameRows}
-use Rattle.td_schema.specs.Tables.{desk_schema}
+use Rattle.td_schema.specs.declared.layout.Layout.{Layout}
+use Rattle.td_schema.specs.Layouts.{IsNewest, newest_layout, newest_version, schema_of}
 use Rattle.typed_sql.specs.Typed.{AreTyped, typed_rows}
 use Rattle.typed_sql.specs.Writing.{HasSchema}
-use Rattle.td_store_rows.specs.Columns.{MetaRow, meta_row, meta_typing, newest_version, holder_typing, guarantee_typing, code_typing, movement_typing, line_typing}
+use Rattle.td_store_rows.specs.Columns.{MetaRow, meta_row, meta_typing, holder_typing, guarantee_typing, code_typing, movement_typing, line_typing}
 use Rattle.td_table_model.specs.Gathering.{content_of}
 
 -- the country in the office's own row; none where there is no such row
@@ -17,22 +18,24 @@ abbrev pub country_in : List MetaRow → List ℕ
 country_in [] = []
 country_in (row ∷ rows) = row.country
 
--- the tables that stand in the trees
-abbrev pub tables_in : Trees → Tables
-tables_in trees = record {
+-- the tables that stand in the trees of a layout; no file keeps amounts in use yet
+abbrev pub tables_in : Layout → Trees → Tables
+tables_in l trees = record {
+  version = first_version;
   country = country_in (typed_rows meta_typing trees);
   holders = typed_rows holder_typing trees;
-  guarantees = typed_rows guarantee_typing trees;
+  guarantees = typed_rows (guarantee_typing l) trees;
+  kept = [];
   codes = typed_rows code_typing trees;
   movements = typed_rows movement_typing trees;
   lines = typed_rows line_typing trees;
 }
 
 -- the rows of every table are typed
-pub record AreAllTyped (trees : Trees) : Type 0 where
+pub record AreAllTyped (l : Layout) (trees : Trees) : Type 0 where
   pub meta : AreTyped meta_typing trees
   pub holders : AreTyped holder_typing trees
-  pub guarantees : AreTyped guarantee_typing trees
+  pub guarantees : AreTyped (guarantee_typing l) trees
   pub codes : AreTyped code_typing trees
   pub movements : AreTyped movement_typing trees
   pub lines : AreTyped line_typing trees
@@ -41,42 +44,46 @@ pub record AreAllTyped (trees : Trees) : Type 0 where
 abbrev pub HasOfficeRow : ℕ → List ℕ → Trees → Type 0
 HasOfficeRow version country trees = typed_rows meta_typing trees ≡ meta_row version country ∷ []
 
--- the trees list a store's tables and indexes and nothing else, and obey them
-abbrev pub AreStoreTrees : Trees → Type 0
-AreStoreTrees trees = IsDatabase (record { schema = desk_schema; trees = trees })
+-- the trees list the tables and indexes of a layout and nothing else, and obey them
+abbrev pub AreStoreTrees : Layout → Trees → Type 0
+AreStoreTrees l trees = IsDatabase (record { schema = schema_of l; trees = trees })
 
 -- The tables are now what f makes of those that were there, their rows in any order; the office's own row is as it was.
-pub record HasTables (f : Tables → Tables) (old new : State) : Type 0 where
-  pub same : HaveSameRows (f (tables_in old.now.trees)) (tables_in new.now.trees)
+pub record HasTables (l : Layout) (f : Tables → Tables) (old new : State) : Type 0 where
+  pub same : HaveSameRows (f (tables_in l old.now.trees)) (tables_in l new.now.trees)
   pub office : typed_rows meta_typing new.now.trees ≡ typed_rows meta_typing old.now.trees
-  pub typed : AreAllTyped new.now.trees
-  pub listed : AreStoreTrees old.now.trees → AreStoreTrees new.now.trees
-  pub schema : HasSchema new desk_schema
+  pub typed : AreAllTyped l new.now.trees
+  pub listed : AreStoreTrees l old.now.trees → AreStoreTrees l new.now.trees
+  pub schema : HasSchema new (schema_of l)
 
--- where the rows of a store's tables were typed, they are now what f makes of them
+-- where the rows of a store's tables of the newest version were typed, they are now what f makes of them
 abbrev pub TurnsTables : (Tables → Tables) → State → State → Type 0
-TurnsTables f old new = HasSchema old desk_schema → AreAllTyped old.now.trees → HasTables f old new
+TurnsTables f old new =
+    (l : Layout) → IsNewest l → HasSchema old (schema_of l) → AreAllTyped l old.now.trees → HasTables l f old new
 
--- What stands in a file that is a desk's, of this content: the newest version of the tables and no others, whose rows are the
--- content's and no more, which is sound; and the office's own row with the version and the content's country.
+-- What stands in a file that is a desk's, of this content: the tables of a layout of the newest version and no others, whose rows
+-- are the content's and no more, which is sound; and the office's own row with the version and the content's country.
 pub record AreTreesOf (c : Content) (trees : Trees) : Type 0 where
-  pub listed : AreStoreTrees trees
-  pub typed : AreAllTyped trees
+  pub layout : Layout
+  pub newest : IsNewest layout
+  pub listed : AreStoreTrees layout trees
+  pub typed : AreAllTyped layout trees
   pub sound : IsSound c
-  pub tables : AreTablesOf (tables_in trees) c
+  pub tables : AreTablesOf (tables_in layout trees) c
   pub office : HasOfficeRow newest_version c.country trees
 
 -- the connection, as far as it is open, is to a desk's file of this content
 pub record HoldsContent (c : Content) (s : State) : Type 0 where
-  pub schema : HasSchema s desk_schema
   pub trees : AreTreesOf c s.now.trees
+  pub schema : HasSchema s (schema_of trees.layout)
 
--- the content that trees hold
+-- The content that trees hold. (The newest version has one layout; where it has two, which of them it is hangs on the tables
+-- beside the trees.)
 abbrev pub content_in : Trees → Content
-content_in trees = content_of (tables_in trees)
+content_in trees = content_of (tables_in newest_layout trees)
 
--- the tables hold a content, which is sound
-pub record HoldSoundContent (trees : Trees) : Type 0 where
-  pub typed : AreAllTyped trees
-  pub sound : IsSound (content_of (tables_in trees))
-  pub tables : AreTablesOf (tables_in trees) (content_of (tables_in trees))
+-- the tables of a layout hold a content, which is sound
+pub record HoldSoundContent (l : Layout) (trees : Trees) : Type 0 where
+  pub typed : AreAllTyped l trees
+  pub sound : IsSound (content_of (tables_in l trees))
+  pub tables : AreTablesOf (tables_in l trees) (content_of (tables_in l trees))

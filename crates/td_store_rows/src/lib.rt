@@ -16,7 +16,7 @@ pub use guarantees::{
 };
 pub use holders::{find_holder, insert_holder, set_holder};
 pub use lines::{StoredLine, insert_line, lines_of, lines_on};
-pub use meta::{NEWEST_VERSION, StoredMeta, find_meta, insert_meta};
+pub use meta::{StoredMeta, find_meta, insert_meta};
 pub use movements::{
     MovementSerial, StoredMovement, counting_serials, find_by_lrn, find_by_mrn, insert_movement,
     movements_of, set_status,

@@ -6,5 +6,5 @@ mod texts;
 mod writing;
 
 pub use finding::find_meta;
-pub use stored::{NEWEST_VERSION, StoredMeta};
+pub use stored::StoredMeta;
 pub use writing::insert_meta;

@@ -15,9 +15,9 @@ use Rattle.td_table_model.specs.Tables.{AreTablesOf}
 use Rattle.td_table_model.specs.Changes.{HaveSameRows, tables_after}
 use Rattle.td_table_model.proofs.Decided.{decisions_are_written}
 use Rattle.td_table_model.proofs.Told.{references_tell}
-use Rattle.td_schema.specs.Tables.{desk_schema}
-use Rattle.typed_sql.specs.Writing.{HasSchema}
-use Rattle.td_store_rows.specs.Columns.{meta_row, newest_version}
+use Rattle.td_schema.specs.Layouts.{newest_version}
+use Rattle.td_schema.specs.declared.layout.Layout.{Layout}
+use Rattle.td_store_rows.specs.Columns.{meta_row}
 use Rattle.td_store_rows.specs.StoreTables.{AreTreesOf, tables_in}
 use Rattle.td_store_rows.proofs.Holding.{holds_still}
 use Rattle.td_store_write.specs.Written.{WritesChange}
@@ -41,39 +41,38 @@ after_country change c = after_row (row_in change) change c
 pub inside : (country : List ℕ) (change : Change) (a b : State) → WritesChange country change a b
     → CarriesChange country change a b
 inside country change a b writes c d =
-    let t = tables_in a.now.trees in
-    let wrote = writes d.holds.schema d.holds.trees.typed (d.holds.trees.tables.country ∙ d.country)
+    let l : Layout = d.holds.trees.layout in
+    let t = tables_in l a.now.trees in
+    let wrote = writes l d.holds.trees.newest d.holds.schema d.holds.trees.typed (d.holds.trees.tables.country ∙ d.country)
     (references_tell t c d.holds.trees.sound d.holds.trees.tables).1 in
-    let same : HaveSameRows (tables_after d.verdict.change t) (tables_in b.now.trees) =
-    subst (λ made. HaveSameRows (tables_after made t) (tables_in b.now.trees)) (sym d.change) wrote.same in
+    let same : HaveSameRows (tables_after d.verdict.change t) (tables_in l b.now.trees) =
+    subst (λ made. HaveSameRows (tables_after made t) (tables_in l b.now.trees)) (sym d.change) wrote.same in
     record {
       schema = wrote.schema;
       trees = record {
+        layout = l;
+        newest = d.holds.trees.newest;
         listed = wrote.listed d.holds.trees.listed;
         typed = wrote.typed;
         sound = subst (λ made. IsSound (content_after made c)) d.change (sound_after c d.verdict d.holds.trees.sound d.decision);
-        tables = subst (λ made. AreTablesOf (tables_in b.now.trees) (content_after made c)) d.change
-            (decisions_are_written d.verdict t (tables_in b.now.trees) c d.holds.trees.sound d.decision d.holds.trees.tables same).0;
+        tables = subst (λ made. AreTablesOf (tables_in l b.now.trees) (content_after made c)) d.change
+            (decisions_are_written d.verdict t (tables_in l b.now.trees) c d.holds.trees.sound d.decision d.holds.trees.tables same).0;
         office = wrote.office ∙ d.holds.trees.office ∙ ap (λ k. meta_row newest_version k ∷ []) (sym (after_country change c));
       };
     }
-
--- a connection that sees the same database has the same tables
-still_has_schema : (a b : State) → b.now ≡ a.now → a.is_open ≡ b.is_open → HasSchema a desk_schema → HasSchema b desk_schema
-still_has_schema a b same both has is_open = ap (λ (d : Database). d.schema) same ∙ has (both ∙ is_open)
 
 -- what the change carries is carried from a connection that sees the same, and to one
 pub carried_as : (country : List ℕ) (change : Change) (o a b e : State) → a.now ≡ o.now → o.is_open ≡ a.is_open
     → e.now ≡ b.now → b.is_open ≡ e.is_open → CarriesChange country change a b → CarriesChange country change o e
 carried_as country change o a b e begins opens ends closes carries c d =
     let holds = carries c (record {
-      holds = holds_still c o a begins (still_has_schema o a begins opens d.holds.schema) d.holds;
+      holds = holds_still c o a begins (λ is. opens ∙ is) d.holds;
       country = d.country;
       verdict = d.verdict;
       change = d.change;
       decision = d.decision;
     }) in
-    holds_still (content_after change c) b e ends (still_has_schema b e ends closes holds.schema) holds
+    holds_still (content_after change c) b e ends (λ is. closes ∙ is) holds
 
 -- and a crash that leaves what was written leaves the file of a desk of that content
 pub left : (country : List ℕ) (change : Change) (o b : State) (trees : Trees) → IsTrue o.is_open → trees ≡ b.now.trees

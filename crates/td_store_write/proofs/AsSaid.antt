@@ -15,16 +15,17 @@ use Rattle.td_acts.specs.Changes.{with_status, with_terms}
 use Rattle.td_table_model.specs.Tables.{Keyed, Tables, code_row, guarantee_no, line_rows, movement_row}
 use Rattle.td_table_model.specs.Changes.{HaveSameRows, is_code_of, tables_after, with_row, with_status_of, with_terms_of}
 use Rattle.td_table_model.specs.Looking.{movement_no}
+use Rattle.td_schema.specs.declared.layout.Layout.{Layout}
 use Rattle.td_store_rows.specs.HolderTable.{TurnsHolders}
 use Rattle.td_store_rows.proofs.Turned.{holders_turned}
 use Rattle.td_store_rows.specs.StoreTables.{HasTables, TurnsTables, tables_in}
 use Rattle.td_store_write.specs.Written.{WritesChange, status_by_key, terms_by_key}
 
 -- tables are turned into others that are the same
-has_as : (f g : Tables → Tables) (old new : State) → f (tables_in old.now.trees) ≡ g (tables_in old.now.trees)
-    → HasTables f old new → HasTables g old new
-has_as f g old new same has = record {
-  same = subst (λ t. HaveSameRows t (tables_in new.now.trees)) same has.same;
+has_as : (l : Layout) (f g : Tables → Tables) (old new : State) → f (tables_in l old.now.trees) ≡ g (tables_in l old.now.trees)
+    → HasTables l f old new → HasTables l g old new
+has_as l f g old new same has = record {
+  same = subst (λ t. HaveSameRows t (tables_in l new.now.trees)) same has.same;
   office = has.office;
   typed = has.typed;
   listed = has.listed;
@@ -67,7 +68,7 @@ terms_put H n terms rows keys =
 -- each written as the change says
 pub registered_written : (country : List ℕ) (row : HolderRow) (old new : State) → TurnsHolders (λ rows. row ∷ rows) old new
     → WritesChange country (Registered row) old new
-registered_written country row old new turns has typed same keys = holders_turned old new has typed (λ rows. row ∷ rows) turns
+registered_written country row old new turns l newest has typed same keys = holders_turned l old new has typed (λ rows. row ∷ rows) (turns l)
 
 pub declared_written : (country : List ℕ) (row : HolderRow) (movement : Movement) (old new : State)
     → TurnsTables (λ t. record t {
@@ -75,60 +76,60 @@ pub declared_written : (country : List ℕ) (row : HolderRow) (movement : Moveme
       movements = movement_row row.holder (row.mrn_count, movement) ∷ t.movements;
       lines = line_rows country row.holder (row.mrn_count, movement) ++ t.lines;
     }) old new → WritesChange country (Declared row movement) old new
-declared_written country row movement old new turns has typed same keys =
-    has_as _ (tables_after (Declared row movement)) old new
-    (ap (λ k. let t = tables_in old.now.trees in record t {
+declared_written country row movement old new turns l newest has typed same keys =
+    has_as l _ (tables_after (Declared row movement)) old new
+    (ap (λ k. let t = tables_in l old.now.trees in record t {
       holders = map (with_row row) t.holders;
       movements = movement_row row.holder (row.mrn_count, movement) ∷ t.movements;
       lines = line_rows k row.holder (row.mrn_count, movement) ++ t.lines;
-    }) (sym same)) (turns has typed)
+    }) (sym same)) (turns l newest has typed)
 
 pub moved_written : (country : List ℕ) (row : HolderRow) (status : NewStatus) (old new : State)
     → TurnsTables (λ t. record t {
       holders = map (with_row row) t.holders;
       movements = map (status_by_key row.holder (movement_no country status.mrn) status) t.movements;
     }) old new → WritesChange country (Moved row status) old new
-moved_written country row status old new turns has typed same keys =
-    has_as _ (tables_after (Moved row status)) old new
-    (ap (λ rows. let t = tables_in old.now.trees in record t { holders = map (with_row row) t.holders; movements = rows })
-    (status_put row.holder (movement_no country status.mrn) status (tables_in old.now.trees).movements
+moved_written country row status old new turns l newest has typed same keys =
+    has_as l _ (tables_after (Moved row status)) old new
+    (ap (λ rows. let t = tables_in l old.now.trees in record t { holders = map (with_row row) t.holders; movements = rows })
+    (status_put row.holder (movement_no country status.mrn) status (tables_in l old.now.trees).movements
     (subst (λ k. AllByRecursion (λ (m : Keyed Movement). bytes_eq m.row.mrn status.mrn
-    ≡ (m.serial == movement_no k status.mrn && bytes_eq m.row.mrn status.mrn)) (tables_in old.now.trees).movements)
-    same (keys.mrns status.mrn)))) (turns has typed)
+    ≡ (m.serial == movement_no k status.mrn && bytes_eq m.row.mrn status.mrn)) (tables_in l old.now.trees).movements)
+    same (keys.mrns status.mrn)))) (turns l newest has typed)
 
 pub terms_written : (country : List ℕ) (row : HolderRow) (terms : NewTerms) (old new : State)
     → TurnsTables (λ t. record t {
       holders = map (with_row row) t.holders;
       guarantees = map (terms_by_key row.holder (guarantee_no country terms.grn) terms) t.guarantees;
     }) old new → WritesChange country (TermsSet row terms) old new
-terms_written country row terms old new turns has typed same keys =
-    has_as _ (tables_after (TermsSet row terms)) old new
-    (ap (λ rows. let t = tables_in old.now.trees in record t { holders = map (with_row row) t.holders; guarantees = rows })
-    (terms_put row.holder (guarantee_no country terms.grn) terms (tables_in old.now.trees).guarantees
+terms_written country row terms old new turns l newest has typed same keys =
+    has_as l _ (tables_after (TermsSet row terms)) old new
+    (ap (λ rows. let t = tables_in l old.now.trees in record t { holders = map (with_row row) t.holders; guarantees = rows })
+    (terms_put row.holder (guarantee_no country terms.grn) terms (tables_in l old.now.trees).guarantees
     (subst (λ k. AllByRecursion (λ (g : Keyed Guarantee). bytes_eq g.row.grn terms.grn
-    ≡ (g.serial == guarantee_no k terms.grn && bytes_eq g.row.grn terms.grn)) (tables_in old.now.trees).guarantees)
-    same (keys.grns terms.grn)))) (turns has typed)
+    ≡ (g.serial == guarantee_no k terms.grn && bytes_eq g.row.grn terms.grn)) (tables_in l old.now.trees).guarantees)
+    same (keys.grns terms.grn)))) (turns l newest has typed)
 
 pub added_written : (country : List ℕ) (row : HolderRow) (grn code : List ℕ) (old new : State)
     → TurnsTables (λ t. record t {
       holders = map (with_row row) t.holders;
       codes = code_row row.holder (guarantee_no country grn) code ∷ t.codes;
     }) old new → WritesChange country (CodeAdded row grn code) old new
-added_written country row grn code old new turns has typed same keys =
-    has_as _ (tables_after (CodeAdded row grn code)) old new
-    (ap (λ k. let t = tables_in old.now.trees in record t {
+added_written country row grn code old new turns l newest has typed same keys =
+    has_as l _ (tables_after (CodeAdded row grn code)) old new
+    (ap (λ k. let t = tables_in l old.now.trees in record t {
       holders = map (with_row row) t.holders;
       codes = code_row row.holder (guarantee_no k grn) code ∷ t.codes;
-    }) (sym same)) (turns has typed)
+    }) (sym same)) (turns l newest has typed)
 
 pub removed_written : (country : List ℕ) (row : HolderRow) (grn code : List ℕ) (old new : State)
     → TurnsTables (λ t. record t {
       holders = map (with_row row) t.holders;
       codes = filter (λ r. not (is_code_of row.holder (guarantee_no country grn) code r)) t.codes;
     }) old new → WritesChange country (CodeRemoved row grn code) old new
-removed_written country row grn code old new turns has typed same keys =
-    has_as _ (tables_after (CodeRemoved row grn code)) old new
-    (ap (λ k. let t = tables_in old.now.trees in record t {
+removed_written country row grn code old new turns l newest has typed same keys =
+    has_as l _ (tables_after (CodeRemoved row grn code)) old new
+    (ap (λ k. let t = tables_in l old.now.trees in record t {
       holders = map (with_row row) t.holders;
       codes = filter (λ r. not (is_code_of row.holder (guarantee_no k grn) code r)) t.codes;
-    }) (sym same)) (turns has typed)
+    }) (sym same)) (turns l newest has typed)

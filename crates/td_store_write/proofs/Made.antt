@@ -1,5 +1,5 @@
 -- The tables that are made, and the office's row in them.
-use Rattle.std.proofs.Common.{◌≡◌, ◌∙◌, ℕ, List, [], ◌∷◌, map, IsPermutation, ap, sym, subst, arith}
+use Rattle.std.proofs.Common.{◌≡◌, ◌∙◌, ℕ, List, [], ◌∷◌, map, IsPermutation, ap, refl, sym, subst, arith}
 use Rattle.std.specs.List.{AllByRecursion}
 use Rattle.std.proofs.lemmas.List.Sorted.{IsPermutation-refl}
 use Rattle.sqlite_trees.specs.Tree.{Trees}
@@ -9,13 +9,15 @@ use Rattle.sqlite.proofs.Callers.{one_permutation}
 use Rattle.td_desk.specs.Content.{empty_content}
 use Rattle.td_base.specs.Codes.{IsCountry}
 use Rattle.td_schema.specs.Tables.{IsEmptyOf}
-use Rattle.td_schema.specs.Tables.{desk_schema}
+use Rattle.td_schema.specs.Layouts.{desk_schema, newest_layout, newest_version}
 use Rattle.typed_sql.specs.Writing.{HaveIds}
 use Rattle.typed_sql.specs.Typed.{AreTyped, HasNow, IsTypedRow, Typing, row_of, typed_rows}
-use Rattle.td_store_rows.specs.Columns.{meta_row, meta_typing, newest_version, holder_typing, guarantee_typing, code_typing, movement_typing, line_typing}
+use Rattle.td_store_rows.specs.Columns.{meta_row, meta_typing, holder_typing, guarantee_typing, code_typing, movement_typing, line_typing}
 use Rattle.td_store_rows.specs.MetaTable.{TurnsMeta}
 use Rattle.td_store_rows.specs.StoreTables.{AreTreesOf, HoldsContent, country_in}
+use Rattle.td_store_rows.proofs.Holding.{trees_still}
 use Rattle.td_store_rows.proofs.Turned.{listed_there}
+use Rattle.td_store_rows.proofs.WithoutAmounts.{none_kept}
 
 -- a table without rows is typed, and has no typed row
 none_typed : {R : Type 0} (ty : Typing R) (trees : Trees) → trees ty.table.tree ≡ [] → AreTyped ty trees
@@ -31,11 +33,13 @@ none_there ty trees none = subst (IsPermutation []) (ap (map (row_of ty)) (sym n
 pub of_empty_desk : (country : List ℕ) (old new : State) → IsCountry country → IsEmptyOf desk_schema old.now
     → TurnsMeta (λ rows. meta_row newest_version country ∷ rows) old new → AreTreesOf (empty_content country) new.now.trees
 of_empty_desk country old new is was turns = record {
-  listed = listed_there new.now now.schema now.sound;
+  layout = newest_layout;
+  newest = refl;
+  listed = listed_there newest_layout new.now now.schema now.sound;
   typed = record {
     meta = now.typed;
     holders = none_typed holder_typing b holders;
-    guarantees = none_typed guarantee_typing b guarantees;
+    guarantees = none_typed (guarantee_typing newest_layout) b guarantees;
     codes = none_typed code_typing b codes;
     movements = none_typed movement_typing b movements;
     lines = none_typed line_typing b lines;
@@ -44,7 +48,8 @@ of_empty_desk country old new is was turns = record {
   tables = record {
     country = ap country_in meta;
     holders = none_there holder_typing b holders;
-    guarantees = none_there guarantee_typing b guarantees;
+    guarantees = none_there (guarantee_typing newest_layout) b guarantees;
+    kept = λ keep. absurd (none_kept newest_layout b keep);
     codes = none_there code_typing b codes;
     movements = none_there movement_typing b movements;
     lines = none_there line_typing b lines;
@@ -59,7 +64,7 @@ of_empty_desk country old new is was turns = record {
     b = new.now.trees
 
     now : HasNow meta_typing desk_schema (meta_row newest_version country ∷ typed_rows meta_typing a) old.now new.now
-    now = turns (λ is_open. was.schema) (none_typed meta_typing a was.empty.0)
+    now = turns newest_layout (λ is_open. was.schema) (none_typed meta_typing a was.empty.0)
 
     meta : typed_rows meta_typing b ≡ meta_row newest_version country ∷ []
     meta = one_permutation (meta_row newest_version country) (typed_rows meta_typing b)
@@ -84,13 +89,14 @@ of_empty_desk country old new is was turns = record {
 schema_there : (country : List ℕ) (old new : State) → IsEmptyOf desk_schema old.now
     → TurnsMeta (λ rows. meta_row newest_version country ∷ rows) old new → new.now.schema ≡ desk_schema
 schema_there country old new was turns =
-    (turns (λ is_open. was.schema) (none_typed meta_typing old.now.trees was.empty.0)).schema
+    (turns newest_layout (λ is_open. was.schema) (none_typed meta_typing old.now.trees was.empty.0)).schema
 
 -- and a connection to them holds the content of the empty desk
 pub holds_empty : (country : List ℕ) (old made new : State) → IsCountry country → IsEmptyOf desk_schema old.now
     → TurnsMeta (λ rows. meta_row newest_version country ∷ rows) old made → new.now ≡ made.now
     → HoldsContent (empty_content country) new
+unfolding of_empty_desk
 holds_empty country old made new is was turns same = record {
+  trees = trees_still (empty_content country) made.now new.now same (of_empty_desk country old made is was turns);
   schema = λ _. ap (λ (d : Database). d.schema) same ∙ schema_there country old made was turns;
-  trees = subst (λ (d : Database). AreTreesOf (empty_content country) d.trees) (sym same) (of_empty_desk country old made is was turns);
 }

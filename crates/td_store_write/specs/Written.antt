@@ -9,8 +9,9 @@ use Rattle.td_acts.specs.declared.rows.NewTerms.{NewTerms}
 use Rattle.td_table_model.specs.Tables.{Keyed}
 use Rattle.td_table_model.specs.Changes.{tables_after}
 use Rattle.td_table_model.specs.Looking.{MayBeAskedByKey}
-use Rattle.td_schema.specs.Tables.{desk_schema}
 use Rattle.typed_sql.specs.Writing.{HasSchema}
+use Rattle.td_schema.specs.Layouts.{IsNewest, schema_of}
+use Rattle.td_schema.specs.declared.layout.Layout.{Layout}
 use Rattle.td_store_rows.specs.MovementTable.{has_mrn, with_new_status}
 use Rattle.td_store_rows.specs.GuaranteeTable.{has_grn, with_new_terms}
 use Rattle.td_store_rows.specs.StoreTables.{AreAllTyped, HasTables, tables_in}
@@ -23,9 +24,9 @@ status_by_key H n status m = if has_mrn H n status.mrn m then with_new_status st
 abbrev pub terms_by_key : ℕ → ℕ → NewTerms → Keyed Guarantee → Keyed Guarantee
 terms_by_key H n terms g = if has_grn H n terms.grn g then with_new_terms terms g else g
 
--- The statements of a change wrote it: in tables of this country, whose references tell their keys, they did what
+-- The statements of a change wrote it: in tables of the newest version and of this country, whose references tell their keys, they did what
 -- the change says.
 abbrev pub WritesChange : List ℕ → Change → State → State → Type 0
 WritesChange country change old new =
-    HasSchema old desk_schema → AreAllTyped old.now.trees → (tables_in old.now.trees).country ≡ country
-    → MayBeAskedByKey (tables_in old.now.trees) → HasTables (tables_after change) old new
+    (l : Layout) → IsNewest l → HasSchema old (schema_of l) → AreAllTyped l old.now.trees → (tables_in l old.now.trees).country ≡ country
+    → MayBeAskedByKey (tables_in l old.now.trees) → HasTables l (tables_after change) old new

@@ -7,8 +7,8 @@ ghost use Rattle.td_store_write.specs.Created.{CreatesTables, MayLeaveEmpty};
 use sqlite::{Connection, Error};
 use sqlite_trees::store::Alter;
 use td_base::Country;
-use td_schema::make_tables;
-use td_store_rows::{NEWEST_VERSION, insert_meta};
+use td_schema::{NEWEST_LAYOUT, NEWEST_VERSION, make_tables};
+use td_store_rows::insert_meta;
 use typed_sql::see_open;
 
 /// Makes the tables of an office of that country, which has no holders yet, in a database that has no table; all of it or,
@@ -29,7 +29,7 @@ pub fn create_tables<S: Alter>(conn: &mut Connection<S>, country: Country) -> Re
     let _settled = conn.is_autocommit();
     let _letters = country.as_bytes();
     let mut tx = conn.transaction();
-    make_tables(&mut tx)?;
+    make_tables(&mut tx, NEWEST_LAYOUT)?;
     insert_meta(&mut tx, NEWEST_VERSION, country)?;
     // (compiled over these tables, it takes no memory when it is asked again)
     see_open(&mut tx)?;

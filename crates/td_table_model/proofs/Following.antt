@@ -8,7 +8,7 @@ use Rattle.sqlite_trees.proofs.ListLemmas.{filter_as_flat_map, flat_map-one, IsP
 use Rattle.keyed_rows.specs.Rows.{row_at, Rises, put_row}
 use Rattle.td_model.specs.Account.{HolderRows, holder_key}
 use Rattle.td_desk.specs.Content.{Content}
-use Rattle.td_table_model.specs.Tables.{Tables, AreTablesOf}
+use Rattle.td_table_model.specs.Tables.{Tables, AreTablesOf, KeepAmounts}
 use Rattle.td_table_model.specs.Changes.{HaveSameRows}
 use Rattle.td_table_model.proofs.Edits.{put_in_table}
 
@@ -18,6 +18,7 @@ same_tables t new c are same = record {
   country = same.country ∙ are.country;
   holders = IsPermutation-trans _ _ _ are.holders same.holders;
   guarantees = IsPermutation-trans _ _ _ are.guarantees same.guarantees;
+  kept = λ keep. let kept : KeepAmounts t = rw (← same.version) keep in IsPermutation-trans _ _ _ (are.kept kept) (same.kept kept);
   codes = IsPermutation-trans _ _ _ are.codes same.codes;
   movements = IsPermutation-trans _ _ _ are.movements same.movements;
   lines = IsPermutation-trans _ _ _ are.lines same.lines;

@@ -11,18 +11,19 @@ use Rattle.td_movement.specs.declared.movement.Movement.{Movement}
 use Rattle.td_model.specs.Account.{HolderRows, guarantee_by_grn, holder_key}
 use Rattle.td_model.specs.Sound.{AreHolderRows, IsGuaranteeRow, IsMovementRow}
 use Rattle.td_desk.specs.Content.{Content, IsSound}
-use Rattle.td_table_model.specs.Tables.{Keyed, Tables, AreTablesOf, numbered, guarantee_row, code_row, code_rows, movement_row, line_row, line_rows, guarantees_in, code_rows_of, movements_in, line_rows_of}
+use Rattle.td_table_model.specs.Tables.{Keyed, Tables, AreTablesOf, KeepAmounts, numbered, guarantee_row, code_row, code_rows, movement_row, line_row, line_rows, guarantees_in, kept_in, code_rows_of, movements_in, line_rows_of}
 use Rattle.td_table_model.specs.Gathering.{in_order, of_key, owner, place, no_of, code_rank, holder_no, part, guarantees_by, codes_by, movements_by, lines_by, with_codes, with_lines, line_from, gathered, content_of}
 use Rattle.td_table_model.proofs.Orders.{brought_to_order, rises-map}
 use Rattle.td_table_model.proofs.Grouped.{flat_each}
 use Rattle.td_table_model.proofs.Numbered.{number, element, numbered_rises_low, elements_are, all_numbered, map_same}
-use Rattle.td_table_model.proofs.Owned.{owned_guarantees, owned_codes, owned_movements, owned_lines, placed_codes, placed_lines, guarantees_rise, movements_rise, lines_rise, codes_rise}
+use Rattle.td_table_model.proofs.Owned.{owned_guarantees, owned_kept, owned_codes, owned_movements, owned_lines, placed_codes, placed_lines, guarantees_rise, movements_rise, lines_rise, codes_rise}
 use Rattle.td_table_model.specs.Tables.{guarantee_no}
 use Rattle.td_table_model.proofs.References.{grn_back, grn_at}
 
--- a holder's part of each table has just this holder's rows
+-- a holder's part of each table has just this holder's rows, and the amounts in use where they are kept
 pub record HasParts (country : List ℕ) (t : Tables) (h : HolderRows) : Type 0 where
   pub guarantees : IsPermutation (guarantees_in h) (part h.row.holder t.guarantees)
+  pub kept : KeepAmounts t → IsPermutation (kept_in h) (part h.row.holder t.kept)
   pub codes : IsPermutation (code_rows_of h) (part h.row.holder t.codes)
   pub movements : IsPermutation (movements_in h) (part h.row.holder t.movements)
   pub lines : IsPermutation (line_rows_of country h) (part h.row.holder t.lines)
@@ -35,16 +36,24 @@ parts_in f owned hs rows rise same =
     (λ h has. subst (λ l. IsPermutation l (part h.row.holder rows)) has (IsPermutation-filter (λ r. owner r == holder_key h) (flat_map f hs) rows same))
     hs (flat_each holder_key owner f owned 0 hs rise)
 
+-- what holds of each, under a premise
+all_under : {X P : Type 0} (Q : X → Type 0) (xs : List X) → (P → AllByRecursion Q xs) → AllByRecursion (λ x. P → Q x) xs
+all_under Q [] all = tt
+all_under Q (x ∷ xs) all = (λ p. (all p).0, all_under Q xs (λ p. (all p).1))
+
 pub have_parts : (t : Tables) (c : Content) → IsSound c → AreTablesOf t c → AllByRecursion (HasParts c.country t) c.holders
 have_parts t c sound are =
-    join c.holders (parts_in guarantees_in owned_guarantees c.holders t.guarantees sound.order are.guarantees) (parts_in code_rows_of owned_codes c.holders t.codes sound.order are.codes)
+    join c.holders (parts_in guarantees_in owned_guarantees c.holders t.guarantees sound.order are.guarantees)
+    (all_under (λ (h : HolderRows). IsPermutation (kept_in h) (part h.row.holder t.kept)) c.holders (λ keep. parts_in kept_in owned_kept c.holders t.kept sound.order (are.kept keep)))
+    (parts_in code_rows_of owned_codes c.holders t.codes sound.order are.codes)
     (parts_in movements_in owned_movements c.holders t.movements sound.order are.movements) (parts_in (line_rows_of c.country) (owned_lines c.country) c.holders t.lines sound.order are.lines)
   where
-    join : (hs : List HolderRows) → AllByRecursion (λ (h : HolderRows). IsPermutation (guarantees_in h) (part h.row.holder t.guarantees)) hs → AllByRecursion (λ (h : HolderRows). IsPermutation (code_rows_of h) (part h.row.holder t.codes)) hs
+    join : (hs : List HolderRows) → AllByRecursion (λ (h : HolderRows). IsPermutation (guarantees_in h) (part h.row.holder t.guarantees)) hs
+        → AllByRecursion (λ (h : HolderRows). KeepAmounts t → IsPermutation (kept_in h) (part h.row.holder t.kept)) hs → AllByRecursion (λ (h : HolderRows). IsPermutation (code_rows_of h) (part h.row.holder t.codes)) hs
         → AllByRecursion (λ (h : HolderRows). IsPermutation (movements_in h) (part h.row.holder t.movements)) hs → AllByRecursion (λ (h : HolderRows). IsPermutation (line_rows_of c.country h) (part h.row.holder t.lines)) hs
         → AllByRecursion (HasParts c.country t) hs
-    join [] gs cs ms ls = tt
-    join (h ∷ hs) gs cs ms ls = (record { guarantees = gs.0; codes = cs.0; movements = ms.0; lines = ls.0 }, join hs gs.1 cs.1 ms.1 ls.1)
+    join [] gs ks cs ms ls = tt
+    join (h ∷ hs) gs ks cs ms ls = (record { guarantees = gs.0; kept = ks.0; codes = cs.0; movements = ms.0; lines = ls.0 }, join hs gs.1 ks.1 cs.1 ms.1 ls.1)
 
 module _ (country : List ℕ) (t : Tables) (h : HolderRows) (form : IsCountry country) (sound : AreHolderRows country h) (parts : HasParts country t h) where
   -- the rows of each table, in order

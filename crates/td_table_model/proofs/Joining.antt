@@ -1,6 +1,6 @@
 -- The lines on a guarantee of the movements that count add up to the amount in use on it.
 use Rattle.std.proofs.Common.{sum_by, ◌≡◌, ℕ, ◌+◌, Bool, true, false, cond, List, [], ◌∷◌, map, filter, flat_map, Option, Some, None, IsSome, refl, sym, ◌∙◌, ap, ap₂, subst, arith, IsPermutation}
-use Rattle.std.specs.Prelude.{◌==◌, ◌&&◌, IfSome, if◌then◌else◌}
+use Rattle.std.specs.Prelude.{◌==◌, ◌&&◌, IfSome, if◌then◌else◌, unwrap_or}
 use Rattle.std.specs.List.{AllByRecursion}
 use Rattle.std.specs.Option.{option_map_or}
 use Rattle.std.specs.Str.{bytes_eq}
@@ -11,22 +11,25 @@ use Rattle.std.proofs.lemmas.Slice.Eq.{bytes_eq-Decides}
 use Rattle.sqlite_trees.proofs.ListLemmas.{all_both, IsPermutation-filter}
 use Rattle.keyed_rows.proofs.Putting.{row_at_has, All-row_at}
 use Rattle.td_base.specs.Codes.{IsCountry}
+use Rattle.td_base.specs.References.{serial_of}
 use Rattle.td_guarantee.specs.Usage.{cents_on, lines_on, movement_on, used_on}
 use Rattle.td_movement.specs.declared.line.Line.{Line}
 use Rattle.td_movement.specs.declared.movement.Movement.{Movement}
 use Rattle.td_movement.specs.States.{is_counting}
-use Rattle.td_model.specs.Account.{HolderRows, guarantee_by_grn, holder_key}
+use Rattle.td_model.specs.Account.{HolderRows, guarantee_by_grn, holder_key, movement_by_mrn}
 use Rattle.td_model.specs.Sound.{AreHolderRows, IsMovementRow}
 use Rattle.td_desk.specs.Content.{Content, account_in, rows_of, IsSound}
 use Rattle.td_table_model.specs.Tables.{Keyed, LineCells, Tables, AreTablesOf, numbered, guarantee_row, guarantee_no, movement_row, line_row, line_rows, movements_in, line_rows_of}
 use Rattle.td_table_model.specs.Gathering.{of_key, owner, place, part}
-use Rattle.td_table_model.specs.Looking.{counting_rows, lines_of_row, lines_in_use, cents_of}
+use Rattle.td_table_model.specs.Looking.{counting_rows, lines_of_row, lines_in_use, cents_of, amount_between, movement_no}
+use Rattle.td_table_model.proofs.Amounts.{at_found}
 use Rattle.td_table_model.proofs.Counting.{sum_by-map, filter_both}
 use Rattle.td_table_model.proofs.Grouped.{flat_each}
 use Rattle.td_table_model.proofs.Numbered.{number, element, numbered_rises_low, elements_are, all_numbered}
 use Rattle.td_table_model.proofs.Owned.{placed_lines}
 use Rattle.td_table_model.proofs.References.{grn_at, grn_back}
 use Rattle.td_table_model.proofs.Gathered.{HasParts, have_parts}
+use Rattle.td_table_model.proofs.Told.{mrns_placed}
 
 -- a sum over lists put together
 sum_by-flat_map : {X Y : Type 0} (f : Y → ℕ) (g : X → List Y) (xs : List X) → sum_by f (flat_map g xs) ≡ sum_by (λ x. sum_by f (g x)) xs
@@ -91,6 +94,22 @@ module _ (t : Tables) (country : List ℕ) (h : HolderRows) (form : IsCountry co
       ∙ sum_by-IsPermutation taken (line_rows country h.row.holder p) (of_key place p.0 (part h.row.holder t.lines))
       (subst (λ l. IsPermutation l (of_key place p.0 (part h.row.holder t.lines))) has (IsPermutation-filter (λ r. place r == p.0) (line_rows_of country h) (part h.row.holder t.lines) parts.lines))
       ∙ rows_on p.0 0 p.1.lines row.lines.own
+
+  -- the amount of each movement on it
+  amounts : AllByRecursion (λ (p : ℕ × Movement). amount_between h.row.holder p.0 n t ≡ lines_on grn p.1.lines) (numbered 0 h.movements)
+  amounts = all_both (λ (p : ℕ × Movement). of_key place p.0 (line_rows_of country h) ≡ line_rows country h.row.holder p) (λ (p : ℕ × Movement). IsMovementRow country h.row.holder h.guarantees p.0 p.1)
+      (λ (p : ℕ × Movement). amount_between h.row.holder p.0 n t ≡ lines_on grn p.1.lines) row_on
+      (numbered 0 h.movements) (flat_each number place (line_rows country h.row.holder) (placed_lines country h.row.holder) 0 (numbered 0 h.movements) (numbered_rises_low 0 h.movements))
+      (all_numbered (IsMovementRow country h.row.holder h.guarantees) 0 h.movements is.movements)
+
+  -- and of the one with an MRN
+  pub amount_of : (mrn : List ℕ) (found : Movement) → movement_by_mrn mrn h.movements ≡ Some found → amount_between h.row.holder (movement_no country mrn) n t ≡ lines_on grn found.lines
+  amount_of mrn found there =
+      let at = at_found (λ k m. (amount_between h.row.holder k n t ≡ lines_on grn m.lines) × (serial_of country m.mrn ≡ Some k)) mrn 0 h.movements found there
+      (all_both (λ (p : ℕ × Movement). amount_between h.row.holder p.0 n t ≡ lines_on grn p.1.lines) (λ (p : ℕ × Movement). serial_of country p.1.mrn ≡ Some p.0)
+      (λ p. (amount_between h.row.holder p.0 n t ≡ lines_on grn p.1.lines) × (serial_of country p.1.mrn ≡ Some p.0)) (λ p amount serial. (amount, serial)) (numbered 0 h.movements) amounts (mrns_placed country h form is)) in
+      let no : movement_no country mrn ≡ at.0 = ap (λ o. unwrap_or o 0) (ap (serial_of country) (sym at.2) ∙ at.1.1) in
+      ap (λ k. amount_between h.row.holder k n t) no ∙ at.1.0
 
   -- what a row of a movement has in use on it
   abbrev used_by : Keyed Movement → ℕ

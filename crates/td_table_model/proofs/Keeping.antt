@@ -1,10 +1,11 @@
 -- Tables of sound content keep the rules: what the database keeps.
-use Rattle.std.proofs.Common.{◌≡◌, ◌≢◌, ℕ, List, [], ◌∷◌, length, map, filter, flat_map, Option, Some, None, IsSome, refl, sym, ◌∙◌, ap, subst, arith, IsPermutation}
+use Rattle.std.proofs.Common.{◌≡◌, ◌≢◌, ℕ, List, [], ◌∷◌, ◌++◌, length, map, filter, flat_map, Option, Some, None, IsSome, refl, sym, ◌∙◌, ap, ap₂, subst, arith, IsPermutation}
 use Rattle.std.specs.Prelude.{◌==◌, IfSome, AllPairs}
 use Rattle.std.specs.List.{AllByRecursion}
 use Rattle.std.specs.Option.{option_map_or}
 use Rattle.std.specs.Str.{bytes_eq}
-use Rattle.std.proofs.lemmas.List.{length-map}
+use Rattle.std.proofs.lemmas.List.{length-map, map-append}
+use Rattle.std.proofs.lemmas.List.Sorted.{IsPermutation-map, IsPermutation-sym, IsPermutation-trans}
 use Rattle.sqlite_trees.proofs.ListLemmas.{filter-map, all_of, all_weaker, all-flat_map, all-map, all_from_map, all-permutation, IsPermutation-filter}
 use Rattle.keyed_rows.specs.Rows.{row_at}
 use Rattle.keyed_rows.proofs.Putting.{All-row_at}
@@ -21,9 +22,10 @@ use Rattle.td_model.specs.declared.holder_row.HolderRow.{HolderRow}
 use Rattle.td_model.specs.Account.{HolderRows, holder_key}
 use Rattle.td_model.specs.Sound.{AreHolderRows, IsGuaranteeRow}
 use Rattle.td_desk.specs.Content.{Content, IsSound}
-use Rattle.td_table_model.specs.Tables.{Keyed, Tables, AreTablesOf, numbered, guarantee_row, code_row, code_rows, movement_row, line_rows, guarantees_in, code_rows_of, movements_in, line_rows_of}
+use Rattle.td_table_model.specs.Tables.{Keyed, Tables, AreTablesOf, KeepAmounts, numbered, guarantee_row, code_row, code_rows, movement_row, line_rows, guarantees_in, kept_in, without_amount, code_rows_of, movements_in, line_rows_of}
 use Rattle.td_table_model.specs.Gathering.{IsApart, IsTextApart, holder_no, no_of, of_key, owner, part, place}
 use Rattle.td_table_model.specs.Stored.{AreStored, AreOfHolders}
+use Rattle.td_table_model.proofs.Amounts.{guarantees_again}
 use Rattle.td_table_model.proofs.Orders.{apart_permuted, rises_apart, rises-map, each_found, found_in_order}
 use Rattle.td_table_model.proofs.Grouped.{flat_of}
 use Rattle.td_table_model.proofs.Numbered.{number, element, numbered_rises_low, elements_are, all_numbered}
@@ -118,6 +120,16 @@ module _ (t : Tables) (c : Content) (sound : IsSound c) (are : AreTablesOf t c) 
       (all-flat_map (λ r. IsSome (row_at holder_no (owner r) t.holders)) f c.holders (all_weaker (λ (h : HolderRows). IsSome (row_at holder_no (holder_key h) t.holders)) (λ h. AllByRecursion (λ r. IsSome (row_at holder_no (owner r) t.holders)) (f h))
       (λ h some. all_weaker (λ x. owner x ≡ holder_key h) (λ x. IsSome (row_at holder_no (owner x) t.holders)) (λ x own. subst (λ n. IsSome (row_at holder_no n t.holders)) (sym own) some) (f h) (owned h)) c.holders holders_there))
 
+  -- the rows that are to keep amounts are those of the guarantees
+  kept_rows : (hs : List HolderRows) → map without_amount (flat_map kept_in hs) ≡ flat_map guarantees_in hs
+  kept_rows [] = refl
+  kept_rows (h ∷ hs) = map-append without_amount (kept_in h) (flat_map kept_in hs) ∙ ap₂ ◌++◌ (guarantees_again h.movements (guarantees_in h)) (kept_rows hs)
+
+  kept_guarantees : KeepAmounts t → IsPermutation t.guarantees (map without_amount t.kept)
+  kept_guarantees keep =
+      IsPermutation-trans _ _ _ (IsPermutation-sym _ _ are.guarantees)
+      (subst (λ l. IsPermutation l (map without_amount t.kept)) (kept_rows c.holders) (IsPermutation-map without_amount _ _ (are.kept keep)))
+
   pub are_stored : AreStored t
   are_stored = record {
     numbers = all-permutation (λ (r : HolderRow). IsHolderNumber r.holder) (map (λ (h : HolderRows). h.row) c.holders) t.holders are.holders
@@ -138,4 +150,5 @@ module _ (t : Tables) (c : Content) (sound : IsSound c) (are : AreTablesOf t c) 
     without_lines = all-permutation (λ (m : Keyed Movement). m.row.lines ≡ []) (flat_map movements_in c.holders) t.movements are.movements
         (all-flat_map (λ (m : Keyed Movement). m.row.lines ≡ []) movements_in c.holders (all_of (λ h. AllByRecursion (λ (m : Keyed Movement). m.row.lines ≡ []) (movements_in h))
         (λ h. all-map (λ (m : Keyed Movement). m.row.lines ≡ []) (movement_row h.row.holder) (numbered 0 h.movements) (all_of (λ p. (movement_row h.row.holder p).row.lines ≡ []) (λ p. refl) (numbered 0 h.movements))) c.holders));
+    kept = kept_guarantees;
   }

@@ -16,9 +16,9 @@ use Rattle.td_model.specs.Account.{HolderRows, guarantee_by_grn}
 use Rattle.td_model.specs.Sound.{AreHolderRows, IsGuaranteeRow, IsMovementRow, IsCovered}
 use Rattle.td_acts.proofs.Joined.{AllPairs-map}
 use Rattle.td_desk.specs.Content.{Content, IsSound}
-use Rattle.td_table_model.specs.Tables.{Keyed, LineCells, Tables, AreTablesOf, numbered, guarantee_row, guarantee_no, code_row, code_rows, movement_row, line_row, line_rows, guarantees_in, code_rows_of, movements_in, line_rows_of}
+use Rattle.td_table_model.specs.Tables.{Keyed, LineCells, Tables, AreTablesOf, numbered, guarantee_row, guarantee_no, code_row, code_rows, movement_row, line_row, line_rows, guarantees_in, kept_in, with_use, code_rows_of, movements_in, line_rows_of}
 use Rattle.td_table_model.specs.Gathering.{IsApart, guarantees_by, lines_by, movements_by, no_of, of_key, part, place}
-use Rattle.td_table_model.specs.Rules.{IsGuaranteeInRange, HasGuarantees, HasCodes, IsMovementInRange, HasMovements, AreLinesInRange, HasLines, KeepsRules, KeepRules, count_of_codes, named_by}
+use Rattle.td_table_model.specs.Rules.{IsGuaranteeInRange, HasGuarantees, HasCodes, IsMovementInRange, HasMovements, AreLinesInRange, HasLines, HasAmounts, IsInUse, KeepsRules, KeepRules, count_of_codes, named_by}
 use Rattle.td_table_model.proofs.Orders.{each_found}
 use Rattle.td_table_model.proofs.Grouped.{flat_each}
 use Rattle.td_table_model.proofs.Numbered.{number, numbered_rises_low, all_numbered, length-numbered, numbered_made, all_with_numbers}
@@ -154,6 +154,13 @@ module _ (country : List ℕ) (t : Tables) (same : t.country ≡ country) (h : H
         (λ p some. all-map (λ l. IsSome (row_at place (place l) (movements_by H t))) (line_row country H p.0) (numbered 0 p.1.lines) (all_of (λ q. IsSome (row_at place p.0 (movements_by H t))) (λ q. some) (numbered 0 p.1.lines))) (numbered 0 h.movements) movements_there));
   }
 
+  -- of the amounts that are kept
+  has_amounts : HasAmounts t h.row
+  has_amounts keep =
+      subst (λ (g : HolderRows). AllByRecursion (IsInUse g.movements) (part H t.kept)) (sym (gathered_back country t h form sound parts))
+      (all-permutation (IsInUse h.movements) (kept_in h) (part H t.kept) (parts.kept keep)
+      (all-map (IsInUse h.movements) (with_use h.movements) (guarantees_in h) (all_of (λ g. IsInUse h.movements (with_use h.movements g)) (λ g. refl) (guarantees_in h))))
+
   pub keeps_rules : KeepsRules t h.row
   keeps_rules = record {
     holder = record { eori = sound.row.eori; last_at = sound.row.last_at };
@@ -161,6 +168,7 @@ module _ (country : List ℕ) (t : Tables) (same : t.country ≡ country) (h : H
     codes = has_codes;
     movements = has_movements;
     lines = has_lines;
+    amounts = has_amounts;
     cover = subst (λ (g : HolderRows). AllByRecursion (IsCovered g.movements) g.guarantees) (sym (gathered_back country t h form sound parts)) sound.cover;
   }
 

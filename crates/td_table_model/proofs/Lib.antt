@@ -22,3 +22,5 @@ pub mod Counting
 pub mod Joining
 pub mod Told
 pub mod Failing
+pub mod Amounts
+pub mod KeptAmounts

@@ -1,5 +1,5 @@
 -- Elements with their numbers.
-use Rattle.std.proofs.Common.{◌≡◌, ℕ, suc, ◌+◌, List, [], ◌∷◌, ◌++◌, length, map, refl, ◌∙◌, ap, ap₂, arith}
+use Rattle.std.proofs.Common.{◌≡◌, ℕ, suc, ◌+◌, List, [], ◌∷◌, ◌++◌, length, map, refl, ◌∙◌, ap, ap₂, subst, arith}
 use Rattle.std.specs.List.{AllByRecursion}
 use Rattle.keyed_rows.specs.Rows.{Rises}
 use Rattle.td_table_model.specs.Gathering.{IsNumbered}
@@ -37,6 +37,11 @@ module _ {X : Type 0} where
   pub all_numbered : (P : ℕ → X → Type 0) (n : ℕ) (xs : List X) → AllNumbered P n xs → AllByRecursion (λ p. P p.0 p.1) (numbered n xs)
   all_numbered P n [] all = tt
   all_numbered P n (x ∷ xs) all = (all.0, all_numbered P (n + 1) xs all.1)
+
+  -- and of the last of them
+  pub last_numbered : (P : ℕ → X → Type 0) (n : ℕ) (xs : List X) (x : X) → AllNumbered P n (xs ++ x ∷ []) → P (n + length xs + 1) x
+  last_numbered P n [] x all = subst (λ k. P k x) (omega arith) all.0
+  last_numbered P n (y ∷ xs) x all = subst (λ k. P k x) (omega arith) (last_numbered P (n + 1) xs x all.1)
 
   -- elements that are made of others in their places
   pub numbered-map : {Y : Type 0} (f : X → Y) (n : ℕ) (xs : List X) → numbered n (map f xs) ≡ map (λ (p : ℕ × X). (p.0, f p.1)) (numbered n xs)

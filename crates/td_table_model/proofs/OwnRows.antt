@@ -42,7 +42,7 @@ module _ {X Y : Type 0} (f : ℕ × X → List Y) where
       IsPermutation-trans _ _ _ (IsPermutation-append_comm (f (k, x)) (flat_map f (numbered 0 xs))) (IsPermutation-same _ _ e)
 
 -- a number is itself
-itself : (H : ℕ) → (H == H) ≡ true
+pub itself : (H : ℕ) → (H == H) ≡ true
 itself H = grind (arith, nat_tests)
 
 -- movements of which one has moved

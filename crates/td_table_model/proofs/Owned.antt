@@ -6,7 +6,7 @@ use Rattle.keyed_rows.specs.Rows.{Rises}
 use Rattle.td_guarantee.specs.declared.guarantee.Guarantee.{Guarantee}
 use Rattle.td_movement.specs.declared.movement.Movement.{Movement}
 use Rattle.td_model.specs.Account.{HolderRows, holder_key}
-use Rattle.td_table_model.specs.Tables.{numbered, guarantee_row, code_row, code_rows, movement_row, line_row, line_rows, guarantees_in, code_rows_of, movements_in, line_rows_of}
+use Rattle.td_table_model.specs.Tables.{numbered, guarantee_row, code_row, code_rows, movement_row, line_row, line_rows, guarantees_in, kept_in, with_use, code_rows_of, movements_in, line_rows_of}
 use Rattle.td_model.specs.Sound.{AreCodes}
 use Rattle.td_base.specs.Codes.{IsAccessCode}
 use Rattle.std.proofs.lemmas.List.Elements.{recursion_from_All}
@@ -17,6 +17,9 @@ use Rattle.td_table_model.proofs.Numbered.{number, numbered_rises_low}
 
 pub owned_guarantees : (h : HolderRows) → AllByRecursion (λ x. owner x ≡ holder_key h) (guarantees_in h)
 owned_guarantees h = all-map (λ x. owner x ≡ holder_key h) (guarantee_row h.row.holder) (numbered 0 h.guarantees) (all_of (λ p. holder_key h ≡ holder_key h) (λ p. refl) (numbered 0 h.guarantees))
+
+pub owned_kept : (h : HolderRows) → AllByRecursion (λ x. owner x ≡ holder_key h) (kept_in h)
+owned_kept h = all-map (λ x. owner x ≡ holder_key h) (with_use h.movements) (guarantees_in h) (owned_guarantees h)
 
 pub owned_movements : (h : HolderRows) → AllByRecursion (λ x. owner x ≡ holder_key h) (movements_in h)
 owned_movements h = all-map (λ x. owner x ≡ holder_key h) (movement_row h.row.holder) (numbered 0 h.movements) (all_of (λ p. holder_key h ≡ holder_key h) (λ p. refl) (numbered 0 h.movements))

@@ -3,8 +3,8 @@ use Rattle.std.proofs.Common.{◌≡◌, ℕ, ◌+◌, ◌<◌, ◌≤◌, List,
 use Rattle.std.specs.Prelude.{◌==◌, IfSome, unwrap_or}
 use Rattle.std.specs.List.{AllByRecursion}
 use Rattle.std.specs.Option.{option_map_or}
-use Rattle.std.proofs.lemmas.List.Sorted.{IsPermutation-sym, IsPermutation-trans}
-use Rattle.sqlite_trees.proofs.ListLemmas.{map-map, flat_map-map, all_weaker, all_both, all-filter}
+use Rattle.std.proofs.lemmas.List.Sorted.{IsPermutation-map, IsPermutation-sym, IsPermutation-trans}
+use Rattle.sqlite_trees.proofs.ListLemmas.{filter-map, map-map, flat_map-map, all_weaker, all_both, all_from_map, all-filter, all-permutation, IsPermutation-filter}
 use Rattle.keyed_rows.specs.Rows.{row_at}
 use Rattle.keyed_rows.proofs.Putting.{row_at_has, All-row_at}
 use Rattle.td_base.specs.Codes.{IsCountry, IsHolderNumber, IsAccessCode}
@@ -14,10 +14,11 @@ use Rattle.td_guarantee.specs.declared.guarantee.Guarantee.{Guarantee}
 use Rattle.td_movement.specs.declared.movement.Movement.{Movement}
 use Rattle.td_model.specs.declared.holder_row.HolderRow.{HolderRow}
 use Rattle.td_model.specs.Account.{HolderRows}
-use Rattle.td_table_model.specs.Tables.{Keyed, LineCells, Tables, AreTablesOf, numbered, guarantee_row, guarantee_no, code_row, code_rows, movement_row, line_row, line_rows, guarantees_in, code_rows_of, movements_in, line_rows_of}
+use Rattle.td_table_model.specs.Tables.{Keyed, Kept, LineCells, Tables, AreTablesOf, KeepAmounts, numbered, guarantee_row, guarantee_no, code_row, code_rows, movement_row, line_row, line_rows, guarantees_in, kept_in, with_use, without_amount, code_rows_of, movements_in, line_rows_of}
 use Rattle.td_table_model.specs.Gathering.{IsApart, IsNumbered, code_rank, codes_by, content_of, gathered, grn_by, guarantees_by, holder_no, in_order, line_from, lines_by, movements_by, no_of, of_key, owner, part, place, with_codes, with_lines}
 use Rattle.td_table_model.specs.Stored.{AreStored, AreOfHolders}
-use Rattle.td_table_model.specs.Rules.{KeepsRules, KeepRules, IsGuaranteeInRange, AreLinesInRange}
+use Rattle.td_table_model.specs.Rules.{KeepsRules, KeepRules, IsGuaranteeInRange, AreLinesInRange, IsInUse}
+use Rattle.td_table_model.proofs.Amounts.{use_again}
 use Rattle.td_table_model.proofs.Orders.{in_order_rises, in_order_permutes, found_in_order}
 use Rattle.td_table_model.proofs.Grouped.{of_key_has, grouped, together}
 use Rattle.td_table_model.proofs.Ranks.{ranks_apart}
@@ -128,6 +129,16 @@ module _ (t : Tables) (stored : AreStored t) (form : IsCountry t.country) (row :
       rw (flat_numbered place (with_lines t) (line_rows t.country H) 0 (movements_by H t) keeps.movements.serials)
       (IsPermutation-trans _ _ _ each (together place place 0 (movements_by H t) (in_order_rises place (part H t.movements)) (part H t.lines) keeps.lines.belong))
 
+  -- the amounts that are kept
+  pub kept_permuted : KeepAmounts t → IsPermutation (kept_in (gathered t row)) (part H t.kept)
+  kept_permuted keep =
+      let ms = (gathered t row).movements in
+      let own : AllByRecursion (λ (k : Keyed Kept). IsInUse ms k) (part H t.kept) = keeps.amounts keep in
+      let rows : IsPermutation (part H t.guarantees) (map without_amount (part H t.kept)) =
+      subst (IsPermutation (part H t.guarantees)) (filter-map (λ r. owner r == H) without_amount t.kept) (IsPermutation-filter (λ r. owner r == H) t.guarantees (map without_amount t.kept) (stored.kept keep)) in
+      subst (IsPermutation (kept_in (gathered t row))) (use_again (λ h. ms) (part H t.kept) own)
+      (IsPermutation-map (with_use ms) _ _ (IsPermutation-trans _ _ _ guarantees_permuted rows))
+
 module _ (t : Tables) (keep : KeepRules t) where
   -- the holders in order
   abbrev pub holders : List HolderRow
@@ -152,11 +163,18 @@ module _ (t : Tables) (keep : KeepRules t) where
       unmapped [] = refl
       unmapped (x ∷ xs) = ap (λ l. x ∷ l) (unmapped xs)
 
+  -- the rows that keep amounts are of holders that are there, as those of guarantees are
+  kept_owned : KeepAmounts t → AreOfHolders t.holders t.kept
+  kept_owned kept =
+      all_from_map (λ (r : Keyed Guarantee). IsSome (row_at holder_no (owner r) t.holders)) without_amount t.kept
+      (all-permutation (λ r. IsSome (row_at holder_no (owner r) t.holders)) t.guarantees (map without_amount t.kept) (keep.stored.kept kept) keep.stored.guarantees_owned)
+
   pub are_of_content : AreTablesOf t (content_of t)
   are_of_content = record {
     country = refl;
     holders = rw rows_of_holders (IsPermutation-sym _ _ (in_order_permutes holder_no t.holders keep.stored.holders));
     guarantees = whole guarantees_in t.guarantees keep.stored.guarantees_owned (λ row is. guarantees_permuted t keep.stored keep.country row is.0 is.1);
+    kept = λ kept. whole kept_in t.kept (kept_owned kept) (λ row is. kept_permuted t keep.stored keep.country row is.0 is.1 kept);
     codes = whole code_rows_of t.codes keep.stored.codes_owned (λ row is. codes_permuted t keep.stored keep.country row is.0 is.1);
     movements = whole movements_in t.movements keep.stored.movements_owned (λ row is. movements_permuted t keep.stored keep.country row is.0 is.1);
     lines = whole (line_rows_of t.country) t.lines keep.stored.lines_owned (λ row is. lines_permuted t keep.stored keep.country row is.0 is.1);

@@ -5,7 +5,7 @@ use Rattle.std.specs.List.{AllByRecursion}
 use Rattle.std.specs.Str.{bytes_eq}
 use Rattle.std.proofs.lemmas.Bool.Decides.{nat_tests}
 use Rattle.std.proofs.lemmas.Slice.Eq.{bytes_eq-Decides}
-use Rattle.sqlite_trees.proofs.ListLemmas.{all_weaker, all_both, all-flat_map, all-map, all-permutation}
+use Rattle.sqlite_trees.proofs.ListLemmas.{all_weaker, all_both, all-flat_map, all-map, all_from_map, all-permutation}
 use Rattle.td_base.specs.Codes.{IsCountry}
 use Rattle.td_base.specs.Days.{year_of}
 use Rattle.td_base.specs.References.{owner_of, serial_of}
@@ -47,6 +47,17 @@ movements_told country h form is =
       ap (serial_of country) m.mrn ∙ made_serial_is 7 (year_of p.1.accepted % 100) country h.row.holder p.0 form is.row.number (omega (arith, within, is.mrn_count, is.mrn_most)),
     ))
     (numbered 0 h.movements) (numbers_within 0 h.movements) (all_numbered (IsMovementRow country h.row.holder h.guarantees) 0 h.movements is.movements))
+
+-- the serials in the references of a holder's guarantees and movements are their places
+pub grns_placed : (country : List ℕ) (h : HolderRows) → IsCountry country → AreHolderRows country h → AllByRecursion (λ (p : ℕ × Guarantee). serial_of country p.1.grn ≡ Some p.0) (numbered 0 h.guarantees)
+grns_placed country h form is =
+    all_weaker (λ (p : ℕ × Guarantee). IsToldIn country p.1.grn h.row.holder p.0) (λ (p : ℕ × Guarantee). serial_of country p.1.grn ≡ Some p.0) (λ p told. told.1) (numbered 0 h.guarantees)
+    (all_from_map (λ (g : Keyed Guarantee). IsToldIn country g.row.grn g.holder g.serial) (guarantee_row h.row.holder) (numbered 0 h.guarantees) (guarantees_told country h form is))
+
+pub mrns_placed : (country : List ℕ) (h : HolderRows) → IsCountry country → AreHolderRows country h → AllByRecursion (λ (p : ℕ × Movement). serial_of country p.1.mrn ≡ Some p.0) (numbered 0 h.movements)
+mrns_placed country h form is =
+    all_weaker (λ (p : ℕ × Movement). IsToldIn country p.1.mrn h.row.holder p.0) (λ (p : ℕ × Movement). serial_of country p.1.mrn ≡ Some p.0) (λ p told. told.1) (numbered 0 h.movements)
+    (all_from_map (λ (m : Keyed Movement). IsToldIn country m.row.mrn m.holder m.serial) (movement_row h.row.holder) (numbered 0 h.movements) (movements_told country h form is))
 
 -- of all rows of a table
 pub tell_keys : (t : Tables) (c : Content) → IsSound c → AreTablesOf t c → TellKeys t

@@ -1,6 +1,6 @@
 -- The laws of the tables.
 use Rattle.std.specs.Prelude.{◌≡◌, ◌↔◌, ℕ, List, map, IsSome}
-use Rattle.std.specs.List.{sum_by}
+use Rattle.std.specs.List.{AllByRecursion, sum_by}
 use Rattle.std.specs.List.Sorted.{IsPermutation}
 use Rattle.td_guarantee.specs.Usage.{used_on}
 use Rattle.td_movement.specs.declared.movement.Movement.{Movement}
@@ -9,22 +9,23 @@ use Rattle.td_acts.specs.declared.rows.Verdict.{Verdict}
 use Rattle.td_desk.specs.Content.{Content, account_in, content_after, IsSound}
 use Rattle.td_desk.specs.Weighing.{IsDecision}
 use Rattle.td_model.specs.Account.{guarantee_by_grn}
-use Rattle.td_table_model.specs.Tables.{Keyed, LineCells, Tables, AreTablesOf, guarantee_no}
+use Rattle.td_table_model.specs.Tables.{Keyed, Kept, LineCells, Tables, AreTablesOf, KeepAmounts, guarantee_no, version_with_amounts, without_amount}
 use Rattle.td_table_model.specs.Gathering.{content_of, with_lines}
 use Rattle.td_table_model.specs.Looking.{account_by, AreFoundIn, counting_rows, lines_in_use, cents_of, TellKeys, MayBeAskedByKey}
-use Rattle.td_table_model.specs.Changes.{tables_after, HaveSameRows, CanBeWritten}
-use Rattle.td_table_model.specs.Rules.{KeepRules}
+use Rattle.td_table_model.specs.Changes.{tables_after, HaveSameRows, CanBeWritten, FollowsMoves}
+use Rattle.td_table_model.specs.Rules.{KeepRules, IsInUse}
 
 -- tables that have just the rows of sound content have that content
 abbrev pub ContentIsOfTables : Type 0
 ContentIsOfTables = (t : Tables) (c : Content) → IsSound c → AreTablesOf t c → content_of t ≡ c
 
 -- The statements of a change turn tables of a content into tables of the content after the change, and the new
--- tables have that content.
+-- tables have that content. Where amounts in use are kept, the change has to follow the table of moves.
 abbrev pub ChangesAreWritten : Type 0
 ChangesAreWritten =
     (change : Change) (old new : Tables) (c : Content) → IsSound c → IsSound (content_after change c)
-    → CanBeWritten c change → AreTablesOf old c → HaveSameRows (tables_after change old) new
+    → CanBeWritten c change → (KeepAmounts old → FollowsMoves c change)
+    → AreTablesOf old c → HaveSameRows (tables_after change old) new
     → AreTablesOf new (content_after change c) × (content_of new ≡ content_after change c)
 
 -- The same of what a desk decides on a command over that content: its statements write it.
@@ -76,3 +77,19 @@ LinesInUseAreUse =
 abbrev pub ReferencesTellKeys : Type 0
 ReferencesTellKeys =
     (t : Tables) (c : Content) → IsSound c → AreTablesOf t c → TellKeys t × MayBeAskedByKey t
+
+-- the amount that a row keeps is what the content has in use on its guarantee
+abbrev pub IsAmountOf : Content → Keyed Kept → Type 0
+IsAmountOf c k = IsInUse (account_in k.holder c).movements k
+
+-- an amount that is kept is what is in use
+abbrev pub AmountsAreUse : Type 0
+AmountsAreUse =
+    (t : Tables) (c : Content) → IsSound c → AreTablesOf t c → KeepAmounts t → AllByRecursion (IsAmountOf c) t.kept
+
+-- tables whose guarantees get the amounts in use are tables of the version that keeps them, of the same content
+abbrev pub TablesGrow : Type 0
+TablesGrow =
+    (t : Tables) (c : Content) (kept : List (Keyed Kept)) → IsSound c → AreTablesOf t c
+    → IsPermutation t.guarantees (map without_amount kept) → AllByRecursion (IsAmountOf c) kept
+    → AreTablesOf (record t { version = version_with_amounts; kept = kept }) c

@@ -1,6 +1,6 @@
 -- What is looked up in the tables: all that they have of a holder's number, and single rows by their references.
 use Rattle.std.specs.Prelude.{◌≡◌, ℕ, ◌==◌, ◌&&◌, List, map, filter, find, Option, Some, unwrap_or}
-use Rattle.std.specs.List.{AllByRecursion, flat_map}
+use Rattle.std.specs.List.{AllByRecursion, flat_map, sum_by}
 use Rattle.std.specs.Option.{option_map}
 use Rattle.std.specs.Str.{bytes_eq}
 use Rattle.keyed_rows.specs.Rows.{row_at}
@@ -45,9 +45,13 @@ pub record AreFoundIn (t : Tables) (H : ℕ) (account : Account) : Type 0 where
 abbrev pub counting_rows : ℕ → Tables → List (Keyed Movement)
 counting_rows H t = filter (λ m. m.holder == H && is_counting m.row.state) t.movements
 
--- the lines by which a row of a movement stands on the holder's guarantee n
+-- the lines by which movement m of a holder stands on the holder's guarantee n
+abbrev pub lines_between : ℕ → ℕ → ℕ → Tables → List (Keyed LineCells)
+lines_between H m n t = filter (λ l. l.holder == H && (l.serial == m && l.row.guarantee == n)) t.lines
+
+-- those of a row of a movement
 abbrev pub lines_of_row : ℕ → Tables → Keyed Movement → List (Keyed LineCells)
-lines_of_row n t m = filter (λ l. l.holder == m.holder && (l.serial == m.serial && l.row.guarantee == n)) t.lines
+lines_of_row n t m = lines_between m.holder m.serial n t
 
 -- those of all movements of the holder that count, as a join of the two tables shows them
 abbrev pub lines_in_use : ℕ → ℕ → Tables → List (Keyed LineCells)
@@ -56,6 +60,10 @@ lines_in_use H n t = flat_map (lines_of_row n t) (counting_rows H t)
 -- the amount of a line
 abbrev pub cents_of : Keyed LineCells → ℕ
 cents_of l = l.row.cents
+
+-- the amount of movement m of a holder on the holder's guarantee n
+abbrev pub amount_between : ℕ → ℕ → ℕ → Tables → ℕ
+amount_between H m n t = sum_by cents_of (lines_between H m n t)
 
 -- the serial in an MRN of a desk of that country
 abbrev pub movement_no : List ℕ → List ℕ → ℕ

@@ -1,7 +1,7 @@
--- The rules of sound tables, beside what the database itself keeps: S1 of the country, S2 to S6 and S8 each of
--- one holder's rows. S7 is of tables that keep the amounts in use, which these don't.
+-- The rules of sound tables, beside what the database itself keeps: S1 of the country, S2 to S8 each of one
+-- holder's rows. S7 is of tables that keep the amounts in use; it asks nothing of others.
 -- The rules one by one, and which of them tables break first.
-use Rattle.std.specs.Prelude.{◌≡◌, ℕ, ◌%◌, ◌≤◌, List, length, IfSome, IsSome, ◌↔◌, ◌<◌, codes}
+use Rattle.std.specs.Prelude.{◌≡◌, ℕ, ◌≤◌, List, length, IfSome, IsSome, ◌↔◌, ◌<◌, codes}
 use Rattle.std.specs.List.{AllByRecursion}
 use Rattle.keyed_rows.specs.Rows.{row_at}
 use Rattle.td_base.specs.Codes.{IsAccessCode, IsLrn, IsOfficeNo, IsCountry, IsEori}
@@ -9,12 +9,13 @@ use Rattle.td_base.specs.Days.{IsDay, IsMoment}
 use Rattle.td_base.specs.Money.{IsReference, IsCover}
 use Rattle.td_base.specs.References.{greatest_grn_serial, greatest_mrn_serial}
 use Rattle.td_guarantee.specs.declared.guarantee.Guarantee.{Guarantee}
+use Rattle.td_guarantee.specs.Usage.{used_on}
 use Rattle.td_movement.specs.declared.movement.Movement.{Movement}
 use Rattle.td_movement.specs.Status.{IsStatus}
 use Rattle.td_commands.specs.Lines.{IsLineAmount}
 use Rattle.td_model.specs.declared.holder_row.HolderRow.{HolderRow}
 use Rattle.td_model.specs.Sound.{IsCovered, IsMrnOf, IsGrnOf}
-use Rattle.td_table_model.specs.Tables.{Keyed, LineCells, Tables}
+use Rattle.td_table_model.specs.Tables.{Keyed, Kept, LineCells, Tables, KeepAmounts}
 use Rattle.td_table_model.specs.Gathering.{IsApart, IsNumbered, gathered, guarantees_by, lines_by, movements_by, no_of, of_key, part, place}
 use Rattle.td_table_model.specs.Stored.{AreStored}
 use Rattle.td_guarantee.specs.Codes.{most_codes}
@@ -96,6 +97,14 @@ pub record HasLines (t : Tables) (row : HolderRow) : Type 0 where
   pub belong : AllByRecursion (λ l. IsSome (row_at place (place l) (movements_by row.holder t)))
       (part row.holder t.lines)
 
+-- the amount that a row keeps is what is in use on its guarantee by these movements
+abbrev pub IsInUse : List Movement → Keyed Kept → Type 0
+IsInUse movements k = k.row.used ≡ used_on k.row.guarantee.grn movements
+
+-- S7: where amounts are kept, the one on each of the holder's guarantees is what is in use by the holder's movements
+abbrev pub HasAmounts : Tables → HolderRow → Type 0
+HasAmounts t row = KeepAmounts t → AllByRecursion (IsInUse (gathered t row).movements) (part row.holder t.kept)
+
 -- S8: on each of the holder's guarantees the amount in use is at most the reference amount
 abbrev pub IsHolderCovered : Tables → HolderRow → Type 0
 IsHolderCovered t row = AllByRecursion (IsCovered (gathered t row).movements) (gathered t row).guarantees
@@ -107,6 +116,7 @@ pub record KeepsRules (t : Tables) (row : HolderRow) : Type 0 where
   pub codes : HasCodes t row
   pub movements : HasMovements t row
   pub lines : HasLines t row
+  pub amounts : HasAmounts t row
   pub cover : IsHolderCovered t row
 
 -- the tables keep the rules
@@ -137,7 +147,7 @@ rule_no S6 = 6
 rule_no S7 = 7
 rule_no S8 = 8
 
--- the tables keep the rule; S7 is of tables that keep the amounts in use, which these don't
+-- the tables keep the rule
 abbrev pub Keeps : Tables → Rule → Type 0
 Keeps t S1 = HasCountry t
 Keeps t S2 = AllByRecursion IsHolderInRange t.holders
@@ -145,7 +155,7 @@ Keeps t S3 = AllByRecursion (HasGuarantees t) t.holders
 Keeps t S4 = AllByRecursion (HasCodes t) t.holders
 Keeps t S5 = AllByRecursion (HasMovements t) t.holders
 Keeps t S6 = AllByRecursion (HasLines t) t.holders
-Keeps t S7 = Unit {0}
+Keeps t S7 = AllByRecursion (HasAmounts t) t.holders
 Keeps t S8 = AllByRecursion (IsHolderCovered t) t.holders
 
 -- it is the first that they break

@@ -1,12 +1,13 @@
 -- What the database itself keeps of the tables, whatever stands in them: ranges, keys and references.
-use Rattle.std.specs.Prelude.{◌≡◌, ℕ, List, [], IsSome}
+use Rattle.std.specs.Prelude.{◌≡◌, ℕ, List, [], map, IsSome}
 use Rattle.std.specs.List.{AllByRecursion}
+use Rattle.std.specs.List.Sorted.{IsPermutation}
 use Rattle.keyed_rows.specs.Rows.{row_at}
 use Rattle.td_base.specs.Codes.{IsHolderNumber}
 use Rattle.td_guarantee.specs.declared.guarantee.Guarantee.{Guarantee}
 use Rattle.td_movement.specs.declared.movement.Movement.{Movement}
 use Rattle.td_model.specs.declared.holder_row.HolderRow.{HolderRow}
-use Rattle.td_table_model.specs.Tables.{Keyed, Tables}
+use Rattle.td_table_model.specs.Tables.{Keyed, Tables, KeepAmounts, without_amount}
 use Rattle.td_table_model.specs.Gathering.{IsApart, IsTextApart, holder_no, no_of, of_key, owner, part, place}
 
 -- the rows of a table are of holders that are there
@@ -15,8 +16,8 @@ AreOfHolders holders rows = AllByRecursion (λ r. IsSome (row_at holder_no (owne
 
 -- The range of holders' numbers, which the table of holders checks. The keys: a holder's number, a holder's
 -- serials of guarantees and of movements, a guarantee's codes, a holder's LRNs, the numbers of a movement's
--- lines. The references: each row is of a holder that is there. And a row of a guarantee is without codes, one
--- of a movement without lines.
+-- lines. The references: each row is of a holder that is there. A row of a guarantee is without codes, one of a
+-- movement without lines. And the rows that keep amounts in use are those of the guarantees.
 pub record AreStored (t : Tables) : Type 0 where
   pub numbers : AllByRecursion (λ (r : HolderRow). IsHolderNumber r.holder) t.holders
   pub holders : IsApart holder_no t.holders
@@ -31,3 +32,4 @@ pub record AreStored (t : Tables) : Type 0 where
   pub lines_owned : AreOfHolders t.holders t.lines
   pub without_codes : AllByRecursion (λ (g : Keyed Guarantee). g.row.codes ≡ []) t.guarantees
   pub without_lines : AllByRecursion (λ (m : Keyed Movement). m.row.lines ≡ []) t.movements
+  pub kept : KeepAmounts t → IsPermutation t.guarantees (map without_amount t.kept)

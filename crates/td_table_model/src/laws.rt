@@ -1,5 +1,5 @@
 //! Laws of the tables, as contracts of functions that do nothing.
-ghost use Rattle.td_table_model.specs.Laws.{AccountsAreInTables, ChangesAreWritten, ContentIsOfTables, CountingRowsAreUse, DecisionsAreWritten, LinesInUseAreUse, ReferencesTellKeys, RowsAreFoundInTables, RuledContentIsSound, RuledTablesAreOfContent, RulesMeanSoundContent};
+ghost use Rattle.td_table_model.specs.Laws.{AccountsAreInTables, AmountsAreUse, ChangesAreWritten, ContentIsOfTables, CountingRowsAreUse, DecisionsAreWritten, LinesInUseAreUse, ReferencesTellKeys, RowsAreFoundInTables, RuledContentIsSound, RuledTablesAreOfContent, RulesMeanSoundContent, TablesGrow};
 ghost use Rattle.td_table_model.specs.Rules.{RulesAreKeptEach};
 
 /// Tables that have just the rows of sound content have that content.
@@ -42,4 +42,14 @@ pub fn references_tell_keys()
 /// Tables of which the database keeps what it does keep the rules exactly where they keep each of them.
 pub fn rules_are_kept_each()
     ensures { RulesAreKeptEach }
+{}
+
+/// The amounts that tables keep are those in use.
+pub fn amounts_are_use()
+    ensures { AmountsAreUse }
+{}
+
+/// Tables whose guarantees get the amounts in use are tables of the version that keeps them, of the same content.
+pub fn tables_grow()
+    ensures { TablesGrow }
 {}

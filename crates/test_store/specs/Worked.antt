@@ -4,11 +4,13 @@ use Rattle.std.specs.Prelude.{◌≡◌, ℕ, List, [], ◌∷◌, codes, Some, 
 use Rattle.td_guarantee.specs.declared.guarantee.Guarantee.{Guarantee}
 use Rattle.td_movement.specs.declared.line.Line.{Line}
 use Rattle.td_movement.specs.declared.movement.Movement.{Movement}
-use Rattle.td_movement.specs.declared.state.State.TheVariants.{Accepted}
+use Rattle.td_movement.specs.declared.state.State.{State}
+use Rattle.td_movement.specs.declared.state.State.TheVariants.{Accepted, Arrived, Released, WrittenOff}
 use Rattle.td_model.specs.declared.holder_row.HolderRow.{HolderRow}
-use Rattle.td_acts.specs.declared.rows.Change.TheVariants.{Declared, CodeAdded, CodeRemoved}
+use Rattle.td_acts.specs.declared.rows.Change.TheVariants.{Declared, Moved, CodeAdded, CodeRemoved}
+use Rattle.td_acts.specs.Deciding.{new_state}
 use Rattle.td_desk.specs.Content.{Content}
-use Rattle.td_table_model.specs.Tables.{Keyed, LineCells, Tables}
+use Rattle.td_table_model.specs.Tables.{Keyed, Kept, LineCells, Tables, first_version, version_with_amounts, with_amount}
 use Rattle.td_table_model.specs.Gathering.{content_of}
 use Rattle.td_table_model.specs.Changes.{tables_after}
 
@@ -60,11 +62,13 @@ line_of_first n guarantee cents =
 
 abbrev pub worked_tables : Tables
 worked_tables = record {
+  version = first_version;
   country = codes "CH";
   holders = second_holder ∷ first_holder ∷ [];
   guarantees =
       record { holder = 1; serial = 2; row = second_guarantee [] }
       ∷ record { holder = 1; serial = 1; row = first_guarantee [] } ∷ [];
+  kept = [];
   codes =
       record { holder = 1; serial = 1; row = codes "B001" } ∷ record { holder = 1; serial = 2; row = codes "A001" }
       ∷ record { holder = 1; serial = 1; row = codes "A002" } ∷ [];
@@ -103,5 +107,24 @@ HasWorkedLine =
     record { grn = codes "25CH0000010000023"; cents = 50 } ∷ []))) worked_tables).lines
     ≡ record { holder = 1; serial = 2; row = record { no = 1; guarantee = 2; cents = 50 } } ∷ worked_tables.lines
 
+-- the guarantees where amounts are kept, with the amount in use on the first and on the second
+abbrev pub worked_kept : ℕ → ℕ → List (Keyed Kept)
+worked_kept first second =
+    with_amount second (record { holder = 1; serial = 2; row = second_guarantee [] })
+    ∷ with_amount first (record { holder = 1; serial = 1; row = first_guarantee [] }) ∷ []
+
+-- what is kept of them after the movement came into a state
+abbrev pub kept_after : State → List (Keyed Kept) → List (Keyed Kept)
+kept_after state kept =
+    (tables_after (Moved first_holder (new_state (codes "25CH00000100000013") state))
+    (record worked_tables { version = version_with_amounts; kept = kept })).kept
+
+-- the movement takes up its lines' amounts at its release, and gives them back as it is written off
+abbrev pub HaveWorkedAmounts : Type 0
+HaveWorkedAmounts =
+    (kept_after Released (worked_kept 50 20) ≡ worked_kept 750 320)
+    × (kept_after Arrived (worked_kept 750 320) ≡ worked_kept 750 320)
+    × (kept_after WrittenOff (worked_kept 750 320) ≡ worked_kept 50 20)
+
 abbrev pub WorkedByHand : Type 0
-WorkedByHand = (content_of worked_tables ≡ worked_content) × HaveWorkedCodes × HasWorkedLine
+WorkedByHand = (content_of worked_tables ≡ worked_content) × HaveWorkedCodes × HasWorkedLine × HaveWorkedAmounts

@@ -8,7 +8,7 @@ use td_base::{
 };
 use td_guarantee::{Codes, Guarantee};
 use td_movement::{Line, Movement, MovementLines, State};
-use td_schema::make_tables;
+use td_schema::{NEWEST_LAYOUT, make_tables};
 
 /// The first two guarantees of holder 000001 in 2025.
 pub const GRN: &[u8] = b"25CH0000010000014";
@@ -114,7 +114,7 @@ pub fn movement(rt: &impl Abort, lines: Vec<Line>) -> Movement {
 fn make(rt: &impl Abort, conn: &mut Connection<MemStore>) {
     assert!(rt; conn.is_autocommit());
     let mut tx = conn.transaction();
-    make_tables(&mut tx).expect(rt, "tables");
+    make_tables(&mut tx, NEWEST_LAYOUT).expect(rt, "tables");
     tx.commit().expect(rt, "a commit");
 }
 

@@ -1,6 +1,6 @@
 //! The tables are made once, with their keys and checks.
 use crate::examples::with_tables;
-use td_schema::make_tables;
+use td_schema::{NEWEST_LAYOUT, make_tables};
 
 /// Statements, one after another, and whether each is taken.
 const STATEMENTS: [(&str, bool); 16] = [
@@ -62,5 +62,5 @@ fn tables_are_made_once(rt: HostRuntime) {
     let mut conn = with_tables(&rt);
     assert!(rt; conn.is_autocommit());
     let mut tx = conn.transaction();
-    assert!(rt; make_tables(&mut tx).is_err());
+    assert!(rt; make_tables(&mut tx, NEWEST_LAYOUT).is_err());
 }

@@ -3,8 +3,8 @@
 ghost use Rattle.std.specs.Prelude.{◌≡◌, IfOk, is_ok};
 ghost use Rattle.sqlite.specs.Held.{state};
 ghost use Rattle.sqlite.specs.State.{HasCleanDisk};
-ghost use Rattle.td_schema.specs.Tables.{desk_schema};
-ghost use Rattle.typed_sql.specs.Reading.{IsInside, Reads};
+ghost use Rattle.typed_sql.specs.Reading.{IsInside};
+ghost use Rattle.td_store_rows.specs.StoreReads.{ReadsStore};
 ghost use Rattle.td_store_rows.specs.CodeTable.{AreByCode, AreCodes, is_code_of_guarantee};
 
 use crate::codes::stored::StoredCode;
@@ -28,7 +28,7 @@ pub fn codes_of<S: Alter>(
         → IfOk result (λ found. AreCodes (is_code_of_guarantee holder serial) (state S.Store tx.old.conn.now) found.items) }
     ensures order { HasCleanDisk (state S.Store tx.new.conn.now)
         → IfOk result (λ found. AreByCode holder serial (state S.Store tx.old.conn.now) found.items) }
-    ensures reads { Reads desk_schema (is_ok result) (state S.Store tx.old.conn.now) (state S.Store tx.new.conn.now) }
+    ensures reads { ReadsStore (is_ok result) (state S.Store tx.old.conn.now) (state S.Store tx.new.conn.now) }
 {
     typed_sql::fetch(alloc, tx, OF_GUARANTEE, &serial_key(holder, serial))
 }

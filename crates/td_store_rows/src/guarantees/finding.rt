@@ -5,9 +5,9 @@ ghost use Rattle.sqlite.specs.Held.{state};
 ghost use Rattle.sqlite.specs.State.{HasCleanDisk};
 ghost use Rattle.sqlite.specs.Values.{bound};
 ghost use Rattle.sqlite_value.specs.declared.value.Value.TheVariants.{Text};
-ghost use Rattle.td_schema.specs.Tables.{desk_schema};
-ghost use Rattle.typed_sql.specs.Reading.{IsInside, Reads};
+ghost use Rattle.typed_sql.specs.Reading.{IsInside};
 ghost use Rattle.typed_sql.specs.Values.{number_value};
+ghost use Rattle.td_store_rows.specs.StoreReads.{ReadsNewest};
 ghost use Rattle.td_store_rows.specs.GuaranteeTable.{AreBySerial, AreGuarantees, IsTheGuarantee, has_grn, has_serial, is_of};
 
 use crate::guarantees::stored::StoredGuarantee;
@@ -42,7 +42,7 @@ pub fn find_by_grn<S: Alter>(
     ensures same_reference { tx.new.conn.ghost_name ≡ tx.old.conn.ghost_name }
     ensures found { HasCleanDisk (state S.Store tx.new.conn.now)
         → IfOk result (IsTheGuarantee (has_grn holder serial grn.now) (state S.Store tx.old.conn.now)) }
-    ensures reads { Reads desk_schema (is_ok result) (state S.Store tx.old.conn.now) (state S.Store tx.new.conn.now) }
+    ensures reads { ReadsNewest (is_ok result) (state S.Store tx.old.conn.now) (state S.Store tx.new.conn.now) }
 {
     fetch_one(alloc, tx, BY_GRN, &grn_values(holder, serial, grn))
 }
@@ -58,7 +58,7 @@ pub fn find_by_serial<S: Alter>(
     ensures same_reference { tx.new.conn.ghost_name ≡ tx.old.conn.ghost_name }
     ensures found { HasCleanDisk (state S.Store tx.new.conn.now)
         → IfOk result (IsTheGuarantee (has_serial holder serial) (state S.Store tx.old.conn.now)) }
-    ensures reads { Reads desk_schema (is_ok result) (state S.Store tx.old.conn.now) (state S.Store tx.new.conn.now) }
+    ensures reads { ReadsNewest (is_ok result) (state S.Store tx.old.conn.now) (state S.Store tx.new.conn.now) }
 {
     fetch_one(alloc, tx, BY_SERIAL, &serial_key(holder, serial))
 }
@@ -75,7 +75,7 @@ pub fn guarantees_of<S: Alter>(
         → IfOk result (λ found. AreGuarantees (is_of holder) (state S.Store tx.old.conn.now) found.items) }
     ensures order { HasCleanDisk (state S.Store tx.new.conn.now)
         → IfOk result (λ found. AreBySerial (is_of holder) (state S.Store tx.old.conn.now) found.items) }
-    ensures reads { Reads desk_schema (is_ok result) (state S.Store tx.old.conn.now) (state S.Store tx.new.conn.now) }
+    ensures reads { ReadsNewest (is_ok result) (state S.Store tx.old.conn.now) (state S.Store tx.new.conn.now) }
 {
     fetch(alloc, tx, OF_HOLDER, &holder_key(holder))
 }

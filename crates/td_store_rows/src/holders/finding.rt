@@ -3,8 +3,8 @@
 ghost use Rattle.std.specs.Prelude.{◌≡◌, IfOk, is_ok};
 ghost use Rattle.sqlite.specs.Held.{state};
 ghost use Rattle.sqlite.specs.State.{HasCleanDisk};
-ghost use Rattle.td_schema.specs.Tables.{desk_schema};
-ghost use Rattle.typed_sql.specs.Reading.{IsInside, Reads};
+ghost use Rattle.typed_sql.specs.Reading.{IsInside};
+ghost use Rattle.td_store_rows.specs.StoreReads.{ReadsStore};
 ghost use Rattle.td_store_rows.specs.HolderTable.{IsTheHolder};
 
 use crate::holders::stored::StoredHolder;
@@ -26,7 +26,7 @@ pub fn find_holder<S: Alter>(
     ensures same_reference { tx.new.conn.ghost_name ≡ tx.old.conn.ghost_name }
     ensures found { HasCleanDisk (state S.Store tx.new.conn.now)
         → IfOk result (IsTheHolder holder (state S.Store tx.old.conn.now)) }
-    ensures reads { Reads desk_schema (is_ok result) (state S.Store tx.old.conn.now) (state S.Store tx.new.conn.now) }
+    ensures reads { ReadsStore (is_ok result) (state S.Store tx.old.conn.now) (state S.Store tx.new.conn.now) }
 {
     let found: Option<StoredHolder> = typed_sql::fetch_one(
         alloc,

@@ -8,9 +8,6 @@ use sqlite::{Error, ErrorCode, Row};
 use td_base::Country;
 use typed_sql::{integer_at, only, text_at};
 
-/// The newest version of the tables.
-pub const NEWEST_VERSION: u32 = 1;
-
 /// The office's own row: the version of the tables, and the country, `None` where the text in it isn't two capital letters.
 #[derive(Clone, Copy, Debug, PartialEq, Eq)]
 pub struct StoredMeta {

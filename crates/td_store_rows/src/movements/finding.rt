@@ -6,8 +6,8 @@ ghost use Rattle.sqlite.specs.State.{HasCleanDisk};
 ghost use Rattle.sqlite.specs.Values.{bound};
 ghost use Rattle.sqlite_value.specs.declared.value.Value.TheVariants.{Text};
 ghost use Rattle.typed_sql.specs.Values.{number_value};
-ghost use Rattle.td_schema.specs.Tables.{desk_schema};
-ghost use Rattle.typed_sql.specs.Reading.{IsInside, Reads};
+ghost use Rattle.typed_sql.specs.Reading.{IsInside};
+ghost use Rattle.td_store_rows.specs.StoreReads.{ReadsStore};
 ghost use Rattle.td_store_rows.specs.MovementTable.{AreBySerial, AreMovements, AreSerialsInOrder, AreSerialsOf, IsTheMovement, has_lrn, has_mrn, is_of, counts_for};
 
 use crate::movements::stored::{MovementSerial, StoredMovement};
@@ -47,7 +47,7 @@ pub fn find_by_mrn<S: Alter>(
     ensures same_reference { tx.new.conn.ghost_name ≡ tx.old.conn.ghost_name }
     ensures found { HasCleanDisk (state S.Store tx.new.conn.now)
         → IfOk result (IsTheMovement (has_mrn holder serial mrn.now) (state S.Store tx.old.conn.now)) }
-    ensures reads { Reads desk_schema (is_ok result) (state S.Store tx.old.conn.now) (state S.Store tx.new.conn.now) }
+    ensures reads { ReadsStore (is_ok result) (state S.Store tx.old.conn.now) (state S.Store tx.new.conn.now) }
 {
     typed_sql::fetch_one(alloc, tx, BY_MRN, &mrn_values(holder, serial, mrn))
 }
@@ -63,7 +63,7 @@ pub fn find_by_lrn<S: Alter>(
     ensures same_reference { tx.new.conn.ghost_name ≡ tx.old.conn.ghost_name }
     ensures found { HasCleanDisk (state S.Store tx.new.conn.now)
         → IfOk result (IsTheMovement (has_lrn holder lrn.now) (state S.Store tx.old.conn.now)) }
-    ensures reads { Reads desk_schema (is_ok result) (state S.Store tx.old.conn.now) (state S.Store tx.new.conn.now) }
+    ensures reads { ReadsStore (is_ok result) (state S.Store tx.old.conn.now) (state S.Store tx.new.conn.now) }
 {
     typed_sql::fetch_one(alloc, tx, BY_LRN, &lrn_values(holder, lrn))
 }
@@ -80,7 +80,7 @@ pub fn movements_of<S: Alter>(
         → IfOk result (λ found. AreMovements (is_of holder) (state S.Store tx.old.conn.now) found.items) }
     ensures order { HasCleanDisk (state S.Store tx.new.conn.now)
         → IfOk result (λ found. AreBySerial (is_of holder) (state S.Store tx.old.conn.now) found.items) }
-    ensures reads { Reads desk_schema (is_ok result) (state S.Store tx.old.conn.now) (state S.Store tx.new.conn.now) }
+    ensures reads { ReadsStore (is_ok result) (state S.Store tx.old.conn.now) (state S.Store tx.new.conn.now) }
 {
     typed_sql::fetch(alloc, tx, OF_HOLDER, &holder_key(holder))
 }
@@ -97,7 +97,7 @@ pub fn counting_serials<S: Alter>(
         → IfOk result (λ found. AreSerialsOf (counts_for holder) (state S.Store tx.old.conn.now) found.items) }
     ensures order { HasCleanDisk (state S.Store tx.new.conn.now)
         → IfOk result (λ found. AreSerialsInOrder (state S.Store tx.old.conn.now) found.items) }
-    ensures reads { Reads desk_schema (is_ok result) (state S.Store tx.old.conn.now) (state S.Store tx.new.conn.now) }
+    ensures reads { ReadsStore (is_ok result) (state S.Store tx.old.conn.now) (state S.Store tx.new.conn.now) }
 {
     typed_sql::fetch(alloc, tx, COUNTING_SERIALS, &holder_key(holder))
 }

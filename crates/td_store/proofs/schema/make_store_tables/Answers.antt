@@ -4,7 +4,8 @@ use Rattle.sqlite.specs.Effect.{Database}
 use Rattle.sqlite.specs.Held.{state}
 use Rattle.sqlite.specs.State.{State, HasCleanDisk, KeepsCounts, Shows, Survives}
 use Rattle.td_schema.specs.Tables.{IsEmptyOf}
-use Rattle.td_schema.specs.Tables.{desk_schema, no_schema}
+use Rattle.td_schema.specs.Layouts.{desk_schema}
+use Rattle.td_schema.specs.Tables.{no_schema}
 use Rattle.typed_sql.proofs.Leaving.{on_ok}
 use Rattle.td_store.proofs.schema.make_store_tables.Goals as goal
 

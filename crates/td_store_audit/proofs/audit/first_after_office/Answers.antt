@@ -1,9 +1,9 @@
 use Rattle.std.proofs.Common.{arith}
 use Rattle.sqlite.specs.Held.{state}
 use Rattle.sqlite.specs.State.{State, HasCleanDisk}
+use Rattle.td_store_rows.proofs.StoreReads.{newest_more}
 use Rattle.td_store_audit.proofs.Asked.{all_told, codes_broken, guarantees_broken, holders_broken}
 use Rattle.td_store_audit.proofs.audit.first_after_office.Goals as goal
-use Rattle.typed_sql.proofs.OnlyRead.{read_more}
 
 pub returns-then-not-holders_keep_rule-clause-told : goal.returns-then-not-holders_keep_rule-clause-told
 returns-then-not-holders_keep_rule-clause-told g c clean =
@@ -35,7 +35,7 @@ returns-clause-told g c clean =
     c.if-not-holders_keep_rule.false c.holders_keep_rule.ensures c.in_ok-guarantees_keep_rule.field-0 c.if-not-branch.false
     (c.in_ok-guarantees_keep_rule.ensures.told clean_m) m (c.in_ok-guarantees_keep_rule.ensures.still clean_m)
     c.in_ok-codes_keep_rule.field-0 c.if-not-branch-2.false (c.in_ok-codes_keep_rule.ensures.told clean_d) d
-    (read_more a m d (c.in_ok-guarantees_keep_rule.ensures.still clean_m) (c.in_ok-codes_keep_rule.ensures.still clean_d))
+    (newest_more a m d (c.in_ok-guarantees_keep_rule.ensures.still clean_m) (c.in_ok-codes_keep_rule.ensures.still clean_d))
     c.first_of_movements.result (c.first_of_movements.ensures.told clean)
   where
     a : State

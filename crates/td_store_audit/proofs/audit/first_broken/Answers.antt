@@ -1,11 +1,10 @@
 use Rattle.std.proofs.Common.{arith, refl, true}
 use Rattle.sqlite.specs.Held.{state}
 use Rattle.sqlite.specs.State.{State, HasCleanDisk}
+use Rattle.td_store_rows.specs.StoreReads.{ReadsNewest}
+use Rattle.td_store_rows.proofs.StoreReads.{anywhere, newest_more, reads_on}
 use Rattle.td_store_audit.proofs.FromFile.{told_first}
 use Rattle.td_store_audit.proofs.Reading.{inside_ok, still_ok}
-use Rattle.typed_sql.proofs.OnlyRead.{read_more, reads_on}
-use Rattle.typed_sql.specs.Reading.{Reads}
-use Rattle.td_schema.specs.Tables.{desk_schema}
 use Rattle.typed_sql.proofs.Leaving.{on_ok}
 use Rattle.td_store_audit.proofs.audit.first_broken.Goals as goal
 
@@ -17,7 +16,7 @@ returns-clause-told g c clean =
     let clean_d : HasCleanDisk d = omega (arith, clean, c.first_after_office.ensures.reads.within.survives.clean) in
     let clean_b : HasCleanDisk b = omega (arith, clean_d, c.all_holders.ensures.reads.within.survives.clean) in
     told_first a b d c.in-Some.country c.in_ok-holders.holders.items c.args.readable (c.in_ok-country.ensures.reads.still clean_b refl)
-    (c.in_ok-holders.ensures.reads.still clean_d refl) c.in_ok-country.field-0 c.in-Some.is (c.in_ok-country.ensures.told clean_b)
+    ((anywhere c.in_ok-holders.ensures.reads).still clean_d refl) c.in_ok-country.field-0 c.in-Some.is (c.in_ok-country.ensures.told clean_b)
     (c.in_ok-holders.ensures.found clean_d) c.in_ok-holders.ensures.order
     c.first_after_office.result (rw c.deref.ensures.value at (c.first_after_office.ensures.told clean))
 
@@ -29,9 +28,9 @@ returns-clause-still g c clean =
     let e : State = state g.S.Store c.first_after_office.new.tx.conn.now in
     let clean_d : HasCleanDisk d = omega (arith, clean, c.first_after_office.ensures.reads.within.survives.clean) in
     let clean_b : HasCleanDisk b = omega (arith, clean_d, c.all_holders.ensures.reads.within.survives.clean) in
-    let two : Reads desk_schema true a d = reads_on c.in_ok-country.ensures.reads c.in_ok-holders.ensures.reads in
+    let two : ReadsNewest true a d = reads_on c.in_ok-country.ensures.reads (anywhere c.in_ok-holders.ensures.reads) in
     on_ok c.first_after_office.result
-    (λ read has. (read_more a d e (two.still clean_d refl) read has).unchanged (c.in_ok-country.ensures.was_open clean_b has))
+    (λ read l newest has. (newest_more a d e (two.still clean_d refl) read l newest has).unchanged (c.in_ok-country.ensures.was_open clean_b l has))
     (still_ok c.first_after_office.result c.first_after_office.ensures.reads clean)
 
 pub returns-clause-inside : goal.returns-clause-inside

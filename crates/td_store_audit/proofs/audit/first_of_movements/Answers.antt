@@ -1,9 +1,9 @@
 use Rattle.std.proofs.Common.{arith, refl}
 use Rattle.sqlite.specs.Held.{state}
 use Rattle.sqlite.specs.State.{State, HasCleanDisk}
+use Rattle.td_store_rows.proofs.StoreReads.{newest_more, reads_on}
 use Rattle.td_store_audit.proofs.Threaded.{cover_broken, lines_broken, movements_broken, none_broken}
 use Rattle.td_store_audit.proofs.audit.first_of_movements.Goals as goal
-use Rattle.typed_sql.proofs.OnlyRead.{read_more, reads_on}
 
 pub returns-in_default-clause-told : goal.returns-in_default-clause-told
 returns-in_default-clause-told g c clean =
@@ -31,7 +31,7 @@ returns-then-not-branch-clause-told g c clean =
     (rw c.in-Some.is at (c.in_ok-counting.ensures.told clean_b)) b (c.in_ok-counting.ensures.reads.still clean_b refl)
     c.in-Some-2.handed.items (rw c.in-Some-2.is at c.in_ok-handed.ensures.movements) (rw c.in-Some-2.is at (c.in_ok-handed.ensures.told clean_d))
     (rw c.in-Some.is at (c.in_ok-counting.ensures.handed clean_b)) (rw c.in-Some-2.is at (c.in_ok-handed.ensures.handed clean_d)) d
-    (read_more a b d (c.in_ok-counting.ensures.reads.still clean_b refl) (c.in_ok-handed.ensures.reads.still clean_d refl))
+    (newest_more a b d (c.in_ok-counting.ensures.reads.still clean_b refl) (c.in_ok-handed.ensures.reads.still clean_d refl))
     c.in_ok-cover_keeps_rule.field-0 c.if-not-branch.true (rw c.deref.ensures.value at (c.in_ok-cover_keeps_rule.ensures.told clean c.args.country))
   where
     a : State
@@ -55,7 +55,7 @@ returns-clause-told g c clean =
     (rw c.in-Some.is at (c.in_ok-counting.ensures.told clean_b)) b (c.in_ok-counting.ensures.reads.still clean_b refl)
     c.in-Some-2.handed.items (rw c.in-Some-2.is at c.in_ok-handed.ensures.movements) (rw c.in-Some-2.is at (c.in_ok-handed.ensures.told clean_d))
     (rw c.in-Some.is at (c.in_ok-counting.ensures.handed clean_b)) (rw c.in-Some-2.is at (c.in_ok-handed.ensures.handed clean_d)) d
-    (read_more a b d (c.in_ok-counting.ensures.reads.still clean_b refl) (c.in_ok-handed.ensures.reads.still clean_d refl))
+    (newest_more a b d (c.in_ok-counting.ensures.reads.still clean_b refl) (c.in_ok-handed.ensures.reads.still clean_d refl))
     c.in_ok-cover_keeps_rule.field-0 c.if-not-branch.false (rw c.deref.ensures.value at (c.in_ok-cover_keeps_rule.ensures.told clean c.args.country))
   where
     a : State

@@ -17,17 +17,17 @@ use Rattle.td_store_audit.proofs.codes.codes_keep_rule.Goals as goal
 
 -- a row can't be read, so the rule isn't kept
 pub returns-then-not-are_read-clause-told : goal.returns-then-not-are_read-clause-told
-returns-then-not-are_read-clause-told g c = λ clean auditable tells. (
+returns-then-not-are_read-clause-told g c = λ clean layout auditable tells. (
   λ t. absurd (false≢true t),
   λ keeps. absurd (false≢true (sym c.if-not-are_read.true ∙ tells.1
-      (codes_read c.holder_fields_tell.ensures.fields (state g.S.Store c.args.tx.now.conn.now) c.args.holders.now c.kept_rules_are_read.ensures.codes auditable keeps))),
+      (codes_read c.holder_fields_tell.ensures.fields layout (state g.S.Store c.args.tx.now.conn.now) c.args.holders.now c.kept_rules_are_read.ensures.codes auditable keeps))),
 )
 
 pub returns-clause-told : goal.returns-clause-told
 returns-clause-told g c clean =
     let a : State = state g.S.Store c.args.tx.now.conn.now in
     if_both c.all_have_codes.result
-    (λ keeps told same auditable tells.
+    (λ keeps told same layout auditable tells.
     let has = auditable.common.schema in
     let read = tells.0 c.if-not-are_read.false in
     let typed : AreTyped code_typing a.now.trees = record {
@@ -35,8 +35,8 @@ returns-clause-told g c clean =
       cells = all_weaker (IsReadRow code_typing AreCodeFields) (IsTypedRow code_typing) (λ r is. is.0) (a.now.trees code_typing.table.tree) read;
     } in
     let said : IsTrue keeps ↔ AllByRecursion (HasCodesInPlace a.now.trees) c.args.holders.now =
-    told has typed in
-    let rule = codes_rule c.holder_fields_tell.ensures.fields a c.args.holders.now auditable read in
+    told layout auditable.common.newest has typed in
+    let rule = codes_rule c.holder_fields_tell.ensures.fields layout a c.args.holders.now auditable read in
     (λ t. rule.0 (said.0 t), λ k. said.1 (rule.1 k)))
     (c.all_have_codes.ensures.told clean) (c.all_have_codes.ensures.told clean)
 

@@ -9,4 +9,4 @@ use Rattle.td_store_audit.proofs.laws.schema_keeps_codes.Goals as goal
 
 pub returns : goal.returns
 returns c =
-    schema_keeps (λ trees. AllRows code_typing (IsTypedRow code_typing) trees → AreCodesKept (tables_in trees)) codes_kept
+    schema_keeps (λ layout trees. AllRows code_typing (IsTypedRow code_typing) trees → AreCodesKept (tables_in layout trees)) codes_kept

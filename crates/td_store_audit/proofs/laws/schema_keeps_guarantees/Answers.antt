@@ -9,4 +9,4 @@ use Rattle.td_store_audit.proofs.laws.schema_keeps_guarantees.Goals as goal
 
 pub returns : goal.returns
 returns c =
-    schema_keeps (λ trees. AllRows guarantee_typing (IsTypedRow guarantee_typing) trees → AreGuaranteesKept (tables_in trees)) guarantees_kept
+    schema_keeps (λ layout trees. AllRows (guarantee_typing layout) (IsTypedRow (guarantee_typing layout)) trees → AreGuaranteesKept (tables_in layout trees)) guarantees_kept

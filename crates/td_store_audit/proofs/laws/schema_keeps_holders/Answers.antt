@@ -8,5 +8,5 @@ use Rattle.td_store_audit.proofs.laws.schema_keeps_holders.Goals as goal
 
 pub returns : goal.returns
 returns c =
-    schema_keeps (λ trees. AllRows holder_typing HasNumber trees × AreHoldersKept (tables_in trees))
-    (λ trees obeys ids. holders_kept trees ids.holders obeys)
+    schema_keeps (λ layout trees. AllRows holder_typing HasNumber trees × AreHoldersKept (tables_in layout trees))
+    (λ layout trees obeys ids. holders_kept layout trees ids.holders obeys)

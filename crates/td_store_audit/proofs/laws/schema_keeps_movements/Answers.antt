@@ -9,4 +9,4 @@ use Rattle.td_store_audit.proofs.laws.schema_keeps_movements.Goals as goal
 
 pub returns : goal.returns
 returns c =
-    schema_keeps (λ trees. AllRows movement_typing (IsTypedRow movement_typing) trees → AreMovementsKept (tables_in trees)) movements_kept
+    schema_keeps (λ layout trees. AllRows movement_typing (IsTypedRow movement_typing) trees → AreMovementsKept (tables_in layout trees)) movements_kept

@@ -17,17 +17,17 @@ use Rattle.td_store_audit.proofs.lines.lines_keep_rule.Goals as goal
 
 -- a row can't be read, so the rule isn't kept
 pub returns-then-not-are_read-clause-told : goal.returns-then-not-are_read-clause-told
-returns-then-not-are_read-clause-told g c = λ clean auditable tells. (
+returns-then-not-are_read-clause-told g c = λ clean layout auditable tells. (
   λ t. absurd (false≢true t),
   λ keeps. absurd (false≢true (sym c.if-not-are_read.true ∙ tells.1
-      (lines_read c.holder_fields_tell.ensures.fields (state g.S.Store c.args.tx.now.conn.now) (map raw_of c.args.counting.items) c.kept_rules_are_read.ensures.lines auditable keeps))),
+      (lines_read c.holder_fields_tell.ensures.fields layout (state g.S.Store c.args.tx.now.conn.now) (map raw_of c.args.counting.items) c.kept_rules_are_read.ensures.lines auditable keeps))),
 )
 
 pub returns-clause-told : goal.returns-clause-told
 returns-clause-told g c clean =
     let a : State = state g.S.Store c.args.tx.now.conn.now in
     if_both c.all_kept_lines.result
-    (λ found told same auditable tells.
+    (λ found told same layout auditable tells.
     let has = auditable.common.schema in
     let read = tells.0 c.if-not-are_read.false in
     let typed : AreTyped line_typing a.now.trees = record {
@@ -35,7 +35,7 @@ returns-clause-told g c clean =
       cells = all_weaker (IsReadRow line_typing AreLineFields) (IsTypedRow line_typing) (λ r is. is.0) (a.now.trees line_typing.table.tree) read;
     } in
     let said : IsTrue (is_some found) ↔ AllByRecursion (HasLinesInPlace a.now.trees) (map raw_of c.args.counting.items) =
-    told has typed (auditable.apart typed.cells) in
-    let rule = lines_rule c.holder_fields_tell.ensures.fields a (map raw_of c.args.counting.items) auditable typed.cells in
+    told layout auditable.common.newest has typed (auditable.apart typed.cells) in
+    let rule = lines_rule c.holder_fields_tell.ensures.fields layout a (map raw_of c.args.counting.items) auditable typed.cells in
     (λ t. rule.0 (said.0 t), λ k. said.1 (rule.1 k)))
     (c.all_kept_lines.ensures.told clean) (c.all_kept_lines.ensures.told clean)

@@ -2,20 +2,19 @@ use Rattle.std.proofs.Common.{◌≡◌, map, take, true}
 use Rattle.std.specs.List.{AllByRecursion}
 use Rattle.sqlite.specs.Held.{state}
 use Rattle.sqlite.specs.State.{HasCleanDisk}
+use Rattle.td_store_rows.specs.StoreReads.{ReadsNewest}
 use Rattle.td_store_rows.specs.Columns.{movement_typing}
 use Rattle.td_store_audit.specs.Tallies.{AreAllCounting, raw_of}
 use Rattle.td_store_audit.specs.InFile.{AreTypedApart, HasMovementsInPlace, IsSoWhere}
 use Rattle.td_store_audit.proofs.movements.all_kept_movements.Given as goal
-use Rattle.typed_sql.specs.Reading.{Reads}
-use Rattle.td_schema.specs.Tables.{desk_schema}
 
 -- nothing is changed, those before have theirs, and what was handed on of them is theirs
 abbrev pub invariant-holders : goal.invariant-holders
 invariant-holders g l =
     (l.tx.conn.ghost_name ≡ l.initial.tx.conn.ghost_name)
-    × Reads desk_schema true (state g.S.Store l.initial.tx.conn.now) (state g.S.Store l.tx.conn.now)
+    × ReadsNewest true (state g.S.Store l.initial.tx.conn.now) (state g.S.Store l.tx.conn.now)
     × (HasCleanDisk (state g.S.Store l.tx.conn.now)
-    → IsSoWhere (AreTypedApart movement_typing) (λ trees. AllByRecursion (HasMovementsInPlace l.country trees) (take l.raw-index l.holders))
+    → IsSoWhere (λ layout. AreTypedApart movement_typing) (λ layout trees. AllByRecursion (HasMovementsInPlace layout l.country trees) (take l.raw-index l.holders))
     (state g.S.Store l.initial.tx.conn.now))
     × (map raw_of l.handed.items ≡ take l.raw-index l.holders)
     × (HasCleanDisk (state g.S.Store l.tx.conn.now) → AreAllCounting (state g.S.Store l.initial.tx.conn.now) l.handed.items)

@@ -1,7 +1,8 @@
 use Rattle.sqlite.specs.Held.{state}
-use Rattle.td_schema.specs.Tables.{desk_schema}
-use Rattle.typed_sql.proofs.Leaving.{any_ok, reads_ok, stays}
-use Rattle.typed_sql.proofs.OnlyRead.{reads_well}
+use Rattle.typed_sql.proofs.Leaving.{any_ok, stays}
+use Rattle.typed_sql.proofs.OnlyRead.{one_read}
+use Rattle.td_store_rows.proofs.StoreReads.{reads_well}
+use Rattle.td_schema.specs.Layouts.{schema_of}
 use Rattle.td_store_audit.specs.declared.texts.TheConstants.{OFFICE}
 use Rattle.td_store_audit.proofs.OfficeRow.{office_means, told_country}
 use Rattle.td_store_audit.proofs.office.office_country.Goals as goal
@@ -13,8 +14,11 @@ returns-clause-told g c clean =
 
 pub returns-clause-reads : goal.returns-clause-reads
 returns-clause-reads g c =
-    reads_well (reads_ok desk_schema OFFICE.now office_means.plain _ _ c.in_ok-rows.ensures.still c.in_ok-rows.ensures.within)
+    reads_well (record {
+      still = λ clean well l newest. one_read _ _ (stays (schema_of l) OFFICE.now (office_means l).plain _ _ (c.in_ok-rows.ensures.still clean));
+      within = c.in_ok-rows.ensures.within;
+    })
 
 pub returns-clause-was_open : goal.returns-clause-was_open
 returns-clause-was_open g c clean =
-    any_ok c.only_country.result (λ has. (stays desk_schema OFFICE.now office_means.plain _ _ (c.in_ok-rows.ensures.still clean) has).0.was_open)
+    any_ok c.only_country.result (λ l has. (stays (schema_of l) OFFICE.now (office_means l).plain _ _ (c.in_ok-rows.ensures.still clean) has).0.was_open)

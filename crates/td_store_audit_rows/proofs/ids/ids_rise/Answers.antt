@@ -1,8 +1,6 @@
-use Rattle.std.proofs.Common.{[], arith, ◌∷◌}
+use Rattle.std.proofs.Common.{[], refl, ◌∷◌}
 use Rattle.sqlite.specs.Held.{state}
-use Rattle.sqlite.specs.State.{HasCleanDisk}
 use Rattle.sqlite_sql.specs.Term.{col}
-use Rattle.td_schema.specs.Tables.{desk_schema}
 use Rattle.typed_sql.specs.Reading.{row_order}
 use Rattle.td_store_audit_rows.proofs.Shown.{ids_of_rows}
 use Rattle.td_store_audit_rows.proofs.ids.ids_rise.Goals as goal
@@ -10,7 +8,6 @@ use Rattle.td_store_audit_rows.proofs.ids.ids_rise.Goals as goal
 pub returns-clause-ids : goal.returns-clause-ids
 returns-clause-ids g c clean tree shows order means =
     let old = state g.S.Store c.args.conn.now in
-    let early : HasCleanDisk old = omega (arith, clean, c.walk.ensures.survives.clean) in
     let walked = c.in_ok-walk.ensures.seen clean (λ _. c.none_yet-ids.ensures) in
     ids_of_rows shows (old.now.trees tree) walked.0 (row_order order [])
-    (walked.1 desk_schema tree [] (col 1 0 ∷ shows) order (λ _. c.requires.tables early) means) (walked.2 c.if-not-ids.false).ids
+    (walked.1 old.now.schema tree [] (col 1 0 ∷ shows) order (λ _. refl) means) (walked.2 c.if-not-ids.false).ids

@@ -1,8 +1,6 @@
-use Rattle.std.proofs.Common.{[], ◌∷◌, arith, refl}
+use Rattle.std.proofs.Common.{[], ◌∷◌, refl}
 use Rattle.sqlite.specs.Held.{state}
-use Rattle.sqlite.specs.State.{HasCleanDisk}
 use Rattle.sqlite_sql.specs.Term.{col}
-use Rattle.td_schema.specs.Tables.{desk_schema}
 use Rattle.typed_sql.specs.Reading.{row_order, shown_by}
 use Rattle.td_store_audit_rows.proofs.Shown.{ids_of_rows, told_of_rows}
 use Rattle.td_store_audit_rows.proofs.scanning.scan.Goals as goal
@@ -10,15 +8,13 @@ use Rattle.td_store_audit_rows.proofs.scanning.scan.Goals as goal
 pub returns-clause-ids : goal.returns-clause-ids
 returns-clause-ids g c clean tree shows order means =
     let old = state g.S.Store c.args.conn.now in
-    let early : HasCleanDisk old = omega (arith, clean, c.walk.ensures.survives.clean) in
     let walked = c.in_ok-walk.ensures.seen clean (λ _. c.none_yet.ensures, (λ _. tt, λ _. refl)) in
     ids_of_rows shows (old.now.trees tree) walked.0 (row_order order [])
-    (walked.1 desk_schema tree [] (col 1 0 ∷ shows) order (λ _. c.requires.tables early) means) (walked.2.0 c.if-not-scan.false).ids
+    (walked.1 old.now.schema tree [] (col 1 0 ∷ shows) order (λ _. refl) means) (walked.2.0 c.if-not-scan.false).ids
 
 pub returns-clause-told : goal.returns-clause-told
 returns-clause-told g c clean tree shows order means =
     let old = state g.S.Store c.args.conn.now in
-    let early : HasCleanDisk old = omega (arith, clean, c.walk.ensures.survives.clean) in
     let walked = c.in_ok-walk.ensures.seen clean (λ _. c.none_yet.ensures, (λ _. tt, λ _. refl)) in
     told_of_rows (old.now.trees tree) walked.0 [] (shown_by shows []) (row_order order [])
-    (walked.1 desk_schema tree [] shows order (λ _. c.requires.tables early) means) g.T.Scanned.AreRead c.walk.new.walker.all walked.2.1
+    (walked.1 old.now.schema tree [] shows order (λ _. refl) means) g.T.Scanned.AreRead c.walk.new.walker.all walked.2.1

@@ -1,13 +1,14 @@
-use Rattle.std.proofs.Common.{◌∙◌, arith, refl, true}
+use Rattle.std.proofs.Common.{ap, arith, map, refl, true, ◌∙◌}
 use Rattle.sqlite.specs.Held.{state}
 use Rattle.sqlite.specs.State.{State, HasCleanDisk}
+use Rattle.std.proofs.lemmas.List.{take_all}
+use Rattle.td_store_rows.specs.StoreTables.{tables_in}
+use Rattle.td_store_rows.specs.StoreReads.{ReadsNewest}
+use Rattle.td_store_rows.proofs.StoreReads.{reads_on, reads_well}
 use Rattle.td_store_rows.specs.GuaranteeTable.{guarantee_row_of}
 use Rattle.td_store_load.proofs.Found.{next_of}
 use Rattle.td_store_load.specs.Needed.{entry_from}
 use Rattle.td_store_load.proofs.entries.entries_in_rows.Goals as goal
-use Rattle.typed_sql.specs.Reading.{Reads}
-use Rattle.typed_sql.proofs.OnlyRead.{reads_on, reads_well}
-use Rattle.td_schema.specs.Tables.{desk_schema}
 
 pub rows-preserved : goal.rows-preserved
 rows-preserved g c = (
@@ -28,7 +29,7 @@ rows-preserved g c = (
     d : State
     d = state g.S.Store c.entry_in_row.new.tx.conn.now
 
-    more : Reads desk_schema true a d
+    more : ReadsNewest true a d
     more = reads_on c.rows.invariant.1 c.in_ok-entry.ensures.reads
 
     clean_b : HasCleanDisk d → HasCleanDisk b
@@ -36,3 +37,9 @@ rows-preserved g c = (
 
 pub returns-in_err-push-clause-reads : goal.returns-in_err-push-clause-reads
 returns-in_err-push-clause-reads g c = reads_well (reads_on c.rows.invariant.1 c.in_ok-entry.ensures.reads)
+
+pub returns-clause-entries : goal.returns-clause-entries
+returns-clause-entries g c clean content holds =
+    c.rows.invariant.2 clean content holds
+    ∙ ap (map (λ r. entry_from (tables_in holds.trees.layout (state g.S.Store c.args.tx.now.conn.now).now.trees) (guarantee_row_of r)))
+    (take_all c.rows.row-index c.args.rows.now c.rows-test.false)

@@ -1,16 +1,15 @@
 use Rattle.std.proofs.Common.{◌≡◌, map, take, true}
 use Rattle.sqlite.specs.Held.{state}
 use Rattle.sqlite.specs.State.{HasCleanDisk}
+use Rattle.td_store_rows.specs.StoreReads.{ReadsNewest}
 use Rattle.td_store_rows.specs.GuaranteeTable.{guarantee_row_of}
 use Rattle.td_store_load.specs.Loaded.{IsOfTables}
 use Rattle.td_store_load.specs.Needed.{entry_from}
 use Rattle.td_store_load.proofs.entries.entries_in_rows.Given as goal
-use Rattle.typed_sql.specs.Reading.{Reads}
-use Rattle.td_schema.specs.Tables.{desk_schema}
 
 abbrev pub invariant-rows : goal.invariant-rows
 invariant-rows g l =
     (l.tx.conn.ghost_name ≡ l.initial.tx.conn.ghost_name)
-    × Reads desk_schema true (state g.S.Store l.initial.tx.conn.now) (state g.S.Store l.tx.conn.now)
+    × ReadsNewest true (state g.S.Store l.initial.tx.conn.now) (state g.S.Store l.tx.conn.now)
     × (HasCleanDisk (state g.S.Store l.tx.conn.now)
     → IsOfTables (λ t. map (λ r. entry_from t (guarantee_row_of r)) (take l.row-index l.rows)) (state g.S.Store l.initial.tx.conn.now) l.entries.items)

@@ -1,13 +1,13 @@
 use Rattle.std.proofs.Common.{List, arith, map, subst, refl}
 use Rattle.sqlite.specs.Held.{state}
 use Rattle.sqlite.specs.State.{State, HasCleanDisk}
+use Rattle.td_store_rows.proofs.StoreReads.{reads_on}
 use Rattle.td_store_rows.specs.GuaranteeTable.{guarantee_row_of}
 use Rattle.td_store_rows.specs.declared.guarantees.stored.StoredGuarantee.{StoredGuarantee}
 use Rattle.typed_sql.proofs.Leaving.{if_both}
 use Rattle.td_store_load.specs.Loaded.{IsOfTables}
 use Rattle.td_store_load.specs.Needed.{entry_from}
 use Rattle.td_store_load.proofs.WithUse.{all_entries}
-use Rattle.typed_sql.proofs.OnlyRead.{reads_on}
 use Rattle.td_store_load.proofs.entries.load_all_entries.Goals as goal
 
 pub returns-clause-found : goal.returns-clause-found

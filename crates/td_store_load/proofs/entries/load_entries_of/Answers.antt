@@ -8,13 +8,12 @@ use Rattle.td_guarantee.specs.declared.guarantee.Guarantee.{Guarantee}
 use Rattle.td_model.specs.Account.{entry_in}
 use Rattle.td_desk.specs.Content.{Content, account_in}
 use Rattle.td_holder_memory.proofs.Loading.{one_more}
+use Rattle.td_store_rows.specs.StoreReads.{ReadsNewest}
+use Rattle.td_store_rows.proofs.StoreReads.{reads_on, reads_well}
 use Rattle.td_store_load.specs.Loaded.{IsOfContent}
 use Rattle.td_store_load.proofs.Reading.{content_before}
 use Rattle.td_store_load.proofs.entries.load_entries_of.Goals as goal
 use Rattle.td_store_load.proofs.entries.load_entries_of.Goals.{in-Some+in_ok-push, in_default}
-use Rattle.typed_sql.specs.Reading.{Reads}
-use Rattle.typed_sql.proofs.OnlyRead.{reads_on, reads_well}
-use Rattle.td_schema.specs.Tables.{desk_schema}
 
 pub lines-preserved : goal.lines-preserved
 lines-preserved g c = (c.load_entry.ensures.same_reference ∙ c.lines.invariant.0, more, next)
@@ -28,7 +27,7 @@ lines-preserved g c = (c.load_entry.ensures.same_reference ∙ c.lines.invariant
     d : State
     d = state g.S.Store c.load_entry.new.tx.conn.now
 
-    more : Reads desk_schema true a d
+    more : ReadsNewest true a d
     more = reads_on c.lines.invariant.1 c.in_ok-entry.ensures.reads
 
     seek : Content → Line → Option (Guarantee × ℕ)

@@ -3,10 +3,10 @@ use Rattle.std.specs.Prelude.{option_map}
 use Rattle.sqlite.specs.Held.{state}
 use Rattle.sqlite.specs.State.{State, HasCleanDisk}
 use Rattle.td_desk.specs.Content.{account_in}
+use Rattle.td_store_rows.proofs.StoreReads.{anywhere, reads_on}
 use Rattle.td_store_load.proofs.Reading.{held_after}
 use Rattle.td_store_load.specs.Needed.{with_use}
 use Rattle.td_store_load.proofs.WithUse.{entry_is}
-use Rattle.typed_sql.proofs.OnlyRead.{reads_on}
 use Rattle.td_store_load.proofs.entries.load_entry.Goals as goal
 
 pub returns-in_default-clause-found : goal.returns-in_default-clause-found
@@ -29,4 +29,4 @@ returns-clause-found g c clean content holds at =
     clean_b = omega (arith, clean, c.amount_in_use.ensures.reads.within.survives.clean)
 
 pub returns-clause-reads : goal.returns-clause-reads
-returns-clause-reads g c = reads_on c.in_ok-guarantee.ensures.reads c.in_ok-used.ensures.reads
+returns-clause-reads g c = reads_on c.in_ok-guarantee.ensures.reads (anywhere c.in_ok-used.ensures.reads)

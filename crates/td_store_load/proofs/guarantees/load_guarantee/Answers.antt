@@ -1,13 +1,13 @@
 use Rattle.std.proofs.Common.{◌∙◌, None, Some, Option, ap, arith, subst, sym, refl}
 use Rattle.sqlite.specs.Held.{state}
 use Rattle.sqlite.specs.State.{State, HasCleanDisk}
+use Rattle.td_store_rows.proofs.StoreReads.{reads_on}
 use Rattle.td_store_rows.specs.GuaranteeTable.{IsTheGuarantee, has_grn, guarantee_row_of}
 use Rattle.td_store_rows.specs.declared.guarantees.stored.StoredGuarantee.{StoredGuarantee}
 use Rattle.td_table_model.specs.Gathering.{with_codes}
 use Rattle.td_table_model.specs.Tables.{guarantee_no}
 use Rattle.td_store_load.proofs.Found.{by_grn}
 use Rattle.td_store_load.proofs.Reading.{said_before}
-use Rattle.typed_sql.proofs.OnlyRead.{reads_on}
 use Rattle.td_store_load.proofs.guarantees.load_guarantee.Goals as goal
 
 pub returns-in_default-clause-found : goal.returns-in_default-clause-found

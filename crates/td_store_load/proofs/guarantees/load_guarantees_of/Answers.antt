@@ -7,13 +7,12 @@ use Rattle.td_movement.specs.declared.line.Line.{Line}
 use Rattle.td_guarantee.specs.declared.guarantee.Guarantee.{Guarantee}
 use Rattle.td_desk.specs.Content.{Content, account_in}
 use Rattle.td_holder_memory.proofs.Loading.{look, one_more}
+use Rattle.td_store_rows.specs.StoreReads.{ReadsNewest}
+use Rattle.td_store_rows.proofs.StoreReads.{reads_on, reads_well}
 use Rattle.td_store_load.specs.Loaded.{IsOfContent}
 use Rattle.td_store_load.proofs.Reading.{content_before}
 use Rattle.td_store_load.proofs.guarantees.load_guarantees_of.Goals as goal
 use Rattle.td_store_load.proofs.guarantees.load_guarantees_of.Goals.{in-Some+in_ok-push, in_default}
-use Rattle.typed_sql.specs.Reading.{Reads}
-use Rattle.typed_sql.proofs.OnlyRead.{reads_on, reads_well}
-use Rattle.td_schema.specs.Tables.{desk_schema}
 
 pub lines-preserved : goal.lines-preserved
 lines-preserved g c = (c.load_guarantee.ensures.same_reference ∙ c.lines.invariant.0, more, next)
@@ -27,7 +26,7 @@ lines-preserved g c = (c.load_guarantee.ensures.same_reference ∙ c.lines.invar
     d : State
     d = state g.S.Store c.load_guarantee.new.tx.conn.now
 
-    more : Reads desk_schema true a d
+    more : ReadsNewest true a d
     more = reads_on c.lines.invariant.1 c.in_ok-guarantee.ensures.reads
 
     seek : Content → Line × List ℕ → Option Guarantee

@@ -1,5 +1,9 @@
-use Rattle.std.proofs.Common.{◌∙◌, ap, arith, subst, refl, true}
+use Rattle.std.proofs.Common.{ap, arith, map, refl, subst, true, ◌∙◌}
 use Rattle.td_movement.specs.declared.movement.Movement.{Movement}
+use Rattle.std.proofs.lemmas.List.{take_all}
+use Rattle.td_store_rows.specs.StoreTables.{tables_in}
+use Rattle.td_store_rows.specs.StoreReads.{ReadsNewest}
+use Rattle.td_store_rows.proofs.StoreReads.{reads_on, reads_well}
 use Rattle.td_store_rows.specs.declared.movements.stored.StoredMovement.{StoredMovement}
 use Rattle.sqlite.specs.Held.{state}
 use Rattle.sqlite.specs.State.{State, HasCleanDisk}
@@ -8,9 +12,6 @@ use Rattle.td_table_model.specs.Gathering.{with_lines}
 use Rattle.td_store_load.specs.Loaded.{IsOfTables}
 use Rattle.td_store_load.proofs.Found.{next_of}
 use Rattle.td_store_load.proofs.movements.all_with_lines.Goals as goal
-use Rattle.typed_sql.specs.Reading.{Reads}
-use Rattle.typed_sql.proofs.OnlyRead.{reads_on, reads_well}
-use Rattle.td_schema.specs.Tables.{desk_schema}
 
 pub rows-preserved : goal.rows-preserved
 rows-preserved g c = (
@@ -34,7 +35,7 @@ rows-preserved g c = (
     d : State
     d = state g.S.Store c.movement_with_lines.new.tx.conn.now
 
-    more : Reads desk_schema true a d
+    more : ReadsNewest true a d
     more = reads_on c.rows.invariant.1 c.in_ok-movement.ensures.reads
 
     clean_b : HasCleanDisk d → HasCleanDisk b
@@ -46,3 +47,9 @@ rows-preserved g c = (
 
 pub returns-in_err-push-clause-reads : goal.returns-in_err-push-clause-reads
 returns-in_err-push-clause-reads g c = reads_well (reads_on c.rows.invariant.1 c.in_ok-movement.ensures.reads)
+
+pub returns-clause-whole : goal.returns-clause-whole
+returns-clause-whole g c clean content holds =
+    c.rows.invariant.2 clean content holds
+    ∙ ap (map (λ m. with_lines (tables_in holds.trees.layout (state g.S.Store c.args.tx.now.conn.now).now.trees) (movement_row_of m)))
+    (take_all c.rows.row-index c.args.rows.now c.rows-test.false)

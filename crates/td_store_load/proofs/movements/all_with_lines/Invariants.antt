@@ -2,15 +2,14 @@ use Rattle.std.proofs.Common.{◌≡◌, map, take, true}
 use Rattle.sqlite.specs.Held.{state}
 use Rattle.sqlite.specs.State.{HasCleanDisk}
 use Rattle.td_table_model.specs.Gathering.{with_lines}
+use Rattle.td_store_rows.specs.StoreReads.{ReadsNewest}
 use Rattle.td_store_rows.specs.MovementTable.{movement_row_of}
 use Rattle.td_store_load.specs.Loaded.{IsOfTables}
 use Rattle.td_store_load.proofs.movements.all_with_lines.Given as goal
-use Rattle.typed_sql.specs.Reading.{Reads}
-use Rattle.td_schema.specs.Tables.{desk_schema}
 
 abbrev pub invariant-rows : goal.invariant-rows
 invariant-rows g l =
     (l.tx.conn.ghost_name ≡ l.initial.tx.conn.ghost_name)
-    × Reads desk_schema true (state g.S.Store l.initial.tx.conn.now) (state g.S.Store l.tx.conn.now)
+    × ReadsNewest true (state g.S.Store l.initial.tx.conn.now) (state g.S.Store l.tx.conn.now)
     × (HasCleanDisk (state g.S.Store l.tx.conn.now)
     → IsOfTables (λ t. map (λ m. with_lines t (movement_row_of m)) (take l.row-index l.rows)) (state g.S.Store l.initial.tx.conn.now) l.movements.items)

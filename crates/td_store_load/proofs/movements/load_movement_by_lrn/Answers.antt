@@ -1,12 +1,12 @@
 use Rattle.std.proofs.Common.{◌∙◌, None, Some, Option, ap, arith, subst, sym, refl}
 use Rattle.sqlite.specs.Held.{state}
 use Rattle.sqlite.specs.State.{State, HasCleanDisk}
+use Rattle.td_store_rows.proofs.StoreReads.{anywhere, reads_on}
 use Rattle.td_store_rows.specs.MovementTable.{IsTheMovement, has_lrn, movement_row_of}
 use Rattle.td_store_rows.specs.declared.movements.stored.StoredMovement.{StoredMovement}
 use Rattle.td_table_model.specs.Gathering.{with_lines}
 use Rattle.td_store_load.proofs.Found.{by_lrn}
 use Rattle.td_store_load.proofs.Reading.{said_before}
-use Rattle.typed_sql.proofs.OnlyRead.{reads_on}
 use Rattle.td_store_load.proofs.movements.load_movement_by_lrn.Goals as goal
 
 pub returns-in_default-clause-found : goal.returns-in_default-clause-found
@@ -21,7 +21,7 @@ returns-in_default-clause-found g c clean content holds = sym (by_lrn a c.args.h
 
 pub returns-clause-found : goal.returns-clause-found
 returns-clause-found g c clean content holds =
-    ap Some (said_before (λ t. with_lines t (movement_row_of c.in-Some.stored)) a b _ (c.in_ok-stored.ensures.reads.still clean_b refl) (c.in_ok-movement_with_lines.ensures.whole clean) content holds)
+    ap Some (said_before (λ t. with_lines t (movement_row_of c.in-Some.stored)) a b _ ((anywhere c.in_ok-stored.ensures.reads).still clean_b refl) (c.in_ok-movement_with_lines.ensures.whole clean) content holds)
     ∙ sym (by_lrn a c.args.holder content holds c.args.lrn.now (Some c.in-Some.stored) found)
   where
     a : State
@@ -38,4 +38,4 @@ returns-clause-found g c clean content holds =
         (c.in_ok-stored.ensures.found clean_b)
 
 pub returns-clause-reads : goal.returns-clause-reads
-returns-clause-reads g c = reads_on c.in_ok-stored.ensures.reads c.in_ok-movement_with_lines.ensures.reads
+returns-clause-reads g c = reads_on (anywhere c.in_ok-stored.ensures.reads) c.in_ok-movement_with_lines.ensures.reads

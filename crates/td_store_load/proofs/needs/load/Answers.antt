@@ -6,6 +6,7 @@ use Rattle.td_model.specs.Account.{empty_account}
 use Rattle.td_acts.specs.Deciding.{IsLoaded}
 use Rattle.td_commands.specs.Commands.{need_said}
 use Rattle.td_desk.specs.Weighing.{kept_for}
+use Rattle.td_store_rows.proofs.StoreReads.{anywhere}
 use Rattle.td_store_rows.specs.HolderTable.{IsTheHolder}
 use Rattle.typed_sql.proofs.Leaving.{if_both}
 use Rattle.td_store_load.proofs.Owner.{loaded_for, nothing_loaded}
@@ -30,7 +31,7 @@ pub returns-clause-loaded : goal.returns-clause-loaded
 returns-clause-loaded g c clean =
     if_both c.load_for.result
     (λ loaded says same content holds at. subst (λ o. IsLoaded (kept_for o content) (need_said c.args.needs.now) loaded) (sym c.in-Some.is)
-    (loaded_for a b c.in-Some.holder c.args.country c.in-Some-2.row (need_said c.args.needs.now) loaded row (c.in_ok-row.ensures.reads.still clean_b refl) says content holds at))
+    (loaded_for a b c.in-Some.holder c.args.country c.in-Some-2.row (need_said c.args.needs.now) loaded row ((anywhere c.in_ok-row.ensures.reads).still clean_b refl) says content holds at))
     (c.load_for.ensures.loaded clean) (c.load_for.ensures.loaded clean)
   where
     a : State

@@ -5,8 +5,8 @@ use Rattle.sqlite.specs.State.{State, HasCleanDisk}
 use Rattle.td_acts.specs.declared.rows.Loaded.{Loaded}
 use Rattle.td_desk.specs.Content.{account_in}
 use Rattle.td_holder_memory.proofs.Loading.{lodging_looked_up}
+use Rattle.td_store_rows.proofs.StoreReads.{reads_on}
 use Rattle.td_store_load.proofs.Reading.{held_after}
-use Rattle.typed_sql.proofs.OnlyRead.{reads_on}
 use Rattle.td_store_load.proofs.needs.load_lodging.Goals as goal
 
 pub returns-clause-loaded : goal.returns-clause-loaded

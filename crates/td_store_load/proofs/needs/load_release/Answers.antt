@@ -7,8 +7,8 @@ use Rattle.td_acts.specs.declared.rows.Loaded.{Loaded}
 use Rattle.td_model.specs.Account.{Account, entry_in, movement_by_mrn}
 use Rattle.td_desk.specs.Content.{account_in}
 use Rattle.td_holder_memory.proofs.Loading.{release_looked_up}
+use Rattle.td_store_rows.proofs.StoreReads.{reads_on}
 use Rattle.td_store_load.proofs.Reading.{held_after}
-use Rattle.typed_sql.proofs.OnlyRead.{reads_on}
 use Rattle.td_store_load.proofs.needs.load_release.Goals as goal
 
 pub returns-in_default-clause-loaded : goal.returns-in_default-clause-loaded

@@ -35,7 +35,7 @@ codes-preserved g c = (c.insert_code.ensures.same_reference ∙ c.codes.invarian
     inserted : HasWritten next b d
     inserted = record {
       within = c.in_ok-insert_code.ensures.within;
-      tables = λ clean has typed. codes_turned b d has typed (λ rows. row c.code-item.result ∷ rows) (c.in_ok-insert_code.ensures.inserted clean);
+      tables = λ clean l newest has typed. codes_turned l b d has typed (λ rows. row c.code-item.result ∷ rows) (c.in_ok-insert_code.ensures.inserted clean l);
     }
 
     both : HasWritten (λ t. next (first t)) a d

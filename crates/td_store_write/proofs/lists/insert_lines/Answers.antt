@@ -46,7 +46,7 @@ lines-preserved g c = (c.insert_line.ensures.same_reference ∙ c.lines.invarian
     inserted : HasWritten next b d
     inserted = record {
       within = c.in_ok-insert_line.ensures.within;
-      tables = λ clean has typed. lines_turned b d has typed (λ rows. row this ∷ rows) (rw (c.unwrap_or.ensures, c.serial.ensures, no) at (c.in_ok-insert_line.ensures.inserted clean));
+      tables = λ clean l newest has typed. lines_turned l b d has typed (λ rows. row this ∷ rows) (rw (c.unwrap_or.ensures, c.serial.ensures, no) at (c.in_ok-insert_line.ensures.inserted clean l));
     }
 
     both : HasWritten (λ t. next (first t)) a d

@@ -1,11 +1,14 @@
-use Rattle.std.proofs.Common.{refl}
+use Rattle.std.proofs.Common.{map, refl}
+use Rattle.std.specs.Option.{option_to_list}
 use Rattle.std.specs.Prelude.{[], ◌∷◌}
 use Rattle.sqlite.specs.Held.{state}
 use Rattle.sqlite_value.specs.declared.value.Value.TheVariants.{Text}
-use Rattle.td_schema.specs.Tables.{desk_schema}
+use Rattle.td_schema.specs.Layouts.{IsNewest, schema_of}
 use Rattle.typed_sql.proofs.Fetched.{one_fetched}
-use Rattle.typed_sql.proofs.Leaving.{reads_by}
 use Rattle.typed_sql.specs.Values.{number_value}
+use Rattle.typed_sql.specs.Typed.{AreThose}
+use Rattle.td_store_rows.proofs.StoreReads.{reads_in}
+use Rattle.td_store_rows.proofs.Each.{newest_ok}
 use Rattle.td_store_rows.specs.Columns.{guarantee_typing}
 use Rattle.td_store_rows.specs.GuaranteeTable.{has_grn, guarantee_row_of}
 use Rattle.td_store_rows.specs.declared.guarantees.texts.TheConstants.{BY_GRN}
@@ -15,11 +18,12 @@ use Rattle.td_store_rows.proofs.guarantees.finding.find_by_grn.Goals as goal
 
 pub returns-clause-found : goal.returns-clause-found
 returns-clause-found g c clean =
-    one_fetched guarantee_typing desk_schema guarantee_row_of BY_GRN.now grn_tests all_columns []
+    newest_ok (λ l found. AreThose (guarantee_typing l) (schema_of l) (has_grn c.args.holder c.args.serial c.args.grn.now) (state g.S.Store c.args.tx.now.conn.now) (map guarantee_row_of (option_to_list found))) c.fetch_one.result (λ l newest.
+    one_fetched (guarantee_typing l) (schema_of l) guarantee_row_of BY_GRN.now grn_tests all_columns []
     (has_grn c.args.holder c.args.serial c.args.grn.now) (number_value c.args.holder ∷ number_value c.args.serial ∷ Text c.args.grn.now ∷ [])
-    _ c.grn_values.ensures by_grn_means (λ r is. grn_passes r is c.args.holder c.args.serial c.args.grn.now []) (λ r. refl)
-    (state g.S.Store c.args.tx.now.conn.now) c.fetch_one.result (c.fetch_one.ensures.found clean)
+    _ c.grn_values.ensures (by_grn_means l newest) (λ r is. grn_passes l r is c.args.holder c.args.serial c.args.grn.now []) (λ r. refl)
+    (state g.S.Store c.args.tx.now.conn.now) c.fetch_one.result (c.fetch_one.ensures.found clean))
 
 pub returns-clause-reads : goal.returns-clause-reads
 returns-clause-reads g c =
-    reads_by desk_schema BY_GRN.now by_grn_means.plain _ _ c.fetch_one.result c.fetch_one.ensures.still c.fetch_one.ensures.within
+    reads_in IsNewest BY_GRN.now (λ l newest. (by_grn_means l newest).plain) _ _ c.fetch_one.result c.fetch_one.ensures.still c.fetch_one.ensures.within

@@ -1,6 +1,6 @@
 use Rattle.sqlite.specs.Held.{state}
-use Rattle.td_schema.specs.Tables.{desk_schema}
-use Rattle.typed_sql.proofs.Leaving.{reads_by}
+use Rattle.td_store_rows.specs.StoreReads.{IsAny}
+use Rattle.td_store_rows.proofs.StoreReads.{reads_in}
 use Rattle.td_store_rows.proofs.MovementMeanings.{counting_means}
 use Rattle.td_store_rows.proofs.MovementSerials.{serials_fetched, serials_in_order}
 use Rattle.td_store_rows.specs.declared.movements.texts.TheConstants.{COUNTING_SERIALS}
@@ -16,4 +16,4 @@ returns-clause-order g c clean =
 
 pub returns-clause-reads : goal.returns-clause-reads
 returns-clause-reads g c =
-    reads_by desk_schema COUNTING_SERIALS.now counting_means.plain _ _ c.fetch.result c.fetch.ensures.still c.fetch.ensures.within
+    reads_in IsAny COUNTING_SERIALS.now (λ l any. (counting_means l).plain) _ _ c.fetch.result c.fetch.ensures.still c.fetch.ensures.within

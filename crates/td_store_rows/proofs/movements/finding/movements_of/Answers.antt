@@ -1,13 +1,17 @@
-use Rattle.std.proofs.Common.{nat_cmp, refl}
+use Rattle.std.proofs.Common.{map, nat_cmp, refl}
 use Rattle.std.specs.Prelude.{[], ◌∷◌}
 use Rattle.sqlite.specs.Held.{state}
-use Rattle.td_schema.specs.Tables.{desk_schema}
+use Rattle.td_schema.specs.Layouts.{schema_of}
 use Rattle.typed_sql.proofs.Fetched.{in_order_fetched, those_fetched}
-use Rattle.typed_sql.proofs.Leaving.{if_both, reads_by}
+use Rattle.typed_sql.proofs.Leaving.{if_both}
 use Rattle.typed_sql.specs.Values.{number_value}
+use Rattle.td_store_rows.specs.StoreReads.{IsAny}
+use Rattle.td_store_rows.proofs.StoreReads.{reads_in}
 use Rattle.td_store_rows.proofs.MovementMeanings.{all_columns, by_serial, holder_tests, of_holder_means}
 use Rattle.td_store_rows.proofs.MovementStatements.{by_serials, compared, holder_passes}
 use Rattle.td_table_model.specs.Gathering.{place}
+use Rattle.typed_sql.specs.Typed.{AreInOrder, AreThose}
+use Rattle.td_store_rows.proofs.Each.{each_ok}
 use Rattle.td_store_rows.specs.Columns.{movement_typing}
 use Rattle.td_store_rows.specs.MovementTable.{is_of, movement_row_of}
 use Rattle.td_store_rows.specs.declared.movements.texts.TheConstants.{OF_HOLDER}
@@ -15,22 +19,25 @@ use Rattle.td_store_rows.proofs.movements.finding.movements_of.Goals as goal
 
 pub returns-clause-found : goal.returns-clause-found
 returns-clause-found g c clean =
-    those_fetched movement_typing desk_schema movement_row_of OF_HOLDER.now holder_tests all_columns by_serial
+    each_ok (λ l found. AreThose movement_typing (schema_of l) (is_of c.args.holder) (state g.S.Store c.args.tx.now.conn.now) (map movement_row_of found.items)) c.fetch.result (λ l.
+    those_fetched movement_typing (schema_of l) movement_row_of OF_HOLDER.now holder_tests all_columns by_serial
     (is_of c.args.holder) (number_value c.args.holder ∷ []) _
-    c.holder_key.ensures of_holder_means (λ r is. holder_passes r is c.args.holder) (λ r. refl)
-    (state g.S.Store c.args.tx.now.conn.now) c.fetch.result (c.fetch.ensures.found clean)
+    c.holder_key.ensures (of_holder_means l) (λ r is. holder_passes r is c.args.holder) (λ r. refl)
+    (state g.S.Store c.args.tx.now.conn.now) c.fetch.result (c.fetch.ensures.found clean))
 
 pub returns-clause-order : goal.returns-clause-order
 returns-clause-order g c clean =
     if_both c.fetch.result
     (λ found. by_serials (is_of c.args.holder) (state g.S.Store c.args.tx.now.conn.now) found.items)
     (returns-clause-found g c clean)
-    (in_order_fetched movement_typing desk_schema movement_row_of OF_HOLDER.now holder_tests all_columns by_serial
-    (is_of c.args.holder) (number_value c.args.holder ∷ []) _ c.holder_key.ensures of_holder_means
+    (each_ok (λ l found. AreInOrder movement_typing (schema_of l) (λ a b. nat_cmp (place a) (place b)) (state g.S.Store c.args.tx.now.conn.now) (map movement_row_of found.items))
+    c.fetch.result (λ l.
+    in_order_fetched movement_typing (schema_of l) movement_row_of OF_HOLDER.now holder_tests all_columns by_serial
+    (is_of c.args.holder) (number_value c.args.holder ∷ []) _ c.holder_key.ensures (of_holder_means l)
     (λ r is. holder_passes r is c.args.holder) (λ r. refl) (state g.S.Store c.args.tx.now.conn.now)
     (λ a b. nat_cmp (place a) (place b)) (compared c.args.holder (is_of c.args.holder) (λ m is. is))
-    c.fetch.result (c.fetch.ensures.found clean))
+    c.fetch.result (c.fetch.ensures.found clean)))
 
 pub returns-clause-reads : goal.returns-clause-reads
 returns-clause-reads g c =
-    reads_by desk_schema OF_HOLDER.now of_holder_means.plain _ _ c.fetch.result c.fetch.ensures.still c.fetch.ensures.within
+    reads_in IsAny OF_HOLDER.now (λ l any. (of_holder_means l).plain) _ _ c.fetch.result c.fetch.ensures.still c.fetch.ensures.within

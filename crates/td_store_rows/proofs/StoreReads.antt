@@ -1,0 +1,44 @@
+-- Calls that read one after another in a store's file.
+use Rattle.std.proofs.Common.{arith, refl, Result, List, ℕ}
+use Rattle.std.specs.Prelude.{Bool, OnOk, is_ok, true}
+use Rattle.sqlite.specs.Given.{IsPlain}
+use Rattle.sqlite.specs.Listing.{understood}
+use Rattle.sqlite.specs.State.{State, HasCleanDisk}
+use Rattle.td_schema.specs.declared.layout.Layout.{Layout}
+use Rattle.td_schema.specs.Layouts.{schema_of}
+use Rattle.typed_sql.proofs.Leaving.{reads_by}
+use Rattle.typed_sql.proofs.OnlyRead.{none_read, read_more, stays_on, stays_well}
+use Rattle.typed_sql.specs.Reading.{OnlyReads, StaysInside}
+use Rattle.td_store_rows.specs.StoreReads.{OnlyReadNewest, ReadsIn, ReadsNewest, ReadsStore}
+
+-- a statement that doesn't write, whatever came of it
+pub reads_in : {T E : Type 0} (P : Layout → Type 0) (text : List ℕ) → ((l : Layout) → P l → IsPlain (understood (schema_of l) text))
+    → (old new : State) (r : Result T E) → (HasCleanDisk new → OnOk r (OnlyReads text old new)) → StaysInside (is_ok r) old new
+    → ReadsIn P (is_ok r) old new
+reads_in P text plain old new r still within = record {
+  still = λ clean well l is. (reads_by (schema_of l) text (plain l is) old new r still within).still clean well;
+  within = within;
+}
+
+-- what reads in a file of any layout
+pub anywhere : {w : Bool} {a b : State} → ReadsStore w a b → ReadsNewest w a b
+anywhere reads = record { still = λ clean well l newest. reads.still clean well l tt; within = reads.within }
+
+-- calls after calls that were well
+pub reads_on : {P : Layout → Type 0} {w : Bool} {a b d : State} → ReadsIn P true a b → ReadsIn P w b d → ReadsIn P w a d
+reads_on {P} {w} {a} {b} {d} first second = record {
+  still = λ clean well l is.
+      read_more a b d (first.still (omega (arith, clean, second.within.survives.clean)) refl l is) (second.still clean well l is);
+  within = stays_on first.within second.within;
+}
+
+-- calls that were well, whatever is answered after them
+pub reads_well : {P : Layout → Type 0} {w : Bool} {a b : State} → ReadsIn P true a b → ReadsIn P w a b
+reads_well first = record { still = λ clean well. first.still clean refl; within = stays_well first.within }
+
+-- of the newest version: no call, and calls after others
+pub none_newest : (a : State) → OnlyReadNewest a a
+none_newest a l newest = none_read a
+
+pub newest_more : (a b d : State) → OnlyReadNewest a b → OnlyReadNewest b d → OnlyReadNewest a d
+newest_more a b d first second l newest = read_more a b d (first l newest) (second l newest)
