@@ -100,4 +100,6 @@ TellsRules readable trees broken =
 
 -- and what a fault, or none, then says of them: the first rule that they break
 abbrev pub TellsRows : Trees → Option OpenFault → Type 0
-TellsRows trees fault = (broken : Option Rule) × (fault ≡ option_map Damaged broken) × HaveAllIds newest_layout trees × AreKept newest_layout trees × TellsBroken newest_layout trees broken
+TellsRows trees fault =
+    (broken : Option Rule) × (fault ≡ option_map Damaged broken)
+    × HaveAllIds newest_layout trees × AreKept newest_layout trees × TellsBroken newest_layout trees broken

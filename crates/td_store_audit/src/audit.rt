@@ -35,7 +35,8 @@ pub fn first_broken<S: Alter>(
     requires { HasCleanDisk (state S.Store tx.old.conn.now) → IsTrue (state S.Store tx.old.conn.now).in_transaction }
     ensures same_reference { tx.new.conn.ghost_name ≡ tx.old.conn.ghost_name }
     ensures told { HasCleanDisk (state S.Store tx.new.conn.now)
-        → IfOk result (λ broken. IsSoWhere AreKept (λ layout trees. TellReadable layout readable trees → TellsBroken layout trees broken) (state S.Store tx.old.conn.now)) }
+        → IfOk result (λ broken. IsSoWhere AreKept
+        (λ layout trees. TellReadable layout readable trees → TellsBroken layout trees broken) (state S.Store tx.old.conn.now)) }
     ensures still { HasCleanDisk (state S.Store tx.new.conn.now)
         → OnOk result (LeavesNewest (state S.Store tx.old.conn.now) (state S.Store tx.new.conn.now)) }
     ensures inside { HasCleanDisk (state S.Store tx.new.conn.now) → OnOk result (IsTrue (state S.Store tx.new.conn.now).in_transaction) }
@@ -61,7 +62,8 @@ fn first_after_office<S: Alter>(
     requires { IsInside (state S.Store tx.old.conn.now) }
     ensures same_reference { tx.new.conn.ghost_name ≡ tx.old.conn.ghost_name }
     ensures told { HasCleanDisk (state S.Store tx.new.conn.now)
-        → IfOk result (λ broken. IsSoWhere (HasOffice country holders.now readable) (λ layout trees. TellsBroken layout trees broken) (state S.Store tx.old.conn.now)) }
+        → IfOk result (λ broken. IsSoWhere (HasOffice country holders.now readable)
+        (λ layout trees. TellsBroken layout trees broken) (state S.Store tx.old.conn.now)) }
     ensures reads { ReadsNewest (is_ok result) (state S.Store tx.old.conn.now) (state S.Store tx.new.conn.now) }
 {
     if !holders_keep_rule(holders) {
@@ -88,7 +90,8 @@ fn first_of_movements<S: Alter>(
     requires { IsInside (state S.Store tx.old.conn.now) }
     ensures same_reference { tx.new.conn.ghost_name ≡ tx.old.conn.ghost_name }
     ensures told { HasCleanDisk (state S.Store tx.new.conn.now)
-        → IfOk result (λ broken. IsSoWhere (IsNextRule S5 country holders.now readable) (λ layout trees. TellsBroken layout trees broken) (state S.Store tx.old.conn.now)) }
+        → IfOk result (λ broken. IsSoWhere (IsNextRule S5 country holders.now readable)
+        (λ layout trees. TellsBroken layout trees broken) (state S.Store tx.old.conn.now)) }
     ensures reads { ReadsNewest (is_ok result) (state S.Store tx.old.conn.now) (state S.Store tx.new.conn.now) }
 {
     let Some(counting) = movements_keep_rule(alloc, tx, country, holders, readable.movements)?

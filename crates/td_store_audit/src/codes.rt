@@ -46,7 +46,8 @@ fn all_have_codes<S: Alter>(
     requires { IsInside (state S.Store tx.old.conn.now) }
     ensures same_reference { tx.new.conn.ghost_name ≡ tx.old.conn.ghost_name }
     ensures told { HasCleanDisk (state S.Store tx.new.conn.now)
-        → IfOk result (TellsWhere (λ layout. AreTyped code_typing) (λ layout trees. AllByRecursion (HasCodesInPlace trees) holders.now) (state S.Store tx.old.conn.now)) }
+        → IfOk result (TellsWhere (λ layout. AreTyped code_typing)
+        (λ layout trees. AllByRecursion (HasCodesInPlace trees) holders.now) (state S.Store tx.old.conn.now)) }
     ensures reads { ReadsNewest (is_ok result) (state S.Store tx.old.conn.now) (state S.Store tx.new.conn.now) }
 {
     'holders: for raw in holders {

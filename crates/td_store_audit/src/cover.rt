@@ -67,7 +67,8 @@ fn is_holder_covered<S: Alter>(
     requires { IsInside (state S.Store tx.old.conn.now) }
     ensures same_reference { tx.new.conn.ghost_name ≡ tx.old.conn.ghost_name }
     ensures told { HasCleanDisk (state S.Store tx.new.conn.now)
-        → IfOk result (TellsWhere (λ layout trees. IsHandedOn layout trees parts.now) (λ layout trees. IsHolderCoveredInFile layout trees (raw_holder_of parts.now)) (state S.Store tx.old.conn.now)) }
+        → IfOk result (TellsWhere (λ layout trees. IsHandedOn layout trees parts.now)
+        (λ layout trees. IsHolderCoveredInFile layout trees (raw_holder_of parts.now)) (state S.Store tx.old.conn.now)) }
     ensures reads { ReadsNewest (is_ok result) (state S.Store tx.old.conn.now) (state S.Store tx.new.conn.now) }
 {
     let rows = guarantees_of(alloc, tx, parts.movements.raw.holder)?;

@@ -34,7 +34,8 @@ pub fn guarantees_keep_rule<S: Alter>(
     requires { HasCleanDisk (state S.Store tx.old.conn.now) → IsTrue (state S.Store tx.old.conn.now).in_transaction }
     ensures same_reference { tx.new.conn.ghost_name ≡ tx.old.conn.ghost_name }
     ensures told { HasCleanDisk (state S.Store tx.new.conn.now)
-        → IfOk result (TellsRule (λ layout trees. TellsRead (guarantee_typing layout) AreGuaranteeFields trees are_read) S3 country holders.now (state S.Store tx.old.conn.now)) }
+        → IfOk result (TellsRule (λ layout trees. TellsRead (guarantee_typing layout) AreGuaranteeFields trees are_read)
+        S3 country holders.now (state S.Store tx.old.conn.now)) }
     ensures still { HasCleanDisk (state S.Store tx.new.conn.now)
         → OnOk result (OnlyReadNewest (state S.Store tx.old.conn.now) (state S.Store tx.new.conn.now)) }
     ensures inside { HasCleanDisk (state S.Store tx.new.conn.now) → OnOk result (IsTrue (state S.Store tx.new.conn.now).in_transaction) }
@@ -60,7 +61,8 @@ fn all_have_guarantees<S: Alter>(
     requires { IsInside (state S.Store tx.old.conn.now) }
     ensures same_reference { tx.new.conn.ghost_name ≡ tx.old.conn.ghost_name }
     ensures told { HasCleanDisk (state S.Store tx.new.conn.now)
-        → IfOk result (TellsWhere (λ layout. AreTypedApart (guarantee_typing layout)) (λ layout trees. AllByRecursion (HasGuaranteesInPlace layout country trees) holders.now)
+        → IfOk result (TellsWhere (λ layout. AreTypedApart (guarantee_typing layout))
+        (λ layout trees. AllByRecursion (HasGuaranteesInPlace layout country trees) holders.now)
         (state S.Store tx.old.conn.now)) }
     ensures reads { ReadsNewest (is_ok result) (state S.Store tx.old.conn.now) (state S.Store tx.new.conn.now) }
 {
@@ -82,7 +84,8 @@ fn has_guarantees<S: Alter>(
     requires { IsInside (state S.Store tx.old.conn.now) }
     ensures same_reference { tx.new.conn.ghost_name ≡ tx.old.conn.ghost_name }
     ensures told { HasCleanDisk (state S.Store tx.new.conn.now)
-        → IfOk result (TellsWhere (λ layout. AreTypedApart (guarantee_typing layout)) (λ layout trees. HasGuaranteesInPlace layout country trees raw.now) (state S.Store tx.old.conn.now)) }
+        → IfOk result (TellsWhere (λ layout. AreTypedApart (guarantee_typing layout))
+        (λ layout trees. HasGuaranteesInPlace layout country trees raw.now) (state S.Store tx.old.conn.now)) }
     ensures reads { ReadsNewest (is_ok result) (state S.Store tx.old.conn.now) (state S.Store tx.new.conn.now) }
 {
     let Some(count) = raw.grn_count else {

@@ -36,7 +36,8 @@ fn kept_lines<S: Alter>(
     ensures same_reference { tx.new.conn.ghost_name ≡ tx.old.conn.ghost_name }
     ensures told { HasCleanDisk (state S.Store tx.new.conn.now)
         → IfOk result (λ found. IsSoWhere (λ layout. AreTyped line_typing)
-        (λ layout trees. AreNumbersApart (part raw.now.holder (typed_rows line_typing trees)) → IsTrue (is_some found) ↔ HasLinesInPlace trees raw.now) (state S.Store tx.old.conn.now)) }
+        (λ layout trees. AreNumbersApart (part raw.now.holder (typed_rows line_typing trees))
+        → IsTrue (is_some found) ↔ HasLinesInPlace trees raw.now) (state S.Store tx.old.conn.now)) }
     ensures handed { HasCleanDisk (state S.Store tx.new.conn.now)
         → IfOk result (λ found. IfSome found (λ lines. AreLines (is_of_holder raw.now.holder) (state S.Store tx.old.conn.now) lines.items)) }
     ensures reads { ReadsNewest (is_ok result) (state S.Store tx.old.conn.now) (state S.Store tx.new.conn.now) }

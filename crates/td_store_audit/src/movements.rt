@@ -64,7 +64,8 @@ fn all_kept_movements<S: Alter>(
     requires { IsInside (state S.Store tx.old.conn.now) }
     ensures same_reference { tx.new.conn.ghost_name ≡ tx.old.conn.ghost_name }
     ensures told { HasCleanDisk (state S.Store tx.new.conn.now)
-        → IfOk result (λ found. TellsWhere (λ layout. AreTypedApart movement_typing) (λ layout trees. AllByRecursion (HasMovementsInPlace layout country trees) holders.now)
+        → IfOk result (λ found. TellsWhere (λ layout. AreTypedApart movement_typing)
+        (λ layout trees. AllByRecursion (HasMovementsInPlace layout country trees) holders.now)
         (state S.Store tx.old.conn.now) (is_some found)) }
     ensures holders { IfOk result (λ found. IfSome found (λ each. map raw_of each.items ≡ holders.now)) }
     ensures handed { HasCleanDisk (state S.Store tx.new.conn.now)
@@ -91,11 +92,13 @@ fn kept_movements<S: Alter>(
     requires { IsInside (state S.Store tx.old.conn.now) }
     ensures same_reference { tx.new.conn.ghost_name ≡ tx.old.conn.ghost_name }
     ensures told { HasCleanDisk (state S.Store tx.new.conn.now)
-        → IfOk result (λ found. TellsWhere (λ layout. AreTypedApart movement_typing) (λ layout trees. HasMovementsInPlace layout country trees raw.now)
+        → IfOk result (λ found. TellsWhere (λ layout. AreTypedApart movement_typing)
+        (λ layout trees. HasMovementsInPlace layout country trees raw.now)
         (state S.Store tx.old.conn.now) (is_some found)) }
     ensures holder { IfOk result (λ found. IfSome found (λ h. raw_of h ≡ raw.now)) }
     ensures handed { HasCleanDisk (state S.Store tx.new.conn.now)
-        → IfOk result (λ found. IfSome found (λ h. IsSoWhere (λ layout. AreTypedApart movement_typing) (λ layout trees. AreCounting layout trees h) (state S.Store tx.old.conn.now))) }
+        → IfOk result (λ found. IfSome found (λ h. IsSoWhere (λ layout. AreTypedApart movement_typing)
+        (λ layout trees. AreCounting layout trees h) (state S.Store tx.old.conn.now))) }
     ensures reads { ReadsNewest (is_ok result) (state S.Store tx.old.conn.now) (state S.Store tx.new.conn.now) }
 {
     let Some(count) = raw.mrn_count else {

@@ -39,14 +39,14 @@ pub listed_there : (l : Layout) (db : Database) → db.schema ≡ schema_of l �
 listed_there l db has sound = subst (λ s. IsDatabase (record { schema = s; trees = db.trees })) has sound
 
 -- the tree of guarantees is none of the other tables'
-record IsApart (l : Layout) : Type 0 where
+record StandsApart (l : Layout) : Type 0 where
   meta : guarantees_tree l ≢ 0
   holders : guarantees_tree l ≢ 1
   codes : guarantees_tree l ≢ 2
   movements : guarantees_tree l ≢ 4
   lines : guarantees_tree l ≢ 11
 
-apart : (l : Layout) → IsApart l
+apart : (l : Layout) → StandsApart l
 apart Made1 = record { meta = λ e. cc; holders = λ e. cc; codes = λ e. cc; movements = λ e. cc; lines = λ e. cc }
 apart Made2 = record { meta = λ e. cc; holders = λ e. cc; codes = λ e. cc; movements = λ e. cc; lines = λ e. cc }
 apart Grown2 = record { meta = λ e. cc; holders = λ e. cc; codes = λ e. cc; movements = λ e. cc; lines = λ e. cc }
