@@ -317,6 +317,14 @@ $ batch --country CH --db FILE --file CSV --at 4102444800
 - 000001,A1,clock-range,
 - 000001,A2,clock-range,
 ! 1
+$ batch --country CH --db FILE --file CSV --at 0
++ holder,lrn,departure,destination,lines
++ 000001,A1,CH001251,DE005600,25CH0000010000014:AB12:5000.00
++ 000001,A2,CH001251,DE005600,25CH0000010000014:AB12:12.50
+- holder,lrn,outcome,mrn
+- 000001,A1,clock-range,
+- 000001,A2,clock-range,
+! 1
 $ pipe --country CH --at 1740819600 --db FILE
 > GET /holders/000001
 < 200 {"eori":"CH1234567","guarantees":1,"holder":"000001","movements":0}

@@ -68,6 +68,12 @@ $ acts --country CH --db FILE --file CSV --at 1740819600
 ! 1 transit-desk: bad csv row 2 column 1
 $ acts --country CH --db FILE --file CSV --at 1740819600
 + message,mrn,value
++ IE029,25CH00000100000013,2025-03-08
++ IE140,25CH00000100000013,
++ IE014,25CH00000100000013,
+! 1 transit-desk: bad csv row 4 column 1
+$ acts --country CH --db FILE --file CSV --at 1740819600
++ message,mrn,value
 + ie029,25CH00000100000013,2025-03-08
 ! 1 transit-desk: bad csv row 2 column 1
 $ acts --country CH --db FILE --file CSV --at 1740819600
