@@ -1,3 +1,4 @@
 pub mod Ascending
 pub mod Coded
 mod Changing
+mod Stepping

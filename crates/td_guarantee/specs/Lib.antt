@@ -1,3 +1,4 @@
 pub mod Codes
 pub mod Usage
 pub mod Known
+pub mod Laws

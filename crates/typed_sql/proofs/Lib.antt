@@ -12,4 +12,6 @@ pub mod Fetched
 pub mod Columns
 pub mod Left
 mod Answered
-mod Empty
+mod Asked
+mod Emptied
+pub mod TypedWhere

@@ -65,6 +65,13 @@ pub record IsDeleted (s : Schema) (t : Table) (test : Row → Bool) (old new : D
   pub schema : new.schema ≡ s
   pub sound : IsDatabase new
 
+-- The table has no row, and the others are as they were. The trees still list the schema, and obey it.
+pub record IsEmptied (s : Schema) (t : Table) (old new : Database) : Type 0 where
+  pub rows : new.trees t.tree ≡ []
+  pub others : AreOthersKept s t.tree old.trees new.trees
+  pub schema : new.schema ≡ s
+  pub sound : IsDatabase new
+
 -- these are the tables, as far as the connection is open
 abbrev pub HasSchema : State → Schema → Type 0
 HasSchema state s = IsTrue state.is_open → state.now.schema ≡ s
@@ -87,3 +94,9 @@ abbrev pub Deletes : List ℕ → Row → State → State → Type 0
 Deletes text values old new =
     (s : Schema) (t : Table) (tests : List Term) → HasSchema old s → MeansDelete s text t tests
     → HaveIds (old.now.trees t.tree) → IsDeleted s t (passes values tests) old.now new.now
+
+-- whatever table the text empties, that was done
+abbrev pub Empties : List ℕ → State → State → Type 0
+Empties text old new =
+    (s : Schema) (t : Table) → HasSchema old s → MeansDelete s text t []
+    → HaveIds (old.now.trees t.tree) → IsEmptied s t old.now new.now

@@ -1,11 +1,11 @@
-//! The four statements, each inside a transaction that the caller commits. An error is the database's own, and commits
+//! The five statements, each inside a transaction that the caller commits. An error is the database's own, and commits
 //! nothing.
 ghost use Rattle.std.specs.Prelude.{◌≡◌, true, Ok, IfOk, OnOk, is_ok};
 ghost use Rattle.sqlite.specs.Held.{state};
 ghost use Rattle.sqlite.specs.State.{Executes, HasCleanDisk, Shows};
 ghost use Rattle.sqlite.specs.Values.{bound};
 ghost use Rattle.typed_sql.specs.Reading.{IsInside, OnlyReads, Selects, StaysInside};
-ghost use Rattle.typed_sql.specs.Writing.{Deletes, Inserts, Updates};
+ghost use Rattle.typed_sql.specs.Writing.{Deletes, Empties, Inserts, Updates};
 
 use sqlite::{Error, ErrorCode, Row, Transaction};
 use sqlite_trees::store::Alter;
@@ -85,6 +85,20 @@ pub fn delete<S: Alter>(
     ensures within { StaysInside (is_ok result) (state S.Store tx.old.conn.now) (state S.Store tx.new.conn.now) }
 {
     change_one(tx, text, values)
+}
+
+/// Deletes all rows of a table. The text is a DELETE from one table, without a test.
+pub fn empty<S: Alter>(tx: &mut Transaction<'_, S>, text: &str) -> Result<(), Error>
+    requires { IsInside (state S.Store tx.old.conn.now) }
+    ensures same_reference { tx.new.conn.ghost_name ≡ tx.old.conn.ghost_name }
+    ensures emptied { HasCleanDisk (state S.Store tx.new.conn.now)
+        → OnOk result (Empties text.now (state S.Store tx.old.conn.now) (state S.Store tx.new.conn.now)) }
+    ensures inside { HasCleanDisk (state S.Store tx.new.conn.now) → OnOk result (Shows (state S.Store tx.old.conn.now)
+        (state S.Store tx.new.conn.now) (state S.Store tx.new.conn.now).now (state S.Store tx.old.conn.now).committed true) }
+    ensures within { StaysInside (is_ok result) (state S.Store tx.old.conn.now) (state S.Store tx.new.conn.now) }
+{
+    tx.execute(text, &[])?;
+    Ok(())
 }
 
 /// The rows that a text shows, which is a SELECT over one table, whose `?1`, `?2` .. are the values. It changes nothing.

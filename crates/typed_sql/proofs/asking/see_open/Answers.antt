@@ -1,7 +1,7 @@
 use Rattle.sqlite.specs.Held.{state}
 use Rattle.sqlite.specs.State.{HasCleanDisk}
 use Rattle.std.proofs.Common.{arith}
-use Rattle.typed_sql.proofs.Empty.{asked}
+use Rattle.typed_sql.proofs.Asked.{asked}
 use Rattle.typed_sql.proofs.asking.see_open.Goals as goal
 
 pub returns-clause-still : goal.returns-clause-still
