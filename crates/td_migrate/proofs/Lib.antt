@@ -1,0 +1,5 @@
+mod First
+mod Filling
+mod Becoming
+mod Contents
+mod Upgrading
