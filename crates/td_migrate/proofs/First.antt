@@ -1,5 +1,5 @@
 -- What the statement that asks for all guarantees of version 1 means and shows.
-use Rattle.std.proofs.Common.{◌≡◌, List, [], ◌∷◌, Result, Ok, Err, true, ap, map, refl, subst, IsPermutation}
+use Rattle.std.proofs.Common.{◌≡◌, ℕ, List, [], ◌∷◌, Result, Ok, Err, true, ap, map, refl, subst, IsPermutation}
 use Rattle.std.specs.Prelude.{IfOk, Vec, codes, filter}
 use Rattle.std.specs.declared.alloc.Global.{Global}
 use Rattle.sqlite.specs.Given.{IsPlain}
@@ -12,14 +12,18 @@ use Rattle.td_schema.specs.declared.layout.Layout.{Layout}
 use Rattle.td_schema.specs.declared.layout.Layout.TheVariants.{Made1}
 use Rattle.typed_sql.specs.Meanings.{MeansSelect}
 use Rattle.typed_sql.specs.Typed.{AreThose, typed_rows}
-use Rattle.td_store_rows.proofs.GuaranteeMeanings.{all_columns}
+use Rattle.sqlite_sql.specs.Term.{Term, col}
 use Rattle.td_store_rows.specs.Columns.{guarantee_typing}
 use Rattle.td_store_rows.specs.GuaranteeTable.{guarantee_row_of}
 use Rattle.td_store_rows.specs.declared.guarantees.stored.StoredGuarantee.{StoredGuarantee}
 use Rattle.td_migrate.specs.Filled.{AreFirst, IsFirst}
 use Rattle.td_migrate.specs.declared.filling.TheConstants.{ALL_FIRST}
 
-abbrev names : List (List _)
+-- the columns that it shows
+abbrev pub all_columns : List Term
+all_columns = col 1 1 ∷ col 1 2 ∷ col 1 3 ∷ col 1 4 ∷ col 1 5 ∷ col 1 6 ∷ []
+
+abbrev names : List (List ℕ)
 names = codes "holder" ∷ codes "serial" ∷ codes "grn" ∷ codes "reference" ∷ codes "cover" ∷ codes "ends" ∷ []
 
 pub all_means : MeansSelect (schema_of Made1) ALL_FIRST.now (guarantees_tree Made1) [] all_columns []

@@ -13,5 +13,5 @@ pub use columns::{
     number_of, office_at, office_or_null, optional_day_at, optional_office_at, serial_at,
     serial_key, state_at,
 };
-pub use layout::{FIRST_VERSION, Layout, NEWEST_LAYOUT, NEWEST_VERSION};
-pub use making::make_tables;
+pub use layout::{Layout, NEWEST_LAYOUT, NEWEST_VERSION};
+pub use making::{make_guarantees2, make_tables};

@@ -11,7 +11,7 @@ ghost use Rattle.td_store.specs.Opened.{HoldsAtVersion, TellsAudit, fault_in};
 use crate::faults::open_fault_of;
 use crate::judging::fault_of_rows;
 use crate::refused::OpenFault;
-use crate::schema::{Tables, tables_of};
+use crate::schema::{Tables, tables_of, version_in};
 use crate::settling::see_settled;
 use sqlite::{Connection, Error};
 use sqlite_trees::store::Alter;
@@ -37,7 +37,7 @@ fn fault_at<S: Alter>(
     ensures crash { Survives (state S.Store conn.old) (state S.Store conn.new) (λ _. ⊥) }
 {
     match tables_of(alloc, conn)? {
-        Tables::Store(layout) if layout.version() == version => fault_of_rows(alloc, conn, layout),
+        Tables::Store(layout) if version_in(layout) == version => fault_of_rows(alloc, conn, layout),
         _ => Ok(Some(OpenFault::Store)),
     }
 }

@@ -9,7 +9,7 @@ ghost use Rattle.td_store.specs.Opened.{LacksMeta, TellsDatabase, TellsRows, Tel
 use crate::faults::open_fault_of;
 use crate::office::{fault_of_version, office_fault, read_office};
 use crate::refused::OpenFault;
-use crate::schema::{Tables, lacks_meta, tables_of};
+use crate::schema::{Tables, lacks_meta, tables_of, version_in};
 use crate::settling::see_settled;
 use sqlite::{Connection, Error};
 use sqlite_trees::store::Alter;
@@ -44,7 +44,7 @@ fn broken_rule<S: Alter>(
     see_settled(conn);
     database_keeps(conn);
     let mut tx = conn.transaction();
-    let broken = first_broken(alloc, &mut tx, layout.version(), readable)?;
+    let broken = first_broken(alloc, &mut tx, version_in(layout), readable)?;
     // (compiled now, it takes no memory when it is asked again)
     see_open(&mut tx)?;
     tx.commit()?;
@@ -71,7 +71,7 @@ pub(crate) fn fault_of_rows<S: Alter>(
     ensures crash { Survives (state S.Store conn.old) (state S.Store conn.new) (λ _. ⊥) }
 {
     kept_rules_mean_content();
-    let readable = readable_tables(conn, layout.version())?;
+    let readable = readable_tables(conn, version_in(layout))?;
     let broken = broken_rule(alloc, conn, layout, readable)?;
     Ok(damage(broken))
 }
@@ -101,7 +101,7 @@ fn fault_in<S: Alter>(
     if fault.is_some() {
         return Ok(fault);
     }
-    if layout.version() != NEWEST_VERSION {
+    if version_in(layout) != NEWEST_VERSION {
         return Ok(Some(OpenFault::Store));
     }
     fault_of_rows(alloc, conn, layout)

@@ -3,7 +3,7 @@ ghost use Rattle.std.specs.Prelude.{◌≡◌, ◌↔◌, false, IsTrue, IfOk, O
 ghost use Rattle.sqlite.specs.Held.{state};
 ghost use Rattle.sqlite.specs.State.{HasCleanDisk};
 ghost use Rattle.sqlite.specs.Steps.{over_memory};
-ghost use Rattle.td_schema.specs.Layouts.{schema_of};
+ghost use Rattle.td_schema.specs.Layouts.{schema_of, version_of};
 ghost use Rattle.td_schema.specs.Tables.{IsEmptyOf, no_schema};
 ghost use Rattle.td_store.specs.Opened.{AreTold, LacksMeta};
 
@@ -29,6 +29,16 @@ fn named_layout(schema: &Schema) -> Layout {
         (true, true) => Layout::Grown2,
         (true, false) => Layout::Made1,
         (false, _) => Layout::Made2,
+    }
+}
+
+/// The version of the tables in a file of this layout.
+pub(crate) fn version_in(layout: Layout) -> u32
+    ensures { result ≡ version_of layout }
+{
+    match layout {
+        Layout::Made1 => 1,
+        Layout::Made2 | Layout::Grown2 => 2,
     }
 }
 

@@ -1,4 +1,4 @@
-use Rattle.std.proofs.Common.{map, refl}
+use Rattle.std.proofs.Common.{map, refl, true}
 use Rattle.std.specs.Prelude.{[]}
 use Rattle.sqlite.specs.Held.{state}
 use Rattle.td_schema.specs.Layouts.{schema_of}
@@ -7,10 +7,9 @@ use Rattle.typed_sql.proofs.Fetched.{those_fetched}
 use Rattle.td_store_rows.proofs.StoreReads.{reads_in}
 use Rattle.td_store_rows.specs.Columns.{guarantee_typing}
 use Rattle.td_store_rows.specs.GuaranteeTable.{guarantee_row_of}
-use Rattle.td_store_rows.proofs.GuaranteeMeanings.{all_columns}
 use Rattle.td_migrate.specs.Filled.{IsFirst}
 use Rattle.td_migrate.specs.declared.filling.TheConstants.{ALL_FIRST}
-use Rattle.td_migrate.proofs.First.{all_found, all_means, first_means}
+use Rattle.td_migrate.proofs.First.{all_columns, all_found, all_means, first_means}
 use Rattle.td_migrate.proofs.filling.first_guarantees.Goals as goal
 
 pub returns-clause-found : goal.returns-clause-found
