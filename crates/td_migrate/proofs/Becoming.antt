@@ -19,7 +19,7 @@ use Rattle.td_store_rows.specs.MetaTable.{TurnsMeta, with_version}
 use Rattle.td_store_rows.specs.StoreTables.{AreAllTyped}
 use Rattle.td_migrate.specs.Filled.{AreFirst, Fills, with_its_use}
 use Rattle.td_migrate.specs.Moved.{AreMoved, AreOthersSame, BecomesSecond, MovesTo2}
-use Rattle.td_migrate.proofs.Filling.{all_still, typed_still}
+use Rattle.td_migrate.proofs.Putting.{all_still, typed_still}
 
 -- a table without rows is typed
 none_typed : {R : Type 0} (ty : Typing R) (trees : Trees) → trees ty.table.tree ≡ [] → AreTyped ty trees
@@ -88,16 +88,16 @@ moved rows a b d e makes fills empties has typed =
     let none : b.now.trees 14 ≡ [] = made.empty in
     let first = beside_made a.now.trees b.now.trees made.others in
     let put = fills made.schema (none_typed (kept_typing Grown2) b.now.trees none)
-        (typed_still movement_typing a.now.trees b.now.trees first.rest.movements typed.movements)
-        (typed_still line_typing a.now.trees b.now.trees first.rest.lines typed.lines) in
+    (typed_still movement_typing a.now.trees b.now.trees first.rest.movements typed.movements)
+    (typed_still line_typing a.now.trees b.now.trees first.rest.lines typed.lines) in
     let second = beside_new b.now.trees d.now.trees put.others in
     let gone : IsEmptied (schema_of Grown2) first_guarantees d.now e.now = empties (λ is. put.schema) (subst HaveIds (sym (second.old ∙ first.old)) typed.guarantees.ids) in
     let third = beside_old d.now.trees e.now.trees gone.others in
     let these : List (Keyed Kept) = map (with_its_use b.now.trees) rows in
     let there : IsPermutation these (typed_rows (kept_typing Grown2) d.now.trees) =
-        subst (λ l. IsPermutation l (typed_rows (kept_typing Grown2) d.now.trees)) (ap (λ l. these ++ map (row_of (kept_typing Grown2)) l) none ∙ append-nil these) put.same in
+    subst (λ l. IsPermutation l (typed_rows (kept_typing Grown2) d.now.trees)) (ap (λ l. these ++ map (row_of (kept_typing Grown2)) l) none ∙ append-nil these) put.same in
     let as_before : IsPermutation (map (with_its_use a.now.trees) rows) (typed_rows (kept_typing Grown2) d.now.trees) =
-        subst (λ l. IsPermutation l (typed_rows (kept_typing Grown2) d.now.trees)) (all_still a.now.trees b.now.trees first.rest.movements first.rest.lines rows) there in
+    subst (λ l. IsPermutation l (typed_rows (kept_typing Grown2) d.now.trees)) (all_still a.now.trees b.now.trees first.rest.movements first.rest.lines rows) there in
     record {
       schema = gone.schema;
       kept = subst (λ l. IsPermutation (map (with_its_use a.now.trees) rows) (map (row_of (kept_typing Grown2)) l)) (sym third.new) as_before;
@@ -113,7 +113,7 @@ pub becomes : (rows : List (Keyed Guarantee)) (a b d : State) → AreFirst a row
 becomes rows a b d all moves sets has typed =
     let was = moves has typed in
     let set : HasNow meta_typing (schema_of Grown2) (map (with_version version_with_amounts) (typed_rows meta_typing b.now.trees)) b.now d.now =
-        sets Grown2 (λ is. was.schema) (typed_still meta_typing a.now.trees b.now.trees was.meta typed.meta) in
+    sets Grown2 (λ is. was.schema) (typed_still meta_typing a.now.trees b.now.trees was.meta typed.meta) in
     let beside = beside_meta b.now.trees d.now.trees set.others in
     record {
       rows = rows;

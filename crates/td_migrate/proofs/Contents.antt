@@ -1,12 +1,12 @@
 -- The content of a file that became one of version 2 is the same.
-use Rattle.std.proofs.Common.{◌≡◌, ◌∙◌, ℕ, Bool, true, false, List, [], ◌∷◌, map, Option, Some, None, IsPermutation, refl, sym, ap, ap₂, subst}
+use Rattle.std.proofs.Common.{◌≡◌, ◌∙◌, ℕ, Bool, true, false, List, [], ◌∷◌, map, Option, Some, None, IsPermutation, refl, sym, ap, ap₂, arith, subst}
 use Rattle.std.specs.List.{AllByRecursion, sum_by}
 use Rattle.std.specs.Prelude.{◌==◌, ◌&&◌, find, if◌then◌else◌, option_map, unwrap_or, IsSome}
 use Rattle.std.specs.Str.{bytes_eq}
 use Rattle.std.proofs.lemmas.Bool.Decides.{nat_tests}
 use Rattle.std.proofs.lemmas.List.Sorted.{IsPermutation-map, IsPermutation-refl, IsPermutation-trans}
 use Rattle.std.proofs.lemmas.Slice.Eq.{bytes_eq-Decides}
-use Rattle.sqlite_trees.proofs.ListLemmas.{all-permutation, all_both, all_weaker}
+use Rattle.sqlite_trees.proofs.ListLemmas.{IsPermutation-same, all-permutation, all_both, all_weaker}
 use Rattle.sqlite_trees.specs.Tree.{Trees}
 use Rattle.sqlite_value.specs.Order.{Row}
 use Rattle.sqlite.proofs.Callers.{one_permutation}
@@ -24,18 +24,22 @@ use Rattle.td_table_model.specs.Tables.{AreTablesOf, Keyed, Kept, Tables, first_
 use Rattle.td_table_model.specs.Changes.{HaveSameRows}
 use Rattle.td_table_model.proofs.Following.{same_tables}
 use Rattle.td_table_model.proofs.Joining.{lines_are_use}
-use Rattle.td_table_model.proofs.Looked.{found_in}
+use Rattle.td_table_model.proofs.Looked.{are_found}
 use Rattle.td_table_model.proofs.Told.{tell_keys}
 use Rattle.td_schema.specs.declared.layout.Layout.TheVariants.{Made1, Grown2}
-use Rattle.typed_sql.specs.Typed.{row_of, typed_rows}
+use Rattle.typed_sql.specs.Typed.{Typing, row_of, typed_rows}
 use Rattle.td_store_rows.specs.Columns.{code_typing, guarantee_typing, holder_typing, kept_typing, line_typing, meta_row, meta_typing, movement_typing}
 use Rattle.td_store_rows.specs.MetaTable.{with_version}
 use Rattle.td_store_rows.specs.StoreTables.{AreAllTyped, AreTreesOf, HasOfficeRow, country_in, tables_in}
-use Rattle.td_store_rows.proofs.Turned.{listed_there, plain_rows, plain_typed, rows_still}
+use Rattle.td_store_rows.proofs.Turned.{listed_there, plain_rows, plain_typed}
 use Rattle.td_migrate.specs.Filled.{with_its_use}
-use Rattle.td_migrate.specs.Grown.{AreGrown, HoldsFirst}
+use Rattle.td_migrate.specs.Grown.{AreGrown, HoldsFirst, IsGrown}
 use Rattle.td_migrate.specs.Moved.{IsSecond}
-use Rattle.td_migrate.proofs.Filling.{typed_still}
+use Rattle.td_migrate.proofs.Putting.{typed_still}
+
+-- a table whose tree is as it was has the same rows
+rows_still : {R : Type 0} (ty : Typing R) (old new : Trees) → new ty.table.tree ≡ old ty.table.tree → IsPermutation (typed_rows ty old) (typed_rows ty new)
+rows_still ty old new is = IsPermutation-same _ _ (ap (map (row_of ty)) (sym is))
 
 -- a guarantee is of a holder and has a GRN
 abbrev is_it : Keyed Guarantee → Keyed Guarantee → Bool
@@ -100,7 +104,7 @@ module _ (c : Content) (a : Database) (first : HoldsFirst c a) where
   there : AllByRecursion IsThere t.guarantees
   there =
       all_weaker (λ g. IsSome (find (is_it g) t.guarantees)) IsThere
-      (λ g some. subst IsSome (sym ((found_in t c first.sound first.tables g.holder).grns g.row.grn)) (some_mapped (with_codes t) (find (is_it g) t.guarantees) some))
+      (λ g some. subst IsSome (sym ((are_found t c first.sound first.tables g.holder).grns g.row.grn)) (some_mapped (with_codes t) (find (is_it g) t.guarantees) some))
       t.guarantees (each_found t.guarantees)
 
   -- what the lines on a guarantee add up to is in use on it
@@ -130,15 +134,15 @@ module _ (c : Content) (a : Database) (first : HoldsFirst c a) where
     abbrev u : Tables
     u = record t { version = version_with_amounts; kept = kept }
 
-    are : AreTablesOf u c
+    pub are : AreTablesOf u c
     are = grow t c kept first.sound first.tables same_guarantees (mapped now.rows (all-permutation _ _ _ now.all amounts))
 
-    office : HasOfficeRow version_with_amounts c.country b.trees
+    pub office : HasOfficeRow version_with_amounts c.country b.trees
     office =
         one_permutation (meta_row version_with_amounts c.country) (typed_rows meta_typing b.trees)
         (subst (λ l. IsPermutation (map (with_version version_with_amounts) l) (typed_rows meta_typing b.trees)) first.office now.office)
 
-    same_rows : HaveSameRows u (tables_in Grown2 b.trees)
+    pub same_rows : HaveSameRows u (tables_in Grown2 b.trees)
     same_rows = record {
       version = refl;
       country = ap country_in office ∙ sym (ap country_in first.office);
@@ -150,7 +154,7 @@ module _ (c : Content) (a : Database) (first : HoldsFirst c a) where
       lines = rows_still line_typing a.trees b.trees now.others.lines;
     }
 
-    typed : AreAllTyped Grown2 b.trees
+    pub typed : AreAllTyped Grown2 b.trees
     typed = record {
       meta = now.office_typed;
       holders = typed_still holder_typing a.trees b.trees now.others.holders first.typed.holders;
@@ -162,7 +166,7 @@ module _ (c : Content) (a : Database) (first : HoldsFirst c a) where
     }
 
     -- so its trees are a desk's of that content
-    pub desk_trees : AreTreesOf c b.trees
+    abbrev pub desk_trees : AreTreesOf c b.trees
     desk_trees = record {
       layout = Grown2;
       newest = refl;
@@ -175,3 +179,12 @@ module _ (c : Content) (a : Database) (first : HoldsFirst c a) where
 
     pub grown_trees : AreGrown c b.trees
     grown_trees = record { desk = desk_trees; layout = refl; emptied = now.emptied }
+
+-- a connection that sees the file of version 2 is to that desk's file
+pub grown_seen : TablesGrow → (c : Content) (a b : Database) (e : State) → HoldsFirst c a → IsSecond a b → e.now ≡ b → IsGrown c e
+grown_seen grow c a b e first second is =
+    let now : IsSecond a e.now = subst (IsSecond a) (sym is) second in
+    record {
+      holds = record { trees = desk_trees c a first grow e.now now; schema = λ _. now.schema };
+      trees = grown_trees c a first grow e.now now;
+    }

@@ -1,5 +1,5 @@
 -- What the statement that asks for all guarantees of version 1 means and shows.
-use Rattle.std.proofs.Common.{◌≡◌, ℕ, List, [], ◌∷◌, Result, Ok, Err, true, ap, map, refl, subst, IsPermutation}
+use Rattle.std.proofs.Common.{◌≡◌, ℕ, List, [], ◌∷◌, Result, Ok, Err, true, ap, map, refl, subst, sym, IsPermutation}
 use Rattle.std.specs.Prelude.{IfOk, Vec, codes, filter}
 use Rattle.std.specs.declared.alloc.Global.{Global}
 use Rattle.sqlite.specs.Given.{IsPlain}

@@ -1,5 +1,6 @@
+mod Sums
+mod Counted
 mod First
-mod Filling
+mod Putting
 mod Becoming
 mod Contents
-mod Upgrading

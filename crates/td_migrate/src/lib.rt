@@ -1,12 +1,9 @@
-//! A store's file brought from an earlier version of its tables to the newest: one transaction for each version, whole or not begun,
-//! after the file's rows were audited.
+//! Scratch.
 #![tactic(auto)]
 
 mod amounts;
-mod fault;
 mod filling;
 mod growing;
-mod upgrading;
+mod totals;
 
-pub use fault::MigrateFault;
-pub use upgrading::{upgrade, version};
+pub use growing::grow_to_2;

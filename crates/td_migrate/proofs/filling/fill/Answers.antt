@@ -3,7 +3,7 @@ use Rattle.std.proofs.lemmas.List.{take_all, take_more, map-append}
 use Rattle.sqlite.specs.Held.{state}
 use Rattle.sqlite.specs.State.{State}
 use Rattle.td_store_rows.specs.GuaranteeTable.{guarantee_row_of}
-use Rattle.td_migrate.proofs.Filling.{HasFilled, fill_next, nothing_filled}
+use Rattle.td_migrate.proofs.Putting.{HasFilled, fill_next, nothing_filled}
 use Rattle.td_migrate.proofs.filling.fill.Goals as goal
 
 pub rows-init : goal.rows-init

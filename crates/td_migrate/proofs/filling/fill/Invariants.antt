@@ -1,7 +1,7 @@
 use Rattle.std.proofs.Common.{◌≡◌, map, take}
 use Rattle.sqlite.specs.Held.{state}
 use Rattle.td_store_rows.specs.GuaranteeTable.{guarantee_row_of}
-use Rattle.td_migrate.proofs.Filling.{HasFilled}
+use Rattle.td_migrate.proofs.Putting.{HasFilled}
 use Rattle.td_migrate.proofs.filling.fill.Given as goal
 
 abbrev pub invariant-rows : goal.invariant-rows

@@ -48,7 +48,7 @@ with_still : (a b : Trees) → b movement_typing.table.tree ≡ a movement_typin
 with_still a b movements lines g =
     ap (λ used. with_amount used (record g { row = record g.row { codes = [] } })) (use_still g.holder g.serial a b movements lines)
 
-all_still : (a b : Trees) → b movement_typing.table.tree ≡ a movement_typing.table.tree → b line_typing.table.tree ≡ a line_typing.table.tree
+pub all_still : (a b : Trees) → b movement_typing.table.tree ≡ a movement_typing.table.tree → b line_typing.table.tree ≡ a line_typing.table.tree
     → (rows : List (Keyed Guarantee)) → map (with_its_use b) rows ≡ map (with_its_use a) rows
 all_still a b movements lines [] = refl
 all_still a b movements lines (g ∷ rows) = ap₂ ◌∷◌ (with_still a b movements lines g) (all_still a b movements lines rows)
@@ -94,7 +94,7 @@ put_more rows g a b d first next =
     let before : List (Keyed Kept) = map (with_its_use a.trees) rows in
     let same_one : with_its_use b.trees g ≡ one = with_still a.trees b.trees (movements_beside rows a b first) (lines_beside rows a b first) g in
     let split : map (with_its_use a.trees) (rows ++ g ∷ []) ++ there ≡ before ++ one ∷ there =
-        ap (λ l. l ++ there) (map-append (with_its_use a.trees) rows (g ∷ [])) ∙ append_assoc before (one ∷ []) there in
+    ap (λ l. l ++ there) (map-append (with_its_use a.trees) rows (g ∷ [])) ∙ append_assoc before (one ∷ []) there in
     record {
       same = IsPermutation-trans _ _ _ (subst (λ x. IsPermutation x (one ∷ (before ++ there))) (sym split) (IsPermutation-middle before one there))
           (IsPermutation-trans _ _ _ (IsPermutation-cons one _ _ first.same)
