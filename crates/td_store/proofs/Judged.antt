@@ -1,10 +1,11 @@
 -- What the office's own row and the rules tell of a store's tables.
-use Rattle.std.proofs.Common.{◌≡◌, ◌∙◌, ℕ, Bool, true, false, if◌then◌else◌, List, [], ◌∷◌, Option, Some, None, Err, Ok, Result, ap, length, map, refl, subst, sym}
-use Rattle.std.specs.Prelude.{◌≢◌, pos, is_some, option_map, IfOk, IsTrue}
+use Rattle.std.proofs.Common.{◌≡◌, ◌∙◌, ◌⊎◌, ℕ, Bool, inl, inr, true, false, if◌then◌else◌, List, [], ◌∷◌, Option, Some, None, Err, Ok, Result, ap, length, map, refl, subst, sym}
+use Rattle.std.specs.Prelude.{pos, is_some, option_map, IfOk, IsTrue}
 use Rattle.std.specs.Bool.{Decides}
-use Rattle.std.specs.Option.{option_to_list}
+use Rattle.std.specs.Option.{ok_or, option_to_list}
 use Rattle.std.proofs.lemmas.Bool.Decides.{Decides-and, Decides-eqb, Decides-like}
 use Rattle.sqlite.specs.declared.error.Error.{Error}
+use Rattle.sqlite.specs.Effect.{Database}
 use Rattle.sqlite_trees.specs.Tree.{Trees}
 use Rattle.td_base.specs.Codes.{IsCountry, country_read, is_country}
 use Rattle.td_base.proofs.Decided.{capitals_decided, some_where}
@@ -16,7 +17,7 @@ use Rattle.td_store_audit_rows.specs.declared.tables.Readable.{Readable}
 use Rattle.td_store_audit_rows.specs.Scans.{TellReadable}
 use Rattle.td_store_audit.specs.Keeping.{KeepsTables}
 use Rattle.td_store_audit.specs.InFile.{IsSoWhere}
-use Rattle.td_store_rows.specs.Columns.{MetaRow, meta_row, meta_typing}
+use Rattle.td_store_rows.specs.Columns.{MetaIsFirst, MetaRow, meta_row, meta_typing}
 use Rattle.td_schema.specs.Layouts.{IsNewest, newest_version, schema_of, version_of}
 use Rattle.td_schema.specs.declared.layout.Layout.{Layout}
 use Rattle.td_store_rows.specs.MetaTable.{stored_of}
@@ -27,7 +28,8 @@ use Rattle.td_store_audit_rows.specs.Laws.{AreKept, KeptRulesMeanContent}
 use Rattle.td_store_audit.specs.Broken.{TellsBroken}
 use Rattle.td_store.specs.declared.refused.OpenFault.{OpenFault}
 use Rattle.td_store.specs.declared.refused.OpenFault.TheVariants.{UnknownVersion, NeedsMigration, OtherCountry, Damaged, Store, NoMemory}
-use Rattle.td_store.specs.Opened.{IsEarlier, IsKnownNumber, IsOfAnother, IsOfEarlier, IsOfKnownVersion, TellsOffice, TellsRows, TellsRules, TellsTables}
+use Rattle.td_store.proofs.Begins.{store_begins}
+use Rattle.td_store.specs.Opened.{IsOfAnother, IsOfEarlier, IsOfficeIn, IsOfKnownVersion, MaySay, TellsDatabase, TellsFileVersion, TellsKnown, TellsOffice, TellsRows, TellsRules, TellsTables}
 
 country_decided : (text : List ℕ) → Decides (is_country text) (IsCountry text)
 country_decided text =
@@ -61,35 +63,56 @@ made_of : (row : MetaRow) (version : ℕ) (country : List ℕ) → row.version �
 made_of row version country at text =
     ap (λ v. record { version = v; country = row.country }) at ∙ ap (meta_row version) text
 
-module _ (country : List ℕ) (layout : Layout) (trees : Trees) (office : Option StoredMeta)
-    (found : AreTyped meta_typing trees → map stored_of (typed_rows meta_typing trees) ≡ option_to_list office) where
-  of_no_version : ((m : StoredMeta) → office ≡ Some m → ¬ IsKnownNumber m.version) → ¬ IsOfKnownVersion trees
+module _ (trees : Trees) (office : Option StoredMeta) (found : IsOfficeIn trees office) where
+  -- no version that is known
+  pub of_no_version : TellsKnown office None → ¬ IsOfKnownVersion trees
   of_no_version none is =
       let row = stored_of (meta_row is.0 is.2.country) in
       let one : row ∷ [] ≡ option_to_list office = ap (map stored_of) (sym is.2.row) ∙ found is.2.typed in
       none row (only_one _ office one) (is.0, is.1, refl)
 
-  row_there : (m : StoredMeta) → office ≡ Some m → AreTyped meta_typing trees
+  pub row_there : (m : StoredMeta) → office ≡ Some m → AreTyped meta_typing trees
       → (row : MetaRow) × (typed_rows meta_typing trees ≡ row ∷ []) × (stored_of row ≡ m)
   row_there m is typed = one_row (typed_rows meta_typing trees) m (found typed ∙ ap option_to_list is)
 
+  -- this version
+  pub says : (version : ℕ) (m : StoredMeta) → office ≡ Some m → m.version ≡ pos version → MaySay version trees
+  says version m is at typed =
+      let r = row_there m is typed in
+      (r.0.country, r.1 ∙ ap (λ row. row ∷ []) (made_of r.0 version r.0.country (ap (λ (k : StoredMeta). k.version) r.2 ∙ at) refl))
+
+-- what is told of the version by the office's own row, in a store's file
+pub version_told : (db : Database) (layout : Layout) → db.schema ≡ schema_of layout → (office : Option StoredMeta) → IsOfficeIn db.trees office
+    → (known : Option ℕ) → TellsKnown office known → TellsFileVersion db (ok_or known UnknownVersion)
+version_told db layout has office found None none = inr (store_begins layout db.schema has, of_no_version db.trees office found none)
+version_told db layout has office found (Some version) said =
+    ((layout, has), said.3, says db.trees office found version said.0 said.1 said.2)
+
+-- and where only the first table is a store's
+pub other_version_told : (db : Database) → MetaIsFirst db.schema → (office : Option StoredMeta) → IsOfficeIn db.trees office
+    → (why : OpenFault) → (why ≡ Store) ⊎ ((why ≡ UnknownVersion) × TellsKnown office None) → TellsFileVersion db (Err why)
+other_version_told db first office found why (inl is) = subst (λ w. TellsFileVersion db (Err w)) (sym is) tt
+other_version_told db first office found why (inr none) =
+    subst (λ w. TellsFileVersion db (Err w)) (sym none.0) (inr (first, of_no_version db.trees office found none.1))
+
+pub other_refused : (country : List ℕ) (db : Database) → MetaIsFirst db.schema → (office : Option StoredMeta) → IsOfficeIn db.trees office
+    → (why : OpenFault) → (why ≡ Store) ⊎ ((why ≡ UnknownVersion) × TellsKnown office None) → TellsDatabase country db (Some why)
+other_refused country db first office found why (inl is) = inl (inl (ap Some is))
+other_refused country db first office found why (inr none) = inr (inl (ap Some none.0, inr (first, of_no_version db.trees office found none.1)))
+
+module _ (country : List ℕ) (layout : Layout) (trees : Trees) (office : Option StoredMeta) (found : IsOfficeIn trees office) where
   of_this : TellsOffice country office None → AreTyped meta_typing trees → HasOfficeRow newest_version country trees
   of_this is typed =
-      let r = row_there (record { version = pos newest_version; country = Some country }) is typed in
+      let r = row_there trees office found (record { version = pos newest_version; country = Some country }) is typed in
       r.1 ∙ ap (λ row. row ∷ []) (made_of r.0 newest_version country (ap (λ (m : StoredMeta). m.version) r.2)
       (same_country r.0.country country (ap (λ (m : StoredMeta). m.country) r.2)))
 
   of_earlier : (version : ℕ) → TellsOffice country office (Some (NeedsMigration version)) → IsOfEarlier version trees
-  of_earlier version said = (
-    said.3,
-    λ typed.
-        let r = row_there said.0 said.1 typed in
-        (r.0.country, r.1 ∙ ap (λ row. row ∷ []) (made_of r.0 version r.0.country (ap (λ (m : StoredMeta). m.version) r.2 ∙ said.2) refl)),
-  )
+  of_earlier version said = (said.3, says trees office found version said.0 said.1 said.2)
 
   of_another : IsCountry country → TellsOffice country office (Some OtherCountry) → IsOfAnother country trees
   of_another letters said typed =
-      let r = row_there said.0 said.1 typed in (
+      let r = row_there trees office found said.0 said.1 typed in (
         r.0.country,
         r.1 ∙ ap (λ row. row ∷ []) (made_of r.0 newest_version r.0.country (ap (λ (m : StoredMeta). m.version) r.2 ∙ said.2) refl),
         λ same. said.3 (sym (ap (λ (m : StoredMeta). m.country) r.2) ∙ ap country_read same ∙ read_country country letters),
@@ -99,7 +122,7 @@ module _ (country : List ℕ) (layout : Layout) (trees : Trees) (office : Option
   pub judged : (fault : Option OpenFault) → IsCountry country → TellsOffice country office fault → is_some fault ≡ true
       → TellsTables country layout trees fault
   judged None letters said some = absurd cc
-  judged (Some UnknownVersion) letters said some = of_no_version said
+  judged (Some UnknownVersion) letters said some = of_no_version trees office found said
   judged (Some (NeedsMigration version)) letters said some = of_earlier version said
   judged (Some OtherCountry) letters said some = of_another letters said
   judged (Some (Damaged rule)) letters said some = absurd said
