@@ -3,22 +3,27 @@ use Rattle.std.specs.Prelude.{◌≤◌, length}
 use Rattle.sqlite_trees.specs.Tree.{Trees}
 use Rattle.td_desk.specs.Content.{Content, IsSound}
 use Rattle.td_table_model.specs.declared.rule.Rule.{Rule}
-use Rattle.td_table_model.specs.Tables.{AreTablesOf}
+use Rattle.td_table_model.specs.Tables.{AreTablesOf, version_with_amounts}
 use Rattle.typed_sql.specs.Typed.{IsTypedRow}
+use Rattle.td_schema.specs.Layouts.{version_of}
 use Rattle.td_schema.specs.declared.layout.Layout.{Layout}
-use Rattle.td_store_rows.specs.Columns.{meta_typing, holder_typing, guarantee_typing, code_typing, movement_typing, line_typing}
+use Rattle.td_store_rows.specs.Columns.{meta_typing, holder_typing, guarantee_typing, kept_typing, code_typing, movement_typing, line_typing}
 use Rattle.td_store_rows.specs.StoreTables.{AreAllTyped, tables_in, HoldSoundContent}
 use Rattle.td_store_audit_rows.specs.Ids.{HaveAllIds}
-use Rattle.td_store_audit_rows.specs.Kept.{AreCodesKept, AreGuaranteesKept, AreHoldersKept, AreLinesKept, AreMovementsKept}
+use Rattle.td_store_audit_rows.specs.Kept.{AreAmountsKept, AreCodesKept, AreGuaranteesKept, AreHoldersKept, AreLinesKept, AreMovementsKept}
 use Rattle.td_store_audit_rows.specs.Untyped.{AllRows, HasNumber, KeepsUntyped}
 
 -- What the database itself keeps of the tables: the rowids, the holders' numbers, and of each other table whose rows are typed
--- its keys and references.
+-- its keys and references. Where amounts in use are kept, each is a number up to the reference amount, if the row is typed without it.
 pub record AreKept (l : Layout) (trees : Trees) : Type 0 where
   pub ids : HaveAllIds l trees
   pub numbers : AllRows holder_typing HasNumber trees
   pub holders : AreHoldersKept (tables_in l trees)
   pub guarantees : AllRows (guarantee_typing l) (IsTypedRow (guarantee_typing l)) trees → AreGuaranteesKept (tables_in l trees)
+  pub used : version_with_amounts ≤ version_of l → AllRows (guarantee_typing l) (IsTypedRow (guarantee_typing l)) trees
+      → AllRows (kept_typing l) (IsTypedRow (kept_typing l)) trees
+  pub amounts : version_with_amounts ≤ version_of l → AllRows (kept_typing l) (IsTypedRow (kept_typing l)) trees
+      → AreAmountsKept (tables_in l trees)
   pub codes : AllRows code_typing (IsTypedRow code_typing) trees → AreCodesKept (tables_in l trees)
   pub movements : AllRows movement_typing (IsTypedRow movement_typing) trees → AreMovementsKept (tables_in l trees)
   pub lines : AllRows line_typing (IsTypedRow line_typing) trees → AreLinesKept (tables_in l trees)

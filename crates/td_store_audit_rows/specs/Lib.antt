@@ -1,6 +1,8 @@
 pub mod Untyped
 pub mod Kept
 pub mod Ids
+pub mod Texts
+pub mod Versions
 pub mod Laws
 pub mod Rising
 pub mod Holders
