@@ -28,7 +28,7 @@ use Rattle.td_store_audit_rows.specs.Found.{FoundHoldersTell}
 use Rattle.td_store_audit_rows.specs.Untyped.{KeepsUntyped}
 use Rattle.td_store_audit_rows.specs.declared.holders.RawHolder.{RawHolder}
 use Rattle.td_store_audit.specs.Auditable.{IsAuditable, KeepsBefore}
-use Rattle.td_store_audit.specs.Tallies.{AreCounting, AreItsLines, IsCoverAuditable, IsHandedOn, raw_holder_of, movements_in}
+use Rattle.td_store_audit.specs.Tallies.{AreCounting, AreItsLines, IsUseAuditable, IsHandedOn, raw_holder_of, movements_in}
 use Rattle.td_store_audit.specs.InFile.{AreTypedApart, IsHolderCoveredInFile, IsRowCovered, TellsWhere}
 use Rattle.td_store_audit.specs.declared.tallies.HolderLines.{HolderLines}
 use Rattle.td_store_audit.proofs.HoldersTold.{holders_tell, of_pairs}
@@ -124,7 +124,7 @@ module _ (law : FoundHoldersTell) (layout : Layout) (trees : Trees) (country : L
       )
 
 -- what was handed on of each holder is so
-all_handed_on : (layout : Layout) (trees : Trees) (country : List ℕ) (handed : List HolderLines) → IsCoverAuditable country handed layout trees → AllByRecursion (IsHandedOn layout trees) handed
+all_handed_on : (layout : Layout) (trees : Trees) (country : List ℕ) (handed : List HolderLines) → IsUseAuditable country handed layout trees → AllByRecursion (IsHandedOn layout trees) handed
 all_handed_on layout trees country handed is =
     all_both (λ h. AreCounting layout trees (movements_in h)) (AreItsLines layout trees) (IsHandedOn layout trees)
     (λ h counting lines. record {
@@ -137,7 +137,7 @@ all_handed_on layout trees country handed is =
 -- so it is told
 pub told_cover : (a : State) (handed : List HolderLines) → FoundHoldersTell → (result : Result Bool Error)
     → IfOk result (TellsWhere (λ layout trees. AllByRecursion (IsHandedOn layout trees) handed) (λ layout trees. AllByRecursion (λ h. IsHolderCoveredInFile layout trees (raw_holder_of h)) handed) a)
-    → IfOk result (λ keeps. (country : List ℕ) → TellsWhere (IsCoverAuditable country handed) (λ layout trees. KeepsUntyped layout trees S8) a keeps)
+    → IfOk result (λ keeps. (country : List ℕ) → TellsWhere (IsUseAuditable country handed) (λ layout trees. KeepsUntyped layout trees S8) a keeps)
 told_cover a handed law (Err e) each = each
 told_cover a handed law (Ok told) each = λ country layout newest has is.
     let trees = a.now.trees in

@@ -19,8 +19,8 @@ use Rattle.td_store_rows.specs.MovementTable.{serial_of_stored}
 use Rattle.td_store_rows.specs.declared.movements.stored.MovementSerial.{MovementSerial}
 use Rattle.td_store_rows.specs.declared.lines.stored.StoredLine.{StoredLine}
 use Rattle.td_store_rows.specs.StoreTables.{tables_in}
-use Rattle.td_store_load.specs.InUse.{total_on}
-use Rattle.td_store_load.proofs.Counted.{of_holder}
+use Rattle.td_store_audit.specs.Totals.{total_on}
+use Rattle.td_store_audit.proofs.Counted.{of_holder}
 use Rattle.td_store_audit.specs.Tallies.{IsCoveredBy, IsHandedOn, is_counting_row}
 use Rattle.td_store_audit.specs.InFile.{IsRowCovered}
 use Rattle.td_store_audit.specs.declared.tallies.HolderLines.{HolderLines}

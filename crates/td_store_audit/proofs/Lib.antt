@@ -12,6 +12,8 @@ mod HoldersTold
 mod GuaranteesKept
 mod MovementsKept
 mod Walking
+mod Sums
+mod Counted
 mod InUse
 mod CoverKept
 mod Serials

@@ -23,7 +23,7 @@ use Rattle.td_store_audit_rows.specs.declared.tables.Readable.{Readable}
 use Rattle.td_store_audit.specs.Premises.{TellsLines}
 use Rattle.td_store_audit.specs.Auditable.{IsAuditable, TellsRule}
 use Rattle.td_store_audit.specs.Broken.{IsNextRule, TellsBroken}
-use Rattle.td_store_audit.specs.Tallies.{AreAllCounting, AreAllLines, AreCounting, AreItsLines, IsCoverAuditable, raw_holder_of, movements_in, raw_of}
+use Rattle.td_store_audit.specs.Tallies.{AreAllCounting, AreAllLines, AreCounting, AreItsLines, IsUseAuditable, raw_holder_of, movements_in, raw_of}
 use Rattle.td_store_audit.specs.InFile.{IsSoWhere, TellsWhere}
 use Rattle.td_store_audit.specs.declared.tallies.CountingSerials.{CountingSerials}
 use Rattle.td_store_audit.specs.declared.tallies.HolderLines.{HolderLines}
@@ -82,7 +82,7 @@ module _ (country : List ℕ) (holders : List RawHolder) (readable : Readable) (
       same_holders : holders ≡ map raw_holder_of handed
       same_holders = sym of_holders ∙ ap (map raw_of) (sym of_counting) ∙ map-map raw_of movements_in handed
 
-      known : IsSoWhere Q (IsCoverAuditable country handed) a
+      known : IsSoWhere Q (IsUseAuditable country handed) a
       known layout newest has so =
           let next = after_amounts layout newest has so in
           let trees = a.now.trees in
@@ -95,14 +95,14 @@ module _ (country : List ℕ) (holders : List RawHolder) (readable : Readable) (
                 (lines_typed layout trees country holders next.office.known next.before);
           }
 
-      cover_told : (keeps : Bool) → TellsWhere (IsCoverAuditable country handed) (λ layout trees. KeepsUntyped layout trees S8) d keeps → TellsWhere Q (λ layout trees. KeepsUntyped layout trees S8) a keeps
+      cover_told : (keeps : Bool) → TellsWhere (IsUseAuditable country handed) (λ layout trees. KeepsUntyped layout trees S8) d keeps → TellsWhere Q (λ layout trees. KeepsUntyped layout trees S8) a keeps
       cover_told keeps says layout newest has so =
-          so_before (IsCoverAuditable country handed) (λ layout trees. IsTrue keeps ↔ KeepsUntyped layout trees S8) a d read_on says layout newest has (known layout newest has so)
+          so_before (IsUseAuditable country handed) (λ layout trees. IsTrue keeps ↔ KeepsUntyped layout trees S8) a d read_on says layout newest has (known layout newest has so)
 
-      pub cover_broken : (keeps : Bool) → keeps ≡ false → TellsWhere (IsCoverAuditable country handed) (λ layout trees. KeepsUntyped layout trees S8) d keeps
+      pub cover_broken : (keeps : Bool) → keeps ≡ false → TellsWhere (IsUseAuditable country handed) (λ layout trees. KeepsUntyped layout trees S8) d keeps
           → IsSoWhere Q (λ layout trees. IsFirstBrokenUntyped layout trees S8) a
       cover_broken keeps is says = broken_here country holders readable Q a S8 after_amounts keeps (cover_told keeps says) is
 
-      pub none_broken : (keeps : Bool) → IsTrue keeps → TellsWhere (IsCoverAuditable country handed) (λ layout trees. KeepsUntyped layout trees S8) d keeps
+      pub none_broken : (keeps : Bool) → IsTrue keeps → TellsWhere (IsUseAuditable country handed) (λ layout trees. KeepsUntyped layout trees S8) d keeps
           → IsSoWhere Q (λ layout trees. TellsBroken layout trees None) a
       none_broken keeps is says = all_kept country holders readable Q a S8 after_amounts keeps (cover_told keeps says) is refl

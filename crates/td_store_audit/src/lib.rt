@@ -4,6 +4,7 @@
 //! nothing.
 #![tactic(auto)]
 
+mod amounts;
 mod audit;
 mod codes;
 mod codes_in_place;
@@ -19,6 +20,7 @@ mod movements;
 mod office;
 mod tallies;
 mod texts;
+mod totals;
 
 pub use audit::first_broken;
 pub use codes::codes_keep_rule;
@@ -30,3 +32,4 @@ pub use laws::{
     schema_keeps_codes, schema_keeps_guarantees, schema_keeps_holders, schema_keeps_lines,
     schema_keeps_movements, schema_keeps_tables,
 };
+pub use totals::total_on;

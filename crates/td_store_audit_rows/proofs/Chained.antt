@@ -14,7 +14,8 @@ use Rattle.typed_sql.specs.Walked.{IsLeftAlone}
 use Rattle.typed_sql.proofs.Left.{left_then, unchanged_left}
 use Rattle.td_schema.specs.Layouts.{schema_of}
 use Rattle.td_schema.specs.declared.layout.Layout.{Layout}
-use Rattle.td_store_audit_rows.specs.Versions.{IsOfVersion, IsSchemaOf}
+use Rattle.td_store_rows.specs.StoreReads.{IsOfVersion}
+use Rattle.td_store_audit_rows.specs.Versions.{IsSchemaOf}
 
 pub survives_both : (a b d : State) → Survives a b (λ _. ⊥) → Survives b d (λ _. ⊥) → Survives a d (λ _. ⊥)
 survives_both a b d first second = survives_then a b d _ _ _ (λ _ db none. none) (λ _ db none. none) first second

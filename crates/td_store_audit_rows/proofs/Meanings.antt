@@ -11,8 +11,8 @@ use Rattle.typed_sql.specs.Meanings.{MeansSelect}
 use Rattle.td_schema.specs.Layouts.{guarantees_tree, schema_of, version_of}
 use Rattle.td_schema.specs.declared.layout.Layout.{Layout}
 use Rattle.td_schema.specs.declared.layout.Layout.TheVariants.{Grown2, Made1, Made2}
-use Rattle.td_store_audit_rows.specs.Texts.{guarantees_text}
-use Rattle.td_store_audit_rows.specs.Versions.{IsOfVersion}
+use Rattle.td_store_rows.specs.StoreReads.{IsOfVersion}
+use Rattle.td_store_audit_rows.specs.Versions.{guarantees_text}
 use Rattle.td_store_audit_rows.specs.declared.texts.TheConstants.{CODES, HOLDERS, HOLDER_IDS, LINES, META_IDS, MOVEMENTS}
 
 -- by the rowid

@@ -3,11 +3,11 @@ use Rattle.std.specs.Prelude.{◌≤◌, length}
 use Rattle.sqlite_trees.specs.Tree.{Trees}
 use Rattle.td_desk.specs.Content.{Content, IsSound}
 use Rattle.td_table_model.specs.declared.rule.Rule.{Rule}
-use Rattle.td_table_model.specs.Tables.{AreTablesOf, version_with_amounts}
+use Rattle.td_table_model.specs.Tables.{AreTablesOf}
 use Rattle.typed_sql.specs.Typed.{IsTypedRow}
-use Rattle.td_schema.specs.Layouts.{version_of}
 use Rattle.td_schema.specs.declared.layout.Layout.{Layout}
 use Rattle.td_store_rows.specs.Columns.{meta_typing, holder_typing, guarantee_typing, kept_typing, code_typing, movement_typing, line_typing}
+use Rattle.td_store_rows.specs.StoreReads.{KeepsUse}
 use Rattle.td_store_rows.specs.StoreTables.{AreAllTyped, tables_in, HoldSoundContent}
 use Rattle.td_store_audit_rows.specs.Ids.{HaveAllIds}
 use Rattle.td_store_audit_rows.specs.Kept.{AreAmountsKept, AreCodesKept, AreGuaranteesKept, AreHoldersKept, AreLinesKept, AreMovementsKept}
@@ -20,10 +20,9 @@ pub record AreKept (l : Layout) (trees : Trees) : Type 0 where
   pub numbers : AllRows holder_typing HasNumber trees
   pub holders : AreHoldersKept (tables_in l trees)
   pub guarantees : AllRows (guarantee_typing l) (IsTypedRow (guarantee_typing l)) trees → AreGuaranteesKept (tables_in l trees)
-  pub used : version_with_amounts ≤ version_of l → AllRows (guarantee_typing l) (IsTypedRow (guarantee_typing l)) trees
+  pub used : KeepsUse l → AllRows (guarantee_typing l) (IsTypedRow (guarantee_typing l)) trees
       → AllRows (kept_typing l) (IsTypedRow (kept_typing l)) trees
-  pub amounts : version_with_amounts ≤ version_of l → AllRows (kept_typing l) (IsTypedRow (kept_typing l)) trees
-      → AreAmountsKept (tables_in l trees)
+  pub amounts : KeepsUse l → AllRows (guarantee_typing l) (IsTypedRow (guarantee_typing l)) trees → AreAmountsKept (tables_in l trees)
   pub codes : AllRows code_typing (IsTypedRow code_typing) trees → AreCodesKept (tables_in l trees)
   pub movements : AllRows movement_typing (IsTypedRow movement_typing) trees → AreMovementsKept (tables_in l trees)
   pub lines : AllRows line_typing (IsTypedRow line_typing) trees → AreLinesKept (tables_in l trees)

@@ -1,7 +1,6 @@
 pub mod Untyped
 pub mod Kept
 pub mod Ids
-pub mod Texts
 pub mod Versions
 pub mod Laws
 pub mod Rising

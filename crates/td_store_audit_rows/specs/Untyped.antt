@@ -1,6 +1,6 @@
 -- Which columns of a store's file a rule speaks of, and when they are of their kinds; and which rule the tables break first as
 -- they stand in the file, whatever stands in their columns.
-use Rattle.std.specs.Prelude.{◌≡◌, ℕ, ◌<◌, ◌≤◌, List, length}
+use Rattle.std.specs.Prelude.{◌≡◌, ℕ, ◌<◌, List, length}
 use Rattle.std.specs.List.{AllByRecursion}
 use Rattle.sqlite_value.specs.declared.value.Value.{Value}
 use Rattle.sqlite_value.specs.declared.value.Value.TheVariants.{Text}
@@ -9,12 +9,11 @@ use Rattle.sqlite_trees.specs.Tree.{Trees}
 use Rattle.td_table_model.specs.declared.rule.Rule.{Rule}
 use Rattle.td_table_model.specs.declared.rule.Rule.TheVariants.{S1, S2, S3, S4, S5, S6, S7, S8}
 use Rattle.td_table_model.specs.Rules.{Keeps, rule_no}
-use Rattle.td_table_model.specs.Tables.{version_with_amounts}
 use Rattle.typed_sql.specs.Typed.{Typing, IsTypedRow}
 use Rattle.typed_sql.specs.Values.{number_value}
-use Rattle.td_schema.specs.Layouts.{version_of}
 use Rattle.td_schema.specs.declared.layout.Layout.{Layout}
 use Rattle.td_store_rows.specs.Columns.{meta_typing, holder_typing, guarantee_typing, kept_typing, code_typing, movement_typing, line_typing}
+use Rattle.td_store_rows.specs.StoreReads.{KeepsUse}
 use Rattle.td_store_rows.specs.StoreTables.{tables_in}
 
 -- the column holds a number; a text
@@ -50,7 +49,7 @@ HasColumnTypes l S3 trees = AllRows holder_typing HasGrnCount trees × AllRows (
 HasColumnTypes l S4 trees = AllRows code_typing (IsTypedRow code_typing) trees
 HasColumnTypes l S5 trees = AllRows holder_typing HasMrnCount trees × AllRows movement_typing (IsTypedRow movement_typing) trees
 HasColumnTypes l S6 trees = AllRows line_typing (IsTypedRow line_typing) trees
-HasColumnTypes l S7 trees = version_with_amounts ≤ version_of l → AllRows (kept_typing l) (IsTypedRow (kept_typing l)) trees
+HasColumnTypes l S7 trees = KeepsUse l → AllRows (kept_typing l) (IsTypedRow (kept_typing l)) trees
 HasColumnTypes l S8 trees = Unit {0}
 
 -- the tables keep the rule as they stand: a column of another kind breaks it

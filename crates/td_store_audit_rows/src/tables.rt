@@ -5,7 +5,8 @@ ghost use Rattle.sqlite.specs.State.{HasCleanDisk, IsUnchanged, Survives};
 ghost use Rattle.typed_sql.specs.Walked.{IsLeftAlone};
 ghost use Rattle.td_store_audit_rows.specs.Ids.{HaveAllIds, HavePartIds};
 ghost use Rattle.td_store_audit_rows.specs.Scans.{TellReadable};
-ghost use Rattle.td_store_audit_rows.specs.Versions.{InVersion, IsSchemaOf};
+ghost use Rattle.td_store_rows.specs.StoreReads.{InVersion};
+ghost use Rattle.td_store_audit_rows.specs.Versions.{IsSchemaOf};
 
 use crate::ids::ids_rise;
 use crate::scanning::scan;

@@ -1,6 +1,6 @@
 //! The statements of the audit: each shows all rows of a table.
 ghost use Rattle.std.specs.Prelude.{◌≡◌};
-ghost use Rattle.td_store_audit_rows.specs.Texts.{guarantees_text};
+ghost use Rattle.td_store_audit_rows.specs.Versions.{guarantees_text};
 
 /// The rowids of the office's table and of the holders', rising.
 pub const META_IDS: &str = "SELECT rowid FROM meta ORDER BY rowid";

@@ -8,7 +8,7 @@ use Rattle.td_schema.specs.Layouts.{guarantees_tree, schema_of}
 use Rattle.td_store_rows.specs.Columns.{code_typing, guarantee_typing, line_typing, movement_typing}
 use Rattle.td_store_audit_rows.specs.Fields.{AreCodeFields, AreGuaranteeFields, AreLineFields, AreMovementFields}
 use Rattle.td_store_audit_rows.specs.Scans.{AreCodeColumns, AreGuaranteeColumns, AreLineColumns, AreMovementColumns, TellsRead}
-use Rattle.td_store_audit_rows.specs.Texts.{guarantees_text}
+use Rattle.td_store_audit_rows.specs.Versions.{guarantees_text}
 use Rattle.td_store_audit_rows.specs.declared.texts.TheConstants.{CODES, LINES, MOVEMENTS}
 use Rattle.td_store_audit_rows.proofs.Chained.{means_at, plain_here, still_schema, still_of, unchanged_on, was_so}
 use Rattle.td_store_audit_rows.proofs.Meanings.{by_rowid, code_terms, codes_mean, guarantee_terms, guarantees_mean, line_terms, lines_mean, movement_terms, movements_mean}
