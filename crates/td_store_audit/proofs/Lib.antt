@@ -15,7 +15,9 @@ mod Walking
 mod Sums
 mod Counted
 mod InUse
+mod UseKept
 mod CoverKept
+mod AmountsKept
 mod Serials
 mod HandedOn
 mod Runs
