@@ -70,7 +70,7 @@ module _ (law : FoundHoldersTell) (layout : Layout) (trees : Trees) (country : L
       let all = all_known law layout trees country holders known before in (
         λ keeps. pairs.0 (all_both (IsKnown t) (HasAmounts t) (λ row. AreSums (holder_no row)) kept t.holders all keeps.1),
         λ each. (
-          λ asked. known.kept.used keep (before S3 (omega arith)).0.1,
+          λ asked. (known.kept.amounts keep (before S3 (omega arith)).0.1).typed,
           all_both (IsKnown t) (λ row. AreSums (holder_no row)) (HasAmounts t) has t.holders all (pairs.1 each),
         ),
       )

@@ -1,6 +1,7 @@
 mod Equal
 mod Unique
 mod Ruled
+mod AmountColumn
 mod Parents
 mod Checked
 mod HoldersKept

@@ -74,7 +74,7 @@ module _ (layout : Layout) (trees : Trees) (country : List ℕ) (holders : List 
   -- with the amounts in use, where they are kept
   pub amounts_typed : KeepsUse layout → AreTypedApart (kept_typing layout) trees
   amounts_typed keep = record {
-    typed = record { ids = known.kept.ids.guarantees; cells = known.kept.used keep guarantees_kept.0.1 };
+    typed = record { ids = known.kept.ids.guarantees; cells = (known.kept.amounts keep guarantees_kept.0.1).typed };
     apart = λ H. apart_with (part H (tables_in layout trees).kept)
         (subst (IsApart place) (part_without layout trees H) ((known.kept.guarantees guarantees_kept.0.1).apart H));
   }

@@ -21,8 +21,8 @@ pub record AreGuaranteesKept (t : Tables) : Type 0 where
   pub without_codes : AllByRecursion (λ (g : Keyed Guarantee). g.row.codes ≡ []) t.guarantees
 
 -- amounts in use: each is at most the reference amount of its guarantee
-abbrev pub AreAmountsKept : Tables → Type 0
-AreAmountsKept t = AllByRecursion (λ (k : Keyed Kept). k.row.used ≤ k.row.guarantee.reference) t.kept
+abbrev pub AreWithinReference : Tables → Type 0
+AreWithinReference t = AllByRecursion (λ (k : Keyed Kept). k.row.used ≤ k.row.guarantee.reference) t.kept
 
 -- codes: no two of a guarantee are the same, and each is of a holder that is there
 pub record AreCodesKept (t : Tables) : Type 0 where
