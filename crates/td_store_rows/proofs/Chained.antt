@@ -6,9 +6,10 @@ use Rattle.sqlite_trees.proofs.ListLemmas.{IsPermutation-filter}
 use Rattle.sqlite.specs.State.{State}
 use Rattle.td_guarantee.specs.declared.guarantee.Guarantee.{Guarantee}
 use Rattle.td_movement.specs.declared.movement.Movement.{Movement}
-use Rattle.td_table_model.specs.Tables.{Keyed, LineCells, Tables}
+use Rattle.td_table_model.specs.Tables.{KeepAmounts, Keyed, Kept, LineCells, Tables}
 use Rattle.td_table_model.specs.Changes.{HaveSameRows}
-use Rattle.td_store_rows.specs.StoreTables.{TurnsTables, tables_in}
+use Rattle.td_schema.specs.declared.layout.Layout.{Layout}
+use Rattle.td_store_rows.specs.StoreTables.{HasTables, TurnsTables, tables_in}
 
 -- what turns tables with the same rows into tables with the same rows
 abbrev pub RespectsRows : (Tables → Tables) → Type 0
@@ -43,32 +44,38 @@ pub turned_nothing : (f : Tables → Tables) → ((t : Tables) → HaveSameRows 
 turned_nothing f same a l newest has typed =
     record { same = same (tables_in l a.now.trees); office = refl; typed = typed; listed = λ was. was; schema = has }
 
--- two statements
+-- two statements, in a file of one layout
+pub has_then : (l : Layout) (f g : Tables → Tables) → RespectsRows g → (a b d : State) → HasTables l f a b → HasTables l g b d
+    → HasTables l (λ t. g (f t)) a d
+has_then l f g respects a b d one two = record {
+  same = same_then _ _ _ (respects _ _ one.same) two.same;
+  office = two.office ∙ one.office;
+  typed = two.typed;
+  listed = λ was. two.listed (one.listed was);
+  schema = two.schema;
+}
+
+-- the tables that they leave, said otherwise
+pub has_as : (l : Layout) (f g : Tables → Tables) (old new : State) → HaveSameRows (g (tables_in l old.now.trees)) (f (tables_in l old.now.trees))
+    → HasTables l f old new → HasTables l g old new
+has_as l f g old new same one = record {
+  same = same_then _ _ _ same one.same;
+  office = one.office;
+  typed = one.typed;
+  listed = one.listed;
+  schema = one.schema;
+}
+
+-- the same of each layout of the newest version
 pub turned_then : (f g : Tables → Tables) → RespectsRows g → (a b d : State) → TurnsTables f a b → TurnsTables g b d
     → TurnsTables (λ t. g (f t)) a d
 turned_then f g respects a b d first second l newest has typed =
     let one = first l newest has typed in
-    let two = second l newest one.schema one.typed in
-    record {
-      same = same_then _ _ _ (respects _ _ one.same) two.same;
-      office = two.office ∙ one.office;
-      typed = two.typed;
-      listed = λ was. two.listed (one.listed was);
-      schema = two.schema;
-    }
+    has_then l f g respects a b d one (second l newest one.schema one.typed)
 
--- the tables that they leave, said otherwise
 pub turned_as : (f g : Tables → Tables) (old new : State) → ((t : Tables) → HaveSameRows (g t) (f t))
     → TurnsTables f old new → TurnsTables g old new
-turned_as f g old new same turns l newest has typed =
-    let one = turns l newest has typed in
-    record {
-      same = same_then _ _ _ (same _) one.same;
-      office = one.office;
-      typed = one.typed;
-      listed = one.listed;
-      schema = one.schema;
-    }
+turned_as f g old new same turns l newest has typed = has_as l f g old new (same _) (turns l newest has typed)
 
 -- a function of one table's rows that respects them
 abbrev pub Respects : {R : Type 0} → (List R → List R) → Type 0
@@ -88,21 +95,24 @@ pub filter_respects : {R : Type 0} (p : R → Bool) → Respects (filter p)
 filter_respects p xs ys same = IsPermutation-filter p xs ys same
 
 -- the same rows where one table has others, the same in both
-pub guarantees_same : (t u : Tables) (xs ys : List (Keyed Guarantee)) → HaveSameRows t u → IsPermutation xs ys
-    → HaveSameRows (record t { guarantees = xs }) (record u { guarantees = ys })
-guarantees_same t u xs ys same rows = record {
+pub kept_same : (t u : Tables) (xs ys : List (Keyed Guarantee)) (ks ls : List (Keyed Kept)) → HaveSameRows t u → IsPermutation xs ys
+    → (KeepAmounts t → IsPermutation ks ls)
+    → HaveSameRows (record t { guarantees = xs; kept = ks }) (record u { guarantees = ys; kept = ls })
+kept_same t u xs ys ks ls same rows kept = record {
   version = same.version;
   country = same.country;
   holders = same.holders;
   guarantees = rows;
-  kept = same.kept;
+  kept = kept;
   codes = same.codes;
   movements = same.movements;
   lines = same.lines;
 }
 
-pub guarantees_respect : (f : List (Keyed Guarantee) → List (Keyed Guarantee)) → Respects f → RespectsRows (λ t. record t { guarantees = f t.guarantees })
-guarantees_respect f respects t u same = guarantees_same t u _ _ same (respects t.guarantees u.guarantees same.guarantees)
+pub kept_respect : (f : List (Keyed Kept) → List (Keyed Kept)) (g : List (Keyed Guarantee) → List (Keyed Guarantee)) → Respects f → Respects g
+    → RespectsRows (λ t. record t { guarantees = g t.guarantees; kept = f t.kept })
+kept_respect f g respects plainly t u same =
+    kept_same t u _ _ _ _ same (plainly t.guarantees u.guarantees same.guarantees) (λ keeps. respects t.kept u.kept (same.kept keeps))
 
 pub codes_same : (t u : Tables) (xs ys : List (Keyed (List ℕ))) → HaveSameRows t u → IsPermutation xs ys
     → HaveSameRows (record t { codes = xs }) (record u { codes = ys })

@@ -1,5 +1,5 @@
--- What the statements on the table of guarantees mean, in a store's file of each layout of the newest version.
-use Rattle.std.proofs.Common.{refl}
+-- What the statements on the table of guarantees mean, in a store's file of each layout that has their table.
+use Rattle.std.proofs.Common.{◌≡◌, arith, refl, subst}
 use Rattle.std.specs.Prelude.{ℕ, List, [], ◌∷◌, codes}
 use Rattle.sqlite_tied.specs.Compute.{everything}
 use Rattle.sqlite.specs.Listing.{understood}
@@ -8,15 +8,20 @@ use Rattle.sqlite_value.specs.declared.keys.Key.{Key}
 use Rattle.sqlite_value.specs.declared.value.Value.TheVariants.{Null}
 use Rattle.sqlite_value.specs.Keys.{ascending}
 use Rattle.sqlite_sql.specs.Term.{Term, lit, col, op2}
-use Rattle.sqlite_sql.specs.declared.ops.BinaryOp.TheVariants.{Compare, Coalesce}
+use Rattle.sqlite_sql.specs.declared.ops.ArithOp.{ArithOp}
+use Rattle.sqlite_sql.specs.declared.ops.ArithOp.TheVariants.{Add, Sub}
+use Rattle.sqlite_sql.specs.declared.ops.BinaryOp.TheVariants.{Arith, Compare, Coalesce}
 use Rattle.sqlite_sql.specs.declared.ops.CompareOp.TheVariants.{Eq}
 use Rattle.td_schema.proofs.Acting.{none_acts}
-use Rattle.td_schema.specs.Layouts.{IsNewest, guarantees_place, guarantees_tree, schema_of}
+use Rattle.td_schema.specs.Layouts.{guarantees_place, guarantees_tree, schema_of, version_of}
 use Rattle.td_schema.specs.declared.layout.Layout.{Layout}
 use Rattle.td_schema.specs.declared.layout.Layout.TheVariants.{Made1, Made2, Grown2}
-use Rattle.typed_sql.specs.Meanings.{HasTable, MeansInsert, MeansUpdate, MeansSelect}
+use Rattle.typed_sql.specs.Meanings.{HasTable, MeansDelete, MeansInsert, MeansUpdate, MeansSelect}
 use Rattle.td_store_rows.specs.Columns.{guarantees_table}
-use Rattle.td_store_rows.specs.declared.guarantees.texts.TheConstants.{INSERT, SET_TERMS, BY_GRN, BY_SERIAL, OF_HOLDER}
+use Rattle.td_store_rows.specs.GuaranteeTexts.{of_holder_text}
+use Rattle.td_store_rows.specs.KeptTable.{first_guarantees}
+use Rattle.td_store_rows.specs.StoreReads.{IsOfVersion, KeepsUse}
+use Rattle.td_store_rows.specs.declared.guarantees.texts.TheConstants.{INSERT, SET_TERMS, ADD_USED, TAKE_USED, BY_GRN, BY_SERIAL, KEPT_OF_HOLDER, EMPTY_FIRST}
 
 guarantees_there : (l : Layout) → HasTable (schema_of l) (guarantees_place l) (guarantees_table l)
 guarantees_there Made1 = record { there = refl; free = none_acts Made1 (guarantees_tree Made1) }
@@ -36,51 +41,88 @@ serial_tests = equals 1 0 ∷ equals 2 1 ∷ []
 abbrev pub holder_tests : List Term
 holder_tests = equals 1 0 ∷ []
 
--- the columns of a new row, of a row that is set anew, and of one that is shown
+-- the columns of a new row, of a row that is set anew, and of one that is shown: with the amount in use, and without
 abbrev pub new_row : List Term
-new_row = lit Null ∷ col 0 0 ∷ col 0 1 ∷ col 0 2 ∷ col 0 3 ∷ col 0 4 ∷ col 0 5 ∷ []
+new_row = lit Null ∷ col 0 0 ∷ col 0 1 ∷ col 0 2 ∷ col 0 3 ∷ col 0 4 ∷ col 0 5 ∷ col 0 6 ∷ []
 
 abbrev pub set_columns : List Term
 set_columns =
     col 1 1 ∷ col 1 2 ∷ col 1 3 ∷ op2 Coalesce (col 0 3) (col 1 4) ∷ op2 Coalesce (col 0 4) (col 1 5)
-    ∷ op2 Coalesce (col 0 5) (col 1 6) ∷ []
+    ∷ op2 Coalesce (col 0 5) (col 1 6) ∷ col 1 7 ∷ []
+
+abbrev pub amount_columns : ArithOp → List Term
+amount_columns op = col 1 1 ∷ col 1 2 ∷ col 1 3 ∷ col 1 4 ∷ col 1 5 ∷ col 1 6 ∷ op2 (Arith op) (col 1 7) (col 0 2) ∷ []
 
 abbrev pub all_columns : List Term
-all_columns = col 1 1 ∷ col 1 2 ∷ col 1 3 ∷ col 1 4 ∷ col 1 5 ∷ col 1 6 ∷ []
+all_columns = col 1 1 ∷ col 1 2 ∷ col 1 3 ∷ col 1 4 ∷ col 1 5 ∷ col 1 6 ∷ col 1 7 ∷ []
+
+abbrev pub six_columns : List Term
+six_columns = col 1 1 ∷ col 1 2 ∷ col 1 3 ∷ col 1 4 ∷ col 1 5 ∷ col 1 6 ∷ []
 
 abbrev pub by_serial : List (Term × Key)
 by_serial = (col 1 1, ascending Binary) ∷ (col 1 2, ascending Binary) ∷ []
 
-abbrev names : List (List ℕ)
-names =
+abbrev six : List (List ℕ)
+six =
     codes "holder" ∷ codes "serial" ∷ codes "grn" ∷ codes "reference" ∷ codes "cover" ∷ codes "ends" ∷ []
 
-pub insert_means : (l : Layout) → IsNewest l → MeansInsert (schema_of l) INSERT.now (guarantees_table l) new_row
-unfolding understood everything
-insert_means Made1 newest = record { place = 4; width = 7; table = guarantees_there Made1; command = refl; plain = (refl, refl); one = λ values. refl }
-insert_means Made2 newest = absurd cc
-insert_means Grown2 newest = absurd cc
+abbrev seven : List (List ℕ)
+seven =
+    codes "holder" ∷ codes "serial" ∷ codes "grn" ∷ codes "reference" ∷ codes "cover" ∷ codes "ends" ∷ codes "used" ∷ []
 
-pub set_means : (l : Layout) → IsNewest l → MeansUpdate (schema_of l) SET_TERMS.now (guarantees_table l) grn_tests set_columns
+pub insert_means : (l : Layout) → KeepsUse l → MeansInsert (schema_of l) INSERT.now (guarantees_table l) new_row
 unfolding understood everything
-set_means Made1 newest = record { place = 4; table = guarantees_there Made1; command = refl; plain = (refl, refl) }
-set_means Made2 newest = absurd cc
-set_means Grown2 newest = absurd cc
+insert_means Made1 keeps = absurd (omega (arith, keeps))
+insert_means Made2 keeps = record { place = guarantees_place Made2; width = 8; table = guarantees_there Made2; command = refl; plain = (refl, refl); one = λ values. refl }
+insert_means Grown2 keeps = record { place = guarantees_place Grown2; width = 8; table = guarantees_there Grown2; command = refl; plain = (refl, refl); one = λ values. refl }
 
-pub by_grn_means : (l : Layout) → IsNewest l → MeansSelect (schema_of l) BY_GRN.now (guarantees_tree l) grn_tests all_columns []
+pub set_means : (l : Layout) → KeepsUse l → MeansUpdate (schema_of l) SET_TERMS.now (guarantees_table l) grn_tests set_columns
 unfolding understood everything
-by_grn_means Made1 newest = record { names = names; command = refl; plain = (refl, refl); unlisted = refl }
-by_grn_means Made2 newest = absurd cc
-by_grn_means Grown2 newest = absurd cc
+set_means Made1 keeps = absurd (omega (arith, keeps))
+set_means Made2 keeps = record { place = guarantees_place Made2; table = guarantees_there Made2; command = refl; plain = (refl, refl) }
+set_means Grown2 keeps = record { place = guarantees_place Grown2; table = guarantees_there Grown2; command = refl; plain = (refl, refl) }
 
-pub by_serial_means : (l : Layout) → IsNewest l → MeansSelect (schema_of l) BY_SERIAL.now (guarantees_tree l) serial_tests all_columns []
+pub add_means : (l : Layout) → KeepsUse l → MeansUpdate (schema_of l) ADD_USED.now (guarantees_table l) serial_tests (amount_columns Add)
 unfolding understood everything
-by_serial_means Made1 newest = record { names = names; command = refl; plain = (refl, refl); unlisted = refl }
-by_serial_means Made2 newest = absurd cc
-by_serial_means Grown2 newest = absurd cc
+add_means Made1 keeps = absurd (omega (arith, keeps))
+add_means Made2 keeps = record { place = guarantees_place Made2; table = guarantees_there Made2; command = refl; plain = (refl, refl) }
+add_means Grown2 keeps = record { place = guarantees_place Grown2; table = guarantees_there Grown2; command = refl; plain = (refl, refl) }
 
-pub of_holder_means : (l : Layout) → IsNewest l → MeansSelect (schema_of l) OF_HOLDER.now (guarantees_tree l) holder_tests all_columns by_serial
+pub take_means : (l : Layout) → KeepsUse l → MeansUpdate (schema_of l) TAKE_USED.now (guarantees_table l) serial_tests (amount_columns Sub)
 unfolding understood everything
-of_holder_means Made1 newest = record { names = names; command = refl; plain = (refl, refl); unlisted = refl }
-of_holder_means Made2 newest = absurd cc
-of_holder_means Grown2 newest = absurd cc
+take_means Made1 keeps = absurd (omega (arith, keeps))
+take_means Made2 keeps = record { place = guarantees_place Made2; table = guarantees_there Made2; command = refl; plain = (refl, refl) }
+take_means Grown2 keeps = record { place = guarantees_place Grown2; table = guarantees_there Grown2; command = refl; plain = (refl, refl) }
+
+pub by_grn_means : (l : Layout) → KeepsUse l → MeansSelect (schema_of l) BY_GRN.now (guarantees_tree l) grn_tests all_columns []
+unfolding understood everything
+by_grn_means Made1 keeps = absurd (omega (arith, keeps))
+by_grn_means Made2 keeps = record { names = seven; command = refl; plain = (refl, refl); unlisted = refl }
+by_grn_means Grown2 keeps = record { names = seven; command = refl; plain = (refl, refl); unlisted = refl }
+
+pub by_serial_means : (l : Layout) → KeepsUse l → MeansSelect (schema_of l) BY_SERIAL.now (guarantees_tree l) serial_tests six_columns []
+unfolding understood everything
+by_serial_means Made1 keeps = absurd (omega (arith, keeps))
+by_serial_means Made2 keeps = record { names = six; command = refl; plain = (refl, refl); unlisted = refl }
+by_serial_means Grown2 keeps = record { names = six; command = refl; plain = (refl, refl); unlisted = refl }
+
+pub kept_of_holder_means : (l : Layout) → KeepsUse l → MeansSelect (schema_of l) KEPT_OF_HOLDER.now (guarantees_tree l) holder_tests all_columns by_serial
+unfolding understood everything
+kept_of_holder_means Made1 keeps = absurd (omega (arith, keeps))
+kept_of_holder_means Made2 keeps = record { names = seven; command = refl; plain = (refl, refl); unlisted = refl }
+kept_of_holder_means Grown2 keeps = record { names = seven; command = refl; plain = (refl, refl); unlisted = refl }
+
+of_holder_at : (l : Layout) → MeansSelect (schema_of l) (of_holder_text (version_of l)) (guarantees_tree l) holder_tests six_columns by_serial
+unfolding understood everything
+of_holder_at Made1 = record { names = six; command = refl; plain = (refl, refl); unlisted = refl }
+of_holder_at Made2 = record { names = six; command = refl; plain = (refl, refl); unlisted = refl }
+of_holder_at Grown2 = record { names = six; command = refl; plain = (refl, refl); unlisted = refl }
+
+pub of_holder_means : (version : ℕ) (l : Layout) → IsOfVersion version l
+    → MeansSelect (schema_of l) (of_holder_text version) (guarantees_tree l) holder_tests six_columns by_serial
+of_holder_means version l is =
+    subst (λ v. MeansSelect (schema_of l) (of_holder_text v) (guarantees_tree l) holder_tests six_columns by_serial) is (of_holder_at l)
+
+pub empty_means : MeansDelete (schema_of Grown2) EMPTY_FIRST.now first_guarantees []
+unfolding understood everything
+empty_means = record { place = 4; table = record { there = refl; free = none_acts Grown2 8 }; command = refl; plain = (refl, refl) }

@@ -7,6 +7,7 @@ mod HolderStatements
 mod GuaranteeMeanings
 pub mod GuaranteeCells
 mod GuaranteeStatements
+mod KeptStatements
 mod CodeMeanings
 mod CodeStatements
 pub mod MovementMeanings
@@ -15,7 +16,6 @@ pub mod MovementStatements
 pub mod MovementSerials
 mod LineMeanings
 mod LineStatements
-pub mod WithoutAmounts
 pub mod Turned
 pub mod Chained
 pub mod Holding

@@ -1,15 +1,15 @@
 -- Calls that read one after another in a store's file.
-use Rattle.std.proofs.Common.{arith, refl, Result, List, ℕ}
+use Rattle.std.proofs.Common.{◌≡◌, arith, refl, Result, List, ℕ}
 use Rattle.std.specs.Prelude.{Bool, OnOk, is_ok, true}
 use Rattle.sqlite.specs.Given.{IsPlain}
 use Rattle.sqlite.specs.Listing.{understood}
 use Rattle.sqlite.specs.State.{State, HasCleanDisk}
 use Rattle.td_schema.specs.declared.layout.Layout.{Layout}
-use Rattle.td_schema.specs.Layouts.{schema_of}
+use Rattle.td_schema.specs.Layouts.{IsNewest, schema_of, version_of}
 use Rattle.typed_sql.proofs.Leaving.{reads_by}
 use Rattle.typed_sql.proofs.OnlyRead.{none_read, read_more, stays_on, stays_well}
 use Rattle.typed_sql.specs.Reading.{OnlyReads, StaysInside}
-use Rattle.td_store_rows.specs.StoreReads.{OnlyReadNewest, ReadsIn, ReadsNewest, ReadsStore}
+use Rattle.td_store_rows.specs.StoreReads.{IsOfVersion, KeepsUse, OnlyReadNewest, ReadsIn, ReadsNewest, ReadsStore}
 
 -- a statement that doesn't write, whatever came of it
 pub reads_in : {T E : Type 0} (P : Layout → Type 0) (text : List ℕ) → ((l : Layout) → P l → IsPlain (understood (schema_of l) text))
@@ -20,9 +20,17 @@ reads_in P text plain old new r still within = record {
   within = within;
 }
 
--- what reads in a file of any layout
+-- what reads in files of some layouts reads in those of fewer
+pub reads_less : {P Q : Layout → Type 0} {w : Bool} {a b : State} → ((l : Layout) → Q l → P l) → ReadsIn P w a b → ReadsIn Q w a b
+reads_less fewer reads = record { still = λ clean well l is. reads.still clean well l (fewer l is); within = reads.within }
+
+-- in those of the newest version what reads in a file of any layout
 pub anywhere : {w : Bool} {a b : State} → ReadsStore w a b → ReadsNewest w a b
-anywhere reads = record { still = λ clean well l newest. reads.still clean well l tt; within = reads.within }
+anywhere reads = reads_less (λ l newest. tt) reads
+
+-- a layout of version 2 keeps the amounts in use, as one of the newest version does
+pub newest_keeps : (l : Layout) → IsNewest l → KeepsUse l
+newest_keeps l newest = omega (arith, newest)
 
 -- calls after calls that were well
 pub reads_on : {P : Layout → Type 0} {w : Bool} {a b d : State} → ReadsIn P true a b → ReadsIn P w b d → ReadsIn P w a d

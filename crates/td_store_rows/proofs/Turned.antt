@@ -1,22 +1,24 @@
 -- A statement that turned the rows of one table, seen at all tables: the others are as they were.
-use Rattle.std.proofs.Common.{◌≡◌, ◌≢◌, ◌≤◌, ◌∙◌, ℕ, List, map, ap, refl, sym, subst, IsPermutation}
+use Rattle.std.proofs.Common.{◌≡◌, ◌≢◌, ◌≤◌, ◌∙◌, ℕ, List, [], ◌∷◌, map, take, ap, refl, sym, subst, subst₂, IsPermutation}
+use Rattle.std.proofs.lemmas.List.Sorted.{IsPermutation-map}
 use Rattle.std.specs.List.{AllByRecursion}
 use Rattle.sqlite_trees.specs.Tree.{Trees}
-use Rattle.sqlite_trees.proofs.ListLemmas.{IsPermutation-same}
+use Rattle.sqlite_trees.proofs.ListLemmas.{IsPermutation-same, all_weaker}
+use Rattle.sqlite_value.specs.Order.{Row}
 use Rattle.sqlite.specs.Effect.{Database, IsDatabase}
 use Rattle.sqlite.specs.State.{State}
 use Rattle.td_model.specs.declared.holder_row.HolderRow.{HolderRow}
 use Rattle.td_guarantee.specs.declared.guarantee.Guarantee.{Guarantee}
 use Rattle.td_movement.specs.declared.movement.Movement.{Movement}
-use Rattle.td_table_model.specs.Tables.{Keyed, LineCells, Tables, version_with_amounts}
+use Rattle.td_table_model.specs.Tables.{Keyed, Kept, LineCells, Tables, version_with_amounts, without_amount}
 use Rattle.td_schema.specs.Layouts.{guarantees_tree, schema_of}
 use Rattle.td_schema.specs.declared.layout.Layout.{Layout}
 use Rattle.td_schema.specs.declared.layout.Layout.TheVariants.{Made1, Made2, Grown2}
 use Rattle.typed_sql.specs.Writing.{AreOthersKept, HaveIds, HasSchema}
-use Rattle.typed_sql.specs.Typed.{Typing, AreTyped, IsTypedRow, Turns, row_of, typed_rows}
-use Rattle.td_store_rows.specs.Columns.{meta_typing, holder_typing, guarantee_typing, code_typing, movement_typing, line_typing}
+use Rattle.typed_sql.specs.Typed.{Typing, AreTyped, HasNow, IsTypedRow, Turns, row_of, typed_rows}
+use Rattle.td_store_rows.specs.Columns.{meta_typing, holder_typing, guarantee_typing, kept_typing, code_typing, movement_typing, line_typing}
 use Rattle.td_store_rows.specs.StoreTables.{AreAllTyped, AreStoreTrees, HasTables, tables_in, country_in}
-use Rattle.td_store_rows.proofs.WithoutAmounts.{none_kept}
+use Rattle.td_store_rows.specs.StoreReads.{KeepsUse}
 
 -- a table whose tree is as it was has the same rows, typed as before
 rows_still : {R : Type 0} (ty : Typing R) (old new : Trees) → new ty.table.tree ≡ old ty.table.tree
@@ -95,6 +97,20 @@ still : {R : Type 0} (ty : Typing R) (old new : Trees) → AreTyped ty old → n
     → Now ty (typed_rows ty old) new
 still ty old new typed is = record { same = rows_still ty old new is; typed = typed_still ty old new is typed }
 
+-- the rows of guarantees without the amounts in use are those with them, without these
+pub plain_rows : (l : Layout) (trees : Trees) → typed_rows (guarantee_typing l) trees ≡ map without_amount (typed_rows (kept_typing l) trees)
+plain_rows l trees = go (trees (guarantees_tree l))
+  where
+    go : (rows : List Row) → map (row_of (guarantee_typing l)) rows ≡ map without_amount (map (row_of (kept_typing l)) rows)
+    go [] = refl
+    go (r ∷ rows) = ap (λ k. row_of (guarantee_typing l) r ∷ k) (go rows)
+
+pub plain_typed : (l : Layout) (trees : Trees) → AreTyped (kept_typing l) trees → AreTyped (guarantee_typing l) trees
+plain_typed l trees typed = record {
+  ids = typed.ids;
+  cells = all_weaker (IsTypedRow (kept_typing l)) (IsTypedRow (guarantee_typing l)) (λ r is. ap (take 6) is) (trees (guarantees_tree l)) typed.cells;
+}
+
 -- all of them, each as it is now
 assembled : (l : Layout) (f : Tables → Tables) (old new : State)
     → (f (tables_in l old.now.trees)).version ≡ (tables_in l old.now.trees).version
@@ -102,17 +118,18 @@ assembled : (l : Layout) (f : Tables → Tables) (old new : State)
     → typed_rows meta_typing new.now.trees ≡ typed_rows meta_typing old.now.trees → AreTyped meta_typing new.now.trees
     → Now holder_typing (f (tables_in l old.now.trees)).holders new.now.trees
     → Now (guarantee_typing l) (f (tables_in l old.now.trees)).guarantees new.now.trees
+    → (KeepsUse l → Now (kept_typing l) (f (tables_in l old.now.trees)).kept new.now.trees)
     → Now code_typing (f (tables_in l old.now.trees)).codes new.now.trees
     → Now movement_typing (f (tables_in l old.now.trees)).movements new.now.trees
     → Now line_typing (f (tables_in l old.now.trees)).lines new.now.trees
     → new.now.schema ≡ schema_of l → IsDatabase new.now → HasTables l f old new
-assembled l f old new version country office meta holders guarantees codes movements lines schema sound = record {
+assembled l f old new version country office meta holders guarantees kept codes movements lines schema sound = record {
   same = record {
     version = sym version;
     country = ap country_in office ∙ sym country;
     holders = holders.same;
     guarantees = guarantees.same;
-    kept = λ keep. absurd (none_kept l old.now.trees (subst (λ v. version_with_amounts ≤ v) version keep));
+    kept = λ keeps. (kept (subst (λ v. version_with_amounts ≤ v) version keeps)).same;
     codes = codes.same;
     movements = movements.same;
     lines = lines.same;
@@ -121,6 +138,7 @@ assembled l f old new version country office meta holders guarantees codes movem
     meta = meta;
     holders = holders.typed;
     guarantees = guarantees.typed;
+    kept = λ keeps. (kept keeps).typed;
     codes = codes.typed;
     movements = movements.typed;
     lines = lines.typed;
@@ -146,24 +164,38 @@ module _ (l : Layout) (old new : State) (has : HasSchema old (schema_of l)) (typ
       (typed_still meta_typing a b (rest.meta (λ e. cc)) typed.meta)
       (record { same = now.same; typed = now.typed })
       (still (guarantee_typing l) a b typed.guarantees (rest.guarantees (apart l).holders))
+      (λ keeps. still (kept_typing l) a b (typed.kept keeps) (rest.guarantees (apart l).holders))
       (still code_typing a b typed.codes (rest.codes (λ e. cc)))
       (still movement_typing a b typed.movements (rest.movements (λ e. cc)))
       (still line_typing a b typed.lines (rest.lines (λ e. cc)))
       now.schema now.sound
 
-  pub guarantees_turned : (f : List (Keyed Guarantee) → List (Keyed Guarantee)) → Turns (guarantee_typing l) (schema_of l) f old new
-      → HasTables l (λ t. record t { guarantees = f t.guarantees }) old new
-  guarantees_turned f turns =
-      let now = turns has typed.guarantees in
+  -- the guarantees: with the amounts in use, and so without them
+  pub kept_now : (f : List (Keyed Kept) → List (Keyed Kept)) (g : List (Keyed Guarantee) → List (Keyed Guarantee))
+      → ((ks : List (Keyed Kept)) → g (map without_amount ks) ≡ map without_amount (f ks))
+      → HasNow (kept_typing l) (schema_of l) (f (typed_rows (kept_typing l) old.now.trees)) old.now new.now
+      → HasTables l (λ t. record t { guarantees = g t.guarantees; kept = f t.kept }) old new
+  kept_now f g plainly now =
       let rest = kept l (guarantees_tree l) a b now.others in
-      assembled l (λ t. record t { guarantees = f t.guarantees }) old new refl refl (office_still a b (rest.meta (λ e. (apart l).meta (sym e))))
+      let rows = typed_rows (kept_typing l) a in
+      assembled l (λ t. record t { guarantees = g t.guarantees; kept = f t.kept }) old new refl refl
+      (office_still a b (rest.meta (λ e. (apart l).meta (sym e))))
       (typed_still meta_typing a b (rest.meta (λ e. (apart l).meta (sym e))) typed.meta)
       (still holder_typing a b typed.holders (rest.holders (λ e. (apart l).holders (sym e))))
-      (record { same = now.same; typed = now.typed })
+      (record {
+        same = subst₂ IsPermutation (sym (ap g (plain_rows l a) ∙ plainly rows)) (sym (plain_rows l b)) (IsPermutation-map without_amount _ _ now.same);
+        typed = plain_typed l b now.typed;
+      })
+      (λ keeps. record { same = now.same; typed = now.typed })
       (still code_typing a b typed.codes (rest.codes (λ e. (apart l).codes (sym e))))
       (still movement_typing a b typed.movements (rest.movements (λ e. (apart l).movements (sym e))))
       (still line_typing a b typed.lines (rest.lines (λ e. (apart l).lines (sym e))))
       now.schema now.sound
+
+  pub kept_turned : KeepsUse l → (f : List (Keyed Kept) → List (Keyed Kept)) (g : List (Keyed Guarantee) → List (Keyed Guarantee))
+      → ((ks : List (Keyed Kept)) → g (map without_amount ks) ≡ map without_amount (f ks)) → Turns (kept_typing l) (schema_of l) f old new
+      → HasTables l (λ t. record t { guarantees = g t.guarantees; kept = f t.kept }) old new
+  kept_turned keeps f g plainly turns = kept_now f g plainly (turns has (typed.kept keeps))
 
   pub codes_turned : (f : List (Keyed (List ℕ)) → List (Keyed (List ℕ))) → Turns code_typing (schema_of l) f old new
       → HasTables l (λ t. record t { codes = f t.codes }) old new
@@ -174,6 +206,7 @@ module _ (l : Layout) (old new : State) (has : HasSchema old (schema_of l)) (typ
       (typed_still meta_typing a b (rest.meta (λ e. cc)) typed.meta)
       (still holder_typing a b typed.holders (rest.holders (λ e. cc)))
       (still (guarantee_typing l) a b typed.guarantees (rest.guarantees (apart l).codes))
+      (λ keeps. still (kept_typing l) a b (typed.kept keeps) (rest.guarantees (apart l).codes))
       (record { same = now.same; typed = now.typed })
       (still movement_typing a b typed.movements (rest.movements (λ e. cc)))
       (still line_typing a b typed.lines (rest.lines (λ e. cc)))
@@ -188,6 +221,7 @@ module _ (l : Layout) (old new : State) (has : HasSchema old (schema_of l)) (typ
       (typed_still meta_typing a b (rest.meta (λ e. cc)) typed.meta)
       (still holder_typing a b typed.holders (rest.holders (λ e. cc)))
       (still (guarantee_typing l) a b typed.guarantees (rest.guarantees (apart l).movements))
+      (λ keeps. still (kept_typing l) a b (typed.kept keeps) (rest.guarantees (apart l).movements))
       (still code_typing a b typed.codes (rest.codes (λ e. cc)))
       (record { same = now.same; typed = now.typed })
       (still line_typing a b typed.lines (rest.lines (λ e. cc)))
@@ -202,6 +236,7 @@ module _ (l : Layout) (old new : State) (has : HasSchema old (schema_of l)) (typ
       (typed_still meta_typing a b (rest.meta (λ e. cc)) typed.meta)
       (still holder_typing a b typed.holders (rest.holders (λ e. cc)))
       (still (guarantee_typing l) a b typed.guarantees (rest.guarantees (apart l).lines))
+      (λ keeps. still (kept_typing l) a b (typed.kept keeps) (rest.guarantees (apart l).lines))
       (still code_typing a b typed.codes (rest.codes (λ e. cc)))
       (still movement_typing a b typed.movements (rest.movements (λ e. cc)))
       (record { same = now.same; typed = now.typed })

@@ -11,7 +11,7 @@ use Rattle.typed_sql.specs.Typed.{Typing}
 use Rattle.typed_sql.specs.Values.{as_integer, text_in, number_in, number_value, number_if, number_or_null, text_if, text_or_null}
 use Rattle.td_model.specs.declared.holder_row.HolderRow.{HolderRow}
 use Rattle.td_guarantee.specs.declared.guarantee.Guarantee.{Guarantee}
-use Rattle.td_table_model.specs.Tables.{Keyed, LineCells}
+use Rattle.td_table_model.specs.Tables.{Keyed, Kept, LineCells, with_amount}
 use Rattle.std.specs.Str.{bytes_eq}
 use Rattle.td_movement.specs.States.{state_name}
 use Rattle.td_movement.specs.declared.movement.Movement.{Movement}
@@ -115,6 +115,23 @@ guarantee_typing l = record {
   cells = guarantee_cells;
   from = guarantee_from;
 }
+
+-- The seven columns of a row that keeps the amount in use; those of a guarantee with it; and what seven columns are read as. The
+-- rows of the same table are typed by them where a layout keeps the amounts.
+abbrev pub kept_columns : Row → Row
+kept_columns r =
+    column r 1 ∷ column r 2 ∷ column r 3 ∷ column r 4 ∷ column r 5 ∷ column r 6 ∷ column r 7 ∷ []
+
+abbrev pub kept_cells : Keyed Kept → Row
+kept_cells k =
+    number_value k.holder ∷ number_value k.serial ∷ Text k.row.guarantee.grn ∷ number_value k.row.guarantee.reference
+    ∷ number_value k.row.guarantee.cover ∷ number_or_null k.row.guarantee.ends ∷ number_value k.row.used ∷ []
+
+abbrev pub kept_from : Row → Keyed Kept
+kept_from cells = with_amount (number_in (column cells 6)) (guarantee_from cells)
+
+abbrev pub kept_typing : Layout → Typing (Keyed Kept)
+kept_typing l = record { table = guarantees_table l; columns = kept_columns; cells = kept_cells; from = kept_from }
 
 -- the three columns of a row
 abbrev pub code_columns : Row → Row

@@ -3,6 +3,8 @@ pub mod StoreReads
 pub mod MetaTable
 pub mod HolderTable
 pub mod GuaranteeTable
+pub mod GuaranteeTexts
+pub mod KeptTable
 pub mod CodeTable
 pub mod MovementTable
 pub mod LineTable

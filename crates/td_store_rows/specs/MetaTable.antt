@@ -1,5 +1,5 @@
 -- What is asked of the office's own row in a store's file, and that it is written.
-use Rattle.std.specs.Prelude.{◌≡◌, List, map, Option}
+use Rattle.std.specs.Prelude.{◌≡◌, ℕ, pos, List, map, Option}
 use Rattle.std.specs.Option.{option_to_list}
 use Rattle.sqlite.specs.State.{State}
 use Rattle.sqlite_schema.specs.declared.schema.Schema.{Schema}
@@ -14,6 +14,10 @@ use Rattle.td_store_rows.specs.declared.meta.stored.StoredMeta.{StoredMeta}
 -- what is said of a row: its country, where its text is one
 abbrev pub stored_of : MetaRow → StoredMeta
 stored_of m = record { version = m.version; country = country_read m.country }
+
+-- the row with another version
+abbrev pub with_version : ℕ → MetaRow → MetaRow
+with_version version m = record m { version = pos version }
 
 -- the statement turned the rows into what f makes of them
 abbrev pub TurnsMeta : (List MetaRow → List MetaRow) → State → State → Type 0

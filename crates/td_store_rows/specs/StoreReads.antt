@@ -1,10 +1,11 @@
 -- That a call inside a transaction has only read, in a store's file.
-use Rattle.std.specs.Prelude.{◌≡◌, Bool, IsTrue}
+use Rattle.std.specs.Prelude.{◌≡◌, ◌≤◌, ℕ, Bool, IsTrue}
 use Rattle.sqlite.specs.Effect.{Database}
 use Rattle.sqlite.specs.State.{State, HasCleanDisk}
 use Rattle.sqlite_trees.specs.Tree.{Trees}
 use Rattle.td_schema.specs.declared.layout.Layout.{Layout}
-use Rattle.td_schema.specs.Layouts.{IsNewest, schema_of}
+use Rattle.td_schema.specs.Layouts.{IsNewest, newest_version, schema_of, version_of}
+use Rattle.td_table_model.specs.Tables.{version_with_amounts}
 use Rattle.typed_sql.specs.Reading.{LeavesAll, OnlyRead, StaysInside}
 
 -- where it ended well, all is as it was, if the file is of one of these layouts
@@ -19,21 +20,43 @@ IsAny l = Unit {0}
 abbrev pub ReadsStore : Bool → State → State → Type 0
 ReadsStore = ReadsIn IsAny
 
--- of a layout of the newest version
+-- of a layout of a version; of the newest one
+abbrev pub IsOfVersion : ℕ → Layout → Type 0
+IsOfVersion version l = version_of l ≡ version
+
+abbrev pub ReadsVersion : ℕ → Bool → State → State → Type 0
+ReadsVersion version = ReadsIn (IsOfVersion version)
+
 abbrev pub ReadsNewest : Bool → State → State → Type 0
 ReadsNewest = ReadsIn IsNewest
 
--- the calls between two states have only read, in such a file
-abbrev pub OnlyReadNewest : State → State → Type 0
-OnlyReadNewest old new = (l : Layout) → IsNewest l → OnlyRead (schema_of l) old new
+-- of a layout that keeps the amounts in use on the guarantees
+abbrev pub KeepsUse : Layout → Type 0
+KeepsUse l = version_with_amounts ≤ version_of l
 
--- a call left all as it was, in a file of any layout; of the newest version
+abbrev pub ReadsKept : Bool → State → State → Type 0
+ReadsKept = ReadsIn KeepsUse
+
+-- the calls between two states have only read, in a file of a version; of the newest one
+abbrev pub OnlyReadVersion : ℕ → State → State → Type 0
+OnlyReadVersion version old new = (l : Layout) → IsOfVersion version l → OnlyRead (schema_of l) old new
+
+abbrev pub OnlyReadNewest : State → State → Type 0
+OnlyReadNewest = OnlyReadVersion newest_version
+
+-- a call left all as it was, in a file of any layout; of a version; of the newest one
 abbrev pub LeavesStore : State → State → Type 0
 LeavesStore old new = (l : Layout) → LeavesAll (schema_of l) old new
 
-abbrev pub LeavesNewest : State → State → Type 0
-LeavesNewest old new = (l : Layout) → IsNewest l → LeavesAll (schema_of l) old new
+abbrev pub LeavesVersion : ℕ → State → State → Type 0
+LeavesVersion version old new = (l : Layout) → IsOfVersion version l → LeavesAll (schema_of l) old new
 
--- what is so of the trees of a database whose tables are those of such a layout
+abbrev pub LeavesNewest : State → State → Type 0
+LeavesNewest = LeavesVersion newest_version
+
+-- what is so of the trees of a database whose tables are those of a layout of a version; of the newest one
+abbrev pub InVersion : ℕ → (Layout → Trees → Type 0) → Database → Type 0
+InVersion version P db = (l : Layout) → IsOfVersion version l → db.schema ≡ schema_of l → P l db.trees
+
 abbrev pub InNewest : (Layout → Trees → Type 0) → Database → Type 0
-InNewest P db = (l : Layout) → IsNewest l → db.schema ≡ schema_of l → P l db.trees
+InNewest = InVersion newest_version

@@ -4,13 +4,14 @@ use Rattle.sqlite_trees.specs.Tree.{Trees}
 use Rattle.sqlite.specs.Effect.{IsDatabase}
 use Rattle.sqlite.specs.State.{State}
 use Rattle.td_desk.specs.Content.{Content, IsSound}
-use Rattle.td_table_model.specs.Tables.{Tables, AreTablesOf, first_version}
+use Rattle.td_table_model.specs.Tables.{Tables, AreTablesOf}
 use Rattle.td_table_model.specs.Changes.{HaveSameRows}
 use Rattle.td_schema.specs.declared.layout.Layout.{Layout}
-use Rattle.td_schema.specs.Layouts.{IsNewest, newest_layout, newest_version, schema_of}
+use Rattle.td_schema.specs.Layouts.{IsNewest, newest_layout, newest_version, schema_of, version_of}
 use Rattle.typed_sql.specs.Typed.{AreTyped, typed_rows}
 use Rattle.typed_sql.specs.Writing.{HasSchema}
-use Rattle.td_store_rows.specs.Columns.{MetaRow, meta_row, meta_typing, holder_typing, guarantee_typing, code_typing, movement_typing, line_typing}
+use Rattle.td_store_rows.specs.Columns.{MetaRow, meta_row, meta_typing, holder_typing, guarantee_typing, kept_typing, code_typing, movement_typing, line_typing}
+use Rattle.td_store_rows.specs.StoreReads.{KeepsUse}
 use Rattle.td_table_model.specs.Gathering.{content_of}
 
 -- the country in the office's own row; none where there is no such row
@@ -18,24 +19,25 @@ abbrev pub country_in : List MetaRow → List ℕ
 country_in [] = []
 country_in (row ∷ rows) = row.country
 
--- the tables that stand in the trees of a layout; no file keeps amounts in use yet
+-- the tables that stand in the trees of a layout: the amounts in use say nothing where the layout keeps none
 abbrev pub tables_in : Layout → Trees → Tables
 tables_in l trees = record {
-  version = first_version;
+  version = version_of l;
   country = country_in (typed_rows meta_typing trees);
   holders = typed_rows holder_typing trees;
   guarantees = typed_rows (guarantee_typing l) trees;
-  kept = [];
+  kept = typed_rows (kept_typing l) trees;
   codes = typed_rows code_typing trees;
   movements = typed_rows movement_typing trees;
   lines = typed_rows line_typing trees;
 }
 
--- the rows of every table are typed
+-- the rows of every table are typed, and those of guarantees with the amounts in use where the layout keeps them
 pub record AreAllTyped (l : Layout) (trees : Trees) : Type 0 where
   pub meta : AreTyped meta_typing trees
   pub holders : AreTyped holder_typing trees
   pub guarantees : AreTyped (guarantee_typing l) trees
+  pub kept : KeepsUse l → AreTyped (kept_typing l) trees
   pub codes : AreTyped code_typing trees
   pub movements : AreTyped movement_typing trees
   pub lines : AreTyped line_typing trees
@@ -77,8 +79,7 @@ pub record HoldsContent (c : Content) (s : State) : Type 0 where
   pub trees : AreTreesOf c s.now.trees
   pub schema : HasSchema s (schema_of trees.layout)
 
--- The content that trees hold. (The newest version has one layout; where it has two, which of them it is hangs on the tables
--- beside the trees.)
+-- The content that the trees of a file hold that was made at the newest version.
 abbrev pub content_in : Trees → Content
 content_in trees = content_of (tables_in newest_layout trees)
 

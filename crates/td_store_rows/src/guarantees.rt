@@ -1,10 +1,10 @@
-//! The guarantees of a store: what is read of their table, and what is written into it. Each function runs one statement
+//! The guarantees of a store: what is read of their tables, and what is written into them. Each function runs one statement
 //! inside a transaction that the caller commits.
 mod finding;
 mod stored;
 mod texts;
 mod writing;
 
-pub use finding::{find_by_grn, find_by_serial, guarantees_of};
-pub use stored::StoredGuarantee;
-pub use writing::{insert_guarantee, set_terms};
+pub use finding::{find_by_serial, find_kept, guarantees_of, kept_of};
+pub use stored::{KeptGuarantee, StoredGuarantee};
+pub use writing::{add_used, empty_guarantees1, insert_guarantee, set_terms, take_used};

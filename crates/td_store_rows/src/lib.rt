@@ -12,11 +12,12 @@ mod movements;
 
 pub use codes::{StoredCode, codes_of, delete_code, insert_code};
 pub use guarantees::{
-    StoredGuarantee, find_by_grn, find_by_serial, guarantees_of, insert_guarantee, set_terms,
+    KeptGuarantee, StoredGuarantee, add_used, empty_guarantees1, find_by_serial, find_kept,
+    guarantees_of, insert_guarantee, kept_of, set_terms, take_used,
 };
 pub use holders::{find_holder, insert_holder, set_holder};
 pub use lines::{StoredLine, insert_line, lines_of, lines_on};
-pub use meta::{StoredMeta, find_meta, insert_meta};
+pub use meta::{StoredMeta, find_meta, insert_meta, set_version};
 pub use movements::{
     MovementSerial, StoredMovement, counting_serials, find_by_lrn, find_by_mrn, insert_movement,
     movements_of, set_status,

@@ -7,4 +7,4 @@ mod writing;
 
 pub use finding::find_meta;
 pub use stored::StoredMeta;
-pub use writing::insert_meta;
+pub use writing::{insert_meta, set_version};

@@ -1,4 +1,4 @@
-//! What is looked up in the table of guarantees. It changes nothing. `DatabaseCorrupt`: a row is no guarantee's, or there
+//! What is looked up in the tables of guarantees. It changes nothing. `DatabaseCorrupt`: a row is no guarantee's, or there
 //! are several where there can be one; `OutOfMemory`: want of memory; any other error is the database's own.
 ghost use Rattle.std.specs.Prelude.{◌≡◌, [], ◌∷◌, IfOk, is_ok};
 ghost use Rattle.sqlite.specs.Held.{state};
@@ -7,11 +7,12 @@ ghost use Rattle.sqlite.specs.Values.{bound};
 ghost use Rattle.sqlite_value.specs.declared.value.Value.TheVariants.{Text};
 ghost use Rattle.typed_sql.specs.Reading.{IsInside};
 ghost use Rattle.typed_sql.specs.Values.{number_value};
-ghost use Rattle.td_store_rows.specs.StoreReads.{ReadsNewest};
-ghost use Rattle.td_store_rows.specs.GuaranteeTable.{AreBySerial, AreGuarantees, IsTheGuarantee, has_grn, has_serial, is_of};
+ghost use Rattle.td_store_rows.specs.StoreReads.{ReadsKept, ReadsNewest, ReadsVersion};
+ghost use Rattle.td_store_rows.specs.GuaranteeTable.{AreBySerial, AreGuarantees, IsTheGuarantee, has_serial, is_of};
+ghost use Rattle.td_store_rows.specs.KeptTable.{AreKept, AreKeptBySerial, IsTheKept, has_kept_grn};
 
-use crate::guarantees::stored::StoredGuarantee;
-use crate::guarantees::texts::{BY_GRN, BY_SERIAL, OF_HOLDER};
+use crate::guarantees::stored::{KeptGuarantee, StoredGuarantee};
+use crate::guarantees::texts::{BY_GRN, BY_SERIAL, KEPT_OF_HOLDER, of_holder};
 use sqlite::{Error, Transaction};
 use sqlite_trees::store::Alter;
 use sqlite_value::value::ValueRef;
@@ -30,18 +31,18 @@ fn grn_values(holder: HolderNo, serial: u32, grn: &Grn) -> [ValueRef<'_>; 3]
     ]
 }
 
-/// The holder's guarantee with a serial and exactly a GRN, if there is one.
-pub fn find_by_grn<S: Alter>(
+/// The holder's guarantee with a serial and exactly a GRN, if there is one, and the amount in use on it.
+pub fn find_kept<S: Alter>(
     alloc: Global,
     tx: &mut Transaction<'_, S>,
     holder: HolderNo,
     serial: u32,
     grn: &Grn,
-) -> Result<Option<StoredGuarantee>, Error>
+) -> Result<Option<KeptGuarantee>, Error>
     requires { IsInside (state S.Store tx.old.conn.now) }
     ensures same_reference { tx.new.conn.ghost_name ≡ tx.old.conn.ghost_name }
     ensures found { HasCleanDisk (state S.Store tx.new.conn.now)
-        → IfOk result (IsTheGuarantee (has_grn holder serial grn.now) (state S.Store tx.old.conn.now)) }
+        → IfOk result (IsTheKept (has_kept_grn holder serial grn.now) (state S.Store tx.old.conn.now)) }
     ensures reads { ReadsNewest (is_ok result) (state S.Store tx.old.conn.now) (state S.Store tx.new.conn.now) }
 {
     fetch_one(alloc, tx, BY_GRN, &grn_values(holder, serial, grn))
@@ -63,19 +64,38 @@ pub fn find_by_serial<S: Alter>(
     fetch_one(alloc, tx, BY_SERIAL, &serial_key(holder, serial))
 }
 
-/// All guarantees of a holder, by their serials.
+/// All guarantees of a holder, by their serials, in a file of that version of the tables.
 pub fn guarantees_of<S: Alter>(
     alloc: Global,
     tx: &mut Transaction<'_, S>,
+    version: u32,
     holder: HolderNo,
 ) -> Result<Vec<StoredGuarantee>, Error>
     requires { IsInside (state S.Store tx.old.conn.now) }
     ensures same_reference { tx.new.conn.ghost_name ≡ tx.old.conn.ghost_name }
     ensures found { HasCleanDisk (state S.Store tx.new.conn.now)
-        → IfOk result (λ found. AreGuarantees (is_of holder) (state S.Store tx.old.conn.now) found.items) }
+        → IfOk result (λ found. AreGuarantees version (is_of holder) (state S.Store tx.old.conn.now) found.items) }
     ensures order { HasCleanDisk (state S.Store tx.new.conn.now)
-        → IfOk result (λ found. AreBySerial (is_of holder) (state S.Store tx.old.conn.now) found.items) }
-    ensures reads { ReadsNewest (is_ok result) (state S.Store tx.old.conn.now) (state S.Store tx.new.conn.now) }
+        → IfOk result (λ found. AreBySerial version (is_of holder) (state S.Store tx.old.conn.now) found.items) }
+    ensures reads { ReadsVersion version (is_ok result) (state S.Store tx.old.conn.now) (state S.Store tx.new.conn.now) }
 {
-    fetch(alloc, tx, OF_HOLDER, &holder_key(holder))
+    fetch(alloc, tx, of_holder(version), &holder_key(holder))
+}
+
+/// All guarantees of a holder with the amounts in use on them, by their serials, in a file that keeps the amounts: one of
+/// version 2 or later.
+pub fn kept_of<S: Alter>(
+    alloc: Global,
+    tx: &mut Transaction<'_, S>,
+    holder: HolderNo,
+) -> Result<Vec<KeptGuarantee>, Error>
+    requires { IsInside (state S.Store tx.old.conn.now) }
+    ensures same_reference { tx.new.conn.ghost_name ≡ tx.old.conn.ghost_name }
+    ensures found { HasCleanDisk (state S.Store tx.new.conn.now)
+        → IfOk result (λ found. AreKept (is_of holder) (state S.Store tx.old.conn.now) found.items) }
+    ensures order { HasCleanDisk (state S.Store tx.new.conn.now)
+        → IfOk result (λ found. AreKeptBySerial (is_of holder) (state S.Store tx.old.conn.now) found.items) }
+    ensures reads { ReadsKept (is_ok result) (state S.Store tx.old.conn.now) (state S.Store tx.new.conn.now) }
+{
+    fetch(alloc, tx, KEPT_OF_HOLDER, &holder_key(holder))
 }

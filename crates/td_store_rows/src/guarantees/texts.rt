@@ -1,20 +1,51 @@
-//! The statements on the table of guarantees.
+//! The statements on the tables of guarantees.
+ghost use Rattle.std.specs.Prelude.{◌≡◌};
+ghost use Rattle.td_store_rows.specs.GuaranteeTexts.{of_holder_text};
 
-/// A new row. The last column is NULL where there is no end day.
-pub const INSERT: &str = "INSERT INTO guarantees1 VALUES (?1, ?2, ?3, ?4, ?5, ?6)";
+/// A new row. The sixth column is NULL where there is no end day; the last is the amount in use.
+pub const INSERT: &str = "INSERT INTO guarantees2 VALUES (?1, ?2, ?3, ?4, ?5, ?6, ?7)";
 
 /// New terms: one that is NULL leaves the one that is there.
 pub const SET_TERMS: &str =
-    "UPDATE guarantees1 SET reference = COALESCE(?4, reference), cover = COALESCE(?5, cover), ends = COALESCE(?6, ends) WHERE holder = ?1 AND serial = ?2 AND grn = ?3";
+    "UPDATE guarantees2 SET reference = COALESCE(?4, reference), cover = COALESCE(?5, cover), ends = COALESCE(?6, ends) WHERE holder = ?1 AND serial = ?2 AND grn = ?3";
 
-/// The row of a holder with a serial and a GRN.
+/// More in use.
+pub const ADD_USED: &str =
+    "UPDATE guarantees2 SET used = used + ?3 WHERE holder = ?1 AND serial = ?2";
+
+/// Less in use.
+pub const TAKE_USED: &str =
+    "UPDATE guarantees2 SET used = used - ?3 WHERE holder = ?1 AND serial = ?2";
+
+/// The row of a holder with a serial and a GRN, with the amount in use.
 pub const BY_GRN: &str =
-    "SELECT holder, serial, grn, reference, cover, ends FROM guarantees1 WHERE holder = ?1 AND serial = ?2 AND grn = ?3";
+    "SELECT holder, serial, grn, reference, cover, ends, used FROM guarantees2 WHERE holder = ?1 AND serial = ?2 AND grn = ?3";
 
 /// The row of a holder with a serial.
 pub const BY_SERIAL: &str =
-    "SELECT holder, serial, grn, reference, cover, ends FROM guarantees1 WHERE holder = ?1 AND serial = ?2";
+    "SELECT holder, serial, grn, reference, cover, ends FROM guarantees2 WHERE holder = ?1 AND serial = ?2";
 
-/// The rows of a holder.
-pub const OF_HOLDER: &str =
+/// The rows of a holder, with the amounts in use.
+pub const KEPT_OF_HOLDER: &str =
+    "SELECT holder, serial, grn, reference, cover, ends, used FROM guarantees2 WHERE holder = ?1 ORDER BY holder, serial";
+
+/// The rows of a holder, in a file of version 1.
+pub const OF_HOLDER1: &str =
     "SELECT holder, serial, grn, reference, cover, ends FROM guarantees1 WHERE holder = ?1 ORDER BY holder, serial";
+
+/// The rows of a holder, in a file of a later version.
+pub const OF_HOLDER2: &str =
+    "SELECT holder, serial, grn, reference, cover, ends FROM guarantees2 WHERE holder = ?1 ORDER BY holder, serial";
+
+/// All rows of the table of version 1 go.
+pub const EMPTY_FIRST: &str = "DELETE FROM guarantees1";
+
+/// The rows of a holder, in a file of that version.
+pub fn of_holder(version: u32) -> &'static str
+    ensures { result.now ≡ of_holder_text version }
+{
+    if version < 2 {
+        return OF_HOLDER1;
+    }
+    OF_HOLDER2
+}

@@ -1,7 +1,7 @@
 use Rattle.sqlite.specs.Held.{state}
 use Rattle.sqlite.specs.Values.{bound}
 use Rattle.typed_sql.proofs.Leaving.{on_ok}
-use Rattle.td_store_rows.proofs.GuaranteeStatements.{terms_turned}
+use Rattle.td_store_rows.proofs.KeptStatements.{terms_turned}
 use Rattle.td_store_rows.proofs.guarantees.writing.set_terms.Goals as goal
 
 pub returns-clause-set : goal.returns-clause-set
