@@ -1,6 +1,6 @@
 -- Where the rules before S7 are kept, S7 is kept exactly where the amount in each row is what the lines on its guarantee add up to, in
 -- a file that keeps amounts; in another it is always kept.
-use Rattle.std.proofs.Common.{◌≡◌, ◌∙◌, ◌<◌, ◌≤◌, ℕ, Bool, List, map, Ok, Err, Result, true, refl, sym, subst, arith}
+use Rattle.std.proofs.Common.{◌∙◌, ◌<◌, ◌≤◌, ℕ, Bool, List, map, Ok, Err, Result, true, refl, sym, subst, arith}
 use Rattle.std.proofs.lemmas.List.Sorted.{IsPermutation-sym}
 use Rattle.std.specs.Prelude.{◌↔◌, IfOk}
 use Rattle.std.specs.List.{AllByRecursion}
@@ -13,7 +13,7 @@ use Rattle.td_model.specs.declared.holder_row.HolderRow.{HolderRow}
 use Rattle.td_table_model.specs.declared.rule.Rule.TheVariants.{S3, S7}
 use Rattle.td_table_model.specs.Gathering.{guarantees_by, holder_no, movements_by, part, place, with_lines}
 use Rattle.td_table_model.specs.Rules.{HasAmounts, IsInUse}
-use Rattle.td_table_model.specs.Tables.{Keyed, Kept, Tables, version_with_amounts, without_amount}
+use Rattle.td_table_model.specs.Tables.{Tables, version_with_amounts, without_amount}
 use Rattle.td_table_model.proofs.Orders.{in_order_permutes}
 use Rattle.td_schema.specs.declared.layout.Layout.{Layout}
 use Rattle.td_store_rows.specs.StoreReads.{IsOfVersion, KeepsUse}

@@ -1,6 +1,6 @@
 -- The rules from S2 to S4, asked one after another, and those behind them.
 use Rattle.std.proofs.Common.{◌≡◌, ℕ, Bool, false, List, Option, Ok, Err, Result, refl}
-use Rattle.std.specs.Prelude.{◌↔◌, IfOk, IsTrue}
+use Rattle.std.specs.Prelude.{IfOk, IsTrue}
 use Rattle.sqlite_trees.specs.Tree.{Trees}
 use Rattle.sqlite.specs.State.{State}
 use Rattle.sqlite.specs.declared.error.Error.{Error}

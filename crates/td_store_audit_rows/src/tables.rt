@@ -53,10 +53,7 @@ fn scan_tables<S: Alter>(conn: &mut Connection<S>, version: u32) -> Result<Reada
 /// Which tables of a store's file of that version can be read row by row. It walks along all rows outside a transaction, each once,
 /// keeps none, and changes nothing. `DatabaseCorrupt`: the rowids of a table aren't integers, or two are the same; any other error is the database's own, or
 /// want of memory.
-pub fn readable_tables<S: Alter>(
-    conn: &mut Connection<S>,
-    version: u32,
-) -> Result<Readable, Error>
+pub fn readable_tables<S: Alter>(conn: &mut Connection<S>, version: u32) -> Result<Readable, Error>
     requires outside { conn.old.in_transaction ≡ false }
     requires tables { HasCleanDisk (state S.Store conn.old) → IsSchemaOf version (state S.Store conn.old).now.schema }
     ensures ended { conn.new.in_transaction ≡ false }

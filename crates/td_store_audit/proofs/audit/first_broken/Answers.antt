@@ -31,7 +31,7 @@ returns-clause-still g c clean =
     let clean_d : HasCleanDisk d = omega (arith, clean, c.first_after_office.ensures.reads.within.survives.clean) in
     let clean_b : HasCleanDisk b = omega (arith, clean_d, c.all_holders.ensures.reads.within.survives.clean) in
     let At : Layout → Type 0 = IsOfVersion c.args.version in
-    let two : ReadsStore true a d = reads_on c.in_ok-country.ensures.reads c.in_ok-holders.ensures.reads in
+    let two : ReadsStore true a d = reads_on {w = true} c.in_ok-country.ensures.reads c.in_ok-holders.ensures.reads in
     on_ok c.first_after_office.result
     (λ read l own has. (more_read At a d e (any_read At clean_d two) read l own has).unchanged (c.in_ok-country.ensures.was_open clean_b l has))
     (still_ok c.first_after_office.result c.first_after_office.ensures.reads clean)

@@ -5,7 +5,6 @@ use Rattle.td_store_rows.specs.Columns.{movement_typing}
 use Rattle.td_store_audit.specs.InFile.{AreTypedApart, HasMovementsInPlace, TellsWhere}
 use Rattle.td_store_audit.specs.Tallies.{is_counting_row}
 use Rattle.td_store_audit.proofs.MovementsKept.{told_one}
-use Rattle.td_store_rows.proofs.StoreReads.{anywhere}
 use Rattle.std.proofs.Common.{◌∙◌, List, map, ap, subst}
 use Rattle.td_table_model.specs.Gathering.{IsNumbered, place}
 use Rattle.td_store_rows.specs.MovementTable.{movement_row_of}
@@ -31,7 +30,7 @@ returns-then-not-movements_are_in_place-clause-told g c clean =
     c.in-Some.is (c.in_ok-rows.ensures.order clean) (rw c.deref.ensures.value at c.movements_are_in_place.ensures))
 
 pub returns-then-not-movements_are_in_place-clause-reads : goal.returns-then-not-movements_are_in_place-clause-reads
-returns-then-not-movements_are_in_place-clause-reads g c = anywhere c.in_ok-rows.ensures.reads
+returns-then-not-movements_are_in_place-clause-reads g c = c.in_ok-rows.ensures.reads
 
 pub returns-clause-told : goal.returns-clause-told
 returns-clause-told g c clean =
@@ -47,4 +46,4 @@ returns-clause-handed g c clean layout own has apart =
     ∙ ap (λ rows. map place (filter is_counting_row rows)) (c.in_ok-rows.ensures.order clean layout has apart.typed (apart.apart c.args.raw.now.holder))
 
 pub returns-clause-reads : goal.returns-clause-reads
-returns-clause-reads g c = anywhere c.in_ok-rows.ensures.reads
+returns-clause-reads g c = c.in_ok-rows.ensures.reads
