@@ -18,6 +18,7 @@ use Rattle.td_schema.specs.declared.layout.Layout.{Layout}
 use Rattle.td_store_rows.specs.GuaranteeTable.{AreBySerial, is_of, guarantee_row_of}
 use Rattle.td_store_rows.specs.declared.guarantees.stored.StoredGuarantee.{StoredGuarantee}
 use Rattle.td_store_rows.specs.Columns.{holder_typing, guarantee_typing}
+use Rattle.td_store_rows.specs.StoreReads.{IsOfVersion}
 use Rattle.td_store_rows.specs.StoreTables.{tables_in}
 use Rattle.td_store_audit_rows.specs.InPlace.{AreGuaranteesInPlace, IsGuaranteeInPlace}
 use Rattle.td_store_audit_rows.specs.Fields.{AreGuaranteeFields}
@@ -123,33 +124,33 @@ module _ (law : FoundHoldersTell) (layout : Layout) (trees : Trees) (country : L
         )
 
 -- what is told by the scan of the table, where a row isn't read
-pub told_unread : (scanned : Bool) (a : State) (country : List ℕ) (holders : List RawHolder) → FoundHoldersTell → GuaranteesAreRead
-    → scanned ≡ false → TellsRule (λ layout trees. TellsRead (guarantee_typing layout) AreGuaranteeFields trees scanned) S3 country holders a false
-told_unread scanned a country holders law read unread layout newest has tells known before = (
+pub told_unread : (version : ℕ) (scanned : Bool) (a : State) (country : List ℕ) (holders : List RawHolder) → FoundHoldersTell → GuaranteesAreRead
+    → scanned ≡ false → TellsRule (IsOfVersion version) (λ layout trees. TellsRead (guarantee_typing layout) AreGuaranteeFields trees scanned) S3 country holders a false
+told_unread version scanned a country holders law read unread layout own has tells known before = (
   λ t. absurd (false≢true t),
   λ keeps. absurd (false≢true (sym unread ∙ tells.1 (kept_read law layout a.now.trees country holders known read (before S1 (omega arith)) keeps))),
 )
 
 -- and by the holders' own, where each row is
-pub told_each : (scanned : Bool) (a : State) (country : List ℕ) (holders : List RawHolder) → FoundHoldersTell
+pub told_each : (version : ℕ) (scanned : Bool) (a : State) (country : List ℕ) (holders : List RawHolder) → FoundHoldersTell
     → IsTrue scanned → (result : Result Bool Error)
-    → IfOk result (TellsWhere (λ layout. AreTypedApart (guarantee_typing layout)) (λ layout trees. AllByRecursion (HasGuaranteesInPlace layout country trees) holders) a)
-    → IfOk result (λ keeps. TellsRule (λ layout trees. TellsRead (guarantee_typing layout) AreGuaranteeFields trees scanned) S3 country holders a keeps)
-told_each scanned a country holders law is (Err e) each = each
-told_each scanned a country holders law is (Ok told) each = λ layout newest has tells known before.
+    → IfOk result (TellsWhere (IsOfVersion version) (λ layout. AreTypedApart (guarantee_typing layout)) (λ layout trees. AllByRecursion (HasGuaranteesInPlace layout country trees) holders) a)
+    → IfOk result (λ keeps. TellsRule (IsOfVersion version) (λ layout trees. TellsRead (guarantee_typing layout) AreGuaranteeFields trees scanned) S3 country holders a keeps)
+told_each version scanned a country holders law is (Err e) each = each
+told_each version scanned a country holders law is (Ok told) each = λ layout own has tells known before.
     let trees = a.now.trees in
     let read = tells.0 is in
-    let whole = each layout newest has (typed_apart law layout trees country holders known read) in
+    let whole = each layout own has (typed_apart law layout trees country holders known read) in
     let rule = kept_each law layout trees country holders known read in
     (λ t. rule.1 (whole.0 t), λ keeps. whole.1 (rule.0 keeps))
 
 -- of one holder, by the rows that were found
-pub told_one : (country : List ℕ) (a : State) (raw : RawHolder) (count : ℕ) (rows : List StoredGuarantee) (b : Bool) → raw.grn_count ≡ Some count
-    → AreBySerial (is_of raw.holder) a rows → (IsTrue b ↔ AreGuaranteesInPlace country count (map guarantee_row_of rows))
-    → TellsWhere (λ layout. AreTypedApart (guarantee_typing layout)) (λ layout trees. HasGuaranteesInPlace layout country trees raw) a b
-told_one country a raw count rows b is order tells layout newest has apart =
+pub told_one : (version : ℕ) (country : List ℕ) (a : State) (raw : RawHolder) (count : ℕ) (rows : List StoredGuarantee) (b : Bool) → raw.grn_count ≡ Some count
+    → AreBySerial version (is_of raw.holder) a rows → (IsTrue b ↔ AreGuaranteesInPlace country count (map guarantee_row_of rows))
+    → TellsWhere (IsOfVersion version) (λ layout. AreTypedApart (guarantee_typing layout)) (λ layout trees. HasGuaranteesInPlace layout country trees raw) a b
+told_one version country a raw count rows b is order tells layout own has apart =
     let same : map guarantee_row_of rows ≡ guarantees_by raw.holder (tables_in layout a.now.trees) =
-    order layout newest has apart.typed (apart.apart raw.holder) in (
+    order layout own has apart.typed (apart.apart raw.holder) in (
       λ t. rw is (refl, subst (AreGuaranteesInPlace country count) same (tells.0 t)),
       λ placed. tells.1 (subst (AreGuaranteesInPlace country count) (sym same) (rw is at placed.1)),
     )

@@ -1,28 +1,32 @@
--- By what was handed on of a holder each of the holder's guarantees is covered exactly where it is in the file.
-use Rattle.std.proofs.Common.{◌≡◌, ℕ, ◌≤◌, List, map, sum_by, sym, ap, subst, arith, IsPermutation}
+-- By what was handed on of a holder each of the holder's guarantees is covered exactly where it is in the file, and each amount that
+-- is kept is right exactly where it is there.
+use Rattle.std.proofs.Common.{◌≡◌, ◌∙◌, ℕ, ◌≤◌, List, map, sum_by, sym, ap, subst, arith, IsPermutation}
 use Rattle.std.specs.Prelude.{◌↔◌, ◌==◌, filter}
 use Rattle.std.specs.List.{AllByRecursion}
-use Rattle.std.proofs.lemmas.List.Sorted.{IsPermutation-map}
+use Rattle.std.proofs.lemmas.List.Sorted.{IsPermutation-map, IsPermutation-sym}
 use Rattle.sqlite_trees.specs.Tree.{Trees}
-use Rattle.sqlite_trees.proofs.ListLemmas.{IsPermutation-filter, all-map, all_both, all_from_map}
+use Rattle.sqlite_trees.proofs.ListLemmas.{IsPermutation-filter, all-map, all-permutation, all_both, all_from_map}
 use Rattle.td_guarantee.specs.declared.guarantee.Guarantee.{Guarantee}
-use Rattle.td_table_model.specs.Gathering.{guarantees_by, movements_by, owner, part, place}
+use Rattle.td_table_model.specs.Gathering.{IsApart, guarantees_by, in_order, movements_by, owner, part, place}
 use Rattle.td_table_model.specs.Looking.{cents_of, counting_rows, lines_in_use}
-use Rattle.td_table_model.specs.Tables.{Keyed, Tables}
+use Rattle.td_table_model.specs.Tables.{Keyed, Kept, Tables}
 use Rattle.td_table_model.proofs.Counting.{filter_both}
+use Rattle.td_table_model.proofs.Grouped.{of_key_has}
 use Rattle.td_table_model.proofs.Orders.{in_order_permutes}
 use Rattle.td_table_model.proofs.Ruled.{are_mine}
 use Rattle.td_schema.specs.declared.layout.Layout.{Layout}
 use Rattle.td_store_rows.specs.GuaranteeTable.{guarantee_row_of}
+use Rattle.td_store_rows.specs.KeptTable.{kept_row_of}
 use Rattle.td_store_rows.specs.declared.guarantees.stored.StoredGuarantee.{StoredGuarantee}
+use Rattle.td_store_rows.specs.declared.guarantees.stored.KeptGuarantee.{KeptGuarantee}
 use Rattle.td_store_rows.specs.MovementTable.{serial_of_stored}
 use Rattle.td_store_rows.specs.declared.movements.stored.MovementSerial.{MovementSerial}
 use Rattle.td_store_rows.specs.declared.lines.stored.StoredLine.{StoredLine}
 use Rattle.td_store_rows.specs.StoreTables.{tables_in}
-use Rattle.td_store_load.specs.InUse.{total_on}
-use Rattle.td_store_load.proofs.Counted.{of_holder}
-use Rattle.td_store_audit.specs.Tallies.{IsCoveredBy, IsHandedOn, is_counting_row}
-use Rattle.td_store_audit.specs.InFile.{IsRowCovered}
+use Rattle.td_store_audit.specs.Totals.{total_on}
+use Rattle.td_store_audit.proofs.Counted.{of_holder}
+use Rattle.td_store_audit.specs.Tallies.{IsCoveredBy, IsHandedOn, IsKeptBy, is_counting_row}
+use Rattle.td_store_audit.specs.InFile.{IsRowCovered, IsRowKept}
 use Rattle.td_store_audit.specs.declared.tallies.HolderLines.{HolderLines}
 
 module _ (layout : Layout) (trees : Trees) (h : HolderLines) (is : IsHandedOn layout trees h) where
@@ -67,3 +71,26 @@ module _ (layout : Layout) (trees : Trees) (h : HolderLines) (is : IsHandedOn la
     λ all. all_from_map Is guarantee_row_of rows
         (subst (AllByRecursion Is) (sym found) (all_both (λ g. owner g ≡ H) (IsRowCovered layout trees) Is row_is (guarantees_by H t) (are_mine H t.guarantees) all)),
   )
+
+  abbrev Keeps : Keyed Kept → Type 0
+  Keeps k = k.row.used ≡ total_on k.serial serials lines
+
+  row_kept : (k : Keyed Kept) → owner k ≡ H → Keeps k → IsRowKept layout trees k
+  row_kept k own used = used ∙ in_use k.serial ∙ ap (λ h. sum_by cents_of (lines_in_use h k.serial t)) (sym own)
+
+  row_keeps : (k : Keyed Kept) → owner k ≡ H → IsRowKept layout trees k → Keeps k
+  row_keeps k own used = used ∙ ap (λ h. sum_by cents_of (lines_in_use h k.serial t)) own ∙ sym (in_use k.serial)
+
+  -- and the amounts that are kept are those sums exactly where they are in the file
+  pub amounts_tell : (rows : List KeptGuarantee) → IsApart place (part H t.kept) → map kept_row_of rows ≡ in_order place (part H t.kept)
+      → AllByRecursion (IsKeptBy h) rows ↔ AllByRecursion (IsRowKept layout trees) (part H t.kept)
+  amounts_tell rows apart found =
+      let ordered = in_order_permutes place (part H t.kept) apart in (
+        λ all. all_both (λ k. owner k ≡ H) Keeps (IsRowKept layout trees) row_kept (part H t.kept) (of_key_has owner H t.kept)
+            (all-permutation Keeps (in_order place (part H t.kept)) (part H t.kept) (IsPermutation-sym (part H t.kept) (in_order place (part H t.kept)) ordered)
+            (subst (AllByRecursion Keeps) found (all-map Keeps kept_row_of rows all))),
+        λ all. all_from_map Keeps kept_row_of rows
+            (subst (AllByRecursion Keeps) (sym found)
+            (all-permutation Keeps (part H t.kept) (in_order place (part H t.kept)) ordered
+            (all_both (λ k. owner k ≡ H) (IsRowKept layout trees) Keeps row_keeps (part H t.kept) (of_key_has owner H t.kept) all))),
+      )

@@ -27,7 +27,7 @@ use Rattle.td_table_model.proofs.Orders.{in_order_permutes}
 use Rattle.td_table_model.proofs.Rebuilt.{all_in_order, numbered_within}
 use Rattle.td_table_model.proofs.Ruled.{are_mine, lines_mine}
 use Rattle.td_movement.specs.declared.movement.Movement.{Movement}
-use Rattle.td_store_load.proofs.Sums.{sum_by-flat_map, sum_by-passing, sum_by-same}
+use Rattle.td_store_audit.proofs.Sums.{sum_by-flat_map, sum_by-passing, sum_by-same}
 
 -- numbered rows are found by their numbers
 pub found_by_own : {R : Type 0} (key : R → ℕ) (n : ℕ) (rows : List R) → IsNumbered key n rows → AllByRecursion (λ r. row_at key (key r) rows ≡ Some r) rows

@@ -1,6 +1,7 @@
 mod Equal
 mod Unique
 mod Ruled
+mod AmountColumn
 mod Parents
 mod Checked
 mod HoldersKept
@@ -12,8 +13,12 @@ mod HoldersTold
 mod GuaranteesKept
 mod MovementsKept
 mod Walking
+mod Sums
+mod Counted
 mod InUse
+mod UseKept
 mod CoverKept
+mod AmountsKept
 mod Serials
 mod HandedOn
 mod Runs

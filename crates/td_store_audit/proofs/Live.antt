@@ -9,7 +9,7 @@ use Rattle.td_store_audit_rows.specs.Ids.{HaveAllIds}
 use Rattle.td_store_audit_rows.specs.Laws.{AreKept}
 use Rattle.td_store_audit.specs.Keeping.{KeepsTables, SchemaKeeps, SchemaKeepsTables}
 use Rattle.td_store_audit.proofs.HoldersKept.{holders_kept}
-use Rattle.td_store_audit.proofs.Tables.{codes_kept, guarantees_kept, lines_kept, movements_kept}
+use Rattle.td_store_audit.proofs.Tables.{amounts_kept, codes_kept, guarantees_kept, lines_kept, movements_kept}
 
 -- what trees keep that obey the schema of a layout
 pub schema_keeps : (P : Layout → Trees → Type 0) → ((layout : Layout) (trees : Trees) → Obeys (schema_of layout) trees → HaveAllIds layout trees → P layout trees) → SchemaKeeps P
@@ -23,6 +23,7 @@ all_kept layout trees obeys ids =
       numbers = holders.0;
       holders = holders.1;
       guarantees = guarantees_kept layout trees obeys ids;
+      amounts = amounts_kept layout trees obeys ids;
       codes = codes_kept layout trees obeys ids;
       movements = movements_kept layout trees obeys ids;
       lines = lines_kept layout trees obeys ids;

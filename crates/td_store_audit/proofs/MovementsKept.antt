@@ -29,6 +29,7 @@ use Rattle.td_store_audit_rows.specs.declared.holders.RawHolder.{RawHolder}
 use Rattle.td_store_audit.specs.Auditable.{IsAuditable, TellsRule}
 use Rattle.td_store_audit.specs.InFile.{AreTypedApart, HasMovementsInPlace, TellsWhere}
 use Rattle.td_store_audit.proofs.HoldersTold.{holders_tell, of_pairs, owners}
+use Rattle.td_store_rows.specs.StoreReads.{IsAny}
 
 abbrev AreAllRead : Layout → Trees → Type 0
 AreAllRead layout trees = AllRows movement_typing (IsReadRow movement_typing AreMovementFields) trees
@@ -126,8 +127,8 @@ module _ (law : FoundHoldersTell) (layout : Layout) (trees : Trees) (country : L
 
 -- what is told by the scan of the table, where a row isn't read
 pub told_unread : (scanned : Bool) (a : State) (country : List ℕ) (holders : List RawHolder) → FoundHoldersTell → MovementsAreRead
-    → scanned ≡ false → TellsRule (λ layout trees. TellsRead movement_typing AreMovementFields trees scanned) S5 country holders a false
-told_unread scanned a country holders law read unread layout newest has tells known before = (
+    → scanned ≡ false → TellsRule IsAny (λ layout trees. TellsRead movement_typing AreMovementFields trees scanned) S5 country holders a false
+told_unread scanned a country holders law read unread layout own has tells known before = (
   λ t. absurd (false≢true t),
   λ keeps. absurd (false≢true (sym unread ∙ tells.1 (kept_read law layout a.now.trees country holders known read (before S1 (omega arith)) keeps))),
 )
@@ -135,21 +136,21 @@ told_unread scanned a country holders law read unread layout newest has tells kn
 -- and by the holders' own, where each row is
 pub told_each : (scanned : Bool) (a : State) (country : List ℕ) (holders : List RawHolder) → FoundHoldersTell
     → IsTrue scanned → {X : Type 0} (result : Result (Option X) Error)
-    → IfOk result (λ found. TellsWhere (λ layout. AreTypedApart movement_typing) (λ layout trees. AllByRecursion (HasMovementsInPlace layout country trees) holders) a (is_some found))
-    → IfOk result (λ found. TellsRule (λ layout trees. TellsRead movement_typing AreMovementFields trees scanned) S5 country holders a (is_some found))
+    → IfOk result (λ found. TellsWhere IsAny (λ layout. AreTypedApart movement_typing) (λ layout trees. AllByRecursion (HasMovementsInPlace layout country trees) holders) a (is_some found))
+    → IfOk result (λ found. TellsRule IsAny (λ layout trees. TellsRead movement_typing AreMovementFields trees scanned) S5 country holders a (is_some found))
 told_each scanned a country holders law is (Err e) each = each
-told_each scanned a country holders law is (Ok found) each = λ layout newest has tells known before.
+told_each scanned a country holders law is (Ok found) each = λ layout own has tells known before.
     let trees = a.now.trees in
     let read = tells.0 is in
-    let whole = each layout newest has (typed_apart law layout trees country holders known read) in
+    let whole = each layout own has (typed_apart law layout trees country holders known read) in
     let rule = kept_each law layout trees country holders known read in
     (λ t. rule.1 (whole.0 t), λ keeps. whole.1 (rule.0 keeps))
 
 -- of one holder, by the rows that were found
 pub told_one : (country : List ℕ) (a : State) (raw : RawHolder) (count : ℕ) (rows : List StoredMovement) (b : Bool) → raw.mrn_count ≡ Some count
     → AreBySerial (is_of raw.holder) a rows → (IsTrue b ↔ AreMovementsInPlace country count (map movement_row_of rows))
-    → TellsWhere (λ layout. AreTypedApart movement_typing) (λ layout trees. HasMovementsInPlace layout country trees raw) a b
-told_one country a raw count rows b is order tells layout newest has apart =
+    → TellsWhere IsAny (λ layout. AreTypedApart movement_typing) (λ layout trees. HasMovementsInPlace layout country trees raw) a b
+told_one country a raw count rows b is order tells layout own has apart =
     let same : map movement_row_of rows ≡ movements_by raw.holder (tables_in layout a.now.trees) =
     order layout has apart.typed (apart.apart raw.holder) in (
       λ t. rw is (refl, subst (AreMovementsInPlace country count) same (tells.0 t)),

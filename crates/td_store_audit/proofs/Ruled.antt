@@ -28,7 +28,7 @@ pub both : (a b : Bool) → (a && b) ≡ true → (a ≡ true) × (b ≡ true)
 both true b is = (refl, is)
 both false b is = absurd (true≢false (sym is))
 
-never : (a : Bool) → not a ≡ true → a ≡ false
+pub never : (a : Bool) → not a ≡ true → a ≡ false
 never true is = absurd (true≢false (sym is))
 never false is = refl
 

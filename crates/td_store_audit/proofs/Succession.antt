@@ -9,16 +9,14 @@ use Rattle.typed_sql.specs.Writing.{HasSchema}
 use Rattle.td_table_model.specs.declared.rule.Rule.{Rule}
 use Rattle.td_table_model.specs.declared.rule.Rule.TheVariants.{S1, S2, S3, S4, S5, S6, S7, S8}
 use Rattle.td_table_model.specs.Rules.{rule_no}
-use Rattle.td_schema.specs.Layouts.{IsNewest, schema_of}
+use Rattle.td_schema.specs.Layouts.{schema_of}
 use Rattle.td_schema.specs.declared.layout.Layout.{Layout}
-use Rattle.td_store_rows.specs.StoreReads.{OnlyReadNewest}
 use Rattle.td_store_audit_rows.specs.Untyped.{IsFirstBrokenUntyped, KeepsUntyped}
-use Rattle.td_store_rows.specs.Columns.{line_typing}
 use Rattle.td_store_audit_rows.specs.declared.holders.RawHolder.{RawHolder}
 use Rattle.td_store_audit_rows.specs.declared.tables.Readable.{Readable}
 use Rattle.td_store_audit.specs.Auditable.{TellsS2}
 use Rattle.td_store_audit.specs.Broken.{HasOffice, IsNextRule}
-use Rattle.td_store_audit.specs.InFile.{IsSoWhere, TellsWhere}
+use Rattle.td_store_audit.specs.InFile.{IsSoWhere, OnlyReadIn, TellsWhere}
 use Rattle.td_store_audit.specs.Premises.{AreHoldersAuditable, TellsCodes, TellsLines}
 use Rattle.td_store_audit.proofs.Reading.{so_before}
 
@@ -71,7 +69,7 @@ one_more_kept layout trees rule before keeps other below = by_test (nat_eq (rule
     by_test true same = subst (KeepsUntyped layout trees) (same_rule rule other (grind (arith, nat_tests, same))) keeps
     by_test false differs = before other (grind (arith, nat_tests, differs, below))
 
-module _ (country : List ℕ) (holders : List RawHolder) (readable : Readable) where
+module _ (At : Layout → Type 0) (country : List ℕ) (holders : List RawHolder) (readable : Readable) where
   abbrev IsNext : Rule → Layout → Trees → Type 0
   IsNext rule = IsNextRule rule country holders readable
 
@@ -86,20 +84,19 @@ module _ (country : List ℕ) (holders : List RawHolder) (readable : Readable) w
   module _ (state : State) where
     -- it is told whether the rule is kept, where those before it are
     abbrev TellsNext : Rule → Bool → Type 0
-    TellsNext rule keeps = TellsWhere (IsNext rule) (λ layout trees. KeepsUntyped layout trees rule) state keeps
+    TellsNext rule keeps = TellsWhere At (IsNext rule) (λ layout trees. KeepsUntyped layout trees rule) state keeps
 
     pub holders_next : (keeps : Bool) → TellsS2 holders keeps → TellsNext S2 keeps
-    holders_next keeps told layout newest has next = told layout state.now.trees next.office.known.holders_are next.office.known.order
+    holders_next keeps told layout own has next = told layout state.now.trees next.office.known.holders_are next.office.known.order
 
     -- the rule of a table whose rows were walked along
-    pub table_next : (rule : Rule) (keeps : Bool) → ((layout : Layout) → IsNewest layout → HasSchema state (schema_of layout) → IsNext rule layout state.now.trees → IsTrue keeps ↔ KeepsUntyped layout state.now.trees rule)
+    pub table_next : (rule : Rule) (keeps : Bool) → ((layout : Layout) → At layout → HasSchema state (schema_of layout) → IsNext rule layout state.now.trees → IsTrue keeps ↔ KeepsUntyped layout state.now.trees rule)
         → TellsNext rule keeps
     table_next rule keeps told = told
 
     -- what codes and lines are audited by
-    common : (rule : Rule) → 3 < rule_no rule → (layout : Layout) → IsNewest layout → HasSchema state (schema_of layout) → IsNext rule layout state.now.trees → AreHoldersAuditable layout state holders
-    common rule later layout newest has next = record {
-      newest = newest;
+    common : (rule : Rule) → 3 < rule_no rule → (layout : Layout) → HasSchema state (schema_of layout) → IsNext rule layout state.now.trees → AreHoldersAuditable layout state holders
+    common rule later layout has next = record {
       schema = has;
       holders = next.office.known.holders_are;
       order = next.office.known.order;
@@ -109,18 +106,18 @@ module _ (country : List ℕ) (holders : List RawHolder) (readable : Readable) w
 
     pub codes_next : (keeps : Bool)
         → TellsCodes readable.codes holders state keeps → TellsNext S4 keeps
-    codes_next keeps told layout newest has next =
+    codes_next keeps told layout own has next =
         told layout (record {
-          common = common S4 (omega arith) layout newest has next;
+          common = common S4 (omega arith) layout has next;
           ids = next.office.known.kept.ids.codes;
           owned = λ typed. (next.office.known.kept.codes typed).owned;
         }) next.office.told.codes
 
     pub lines_next : (keeps : Bool)
         → TellsLines readable.lines holders state keeps → TellsNext S6 keeps
-    lines_next keeps told layout newest has next =
+    lines_next keeps told layout own has next =
         told layout (record {
-          common = common S6 (omega arith) layout newest has next;
+          common = common S6 (omega arith) layout has next;
           ids = next.office.known.kept.ids.lines;
           owned = λ typed. (next.office.known.kept.lines typed).owned;
           apart = λ typed. (next.office.known.kept.lines typed).apart;
@@ -128,26 +125,26 @@ module _ (country : List ℕ) (holders : List RawHolder) (readable : Readable) w
         }) next.office.told.lines
 
   -- One of them is asked, where those before it are kept.
-  module _ (Q : Layout → Trees → Type 0) (a : State) (rule : Rule) (next : IsSoWhere Q (IsNext rule) a) (keeps : Bool) where
+  module _ (Q : Layout → Trees → Type 0) (a : State) (rule : Rule) (next : IsSoWhere At Q (IsNext rule) a) (keeps : Bool) where
     -- what was told of the file afterwards
-    pub told_before : (b : State) → OnlyReadNewest a b → TellsNext b rule keeps → TellsWhere Q (λ layout trees. KeepsUntyped layout trees rule) a keeps
-    told_before b read told layout newest has so = so_before (IsNext rule) (λ layout trees. IsTrue keeps ↔ KeepsUntyped layout trees rule) a b read told layout newest has (next layout newest has so)
+    pub told_before : (b : State) → OnlyReadIn At a b → TellsNext b rule keeps → TellsWhere At Q (λ layout trees. KeepsUntyped layout trees rule) a keeps
+    told_before b read told layout own has so = so_before At (IsNext rule) (λ layout trees. IsTrue keeps ↔ KeepsUntyped layout trees rule) a b read told layout own has (next layout own has so)
 
-    module _ (told : TellsWhere Q (λ layout trees. KeepsUntyped layout trees rule) a keeps) where
-      all_below : IsTrue keeps → IsSoWhere Q (AreKeptBelow (rule_no rule + 1)) a
-      all_below is layout newest has so = one_more_kept layout a.now.trees rule (next layout newest has so).before ((told layout newest has so).0 is)
+    module _ (told : TellsWhere At Q (λ layout trees. KeepsUntyped layout trees rule) a keeps) where
+      all_below : IsTrue keeps → IsSoWhere At Q (AreKeptBelow (rule_no rule + 1)) a
+      all_below is layout own has so = one_more_kept layout a.now.trees rule (next layout own has so).before ((told layout own has so).0 is)
 
-      pub kept_on : IsTrue keeps → (following : Rule) → rule_no following ≡ rule_no rule + 1 → IsSoWhere Q (IsNext following) a
-      kept_on is following number layout newest has so = record {
-        office = (next layout newest has so).office;
-        before = λ other below. all_below is layout newest has so other (omega (arith, below, number));
+      pub kept_on : IsTrue keeps → (following : Rule) → rule_no following ≡ rule_no rule + 1 → IsSoWhere At Q (IsNext following) a
+      kept_on is following number layout own has so = record {
+        office = (next layout own has so).office;
+        before = λ other below. all_below is layout own has so other (omega (arith, below, number));
       }
 
-      pub broken_here : keeps ≡ false → IsSoWhere Q (λ layout trees. IsFirstBrokenUntyped layout trees rule) a
-      broken_here is layout newest has so = record {
-        broken = λ kept. false≢true (sym is ∙ (told layout newest has so).1 kept);
-        before = (next layout newest has so).before;
+      pub broken_here : keeps ≡ false → IsSoWhere At Q (λ layout trees. IsFirstBrokenUntyped layout trees rule) a
+      broken_here is layout own has so = record {
+        broken = λ kept. false≢true (sym is ∙ (told layout own has so).1 kept);
+        before = (next layout own has so).before;
       }
 
-      pub all_kept : IsTrue keeps → rule_no rule ≡ 8 → IsSoWhere Q (λ layout trees. (other : Rule) → KeepsUntyped layout trees other) a
-      all_kept is last layout newest has so other = all_below is layout newest has so other (omega (arith, last, (bounds other).1))
+      pub all_kept : IsTrue keeps → rule_no rule ≡ 8 → IsSoWhere At Q (λ layout trees. (other : Rule) → KeepsUntyped layout trees other) a
+      all_kept is last layout own has so other = all_below is layout own has so other (omega (arith, last, (bounds other).1))

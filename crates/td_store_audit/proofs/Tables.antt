@@ -1,26 +1,30 @@
--- What a store's schema keeps of guarantees, codes, movements and lines.
-use Rattle.std.proofs.Common.{◌≡◌, ℕ, true, List, [], ◌∷◌, refl, ap}
+-- What a store's schema keeps of guarantees, the amounts in use on them, codes, movements and lines.
+use Rattle.std.proofs.Common.{◌≡◌, ◌≤◌, ℕ, true, List, [], ◌∷◌, refl, ap, arith, subst, sym}
 use Rattle.std.specs.Prelude.{IsSome, ◌&&◌, ◌==◌, bytes_eq}
 use Rattle.std.specs.List.{AllByRecursion}
 use Rattle.keyed_rows.specs.Rows.{row_at}
 use Rattle.sqlite_value.specs.Order.{Row, column}
 use Rattle.sqlite_trees.specs.Tree.{Trees}
-use Rattle.sqlite_trees.proofs.ListLemmas.{all-map, all_both, all_of}
+use Rattle.sqlite_trees.proofs.ListLemmas.{all-map, all_both, all_of, all_weaker}
 use Rattle.sqlite_schema.specs.Rules.{Obeys}
+use Rattle.sqlite_typed.proofs.TestLemmas.{then_value}
 use Rattle.td_guarantee.specs.declared.guarantee.Guarantee.{Guarantee}
 use Rattle.td_movement.specs.declared.movement.Movement.{Movement}
 use Rattle.td_table_model.specs.Gathering.{holder_no, no_of, owner, place}
 use Rattle.td_table_model.specs.Stored.{AreOfHolders}
-use Rattle.td_table_model.specs.Tables.{Keyed}
+use Rattle.td_table_model.specs.Tables.{Keyed, Kept}
 use Rattle.typed_sql.specs.Typed.{IsTypedRow, Typing, row_of, typed_rows}
-use Rattle.typed_sql.specs.Values.{number_value}
+use Rattle.typed_sql.specs.Values.{number_in, number_value}
 use Rattle.td_schema.specs.Layouts.{guarantees_tree, schema_of}
 use Rattle.td_schema.specs.declared.layout.Layout.{Layout}
-use Rattle.td_store_rows.specs.Columns.{holder_typing, guarantee_typing, code_typing, movement_typing, line_typing}
+use Rattle.td_store_rows.specs.Columns.{holder_typing, guarantee_typing, kept_typing, code_typing, movement_typing, line_typing}
+use Rattle.td_store_rows.specs.StoreReads.{KeepsUse}
 use Rattle.td_store_rows.specs.StoreTables.{tables_in}
 use Rattle.td_store_audit_rows.specs.Ids.{HaveAllIds}
 use Rattle.td_store_audit_rows.specs.Kept.{AreCodesKept, AreGuaranteesKept, AreLinesKept, AreMovementsKept}
 use Rattle.td_store_audit_rows.specs.Untyped.{AllRows}
+use Rattle.td_store_audit_rows.specs.Laws.{AreAmountsKept}
+use Rattle.td_store_audit.proofs.AmountColumn.{IsAmountRow, amount_up_to, amounts_ruled}
 use Rattle.td_store_audit.proofs.HoldersKept.{owned, owned_through}
 use Rattle.td_store_audit.proofs.Keyed.{all_three, numbers_equal, of_three, of_two, texts_equal}
 use Rattle.td_store_audit.proofs.Ruled.{AreRuled, HasParent, both, ruled}
@@ -60,6 +64,30 @@ module _ (layout : Layout) (trees : Trees) (obeys : Obeys (schema_of layout) tre
     without_codes = all-map (λ (g : Keyed Guarantee). g.row.codes ≡ []) (row_of (guarantee_typing layout)) (trees (guarantees_tree layout))
         (all_of (λ r. (row_of (guarantee_typing layout) r).row.codes ≡ []) (λ r. refl) (trees (guarantees_tree layout)));
   }
+
+  pub amounts_kept : KeepsUse layout → AllRows (guarantee_typing layout) (IsTypedRow (guarantee_typing layout)) trees → AreAmountsKept layout trees
+  amounts_kept keep typed =
+      let each = all_both (IsTypedRow (guarantee_typing layout)) IsAmountRow IsAmountIn one_amount (trees (guarantees_tree layout)) typed (amounts_ruled layout trees obeys keep) in
+      record {
+        typed = all_weaker IsAmountIn (IsTypedRow (kept_typing layout)) (λ r is. is.0) (trees (guarantees_tree layout)) each;
+        within = all-map IsWithin (row_of (kept_typing layout)) (trees (guarantees_tree layout))
+            (all_weaker IsAmountIn (λ r. IsWithin (row_of (kept_typing layout) r)) (λ r is. is.1) (trees (guarantees_tree layout)) each);
+      }
+    where
+      IsWithin : Keyed Kept → Type 0
+      IsWithin k = k.row.used ≤ k.row.guarantee.reference
+
+      IsAmountIn : Row → Type 0
+      IsAmountIn r = IsTypedRow (kept_typing layout) r × IsWithin (row_of (kept_typing layout) r)
+
+      one_amount : (r : Row) → IsTypedRow (guarantee_typing layout) r → IsAmountRow r → IsAmountIn r
+      one_amount r is amount =
+          let it = amount_up_to r (row_of (guarantee_typing layout) r).row.reference (ap (λ l. column l 3) is) amount in
+          let used : column r 7 ≡ number_value (number_in (column r 7)) = subst (λ v. v ≡ number_value (number_in v)) (sym it.is) refl in (
+            then_value (ap (λ l. column l 0) is) (then_value (ap (λ l. column l 1) is) (then_value (ap (λ l. column l 2) is)
+                (then_value (ap (λ l. column l 3) is) (then_value (ap (λ l. column l 4) is) (then_value (ap (λ l. column l 5) is) (then_value used refl)))))),
+            omega (arith, ap number_in it.is, it.most),
+          )
 
   pub codes_kept : AllRows code_typing (IsTypedRow code_typing) trees → AreCodesKept (tables_in layout trees)
   codes_kept typed = record {

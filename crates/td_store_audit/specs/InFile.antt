@@ -1,15 +1,16 @@
 -- Whether a holder's rows in a store's file are in their places, and who tells it.
-use Rattle.std.specs.Prelude.{◌↔◌, ℕ, ◌≤◌, Bool, List, unwrap_or, IsTrue}
+use Rattle.std.specs.Prelude.{◌≡◌, ◌↔◌, ℕ, ◌≤◌, Bool, List, unwrap_or, IsTrue}
 use Rattle.std.specs.List.{AllByRecursion, sum_by}
 use Rattle.sqlite_trees.specs.Tree.{Trees}
 use Rattle.sqlite.specs.State.{State}
 use Rattle.td_guarantee.specs.declared.guarantee.Guarantee.{Guarantee}
 use Rattle.td_table_model.specs.Gathering.{IsApart, guarantees_by, movements_by, part, place}
 use Rattle.td_table_model.specs.Looking.{cents_of, lines_in_use}
-use Rattle.td_table_model.specs.Tables.{Keyed}
+use Rattle.td_table_model.specs.Tables.{Keyed, Kept}
 use Rattle.typed_sql.specs.Typed.{AreTyped, Typing, typed_rows}
 use Rattle.typed_sql.specs.Writing.{HasSchema}
-use Rattle.td_schema.specs.Layouts.{IsNewest, schema_of}
+use Rattle.typed_sql.specs.Reading.{OnlyRead}
+use Rattle.td_schema.specs.Layouts.{schema_of}
 use Rattle.td_schema.specs.declared.layout.Layout.{Layout}
 use Rattle.td_store_rows.specs.StoreTables.{tables_in}
 use Rattle.td_store_audit_rows.specs.InPlace.{AreGuaranteesInPlace, AreMovementsInPlace}
@@ -39,10 +40,22 @@ IsRowCovered layout trees g = sum_by cents_of (lines_in_use g.holder g.serial (t
 abbrev pub IsHolderCoveredInFile : Layout → Trees → RawHolder → Type 0
 IsHolderCoveredInFile layout trees h = AllByRecursion (IsRowCovered layout trees) (guarantees_by h.holder (tables_in layout trees))
 
--- where the first is so of the tables of a file of the newest version, so is the second; and it is told whether it is
-abbrev pub IsSoWhere : (Layout → Trees → Type 0) → (Layout → Trees → Type 0) → State → Type 0
-IsSoWhere Q P state =
-    (layout : Layout) → IsNewest layout → HasSchema state (schema_of layout) → Q layout state.now.trees → P layout state.now.trees
+-- the amount that a row keeps is what is in use on the guarantee in it
+abbrev pub IsRowKept : Layout → Trees → Keyed Kept → Type 0
+IsRowKept layout trees k = k.row.used ≡ sum_by cents_of (lines_in_use k.holder k.serial (tables_in layout trees))
 
-abbrev pub TellsWhere : (Layout → Trees → Type 0) → (Layout → Trees → Type 0) → State → Bool → Type 0
-TellsWhere Q P state is = IsSoWhere Q (λ layout trees. IsTrue is ↔ P layout trees) state
+-- so it is in each of the holder's rows
+abbrev pub IsHolderKeptInFile : Layout → Trees → RawHolder → Type 0
+IsHolderKeptInFile layout trees h = AllByRecursion (IsRowKept layout trees) (part h.holder (tables_in layout trees).kept)
+
+-- where the first is so of the tables of a file of one of these layouts, so is the second; and it is told whether it is
+abbrev pub IsSoWhere : (Layout → Type 0) → (Layout → Trees → Type 0) → (Layout → Trees → Type 0) → State → Type 0
+IsSoWhere At Q P state =
+    (layout : Layout) → At layout → HasSchema state (schema_of layout) → Q layout state.now.trees → P layout state.now.trees
+
+abbrev pub TellsWhere : (Layout → Type 0) → (Layout → Trees → Type 0) → (Layout → Trees → Type 0) → State → Bool → Type 0
+TellsWhere At Q P state is = IsSoWhere At Q (λ layout trees. IsTrue is ↔ P layout trees) state
+
+-- the calls between two states have only read, in a file of one of these layouts
+abbrev pub OnlyReadIn : (Layout → Type 0) → State → State → Type 0
+OnlyReadIn At old new = (layout : Layout) → At layout → OnlyRead (schema_of layout) old new

@@ -8,11 +8,12 @@ use Rattle.typed_sql.specs.Writing.{HasSchema}
 use Rattle.td_schema.specs.Layouts.{schema_of}
 use Rattle.td_schema.specs.declared.layout.Layout.{Layout}
 use Rattle.td_store_rows.specs.Columns.{holder_typing, guarantee_typing, code_typing, movement_typing, line_typing}
+use Rattle.td_store_rows.specs.StoreReads.{KeepsUse}
 use Rattle.td_store_rows.specs.StoreTables.{tables_in}
 use Rattle.td_store_audit_rows.specs.Ids.{HaveAllIds}
 use Rattle.td_store_audit_rows.specs.Kept.{AreCodesKept, AreGuaranteesKept, AreHoldersKept, AreLinesKept, AreMovementsKept}
 use Rattle.td_store_audit_rows.specs.Untyped.{AllRows, HasNumber}
-use Rattle.td_store_audit_rows.specs.Laws.{AreKept}
+use Rattle.td_store_audit_rows.specs.Laws.{AreAmountsKept, AreKept}
 
 -- a database with a store's tables keeps this of their rows, where their rowids are integers and no two are the same
 abbrev pub SchemaKeeps : (Layout → Trees → Type 0) → Type 0
@@ -27,6 +28,11 @@ SchemaKeepsHolders = SchemaKeeps (λ layout trees. AllRows holder_typing HasNumb
 abbrev pub SchemaKeepsGuarantees : Type 0
 SchemaKeepsGuarantees =
     SchemaKeeps (λ layout trees. AllRows (guarantee_typing layout) (IsTypedRow (guarantee_typing layout)) trees → AreGuaranteesKept (tables_in layout trees))
+
+-- where a file keeps amounts in use, and the guarantees' rows are typed: their type, that none is NULL, and their CHECK
+abbrev pub SchemaKeepsAmounts : Type 0
+SchemaKeepsAmounts =
+    SchemaKeeps (λ layout trees. KeepsUse layout → AllRows (guarantee_typing layout) (IsTypedRow (guarantee_typing layout)) trees → AreAmountsKept layout trees)
 
 abbrev pub SchemaKeepsCodes : Type 0
 SchemaKeepsCodes = SchemaKeeps (λ layout trees. AllRows code_typing (IsTypedRow code_typing) trees → AreCodesKept (tables_in layout trees))

@@ -5,4 +5,5 @@ pub mod InPlace
 pub mod Found
 pub mod Premises
 pub mod Broken
+pub mod Totals
 pub mod Tallies

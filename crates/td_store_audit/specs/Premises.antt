@@ -9,7 +9,7 @@ use Rattle.td_table_model.specs.declared.rule.Rule.TheVariants.{S3, S4, S5, S6}
 use Rattle.td_table_model.specs.Gathering.{part}
 use Rattle.td_table_model.specs.Rules.{HasCountry}
 use Rattle.td_table_model.specs.Stored.{AreOfHolders}
-use Rattle.td_schema.specs.Layouts.{IsNewest, schema_of}
+use Rattle.td_schema.specs.Layouts.{schema_of}
 use Rattle.td_schema.specs.declared.layout.Layout.{Layout}
 use Rattle.td_store_audit_rows.specs.Fields.{AreCodeFields, AreLineFields}
 use Rattle.td_store_audit_rows.specs.Scans.{TellsRead}
@@ -20,9 +20,8 @@ use Rattle.td_store_audit_rows.specs.Untyped.{AllRows, KeepsUntyped}
 use Rattle.td_store_audit_rows.specs.declared.holders.RawHolder.{RawHolder}
 use Rattle.td_store_audit.specs.InPlace.{AreAllLinesInPlace, AreCodesInPlace, AreNumbersApart}
 
--- the file has the tables of a layout of the newest version, these are all holders, the country is one, and the guarantees keep their rule
+-- the file has the tables of the layout, these are all holders, the country is one, and the guarantees keep their rule
 pub record AreHoldersAuditable (layout : Layout) (state : State) (found : List RawHolder) : Type 0 where
-  pub newest : IsNewest layout
   pub schema : HasSchema state (schema_of layout)
   pub holders : AreHoldersIn state.now.trees found
   pub order : NumbersRise found

@@ -8,15 +8,17 @@ use Rattle.td_movement.specs.States.{is_counting}
 use Rattle.td_movement.specs.declared.movement.Movement.{Movement}
 use Rattle.td_table_model.specs.Gathering.{IsApart, movements_by, part, place}
 use Rattle.td_table_model.specs.Tables.{Keyed}
-use Rattle.td_table_model.specs.declared.rule.Rule.TheVariants.{S8}
+use Rattle.td_table_model.specs.declared.rule.Rule.TheVariants.{S7}
 use Rattle.typed_sql.specs.Typed.{AreTyped}
 use Rattle.td_schema.specs.declared.layout.Layout.{Layout}
-use Rattle.td_store_rows.specs.Columns.{guarantee_typing, line_typing, movement_typing}
+use Rattle.td_store_rows.specs.Columns.{guarantee_typing, kept_typing, line_typing, movement_typing}
 use Rattle.td_store_rows.specs.declared.guarantees.stored.StoredGuarantee.{StoredGuarantee}
+use Rattle.td_store_rows.specs.declared.guarantees.stored.KeptGuarantee.{KeptGuarantee}
 use Rattle.td_store_rows.specs.LineTable.{line_row_of}
 use Rattle.td_store_rows.specs.MovementTable.{serial_of_stored}
+use Rattle.td_store_rows.specs.StoreReads.{IsAny, KeepsUse}
 use Rattle.td_store_rows.specs.StoreTables.{tables_in}
-use Rattle.td_store_load.specs.InUse.{total_on}
+use Rattle.td_store_audit.specs.Totals.{total_on}
 use Rattle.td_store_audit_rows.specs.declared.holders.RawHolder.{RawHolder}
 use Rattle.td_store_audit.specs.Auditable.{IsAuditable, KeepsBefore}
 use Rattle.td_store_audit.specs.InFile.{AreTypedApart, IsSoWhere}
@@ -47,14 +49,15 @@ AreItsLines layout trees h = IsPermutation (part h.movements.raw.holder (tables_
 
 -- so they are of each holder, where the tables that they are of are typed
 abbrev pub AreAllCounting : State → List CountingSerials → Type 0
-AreAllCounting state handed = IsSoWhere (λ layout. AreTypedApart movement_typing) (λ layout trees. AllByRecursion (AreCounting layout trees) handed) state
+AreAllCounting state handed = IsSoWhere IsAny (λ layout. AreTypedApart movement_typing) (λ layout trees. AllByRecursion (AreCounting layout trees) handed) state
 
 abbrev pub AreAllLines : State → List HolderLines → Type 0
-AreAllLines state handed = IsSoWhere (λ layout. AreTyped line_typing) (λ layout trees. AllByRecursion (AreItsLines layout trees) handed) state
+AreAllLines state handed = IsSoWhere IsAny (λ layout. AreTyped line_typing) (λ layout trees. AllByRecursion (AreItsLines layout trees) handed) state
 
--- what was handed on of a holder is so, and the holder's guarantees are typed
+-- what was handed on of a holder is so, and the holder's guarantees are typed, with the amounts in use where they are kept
 pub record IsHandedOn (layout : Layout) (trees : Trees) (h : HolderLines) : Type 0 where
   pub guarantees : AreTypedApart (guarantee_typing layout) trees
+  pub kept : KeepsUse layout → AreTypedApart (kept_typing layout) trees
   pub apart : IsApart place (part h.movements.raw.holder (tables_in layout trees).movements)
   pub counting : AreCounting layout trees h.movements
   pub lines : AreItsLines layout trees h
@@ -63,9 +66,13 @@ pub record IsHandedOn (layout : Layout) (trees : Trees) (h : HolderLines) : Type
 abbrev pub IsCoveredBy : HolderLines → StoredGuarantee → Type 0
 IsCoveredBy h g = total_on g.serial h.movements.serials.items h.lines.items ≤ g.guarantee.reference
 
--- the rules before S8 are kept, and what was handed on of each holder is so
-pub record IsCoverAuditable (country : List ℕ) (handed : List HolderLines) (layout : Layout) (trees : Trees) : Type 0 where
+-- and by it the amount that a row keeps is what is in use on its guarantee
+abbrev pub IsKeptBy : HolderLines → KeptGuarantee → Type 0
+IsKeptBy h k = k.used ≡ total_on k.serial h.movements.serials.items h.lines.items
+
+-- the rules before S7 are kept, and what was handed on of each holder is so
+pub record IsUseAuditable (country : List ℕ) (handed : List HolderLines) (layout : Layout) (trees : Trees) : Type 0 where
   pub known : IsAuditable layout trees country (map raw_holder_of handed)
-  pub before : KeepsBefore layout trees S8
+  pub before : KeepsBefore layout trees S7
   pub counting : AllByRecursion (λ h. AreCounting layout trees (movements_in h)) handed
   pub lines : AllByRecursion (AreItsLines layout trees) handed

@@ -5,8 +5,8 @@ ghost use Rattle.sqlite.specs.Held.{state};
 ghost use Rattle.sqlite.specs.State.{HasCleanDisk, KeepsCommit, Survives};
 ghost use Rattle.typed_sql.specs.Reading.{IsInside};
 ghost use Rattle.typed_sql.specs.Typed.{AreTyped};
-ghost use Rattle.td_store_rows.specs.StoreReads.{OnlyReadNewest, ReadsNewest};
-ghost use Rattle.td_store_audit.specs.InFile.{TellsWhere};
+ghost use Rattle.td_store_rows.specs.StoreReads.{IsAny, ReadsStore};
+ghost use Rattle.td_store_audit.specs.InFile.{OnlyReadIn, TellsWhere};
 ghost use Rattle.td_store_rows.specs.Columns.{code_typing};
 ghost use Rattle.td_table_model.specs.declared.rule.Rule.TheVariants.{S4};
 ghost use Rattle.td_store_audit.specs.Premises.{HasCodesInPlace, TellsCodes};
@@ -27,8 +27,8 @@ fn has_codes<S: Alter>(
     requires { IsInside (state S.Store tx.old.conn.now) }
     ensures same_reference { tx.new.conn.ghost_name ≡ tx.old.conn.ghost_name }
     ensures told { HasCleanDisk (state S.Store tx.new.conn.now)
-        → IfOk result (TellsWhere (λ layout. AreTyped code_typing) (λ layout trees. HasCodesInPlace trees raw.now) (state S.Store tx.old.conn.now)) }
-    ensures reads { ReadsNewest (is_ok result) (state S.Store tx.old.conn.now) (state S.Store tx.new.conn.now) }
+        → IfOk result (TellsWhere IsAny (λ layout. AreTyped code_typing) (λ layout trees. HasCodesInPlace trees raw.now) (state S.Store tx.old.conn.now)) }
+    ensures reads { ReadsStore (is_ok result) (state S.Store tx.old.conn.now) (state S.Store tx.new.conn.now) }
 {
     let codes = codes_of_holder(alloc, tx, raw.holder)?;
     let Some(guarantees) = raw.grn_count else {
@@ -46,9 +46,9 @@ fn all_have_codes<S: Alter>(
     requires { IsInside (state S.Store tx.old.conn.now) }
     ensures same_reference { tx.new.conn.ghost_name ≡ tx.old.conn.ghost_name }
     ensures told { HasCleanDisk (state S.Store tx.new.conn.now)
-        → IfOk result (TellsWhere (λ layout. AreTyped code_typing)
+        → IfOk result (TellsWhere IsAny (λ layout. AreTyped code_typing)
         (λ layout trees. AllByRecursion (HasCodesInPlace trees) holders.now) (state S.Store tx.old.conn.now)) }
-    ensures reads { ReadsNewest (is_ok result) (state S.Store tx.old.conn.now) (state S.Store tx.new.conn.now) }
+    ensures reads { ReadsStore (is_ok result) (state S.Store tx.old.conn.now) (state S.Store tx.new.conn.now) }
 {
     'holders: for raw in holders {
         if !has_codes(alloc, tx, raw)? {
@@ -73,7 +73,7 @@ pub fn codes_keep_rule<S: Alter>(
     ensures told { HasCleanDisk (state S.Store tx.new.conn.now)
         → IfOk result (TellsCodes are_read holders.now (state S.Store tx.old.conn.now)) }
     ensures still { HasCleanDisk (state S.Store tx.new.conn.now)
-        → OnOk result (OnlyReadNewest (state S.Store tx.old.conn.now) (state S.Store tx.new.conn.now)) }
+        → OnOk result (OnlyReadIn IsAny (state S.Store tx.old.conn.now) (state S.Store tx.new.conn.now)) }
     ensures inside { HasCleanDisk (state S.Store tx.new.conn.now) → OnOk result (IsTrue (state S.Store tx.new.conn.now).in_transaction) }
     ensures kept { HasCleanDisk (state S.Store tx.new.conn.now)
         → KeepsCommit (state S.Store tx.old.conn.now) (state S.Store tx.new.conn.now) }

@@ -4,54 +4,56 @@ ghost use Rattle.std.specs.List.{AllByRecursion};
 ghost use Rattle.sqlite.specs.Held.{state};
 ghost use Rattle.sqlite.specs.State.{HasCleanDisk};
 ghost use Rattle.td_table_model.specs.declared.rule.Rule.TheVariants.{S8};
-ghost use Rattle.td_store_rows.specs.StoreReads.{ReadsNewest};
+ghost use Rattle.td_store_rows.specs.StoreReads.{IsOfVersion, ReadsVersion};
 ghost use Rattle.td_store_audit_rows.specs.Untyped.{KeepsUntyped};
-ghost use Rattle.td_store_audit.specs.Tallies.{IsCoverAuditable, IsCoveredBy, IsHandedOn, raw_holder_of};
+ghost use Rattle.td_store_audit.specs.Tallies.{IsCoveredBy, IsHandedOn, IsUseAuditable, raw_holder_of};
 ghost use Rattle.td_store_audit.specs.InFile.{IsHolderCoveredInFile, TellsWhere};
 ghost use Rattle.typed_sql.specs.Reading.{IsInside};
 
 use crate::tallies::HolderLines;
+use crate::totals::total_on;
 use sqlite::{Error, Transaction};
 use sqlite_trees::store::Alter;
 use std::alloc::Global;
 use td_store_audit_rows::found_holders_tell;
-use td_store_load::total_on;
 use td_store_rows::{StoredGuarantee, guarantees_of};
 
-/// Whether the tables keep S8 as they stand in the file, at an office of whatever country. It is given what the rules of movements
+/// Whether the tables keep S8 as they stand in a file of that version, at an office of whatever country. It is given what the rules of movements
 /// and of lines handed on of each holder, and reads the guarantees alone. `OutOfMemory`: want of memory; any other error is the
 /// database's own.
 pub(crate) fn cover_keeps_rule<S: Alter>(
     alloc: Global,
     tx: &mut Transaction<'_, S>,
+    version: u32,
     handed: &[HolderLines],
 ) -> Result<bool, Error>
     requires { IsInside (state S.Store tx.old.conn.now) }
     ensures same_reference { tx.new.conn.ghost_name ≡ tx.old.conn.ghost_name }
     ensures told { HasCleanDisk (state S.Store tx.new.conn.now)
         → IfOk result (λ keeps. (country : List ℕ)
-        → TellsWhere (IsCoverAuditable country handed.now) (λ layout trees. KeepsUntyped layout trees S8) (state S.Store tx.old.conn.now) keeps) }
-    ensures reads { ReadsNewest (is_ok result) (state S.Store tx.old.conn.now) (state S.Store tx.new.conn.now) }
+        → TellsWhere (IsOfVersion version) (IsUseAuditable country handed.now) (λ layout trees. KeepsUntyped layout trees S8) (state S.Store tx.old.conn.now) keeps) }
+    ensures reads { ReadsVersion version (is_ok result) (state S.Store tx.old.conn.now) (state S.Store tx.new.conn.now) }
 {
     found_holders_tell();
-    all_holders_covered(alloc, tx, handed)
+    all_holders_covered(alloc, tx, version, handed)
 }
 
 // Whether each of the holders' guarantees is covered.
 fn all_holders_covered<S: Alter>(
     alloc: Global,
     tx: &mut Transaction<'_, S>,
+    version: u32,
     handed: &[HolderLines],
 ) -> Result<bool, Error>
     requires { IsInside (state S.Store tx.old.conn.now) }
     ensures same_reference { tx.new.conn.ghost_name ≡ tx.old.conn.ghost_name }
     ensures told { HasCleanDisk (state S.Store tx.new.conn.now)
-        → IfOk result (TellsWhere (λ layout trees. AllByRecursion (IsHandedOn layout trees) handed.now)
+        → IfOk result (TellsWhere (IsOfVersion version) (λ layout trees. AllByRecursion (IsHandedOn layout trees) handed.now)
         (λ layout trees. AllByRecursion (λ h. IsHolderCoveredInFile layout trees (raw_holder_of h)) handed.now) (state S.Store tx.old.conn.now)) }
-    ensures reads { ReadsNewest (is_ok result) (state S.Store tx.old.conn.now) (state S.Store tx.new.conn.now) }
+    ensures reads { ReadsVersion version (is_ok result) (state S.Store tx.old.conn.now) (state S.Store tx.new.conn.now) }
 {
     'holders: for parts in handed {
-        if !is_holder_covered(alloc, tx, parts)? {
+        if !is_holder_covered(alloc, tx, version, parts)? {
             return Ok(false);
         }
     }
@@ -62,16 +64,17 @@ fn all_holders_covered<S: Alter>(
 fn is_holder_covered<S: Alter>(
     alloc: Global,
     tx: &mut Transaction<'_, S>,
+    version: u32,
     parts: &HolderLines,
 ) -> Result<bool, Error>
     requires { IsInside (state S.Store tx.old.conn.now) }
     ensures same_reference { tx.new.conn.ghost_name ≡ tx.old.conn.ghost_name }
     ensures told { HasCleanDisk (state S.Store tx.new.conn.now)
-        → IfOk result (TellsWhere (λ layout trees. IsHandedOn layout trees parts.now)
+        → IfOk result (TellsWhere (IsOfVersion version) (λ layout trees. IsHandedOn layout trees parts.now)
         (λ layout trees. IsHolderCoveredInFile layout trees (raw_holder_of parts.now)) (state S.Store tx.old.conn.now)) }
-    ensures reads { ReadsNewest (is_ok result) (state S.Store tx.old.conn.now) (state S.Store tx.new.conn.now) }
+    ensures reads { ReadsVersion version (is_ok result) (state S.Store tx.old.conn.now) (state S.Store tx.new.conn.now) }
 {
-    let rows = guarantees_of(alloc, tx, parts.movements.raw.holder)?;
+    let rows = guarantees_of(alloc, tx, version, parts.movements.raw.holder)?;
     Ok(all_rows_covered(parts, &rows))
 }
 

@@ -1,5 +1,5 @@
 //! Laws of what a store's schema keeps of its tables, as contracts of functions that do nothing else.
-ghost use Rattle.td_store_audit.specs.Keeping.{SchemaKeepsCodes, SchemaKeepsGuarantees, SchemaKeepsHolders, SchemaKeepsLines, SchemaKeepsMovements, SchemaKeepsTables};
+ghost use Rattle.td_store_audit.specs.Keeping.{SchemaKeepsAmounts, SchemaKeepsCodes, SchemaKeepsGuarantees, SchemaKeepsHolders, SchemaKeepsLines, SchemaKeepsMovements, SchemaKeepsTables};
 
 /// The holders' numbers are numbers in range, and no two are the same.
 pub fn schema_keeps_holders()
@@ -9,6 +9,12 @@ pub fn schema_keeps_holders()
 /// Where the rows of guarantees are typed, no two of a holder have one serial, and each is of a holder that is there.
 pub fn schema_keeps_guarantees()
     ensures { SchemaKeepsGuarantees }
+{}
+
+/// In a file that keeps the amounts in use, where the rows of guarantees are typed, each amount is a number, at most the reference
+/// amount: so whatever stands in the other columns, an amount can be read where the reference amount can.
+pub fn schema_keeps_amounts()
+    ensures { SchemaKeepsAmounts }
 {}
 
 /// Where the rows of codes are typed, no two of a guarantee are the same, and each is of a holder that is there.

@@ -4,6 +4,7 @@
 //! nothing.
 #![tactic(auto)]
 
+mod amounts;
 mod audit;
 mod codes;
 mod codes_in_place;
@@ -19,6 +20,7 @@ mod movements;
 mod office;
 mod tallies;
 mod texts;
+mod totals;
 
 pub use audit::first_broken;
 pub use codes::codes_keep_rule;
@@ -27,6 +29,7 @@ pub use finding::{codes_of_holder, lines_of_holder};
 pub use guarantees::guarantees_keep_rule;
 pub use holders::holders_keep_rule;
 pub use laws::{
-    schema_keeps_codes, schema_keeps_guarantees, schema_keeps_holders, schema_keeps_lines,
-    schema_keeps_movements, schema_keeps_tables,
+    schema_keeps_amounts, schema_keeps_codes, schema_keeps_guarantees, schema_keeps_holders,
+    schema_keeps_lines, schema_keeps_movements, schema_keeps_tables,
 };
+pub use totals::total_on;

@@ -5,7 +5,7 @@ ghost use Rattle.sqlite.specs.Held.{state};
 ghost use Rattle.sqlite.specs.State.{HasCleanDisk};
 ghost use Rattle.typed_sql.specs.Reading.{IsInside};
 ghost use Rattle.typed_sql.specs.Typed.{AreTyped, typed_rows};
-ghost use Rattle.td_store_rows.specs.StoreReads.{ReadsNewest};
+ghost use Rattle.td_store_rows.specs.StoreReads.{IsAny, ReadsStore};
 ghost use Rattle.td_store_audit.specs.InFile.{IsSoWhere};
 ghost use Rattle.td_store_rows.specs.Columns.{line_typing};
 ghost use Rattle.td_store_rows.specs.LineTable.{AreLines};
@@ -35,12 +35,12 @@ fn kept_lines<S: Alter>(
     requires { IsInside (state S.Store tx.old.conn.now) }
     ensures same_reference { tx.new.conn.ghost_name ≡ tx.old.conn.ghost_name }
     ensures told { HasCleanDisk (state S.Store tx.new.conn.now)
-        → IfOk result (λ found. IsSoWhere (λ layout. AreTyped line_typing)
+        → IfOk result (λ found. IsSoWhere IsAny (λ layout. AreTyped line_typing)
         (λ layout trees. AreNumbersApart (part raw.now.holder (typed_rows line_typing trees))
         → IsTrue (is_some found) ↔ HasLinesInPlace trees raw.now) (state S.Store tx.old.conn.now)) }
     ensures handed { HasCleanDisk (state S.Store tx.new.conn.now)
         → IfOk result (λ found. IfSome found (λ lines. AreLines (is_of_holder raw.now.holder) (state S.Store tx.old.conn.now) lines.items)) }
-    ensures reads { ReadsNewest (is_ok result) (state S.Store tx.old.conn.now) (state S.Store tx.new.conn.now) }
+    ensures reads { ReadsStore (is_ok result) (state S.Store tx.old.conn.now) (state S.Store tx.new.conn.now) }
 {
     let lines = lines_of_holder(alloc, tx, raw.holder)?;
     let Some(guarantees) = raw.grn_count else {
@@ -64,13 +64,13 @@ fn all_kept_lines<S: Alter>(
     requires { IsInside (state S.Store tx.old.conn.now) }
     ensures same_reference { tx.new.conn.ghost_name ≡ tx.old.conn.ghost_name }
     ensures told { HasCleanDisk (state S.Store tx.new.conn.now)
-        → IfOk result (λ found. IsSoWhere (λ layout. AreTyped line_typing)
+        → IfOk result (λ found. IsSoWhere IsAny (λ layout. AreTyped line_typing)
         (λ layout trees. ((H : ℕ) → AreNumbersApart (part H (typed_rows line_typing trees)))
         → IsTrue (is_some found) ↔ AllByRecursion (HasLinesInPlace trees) (map raw_of counting.items)) (state S.Store tx.old.conn.now)) }
     ensures movements { IfOk result (λ found. IfSome found (λ each. map movements_in each.items ≡ counting.items)) }
     ensures handed { HasCleanDisk (state S.Store tx.new.conn.now)
         → IfOk result (λ found. IfSome found (λ each. AreAllLines (state S.Store tx.old.conn.now) each.items)) }
-    ensures reads { ReadsNewest (is_ok result) (state S.Store tx.old.conn.now) (state S.Store tx.new.conn.now) }
+    ensures reads { ReadsStore (is_ok result) (state S.Store tx.old.conn.now) (state S.Store tx.new.conn.now) }
 {
     let mut handed = Vec::with_capacity(alloc, counting.len())?;
     'holders: for movements in counting {
@@ -100,7 +100,7 @@ pub(crate) fn lines_keep_rule<S: Alter>(
     ensures movements { IfOk result (λ found. IfSome found (λ each. map movements_in each.items ≡ counting.items)) }
     ensures handed { HasCleanDisk (state S.Store tx.new.conn.now)
         → IfOk result (λ found. IfSome found (λ each. AreAllLines (state S.Store tx.old.conn.now) each.items)) }
-    ensures reads { ReadsNewest (is_ok result) (state S.Store tx.old.conn.now) (state S.Store tx.new.conn.now) }
+    ensures reads { ReadsStore (is_ok result) (state S.Store tx.old.conn.now) (state S.Store tx.new.conn.now) }
 {
     holder_fields_tell();
     kept_rules_are_read();

@@ -3,7 +3,7 @@ ghost use Rattle.std.specs.Prelude.{◌≡◌, filter, is_some, map, IfOk, IfSom
 ghost use Rattle.std.specs.List.{AllByRecursion};
 ghost use Rattle.sqlite.specs.Held.{state};
 ghost use Rattle.sqlite.specs.State.{HasCleanDisk};
-ghost use Rattle.td_store_rows.specs.StoreReads.{ReadsNewest};
+ghost use Rattle.td_store_rows.specs.StoreReads.{IsAny, ReadsStore};
 ghost use Rattle.td_store_rows.specs.Columns.{movement_typing};
 ghost use Rattle.td_store_rows.specs.MovementTable.{movement_row_of, serial_of_stored};
 ghost use Rattle.td_table_model.specs.Gathering.{place};
@@ -39,12 +39,12 @@ pub(crate) fn movements_keep_rule<S: Alter>(
     requires { IsInside (state S.Store tx.old.conn.now) }
     ensures same_reference { tx.new.conn.ghost_name ≡ tx.old.conn.ghost_name }
     ensures told { HasCleanDisk (state S.Store tx.new.conn.now)
-        → IfOk result (λ found. TellsRule (λ layout trees. TellsRead movement_typing AreMovementFields trees are_read) S5 country holders.now
+        → IfOk result (λ found. TellsRule IsAny (λ layout trees. TellsRead movement_typing AreMovementFields trees are_read) S5 country holders.now
         (state S.Store tx.old.conn.now) (is_some found)) }
     ensures holders { IfOk result (λ found. IfSome found (λ each. map raw_of each.items ≡ holders.now)) }
     ensures handed { HasCleanDisk (state S.Store tx.new.conn.now)
         → IfOk result (λ found. IfSome found (λ each. AreAllCounting (state S.Store tx.old.conn.now) each.items)) }
-    ensures reads { ReadsNewest (is_ok result) (state S.Store tx.old.conn.now) (state S.Store tx.new.conn.now) }
+    ensures reads { ReadsStore (is_ok result) (state S.Store tx.old.conn.now) (state S.Store tx.new.conn.now) }
 {
     found_holders_tell();
     kept_rules_are_read();
@@ -64,13 +64,13 @@ fn all_kept_movements<S: Alter>(
     requires { IsInside (state S.Store tx.old.conn.now) }
     ensures same_reference { tx.new.conn.ghost_name ≡ tx.old.conn.ghost_name }
     ensures told { HasCleanDisk (state S.Store tx.new.conn.now)
-        → IfOk result (λ found. TellsWhere (λ layout. AreTypedApart movement_typing)
+        → IfOk result (λ found. TellsWhere IsAny (λ layout. AreTypedApart movement_typing)
         (λ layout trees. AllByRecursion (HasMovementsInPlace layout country trees) holders.now)
         (state S.Store tx.old.conn.now) (is_some found)) }
     ensures holders { IfOk result (λ found. IfSome found (λ each. map raw_of each.items ≡ holders.now)) }
     ensures handed { HasCleanDisk (state S.Store tx.new.conn.now)
         → IfOk result (λ found. IfSome found (λ each. AreAllCounting (state S.Store tx.old.conn.now) each.items)) }
-    ensures reads { ReadsNewest (is_ok result) (state S.Store tx.old.conn.now) (state S.Store tx.new.conn.now) }
+    ensures reads { ReadsStore (is_ok result) (state S.Store tx.old.conn.now) (state S.Store tx.new.conn.now) }
 {
     let mut handed = Vec::with_capacity(alloc, holders.len())?;
     'holders: for raw in holders {
@@ -92,14 +92,14 @@ fn kept_movements<S: Alter>(
     requires { IsInside (state S.Store tx.old.conn.now) }
     ensures same_reference { tx.new.conn.ghost_name ≡ tx.old.conn.ghost_name }
     ensures told { HasCleanDisk (state S.Store tx.new.conn.now)
-        → IfOk result (λ found. TellsWhere (λ layout. AreTypedApart movement_typing)
+        → IfOk result (λ found. TellsWhere IsAny (λ layout. AreTypedApart movement_typing)
         (λ layout trees. HasMovementsInPlace layout country trees raw.now)
         (state S.Store tx.old.conn.now) (is_some found)) }
     ensures holder { IfOk result (λ found. IfSome found (λ h. raw_of h ≡ raw.now)) }
     ensures handed { HasCleanDisk (state S.Store tx.new.conn.now)
-        → IfOk result (λ found. IfSome found (λ h. IsSoWhere (λ layout. AreTypedApart movement_typing)
+        → IfOk result (λ found. IfSome found (λ h. IsSoWhere IsAny (λ layout. AreTypedApart movement_typing)
         (λ layout trees. AreCounting layout trees h) (state S.Store tx.old.conn.now))) }
-    ensures reads { ReadsNewest (is_ok result) (state S.Store tx.old.conn.now) (state S.Store tx.new.conn.now) }
+    ensures reads { ReadsStore (is_ok result) (state S.Store tx.old.conn.now) (state S.Store tx.new.conn.now) }
 {
     let Some(count) = raw.mrn_count else {
         return Ok(None);

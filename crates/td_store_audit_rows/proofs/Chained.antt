@@ -12,16 +12,18 @@ use Rattle.sqlite.proofs.Callers.{unchanged_then}
 use Rattle.sqlite.proofs.StateLemmas.{survives_then}
 use Rattle.typed_sql.specs.Walked.{IsLeftAlone}
 use Rattle.typed_sql.proofs.Left.{left_then, unchanged_left}
-use Rattle.td_schema.specs.Layouts.{IsNewest, IsNewestSchema, schema_of}
+use Rattle.td_schema.specs.Layouts.{schema_of}
 use Rattle.td_schema.specs.declared.layout.Layout.{Layout}
+use Rattle.td_store_rows.specs.StoreReads.{IsOfVersion}
+use Rattle.td_store_audit_rows.specs.Versions.{IsSchemaOf}
 
 pub survives_both : (a b d : State) → Survives a b (λ _. ⊥) → Survives b d (λ _. ⊥) → Survives a d (λ _. ⊥)
 survives_both a b d first second = survives_then a b d _ _ _ (λ _ db none. none) (λ _ db none. none) first second
 
--- a text that doesn't write under the tables of the newest version doesn't under these
-pub plain_here : (text : List ℕ) (s : Schema) → ((l : Layout) → IsNewest l → IsPlain (understood (schema_of l) text)) → IsNewestSchema s
-    → IsPlain (understood s text)
-plain_here text s plain (l, newest, is) = subst (λ k. IsPlain (understood k text)) (sym is) (plain l newest)
+-- a text that doesn't write under the tables of a version doesn't under these
+pub plain_here : (version : ℕ) (text : List ℕ) (s : Schema) → ((l : Layout) → IsOfVersion version l → IsPlain (understood (schema_of l) text))
+    → IsSchemaOf version s → IsPlain (understood s text)
+plain_here version text s plain (l, own, is) = subst (λ k. IsPlain (understood k text)) (sym is) (plain l own)
 
 -- what a text means under a layout's tables it means under these
 pub means_at : (text : List ℕ) (tree : ℕ) (shows : List Term) (order : List (Term × Key)) (s k : Schema) → k ≡ s → MeansSelect s text tree [] shows order
@@ -32,8 +34,8 @@ means_at text tree shows order s k is means = subst (λ x. MeansSelect x text tr
 pub still_of : (s : Schema) (a b : State) → IsUnchanged a b → a.now.schema ≡ s → b.now.schema ≡ s
 still_of s a b same has = ap (λ (d : Database). d.schema) same.0.now_is ∙ has
 
-pub still_newest : (a b : State) → IsUnchanged a b → IsNewestSchema a.now.schema → IsNewestSchema b.now.schema
-still_newest a b same (l, newest, is) = (l, newest, still_of (schema_of l) a b same is)
+pub still_schema : (version : ℕ) (a b : State) → IsUnchanged a b → IsSchemaOf version a.now.schema → IsSchemaOf version b.now.schema
+still_schema version a b same (l, own, is) = (l, own, still_of (schema_of l) a b same is)
 
 -- what is so of the trees now was so before
 pub was_so : (P : Database → Type 0) (a b : State) → IsUnchanged a b → P b.now → P a.now

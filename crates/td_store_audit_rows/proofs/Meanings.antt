@@ -1,5 +1,5 @@
--- What the statements of the audit mean, in a store's file of each layout: on guarantees, of each of the newest version.
-use Rattle.std.proofs.Common.{refl}
+-- What the statements of the audit mean, in a store's file of each layout: on guarantees by its version.
+use Rattle.std.proofs.Common.{refl, subst}
 use Rattle.std.specs.Prelude.{ℕ, List, [], ◌∷◌, codes}
 use Rattle.sqlite_tied.specs.Compute.{everything}
 use Rattle.sqlite.specs.Listing.{understood}
@@ -8,10 +8,12 @@ use Rattle.sqlite_value.specs.declared.keys.Key.{Key}
 use Rattle.sqlite_value.specs.Keys.{ascending}
 use Rattle.sqlite_sql.specs.Term.{Term, col}
 use Rattle.typed_sql.specs.Meanings.{MeansSelect}
-use Rattle.td_schema.specs.Layouts.{IsNewest, guarantees_tree, schema_of}
+use Rattle.td_schema.specs.Layouts.{guarantees_tree, schema_of, version_of}
 use Rattle.td_schema.specs.declared.layout.Layout.{Layout}
 use Rattle.td_schema.specs.declared.layout.Layout.TheVariants.{Grown2, Made1, Made2}
-use Rattle.td_store_audit_rows.specs.declared.texts.TheConstants.{CODES, GUARANTEES, HOLDERS, HOLDER_IDS, LINES, META_IDS, MOVEMENTS}
+use Rattle.td_store_rows.specs.StoreReads.{IsOfVersion}
+use Rattle.td_store_audit_rows.specs.Versions.{guarantees_text}
+use Rattle.td_store_audit_rows.specs.declared.texts.TheConstants.{CODES, HOLDERS, HOLDER_IDS, LINES, META_IDS, MOVEMENTS}
 
 -- by the rowid
 abbrev pub by_rowid : List (Term × Key)
@@ -58,11 +60,21 @@ holders_mean Made1 = record { names = holder_names; command = refl; plain = (ref
 holders_mean Made2 = record { names = holder_names; command = refl; plain = (refl, refl); unlisted = refl }
 holders_mean Grown2 = record { names = holder_names; command = refl; plain = (refl, refl); unlisted = refl }
 
-pub guarantees_mean : (l : Layout) → IsNewest l → MeansSelect (schema_of l) GUARANTEES.now (guarantees_tree l) [] (col 1 0 ∷ guarantee_terms) by_rowid
+abbrev guarantee_names : List (List ℕ)
+guarantee_names = codes "rowid" ∷ codes "holder" ∷ codes "serial" ∷ codes "grn" ∷ codes "reference" ∷ codes "cover" ∷ codes "ends" ∷ []
+
+-- what that of a layout's version means
+abbrev ShowGuarantees : Layout → ℕ → Type 0
+ShowGuarantees l version = MeansSelect (schema_of l) (guarantees_text version) (guarantees_tree l) [] (col 1 0 ∷ guarantee_terms) by_rowid
+
+own_guarantees_mean : (l : Layout) → ShowGuarantees l (version_of l)
 unfolding understood everything
-guarantees_mean Made1 newest = record { names = codes "rowid" ∷ codes "holder" ∷ codes "serial" ∷ codes "grn" ∷ codes "reference" ∷ codes "cover" ∷ codes "ends" ∷ []; command = refl; plain = (refl, refl); unlisted = refl }
-guarantees_mean Made2 newest = absurd cc
-guarantees_mean Grown2 newest = absurd cc
+own_guarantees_mean Made1 = record { names = guarantee_names; command = refl; plain = (refl, refl); unlisted = refl }
+own_guarantees_mean Made2 = record { names = guarantee_names; command = refl; plain = (refl, refl); unlisted = refl }
+own_guarantees_mean Grown2 = record { names = guarantee_names; command = refl; plain = (refl, refl); unlisted = refl }
+
+pub guarantees_mean : (version : ℕ) (l : Layout) → IsOfVersion version l → ShowGuarantees l version
+guarantees_mean version l own = subst (ShowGuarantees l) own (own_guarantees_mean l)
 
 abbrev code_names : List (List ℕ)
 code_names = codes "rowid" ∷ codes "holder" ∷ codes "serial" ∷ codes "code" ∷ []

@@ -1,17 +1,19 @@
 -- Tables that keep each rule as they stand hold sound content, and the other way round.
-use Rattle.std.proofs.Common.{◌≡◌, ◌≤◌, List, [], ◌∷◌, length, map, refl, sym, subst, ap, arith}
+use Rattle.std.proofs.Common.{◌≡◌, ◌≤◌, List, [], ◌∷◌, length, map, refl, sym, subst, ap, arith, IsPermutation}
 use Rattle.std.specs.List.{AllByRecursion}
+use Rattle.std.proofs.lemmas.List.Sorted.{IsPermutation-refl}
 use Rattle.sqlite_value.specs.declared.value.Value.{Value}
 use Rattle.sqlite_value.specs.declared.value.Value.TheVariants.{Text}
 use Rattle.sqlite_value.specs.Order.{Row, column}
 use Rattle.sqlite_trees.specs.Tree.{Trees}
-use Rattle.sqlite_trees.proofs.ListLemmas.{all_weaker}
+use Rattle.sqlite_trees.proofs.ListLemmas.{all_weaker, map-map}
 use Rattle.sqlite_typed.proofs.TestLemmas.{then_value}
 use Rattle.td_base.specs.Codes.{IsCountry}
 use Rattle.td_table_model.specs.declared.rule.Rule.{Rule}
 use Rattle.td_table_model.specs.declared.rule.Rule.TheVariants.{S1, S2, S3, S4, S5, S6, S7, S8}
 use Rattle.td_table_model.specs.Rules.{KeepRules}
 use Rattle.td_table_model.specs.Stored.{AreStored}
+use Rattle.td_table_model.specs.Tables.{without_amount}
 use Rattle.td_table_model.proofs.Failing.{kept_each}
 use Rattle.td_table_model.proofs.KeepingRules.{keep_rules}
 use Rattle.td_table_model.proofs.Ruled.{are_of_content}
@@ -19,9 +21,8 @@ use Rattle.td_table_model.proofs.RuledSound.{content_is_sound}
 use Rattle.typed_sql.specs.Typed.{IsTypedRow, row_of}
 use Rattle.typed_sql.specs.Values.{number_in, number_value, text_in}
 use Rattle.td_schema.specs.declared.layout.Layout.{Layout}
-use Rattle.td_store_rows.specs.Columns.{meta_typing, holder_typing}
+use Rattle.td_store_rows.specs.Columns.{meta_typing, holder_typing, guarantee_typing, kept_typing}
 use Rattle.td_store_rows.specs.StoreTables.{AreAllTyped, country_in, tables_in}
-use Rattle.td_store_rows.proofs.WithoutAmounts.{none_kept}
 use Rattle.td_store_audit_rows.specs.Untyped.{HasColumnTypes, HasGrnCount, HasIdentity, HasMrnCount, HasNumber, IsNumber, IsText}
 use Rattle.td_store_audit_rows.specs.Laws.{AreKept, ContentKeepsRules, KeptRulesMeanContent}
 
@@ -53,10 +54,17 @@ all_typed l trees kept kinds = record {
     cells = holders_typed (trees holder_typing.table.tree) kept.numbers (kinds S2) (kinds S3).0 (kinds S5).0;
   };
   guarantees = record { ids = kept.ids.guarantees; cells = (kinds S3).1 };
+  kept = λ keep. record { ids = kept.ids.guarantees; cells = kinds S7 keep };
   codes = record { ids = kept.ids.codes; cells = kinds S4 };
   movements = record { ids = kept.ids.movements; cells = (kinds S5).1 };
   lines = record { ids = kept.ids.lines; cells = kinds S6 };
 }
+
+-- the rows of guarantees are those that keep amounts in use, without them
+same_rows : (l : Layout) (trees : Trees) → IsPermutation (tables_in l trees).guarantees (map without_amount (tables_in l trees).kept)
+same_rows l trees =
+    subst (IsPermutation (tables_in l trees).guarantees) (sym (map-map without_amount (row_of (kept_typing l)) (trees (guarantee_typing l).table.tree)))
+    (IsPermutation-refl (tables_in l trees).guarantees)
 
 -- what the database keeps of each typed table, put together
 stored_of_kept : (l : Layout) (trees : Trees) → AreKept l trees → AreAllTyped l trees → AreStored (tables_in l trees)
@@ -79,7 +87,7 @@ stored_of_kept l trees kept typed =
       lines_owned = lines.owned;
       without_codes = guarantees.without_codes;
       without_lines = movements.without_lines;
-      kept = λ keep. absurd (none_kept l trees keep);
+      kept = λ keep. same_rows l trees;
     }
 
 pub rules_mean_content : KeptRulesMeanContent
@@ -113,7 +121,7 @@ kinds_kept l trees typed most country S5 = (
   typed.movements.cells,
 )
 kinds_kept l trees typed most country S6 = typed.lines.cells
-kinds_kept l trees typed most country S7 = tt
+kinds_kept l trees typed most country S7 = λ keep. (typed.kept keep).cells
 kinds_kept l trees typed most country S8 = tt
 
 pub content_keeps : ContentKeepsRules

@@ -1,6 +1,6 @@
 -- One holder's rows that keep the rules of sound tables, given by their serials or numbers. What stands in each column is
 -- what its field's type says; these are the rules beyond that.
-use Rattle.std.specs.Prelude.{◌≡◌, ℕ, ◌%◌, ◌≤◌, List, length}
+use Rattle.std.specs.Prelude.{◌≡◌, ℕ, ◌≤◌, List, length}
 use Rattle.std.specs.List.{AllByRecursion}
 use Rattle.td_base.specs.References.{greatest_grn_serial, greatest_mrn_serial}
 use Rattle.td_guarantee.specs.declared.guarantee.Guarantee.{Guarantee}

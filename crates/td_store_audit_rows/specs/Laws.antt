@@ -6,19 +6,26 @@ use Rattle.td_table_model.specs.declared.rule.Rule.{Rule}
 use Rattle.td_table_model.specs.Tables.{AreTablesOf}
 use Rattle.typed_sql.specs.Typed.{IsTypedRow}
 use Rattle.td_schema.specs.declared.layout.Layout.{Layout}
-use Rattle.td_store_rows.specs.Columns.{meta_typing, holder_typing, guarantee_typing, code_typing, movement_typing, line_typing}
+use Rattle.td_store_rows.specs.Columns.{meta_typing, holder_typing, guarantee_typing, kept_typing, code_typing, movement_typing, line_typing}
+use Rattle.td_store_rows.specs.StoreReads.{KeepsUse}
 use Rattle.td_store_rows.specs.StoreTables.{AreAllTyped, tables_in, HoldSoundContent}
 use Rattle.td_store_audit_rows.specs.Ids.{HaveAllIds}
-use Rattle.td_store_audit_rows.specs.Kept.{AreCodesKept, AreGuaranteesKept, AreHoldersKept, AreLinesKept, AreMovementsKept}
+use Rattle.td_store_audit_rows.specs.Kept.{AreCodesKept, AreGuaranteesKept, AreHoldersKept, AreLinesKept, AreMovementsKept, AreWithinReference}
 use Rattle.td_store_audit_rows.specs.Untyped.{AllRows, HasNumber, KeepsUntyped}
 
+-- where amounts in use are kept: each is a number, and at most the reference amount
+pub record AreAmountsKept (l : Layout) (trees : Trees) : Type 0 where
+  pub typed : AllRows (kept_typing l) (IsTypedRow (kept_typing l)) trees
+  pub within : AreWithinReference (tables_in l trees)
+
 -- What the database itself keeps of the tables: the rowids, the holders' numbers, and of each other table whose rows are typed
--- its keys and references.
+-- its keys and references, and of the guarantees the amounts in use, where a file keeps them.
 pub record AreKept (l : Layout) (trees : Trees) : Type 0 where
   pub ids : HaveAllIds l trees
   pub numbers : AllRows holder_typing HasNumber trees
   pub holders : AreHoldersKept (tables_in l trees)
   pub guarantees : AllRows (guarantee_typing l) (IsTypedRow (guarantee_typing l)) trees → AreGuaranteesKept (tables_in l trees)
+  pub amounts : KeepsUse l → AllRows (guarantee_typing l) (IsTypedRow (guarantee_typing l)) trees → AreAmountsKept l trees
   pub codes : AllRows code_typing (IsTypedRow code_typing) trees → AreCodesKept (tables_in l trees)
   pub movements : AllRows movement_typing (IsTypedRow movement_typing) trees → AreMovementsKept (tables_in l trees)
   pub lines : AllRows line_typing (IsTypedRow line_typing) trees → AreLinesKept (tables_in l trees)

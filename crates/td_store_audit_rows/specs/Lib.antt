@@ -1,6 +1,7 @@
 pub mod Untyped
 pub mod Kept
 pub mod Ids
+pub mod Versions
 pub mod Laws
 pub mod Rising
 pub mod Holders

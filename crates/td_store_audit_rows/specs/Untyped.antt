@@ -12,7 +12,8 @@ use Rattle.td_table_model.specs.Rules.{Keeps, rule_no}
 use Rattle.typed_sql.specs.Typed.{Typing, IsTypedRow}
 use Rattle.typed_sql.specs.Values.{number_value}
 use Rattle.td_schema.specs.declared.layout.Layout.{Layout}
-use Rattle.td_store_rows.specs.Columns.{meta_typing, holder_typing, guarantee_typing, code_typing, movement_typing, line_typing}
+use Rattle.td_store_rows.specs.Columns.{meta_typing, holder_typing, guarantee_typing, kept_typing, code_typing, movement_typing, line_typing}
+use Rattle.td_store_rows.specs.StoreReads.{KeepsUse}
 use Rattle.td_store_rows.specs.StoreTables.{tables_in}
 
 -- the column holds a number; a text
@@ -39,7 +40,8 @@ HasGrnCount r = IsNumber (column r 4)
 abbrev pub HasMrnCount : Row → Type 0
 HasMrnCount r = IsNumber (column r 5)
 
--- The columns that the rule speaks of are of their kinds, in each row: of S1 in the office's own row, which is there once.
+-- The columns that the rule speaks of are of their kinds, in each row: of S1 in the office's own row, which is there once, of S7
+-- where amounts in use are kept.
 abbrev pub HasColumnTypes : Layout → Rule → Trees → Type 0
 HasColumnTypes l S1 trees = (length (trees meta_typing.table.tree) ≡ 1) × AllRows meta_typing (IsTypedRow meta_typing) trees
 HasColumnTypes l S2 trees = AllRows holder_typing HasIdentity trees
@@ -47,7 +49,7 @@ HasColumnTypes l S3 trees = AllRows holder_typing HasGrnCount trees × AllRows (
 HasColumnTypes l S4 trees = AllRows code_typing (IsTypedRow code_typing) trees
 HasColumnTypes l S5 trees = AllRows holder_typing HasMrnCount trees × AllRows movement_typing (IsTypedRow movement_typing) trees
 HasColumnTypes l S6 trees = AllRows line_typing (IsTypedRow line_typing) trees
-HasColumnTypes l S7 trees = Unit {0}
+HasColumnTypes l S7 trees = KeepsUse l → AllRows (kept_typing l) (IsTypedRow (kept_typing l)) trees
 HasColumnTypes l S8 trees = Unit {0}
 
 -- the tables keep the rule as they stand: a column of another kind breaks it

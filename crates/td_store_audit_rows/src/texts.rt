@@ -1,4 +1,6 @@
 //! The statements of the audit: each shows all rows of a table.
+ghost use Rattle.std.specs.Prelude.{◌≡◌};
+ghost use Rattle.td_store_audit_rows.specs.Versions.{guarantees_text};
 
 /// The rowids of the office's table and of the holders', rising.
 pub const META_IDS: &str = "SELECT rowid FROM meta ORDER BY rowid";
@@ -9,9 +11,12 @@ pub const HOLDER_IDS: &str = "SELECT rowid FROM holders ORDER BY rowid";
 pub const HOLDERS: &str =
     "SELECT holder, eori, last_at, grn_count, mrn_count FROM holders ORDER BY holder";
 
-/// All rows of the other tables, with their rowids, which rise.
-pub const GUARANTEES: &str =
+/// All rows of the other tables, with their rowids, which rise: of guarantees in a file of version 1, and of a later one.
+pub const GUARANTEES1: &str =
     "SELECT rowid, holder, serial, grn, reference, cover, ends FROM guarantees1 ORDER BY rowid";
+
+pub const GUARANTEES2: &str =
+    "SELECT rowid, holder, serial, grn, reference, cover, ends FROM guarantees2 ORDER BY rowid";
 
 pub const CODES: &str = "SELECT rowid, holder, serial, code FROM codes ORDER BY rowid";
 
@@ -20,3 +25,13 @@ pub const MOVEMENTS: &str =
 
 pub const LINES: &str =
     "SELECT rowid, holder, serial, no, guarantee, cents FROM lines1 ORDER BY rowid";
+
+/// All rows of guarantees in a file of that version.
+pub fn guarantees_at(version: u32) -> &'static str
+    ensures { result.now ≡ guarantees_text version }
+{
+    if version < 2 {
+        return GUARANTEES1;
+    }
+    GUARANTEES2
+}

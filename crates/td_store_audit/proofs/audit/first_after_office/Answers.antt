@@ -1,24 +1,25 @@
 use Rattle.std.proofs.Common.{arith}
 use Rattle.sqlite.specs.Held.{state}
 use Rattle.sqlite.specs.State.{State, HasCleanDisk}
-use Rattle.td_store_rows.proofs.StoreReads.{newest_more}
+use Rattle.td_store_rows.specs.StoreReads.{IsOfVersion}
 use Rattle.td_store_audit.proofs.Asked.{all_told, codes_broken, guarantees_broken, holders_broken}
+use Rattle.td_store_audit.proofs.Reading.{more_read}
 use Rattle.td_store_audit.proofs.audit.first_after_office.Goals as goal
 
 pub returns-then-not-holders_keep_rule-clause-told : goal.returns-then-not-holders_keep_rule-clause-told
 returns-then-not-holders_keep_rule-clause-told g c clean =
-    holders_broken c.args.country c.args.holders.now c.args.readable (state g.S.Store c.args.tx.now.conn.now) c.holders_keep_rule.result
+    holders_broken (IsOfVersion c.args.version) c.args.country c.args.holders.now c.args.readable (state g.S.Store c.args.tx.now.conn.now) c.holders_keep_rule.result
     c.if-not-holders_keep_rule.true c.holders_keep_rule.ensures
 
 pub returns-then-not-branch-clause-told : goal.returns-then-not-branch-clause-told
 returns-then-not-branch-clause-told g c clean =
-    guarantees_broken c.args.country c.args.holders.now c.args.readable (state g.S.Store c.args.tx.now.conn.now) c.holders_keep_rule.result
+    guarantees_broken (IsOfVersion c.args.version) c.args.country c.args.holders.now c.args.readable (state g.S.Store c.args.tx.now.conn.now) c.holders_keep_rule.result
     c.if-not-holders_keep_rule.false c.holders_keep_rule.ensures c.in_ok-guarantees_keep_rule.field-0 c.if-not-branch.true
     (c.in_ok-guarantees_keep_rule.ensures.told clean)
 
 pub returns-then-not-branch-2-clause-told : goal.returns-then-not-branch-2-clause-told
 returns-then-not-branch-2-clause-told g c clean =
-    codes_broken c.args.country c.args.holders.now c.args.readable (state g.S.Store c.args.tx.now.conn.now) c.holders_keep_rule.result
+    codes_broken (IsOfVersion c.args.version) c.args.country c.args.holders.now c.args.readable (state g.S.Store c.args.tx.now.conn.now) c.holders_keep_rule.result
     c.if-not-holders_keep_rule.false c.holders_keep_rule.ensures c.in_ok-guarantees_keep_rule.field-0 c.if-not-branch.false
     (c.in_ok-guarantees_keep_rule.ensures.told clean_m) m (c.in_ok-guarantees_keep_rule.ensures.still clean_m)
     c.in_ok-codes_keep_rule.field-0 c.if-not-branch-2.true (c.in_ok-codes_keep_rule.ensures.told clean)
@@ -31,11 +32,12 @@ returns-then-not-branch-2-clause-told g c clean =
 
 pub returns-clause-told : goal.returns-clause-told
 returns-clause-told g c clean =
-    all_told c.args.country c.args.holders.now c.args.readable a c.holders_keep_rule.result
+    all_told (IsOfVersion c.args.version) c.args.country c.args.holders.now c.args.readable a c.holders_keep_rule.result
     c.if-not-holders_keep_rule.false c.holders_keep_rule.ensures c.in_ok-guarantees_keep_rule.field-0 c.if-not-branch.false
     (c.in_ok-guarantees_keep_rule.ensures.told clean_m) m (c.in_ok-guarantees_keep_rule.ensures.still clean_m)
     c.in_ok-codes_keep_rule.field-0 c.if-not-branch-2.false (c.in_ok-codes_keep_rule.ensures.told clean_d) d
-    (newest_more a m d (c.in_ok-guarantees_keep_rule.ensures.still clean_m) (c.in_ok-codes_keep_rule.ensures.still clean_d))
+    (more_read (IsOfVersion c.args.version) a m d (c.in_ok-guarantees_keep_rule.ensures.still clean_m)
+    (λ layout own. c.in_ok-codes_keep_rule.ensures.still clean_d layout tt))
     c.first_of_movements.result (c.first_of_movements.ensures.told clean)
   where
     a : State

@@ -16,13 +16,13 @@ pub holders-preserved : goal.holders-preserved
 holders-preserved g c = (
   c.has_codes.ensures.same_reference ∙ c.holders.invariant.0,
   reads_on c.holders.invariant.1 c.in_ok-has_codes.ensures.reads,
-  λ clean layout newest has typed.
-      let read = c.holders.invariant.1.still (clean_b clean) refl layout newest has in
+  λ clean layout own has typed.
+      let read = c.holders.invariant.1.still (clean_b clean) refl layout own has in
       let here : HasCodesInPlace b.now.trees c.raw-item.result =
-      (c.in_ok-has_codes.ensures.told clean layout newest (still_has a b has read) (subst (λ (e : Database). AreTyped code_typing e.trees) (sym read.now_is) typed)).0 c.if-not-branch.false in
+      (c.in_ok-has_codes.ensures.told clean layout own (still_has a b has read) (subst (λ (e : Database). AreTyped code_typing e.trees) (sym read.now_is) typed)).0 c.if-not-branch.false in
       subst (AllByRecursion (HasCodesInPlace a.now.trees)) (sym (take_more c.args.holders.now c.holders.raw-index c.raw-item.result c.holders-test.true))
       (all-append (HasCodesInPlace a.now.trees) (take c.holders.raw-index c.args.holders.now) (get_or c.args.holders.now c.holders.raw-index c.raw-item.result ∷ [])
-      (c.holders.invariant.2 (clean_b clean) layout newest has typed)
+      (c.holders.invariant.2 (clean_b clean) layout own has typed)
       (subst (HasCodesInPlace a.now.trees) c.raw-item.is (subst (λ (e : Database). HasCodesInPlace e.trees c.raw-item.result) read.now_is here), tt)),
 )
   where

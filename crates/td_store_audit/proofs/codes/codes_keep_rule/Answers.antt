@@ -35,7 +35,7 @@ returns-clause-told g c clean =
       cells = all_weaker (IsReadRow code_typing AreCodeFields) (IsTypedRow code_typing) (λ r is. is.0) (a.now.trees code_typing.table.tree) read;
     } in
     let said : IsTrue keeps ↔ AllByRecursion (HasCodesInPlace a.now.trees) c.args.holders.now =
-    told layout auditable.common.newest has typed in
+    told layout tt has typed in
     let rule = codes_rule c.holder_fields_tell.ensures.fields layout a c.args.holders.now auditable read in
     (λ t. rule.0 (said.0 t), λ k. said.1 (rule.1 k)))
     (c.all_have_codes.ensures.told clean) (c.all_have_codes.ensures.told clean)

@@ -5,12 +5,12 @@ use Rattle.td_store_audit.proofs.guarantees.guarantees_keep_rule.Goals as goal
 
 pub returns-then-not-are_read-clause-told : goal.returns-then-not-are_read-clause-told
 returns-then-not-are_read-clause-told g c clean =
-    told_unread c.args.are_read (state g.S.Store c.args.tx.now.conn.now) c.args.country c.args.holders.now
+    told_unread c.args.version c.args.are_read (state g.S.Store c.args.tx.now.conn.now) c.args.country c.args.holders.now
     c.found_holders_tell.ensures c.kept_rules_are_read.ensures.guarantees c.if-not-are_read.true
 
 pub returns-clause-told : goal.returns-clause-told
 returns-clause-told g c clean =
-    told_each c.args.are_read (state g.S.Store c.args.tx.now.conn.now) c.args.country c.args.holders.now
+    told_each c.args.version c.args.are_read (state g.S.Store c.args.tx.now.conn.now) c.args.country c.args.holders.now
     c.found_holders_tell.ensures c.if-not-are_read.false c.all_have_guarantees.result (c.all_have_guarantees.ensures.told clean)
 
 pub returns-clause-still : goal.returns-clause-still

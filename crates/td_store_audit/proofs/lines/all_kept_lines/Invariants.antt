@@ -4,22 +4,22 @@ use Rattle.sqlite.specs.Held.{state}
 use Rattle.sqlite.specs.State.{HasCleanDisk}
 use Rattle.typed_sql.specs.Typed.{AreTyped, typed_rows}
 use Rattle.typed_sql.specs.Writing.{HasSchema}
-use Rattle.td_schema.specs.Layouts.{IsNewest, schema_of}
+use Rattle.td_schema.specs.Layouts.{schema_of}
 use Rattle.td_schema.specs.declared.layout.Layout.{Layout}
-use Rattle.td_store_rows.specs.StoreReads.{ReadsNewest}
 use Rattle.td_store_rows.specs.Columns.{line_typing}
 use Rattle.td_table_model.specs.Gathering.{part}
 use Rattle.td_store_audit.specs.Tallies.{AreAllLines, movements_in, raw_of}
 use Rattle.td_store_audit.specs.InPlace.{AreNumbersApart}
 use Rattle.td_store_audit.specs.Premises.{HasLinesInPlace}
 use Rattle.td_store_audit.proofs.lines.all_kept_lines.Given as goal
+use Rattle.td_store_rows.specs.StoreReads.{IsAny, ReadsStore}
 
 -- the holders before have theirs in place, and what was handed on of them is theirs
 abbrev pub invariant-holders : goal.invariant-holders
 invariant-holders g l =
     (l.tx.conn.ghost_name ≡ l.initial.tx.conn.ghost_name)
-    × ReadsNewest true (state g.S.Store l.initial.tx.conn.now) (state g.S.Store l.tx.conn.now)
-    × (HasCleanDisk (state g.S.Store l.tx.conn.now) → (layout : Layout) → IsNewest layout → HasSchema (state g.S.Store l.initial.tx.conn.now) (schema_of layout)
+    × ReadsStore true (state g.S.Store l.initial.tx.conn.now) (state g.S.Store l.tx.conn.now)
+    × (HasCleanDisk (state g.S.Store l.tx.conn.now) → (layout : Layout) → IsAny layout → HasSchema (state g.S.Store l.initial.tx.conn.now) (schema_of layout)
     → AreTyped line_typing (state g.S.Store l.initial.tx.conn.now).now.trees
     → ((H : ℕ) → AreNumbersApart (part H (typed_rows line_typing (state g.S.Store l.initial.tx.conn.now).now.trees)))
     → AllByRecursion (λ h. HasLinesInPlace (state g.S.Store l.initial.tx.conn.now).now.trees (raw_of h)) (take (length l.yielded) l.fn.counting.items))

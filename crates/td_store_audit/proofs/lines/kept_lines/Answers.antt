@@ -7,7 +7,7 @@ use Rattle.td_store_audit.proofs.Told.{lines_of_told}
 use Rattle.td_store_audit.proofs.lines.kept_lines.Goals as goal
 
 pub returns-then-not-all_lines_are_in_place-clause-told : goal.returns-then-not-all_lines_are_in_place-clause-told
-returns-then-not-all_lines_are_in_place-clause-told g c = λ clean layout newest has typed apart.
+returns-then-not-all_lines_are_in_place-clause-told g c = λ clean layout own has typed apart.
     subst (λ b. IsTrue b ↔ HasLinesInPlace (state g.S.Store c.args.tx.now.conn.now).now.trees c.args.raw.now) c.if-not-all_lines_are_in_place.true
     (lines_of_told c.args.raw.now (state g.S.Store c.args.tx.now.conn.now).now.trees c.in-Some.guarantees c.in-Some-mrn_count.movements
     (map line_row_of c.in_ok-lines.lines.items) c.all_lines_are_in_place.result
@@ -15,7 +15,7 @@ returns-then-not-all_lines_are_in_place-clause-told g c = λ clean layout newest
     (rw c.deref.ensures.value at c.all_lines_are_in_place.ensures))
 
 pub returns-clause-told : goal.returns-clause-told
-returns-clause-told g c = λ clean layout newest has typed apart.
+returns-clause-told g c = λ clean layout own has typed apart.
     subst (λ b. IsTrue b ↔ HasLinesInPlace (state g.S.Store c.args.tx.now.conn.now).now.trees c.args.raw.now) c.if-not-all_lines_are_in_place.false
     (lines_of_told c.args.raw.now (state g.S.Store c.args.tx.now.conn.now).now.trees c.in-Some.guarantees c.in-Some-mrn_count.movements
     (map line_row_of c.in_ok-lines.lines.items) c.all_lines_are_in_place.result

@@ -35,7 +35,7 @@ returns-clause-told g c clean =
       cells = all_weaker (IsReadRow line_typing AreLineFields) (IsTypedRow line_typing) (λ r is. is.0) (a.now.trees line_typing.table.tree) read;
     } in
     let said : IsTrue (is_some found) ↔ AllByRecursion (HasLinesInPlace a.now.trees) (map raw_of c.args.counting.items) =
-    told layout auditable.common.newest has typed (auditable.apart typed.cells) in
+    told layout tt has typed (auditable.apart typed.cells) in
     let rule = lines_rule c.holder_fields_tell.ensures.fields layout a (map raw_of c.args.counting.items) auditable typed.cells in
     (λ t. rule.0 (said.0 t), λ k. said.1 (rule.1 k)))
     (c.all_kept_lines.ensures.told clean) (c.all_kept_lines.ensures.told clean)

@@ -8,8 +8,9 @@ use Rattle.td_schema.specs.Layouts.{guarantees_tree, schema_of}
 use Rattle.td_store_rows.specs.Columns.{code_typing, guarantee_typing, line_typing, movement_typing}
 use Rattle.td_store_audit_rows.specs.Fields.{AreCodeFields, AreGuaranteeFields, AreLineFields, AreMovementFields}
 use Rattle.td_store_audit_rows.specs.Scans.{AreCodeColumns, AreGuaranteeColumns, AreLineColumns, AreMovementColumns, TellsRead}
-use Rattle.td_store_audit_rows.specs.declared.texts.TheConstants.{CODES, GUARANTEES, LINES, MOVEMENTS}
-use Rattle.td_store_audit_rows.proofs.Chained.{means_at, plain_here, still_newest, still_of, unchanged_on, was_so}
+use Rattle.td_store_audit_rows.specs.Versions.{guarantees_text}
+use Rattle.td_store_audit_rows.specs.declared.texts.TheConstants.{CODES, LINES, MOVEMENTS}
+use Rattle.td_store_audit_rows.proofs.Chained.{means_at, plain_here, still_schema, still_of, unchanged_on, was_so}
 use Rattle.td_store_audit_rows.proofs.Meanings.{by_rowid, code_terms, codes_mean, guarantee_terms, guarantees_mean, line_terms, lines_mean, movement_terms, movements_mean}
 use Rattle.td_store_audit_rows.proofs.ReadRows.{code_read, guarantee_read, line_read, movement_read}
 use Rattle.td_store_audit_rows.proofs.Telling.{tells}
@@ -17,15 +18,16 @@ use Rattle.td_store_audit_rows.proofs.tables.scan_tables.Goals as goal
 
 pub scan-requires-clause-plain : goal.scan-requires-clause-plain
 scan-requires-clause-plain g c clean =
-    plain_here GUARANTEES.now (state g.S.Store c.args.conn.now).now.schema (λ l newest. (guarantees_mean l newest).plain) (c.requires.tables clean)
+    rw c.guarantees_at.ensures (plain_here c.args.version (guarantees_text c.args.version) (state g.S.Store c.args.conn.now).now.schema
+    (λ l own. (guarantees_mean c.args.version l own).plain) (c.requires.tables clean))
 
 pub scan-requires-2-clause-plain : goal.scan-requires-2-clause-plain
 scan-requires-2-clause-plain g c clean =
     let a : State = state g.S.Store c.args.conn.now in
     let b : State = state g.S.Store c.scan.new.conn in
     let clean_a : HasCleanDisk a = omega (arith, clean, c.scan.ensures.survives.clean) in
-    plain_here CODES.now b.now.schema (λ l newest. (codes_mean l).plain)
-    (still_newest a b (c.in_ok-guarantees.ensures.still clean) (c.requires.tables clean_a))
+    plain_here c.args.version CODES.now b.now.schema (λ l own. (codes_mean l).plain)
+    (still_schema c.args.version a b (c.in_ok-guarantees.ensures.still clean) (c.requires.tables clean_a))
 
 pub scan-requires-3-clause-plain : goal.scan-requires-3-clause-plain
 scan-requires-3-clause-plain g c clean =
@@ -34,9 +36,9 @@ scan-requires-3-clause-plain g c clean =
     let d : State = state g.S.Store c.scan-2.new.conn in
     let clean_b : HasCleanDisk b = omega (arith, clean, c.scan-2.ensures.survives.clean) in
     let clean_a : HasCleanDisk a = omega (arith, clean_b, c.scan.ensures.survives.clean) in
-    plain_here MOVEMENTS.now d.now.schema (λ l newest. (movements_mean l).plain)
-    (still_newest b d (c.in_ok-codes.ensures.still clean)
-    (still_newest a b (c.in_ok-guarantees.ensures.still clean_b) (c.requires.tables clean_a)))
+    plain_here c.args.version MOVEMENTS.now d.now.schema (λ l own. (movements_mean l).plain)
+    (still_schema c.args.version b d (c.in_ok-codes.ensures.still clean)
+    (still_schema c.args.version a b (c.in_ok-guarantees.ensures.still clean_b) (c.requires.tables clean_a)))
 
 pub scan-requires-4-clause-plain : goal.scan-requires-4-clause-plain
 scan-requires-4-clause-plain g c clean =
@@ -47,12 +49,12 @@ scan-requires-4-clause-plain g c clean =
     let clean_d : HasCleanDisk d = omega (arith, clean, c.scan-3.ensures.survives.clean) in
     let clean_b : HasCleanDisk b = omega (arith, clean_d, c.scan-2.ensures.survives.clean) in
     let clean_a : HasCleanDisk a = omega (arith, clean_b, c.scan.ensures.survives.clean) in
-    plain_here LINES.now e.now.schema (λ l newest. (lines_mean l).plain)
-    (still_newest d e (c.in_ok-movements.ensures.still clean) (still_newest b d (c.in_ok-codes.ensures.still clean_d)
-    (still_newest a b (c.in_ok-guarantees.ensures.still clean_b) (c.requires.tables clean_a))))
+    plain_here c.args.version LINES.now e.now.schema (λ l own. (lines_mean l).plain)
+    (still_schema c.args.version d e (c.in_ok-movements.ensures.still clean) (still_schema c.args.version b d (c.in_ok-codes.ensures.still clean_d)
+    (still_schema c.args.version a b (c.in_ok-guarantees.ensures.still clean_b) (c.requires.tables clean_a))))
 
 pub returns-clause-told : goal.returns-clause-told
-returns-clause-told g c clean l newest at =
+returns-clause-told g c clean l own at =
     let a : State = state g.S.Store c.args.conn.now in
     let b : State = state g.S.Store c.scan.new.conn in
     let d : State = state g.S.Store c.scan-2.new.conn in
@@ -67,8 +69,8 @@ returns-clause-told g c clean l newest at =
     let at_d : d.now.schema ≡ schema_of l = still_of (schema_of l) a d upto_d at in
     let at_e : e.now.schema ≡ schema_of l = still_of (schema_of l) a e upto_e at in
     record {
-      guarantees = tells (guarantee_typing l) AreGuaranteeFields AreGuaranteeColumns GUARANTEES.now (col 1 0 ∷ guarantee_terms) by_rowid (schema_of l) (guarantees_mean l newest) (λ r. refl)
-          (guarantee_read l) a.now at c.in_ok-guarantees.guarantees (c.in_ok-guarantees.ensures.told clean_b);
+      guarantees = tells (guarantee_typing l) AreGuaranteeFields AreGuaranteeColumns (guarantees_text c.args.version) (col 1 0 ∷ guarantee_terms) by_rowid (schema_of l) (guarantees_mean c.args.version l own) (λ r. refl)
+          (guarantee_read l) a.now at c.in_ok-guarantees.guarantees (rw c.guarantees_at.ensures at (c.in_ok-guarantees.ensures.told clean_b));
       codes = was_so (λ (db : Database). TellsRead code_typing AreCodeFields db.trees c.in_ok-codes.codes) a b upto_b
           (tells code_typing AreCodeFields AreCodeColumns CODES.now (col 1 0 ∷ code_terms) by_rowid (schema_of l) (codes_mean l) (λ r. refl)
           code_read b.now at_b c.in_ok-codes.codes (c.in_ok-codes.ensures.told clean_d));
@@ -81,7 +83,7 @@ returns-clause-told g c clean l newest at =
     }
 
 pub returns-clause-ids : goal.returns-clause-ids
-returns-clause-ids g c clean l newest at =
+returns-clause-ids g c clean l own at =
     let a : State = state g.S.Store c.args.conn.now in
     let b : State = state g.S.Store c.scan.new.conn in
     let d : State = state g.S.Store c.scan-2.new.conn in
@@ -96,8 +98,8 @@ returns-clause-ids g c clean l newest at =
     let at_d : d.now.schema ≡ schema_of l = still_of (schema_of l) a d upto_d at in
     let at_e : e.now.schema ≡ schema_of l = still_of (schema_of l) a e upto_e at in
     record {
-      guarantees = c.in_ok-guarantees.ensures.ids clean_b (guarantees_tree l) guarantee_terms by_rowid
-          (means_at GUARANTEES.now (guarantees_tree l) (col 1 0 ∷ guarantee_terms) by_rowid (schema_of l) a.now.schema at (guarantees_mean l newest));
+      guarantees = (rw c.guarantees_at.ensures at (c.in_ok-guarantees.ensures.ids clean_b)) (guarantees_tree l) guarantee_terms by_rowid
+          (means_at (guarantees_text c.args.version) (guarantees_tree l) (col 1 0 ∷ guarantee_terms) by_rowid (schema_of l) a.now.schema at (guarantees_mean c.args.version l own));
       codes = was_so (λ (db : Database). HaveIds (db.trees 2)) a b upto_b (c.in_ok-codes.ensures.ids clean_d 2 code_terms by_rowid
           (means_at CODES.now 2 (col 1 0 ∷ code_terms) by_rowid (schema_of l) b.now.schema at_b (codes_mean l)));
       movements = was_so (λ (db : Database). HaveIds (db.trees 4)) a d upto_d (c.in_ok-movements.ensures.ids clean_e 4 movement_terms by_rowid
