@@ -60,7 +60,7 @@ pub holds_shown : (c : Content) (s : State) → HoldsContent c s → IsTrue s.is
 holds_shown c s holds is = subst (λ x. HoldsContent x s) (sym (content_held c s holds is)) holds
 
 -- a connection that is shut is to a file of any layout; and so a desk has a store's tables
-by_open : (s : State) (open : Bool) → s.is_open ≡ open → (open ≡ true → (c : Content) × HoldsContent c s) → HasNewestTables s
+by_open : (s : State) (live : Bool) → s.is_open ≡ live → (live ≡ true → (c : Content) × HoldsContent c s) → HasNewestTables s
 by_open s true is holds =
     let it = holds refl in
     (it.1.trees.layout, it.1.trees.newest, it.1.schema)
@@ -104,7 +104,7 @@ decided_over country change s c holds is at decided =
 -- what was loaded of the content that the connection holds was loaded of that of the database
 pub loaded_there : (owner : Option ℕ) (need : Need) (s : State) (c : Content) (loaded : Loaded) → HoldsContent c s → IsTrue s.is_open
     → IsLoaded (kept_for owner c) need loaded → IsLoaded (kept_for owner (content_in s.now)) need loaded
-loaded_there owner need s c loaded holds open is = subst (λ x. IsLoaded (kept_for owner x) need loaded) (sym (content_held c s holds open)) is
+loaded_there owner need s c loaded holds live is = subst (λ x. IsLoaded (kept_for owner x) need loaded) (sym (content_held c s holds live)) is
 
 -- a change that a desk decided on the content of its database; the connection was a desk's
 module _ (country : List ℕ) (change : Change) (a : State) (desk : IsDeskOf country a)

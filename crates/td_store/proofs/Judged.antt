@@ -17,6 +17,7 @@ use Rattle.td_store_audit_rows.specs.declared.tables.Readable.{Readable}
 use Rattle.td_store_audit_rows.specs.Scans.{TellReadable}
 use Rattle.td_store_audit.specs.Keeping.{KeepsTables}
 use Rattle.td_store_audit.specs.InFile.{IsSoWhere}
+use Rattle.td_store_rows.specs.StoreReads.{IsOfVersion}
 use Rattle.td_store_rows.specs.Columns.{MetaIsFirst, MetaRow, meta_row, meta_typing}
 use Rattle.td_schema.specs.Layouts.{IsNewest, newest_version, schema_of, version_of}
 use Rattle.td_schema.specs.declared.layout.Layout.{Layout}
@@ -154,7 +155,7 @@ rows_told layout trees law kept (Some rule) first = first
 -- what the first rule that is broken, or none, tells of tables of which an open connection tells what the database keeps
 pub rules_told : (s : State) (layout : Layout) → KeepsTables s → IsTrue s.is_open → s.now.schema ≡ schema_of layout
     → (readable : Readable) (broken : Option Rule)
-    → IsSoWhere (version_of layout) AreKept (λ l trees. TellReadable l readable trees → TellsBroken l trees broken) s
+    → IsSoWhere (IsOfVersion (version_of layout)) AreKept (λ l trees. TellReadable l readable trees → TellsBroken l trees broken) s
     → TellsRules layout readable s.now.trees broken
 rules_told s layout keeps is_open has readable broken told ids read =
     let kept = keeps layout is_open (λ _. has) ids in

@@ -34,7 +34,7 @@ of_desk country db (inl (inr is)) = absurd cc
 of_desk country db (inr (inl is)) = let e = is.0 in absurd cc
 of_desk country db (inr (inr told)) = told
 
-trees_of : (country : List ℕ) (layout : Layout) (db : Database) → db.schema ≡ schema_of layout → IsDatabase db
+abbrev trees_of : (country : List ℕ) (layout : Layout) (db : Database) → db.schema ≡ schema_of layout → IsDatabase db
     → AreOfDesk country layout db.trees → AreTreesOf (content_of (tables_in layout db.trees)) db.trees
 trees_of country layout db has obeys desk = record {
   layout = layout;
@@ -131,7 +131,7 @@ one_row country trees row =
     omega (arith, one, all)
 
 -- the version in a row
-version_in : List MetaRow → ℤ
+abbrev version_in : List MetaRow → ℤ
 version_in [] = pos 0
 version_in (row ∷ rows) = row.version
 

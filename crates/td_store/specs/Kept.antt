@@ -10,7 +10,7 @@ use Rattle.sqlite.specs.State.{State, HasCleanDisk, Survives}
 use Rattle.td_desk.specs.Content.{Content}
 use Rattle.td_desk.specs.View.{DeskView}
 use Rattle.td_table_model.specs.Gathering.{content_of}
-use Rattle.td_schema.specs.Layouts.{IsNewest, schema_of, version_of}
+use Rattle.td_schema.specs.Layouts.{IsNewest, schema_of}
 use Rattle.td_schema.specs.declared.layout.Layout.{Layout}
 use Rattle.td_schema.specs.declared.layout.Layout.TheVariants.{Grown2, Made1, Made2}
 use Rattle.typed_sql.specs.Writing.{HasSchema}
@@ -28,10 +28,6 @@ layout_of s = layout_by (is_some (table_named s (codes "guarantees1"))) (is_some
 -- the content that a database holds whose tables are a store's
 abbrev pub content_in : Database → Content
 content_in db = content_of (tables_in (layout_of db.schema) db.trees)
-
--- the tables are those of a layout of this version
-abbrev pub AreOfVersion : ℕ → Schema → Type 0
-AreOfVersion version s = (l : Layout) × (version_of l ≡ version) × (s ≡ schema_of l)
 
 -- as far as the connection is open, it is to a file whose tables are those of a layout of the newest version
 abbrev pub HasNewestTables : State → Type 0

@@ -31,7 +31,7 @@ fn fault_at<S: Alter>(
     ensures shown { HasCleanDisk (state S.Store conn.new) → IfOk result (λ fault. fault ≡ None
         → IsTrue (state S.Store conn.old).is_open × IsTrue (state S.Store conn.new).is_open) }
     ensures told { HasCleanDisk (state S.Store conn.new) → IfOk result (TellsAudit version (state S.Store conn.old).now) }
-    ensures kinds { IfOk result (λ fault. IfSome fault (λ why. (why ≡ fault.Store) ⊎ ((rule : Rule) × (why ≡ fault.Damaged rule)))) }
+    ensures kinds { IfOk result (λ told. IfSome told (λ why. (why ≡ fault.Store) ⊎ ((rule : Rule) × (why ≡ fault.Damaged rule)))) }
     ensures same { HasCleanDisk (state S.Store conn.new) → IsTrue (state S.Store conn.new).is_open
         → (state S.Store conn.new).now ≡ (state S.Store conn.old).now }
     ensures crash { Survives (state S.Store conn.old) (state S.Store conn.new) (λ _. ⊥) }

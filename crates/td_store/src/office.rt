@@ -53,7 +53,10 @@ fn known_version(number: i64) -> Option<u32>
 pub(crate) fn version_said(office: Option<StoredMeta>) -> Option<u32>
     ensures { TellsKnown office result }
 {
-    known_version(office?.version)
+    match office {
+        Some(office) => known_version(office.version),
+        None => None,
+    }
 }
 
 /// What the office's own row is refused for, at an office of that country: `UnknownVersion` where there is none, or its version

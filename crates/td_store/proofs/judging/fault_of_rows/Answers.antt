@@ -1,4 +1,4 @@
-use Rattle.std.proofs.Common.{arith, refl, subst}
+use Rattle.std.proofs.Common.{arith, subst, sym}
 use Rattle.sqlite.specs.Effect.{Database}
 use Rattle.sqlite.specs.Held.{state}
 use Rattle.sqlite.specs.State.{HasCleanDisk, State}
@@ -7,7 +7,7 @@ use Rattle.td_store.proofs.Judged.{rows_told}
 use Rattle.td_store.proofs.judging.fault_of_rows.Goals as goal
 
 pub readable_tables-requires-clause-tables : goal.readable_tables-requires-clause-tables
-readable_tables-requires-clause-tables g c clean = (c.args.layout, refl, c.requires.tables clean)
+readable_tables-requires-clause-tables g c clean = (c.args.layout, sym c.version_in.ensures, c.requires.tables clean)
 
 pub returns-clause-told : goal.returns-clause-told
 returns-clause-told g c clean =
@@ -17,8 +17,8 @@ returns-clause-told g c clean =
     let clean_b : HasCleanDisk b = omega (arith, clean, c.broken_rule.ensures.crash.clean) in
     let clean_a : HasCleanDisk a = omega (arith, clean_b, c.readable_tables.ensures.survives.clean) in
     let at = c.requires.tables clean_a in
-    let ids = c.in_ok-readable.ensures.ids clean_b layout refl at in
+    let ids = c.in_ok-readable.ensures.ids clean_b layout (sym c.version_in.ensures) at in
     let told : TellsRules layout c.in_ok-readable.readable a.now.trees c.in_ok-broken.broken =
     subst (λ (d : Database). TellsRules layout c.in_ok-readable.readable d.trees c.in_ok-broken.broken) (c.in_ok-readable.ensures.still clean_b).0.now_is (c.in_ok-broken.ensures.told clean) in
-    let both = told ids (c.in_ok-readable.ensures.told clean_b layout refl at) in
+    let both = told ids (c.in_ok-readable.ensures.told clean_b layout (sym c.version_in.ensures) at) in
     subst (TellsRows layout a.now.trees) (sym c.damage.ensures) (rows_told layout a.now.trees c.kept_rules_mean_content.ensures both.0 c.in_ok-broken.broken both.1)
