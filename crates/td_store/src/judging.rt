@@ -16,6 +16,7 @@ use sqlite::{Connection, Error};
 use sqlite_trees::store::Alter;
 use std::alloc::Global;
 use td_base::Country;
+use td_schema::NEWEST_VERSION;
 use td_store_audit::{database_keeps, first_broken};
 use td_store_audit_rows::{Readable, kept_rules_mean_content, readable_tables};
 use td_store_rows::find_meta;
@@ -69,7 +70,7 @@ fn broken_rule<S: Alter>(
     see_settled(conn);
     database_keeps(conn);
     let mut tx = conn.transaction();
-    let broken = first_broken(alloc, &mut tx, readable)?;
+    let broken = first_broken(alloc, &mut tx, NEWEST_VERSION, readable)?;
     // (compiled now, it takes no memory when it is asked again)
     see_open(&mut tx)?;
     tx.commit()?;
@@ -94,7 +95,7 @@ fn fault_of_rows<S: Alter>(
         → (state S.Store conn.new).now ≡ (state S.Store conn.old).now }
     ensures crash { Survives (state S.Store conn.old) (state S.Store conn.new) (λ _. ⊥) }
 {
-    let readable = readable_tables(conn)?;
+    let readable = readable_tables(conn, NEWEST_VERSION)?;
     let broken = broken_rule(alloc, conn, readable)?;
     Ok(damage(broken))
 }
