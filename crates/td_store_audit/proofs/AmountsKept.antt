@@ -1,5 +1,5 @@
--- Where the rules before S7 are kept, S7 is kept exactly where the amount in each row is what the lines on its guarantee add up to, in
--- a file that keeps amounts; in another it is always kept.
+-- Where the rules before S7 are kept, S7 is kept exactly where the amount in each row is what the lines on its guarantee
+-- add up to, in a file that keeps amounts; in another it is always kept.
 use Rattle.std.proofs.Common.{◌∙◌, ◌<◌, ◌≤◌, ℕ, Bool, List, map, Ok, Err, Result, true, refl, sym, subst, arith}
 use Rattle.std.proofs.lemmas.List.Sorted.{IsPermutation-sym}
 use Rattle.std.specs.Prelude.{◌↔◌, IfOk}

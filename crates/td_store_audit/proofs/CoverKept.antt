@@ -1,4 +1,5 @@
--- Where the rules before S7 are kept, S8 is kept exactly where the lines on each guarantee add up to its reference amount at most.
+-- Where the rules before S7 are kept, S8 is kept exactly where the lines on each guarantee add up to its reference amount
+-- at most.
 use Rattle.std.proofs.Common.{ℕ, Bool, List, map, Ok, Err, Result, arith}
 use Rattle.std.specs.Prelude.{◌↔◌, IfOk}
 use Rattle.std.specs.List.{AllByRecursion}

@@ -1,5 +1,5 @@
--- By what was handed on of a holder each of the holder's guarantees is covered exactly where it is in the file, and each amount that
--- is kept is right exactly where it is there.
+-- By what was handed on of a holder each of the holder's guarantees is covered exactly where it is in the file, and each
+-- amount that is kept is right exactly where it is there.
 use Rattle.std.proofs.Common.{◌≡◌, ◌∙◌, ℕ, ◌≤◌, List, map, sum_by, sym, ap, subst, arith, IsPermutation}
 use Rattle.std.specs.Prelude.{◌↔◌, ◌==◌, filter}
 use Rattle.std.specs.List.{AllByRecursion}

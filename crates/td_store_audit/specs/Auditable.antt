@@ -25,8 +25,8 @@ pub record IsAuditable (layout : Layout) (trees : Trees) (country : List ℕ) (h
 abbrev pub KeepsBefore : Layout → Trees → Rule → Type 0
 KeepsBefore layout trees rule = (other : Rule) → rule_no other < rule_no rule → KeepsUntyped layout trees other
 
--- where they are, in a file of one of these layouts, and this is so of the tables, it is told whether they keep the rule as they
--- stand in the file
+-- where they are, in a file of one of these layouts, and this is so of the tables, it is told whether they keep the rule
+-- as they stand in the file
 abbrev pub TellsRule : (Layout → Type 0) → (Layout → Trees → Type 0) → Rule → List ℕ → List RawHolder → State → Bool → Type 0
 TellsRule At Q rule country holders state keeps =
     (layout : Layout) → At layout → HasSchema state (schema_of layout) → Q layout state.now.trees

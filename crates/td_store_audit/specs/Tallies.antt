@@ -54,7 +54,8 @@ AreAllCounting state handed = IsSoWhere IsAny (λ layout. AreTypedApart movement
 abbrev pub AreAllLines : State → List HolderLines → Type 0
 AreAllLines state handed = IsSoWhere IsAny (λ layout. AreTyped line_typing) (λ layout trees. AllByRecursion (AreItsLines layout trees) handed) state
 
--- what was handed on of a holder is so, and the holder's guarantees are typed, with the amounts in use where they are kept
+-- what was handed on of a holder is so, and the holder's guarantees are typed, with the amounts in use where a file keeps
+-- them
 pub record IsHandedOn (layout : Layout) (trees : Trees) (h : HolderLines) : Type 0 where
   pub guarantees : AreTypedApart (guarantee_typing layout) trees
   pub kept : KeepsUse layout → AreTypedApart (kept_typing layout) trees

@@ -1,4 +1,4 @@
-//! S7: where the rows of guarantees keep the amounts in use, from version 2 on, each is what is in use on its guarantee.
+//! S7: the rows of guarantees keep the amounts in use, from version 2 on, and each is what is in use on its guarantee.
 ghost use Rattle.std.specs.Prelude.{◌≡◌, ◌↔◌, ℕ, List, IsTrue, IfOk, is_ok};
 ghost use Rattle.std.specs.List.{AllByRecursion};
 ghost use Rattle.sqlite.specs.Held.{state};
@@ -18,9 +18,9 @@ use std::alloc::Global;
 use td_store_audit_rows::found_holders_tell;
 use td_store_rows::{KeptGuarantee, kept_of};
 
-/// Whether the tables keep S7 as they stand in a file of that version, at an office of whatever country: a file of version 1 keeps no
-/// amounts. It is given what the rules of movements and of lines handed on of each holder, and reads the guarantees alone.
-/// `OutOfMemory`: want of memory; any other error is the database's own.
+/// Whether the tables keep S7 as they stand in a file of that version, at an office of whatever country: a file of
+/// version 1 keeps no amounts. It is given what the rules of movements and of lines handed on of each holder, and reads the
+/// guarantees alone. `OutOfMemory`: want of memory; any other error is the database's own.
 pub(crate) fn amounts_keep_rule<S: Alter>(
     alloc: Global,
     tx: &mut Transaction<'_, S>,
@@ -31,7 +31,8 @@ pub(crate) fn amounts_keep_rule<S: Alter>(
     ensures same_reference { tx.new.conn.ghost_name ≡ tx.old.conn.ghost_name }
     ensures told { HasCleanDisk (state S.Store tx.new.conn.now)
         → IfOk result (λ keeps. (country : List ℕ)
-        → TellsWhere (IsOfVersion version) (IsUseAuditable country handed.now) (λ layout trees. KeepsUntyped layout trees S7) (state S.Store tx.old.conn.now) keeps) }
+        → TellsWhere (IsOfVersion version) (IsUseAuditable country handed.now) (λ layout trees. KeepsUntyped layout trees S7)
+        (state S.Store tx.old.conn.now) keeps) }
     ensures reads { ReadsVersion version (is_ok result) (state S.Store tx.old.conn.now) (state S.Store tx.new.conn.now) }
 {
     found_holders_tell();
@@ -51,7 +52,8 @@ fn all_holders_kept<S: Alter>(
     ensures same_reference { tx.new.conn.ghost_name ≡ tx.old.conn.ghost_name }
     ensures told { HasCleanDisk (state S.Store tx.new.conn.now)
         → IfOk result (TellsWhere KeepsUse (λ layout trees. AllByRecursion (IsHandedOn layout trees) handed.now)
-        (λ layout trees. AllByRecursion (λ h. IsHolderKeptInFile layout trees (raw_holder_of h)) handed.now) (state S.Store tx.old.conn.now)) }
+        (λ layout trees. AllByRecursion (λ h. IsHolderKeptInFile layout trees (raw_holder_of h)) handed.now)
+        (state S.Store tx.old.conn.now)) }
     ensures reads { ReadsKept (is_ok result) (state S.Store tx.old.conn.now) (state S.Store tx.new.conn.now) }
 {
     'holders: for parts in handed {

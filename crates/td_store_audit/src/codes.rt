@@ -27,7 +27,8 @@ fn has_codes<S: Alter>(
     requires { IsInside (state S.Store tx.old.conn.now) }
     ensures same_reference { tx.new.conn.ghost_name ≡ tx.old.conn.ghost_name }
     ensures told { HasCleanDisk (state S.Store tx.new.conn.now)
-        → IfOk result (TellsWhere IsAny (λ layout. AreTyped code_typing) (λ layout trees. HasCodesInPlace trees raw.now) (state S.Store tx.old.conn.now)) }
+        → IfOk result (TellsWhere IsAny (λ layout. AreTyped code_typing) (λ layout trees. HasCodesInPlace trees raw.now)
+        (state S.Store tx.old.conn.now)) }
     ensures reads { ReadsStore (is_ok result) (state S.Store tx.old.conn.now) (state S.Store tx.new.conn.now) }
 {
     let codes = codes_of_holder(alloc, tx, raw.holder)?;

@@ -18,9 +18,9 @@ use std::alloc::Global;
 use td_store_audit_rows::found_holders_tell;
 use td_store_rows::{StoredGuarantee, guarantees_of};
 
-/// Whether the tables keep S8 as they stand in a file of that version, at an office of whatever country. It is given what the rules of movements
-/// and of lines handed on of each holder, and reads the guarantees alone. `OutOfMemory`: want of memory; any other error is the
-/// database's own.
+/// Whether the tables keep S8 as they stand in a file of that version, at an office of whatever country. It is given what
+/// the rules of movements and of lines handed on of each holder, and reads the guarantees alone. `OutOfMemory`: want of
+/// memory; any other error is the database's own.
 pub(crate) fn cover_keeps_rule<S: Alter>(
     alloc: Global,
     tx: &mut Transaction<'_, S>,
@@ -31,7 +31,8 @@ pub(crate) fn cover_keeps_rule<S: Alter>(
     ensures same_reference { tx.new.conn.ghost_name ≡ tx.old.conn.ghost_name }
     ensures told { HasCleanDisk (state S.Store tx.new.conn.now)
         → IfOk result (λ keeps. (country : List ℕ)
-        → TellsWhere (IsOfVersion version) (IsUseAuditable country handed.now) (λ layout trees. KeepsUntyped layout trees S8) (state S.Store tx.old.conn.now) keeps) }
+        → TellsWhere (IsOfVersion version) (IsUseAuditable country handed.now) (λ layout trees. KeepsUntyped layout trees S8)
+        (state S.Store tx.old.conn.now) keeps) }
     ensures reads { ReadsVersion version (is_ok result) (state S.Store tx.old.conn.now) (state S.Store tx.new.conn.now) }
 {
     found_holders_tell();

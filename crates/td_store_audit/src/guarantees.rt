@@ -21,9 +21,9 @@ use td_store_audit_rows::{
 };
 use td_store_rows::guarantees_of;
 
-/// Whether the tables keep S3 as they stand in a file of that version, at an office of that country. It is given all holders, as
-/// `td_store_audit_rows::all_holders` reads them, and whether each row of the table can be read. `OutOfMemory`: want of memory; any
-/// other error is the database's own.
+/// Whether the tables keep S3 as they stand in a file of that version, at an office of that country. It is given all
+/// holders, as `td_store_audit_rows::all_holders` reads them, and whether each row of the table can be read. `OutOfMemory`:
+/// want of memory; any other error is the database's own.
 pub fn guarantees_keep_rule<S: Alter>(
     alloc: Global,
     tx: &mut Transaction<'_, S>,
@@ -35,7 +35,8 @@ pub fn guarantees_keep_rule<S: Alter>(
     requires { HasCleanDisk (state S.Store tx.old.conn.now) → IsTrue (state S.Store tx.old.conn.now).in_transaction }
     ensures same_reference { tx.new.conn.ghost_name ≡ tx.old.conn.ghost_name }
     ensures told { HasCleanDisk (state S.Store tx.new.conn.now)
-        → IfOk result (TellsRule (IsOfVersion version) (λ layout trees. TellsRead (guarantee_typing layout) AreGuaranteeFields trees are_read)
+        → IfOk result (TellsRule (IsOfVersion version)
+        (λ layout trees. TellsRead (guarantee_typing layout) AreGuaranteeFields trees are_read)
         S3 country holders.now (state S.Store tx.old.conn.now)) }
     ensures still { HasCleanDisk (state S.Store tx.new.conn.now)
         → OnOk result (OnlyReadIn (IsOfVersion version) (state S.Store tx.old.conn.now) (state S.Store tx.new.conn.now)) }

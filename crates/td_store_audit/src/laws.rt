@@ -1,5 +1,6 @@
 //! Laws of what a store's schema keeps of its tables, as contracts of functions that do nothing else.
-ghost use Rattle.td_store_audit.specs.Keeping.{SchemaKeepsAmounts, SchemaKeepsCodes, SchemaKeepsGuarantees, SchemaKeepsHolders, SchemaKeepsLines, SchemaKeepsMovements, SchemaKeepsTables};
+ghost use Rattle.td_store_audit.specs.Keeping.{SchemaKeepsAmounts, SchemaKeepsCodes, SchemaKeepsGuarantees, SchemaKeepsHolders};
+ghost use Rattle.td_store_audit.specs.Keeping.{SchemaKeepsLines, SchemaKeepsMovements, SchemaKeepsTables};
 
 /// The holders' numbers are numbers in range, and no two are the same.
 pub fn schema_keeps_holders()
@@ -11,8 +12,8 @@ pub fn schema_keeps_guarantees()
     ensures { SchemaKeepsGuarantees }
 {}
 
-/// In a file that keeps the amounts in use, where the rows of guarantees are typed, each amount is a number, at most the reference
-/// amount: so whatever stands in the other columns, an amount can be read where the reference amount can.
+/// In a file that keeps the amounts in use, where the rows of guarantees are typed without them, each amount is a number,
+/// at most the reference amount. So it can be read where the reference amount can.
 pub fn schema_keeps_amounts()
     ensures { SchemaKeepsAmounts }
 {}

@@ -39,7 +39,8 @@ pub(crate) fn movements_keep_rule<S: Alter>(
     requires { IsInside (state S.Store tx.old.conn.now) }
     ensures same_reference { tx.new.conn.ghost_name ≡ tx.old.conn.ghost_name }
     ensures told { HasCleanDisk (state S.Store tx.new.conn.now)
-        → IfOk result (λ found. TellsRule IsAny (λ layout trees. TellsRead movement_typing AreMovementFields trees are_read) S5 country holders.now
+        → IfOk result (λ found. TellsRule IsAny (λ layout trees. TellsRead movement_typing AreMovementFields trees are_read)
+        S5 country holders.now
         (state S.Store tx.old.conn.now) (is_some found)) }
     ensures holders { IfOk result (λ found. IfSome found (λ each. map raw_of each.items ≡ holders.now)) }
     ensures handed { HasCleanDisk (state S.Store tx.new.conn.now)

@@ -9,8 +9,8 @@ use keyed_rows::find_row;
 use td_base::Cents;
 use td_store_rows::{MovementSerial, StoredLine};
 
-/// What the lines on a guarantee add up to, of lines on any: those alone of the movements with these serials. `None`: above 10^15
-/// cents.
+/// What the lines on a guarantee add up to, of lines on any: those alone of the movements with these serials. `None`: above
+/// 10^15 cents.
 pub fn total_on(guarantee: u32, lines: &[StoredLine], serials: &[MovementSerial]) -> Option<Cents>
     requires { Rises serial_of_stored 0 serials.now }
     ensures { let cents = total_on guarantee serials.now lines.now in SomeIff result (IsCents cents) cents }

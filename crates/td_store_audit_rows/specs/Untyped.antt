@@ -40,8 +40,8 @@ HasGrnCount r = IsNumber (column r 4)
 abbrev pub HasMrnCount : Row → Type 0
 HasMrnCount r = IsNumber (column r 5)
 
--- The columns that the rule speaks of are of their kinds, in each row: of S1 in the office's own row, which is there once, of S7
--- where amounts in use are kept.
+-- The columns that the rule speaks of are of their kinds, in each row: of S1 in the office's own row, which is there
+-- once, of S7 where amounts in use are kept.
 abbrev pub HasColumnTypes : Layout → Rule → Trees → Type 0
 HasColumnTypes l S1 trees = (length (trees meta_typing.table.tree) ≡ 1) × AllRows meta_typing (IsTypedRow meta_typing) trees
 HasColumnTypes l S2 trees = AllRows holder_typing HasIdentity trees

@@ -24,8 +24,8 @@ pub struct Readable {
     pub lines: bool,
 }
 
-// The same of the tables of that version, where the rowids of each of them are integers, no two the same. `DatabaseCorrupt`: they aren't; any other error is
-// the database's own.
+// The same of a file of that version, where the rowids of each of them are integers, no two the same. `DatabaseCorrupt`:
+// they aren't; any other error is the database's own.
 fn scan_tables<S: Alter>(conn: &mut Connection<S>, version: u32) -> Result<Readable, Error>
     requires outside { conn.old.in_transaction ≡ false }
     requires tables { HasCleanDisk (state S.Store conn.old) → IsSchemaOf version (state S.Store conn.old).now.schema }
@@ -50,9 +50,10 @@ fn scan_tables<S: Alter>(conn: &mut Connection<S>, version: u32) -> Result<Reada
     })
 }
 
-/// Which tables of a store's file of that version can be read row by row. It walks along all rows outside a transaction, each once,
-/// keeps none, and changes nothing. `DatabaseCorrupt`: the rowids of a table aren't integers, or two are the same; any other error is the database's own, or
-/// want of memory.
+/// Which tables of a store's file of that version, 1 or 2, can be read row by row. It walks along all rows outside a
+/// transaction, each once, keeps none, and changes nothing. The amounts in use of a file that keeps them aren't looked at:
+/// the schema's own rules make each a number up to the reference amount. `DatabaseCorrupt`: the rowids of a table aren't
+/// integers, or two are the same; any other error is the database's own, or want of memory.
 pub fn readable_tables<S: Alter>(conn: &mut Connection<S>, version: u32) -> Result<Readable, Error>
     requires outside { conn.old.in_transaction ≡ false }
     requires tables { HasCleanDisk (state S.Store conn.old) → IsSchemaOf version (state S.Store conn.old).now.schema }

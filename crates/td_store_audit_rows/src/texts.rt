@@ -11,7 +11,7 @@ pub const HOLDER_IDS: &str = "SELECT rowid FROM holders ORDER BY rowid";
 pub const HOLDERS: &str =
     "SELECT holder, eori, last_at, grn_count, mrn_count FROM holders ORDER BY holder";
 
-/// All rows of the other tables, with their rowids, which rise: of guarantees in a file of version 1, and of a later one.
+/// All rows of the other tables, with their rowids, which rise: of guarantees in a file of version 1, and in a later one.
 pub const GUARANTEES1: &str =
     "SELECT rowid, holder, serial, grn, reference, cover, ends FROM guarantees1 ORDER BY rowid";
 
