@@ -1,6 +1,6 @@
 -- What the office's own row and the rules tell of a store's tables.
 use Rattle.std.proofs.Common.{◌≡◌, ◌∙◌, ◌⊎◌, ℕ, Bool, inl, inr, true, false, if◌then◌else◌, List, [], ◌∷◌, Option, Some, None, Err, Ok, Result, ap, length, map, refl, subst, sym}
-use Rattle.std.specs.Prelude.{pos, is_some, option_map, IfOk, IsTrue}
+use Rattle.std.specs.Prelude.{pos, is_some, option_map, IfOk, IfSome, IsTrue}
 use Rattle.std.specs.Bool.{Decides}
 use Rattle.std.specs.Option.{ok_or, option_to_list}
 use Rattle.std.proofs.lemmas.Bool.Decides.{Decides-and, Decides-eqb, Decides-like}
@@ -30,7 +30,7 @@ use Rattle.td_store_audit.specs.Broken.{TellsBroken}
 use Rattle.td_store.specs.declared.refused.OpenFault.{OpenFault}
 use Rattle.td_store.specs.declared.refused.OpenFault.TheVariants.{UnknownVersion, NeedsMigration, OtherCountry, Damaged, Store, NoMemory}
 use Rattle.td_store.proofs.Begins.{store_begins}
-use Rattle.td_store.specs.Opened.{IsOfAnother, IsOfEarlier, IsOfficeIn, IsOfKnownVersion, MaySay, TellsDatabase, TellsFileVersion, TellsKnown, TellsOffice, TellsRows, TellsRules, TellsTables}
+use Rattle.td_store.specs.Opened.{IsDamage, IsOfAnother, IsOfEarlier, IsOfficeIn, IsOfKnownVersion, MaySay, TellsDatabase, TellsFileVersion, TellsKnown, TellsOffice, TellsRows, TellsRules, TellsTables}
 
 country_decided : (text : List ℕ) → Decides (is_country text) (IsCountry text)
 country_decided text =
@@ -160,3 +160,15 @@ pub rules_told : (s : State) (layout : Layout) → KeepsTables s → IsTrue s.is
 rules_told s layout keeps is_open has readable broken told ids read =
     let kept = keeps layout is_open (λ _. has) ids in
     (kept, told layout refl (λ _. has) kept read)
+
+-- what a broken rule is told as
+pub damage_is : (broken : Option Rule) → IfSome (option_map Damaged broken) IsDamage
+damage_is None = tt
+damage_is (Some rule) = (rule, refl)
+
+-- of rows that is the only fault, beside the store's
+pub store_or_damage : (result : Result (Option OpenFault) Error) → IfOk result (λ told. IfSome told IsDamage)
+    → IfOk result (λ told. IfSome told (λ why. (why ≡ Store) ⊎ IsDamage why))
+store_or_damage (Ok None) is = tt
+store_or_damage (Ok (Some why)) is = inr is
+store_or_damage (Err error) is = tt

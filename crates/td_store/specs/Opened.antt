@@ -137,6 +137,10 @@ TellsFileVersion db (Err Store) = Unit {0}
 TellsFileVersion db (Err NoMemory) = Unit {0}
 TellsFileVersion db (Err _) = ⊥
 
+-- the fault is damage, by some rule
+abbrev pub IsDamage : OpenFault → Type 0
+IsDamage why = (rule : Rule) × (why ≡ Damaged rule)
+
 -- where the rowids are integers, no two the same, and these tables can be read, it is told what the rules say of the tables
 abbrev pub TellsRules : Layout → Readable → Trees → Option Rule → Type 0
 TellsRules layout readable trees broken =

@@ -3,10 +3,9 @@ ghost use Rattle.std.specs.Prelude.{◌≡◌, ◌⊎◌, false, None, IsTrue, I
 ghost use Rattle.sqlite.specs.Held.{state};
 ghost use Rattle.sqlite.specs.State.{HasCleanDisk, Survives};
 ghost use Rattle.td_desk.specs.Content.{Content};
-ghost use Rattle.td_table_model.specs.declared.rule.Rule.{Rule};
 ghost use Rattle.td_store.specs.declared.refused.OpenFault.TheVariants as fault;
 ghost use Rattle.td_store.specs.Kept.{CrashLeavesShown};
-ghost use Rattle.td_store.specs.Opened.{HoldsAtVersion, TellsAudit, fault_in};
+ghost use Rattle.td_store.specs.Opened.{HoldsAtVersion, IsDamage, TellsAudit, fault_in};
 
 use crate::faults::open_fault_of;
 use crate::judging::fault_of_rows;
@@ -31,7 +30,7 @@ fn fault_at<S: Alter>(
     ensures shown { HasCleanDisk (state S.Store conn.new) → IfOk result (λ fault. fault ≡ None
         → IsTrue (state S.Store conn.old).is_open × IsTrue (state S.Store conn.new).is_open) }
     ensures told { HasCleanDisk (state S.Store conn.new) → IfOk result (TellsAudit version (state S.Store conn.old).now) }
-    ensures kinds { IfOk result (λ told. IfSome told (λ why. (why ≡ fault.Store) ⊎ ((rule : Rule) × (why ≡ fault.Damaged rule)))) }
+    ensures kinds { IfOk result (λ told. IfSome told (λ why. (why ≡ fault.Store) ⊎ IsDamage why)) }
     ensures same { HasCleanDisk (state S.Store conn.new) → IsTrue (state S.Store conn.new).is_open
         → (state S.Store conn.new).now ≡ (state S.Store conn.old).now }
     ensures crash { Survives (state S.Store conn.old) (state S.Store conn.new) (λ _. ⊥) }
@@ -56,7 +55,7 @@ pub fn audit<S: Alter>(
     ensures shown { HasCleanDisk (state S.Store conn.new)
         → OnOk result (IsTrue (state S.Store conn.old).is_open × IsTrue (state S.Store conn.new).is_open) }
     ensures told { HasCleanDisk (state S.Store conn.new) → TellsAudit version (state S.Store conn.old).now (fault_in result) }
-    ensures kinds { IfErr result (λ why. ((why ≡ fault.Store) ⊎ (why ≡ fault.NoMemory)) ⊎ ((rule : Rule) × (why ≡ fault.Damaged rule))) }
+    ensures kinds { IfErr result (λ why. ((why ≡ fault.Store) ⊎ (why ≡ fault.NoMemory)) ⊎ IsDamage why) }
     ensures sound { HasCleanDisk (state S.Store conn.new) → (c : Content) → HoldsAtVersion version c (state S.Store conn.old).now
         → IfErr result (λ why. (why ≡ fault.Store) ⊎ (why ≡ fault.NoMemory)) }
     ensures same { HasCleanDisk (state S.Store conn.new) → IsTrue (state S.Store conn.new).is_open

@@ -1,10 +1,10 @@
 //! Whether a database is one that a desk was made in, and what it is refused for.
-ghost use Rattle.std.specs.Prelude.{◌≡◌, false, Some, None, option_map, IsTrue, IfOk, OnOk};
+ghost use Rattle.std.specs.Prelude.{◌≡◌, false, Some, None, option_map, IsTrue, IfOk, IfSome, OnOk};
 ghost use Rattle.sqlite.specs.Held.{state};
 ghost use Rattle.sqlite.specs.State.{HasCleanDisk, Survives};
 ghost use Rattle.td_schema.specs.Layouts.{schema_of};
 ghost use Rattle.td_store.specs.declared.refused.OpenFault.TheVariants as fault;
-ghost use Rattle.td_store.specs.Opened.{LacksMeta, TellsDatabase, TellsRows, TellsRules, TellsTables};
+ghost use Rattle.td_store.specs.Opened.{IsDamage, LacksMeta, TellsDatabase, TellsRows, TellsRules, TellsTables};
 
 use crate::faults::open_fault_of;
 use crate::office::{fault_of_version, office_fault, read_office};
@@ -66,6 +66,7 @@ pub(crate) fn fault_of_rows<S: Alter>(
         → OnOk result (IsTrue (state S.Store conn.old).is_open × IsTrue (state S.Store conn.new).is_open) }
     ensures told { HasCleanDisk (state S.Store conn.new)
         → IfOk result (TellsRows layout (state S.Store conn.old).now.trees) }
+    ensures kinds { IfOk result (λ told. IfSome told IsDamage) }
     ensures same { HasCleanDisk (state S.Store conn.new) → IsTrue (state S.Store conn.new).is_open
         → (state S.Store conn.new).now ≡ (state S.Store conn.old).now }
     ensures crash { Survives (state S.Store conn.old) (state S.Store conn.new) (λ _. ⊥) }
