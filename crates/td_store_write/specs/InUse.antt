@@ -1,5 +1,5 @@
 -- What a movement that comes into a state does to the amounts in use on the guarantees of its lines, in a store's file.
-use Rattle.std.specs.Prelude.{◌≡◌, ◌≤◌, ◌<◌, ◌^◌, ◌+◌, ◌==◌, ℕ, Bool, true, false, List, if◌then◌else◌}
+use Rattle.std.specs.Prelude.{◌≤◌, ◌<◌, ◌^◌, ◌+◌, ◌==◌, ℕ, Bool, true, false, List, if◌then◌else◌}
 use Rattle.std.specs.List.{sum_by}
 use Rattle.sqlite.specs.State.{State as FileState}
 use Rattle.td_movement.specs.declared.state.State.{State}
