@@ -6,6 +6,7 @@ pub mod Listening
 pub mod StreamsSeen
 pub mod ConnectionsSeen
 pub mod Batched
+pub mod RowsSeen
 pub mod Performed
 pub mod Runs
 pub mod BatchLaws

@@ -5,6 +5,7 @@
 mod at_desk;
 mod batch_laws;
 mod batching;
+mod checking;
 mod clock;
 mod jobs;
 mod laws;
