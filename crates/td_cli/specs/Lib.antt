@@ -7,6 +7,7 @@ pub mod StreamsSeen
 pub mod ConnectionsSeen
 pub mod Batched
 pub mod RowsSeen
+pub mod Migrated
 pub mod Performed
 pub mod Runs
 pub mod BatchLaws

@@ -9,6 +9,8 @@ use Rattle.sqlite_disk.specs.declared.Disk.{Ghosts}
 use Rattle.td_files.specs.Found.{FileSeen}
 use Rattle.td_files.specs.declared.desks.DeskFault.{DeskFault}
 use Rattle.http_wire.specs.declared.stream.StreamEnd.{StreamEnd}
+use Rattle.td_words.specs.declared.words.Job.{Job}
+use Rattle.td_words.specs.declared.words.Job.TheVariants.{AtDesk, Migrate}
 use Rattle.td_words.specs.declared.words.NoJob.{NoJob}
 use Rattle.td_words.specs.declared.words.Records.{Records}
 use Rattle.td_words.specs.declared.words.Records.TheVariants.{File}
@@ -16,9 +18,10 @@ use Rattle.td_words.specs.declared.words.Task.{Task}
 use Rattle.td_words.specs.declared.words.Task.TheVariants.{Serve, Pipe, Batch, Check}
 use Rattle.td_words.specs.Words.{AsksFor, IsNoJob}
 use Rattle.td_cli.specs.declared.serving.ServingEnd.{ServingEnd}
-use Rattle.td_cli.specs.AtDesk.{AtDesk}
+use Rattle.td_cli.specs.AtDesk as desks
 use Rattle.td_cli.specs.Batched.{IsBatched}
 use Rattle.td_cli.specs.Desks.{IsUnserved}
+use Rattle.td_cli.specs.Migrated.{IsMigrated}
 use Rattle.td_cli.specs.Piped.{PipesAs}
 use Rattle.td_cli.specs.Listening.{IsServing}
 use Rattle.td_cli.specs.Statuses.{IsAnswered, IsEndTold, IsFaultTold, IsPrinted, IsServingTold, IsTold}
@@ -36,37 +39,46 @@ abbrev pub IsChecked : {W E S : Type 0} {disk : Ghosts S} → (W → Option (Lis
     → Counted W → Counted W → Counted E → Counted E → Option (FileSeen disk) → Option (FileSeen disk) → ℕ → Type 0
 IsChecked contents said image country records out out_left errors errors_left before file status =
     (end : Result (Unit {0}) DeskFault)
-    × AtDesk image country records (λ D view begins ends opened. IsUnserved begins ends) (Unit {0}) before file end
+    × desks.AtDesk image country records (λ D view begins ends opened. IsUnserved begins ends) (Unit {0}) before file end
     × IsCheckTold contents said end out out_left errors errors_left status
 
 -- A task was done, in this country and at this moment or by the machine's clock, and how it ended was told: one stream from the
 -- input to the first writer; connections, for which the input isn't read; a file of rows; or a file was tested, of which the image is what it
 -- held. The file is what a connection to it shows before the task and after it, if one is there.
-abbrev pub IsDone : {R W E S : Type 0} {disk : Ghosts S} → (R → Option (List ℕ)) → (W → Option (List ℕ)) → (E → Option (List ℕ)) → Image
+abbrev pub IsTaskDone : {R W E S : Type 0} {disk : Ghosts S} → (R → Option (List ℕ)) → (W → Option (List ℕ)) → (E → Option (List ℕ)) → Image
     → Task → List ℕ → Option ℤ → Counted R → Counted R → Counted W → Counted W → Counted E → Counted E
     → Option (FileSeen disk) → Option (FileSeen disk) → ℕ → Type 0
-IsDone remaining contents said image (Pipe records) country at reader reader_left writer writer_left errors errors_left before file status =
+IsTaskDone remaining contents said image (Pipe records) country at reader reader_left writer writer_left errors errors_left before file status =
     (end : Result StreamEnd DeskFault)
     × PipesAs remaining contents image country at records reader reader_left writer writer_left before file end
     × IsEndTold said errors errors_left end status
-IsDone remaining contents said image (Serve listening records) country at reader reader_left writer writer_left errors errors_left before file status =
+IsTaskDone remaining contents said image (Serve listening records) country at reader reader_left writer writer_left errors errors_left before file status =
     (end : Result ServingEnd DeskFault)
     × IsServing contents image country at records listening.port listening.connections reader reader_left writer writer_left before file end
     × IsServingTold said errors errors_left end status
-IsDone remaining contents said image (Batch which csv records) country at reader reader_left writer writer_left errors errors_left before file status =
+IsTaskDone remaining contents said image (Batch which csv records) country at reader reader_left writer writer_left errors errors_left before file status =
     (reader_left ≡ reader) × IsBatched contents said image country at (File records) which writer writer_left errors errors_left before file status
-IsDone remaining contents said image (Check path) country at reader reader_left writer writer_left errors errors_left before file status =
+IsTaskDone remaining contents said image (Check path) country at reader reader_left writer writer_left errors errors_left before file status =
     (reader_left ≡ reader) × IsChecked contents said image country (File path) writer writer_left errors errors_left before file status
 
--- The words ask for a task, which was done in that country and at that moment. Or they were given none, for want of memory, or
+-- A job was done: a task at a desk of an office, or a file was brought to the newest version, for which the input isn't read.
+abbrev pub IsDone : {R W E S : Type 0} {disk : Ghosts S} → (R → Option (List ℕ)) → (W → Option (List ℕ)) → (E → Option (List ℕ)) → Image
+    → Job → Counted R → Counted R → Counted W → Counted W → Counted E → Counted E
+    → Option (FileSeen disk) → Option (FileSeen disk) → ℕ → Type 0
+IsDone remaining contents said image (AtDesk office task) reader reader_left writer writer_left errors errors_left before file status =
+    IsTaskDone remaining contents said image task office.country office.at reader reader_left writer writer_left errors errors_left before file status
+IsDone remaining contents said image (Migrate path) reader reader_left writer writer_left errors errors_left before file status =
+    (reader_left ≡ reader) × IsMigrated contents said image writer writer_left errors errors_left before file status
+
+-- The words ask for a job, which was done. Or they were given none, for want of memory, or
 -- since they ask for help, or for no task at all: then nothing was read, no file was opened, and they were answered. The image is
 -- what the file held that the words name, if they name one.
 abbrev pub IsPerformed : {R W E S : Type 0} {disk : Ghosts S} → (R → Option (List ℕ)) → (W → Option (List ℕ)) → (E → Option (List ℕ)) → Image
     → List (List ℕ) → Counted R → Counted R → Counted W → Counted W → Counted E → Counted E
     → Option (FileSeen disk) → Option (FileSeen disk) → ℕ → Type 0
 IsPerformed remaining contents said image words reader reader_left writer writer_left errors errors_left before file status =
-    ((task : Task) × (country : List ℕ) × (at : Option ℤ) × AsksFor words task country at
-    × IsDone remaining contents said image task country at reader reader_left writer writer_left errors errors_left before file status)
+    ((job : Job) × AsksFor words job
+    × IsDone remaining contents said image job reader reader_left writer writer_left errors errors_left before file status)
     ⊎ ((no_job : NoJob) × IsNoJob words no_job × (reader_left ≡ reader) × (file ≡ before)
     × IsAnswered contents said writer writer_left errors errors_left no_job status)
 

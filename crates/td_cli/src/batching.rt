@@ -7,7 +7,7 @@ ghost use Rattle.td_cli.specs.AtDesk.{IsUntouched};
 ghost use Rattle.td_cli.specs.Batched.{HasDoneRows, IsBatchAtDesk, IsBatchFaultTold, IsBatchTold, IsBatched, IsRunTold, commands_of, header_of, kind_of, line_of, message_of_batch_fault, message_of_stop, rows_in};
 ghost use Rattle.td_cli.specs.RowsSeen.{rows_seen};
 
-use crate::at_desk::{DeskJob, Office, at_desk};
+use crate::at_desk::{DeskJob, at_desk};
 use crate::telling::{DONE, FAULT, NO_MEMORY, fault, tell_desk_fault};
 use sqlite::Start;
 use std::alloc::{AllocError, Global};
@@ -21,7 +21,7 @@ use td_batch::{
 use td_desk::{Desk, Fault};
 use td_files::{DeskFault, DeskFile};
 use td_http::Clock;
-use td_words::{BatchKind, Records};
+use td_words::{BatchKind, Office, Records};
 
 /// The rows of a file.
 #[derive(Drop)]

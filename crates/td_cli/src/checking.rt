@@ -6,7 +6,7 @@ ghost use Rattle.td_cli.specs.ConnectionsSeen.{unserved_seen};
 ghost use Rattle.td_cli.specs.Desks.{IsUnserved};
 ghost use Rattle.td_cli.specs.Performed.{IsCheckTold, IsChecked};
 
-use crate::at_desk::{DeskJob, Office, at_desk};
+use crate::at_desk::{DeskJob, at_desk};
 use crate::telling::{print, tell_desk_fault};
 use sqlite::Start;
 use std::alloc::Global;
@@ -15,7 +15,7 @@ use td_base::Counted;
 use td_desk::Desk;
 use td_files::{DeskFault, DeskFile};
 use td_http::Clock;
-use td_words::Records;
+use td_words::{Office, Records};
 
 /// The job that leaves a desk as it was opened. It reads and prints nothing, and asks no clock.
 struct Checking;

@@ -9,6 +9,7 @@ mod checking;
 mod clock;
 mod jobs;
 mod laws;
+mod migrating;
 mod piping;
 mod program;
 mod run_laws;
