@@ -36,7 +36,9 @@ fn fault_at<S: Alter>(
     ensures crash { Survives (state S.Store conn.old) (state S.Store conn.new) (λ _. ⊥) }
 {
     match tables_of(alloc, conn)? {
-        Tables::Store(layout) if version_in(layout) == version => fault_of_rows(alloc, conn, layout),
+        Tables::Store(layout) if version_in(layout) == version => fault_of_rows(
+            alloc, conn, layout,
+        ),
         _ => Ok(Some(OpenFault::Store)),
     }
 }

@@ -21,13 +21,15 @@ pub returns-in-Err-result : goal.returns-in-Err-result
 returns-in-Err-result g c = inr (
   c.in-Err-result.why,
   c.refused.ensures,
-  (c.upgrade-result.new.conn,
-  refl,
-  λ clean.
-      let found = file_state c.in-Ok.conn in
-      let after = c.in-Err-result.ensures in
-      let was = clean_before found (file_state c.upgrade-result.new.conn) _ after.crash clean in
-      let opened = (c.in-Ok.ensures.open was).0 in
-      shows_upgrade (image_at g.S.Start) found c.upgrade-result.new.conn _ (found_there (image_at g.S.Start) found opened (c.in-Ok.ensures.found was))
-      opened.is_open c.see_settled.ensures after.told after.err after.crash after.settled clean),
+  (
+    c.upgrade-result.new.conn,
+    refl,
+    λ clean.
+        let found = file_state c.in-Ok.conn in
+        let after = c.in-Err-result.ensures in
+        let was = clean_before found (file_state c.upgrade-result.new.conn) _ after.crash clean in
+        let opened = (c.in-Ok.ensures.open was).0 in
+        shows_upgrade (image_at g.S.Start) found c.upgrade-result.new.conn _ (found_there (image_at g.S.Start) found opened (c.in-Ok.ensures.found was))
+        opened.is_open c.see_settled.ensures after.told after.err after.crash after.settled clean,
+  ),
 )
