@@ -1,5 +1,5 @@
 -- What the statements on the table of guarantees mean, in a store's file of each layout that has their table.
-use Rattle.std.proofs.Common.{◌≡◌, arith, refl, subst}
+use Rattle.std.proofs.Common.{arith, refl, subst}
 use Rattle.std.specs.Prelude.{ℕ, List, [], ◌∷◌, codes}
 use Rattle.sqlite_tied.specs.Compute.{everything}
 use Rattle.sqlite.specs.Listing.{understood}

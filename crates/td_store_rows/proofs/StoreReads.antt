@@ -1,15 +1,15 @@
 -- Calls that read one after another in a store's file.
-use Rattle.std.proofs.Common.{◌≡◌, arith, refl, Result, List, ℕ}
+use Rattle.std.proofs.Common.{arith, refl, Result, List, ℕ}
 use Rattle.std.specs.Prelude.{Bool, OnOk, is_ok, true}
 use Rattle.sqlite.specs.Given.{IsPlain}
 use Rattle.sqlite.specs.Listing.{understood}
 use Rattle.sqlite.specs.State.{State, HasCleanDisk}
 use Rattle.td_schema.specs.declared.layout.Layout.{Layout}
-use Rattle.td_schema.specs.Layouts.{IsNewest, schema_of, version_of}
+use Rattle.td_schema.specs.Layouts.{IsNewest, schema_of}
 use Rattle.typed_sql.proofs.Leaving.{reads_by}
 use Rattle.typed_sql.proofs.OnlyRead.{none_read, read_more, stays_on, stays_well}
 use Rattle.typed_sql.specs.Reading.{OnlyReads, StaysInside}
-use Rattle.td_store_rows.specs.StoreReads.{IsOfVersion, KeepsUse, OnlyReadNewest, ReadsIn, ReadsNewest, ReadsStore}
+use Rattle.td_store_rows.specs.StoreReads.{KeepsUse, OnlyReadNewest, ReadsIn, ReadsNewest, ReadsStore}
 
 -- a statement that doesn't write, whatever came of it
 pub reads_in : {T E : Type 0} (P : Layout → Type 0) (text : List ℕ) → ((l : Layout) → P l → IsPlain (understood (schema_of l) text))

@@ -9,7 +9,6 @@ use Rattle.td_acts.specs.declared.rows.Change.{Change}
 use Rattle.td_acts.specs.Changes.{row_in}
 use Rattle.td_desk.specs.Content.{Content, content_after, content_after_row, IsSound}
 use Rattle.td_desk.specs.Weighing.{IsDecision}
-use Rattle.td_desk.proofs.Carrying.{carries}
 use Rattle.td_acts.specs.declared.rows.Verdict.{Verdict}
 use Rattle.td_table_model.specs.Tables.{AreTablesOf}
 use Rattle.td_table_model.specs.Changes.{HaveSameRows, tables_after}
@@ -20,14 +19,11 @@ use Rattle.td_schema.specs.declared.layout.Layout.{Layout}
 use Rattle.td_store_rows.specs.Columns.{meta_row}
 use Rattle.td_store_rows.specs.StoreTables.{AreTreesOf, tables_in}
 use Rattle.td_store_rows.proofs.Holding.{holds_still}
+use Rattle.td_store_rows.proofs.StoreReads.{newest_keeps}
+use Rattle.td_store_write.specs.InUse.{FitsChange}
 use Rattle.td_store_write.specs.Written.{WritesChange}
 use Rattle.td_store_write.specs.Carried.{CarriesChange, MayLeave}
-
--- what is decided on over sound content leaves sound content
-sound_after : (c : Content) (v : Verdict) → IsSound c → IsDecision c v → IsSound (content_after v.change c)
-sound_after c v sound (at, command, proper, weighed) =
-    subst (λ change. IsSound (content_after change c)) (sym weighed.written)
-    (carries c (record { at = at; command = command }) sound proper).sound
+use Rattle.td_store_write.proofs.Fitting.{decisions_fit, sound_after}
 
 -- a change keeps the country
 after_row : (row : Option HolderRow) (change : Change) (c : Content) → (content_after_row row change c).country ≡ c.country
@@ -44,7 +40,8 @@ inside country change a b writes c d =
     let l : Layout = d.holds.trees.layout in
     let t = tables_in l a.now.trees in
     let wrote = writes l d.holds.trees.newest d.holds.schema d.holds.trees.typed (d.holds.trees.tables.country ∙ d.country)
-    (references_tell t c d.holds.trees.sound d.holds.trees.tables).1 in
+    (references_tell t c d.holds.trees.sound d.holds.trees.tables).1
+    (subst (λ made. FitsChange made t) d.change (decisions_fit d.verdict t c d.holds.trees.sound d.decision d.holds.trees.tables (newest_keeps l d.holds.trees.newest))) in
     let same : HaveSameRows (tables_after d.verdict.change t) (tables_in l b.now.trees) =
     subst (λ made. HaveSameRows (tables_after made t) (tables_in l b.now.trees)) (sym d.change) wrote.same in
     record {

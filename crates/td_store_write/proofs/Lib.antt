@@ -1,5 +1,7 @@
 mod Written
+mod Following
 mod Changed
 mod AsSaid
+mod Fitting
 pub mod After
 mod Made

@@ -12,12 +12,11 @@ use Rattle.td_schema.specs.Tables.{IsEmptyOf}
 use Rattle.td_schema.specs.Layouts.{desk_schema, newest_layout, newest_version}
 use Rattle.typed_sql.specs.Writing.{HaveIds}
 use Rattle.typed_sql.specs.Typed.{AreTyped, HasNow, IsTypedRow, Typing, row_of, typed_rows}
-use Rattle.td_store_rows.specs.Columns.{meta_row, meta_typing, holder_typing, guarantee_typing, code_typing, movement_typing, line_typing}
+use Rattle.td_store_rows.specs.Columns.{meta_row, meta_typing, holder_typing, guarantee_typing, kept_typing, code_typing, movement_typing, line_typing}
 use Rattle.td_store_rows.specs.MetaTable.{TurnsMeta}
 use Rattle.td_store_rows.specs.StoreTables.{AreTreesOf, HoldsContent, country_in}
 use Rattle.td_store_rows.proofs.Holding.{trees_still}
 use Rattle.td_store_rows.proofs.Turned.{listed_there}
-use Rattle.td_store_rows.proofs.WithoutAmounts.{none_kept}
 
 -- a table without rows is typed, and has no typed row
 none_typed : {R : Type 0} (ty : Typing R) (trees : Trees) → trees ty.table.tree ≡ [] → AreTyped ty trees
@@ -40,6 +39,7 @@ of_empty_desk country old new is was turns = record {
     meta = now.typed;
     holders = none_typed holder_typing b holders;
     guarantees = none_typed (guarantee_typing newest_layout) b guarantees;
+    kept = λ keeps. none_typed (kept_typing newest_layout) b guarantees;
     codes = none_typed code_typing b codes;
     movements = none_typed movement_typing b movements;
     lines = none_typed line_typing b lines;
@@ -49,7 +49,7 @@ of_empty_desk country old new is was turns = record {
     country = ap country_in meta;
     holders = none_there holder_typing b holders;
     guarantees = none_there (guarantee_typing newest_layout) b guarantees;
-    kept = λ keep. absurd (none_kept newest_layout b keep);
+    kept = λ keeps. none_there (kept_typing newest_layout) b guarantees;
     codes = none_there code_typing b codes;
     movements = none_there movement_typing b movements;
     lines = none_there line_typing b lines;

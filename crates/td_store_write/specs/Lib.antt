@@ -1,3 +1,4 @@
+pub mod InUse
 pub mod Written
 pub mod Carried
 pub mod Created

@@ -1,4 +1,4 @@
-//! A change of a holder's rows, written. An error is the database's own, and commits nothing.
+//! A change of a holder's rows, written. An error is the database's own or want of memory, and commits nothing.
 ghost use Rattle.std.specs.Prelude.{◌≡◌, ◌∷◌, ◌++◌, not, map, filter, OnOk, is_ok};
 ghost use Rattle.sqlite.specs.Held.{state};
 ghost use Rattle.sqlite.specs.State.{HasCleanDisk};
@@ -10,22 +10,26 @@ ghost use Rattle.td_table_model.specs.Looking.{movement_no};
 ghost use Rattle.typed_sql.specs.Reading.{IsInside, StaysInside};
 ghost use Rattle.td_store_rows.specs.CodeTable.{code_row_of};
 ghost use Rattle.td_store_rows.specs.StoreTables.{TurnsTables};
-ghost use Rattle.td_store_write.specs.Written.{WritesChange, status_by_key, terms_by_key};
+ghost use Rattle.td_store_write.specs.InUse.{FitsMovement, TurnsFitting};
+ghost use Rattle.td_store_write.specs.Written.{WritesChange, kept_terms_by_key, terms_by_key, with_move, with_status_set};
 
+use crate::amounts::{change_by_lines, changes_use};
 use crate::lists::{insert_codes, insert_lines};
 use sqlite::{Error, Transaction};
 use sqlite_trees::store::Alter;
+use std::alloc::Global;
 use td_acts::{Change, HolderRow, NewStatus, NewTerms};
-use td_base::{AccessCode, Country, Grn};
+use td_base::{AccessCode, Cents, Country, Grn};
 use td_guarantee::Guarantee;
 use td_movement::Movement;
 use td_store_rows::{
     StoredCode, delete_code, insert_code, insert_guarantee, insert_holder, insert_movement,
-    set_holder, set_status, set_terms,
+    lines_of, set_holder, set_status, set_terms,
 };
 
 /// Writes a change, at an office of that country, whose tables hold sound content; `Change::Nothing` writes nothing.
 pub fn write_change<S: Alter>(
+    alloc: Global,
     tx: &mut Transaction<'_, S>,
     country: Country,
     change: &Change,
@@ -41,14 +45,14 @@ pub fn write_change<S: Alter>(
         Change::Registered(row) => insert_holder(tx, row),
         Change::Opened(row, guarantee) => write_opened(tx, row, guarantee),
         Change::Declared(row, movement) => write_declared(tx, country, row, movement),
-        Change::Moved(row, status) => write_moved(tx, country, row, status),
+        Change::Moved(row, status) => write_moved(alloc, tx, country, row, status),
         Change::TermsSet(row, terms) => write_terms(tx, country, row, terms),
         Change::CodeAdded(row, grn, code) => add_code(tx, country, row, grn, *code),
         Change::CodeRemoved(row, grn, code) => remove_code(tx, country, row, grn, *code),
     }
 }
 
-// The holder's row as it is now, and a new guarantee with its codes.
+// The holder's row as it is now, and a new guarantee with its codes, on which nothing is in use.
 fn write_opened<S: Alter>(
     tx: &mut Transaction<'_, S>,
     row: &HolderRow,
@@ -62,7 +66,8 @@ fn write_opened<S: Alter>(
     ensures within { StaysInside (is_ok result) (state S.Store tx.old.conn.now) (state S.Store tx.new.conn.now) }
 {
     set_holder(tx, row)?;
-    insert_guarantee(tx, row.holder, row.grn_count, guarantee)?;
+    let unused = Cents::new(0).unwrap();
+    insert_guarantee(tx, row.holder, row.grn_count, guarantee, unused)?;
     insert_codes(tx, row.holder, row.grn_count, guarantee.codes.as_slice())
 }
 
@@ -95,8 +100,51 @@ fn write_declared<S: Alter>(
     )
 }
 
-// The holder's row as it is now, and a movement of the holder's in its new status.
+// The holder's row as it is now, a movement of the holder's in its new status, and what that does to the amounts in use on the
+// guarantees of its lines.
 fn write_moved<S: Alter>(
+    alloc: Global,
+    tx: &mut Transaction<'_, S>,
+    country: Country,
+    row: &HolderRow,
+    status: &NewStatus,
+) -> Result<(), Error>
+    requires { IsInside (state S.Store tx.old.conn.now) }
+    ensures same_reference { tx.new.conn.ghost_name ≡ tx.old.conn.ghost_name }
+    ensures written { HasCleanDisk (state S.Store tx.new.conn.now) → OnOk result (TurnsFitting
+        (FitsMovement row.now.holder (movement_no country status.now.mrn) status.now.state)
+        (with_move country row.now status.now) (state S.Store tx.old.conn.now) (state S.Store tx.new.conn.now)) }
+    ensures within { StaysInside (is_ok result) (state S.Store tx.old.conn.now) (state S.Store tx.new.conn.now) }
+{
+    if changes_use(status.state) {
+        return write_with_use(alloc, tx, country, row, status);
+    }
+    write_status(tx, country, row, status)
+}
+
+// The same by the movement's lines, whatever its state.
+fn write_with_use<S: Alter>(
+    alloc: Global,
+    tx: &mut Transaction<'_, S>,
+    country: Country,
+    row: &HolderRow,
+    status: &NewStatus,
+) -> Result<(), Error>
+    requires { IsInside (state S.Store tx.old.conn.now) }
+    ensures same_reference { tx.new.conn.ghost_name ≡ tx.old.conn.ghost_name }
+    ensures written { HasCleanDisk (state S.Store tx.new.conn.now) → OnOk result (TurnsFitting
+        (FitsMovement row.now.holder (movement_no country status.now.mrn) status.now.state)
+        (with_move country row.now status.now) (state S.Store tx.old.conn.now) (state S.Store tx.new.conn.now)) }
+    ensures within { StaysInside (is_ok result) (state S.Store tx.old.conn.now) (state S.Store tx.new.conn.now) }
+{
+    let serial = status.mrn.serial(country).unwrap_or(0);
+    let lines = lines_of(alloc, tx, row.holder, serial)?;
+    write_status(tx, country, row, status)?;
+    change_by_lines(tx, row.holder, status.state, &lines)
+}
+
+// The holder's row as it is now, and a movement of the holder's in its new status.
+fn write_status<S: Alter>(
     tx: &mut Transaction<'_, S>,
     country: Country,
     row: &HolderRow,
@@ -105,11 +153,7 @@ fn write_moved<S: Alter>(
     requires { IsInside (state S.Store tx.old.conn.now) }
     ensures same_reference { tx.new.conn.ghost_name ≡ tx.old.conn.ghost_name }
     ensures written { HasCleanDisk (state S.Store tx.new.conn.now) → OnOk result (TurnsTables
-        (λ t. record t {
-          holders = map (with_row row.now) t.holders;
-          movements = map (status_by_key row.now.holder (movement_no country status.now.mrn) status.now) t.movements;
-        })
-        (state S.Store tx.old.conn.now) (state S.Store tx.new.conn.now)) }
+        (with_status_set country row.now status.now) (state S.Store tx.old.conn.now) (state S.Store tx.new.conn.now)) }
     ensures within { StaysInside (is_ok result) (state S.Store tx.old.conn.now) (state S.Store tx.new.conn.now) }
 {
     set_holder(tx, row)?;
@@ -117,7 +161,7 @@ fn write_moved<S: Alter>(
     set_status(tx, row.holder, serial, status)
 }
 
-// The holder's row as it is now, and the new terms of a guarantee of the holder's.
+// The holder's row as it is now, and the new terms of a guarantee of the holder's, which leave the amount in use.
 fn write_terms<S: Alter>(
     tx: &mut Transaction<'_, S>,
     country: Country,
@@ -130,6 +174,7 @@ fn write_terms<S: Alter>(
         (λ t. record t {
           holders = map (with_row row.now) t.holders;
           guarantees = map (terms_by_key row.now.holder (guarantee_no country terms.now.grn) terms.now) t.guarantees;
+          kept = map (kept_terms_by_key row.now.holder (guarantee_no country terms.now.grn) terms.now) t.kept;
         })
         (state S.Store tx.old.conn.now) (state S.Store tx.new.conn.now)) }
     ensures within { StaysInside (is_ok result) (state S.Store tx.old.conn.now) (state S.Store tx.new.conn.now) }

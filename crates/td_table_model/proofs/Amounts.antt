@@ -69,7 +69,7 @@ terms_kept H terms ms (g ∷ rows) = ap₂ ◌∷◌ (here (g.holder == H) (byte
     here false named = refl
 
 -- whether a movement counted before a move that leads to a state
-abbrev counted_before : State → Bool
+abbrev pub counted_before : State → Bool
 counted_before Released = false
 counted_before WrittenOff = true
 counted_before state = is_counting state
@@ -92,7 +92,7 @@ off_counted Cleared n cause is = refl
 off_counted WrittenOff n cause is = cc
 
 -- each move is from a state that counts as the one that it leads to tells
-counted_as : (s n : State) (move : Move) → state_after s move ≡ Some n → is_counting s ≡ counted_before n
+pub counted_as : (s n : State) (move : Move) → state_after s move ≡ Some n → is_counting s ≡ counted_before n
 counted_as s n Cancel is = let from = cancelled_from s n is in ap is_counting from.1 ∙ ap counted_before (sym from.0)
 counted_as s n Release is = let from = released_from s n is in ap is_counting from.1 ∙ ap counted_before (sym from.0)
 counted_as s n Arrive is = let from = arrived_from s n is in from.1 ∙ ap counted_before (sym from.0)

@@ -95,7 +95,7 @@ other_code H n code r other = by_test (r.holder == H) (grind (arith, nat_tests, 
     by_test false is = refl
 
 -- each guarantee of a list is known there by its GRN
-each_known : (n : ℕ) (gs : List Guarantee) → AllByRecursion (λ (p : ℕ × Guarantee). IsSome (guarantee_by_grn p.1.grn gs)) (numbered n gs)
+pub each_known : (n : ℕ) (gs : List Guarantee) → AllByRecursion (λ (p : ℕ × Guarantee). IsSome (guarantee_by_grn p.1.grn gs)) (numbered n gs)
 each_known n [] = tt
 each_known n (g ∷ gs) = (
   here (bytes_eq g.grn g.grn) ((bytes_eq-Decides g.grn g.grn).1 refl),

@@ -164,7 +164,7 @@ follow_moves H c (change.CodeAdded row grn code) is told = tt
 follow_moves H c (change.CodeRemoved row grn code) is told = tt
 
 -- what is decided on a command over its owner's account
-decided : (c : Content) (at : ℤ) (command : Command) → IsProper command
+pub decided : (c : Content) (at : ℤ) (command : Command) → IsProper command
     → CanBeWritten c (decision_on (owner_account c command) at command).change × FollowsMoves c (decision_on (owner_account c command) at command).change
 decided c at command proper = by_owner (owner_of c.country command) refl
   where

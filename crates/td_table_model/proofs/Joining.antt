@@ -37,7 +37,7 @@ sum_by-flat_map f g [] = refl
 sum_by-flat_map f g (x ∷ xs) = sum_by-append f (g x) (flat_map g xs) ∙ ap (λ n. sum_by f (g x) + n) (sum_by-flat_map f g xs) ∙ sym (sum_by-cons (λ x. sum_by f (g x)) x xs)
 
 -- a sum over those that pass
-sum_by-passing : {X : Type 0} (f : X → ℕ) (p : X → Bool) (xs : List X) → sum_by f (filter p xs) ≡ sum_by (λ x. if p x then f x else 0) xs
+pub sum_by-passing : {X : Type 0} (f : X → ℕ) (p : X → Bool) (xs : List X) → sum_by f (filter p xs) ≡ sum_by (λ x. if p x then f x else 0) xs
 sum_by-passing f p [] = refl
 sum_by-passing {X} f p (x ∷ xs) = by_test (p x) (sum_by-passing f p xs) ∙ sym (sum_by-cons (λ x. if p x then f x else 0) x xs)
   where
@@ -46,7 +46,7 @@ sum_by-passing {X} f p (x ∷ xs) = by_test (p x) (sum_by-passing f p xs) ∙ sy
     by_test false later = later ∙ omega arith
 
 -- sums of the same
-sum_by-same : {X : Type 0} (f g : X → ℕ) (xs : List X) → AllByRecursion (λ x. f x ≡ g x) xs → sum_by f xs ≡ sum_by g xs
+pub sum_by-same : {X : Type 0} (f g : X → ℕ) (xs : List X) → AllByRecursion (λ x. f x ≡ g x) xs → sum_by f xs ≡ sum_by g xs
 sum_by-same f g [] all = refl
 sum_by-same f g (x ∷ xs) all = sum_by-cons f x xs ∙ ap₂ ◌+◌ all.0 (sum_by-same f g xs all.1) ∙ sym (sum_by-cons g x xs)
 

@@ -1,24 +1,12 @@
-use Rattle.std.proofs.Common.{arith}
-use Rattle.td_table_model.specs.Looking.{movement_no}
+use Rattle.std.proofs.Common.{◌∙◌, sym}
 use Rattle.sqlite.specs.Held.{state}
-use Rattle.sqlite.specs.State.{State, HasCleanDisk}
 use Rattle.typed_sql.proofs.Leaving.{on_ok}
-use Rattle.td_store_write.proofs.Changed.{moved_on}
+use Rattle.td_store_write.proofs.Changed.{moved_without_use}
 use Rattle.td_store_write.proofs.changes.write_moved.Goals as goal
 
 pub returns-clause-written : goal.returns-clause-written
 returns-clause-written g c clean =
-    on_ok c.set_status.result (moved_on c.args.row.now (movement_no c.args.country c.args.status.now.mrn) c.args.status.now a b d
-    (c.in_ok-set_holder.ensures.set clean_b)) (rw (c.unwrap_or-serial.ensures, c.serial.ensures) at (c.set_status.ensures.set clean))
-  where
-    a : State
-    a = state g.S.Store c.args.tx.now.conn.now
-
-    b : State
-    b = state g.S.Store c.set_holder.new.tx.conn.now
-
-    d : State
-    d = state g.S.Store c.set_status.new.tx.conn.now
-
-    clean_b : HasCleanDisk b
-    clean_b = omega (arith, clean, c.set_status.ensures.within.survives.clean)
+    on_ok c.write_status.result
+    (moved_without_use c.args.country c.args.row.now c.args.status.now (state g.S.Store c.args.tx.now.conn.now) (state g.S.Store c.write_status.new.tx.conn.now)
+    (sym c.changes_use.ensures ∙ c.if-changes_use.false))
+    (c.write_status.ensures.written clean)
