@@ -99,7 +99,7 @@ impl<S: Alter> Store for SqlDesk<S> {
     }
 
     fn write(&mut self, alloc: Global, change: Change) -> Result<(), Fault> {
-        if let Err(error) = carry_change(&mut self.conn, self.country, &change) {
+        if let Err(error) = carry_change(alloc, &mut self.conn, self.country, &change) {
             let fault = fault_of(&mut self.conn, &error);
             see_settled(&self.conn);
             return Err(fault);

@@ -1,5 +1,6 @@
 -- What was found in the tables, put together, is what they say.
-use Rattle.std.proofs.Common.{◌≡◌, ◌∙◌, ℕ, ◌+◌, ◌<◌, Bool, List, [], ◌∷◌, ◌++◌, length, filter, map, take, get_or, Option, Some, None, refl, sym, ap, ap₂, subst, arith, IsPermutation}
+use Rattle.std.proofs.Common.{◌≡◌, ◌∙◌, ℕ, ◌+◌, ◌<◌, Bool, true, false, cond, List, [], ◌∷◌, ◌++◌, length, filter, map, take, get_or, Option, Some, None, refl, sym, ap, ap₂, subst, subst₂, arith, IsPermutation}
+use Rattle.std.proofs.lemmas.List.Sorted.{IsPermutation-map}
 use Rattle.std.specs.Prelude.{◌==◌, ◌&&◌, find, option_to_list}
 use Rattle.std.specs.List.{AllByRecursion}
 use Rattle.std.specs.Option.{option_map}
@@ -14,7 +15,7 @@ use Rattle.td_movement.specs.declared.line.Line.{Line}
 use Rattle.td_movement.specs.declared.movement.Movement.{Movement}
 use Rattle.td_model.specs.Account.{Account, guarantee_by_grn, movement_by_lrn, movement_by_mrn}
 use Rattle.td_desk.specs.Content.{Content, account_in}
-use Rattle.td_table_model.specs.Tables.{Keyed, Tables, guarantee_no}
+use Rattle.td_table_model.specs.Tables.{Keyed, Kept, Tables, guarantee_no, without_amount}
 use Rattle.td_table_model.specs.Gathering.{codes_by, line_from, lines_by, movements_by, with_codes, with_lines}
 use Rattle.td_table_model.specs.Looking.{movement_no}
 use Rattle.td_table_model.specs.Rules.{KeepRules}
@@ -25,6 +26,10 @@ use Rattle.td_store_rows.specs.StoreReads.{OnlyReadNewest}
 use Rattle.td_store_rows.specs.CodeTable.{AreByCode, code_row_of as row_of_code}
 use Rattle.td_store_rows.specs.declared.codes.stored.StoredCode.{StoredCode}
 use Rattle.td_store_rows.specs.GuaranteeTable.{IsTheGuarantee, has_grn, has_serial, guarantee_row_of as row_of_guarantee}
+use Rattle.td_store_rows.specs.KeptTable.{IsTheKept, has_kept_grn, kept_row_of}
+use Rattle.td_store_rows.specs.declared.guarantees.stored.KeptGuarantee.{KeptGuarantee}
+use Rattle.td_store_rows.proofs.StoreReads.{newest_keeps}
+use Rattle.td_store_rows.proofs.Turned.{plain_rows}
 use Rattle.td_store_rows.specs.declared.guarantees.stored.StoredGuarantee.{StoredGuarantee}
 use Rattle.td_store_rows.specs.LineTable.{AreByNumber, line_row_of as row_of_line}
 use Rattle.td_store_rows.specs.declared.lines.stored.StoredLine.{StoredLine}
@@ -32,6 +37,7 @@ use Rattle.td_store_rows.specs.MovementTable.{AreBySerial, IsTheMovement, has_lr
 use Rattle.td_store_rows.specs.declared.movements.stored.StoredMovement.{StoredMovement}
 use Rattle.td_store_rows.specs.StoreTables.{HoldsContent, tables_in}
 use Rattle.td_store_load.specs.Loaded.{IsOfTables, code_of}
+use Rattle.td_store_load.specs.Needed.{entry_from}
 use Rattle.td_store_load.proofs.Reading.{said_before}
 use Rattle.td_store_load.proofs.Whole.{code_forms, codes_ascend, found_alone, grn_alone, next_code}
 
@@ -44,17 +50,17 @@ next_put rows i d row within is order have new before added =
     ∙ ap₂ (λ l c. l ++ c ∷ []) (take-map code_of i rows) (get_or-map code_of rows i d (code_of d) within)
     ∙ sym (map-append code_of (take i rows) (get_or rows i d ∷ [])) ∙ ap (map code_of) (sym (take_more rows i d within))
 
--- a guarantee with its codes
-pub whole_guarantee : (a : State) (stored : StoredGuarantee) (rows : List StoredCode) (codes : List (List ℕ)) → AreByCode stored.holder stored.serial a rows
-    → (AreAscending (map code_of rows) → codes ≡ map code_of rows) → IsOfTables (λ t. with_codes t (row_of_guarantee stored)) a (record stored.guarantee { codes = codes })
-whole_guarantee a stored rows codes order gathered content holds =
+-- a guarantee with its codes, and the amount in use
+pub whole_entry : (a : State) (row : KeptGuarantee) (rows : List StoredCode) (codes : List (List ℕ)) → AreByCode row.holder row.serial a rows
+    → (AreAscending (map code_of rows) → codes ≡ map code_of rows) → IsOfTables (λ t. entry_from t (kept_row_of row)) a (record row.guarantee { codes = codes }, row.used)
+whole_entry a row rows codes order gathered content holds =
     let t : Tables = tables_in holds.trees.layout a.now.trees in
     let keep : KeepRules t = keep_rules t content holds.trees.sound holds.trees.tables in
-    let found : map row_of_code rows ≡ codes_by stored.holder stored.serial t =
-    order holds.trees.layout holds.schema holds.trees.typed.codes (code_forms t keep stored.holder stored.serial) (keep.stored.codes stored.holder stored.serial) in
-    let same : map code_of rows ≡ map (λ (c : Keyed (List ℕ)). c.row) (codes_by stored.holder stored.serial t) =
+    let found : map row_of_code rows ≡ codes_by row.holder row.serial t =
+    order holds.trees.layout holds.schema holds.trees.typed.codes (code_forms t keep row.holder row.serial) (keep.stored.codes row.holder row.serial) in
+    let same : map code_of rows ≡ map (λ (c : Keyed (List ℕ)). c.row) (codes_by row.holder row.serial t) =
     sym (map-map (λ (c : Keyed (List ℕ)). c.row) row_of_code rows) ∙ ap (map (λ (c : Keyed (List ℕ)). c.row)) found in
-    ap (λ (l : List (List ℕ)). record stored.guarantee { codes = l }) (gathered (subst AreAscending (sym same) (codes_ascend t keep stored.holder stored.serial)) ∙ same)
+    ap (λ (l : List (List ℕ)). (record row.guarantee { codes = l }, row.used)) (gathered (subst AreAscending (sym same) (codes_ascend t keep row.holder row.serial)) ∙ same)
 
 -- a line on the guarantee that its row names
 pub line_loaded : (a : State) (row : StoredLine) (g : StoredGuarantee) → IsTheGuarantee (has_serial row.holder row.guarantee) a (Some g)
@@ -97,6 +103,17 @@ listed : {X Y : Type 0} (f : X → Y) (o : Option X) → map f (option_to_list o
 listed f None = refl
 listed f (Some x) = refl
 
+-- those that pass without the amounts, and with them
+pub filtered : (p : Keyed Guarantee → Bool) (ks : List (Keyed Kept)) → filter p (map without_amount ks) ≡ map without_amount (filter (λ k. p (without_amount k)) ks)
+filtered p [] = refl
+filtered p (k ∷ ks) = by_test (p (without_amount k)) (filtered p ks)
+  where
+    by_test : (b : Bool) → filter p (map without_amount ks) ≡ map without_amount (filter (λ k. p (without_amount k)) ks)
+        → cond b (without_amount k ∷ filter p (map without_amount ks)) (filter p (map without_amount ks))
+        ≡ map without_amount (cond b (k ∷ filter (λ k. p (without_amount k)) ks) (filter (λ k. p (without_amount k)) ks))
+    by_test true later = ap (λ l. without_amount k ∷ l) later
+    by_test false later = later
+
 -- what was asked for by its key and its reference is what is found by the reference
 asked_by_key : {X : Type 0} (H n : ℕ) (told : Keyed X → Bool) (rows : List (Keyed X)) (o : Option (Keyed X)) → AllByRecursion (λ r. told r ≡ (r.serial == n && told r)) rows
     → IsPermutation (filter (λ r. r.holder == H && (r.serial == n && told r)) rows) (option_to_list o) → find (λ r. r.holder == H && told r) rows ≡ o
@@ -124,10 +141,19 @@ module _ (a : State) (H : ℕ) (content : Content) (holds : HoldsContent content
       ∙ ap (option_map (with_lines t)) (found_alone (λ (m : Keyed Movement). m.holder == H && bytes_eq m.row.lrn lrn) t.movements (option_map row_of_movement found)
       (subst (λ l. IsPermutation (filter (has_lrn H lrn) t.movements) l) (listed row_of_movement found) (is holds.trees.layout holds.schema holds.trees.typed.movements)))
 
-  pub by_grn : (country grn : List ℕ) → content.country ≡ country → (found : Option StoredGuarantee) → IsTheGuarantee (has_grn H (guarantee_no country grn) grn) a found
-      → guarantee_by_grn grn (account_in H content).guarantees ≡ option_map (with_codes t) (option_map row_of_guarantee found)
+  pub by_grn : (country grn : List ℕ) → content.country ≡ country → (found : Option KeptGuarantee) → IsTheKept (has_kept_grn H (guarantee_no country grn) grn) a found
+      → guarantee_by_grn grn (account_in H content).guarantees ≡ option_map (with_codes t) (option_map (λ k. without_amount (kept_row_of k)) found)
   by_grn country grn at found is =
+      let n = guarantee_no country grn in
+      let l = holds.trees.layout in
+      let keeps = newest_keeps l holds.trees.newest in
+      let plain : List (Keyed Guarantee) = option_to_list (option_map (λ k. without_amount (kept_row_of k)) found) in
+      let rows : map without_amount (map kept_row_of (option_to_list found)) ≡ plain = map-map without_amount kept_row_of (option_to_list found) ∙ listed (λ k. without_amount (kept_row_of k)) found in
+      let asked : filter (has_grn H n grn) t.guarantees ≡ map without_amount (filter (has_kept_grn H n grn) t.kept) =
+      ap (filter (has_grn H n grn)) (plain_rows l a.now.trees) ∙ filtered (has_grn H n grn) t.kept in
+      let those : IsPermutation (filter (has_grn H n grn) t.guarantees) plain =
+      subst₂ IsPermutation (sym asked) rows (IsPermutation-map without_amount _ _ (is l keeps holds.schema (holds.trees.typed.kept keeps))) in
       (are_found t content holds.trees.sound holds.trees.tables H).grns grn
-      ∙ ap (option_map (with_codes t)) (asked_by_key H (guarantee_no country grn) (λ (g : Keyed Guarantee). bytes_eq g.row.grn grn) t.guarantees (option_map row_of_guarantee found)
+      ∙ ap (option_map (with_codes t)) (asked_by_key H n (λ (g : Keyed Guarantee). bytes_eq g.row.grn grn) t.guarantees (option_map (λ k. without_amount (kept_row_of k)) found)
       (subst (λ k. AllByRecursion (λ (g : Keyed Guarantee). bytes_eq g.row.grn grn ≡ (g.serial == guarantee_no k grn && bytes_eq g.row.grn grn)) t.guarantees) (holds.trees.tables.country ∙ at) ((references_tell t content holds.trees.sound holds.trees.tables).1.grns grn))
-      (subst (λ l. IsPermutation (filter (has_grn H (guarantee_no country grn) grn) t.guarantees) l) (listed row_of_guarantee found) (is holds.trees.layout holds.trees.newest holds.schema holds.trees.typed.guarantees)))
+      those)

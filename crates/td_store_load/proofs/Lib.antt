@@ -1,5 +1,3 @@
-pub mod Sums
-pub mod Counted
 mod Found
 mod Reading
 mod Whole

@@ -1,3 +1,2 @@
-pub mod InUse
 pub mod Loaded
 pub mod Needed

@@ -1,6 +1,5 @@
 -- What a verdict needs of a holder's rows, as the tables of a store's file say it.
 use Rattle.std.specs.Prelude.{◌≡◌, ℕ, List, Some}
-use Rattle.std.specs.List.{sum_by}
 use Rattle.sqlite.specs.State.{State}
 use Rattle.td_guarantee.specs.declared.guarantee.Guarantee.{Guarantee}
 use Rattle.td_guarantee.specs.Usage.{used_on}
@@ -10,14 +9,13 @@ use Rattle.td_acts.specs.declared.rows.Loaded.{Loaded}
 use Rattle.td_model.specs.Account.{Account}
 use Rattle.td_acts.specs.Deciding.{IsLoaded}
 use Rattle.td_desk.specs.Content.{Content, account_in}
-use Rattle.td_table_model.specs.Tables.{Keyed, Tables}
+use Rattle.td_table_model.specs.Tables.{Keyed, Kept, Tables, without_amount}
 use Rattle.td_table_model.specs.Gathering.{with_codes}
-use Rattle.td_table_model.specs.Looking.{cents_of, lines_in_use}
 use Rattle.td_store_rows.specs.StoreTables.{HoldsContent}
 
--- the guarantee in a row with its codes, and what the lines on it add up to, of those of the holder's movements that count
-abbrev pub entry_from : Tables → Keyed Guarantee → Guarantee × ℕ
-entry_from t r = (with_codes t r, sum_by cents_of (lines_in_use r.holder r.serial t))
+-- the guarantee in a row with its codes, and the amount in use that the row keeps
+abbrev pub entry_from : Tables → Keyed Kept → Guarantee × ℕ
+entry_from t k = (with_codes t (without_amount k), k.row.used)
 
 -- a guarantee of an account, and the amount in use on it
 abbrev pub with_use : Account → Guarantee → Guarantee × ℕ

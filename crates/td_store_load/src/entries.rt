@@ -1,27 +1,55 @@
-//! Guarantees with their codes and the amounts in use on them. `DatabaseCorrupt`: a row is no such row, there are several where
-//! there can be one, or the lines on a guarantee add up to more than 10^15 cents; `OutOfMemory`: want of memory; any other
-//! error is the database's own.
+//! Guarantees with their codes and the amounts in use on them. `DatabaseCorrupt`: a row is no such row, or there are several where
+//! there can be one; `OutOfMemory`: want of memory; any other error is the database's own.
 ghost use Rattle.std.specs.Prelude.{◌≡◌, filter_map, map, IfOk, is_ok};
 ghost use Rattle.sqlite.specs.Held.{state};
 ghost use Rattle.sqlite.specs.State.{HasCleanDisk};
+ghost use Rattle.td_guarantee.specs.Codes.{AreAscending};
 ghost use Rattle.td_model.specs.Account.{entry_in};
 ghost use Rattle.td_desk.specs.Content.{Content, account_in};
 ghost use Rattle.typed_sql.specs.Reading.{IsInside};
 ghost use Rattle.td_store_rows.specs.StoreReads.{ReadsNewest};
-ghost use Rattle.td_store_rows.specs.GuaranteeTable.{guarantee_row_of};
+ghost use Rattle.td_store_rows.specs.KeptTable.{kept_row_of};
 ghost use Rattle.td_store_rows.specs.StoreTables.{HoldsContent};
-ghost use Rattle.td_store_load.specs.Loaded.{IsOfContent, IsOfTables};
+ghost use Rattle.td_store_load.specs.Loaded.{IsOfContent, IsOfTables, code_of};
 ghost use Rattle.td_store_load.specs.Needed.{entry_from, with_use};
 
-use crate::amounts::amount_in_use;
-use crate::guarantees::{guarantee_with_codes, load_guarantee};
 use sqlite::{Error, Transaction};
 use sqlite_trees::store::Alter;
-use std::alloc::Global;
+use std::alloc::{AllocError, Global};
+use td_acts::Lines;
 use td_base::{Cents, Country, Grn, HolderNo};
-use td_guarantee::Guarantee;
+use td_guarantee::{Codes, Guarantee};
 use td_movement::Line;
-use td_store_rows::{StoredGuarantee, guarantees_of};
+use td_store_rows::{KeptGuarantee, StoredCode, codes_of, find_kept, kept_of};
+
+// The codes in rows, which are given in ascending order. `AllocError`: want of memory.
+fn gather_codes(alloc: Global, rows: &[StoredCode]) -> Result<Codes, AllocError>
+    ensures gathered { AreAscending (map code_of rows.now) → IfOk result (λ codes. codes ≡ map code_of rows.now) }
+{
+    let mut codes = Codes::none(alloc);
+    'rows: for row in rows {
+        codes.add(row.code)?;
+    }
+    Ok(codes)
+}
+
+// The guarantee in a row with its codes, and the amount in use that the row keeps.
+fn entry_in_row<S: Alter>(
+    alloc: Global,
+    tx: &mut Transaction<'_, S>,
+    row: &KeptGuarantee,
+) -> Result<(Guarantee, Cents), Error>
+    requires { IsInside (state S.Store tx.old.conn.now) }
+    ensures same_reference { tx.new.conn.ghost_name ≡ tx.old.conn.ghost_name }
+    ensures entry { HasCleanDisk (state S.Store tx.new.conn.now)
+        → IfOk result (IsOfTables (λ t. entry_from t (kept_row_of row.now)) (state S.Store tx.old.conn.now)) }
+    ensures reads { ReadsNewest (is_ok result) (state S.Store tx.old.conn.now) (state S.Store tx.new.conn.now) }
+{
+    let codes = codes_of(alloc, tx, row.holder, row.serial)?;
+    let mut guarantee = row.guarantee.copy(alloc)?;
+    guarantee.codes = gather_codes(alloc, &codes)?;
+    Ok((guarantee, row.used))
+}
 
 /// The holder's guarantee with a GRN at an office of that country, if there is one, and the amount in use on it.
 pub fn load_entry<S: Alter>(
@@ -37,12 +65,11 @@ pub fn load_entry<S: Alter>(
         → IfOk result (IsOfContent country (λ c. entry_in (account_in holder c) grn.now) (state S.Store tx.old.conn.now)) }
     ensures reads { ReadsNewest (is_ok result) (state S.Store tx.old.conn.now) (state S.Store tx.new.conn.now) }
 {
-    let Some(guarantee) = load_guarantee(alloc, tx, country, holder, grn)? else {
+    let serial = grn.serial(country).unwrap_or(0);
+    let Some(row) = find_kept(alloc, tx, holder, serial, grn)? else {
         return Ok(None);
     };
-    let serial = grn.serial(country).unwrap_or(0);
-    let used = amount_in_use(alloc, tx, holder, serial)?;
-    Ok(Some((guarantee, used)))
+    Ok(Some(entry_in_row(alloc, tx, &row)?))
 }
 
 /// The guarantees that a movement's lines name, as far as they are there, at an office of that country, and the amounts in use
@@ -70,38 +97,41 @@ pub fn load_entries_of<S: Alter>(
     Ok(found)
 }
 
-// The guarantee in a row, and what the lines on it add up to.
-fn entry_in_row<S: Alter>(
+/// The guarantees that the lines of a declaration name, as far as they are there, at an office of that country, and the amounts
+/// in use on them.
+pub fn load_declared_on<S: Alter>(
     alloc: Global,
     tx: &mut Transaction<'_, S>,
-    row: &StoredGuarantee,
-) -> Result<(Guarantee, Cents), Error>
+    country: Country,
+    holder: HolderNo,
+    lines: &Lines,
+) -> Result<Vec<(Guarantee, Cents)>, Error>
     requires { IsInside (state S.Store tx.old.conn.now) }
     ensures same_reference { tx.new.conn.ghost_name ≡ tx.old.conn.ghost_name }
-    ensures entry { HasCleanDisk (state S.Store tx.new.conn.now)
-        → IfOk result (IsOfTables (λ t. entry_from t (guarantee_row_of row.now)) (state S.Store tx.old.conn.now)) }
+    ensures found { HasCleanDisk (state S.Store tx.new.conn.now)
+        → IfOk result (λ found. IsOfContent country (λ c. filter_map (λ l. entry_in (account_in holder c) l.0.grn) lines.now)
+        (state S.Store tx.old.conn.now) found.items) }
     ensures reads { ReadsNewest (is_ok result) (state S.Store tx.old.conn.now) (state S.Store tx.new.conn.now) }
 {
-    let used = amount_in_use(alloc, tx, row.holder, row.serial)?;
-    let stored = StoredGuarantee {
-        holder: row.holder,
-        serial: row.serial,
-        guarantee: row.guarantee.copy(alloc)?,
-    };
-    let guarantee = guarantee_with_codes(alloc, tx, stored)?;
-    Ok((guarantee, used))
+    let mut found = Vec::new(alloc);
+    'lines: for (line, _) in lines.as_slice() {
+        if let Some(entry) = load_entry(alloc, tx, country, holder, &line.grn)? {
+            found.push(entry)?;
+        }
+    }
+    Ok(found)
 }
 
-// The guarantees in rows, and what the lines on each add up to, in their order.
+// The guarantees in rows with their codes, and the amounts in use that the rows keep, in their order.
 fn entries_in_rows<S: Alter>(
     alloc: Global,
     tx: &mut Transaction<'_, S>,
-    rows: &[StoredGuarantee],
+    rows: &[KeptGuarantee],
 ) -> Result<Vec<(Guarantee, Cents)>, Error>
     requires { IsInside (state S.Store tx.old.conn.now) }
     ensures same_reference { tx.new.conn.ghost_name ≡ tx.old.conn.ghost_name }
     ensures entries { HasCleanDisk (state S.Store tx.new.conn.now)
-        → IfOk result (λ entries. IsOfTables (λ t. map (λ r. entry_from t (guarantee_row_of r)) rows.now)
+        → IfOk result (λ entries. IsOfTables (λ t. map (λ r. entry_from t (kept_row_of r)) rows.now)
         (state S.Store tx.old.conn.now) entries.items) }
     ensures reads { ReadsNewest (is_ok result) (state S.Store tx.old.conn.now) (state S.Store tx.new.conn.now) }
 {
@@ -126,6 +156,6 @@ pub fn load_all_entries<S: Alter>(
         → found.items ≡ map (with_use (account_in holder c)) (account_in holder c).guarantees) }
     ensures reads { ReadsNewest (is_ok result) (state S.Store tx.old.conn.now) (state S.Store tx.new.conn.now) }
 {
-    let rows = guarantees_of(alloc, tx, holder)?;
+    let rows = kept_of(alloc, tx, holder)?;
     entries_in_rows(alloc, tx, &rows)
 }

@@ -1,6 +1,5 @@
-//! What each shape of needs asks for. `DatabaseCorrupt`: a row is no such row, there are several where there can be one, the
-//! guarantee of a line isn't there, or the lines on a guarantee add up to more than 10^15 cents; `OutOfMemory`: want of memory;
-//! any other error is the database's own.
+//! What each shape of needs asks for. `DatabaseCorrupt`: a row is no such row, there are several where there can be one, or the
+//! guarantee of a line isn't there; `OutOfMemory`: want of memory; any other error is the database's own.
 ghost use Rattle.std.specs.Prelude.{◌≡◌, [], Some, option_to_list, IfOk, is_ok};
 ghost use Rattle.sqlite.specs.Held.{state};
 ghost use Rattle.sqlite.specs.State.{HasCleanDisk};
@@ -13,8 +12,7 @@ ghost use Rattle.td_store_rows.specs.StoreTables.{HoldsContent};
 ghost use Rattle.td_store_load.specs.Needed.{IsLoadedFor};
 ghost use Rattle.typed_sql.specs.Reading.{IsInside};
 
-use crate::entries::{load_all_entries, load_entries_of, load_entry};
-use crate::guarantees::load_guarantees_of;
+use crate::entries::{load_all_entries, load_declared_on, load_entries_of, load_entry};
 use crate::movements::{load_all_movements, load_movement_by_lrn, load_movement_by_mrn};
 use sqlite::{Error, Transaction};
 use sqlite_trees::store::Alter;
@@ -116,7 +114,7 @@ fn load_lodging<S: Alter>(
 {
     let found = load_movement_by_lrn(alloc, tx, row.holder, lrn)?;
     let movements = in_list(alloc, found)?;
-    let guarantees = load_guarantees_of(alloc, tx, country, row.holder, lines)?;
+    let guarantees = load_declared_on(alloc, tx, country, row.holder, lines)?;
     Ok(Loaded {
         country,
         holder: Some(row),

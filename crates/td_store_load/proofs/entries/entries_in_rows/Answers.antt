@@ -5,7 +5,7 @@ use Rattle.std.proofs.lemmas.List.{take_all}
 use Rattle.td_store_rows.specs.StoreTables.{tables_in}
 use Rattle.td_store_rows.specs.StoreReads.{ReadsNewest}
 use Rattle.td_store_rows.proofs.StoreReads.{reads_on, reads_well}
-use Rattle.td_store_rows.specs.GuaranteeTable.{guarantee_row_of}
+use Rattle.td_store_rows.specs.KeptTable.{kept_row_of}
 use Rattle.td_store_load.proofs.Found.{next_of}
 use Rattle.td_store_load.specs.Needed.{entry_from}
 use Rattle.td_store_load.proofs.entries.entries_in_rows.Goals as goal
@@ -16,7 +16,7 @@ rows-preserved g c = (
   more,
   λ clean content holds.
       c.in_ok-push.ensures.items
-      ∙ next_of (λ t r. entry_from t (guarantee_row_of r)) a b c.args.rows.now c.rows.row-index _ c.row-item.result c.rows.entries.items c.in_ok-entry.entry c.rows-test.true c.row-item.is
+      ∙ next_of (λ t r. entry_from t (kept_row_of r)) a b c.args.rows.now c.rows.row-index _ c.row-item.result c.rows.entries.items c.in_ok-entry.entry c.rows-test.true c.row-item.is
       (c.rows.invariant.1.still (clean_b clean) refl) (c.rows.invariant.2 (clean_b clean)) (c.in_ok-entry.ensures.entry clean) content holds,
 )
   where
@@ -41,5 +41,5 @@ returns-in_err-push-clause-reads g c = reads_well (reads_on c.rows.invariant.1 c
 pub returns-clause-entries : goal.returns-clause-entries
 returns-clause-entries g c clean content holds =
     c.rows.invariant.2 clean content holds
-    ∙ ap (map (λ r. entry_from (tables_in holds.trees.layout (state g.S.Store c.args.tx.now.conn.now).now.trees) (guarantee_row_of r)))
+    ∙ ap (map (λ r. entry_from (tables_in holds.trees.layout (state g.S.Store c.args.tx.now.conn.now).now.trees) (kept_row_of r)))
     (take_all c.rows.row-index c.args.rows.now c.rows-test.false)

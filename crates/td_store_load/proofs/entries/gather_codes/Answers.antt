@@ -2,7 +2,7 @@ use Rattle.std.proofs.Common.{◌∙◌, ap, map}
 use Rattle.std.proofs.lemmas.List.{take_all}
 use Rattle.td_store_load.specs.Loaded.{code_of}
 use Rattle.td_store_load.proofs.Found.{next_put}
-use Rattle.td_store_load.proofs.guarantees.gather_codes.Goals as goal
+use Rattle.td_store_load.proofs.entries.gather_codes.Goals as goal
 
 pub rows-preserved : goal.rows-preserved
 rows-preserved c = λ order.
