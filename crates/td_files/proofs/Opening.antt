@@ -1,6 +1,6 @@
 -- What the opening of a desk over a file says of what the file held.
-use Rattle.std.proofs.Common.{◌≡◌, ◌≢◌, ◌⊎◌, ◌∙◌, ℕ, ◌≤◌, List, Option, Some, ap, arith, inl, inr, refl, subst, sym}
-use Rattle.std.specs.Prelude.{IsTrue}
+use Rattle.std.proofs.Common.{◌≡◌, ◌⊎◌, ◌∙◌, ℕ, ◌≤◌, List, Option, Some, ap, arith, inl, inr, refl, subst, sym}
+use Rattle.std.specs.Prelude.{IsTrue, OnErr, Result}
 use Rattle.sqlite_disk.specs.declared.Disk as disk
 use Rattle.sqlite_store.specs.declared.store.FileStore.{FileStore}
 use Rattle.sqlite_trees.specs.View.{doubt}
@@ -13,14 +13,18 @@ use Rattle.sqlite.specs.State.{State, HasCleanDisk, Opens, Survives}
 use Rattle.sqlite_trees.specs.Tree.{Trees}
 use Rattle.td_desk.specs.Content.{Content}
 use Rattle.td_table_model.specs.declared.rule.Rule.{Rule}
-use Rattle.td_schema.specs.Layouts.{desk_schema}
+use Rattle.td_schema.specs.Layouts.{schema_of}
+use Rattle.td_schema.specs.declared.layout.Layout.{Layout}
 use Rattle.td_store_rows.specs.StoreTables.{AreTreesOf, HoldsContent}
 use Rattle.td_store.specs.Kept.{CrashLeavesShown}
-use Rattle.td_store.specs.Opened.{AreDamaged, IsOfAnother, IsOfUnknownVersion, TellsDatabase}
+use Rattle.td_store.specs.Opened.{AreDamaged, IsOfAnother, IsOfEarlier, IsOfUnknownVersion, IsStoreSchema, TellsDatabase}
 use Rattle.td_store.specs.declared.refused.OpenFault.{OpenFault}
 use Rattle.td_store.specs.declared.refused.OpenFault.TheVariants.{UnknownVersion, NeedsMigration, OtherCountry, Damaged, Store, NoMemory}
 use Rattle.td_files.specs.declared.desks.DeskFault.{DeskFault}
 use Rattle.td_files.specs.declared.desks.DeskFault.TheVariants.{Refused}
+use Rattle.td_migrate.specs.Upgraded.{MayLeaveUpgraded, TellsUpgrade}
+use Rattle.td_migrate.specs.declared.fault.MigrateFault.{MigrateFault}
+use Rattle.td_files.specs.Upgraded.{ShowsUpgrade}
 use Rattle.td_files.specs.Found.{IsClean, IsFoundIn, IsLeftAsFound, IsRefusedFor, IsToldOf, IsUnmade}
 
 -- no fault is forgotten
@@ -41,31 +45,31 @@ found_there image s opens finds =
 -- what the clauses of an open say of a fault
 tells : (country : List ℕ) (db : Database) (fault : OpenFault)
     → (fault ≡ UnknownVersion → IsOfUnknownVersion db)
-    → ((version : ℕ) → fault ≢ NeedsMigration version)
-    → (fault ≡ OtherCountry → (db.schema ≡ desk_schema) × IsOfAnother country db.trees)
-    → ((rule : Rule) → fault ≡ Damaged rule → (db.schema ≡ desk_schema) × AreDamaged country rule db.trees)
+    → ((version : ℕ) → fault ≡ NeedsMigration version → IsStoreSchema db.schema × IsOfEarlier version db.trees)
+    → (fault ≡ OtherCountry → IsStoreSchema db.schema × IsOfAnother country db.trees)
+    → ((rule : Rule) → fault ≡ Damaged rule → (l : Layout) × (db.schema ≡ schema_of l) × AreDamaged country rule l db.trees)
     → TellsDatabase country db (Some fault)
-tells country db UnknownVersion unknown newest other broken = inr (inl (refl, unknown refl))
-tells country db (NeedsMigration version) unknown newest other broken = absurd (newest version refl)
-tells country db OtherCountry unknown newest other broken = inr (inr (other refl))
-tells country db (Damaged rule) unknown newest other broken = inr (inr (broken rule refl))
-tells country db Store unknown newest other broken = inl (inl refl)
-tells country db NoMemory unknown newest other broken = inl (inr refl)
+tells country db UnknownVersion unknown earlier other broken = inr (inl (refl, unknown refl))
+tells country db (NeedsMigration version) unknown earlier other broken = let is = earlier version refl in inr (inr (is.0.0, is.0.1, is.1))
+tells country db OtherCountry unknown earlier other broken = let is = other refl in inr (inr (is.0.0, is.0.1, is.1))
+tells country db (Damaged rule) unknown earlier other broken = inr (inr (broken rule refl))
+tells country db Store unknown earlier other broken = inl (inl refl)
+tells country db NoMemory unknown earlier other broken = inl (inr refl)
 
 -- Where the disk stayed clean, what the file held was refused for this fault, if it is neither the store's nor want of memory.
 pub refused_for : (image : Image) (country : List ℕ) (found : State) (fault : OpenFault) → IsFoundIn image found.now
     → (fault ≡ UnknownVersion → IsOfUnknownVersion found.now)
-    → ((version : ℕ) → fault ≢ NeedsMigration version)
-    → (fault ≡ OtherCountry → (found.now.schema ≡ desk_schema) × IsOfAnother country found.now.trees)
-    → ((rule : Rule) → fault ≡ Damaged rule → (found.now.schema ≡ desk_schema) × AreDamaged country rule found.now.trees)
+    → ((version : ℕ) → fault ≡ NeedsMigration version → IsStoreSchema found.now.schema × IsOfEarlier version found.now.trees)
+    → (fault ≡ OtherCountry → IsStoreSchema found.now.schema × IsOfAnother country found.now.trees)
+    → ((rule : Rule) → fault ≡ Damaged rule → (l : Layout) × (found.now.schema ≡ schema_of l) × AreDamaged country rule l found.now.trees)
     → ((c : Content) → HoldsContent c found → c.country ≡ country → (fault ≡ Store) ⊎ (fault ≡ NoMemory))
     → ((c : Content) → AreTreesOf c found.now.trees → HoldsContent c found)
     → ¬ ((fault ≡ Store) ⊎ (fault ≡ NoMemory)) → IsRefusedFor image country fault
-refused_for image country found fault is unknown newest other broken sound opens neither =
+refused_for image country found fault is unknown earlier other broken sound opens neither =
     record {
       db = found.now;
       found = is;
-      tells = tells country found.now fault unknown newest other broken;
+      tells = tells country found.now fault unknown earlier other broken;
       unsound = λ c trees same. neither (sound c (opens c trees) same);
     }
 
@@ -119,3 +123,19 @@ module _ {D : Type 0} {g : disk.Ghosts D} where
 pub unmade_at : (fault : OpenFault) (why : DeskFault) → (fault ≡ Store) ⊎ (fault ≡ NoMemory) → why ≡ Refused fault → IsUnmade why
 unmade_at fault why (inl store) is = inr (inl (is ∙ ap Refused store))
 unmade_at fault why (inr memory) is = inr (inr (is ∙ ap Refused memory))
+
+-- what came of an upgrade of what a connection found
+pub shows_upgrade : {D : Type 0} {g : disk.Ghosts D} (image : Image) (found : State) (c : Held (FileStore D g)) (result : Result ℕ MigrateFault)
+    → IsFoundIn image found.now → IsTrue found.is_open → CrashLeavesShown found
+    → (HasCleanDisk (file_state c) → IsTrue (file_state c).is_open → TellsUpgrade found.now (file_state c) result)
+    → (HasCleanDisk (file_state c) → IsTrue (file_state c).is_open → OnErr result ((file_state c).now ≡ found.now))
+    → Survives found (file_state c) (MayLeaveUpgraded found.now) → CrashLeavesShown (file_state c) → HasCleanDisk (file_state c)
+    → ShowsUpgrade image c result
+shows_upgrade image found c result is is_open before told unchanged crash settled clean = record {
+  db = found.now;
+  found = is;
+  told = told clean;
+  unchanged = unchanged clean;
+  leaves = λ trees may. elim (crash.crash clean trees may) [ inl was ↦ inl ((before is_open trees).0 was) | inr grown ↦ inr grown ];
+  settled = settled;
+}

@@ -13,7 +13,7 @@ use Rattle.td_desk.specs.Content.{Content, empty_content}
 use Rattle.td_desk.specs.View.{DeskView, LeavesOnly}
 use Rattle.td_schema.specs.Tables.{IsEmptyOf, no_schema}
 use Rattle.td_store_rows.specs.StoreTables.{AreTreesOf, HoldsContent}
-pub use Rattle.td_store_rows.specs.StoreTables.{content_in}
+pub use Rattle.td_store.specs.Kept.{content_in}
 use Rattle.td_store.specs.Kept.{CrashLeavesShown, sql_view}
 use Rattle.td_store.specs.Opened.{TellsDatabase}
 use Rattle.td_store.specs.declared.refused.OpenFault.{OpenFault}
@@ -51,9 +51,9 @@ module _ {D : Type 0} {g : disk.Ghosts D} where
   pub record IsOpenedDesk (image : Image) (country : List ℕ) (c : FileSeen g) : Type 0 where
     pub live : IsTrue (file_state c).is_open
     pub found : IsFoundIn image (file_state c).now
-    pub holds : HoldsContent (content_in (file_state c).now.trees) (file_state c)
-    pub country_is : (content_in (file_state c).now.trees).country ≡ country
-    pub leaves : LeavesOnly over_file c (content_in (file_state c).now.trees)
+    pub holds : HoldsContent (content_in (file_state c).now) (file_state c)
+    pub country_is : (content_in (file_state c).now).country ≡ country
+    pub leaves : LeavesOnly over_file c (content_in (file_state c).now)
 
   -- A desk was made: the file held no table, and has a store's tables of the newest version now, and the office's own row; the desk
   -- is empty. A crash leaves that desk.
@@ -62,15 +62,15 @@ module _ {D : Type 0} {g : disk.Ghosts D} where
     pub before : Database
     pub found : IsFoundIn image before
     pub blank : ¬ (¬ IsEmptyOf no_schema before)
-    pub empty : content_in (file_state c).now.trees ≡ empty_content country
-    pub holds : HoldsContent (content_in (file_state c).now.trees) (file_state c)
-    pub leaves : LeavesOnly over_file c (content_in (file_state c).now.trees)
+    pub empty : content_in (file_state c).now ≡ empty_content country
+    pub holds : HoldsContent (content_in (file_state c).now) (file_state c)
+    pub leaves : LeavesOnly over_file c (content_in (file_state c).now)
 
   -- A connection that a desk handed back: while its disk is clean and no fault has shut it, it is to a desk's file, which the next
   -- opening takes, and a crash leaves just that.
   abbrev pub IsKeptDesk : FileSeen g → Type 0
   IsKeptDesk c = IsClean c → IsTrue (file_state c).is_open
-      → HoldsContent (content_in (file_state c).now.trees) (file_state c) × LeavesOnly over_file c (content_in (file_state c).now.trees)
+      → HoldsContent (content_in (file_state c).now) (file_state c) × LeavesOnly over_file c (content_in (file_state c).now)
 
   -- a connection shows what was found, as far as it is open, and a crash leaves just that
   pub record ShowsFound (image : Image) (c : FileSeen g) : Type 0 where

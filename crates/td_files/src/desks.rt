@@ -24,8 +24,8 @@ pub enum DeskFault {
     Refused(OpenFault),
 }
 
-// Why a file wasn't opened.
-fn file_fault(error: &Error) -> DeskFault
+/// Why a file wasn't opened.
+pub(crate) fn file_fault(error: &Error) -> DeskFault
     ensures { IsUnmade result }
 {
     match error {

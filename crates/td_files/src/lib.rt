@@ -1,8 +1,10 @@
-//! The file of the machine in which a desk's records stand: opened by its path, with a desk over it, and closed.
+//! The file of the machine in which a desk's records stand: opened by its path, with a desk over it or to be
+//! brought to the newest version of its tables, and closed.
 #![tactic(auto)]
 
 mod desks;
 mod files;
+mod upgrades;
 
 pub use desks::{DeskFault, FileDesk};
 pub use files::{Closed, DeskFile, FileConnection, OneFile};

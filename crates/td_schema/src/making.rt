@@ -88,16 +88,17 @@ pub fn make_tables<S: Alter>(tx: &mut Transaction<'_, S>, layout: Layout) -> Res
     make_rest(tx, layout)
 }
 
-/// Makes the table of guarantees of version 2 in a file that was made at version 1, inside a transaction that the caller commits:
-/// the table has no row then, the others are as they were, and the tables are those of `Layout::Grown2`. An error is the
-/// database's own, and commits nothing.
+/// Makes the table of guarantees of version 2 in a file that was made at version 1, inside a transaction that the
+/// caller commits: the table has no row then, the others are as they were, and the tables are those of
+/// `Layout::Grown2`. An error is the database's own, and commits nothing.
 pub fn make_guarantees2<S: Alter>(tx: &mut Transaction<'_, S>) -> Result<(), Error>
     requires { IsInside (state S.Store tx.old.conn.now) }
     ensures same_reference { tx.new.conn.ghost_name ≡ tx.old.conn.ghost_name }
     ensures made { HasCleanDisk (state S.Store tx.new.conn.now)
         → OnOk result (HasSchema (state S.Store tx.old.conn.now) (schema_of variant.Made1)
         → IsMade (schema_of variant.Made1) guarantees2 (state S.Store tx.old.conn.now).now (state S.Store tx.new.conn.now).now) }
-    ensures grown { HasCleanDisk (state S.Store tx.new.conn.now) → OnOk result (HasSchema (state S.Store tx.old.conn.now) (schema_of variant.Made1)
+    ensures grown { HasCleanDisk (state S.Store tx.new.conn.now)
+        → OnOk result (HasSchema (state S.Store tx.old.conn.now) (schema_of variant.Made1)
         → (state S.Store tx.new.conn.now).now.schema ≡ schema_of variant.Grown2) }
     ensures within { StaysInside (is_ok result) (state S.Store tx.old.conn.now) (state S.Store tx.new.conn.now) }
 {

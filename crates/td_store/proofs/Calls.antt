@@ -11,7 +11,7 @@ use Rattle.td_acts.specs.declared.rows.Verdict.{Verdict}
 use Rattle.td_desk.specs.Content.{content_after, IsSound}
 use Rattle.td_desk.specs.View.{AddsAtMost}
 use Rattle.td_desk.specs.Weighing.{IsDecision}
-use Rattle.td_store_rows.specs.StoreTables.{content_in}
+use Rattle.td_store.specs.Kept.{content_in}
 use Rattle.td_store_write.specs.Carried.{CarriesChange, MayLeave}
 use Rattle.td_store.specs.Kept.{IsDeskOf, sql_view}
 use Rattle.td_store.proofs.Holding.{decided_there, desk_after, desk_still, there_is, written}
@@ -30,8 +30,8 @@ desk_then country a b P desk survives live same =
 
 -- a call that carried a change that was decided on
 module _ {S : Type 0} (g : Ghosts S) (country : List ℕ) (change : Change) (old new : Held S) (desk : IsDeskOf country (state g old))
-    (decided : HasCleanDisk (state g old) → IsTrue (state g old).is_open → IsSound (content_in (state g old).now.trees)
-    → (v : Verdict) × (v.change ≡ change) × IsDecision (content_in (state g old).now.trees) v)
+    (decided : HasCleanDisk (state g old) → IsTrue (state g old).is_open → IsSound (content_in (state g old).now)
+    → (v : Verdict) × (v.change ≡ change) × IsDecision (content_in (state g old).now) v)
     (survives : Survives (state g old) (state g new) (MayLeave country change (state g old))) where
   abbrev a : State
   a = state g old
@@ -44,9 +44,9 @@ module _ {S : Type 0} (g : Ghosts S) (country : List ℕ) (change : Change) (old
 
   -- a crash leaves no more than the content after it
   pub adds_change : HasCleanDisk b
-      → AddsAtMost (sql_view g) (λ x. IsTrue a.is_open × (x ≡ content_after change (content_in a.now.trees))) old new
+      → AddsAtMost (sql_view g) (λ x. IsTrue a.is_open × (x ≡ content_after change (content_in a.now))) old new
   adds_change clean =
-      adds g old new (MayLeave country change a) (λ x. IsTrue a.is_open × (x ≡ content_after change (content_in a.now.trees)))
+      adds g old new (MayLeave country change a) (λ x. IsTrue a.is_open × (x ≡ content_after change (content_in a.now)))
       survives clean
       (λ trees may.
       let was = clean_before clean in
@@ -60,8 +60,8 @@ module _ {S : Type 0} (g : Ghosts S) (country : List ℕ) (change : Change) (old
       (carries : HasCleanDisk b → CarriesChange country change a b) where
     pub desk_carried : IsDeskOf country b
     desk_carried clean now =
-        desk_after country change a desk decided (clean_before clean) (live clean now) b (carries clean)
+        desk_after country change a desk decided (clean_before clean) (live clean now) b now (carries clean)
 
-    pub content_carried : HasCleanDisk b → IsTrue b.is_open → content_in b.now.trees ≡ content_after change (content_in a.now.trees)
+    pub content_carried : HasCleanDisk b → IsTrue b.is_open → content_in b.now ≡ content_after change (content_in a.now)
     content_carried clean now =
-        written country change a desk decided (clean_before clean) (live clean now) b (carries clean)
+        written country change a desk decided (clean_before clean) (live clean now) b now (carries clean)

@@ -1,10 +1,11 @@
 -- What the office's own row and the rules tell of a store's tables.
-use Rattle.std.proofs.Common.{◌≡◌, ◌∙◌, ℕ, Bool, true, false, if◌then◌else◌, List, [], ◌∷◌, Option, Some, None, Err, Ok, Result, ap, length, map, refl, subst, sym}
-use Rattle.std.specs.Prelude.{◌≢◌, pos, is_some, option_map, IfOk, IsTrue}
+use Rattle.std.proofs.Common.{◌≡◌, ◌∙◌, ◌⊎◌, ℕ, Bool, inl, inr, true, false, if◌then◌else◌, List, [], ◌∷◌, Option, Some, None, Err, Ok, Result, ap, length, map, refl, subst, sym}
+use Rattle.std.specs.Prelude.{pos, is_some, option_map, IfOk, IfSome, IsTrue}
 use Rattle.std.specs.Bool.{Decides}
-use Rattle.std.specs.Option.{option_to_list}
+use Rattle.std.specs.Option.{ok_or, option_to_list}
 use Rattle.std.proofs.lemmas.Bool.Decides.{Decides-and, Decides-eqb, Decides-like}
 use Rattle.sqlite.specs.declared.error.Error.{Error}
+use Rattle.sqlite.specs.Effect.{Database}
 use Rattle.sqlite_trees.specs.Tree.{Trees}
 use Rattle.td_base.specs.Codes.{IsCountry, country_read, is_country}
 use Rattle.td_base.proofs.Decided.{capitals_decided, some_where}
@@ -16,8 +17,10 @@ use Rattle.td_store_audit_rows.specs.declared.tables.Readable.{Readable}
 use Rattle.td_store_audit_rows.specs.Scans.{TellReadable}
 use Rattle.td_store_audit.specs.Keeping.{KeepsTables}
 use Rattle.td_store_audit.specs.InFile.{IsSoWhere}
-use Rattle.td_store_rows.specs.Columns.{MetaRow, meta_row, meta_typing}
-use Rattle.td_schema.specs.Layouts.{desk_schema, newest_layout, newest_version}
+use Rattle.td_store_rows.specs.StoreReads.{IsOfVersion}
+use Rattle.td_store_rows.specs.Columns.{MetaIsFirst, MetaRow, meta_row, meta_typing}
+use Rattle.td_schema.specs.Layouts.{IsNewest, newest_version, schema_of, version_of}
+use Rattle.td_schema.specs.declared.layout.Layout.{Layout}
 use Rattle.td_store_rows.specs.MetaTable.{stored_of}
 use Rattle.td_store_rows.specs.StoreTables.{HasOfficeRow}
 use Rattle.td_store_rows.specs.declared.meta.stored.StoredMeta.{StoredMeta}
@@ -26,7 +29,8 @@ use Rattle.td_store_audit_rows.specs.Laws.{AreKept, KeptRulesMeanContent}
 use Rattle.td_store_audit.specs.Broken.{TellsBroken}
 use Rattle.td_store.specs.declared.refused.OpenFault.{OpenFault}
 use Rattle.td_store.specs.declared.refused.OpenFault.TheVariants.{UnknownVersion, NeedsMigration, OtherCountry, Damaged, Store, NoMemory}
-use Rattle.td_store.specs.Opened.{IsOfAnother, IsOfVersion, TellsOffice, TellsRows, TellsRules, TellsTables}
+use Rattle.td_store.proofs.Begins.{store_begins}
+use Rattle.td_store.specs.Opened.{IsDamage, IsOfAnother, IsOfEarlier, IsOfficeIn, IsOfKnownVersion, MaySay, TellsDatabase, TellsFileVersion, TellsKnown, TellsOffice, TellsRows, TellsRules, TellsTables}
 
 country_decided : (text : List ℕ) → Decides (is_country text) (IsCountry text)
 country_decided text =
@@ -56,65 +60,115 @@ one_row [] m is = absurd cc
 one_row (r ∷ []) m is = let same : stored_of r ≡ m = cc in (r, refl, same)
 one_row (r ∷ s ∷ rows) m is = absurd cc
 
-made_of : (row : MetaRow) (country : List ℕ) → row.version ≡ pos newest_version → row.country ≡ country → row ≡ meta_row newest_version country
-made_of row country version text =
-    ap (λ v. record { version = v; country = row.country }) version ∙ ap (meta_row newest_version) text
+made_of : (row : MetaRow) (version : ℕ) (country : List ℕ) → row.version ≡ pos version → row.country ≡ country → row ≡ meta_row version country
+made_of row version country at text =
+    ap (λ v. record { version = v; country = row.country }) at ∙ ap (meta_row version) text
 
-module _ (country : List ℕ) (trees : Trees) (office : Option StoredMeta)
-    (found : AreTyped meta_typing trees → map stored_of (typed_rows meta_typing trees) ≡ option_to_list office) where
-  not_of_version : ((m : StoredMeta) → office ≡ Some m → m.version ≢ pos newest_version) → ¬ IsOfVersion newest_version trees
-  not_of_version none is =
-      let one : stored_of (meta_row newest_version is.country) ∷ [] ≡ option_to_list office =
-      ap (map stored_of) (sym is.row) ∙ found is.typed in
-      none (stored_of (meta_row newest_version is.country)) (only_one _ office one) refl
+module _ (trees : Trees) (office : Option StoredMeta) (found : IsOfficeIn trees office) where
+  -- no version that is known
+  pub of_no_version : TellsKnown office None → ¬ IsOfKnownVersion trees
+  of_no_version none is =
+      let row = stored_of (meta_row is.0 is.2.country) in
+      let one : row ∷ [] ≡ option_to_list office = ap (map stored_of) (sym is.2.row) ∙ found is.2.typed in
+      none row (only_one _ office one) (is.0, is.1, refl)
 
-  row_there : (m : StoredMeta) → office ≡ Some m → AreTyped meta_typing trees
+  pub row_there : (m : StoredMeta) → office ≡ Some m → AreTyped meta_typing trees
       → (row : MetaRow) × (typed_rows meta_typing trees ≡ row ∷ []) × (stored_of row ≡ m)
   row_there m is typed = one_row (typed_rows meta_typing trees) m (found typed ∙ ap option_to_list is)
 
+  -- this version
+  pub says : (version : ℕ) (m : StoredMeta) → office ≡ Some m → m.version ≡ pos version → MaySay version trees
+  says version m is at typed =
+      let r = row_there m is typed in
+      (r.0.country, r.1 ∙ ap (λ row. row ∷ []) (made_of r.0 version r.0.country (ap (λ (k : StoredMeta). k.version) r.2 ∙ at) refl))
+
+-- what is told of the version by the office's own row, in a store's file
+pub version_told : (db : Database) (layout : Layout) → db.schema ≡ schema_of layout → (office : Option StoredMeta) → IsOfficeIn db.trees office
+    → (known : Option ℕ) → TellsKnown office known → TellsFileVersion db (ok_or known UnknownVersion)
+version_told db layout has office found None none = inr (store_begins layout db.schema has, of_no_version db.trees office found none)
+version_told db layout has office found (Some version) said =
+    ((layout, has), said.3, says db.trees office found version said.0 said.1 said.2)
+
+-- and where only the first table is a store's
+pub other_version_told : (db : Database) → MetaIsFirst db.schema → (office : Option StoredMeta) → IsOfficeIn db.trees office
+    → (why : OpenFault) → (why ≡ Store) ⊎ ((why ≡ UnknownVersion) × TellsKnown office None) → TellsFileVersion db (Err why)
+other_version_told db first office found why (inl is) = subst (λ w. TellsFileVersion db (Err w)) (sym is) tt
+other_version_told db first office found why (inr none) =
+    subst (λ w. TellsFileVersion db (Err w)) (sym none.0) (inr (first, of_no_version db.trees office found none.1))
+
+pub other_refused : (country : List ℕ) (db : Database) → MetaIsFirst db.schema → (office : Option StoredMeta) → IsOfficeIn db.trees office
+    → (why : OpenFault) → (why ≡ Store) ⊎ ((why ≡ UnknownVersion) × TellsKnown office None) → TellsDatabase country db (Some why)
+other_refused country db first office found why (inl is) = inl (inl (ap Some is))
+other_refused country db first office found why (inr none) = inr (inl (ap Some none.0, inr (first, of_no_version db.trees office found none.1)))
+
+module _ (country : List ℕ) (layout : Layout) (trees : Trees) (office : Option StoredMeta) (found : IsOfficeIn trees office) where
   of_this : TellsOffice country office None → AreTyped meta_typing trees → HasOfficeRow newest_version country trees
   of_this is typed =
-      let r = row_there (record { version = pos newest_version; country = Some country }) is typed in
-      r.1 ∙ ap (λ row. row ∷ []) (made_of r.0 country (ap (λ (m : StoredMeta). m.version) r.2)
+      let r = row_there trees office found (record { version = pos newest_version; country = Some country }) is typed in
+      r.1 ∙ ap (λ row. row ∷ []) (made_of r.0 newest_version country (ap (λ (m : StoredMeta). m.version) r.2)
       (same_country r.0.country country (ap (λ (m : StoredMeta). m.country) r.2)))
+
+  of_earlier : (version : ℕ) → TellsOffice country office (Some (NeedsMigration version)) → IsOfEarlier version trees
+  of_earlier version said = (said.3, says trees office found version said.0 said.1 said.2)
 
   of_another : IsCountry country → TellsOffice country office (Some OtherCountry) → IsOfAnother country trees
   of_another letters said typed =
-      let r = row_there said.0 said.1 typed in (
+      let r = row_there trees office found said.0 said.1 typed in (
         r.0.country,
-        r.1 ∙ ap (λ row. row ∷ []) (made_of r.0 r.0.country (ap (λ (m : StoredMeta). m.version) r.2 ∙ said.2) refl),
+        r.1 ∙ ap (λ row. row ∷ []) (made_of r.0 newest_version r.0.country (ap (λ (m : StoredMeta). m.version) r.2 ∙ said.2) refl),
         λ same. said.3 (sym (ap (λ (m : StoredMeta). m.country) r.2) ∙ ap country_read same ∙ read_country country letters),
       )
 
   -- what the office's own row is refused for
   pub judged : (fault : Option OpenFault) → IsCountry country → TellsOffice country office fault → is_some fault ≡ true
-      → TellsTables country trees fault
+      → TellsTables country layout trees fault
   judged None letters said some = absurd cc
-  judged (Some UnknownVersion) letters said some = not_of_version said
-  judged (Some (NeedsMigration version)) letters said some = said
+  judged (Some UnknownVersion) letters said some = of_no_version trees office found said
+  judged (Some (NeedsMigration version)) letters said some = of_earlier version said
   judged (Some OtherCountry) letters said some = of_another letters said
   judged (Some (Damaged rule)) letters said some = absurd said
-  judged (Some Store) letters said some = said
+  judged (Some Store) letters said some = absurd said
   judged (Some NoMemory) letters said some = said
 
-  -- and where it isn't refused, what the rules tell
-  pub audited : (broken : Option Rule) → TellsOffice country office None → HaveAllIds newest_layout trees → KeptRulesMeanContent
-      → AreKept newest_layout trees → TellsBroken newest_layout trees broken → TellsTables country trees (option_map Damaged broken)
-  audited None said ids law kept all =
-      record { content = law newest_layout trees kept all; office = of_this said (record { ids = ids.meta; cells = (all S1).0.1 }) }
-  audited (Some rule) said ids law kept first = record { first = first; office = of_this said }
+  -- and where it isn't refused, what the rows are
+  audited : IsNewest layout → TellsOffice country office None → (fault : Option OpenFault) → TellsRows layout trees fault
+      → TellsTables country layout trees fault
+  audited newest said None content = record { newest = newest; content = content; office = of_this said content.typed.meta }
+  audited newest said (Some (Damaged rule)) first = record { newest = newest; first = first; office = of_this said }
+  audited newest said (Some UnknownVersion) none = absurd none
+  audited newest said (Some (NeedsMigration version)) none = absurd none
+  audited newest said (Some OtherCountry) none = absurd none
+  audited newest said (Some Store) none = absurd none
+  audited newest said (Some NoMemory) none = absurd none
 
-  -- and what is then told of the rows
-  pub rows_judged : TellsOffice country office None → KeptRulesMeanContent → (result : Result (Option OpenFault) Error)
-      → IfOk result (TellsRows trees) → IfOk result (TellsTables country trees)
-  rows_judged said law (Ok fault) rows =
-      subst (TellsTables country trees) (sym rows.1) (audited rows.0 said rows.2 law rows.3 rows.4)
-  rows_judged said law (Err error) rows = rows
+  pub rows_judged : IsNewest layout → TellsOffice country office None → (result : Result (Option OpenFault) Error)
+      → IfOk result (TellsRows layout trees) → IfOk result (TellsTables country layout trees)
+  rows_judged newest said (Ok fault) rows = audited newest said fault rows
+  rows_judged newest said (Err error) rows = rows
+
+-- what the rules tell of the rows
+pub rows_told : (layout : Layout) (trees : Trees) → KeptRulesMeanContent → AreKept layout trees → (broken : Option Rule)
+    → TellsBroken layout trees broken → TellsRows layout trees (option_map Damaged broken)
+rows_told layout trees law kept None all = law layout trees kept all
+rows_told layout trees law kept (Some rule) first = first
 
 -- what the first rule that is broken, or none, tells of tables of which an open connection tells what the database keeps
-pub rules_told : (s : State) → KeepsTables s → IsTrue s.is_open → s.now.schema ≡ desk_schema → (readable : Readable) (broken : Option Rule)
-    → IsSoWhere AreKept (λ layout trees. TellReadable layout readable trees → TellsBroken layout trees broken) s
-    → TellsRules readable s.now.trees broken
-rules_told s keeps is_open has readable broken told ids read =
-    let kept = keeps newest_layout is_open (λ _. has) ids in
-    (kept, told newest_layout refl (λ _. has) kept read)
+pub rules_told : (s : State) (layout : Layout) → KeepsTables s → IsTrue s.is_open → s.now.schema ≡ schema_of layout
+    → (readable : Readable) (broken : Option Rule)
+    → IsSoWhere (IsOfVersion (version_of layout)) AreKept (λ l trees. TellReadable l readable trees → TellsBroken l trees broken) s
+    → TellsRules layout readable s.now.trees broken
+rules_told s layout keeps is_open has readable broken told ids read =
+    let kept = keeps layout is_open (λ _. has) ids in
+    (kept, told layout refl (λ _. has) kept read)
+
+-- what a broken rule is told as
+pub damage_is : (broken : Option Rule) → IfSome (option_map Damaged broken) IsDamage
+damage_is None = tt
+damage_is (Some rule) = (rule, refl)
+
+-- of rows that is the only fault, beside the store's
+pub store_or_damage : (result : Result (Option OpenFault) Error) → IfOk result (λ told. IfSome told IsDamage)
+    → IfOk result (λ told. IfSome told (λ why. (why ≡ Store) ⊎ IsDamage why))
+store_or_damage (Ok None) is = tt
+store_or_damage (Ok (Some why)) is = inr is
+store_or_damage (Err error) is = tt

@@ -10,13 +10,14 @@ use Rattle.sqlite.proofs.Callers.{survives_begin}
 use Rattle.sqlite.proofs.StateLemmas.{survives_then, survives_weaker}
 use Rattle.td_desk.specs.Content.{Content}
 use Rattle.td_desk.specs.View.{AddsAtMost, IsSettled, LeavesOnly}
-use Rattle.td_schema.specs.Layouts.{desk_schema, newest_layout}
+use Rattle.td_schema.specs.Layouts.{schema_of}
+use Rattle.td_schema.specs.declared.layout.Layout.{Layout}
 use Rattle.typed_sql.proofs.OnlyRead.{stays_on}
-use Rattle.typed_sql.specs.Reading.{Reads, StaysInside}
+use Rattle.typed_sql.specs.Reading.{StaysInside}
 use Rattle.typed_sql.specs.Writing.{HasSchema}
-use Rattle.td_store_rows.specs.StoreReads.{ReadsNewest}
-use Rattle.td_store_rows.specs.StoreTables.{AreTreesOf, HoldsContent, content_in}
-use Rattle.td_store.specs.Kept.{CountsFaults, CrashLeavesShown, sql_view}
+use Rattle.td_store_rows.specs.StoreReads.{ReadsIn}
+use Rattle.td_store_rows.specs.StoreTables.{AreTreesOf, HoldsContent}
+use Rattle.td_store.specs.Kept.{CountsFaults, CrashLeavesShown, content_in, sql_view}
 use Rattle.td_store.proofs.Holding.{holds_shown, one_content}
 
 -- what was there already is no outcome more
@@ -46,22 +47,19 @@ read_commits g old read new settled reading still committing =
     let there = still (omega (arith, clean, committing.clean)) in
     (settled there.0 trees).1 (is ∙ ap (λ (d : Database). d.trees) there.1)) reading committing))
 
--- what only read a store's file of the newest version did so under the tables of its layout
-pub at_newest : {a b : State} → ReadsNewest true a b → Reads desk_schema true a b
-at_newest reads = record { still = λ clean well. reads.still clean well newest_layout refl; within = reads.within }
-
--- so where it was seen after that
-pub seen_commits : {S : Type 0} (g : Ghosts S) (old : Held S) (read seen new : State) → CrashLeavesShown (state g old)
-    → (HasCleanDisk (state g old) → HasSchema (state g old) desk_schema)
-    → Reads desk_schema true (state g (record old { in_transaction = true })) read → StaysInside true read seen
+-- What only read a store's file of a layout of these did so under the tables of its own; so it is where that was seen after it.
+pub seen_commits : {S : Type 0} (g : Ghosts S) (P : Layout → Type 0) (old : Held S) (read seen new : State) → CrashLeavesShown (state g old)
+    → (HasCleanDisk (state g old) → (l : Layout) × P l × HasSchema (state g old) (schema_of l))
+    → ReadsIn P true (state g (record old { in_transaction = true })) read → StaysInside true read seen
     → (HasCleanDisk seen → IsUnchanged read seen)
     → Survives seen new (λ trees. trees ≡ seen.now.trees) → Survives (state g old) new (λ _. ⊥)
-seen_commits g old read seen new settled tables reads within still committing =
+seen_commits g P old read seen new settled tables reads within still committing =
     read_commits g old seen new settled (stays_on reads.within within).survives
     (λ clean.
     let clean_read : HasCleanDisk read = omega (arith, clean, within.survives.clean) in
     let same = still clean in
-    let only = reads.still clean_read refl (tables (omega (arith, clean_read, reads.within.survives.clean))) in
+    let there = tables (omega (arith, clean_read, reads.within.survives.clean)) in
+    let only = reads.still clean_read refl there.0 there.1 there.2 in
     (only.was_open same.0.was_open, same.0.now_is ∙ only.now_is)) committing
 
 module _ {S : Type 0} (g : Ghosts S) where
@@ -100,7 +98,7 @@ module _ {S : Type 0} (g : Ghosts S) where
       → (IsTrue (state g d).is_open → (c : Content) × HoldsContent c (state g d)) → IsSettled (sql_view g) d
   leaves_shown d settled holds is_open =
       let it = holds is_open in
-      leaves_only d (content_in (state g d).now.trees) settled is_open (holds_shown it.0 (state g d) it.1)
+      leaves_only d (content_in (state g d).now) settled is_open (holds_shown it.0 (state g d) it.1 is_open)
 
 -- no fault is forgotten, whatever is committed
 pub counts_faults : (old new : State) (P : Trees → Type 0) → Survives old new P → CountsFaults old new

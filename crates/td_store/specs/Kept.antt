@@ -1,12 +1,37 @@
 -- What a desk over a store's file keeps, and what contracts see of it.
-use Rattle.std.specs.Prelude.{◌≡◌, ◌↔◌, ℕ, List, IsTrue}
+use Rattle.std.specs.Prelude.{◌≡◌, ◌↔◌, ℕ, Bool, true, false, List, IsTrue, codes, is_some}
+use Rattle.sqlite_schema.specs.Names.{table_named}
+use Rattle.sqlite_schema.specs.declared.schema.Schema.{Schema}
 use Rattle.sqlite_trees.specs.declared.store.Store.{Ghosts}
 use Rattle.sqlite_trees.specs.Tree.{Trees}
+use Rattle.sqlite.specs.Effect.{Database}
 use Rattle.sqlite.specs.Held.{Held, state}
 use Rattle.sqlite.specs.State.{State, HasCleanDisk, Survives}
 use Rattle.td_desk.specs.Content.{Content}
 use Rattle.td_desk.specs.View.{DeskView}
-use Rattle.td_store_rows.specs.StoreTables.{AreTreesOf, HoldsContent, content_in}
+use Rattle.td_table_model.specs.Gathering.{content_of}
+use Rattle.td_schema.specs.Layouts.{IsNewest, schema_of}
+use Rattle.td_schema.specs.declared.layout.Layout.{Layout}
+use Rattle.td_schema.specs.declared.layout.Layout.TheVariants.{Grown2, Made1, Made2}
+use Rattle.typed_sql.specs.Writing.{HasSchema}
+use Rattle.td_store_rows.specs.StoreTables.{AreTreesOf, HoldsContent, tables_in}
+
+-- the layout of a store's file, by whether it has the guarantees of version 1 and those from version 2 on
+abbrev pub layout_by : Bool → Bool → Layout
+layout_by true true = Grown2
+layout_by true false = Made1
+layout_by false kept = Made2
+
+abbrev pub layout_of : Schema → Layout
+layout_of s = layout_by (is_some (table_named s (codes "guarantees1"))) (is_some (table_named s (codes "guarantees2")))
+
+-- the content that a database holds whose tables are a store's
+abbrev pub content_in : Database → Content
+content_in db = content_of (tables_in (layout_of db.schema) db.trees)
+
+-- as far as the connection is open, it is to a file whose tables are those of a layout of the newest version
+abbrev pub HasNewestTables : State → Type 0
+HasNewestTables s = (l : Layout) × IsNewest l × HasSchema s (schema_of l)
 
 -- as far as the disk is clean and the connection open, it is to a desk's file of that country
 abbrev pub IsDeskOf : List ℕ → State → Type 0
@@ -22,7 +47,7 @@ CrashLeavesShown s = IsTrue s.is_open → (trees : Trees) → s.may_leave trees 
 -- connection. What a crash leaves is a desk's where its trees are, with everything that the next opening asks of them.
 abbrev pub sql_view : {S : Type 0} → Ghosts S → DeskView (Held S)
 sql_view g = record {
-  content = λ d. content_in (state g d).now.trees;
+  content = λ d. content_in (state g d).now;
   is_clean = λ d. HasCleanDisk (state g d);
   is_live = λ d. IsTrue (state g d).is_open;
   has_store = Unit {0};

@@ -6,10 +6,10 @@ ghost use Rattle.td_desk.specs.Content.{empty_content};
 ghost use Rattle.td_desk.specs.View.{IsSettled};
 ghost use Rattle.td_schema.specs.Tables.{IsEmptyOf};
 ghost use Rattle.td_schema.specs.Tables.{no_schema};
-ghost use Rattle.td_store_rows.specs.StoreTables.{HoldsContent, content_in};
+ghost use Rattle.td_store_rows.specs.StoreTables.{HoldsContent};
 ghost use Rattle.td_store_write.specs.Created.{MayLeaveEmpty};
 ghost use Rattle.td_store.specs.declared.refused.OpenFault.TheVariants as fault;
-ghost use Rattle.td_store.specs.Kept.{CrashLeavesShown, sql_view};
+ghost use Rattle.td_store.specs.Kept.{CrashLeavesShown, content_in, sql_view};
 
 use crate::desk::SqlDesk;
 use crate::faults::open_fault_of;
@@ -38,7 +38,7 @@ impl<S: Alter> SqlDesk<S> {
         ensures live { IfOk result (λ desk. HasCleanDisk (state S.Store desk)
             → IsTrue (state S.Store conn).is_open × IsTrue (state S.Store desk).is_open) }
         ensures empty { IfOk result (λ desk. HasCleanDisk (state S.Store desk)
-            → content_in (state S.Store desk).now.trees ≡ empty_content country) }
+            → content_in (state S.Store desk).now ≡ empty_content country) }
         ensures made { IfOk result (λ desk. HasCleanDisk (state S.Store desk)
             → HoldsContent (empty_content country) (state S.Store desk)) }
         ensures taken { ¬ IsEmptyOf no_schema (state S.Store conn).now

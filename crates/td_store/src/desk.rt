@@ -37,9 +37,9 @@ impl<S: Alter> SqlDesk<S> {
     ghost use Rattle.std.specs.Prelude.{◌≡◌, false, IsTrue};
     ghost use Rattle.sqlite.specs.Held.{state};
     ghost use Rattle.sqlite.specs.State.{HasCleanDisk};
-    ghost use Rattle.td_store_rows.specs.StoreTables.{HoldsContent, content_in};
+    ghost use Rattle.td_store_rows.specs.StoreTables.{HoldsContent};
     ghost use Rattle.td_desk.specs.View.{IsSettled};
-    ghost use Rattle.td_store.specs.Kept.{IsDeskOf, CrashLeavesShown, sql_view};
+    ghost use Rattle.td_store.specs.Kept.{IsDeskOf, CrashLeavesShown, content_in, sql_view};
 
     // The desk over a connection that holds a content of that country.
     pub(crate) fn over(conn: Connection<S>, country: Country) -> Self
@@ -56,7 +56,7 @@ impl<S: Alter> SqlDesk<S> {
         ensures same { result ≡ self }
         ensures ended { result.in_transaction ≡ false }
         ensures holds { HasCleanDisk (state S.Store result) → IsTrue (state S.Store result).is_open
-            → HoldsContent (content_in (state S.Store result).now.trees) (state S.Store result) }
+            → HoldsContent (content_in (state S.Store result).now) (state S.Store result) }
         ensures settled { CrashLeavesShown (state S.Store result) }
         ensures leaves { HasCleanDisk (state S.Store result) → IsSettled (sql_view S.Store) result }
     {

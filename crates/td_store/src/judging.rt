@@ -1,67 +1,42 @@
 //! Whether a database is one that a desk was made in, and what it is refused for.
-ghost use Rattle.std.specs.Prelude.{◌≡◌, false, Some, None, option_map, IsTrue, IfOk, OnOk};
+ghost use Rattle.std.specs.Prelude.{◌≡◌, false, Some, None, option_map, IsTrue, IfOk, IfSome, OnOk};
 ghost use Rattle.sqlite.specs.Held.{state};
 ghost use Rattle.sqlite.specs.State.{HasCleanDisk, Survives};
-ghost use Rattle.td_schema.specs.Layouts.{desk_schema};
-ghost use Rattle.td_store_rows.specs.Columns.{MetaIsFirst};
+ghost use Rattle.td_schema.specs.Layouts.{schema_of};
 ghost use Rattle.td_store.specs.declared.refused.OpenFault.TheVariants as fault;
-ghost use Rattle.td_store.specs.Opened.{LacksMeta, TellsDatabase, TellsOfficeIn, TellsOtherVersion, TellsRows, TellsRules, TellsTables};
+ghost use Rattle.td_store.specs.Opened.{IsDamage, LacksMeta, TellsDatabase, TellsRows, TellsRules, TellsTables};
 
 use crate::faults::open_fault_of;
-use crate::office::office_fault;
+use crate::office::{fault_of_version, office_fault, read_office};
 use crate::refused::OpenFault;
-use crate::schema::{Tables, lacks_meta, tables_of};
+use crate::schema::{Tables, lacks_meta, tables_of, version_in};
 use crate::settling::see_settled;
 use sqlite::{Connection, Error};
 use sqlite_trees::store::Alter;
 use std::alloc::Global;
 use td_base::Country;
+use td_schema::{Layout, NEWEST_VERSION};
 use td_store_audit::{database_keeps, first_broken};
 use td_store_audit_rows::{Readable, kept_rules_mean_content, readable_tables};
-use td_store_rows::find_meta;
 use td_table_model::Rule;
 use typed_sql::see_open;
 
-// What the office's own row is refused for, at an office of that country, or none: its table has to be the first, whatever others
-// there are. It is read in a transaction. An error is the database's own, or want of memory.
-fn fault_of_office<S: Alter>(
-    conn: &mut Connection<S>,
-    country: Country,
-) -> Result<Option<OpenFault>, Error>
-    requires outside { conn.old.in_transaction ≡ false }
-    requires first { HasCleanDisk (state S.Store conn.old) → MetaIsFirst (state S.Store conn.old).now.schema }
-    ensures ended { conn.new.in_transaction ≡ false }
-    ensures live { HasCleanDisk (state S.Store conn.new) → IsTrue (state S.Store conn.new).is_open → IsTrue (state S.Store conn.old).is_open }
-    ensures shown { HasCleanDisk (state S.Store conn.new)
-        → OnOk result (IsTrue (state S.Store conn.old).is_open × IsTrue (state S.Store conn.new).is_open) }
-    ensures told { HasCleanDisk (state S.Store conn.new)
-        → IfOk result (TellsOfficeIn country (state S.Store conn.old).now.trees) }
-    ensures same { HasCleanDisk (state S.Store conn.new) → IsTrue (state S.Store conn.new).is_open
-        → (state S.Store conn.new).now ≡ (state S.Store conn.old).now }
-    ensures crash { Survives (state S.Store conn.old) (state S.Store conn.new) (λ _. ⊥) }
-{
-    see_settled(conn);
-    let mut tx = conn.transaction();
-    let meta = find_meta(&mut tx)?;
-    tx.commit()?;
-    Ok(office_fault(meta, country))
-}
-
-// The first rule that the tables of a store break, of which these can be read, or none. Their rows are read in one transaction.
-// An error is the database's own, or want of memory.
+// The first rule that the tables of a store of that layout break, of which these can be read, or none. Their rows are read in one
+// transaction. An error is the database's own, or want of memory.
 fn broken_rule<S: Alter>(
     alloc: Global,
     conn: &mut Connection<S>,
+    layout: Layout,
     readable: Readable,
 ) -> Result<Option<Rule>, Error>
     requires outside { conn.old.in_transaction ≡ false }
-    requires tables { HasCleanDisk (state S.Store conn.old) → (state S.Store conn.old).now.schema ≡ desk_schema }
+    requires tables { HasCleanDisk (state S.Store conn.old) → (state S.Store conn.old).now.schema ≡ schema_of layout }
     ensures ended { conn.new.in_transaction ≡ false }
     ensures live { HasCleanDisk (state S.Store conn.new) → IsTrue (state S.Store conn.new).is_open → IsTrue (state S.Store conn.old).is_open }
     ensures shown { HasCleanDisk (state S.Store conn.new)
         → OnOk result (IsTrue (state S.Store conn.old).is_open × IsTrue (state S.Store conn.new).is_open) }
     ensures told { HasCleanDisk (state S.Store conn.new)
-        → IfOk result (TellsRules readable (state S.Store conn.old).now.trees) }
+        → IfOk result (TellsRules layout readable (state S.Store conn.old).now.trees) }
     ensures same { HasCleanDisk (state S.Store conn.new) → IsTrue (state S.Store conn.new).is_open
         → (state S.Store conn.new).now ≡ (state S.Store conn.old).now }
     ensures crash { Survives (state S.Store conn.old) (state S.Store conn.new) (λ _. ⊥) }
@@ -69,62 +44,68 @@ fn broken_rule<S: Alter>(
     see_settled(conn);
     database_keeps(conn);
     let mut tx = conn.transaction();
-    let broken = first_broken(alloc, &mut tx, readable)?;
+    let broken = first_broken(alloc, &mut tx, version_in(layout), readable)?;
     // (compiled now, it takes no memory when it is asked again)
     see_open(&mut tx)?;
     tx.commit()?;
     Ok(broken)
 }
 
-// What the rules say of the tables of a store, of whose rows no one was looked at yet: `Damaged`, or none. An error is the
-// database's own, or want of memory.
-fn fault_of_rows<S: Alter>(
+/// What the rows of the tables of a store of that layout are refused for, of which no one was looked at yet: `Damaged` by the first
+/// rule that they break, or none. An error is the database's own, or want of memory.
+pub(crate) fn fault_of_rows<S: Alter>(
     alloc: Global,
     conn: &mut Connection<S>,
+    layout: Layout,
 ) -> Result<Option<OpenFault>, Error>
     requires outside { conn.old.in_transaction ≡ false }
-    requires tables { HasCleanDisk (state S.Store conn.old) → (state S.Store conn.old).now.schema ≡ desk_schema }
+    requires tables { HasCleanDisk (state S.Store conn.old) → (state S.Store conn.old).now.schema ≡ schema_of layout }
     ensures ended { conn.new.in_transaction ≡ false }
     ensures live { HasCleanDisk (state S.Store conn.new) → IsTrue (state S.Store conn.new).is_open → IsTrue (state S.Store conn.old).is_open }
     ensures shown { HasCleanDisk (state S.Store conn.new)
         → OnOk result (IsTrue (state S.Store conn.old).is_open × IsTrue (state S.Store conn.new).is_open) }
     ensures told { HasCleanDisk (state S.Store conn.new)
-        → IfOk result (TellsRows (state S.Store conn.old).now.trees) }
+        → IfOk result (TellsRows layout (state S.Store conn.old).now.trees) }
+    ensures kinds { IfOk result (λ told. IfSome told IsDamage) }
     ensures same { HasCleanDisk (state S.Store conn.new) → IsTrue (state S.Store conn.new).is_open
         → (state S.Store conn.new).now ≡ (state S.Store conn.old).now }
     ensures crash { Survives (state S.Store conn.old) (state S.Store conn.new) (λ _. ⊥) }
 {
-    let readable = readable_tables(conn)?;
-    let broken = broken_rule(alloc, conn, readable)?;
+    kept_rules_mean_content();
+    let readable = readable_tables(conn, version_in(layout))?;
+    let broken = broken_rule(alloc, conn, layout, readable)?;
     Ok(damage(broken))
 }
 
-// What the tables of a store are refused for, at an office of that country, or none. An error is the database's own, or want of
-// memory.
+// What the tables of a store of that layout are refused for, at an office of that country, or none. An error is the database's own,
+// or want of memory.
 fn fault_in<S: Alter>(
     alloc: Global,
     conn: &mut Connection<S>,
+    layout: Layout,
     country: Country,
 ) -> Result<Option<OpenFault>, Error>
     requires outside { conn.old.in_transaction ≡ false }
-    requires tables { HasCleanDisk (state S.Store conn.old) → (state S.Store conn.old).now.schema ≡ desk_schema }
+    requires tables { HasCleanDisk (state S.Store conn.old) → (state S.Store conn.old).now.schema ≡ schema_of layout }
     ensures ended { conn.new.in_transaction ≡ false }
     ensures live { HasCleanDisk (state S.Store conn.new) → IsTrue (state S.Store conn.new).is_open → IsTrue (state S.Store conn.old).is_open }
     ensures shown { HasCleanDisk (state S.Store conn.new)
         → OnOk result (IsTrue (state S.Store conn.old).is_open × IsTrue (state S.Store conn.new).is_open) }
     ensures told { HasCleanDisk (state S.Store conn.new)
-        → IfOk result (TellsTables country (state S.Store conn.old).now.trees) }
+        → IfOk result (TellsTables country layout (state S.Store conn.old).now.trees) }
     ensures same { HasCleanDisk (state S.Store conn.new) → IsTrue (state S.Store conn.new).is_open
         → (state S.Store conn.new).now ≡ (state S.Store conn.old).now }
     ensures crash { Survives (state S.Store conn.old) (state S.Store conn.new) (λ _. ⊥) }
 {
     let _letters = country.as_bytes();
-    kept_rules_mean_content();
-    let office = fault_of_office(conn, country)?;
-    if office.is_some() {
-        return Ok(office);
+    let fault = office_fault(read_office(conn)?, country);
+    if fault.is_some() {
+        return Ok(fault);
     }
-    fault_of_rows(alloc, conn)
+    if version_in(layout) != NEWEST_VERSION {
+        return Ok(Some(OpenFault::Store));
+    }
+    fault_of_rows(alloc, conn, layout)
 }
 
 // What tables that break this rule are refused for.
@@ -132,28 +113,6 @@ fn damage(broken: Option<Rule>) -> Option<OpenFault>
     ensures { result ≡ option_map fault.Damaged broken }
 {
     broken.map(OpenFault::Damaged)
-}
-
-// What a database with other tables than a store's is refused for, whose first is `meta`: `UnknownVersion` where the office's own
-// row isn't of version 1, else `Store`. An error is the database's own, or want of memory.
-fn fault_of_version<S: Alter>(
-    conn: &mut Connection<S>,
-    country: Country,
-) -> Result<OpenFault, Error>
-    requires outside { conn.old.in_transaction ≡ false }
-    requires first { HasCleanDisk (state S.Store conn.old) → MetaIsFirst (state S.Store conn.old).now.schema }
-    ensures ended { conn.new.in_transaction ≡ false }
-    ensures live { HasCleanDisk (state S.Store conn.new) → IsTrue (state S.Store conn.new).is_open → IsTrue (state S.Store conn.old).is_open }
-    ensures told { HasCleanDisk (state S.Store conn.new)
-        → IfOk result (TellsOtherVersion (state S.Store conn.old).now.trees) }
-    ensures same { HasCleanDisk (state S.Store conn.new) → IsTrue (state S.Store conn.new).is_open
-        → (state S.Store conn.new).now ≡ (state S.Store conn.old).now }
-    ensures crash { Survives (state S.Store conn.old) (state S.Store conn.new) (λ _. ⊥) }
-{
-    match fault_of_office(conn, country)? {
-        Some(OpenFault::UnknownVersion) => Ok(OpenFault::UnknownVersion),
-        _ => Ok(OpenFault::Store),
-    }
 }
 
 // What the database is refused for: `Store` where it has other tables than a store's, too, unless they are of another version.
@@ -173,16 +132,17 @@ fn fault_of_database<S: Alter>(
     ensures crash { Survives (state S.Store conn.old) (state S.Store conn.new) (λ _. ⊥) }
 {
     match tables_of(alloc, conn)? {
-        Tables::Store => fault_in(alloc, conn, country),
-        Tables::OtherVersion => Ok(Some(fault_of_version(conn, country)?)),
+        Tables::Store(layout) => fault_in(alloc, conn, layout, country),
+        Tables::OtherVersion => Ok(Some(fault_of_version(read_office(conn)?))),
         Tables::Unknown => Ok(Some(OpenFault::Store)),
     }
 }
 
 /// Why no desk of an office of that country can be opened over the database, or `None` where one can. `UnknownVersion`: it has no
-/// table `meta`, or that is the first, as a store's of any version, and the office's own row is none of version 1; `OtherCountry`:
-/// that is of version 1 and of another country; `Damaged`: the first rule that the tables break; `Store`: its tables are none of a
-/// store, or the database answered an error other than want of memory; `NoMemory`: want of memory. Nothing is changed.
+/// table `meta`, or that is the first, as a store's of any version, and the office's own row isn't there or says no version that is
+/// known; `NeedsMigration`: it says an earlier version than the newest; `OtherCountry`: it says the newest and another country;
+/// `Damaged`: the first rule that the tables break; `Store`: its tables are none of a store of that version, or the database answered
+/// an error other than want of memory; `NoMemory`: want of memory. Nothing is changed.
 pub(crate) fn refusal<S: Alter>(
     alloc: Global,
     conn: &mut Connection<S>,

@@ -1,7 +1,8 @@
 //! The desk over a store's file: it is made in an empty database, or opened where one was made before, loads and writes
-//! by transactions, and gives its connection back.
+//! by transactions, and gives its connection back; and its rows audited as those of a version of the tables.
 #![tactic(auto)]
 
+mod auditing;
 mod creating;
 mod desk;
 mod faults;
@@ -13,8 +14,11 @@ mod reading;
 mod refused;
 mod schema;
 mod settling;
+mod versions;
 
+pub use auditing::audit;
 pub use desk::SqlDesk;
 pub use laws::{acknowledged_decisions_are_kept, what_a_crash_leaves_opens};
 pub use refused::{OpenFault, Refused};
 pub use td_table_model::Rule;
+pub use versions::file_version;

@@ -1,16 +1,16 @@
 //! A desk opened over a database that one was made in before.
-ghost use Rattle.std.specs.Prelude.{◌≡◌, ◌≢◌, ◌⊎◌, ℕ, false, IsTrue, IfOk, IfErr, MatchResult};
+ghost use Rattle.std.specs.Prelude.{◌≡◌, ◌⊎◌, ℕ, false, IsTrue, IfOk, IfErr, MatchResult};
 ghost use Rattle.sqlite.specs.Held.{state};
 ghost use Rattle.sqlite.specs.State.{HasCleanDisk, Survives};
 ghost use Rattle.td_desk.specs.Content.{Content};
 ghost use Rattle.td_desk.specs.View.{IsSettled};
 ghost use Rattle.td_table_model.specs.declared.rule.Rule.{Rule};
-ghost use Rattle.td_schema.specs.Layouts.{desk_schema};
-ghost use Rattle.td_store_rows.specs.StoreTables.{HasOfficeRow, HoldsContent, content_in};
+ghost use Rattle.td_schema.specs.Layouts.{newest_version, schema_of};
+ghost use Rattle.td_schema.specs.declared.layout.Layout.{Layout};
+ghost use Rattle.td_store_rows.specs.StoreTables.{HasOfficeRow, HoldsContent};
 ghost use Rattle.td_store.specs.declared.refused.OpenFault.TheVariants as fault;
-ghost use Rattle.td_store.specs.Kept.{CrashLeavesShown, sql_view};
-ghost use Rattle.td_store.specs.Opened.{AreDamaged, IsOfAnother, IsOfUnknownVersion, LacksMeta};
-ghost use Rattle.td_schema.specs.Layouts.{newest_version};
+ghost use Rattle.td_store.specs.Kept.{CrashLeavesShown, content_in, sql_view};
+ghost use Rattle.td_store.specs.Opened.{AreDamaged, IsOfAnother, IsOfEarlier, IsOfUnknownVersion, IsStoreSchema, LacksMeta};
 
 use crate::desk::SqlDesk;
 use crate::judging::refusal;
@@ -25,9 +25,10 @@ use td_store_audit_rows::content_keeps_rules;
 impl<S: Alter> SqlDesk<S> {
     /// Opens the desk of an office of that country over a database that one was made in before. The first of these that holds is
     /// the refusal. `UnknownVersion`: there is no table `meta`; or it is the first, as a store's of any version, and the office's
-    /// own row is missing or its version isn't 1. `Store`: the tables are others than a store's. `OtherCountry`: the row's country
-    /// is another. `Damaged`: the tables break this rule, and none before it. An error of the database on the way is `Store`, want
-    /// of memory `NoMemory`. With a refusal the connection is handed back, its database as it was; nor does a crash change it,
+    /// own row is missing or its version is none from 1 to the newest. `Store`: the tables are others than a store's.
+    /// `NeedsMigration`: the row's version is this earlier one than the newest, whatever its country. `OtherCountry`: its country is
+    /// another. `Store`: the tables are those of another version than the row says. `Damaged`: they break this rule, and none before
+    /// it. An error of the database on the way is `Store`, want of memory `NoMemory`. With a refusal the connection is handed back, its database as it was; nor does a crash change it,
     /// during the call or after it.
     pub fn open(
         alloc: Global,
@@ -38,9 +39,9 @@ impl<S: Alter> SqlDesk<S> {
         ensures live { IfOk result (λ desk. HasCleanDisk (state S.Store desk)
             → IsTrue (state S.Store conn).is_open × IsTrue (state S.Store desk).is_open) }
         ensures opened { IfOk result (λ desk. HasCleanDisk (state S.Store desk)
-            → HoldsContent (content_in (state S.Store desk).now.trees) (state S.Store desk)) }
+            → HoldsContent (content_in (state S.Store desk).now) (state S.Store desk)) }
         ensures country { IfOk result (λ desk. HasCleanDisk (state S.Store desk)
-            → (content_in (state S.Store desk).now.trees).country ≡ country) }
+            → (content_in (state S.Store desk).now).country ≡ country) }
         ensures version { IfOk result (λ desk. HasCleanDisk (state S.Store desk)
             → HasOfficeRow newest_version country (state S.Store desk).now.trees) }
         ensures same { IfOk result (λ desk. HasCleanDisk (state S.Store desk) → (state S.Store desk).now ≡ (state S.Store conn).now) }
@@ -48,13 +49,15 @@ impl<S: Alter> SqlDesk<S> {
             → MatchResult result (λ _. ⊥) (λ refused. (refused.fault ≡ fault.UnknownVersion) × (refused.connection ≡ conn)) }
         ensures unknown { IfErr result (λ refused. HasCleanDisk (state S.Store refused.connection) → refused.fault ≡ fault.UnknownVersion
             → IsOfUnknownVersion (state S.Store conn).now) }
-        ensures newest { IfErr result (λ refused. HasCleanDisk (state S.Store refused.connection)
-            → (version : ℕ) → refused.fault ≢ fault.NeedsMigration version) }
+        ensures earlier { IfErr result (λ refused. HasCleanDisk (state S.Store refused.connection) → (version : ℕ)
+            → refused.fault ≡ fault.NeedsMigration version
+            → IsStoreSchema (state S.Store conn).now.schema × IsOfEarlier version (state S.Store conn).now.trees) }
         ensures other { IfErr result (λ refused. HasCleanDisk (state S.Store refused.connection) → refused.fault ≡ fault.OtherCountry
-            → ((state S.Store conn).now.schema ≡ desk_schema) × IsOfAnother country (state S.Store conn).now.trees) }
+            → IsStoreSchema (state S.Store conn).now.schema × IsOfAnother country (state S.Store conn).now.trees) }
         ensures broken { IfErr result (λ refused. HasCleanDisk (state S.Store refused.connection) → (rule : Rule)
             → refused.fault ≡ fault.Damaged rule
-            → ((state S.Store conn).now.schema ≡ desk_schema) × AreDamaged country rule (state S.Store conn).now.trees) }
+            → (layout : Layout) × ((state S.Store conn).now.schema ≡ schema_of layout)
+            × AreDamaged country rule layout (state S.Store conn).now.trees) }
         ensures sound { IfErr result (λ refused. HasCleanDisk (state S.Store refused.connection) → IsTrue (state S.Store conn).is_open
             → (c : Content) → HoldsContent c (state S.Store conn) → c.country ≡ country
             → (refused.fault ≡ fault.Store) ⊎ (refused.fault ≡ fault.NoMemory)) }

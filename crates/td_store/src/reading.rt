@@ -6,9 +6,8 @@ ghost use Rattle.td_commands.specs.Commands.{need_said};
 ghost use Rattle.td_acts.specs.Deciding.{IsLoaded};
 ghost use Rattle.td_desk.specs.Content.{Content};
 ghost use Rattle.td_desk.specs.Weighing.{kept_for};
-ghost use Rattle.td_schema.specs.Layouts.{desk_schema};
-ghost use Rattle.typed_sql.specs.Writing.{HasSchema};
 ghost use Rattle.td_store_rows.specs.StoreTables.{HoldsContent};
+ghost use Rattle.td_store.specs.Kept.{HasNewestTables};
 
 use crate::settling::see_settled;
 use sqlite::{Connection, Error};
@@ -30,7 +29,7 @@ pub(crate) fn read<S: Alter>(
     needs: &Needs<'_>,
 ) -> Result<Loaded, Error>
     requires outside { conn.old.in_transaction ≡ false }
-    requires tables { HasCleanDisk (state S.Store conn.old) → HasSchema (state S.Store conn.old) desk_schema }
+    requires tables { HasCleanDisk (state S.Store conn.old) → HasNewestTables (state S.Store conn.old) }
     ensures ended { conn.new.in_transaction ≡ false }
     ensures live { HasCleanDisk (state S.Store conn.new) → IsTrue (state S.Store conn.new).is_open → IsTrue (state S.Store conn.old).is_open }
     ensures shown { HasCleanDisk (state S.Store conn.new)

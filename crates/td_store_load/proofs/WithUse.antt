@@ -1,8 +1,7 @@
 -- A guarantee with the amount in use on it, as the tables say it.
 use Rattle.std.proofs.Common.{◌≡◌, ◌∙◌, ◌≤◌, ℕ, Bool, true, false, cond, List, [], ◌∷◌, length, map, Option, Some, None, refl, sym, ap, subst, arith, IsPermutation}
-use Rattle.std.specs.Prelude.{◌==◌, filter, filter_map, if◌then◌else◌, nat_lt, option_map, option_to_list}
+use Rattle.std.specs.Prelude.{◌==◌, filter, filter_map, if◌then◌else◌, nat_lt, option_map}
 use Rattle.std.specs.List.{AllByRecursion, cons_option}
-use Rattle.std.specs.Str.{bytes_eq}
 use Rattle.std.proofs.lemmas.Bool.Decides.{nat_tests}
 use Rattle.std.proofs.lemmas.List.{length-map}
 use Rattle.sqlite_trees.proofs.ListLemmas.{all-filter, all-permutation, all_both, map-map}
@@ -14,7 +13,7 @@ use Rattle.td_movement.specs.declared.line.Line.{Line}
 use Rattle.td_model.specs.Account.{Account, entry_in, guarantee_by_grn}
 use Rattle.td_desk.specs.Content.{Content, account_in}
 use Rattle.td_table_model.specs.Tables.{Keyed, Kept, Tables, guarantee_no, without_amount}
-use Rattle.td_table_model.specs.Gathering.{IsApart, guarantees_by, in_order, of_key, owner, part, place, with_codes}
+use Rattle.td_table_model.specs.Gathering.{IsApart, in_order, of_key, owner, part, place, with_codes}
 use Rattle.td_table_model.specs.Laws.{IsAmountOf}
 use Rattle.td_table_model.specs.Rules.{KeepRules}
 use Rattle.td_table_model.proofs.Grouped.{of_key_has}

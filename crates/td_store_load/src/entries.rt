@@ -1,5 +1,5 @@
-//! Guarantees with their codes and the amounts in use on them. `DatabaseCorrupt`: a row is no such row, or there are several where
-//! there can be one; `OutOfMemory`: want of memory; any other error is the database's own.
+//! Guarantees with their codes and the amounts in use on them. `DatabaseCorrupt`: a row is no such row, or there are
+//! several where there can be one; `OutOfMemory`: want of memory; any other error is the database's own.
 ghost use Rattle.std.specs.Prelude.{◌≡◌, filter_map, map, IfOk, is_ok};
 ghost use Rattle.sqlite.specs.Held.{state};
 ghost use Rattle.sqlite.specs.State.{HasCleanDisk};
@@ -97,8 +97,8 @@ pub fn load_entries_of<S: Alter>(
     Ok(found)
 }
 
-/// The guarantees that the lines of a declaration name, as far as they are there, at an office of that country, and the amounts
-/// in use on them.
+/// The guarantees that the lines of a declaration name, as far as they are there, at an office of that country, and the
+/// amounts in use on them.
 pub fn load_declared_on<S: Alter>(
     alloc: Global,
     tx: &mut Transaction<'_, S>,

@@ -1,6 +1,6 @@
-//! What a verdict needs, loaded out of the tables of a store's file: guarantees with their codes and the amounts in use that their
-//! rows keep, movements with their lines, and what is asked for of the rows of a command's owner. Each function runs its
-//! statements inside a transaction and changes nothing.
+//! What a verdict needs, loaded out of the tables of a store's file: guarantees with their codes and the amounts in use
+//! that their rows keep, movements with their lines, and what is asked for of the rows of a command's owner. Each
+//! function runs its statements inside a transaction and changes nothing.
 #![tactic(auto)]
 
 mod entries;

@@ -116,8 +116,8 @@ guarantee_typing l = record {
   from = guarantee_from;
 }
 
--- The seven columns of a row that keeps the amount in use; those of a guarantee with it; and what seven columns are read as. The
--- rows of the same table are typed by them where a layout keeps the amounts.
+-- The seven columns of a row that keeps the amount in use; those of a guarantee with it; and what seven columns are
+-- read as. The rows of the same table are typed by them where a layout keeps the amounts.
 abbrev pub kept_columns : Row → Row
 kept_columns r =
     column r 1 ∷ column r 2 ∷ column r 3 ∷ column r 4 ∷ column r 5 ∷ column r 6 ∷ column r 7 ∷ []

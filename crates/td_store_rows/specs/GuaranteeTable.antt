@@ -18,7 +18,8 @@ use Rattle.td_store_rows.specs.declared.guarantees.stored.StoredGuarantee.{Store
 abbrev pub guarantee_row_of : StoredGuarantee → Keyed Guarantee
 guarantee_row_of g = record { holder = g.holder; serial = g.serial; row = g.guarantee }
 
--- the guarantee of a holder with a serial and a GRN; with a serial; each of the holder: with an amount in use or without
+-- the guarantee of a holder with a serial and a GRN; with a serial; each of the holder: with an amount in use or
+-- without
 abbrev pub has_grn : ℕ → ℕ → List ℕ → Keyed Guarantee → Bool
 has_grn H n grn g = g.holder == H && (g.serial == n && bytes_eq g.row.grn grn)
 

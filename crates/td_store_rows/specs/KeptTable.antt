@@ -82,7 +82,8 @@ AreKeptBySerial p state found =
 abbrev pub IsTheKept : (Keyed Kept → Bool) → State → Option KeptGuarantee → Type 0
 IsTheKept p state found = AreKept p state (option_to_list found)
 
--- the table of guarantees of version 1, in a file that was migrated from there, has no row now, and the others are as they were
+-- the table of guarantees of version 1, in a file that was migrated from there, has no row now, and the others are as
+-- they were
 abbrev pub first_guarantees : Table
 first_guarantees = guarantees_table Made1
 

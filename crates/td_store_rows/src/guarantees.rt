@@ -1,5 +1,5 @@
-//! The guarantees of a store: what is read of their tables, and what is written into them. Each function runs one statement
-//! inside a transaction that the caller commits.
+//! The guarantees of a store: what is read of their tables, and what is written into them. Each function runs one
+//! statement inside a transaction that the caller commits.
 mod finding;
 mod stored;
 mod texts;

@@ -2,14 +2,11 @@
 use Rattle.std.proofs.Common.{◌≡◌, ◌∙◌, ℕ, List, [], ◌∷◌, Option, Some, None, ap, refl, sym, subst}
 use Rattle.std.specs.Prelude.{IsTrue}
 use Rattle.sqlite_trees.specs.Tree.{Trees}
-use Rattle.sqlite.specs.Effect.{Database}
 use Rattle.sqlite.specs.State.{State}
 use Rattle.td_model.specs.declared.holder_row.HolderRow.{HolderRow}
 use Rattle.td_acts.specs.declared.rows.Change.{Change}
 use Rattle.td_acts.specs.Changes.{row_in}
 use Rattle.td_desk.specs.Content.{Content, content_after, content_after_row, IsSound}
-use Rattle.td_desk.specs.Weighing.{IsDecision}
-use Rattle.td_acts.specs.declared.rows.Verdict.{Verdict}
 use Rattle.td_table_model.specs.Tables.{AreTablesOf}
 use Rattle.td_table_model.specs.Changes.{HaveSameRows, tables_after}
 use Rattle.td_table_model.proofs.Decided.{decisions_are_written}

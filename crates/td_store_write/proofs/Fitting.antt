@@ -1,15 +1,14 @@
 -- What is decided on fits the amounts in use that tables of sound content keep.
-use Rattle.std.proofs.Common.{◌≡◌, ◌∙◌, ℕ, ◌+◌, ◌≤◌, Bool, true, false, cond, List, [], ◌∷◌, map, flat_map, Option, Some, None, IsSome, refl, sym, ap, ap₂, subst, arith}
-use Rattle.std.specs.Prelude.{◌==◌, filter, if◌then◌else◌, unwrap_or}
+use Rattle.std.proofs.Common.{◌≡◌, ◌∙◌, ℕ, ◌≤◌, Bool, true, false, cond, List, [], ◌∷◌, flat_map, Option, Some, None, IsSome, refl, sym, ap, ap₂, subst, arith}
+use Rattle.std.specs.Prelude.{filter, if◌then◌else◌, unwrap_or}
 use Rattle.std.specs.List.{AllByRecursion}
-use Rattle.sqlite_trees.proofs.ListLemmas.{all-flat_map, all-map, all-permutation, all_both, all_weaker}
+use Rattle.sqlite_trees.proofs.ListLemmas.{all-flat_map, all-map, all-permutation, all_both, all_from_map, all_weaker}
 use Rattle.keyed_rows.proofs.Putting.{All-row_at}
 use Rattle.td_base.specs.Money.{most_cents}
 use Rattle.td_base.specs.References.{serial_of}
 use Rattle.td_guarantee.specs.declared.guarantee.Guarantee.{Guarantee}
 use Rattle.td_guarantee.specs.Usage.{lines_on, movement_on, used_on}
 use Rattle.td_movement.specs.States.{is_counting}
-use Rattle.td_movement.specs.declared.movement.Movement.{Movement}
 use Rattle.td_movement.specs.declared.state.State.{State}
 use Rattle.td_movement.specs.declared.state.State.TheVariants.{Accepted, Cancelled, Released, Enquired, Arrived, Discrepant, Cleared, WrittenOff}
 use Rattle.td_model.specs.Account.{HolderRows, account_with, guarantee_by_grn, holder_key}
@@ -17,7 +16,7 @@ use Rattle.td_model.specs.Sound.{AreHolderRows, IsCovered, IsGuaranteeRow}
 use Rattle.td_model.specs.declared.holder_row.HolderRow.{HolderRow}
 use Rattle.td_acts.proofs.Differing.{differ_with}
 use Rattle.td_acts.proofs.Steps.{used_moved}
-use Rattle.td_acts.specs.Changes.{moved, with_status}
+use Rattle.td_acts.specs.Changes.{with_status}
 use Rattle.td_acts.specs.declared.rows.Change.{Change}
 use Rattle.td_acts.specs.declared.rows.Change.TheVariants.{Nothing, Registered, Opened, Declared, Moved, TermsSet, CodeAdded, CodeRemoved}
 use Rattle.td_acts.specs.declared.rows.NewStatus.{NewStatus}
@@ -46,7 +45,7 @@ sound_after c v sound (at, command, proper, weighed) =
     subst (λ change. IsSound (content_after change c)) (sym weighed.written)
     (carries c (record { at = at; command = command }) sound proper).sound
 
--- what holds of those that pass, and of what f makes of each
+-- what holds of those that pass
 all_passing : {X : Type 0} (p : X → Bool) (P : X → Type 0) (xs : List X) → AllByRecursion P (filter p xs) → AllByRecursion (λ x. p x ≡ true → P x) xs
 all_passing p P [] all = tt
 all_passing {X} p P (x ∷ xs) all = by_test (p x) all (all_passing p P xs)
@@ -55,10 +54,6 @@ all_passing {X} p P (x ∷ xs) all = by_test (p x) all (all_passing p P xs)
         → (b ≡ true → P x) × AllByRecursion (λ x. p x ≡ true → P x) xs
     by_test true all later = (λ passes. all.0, later all.1)
     by_test false all later = (λ passes. cc, later all)
-
-all_of_map : {X Y : Type 0} (P : Y → Type 0) (f : X → Y) (xs : List X) → AllByRecursion P (map f xs) → AllByRecursion (λ x. P (f x)) xs
-all_of_map P f [] all = tt
-all_of_map P f (x ∷ xs) all = (all.0, all_of_map P f xs all.1)
 
 -- a row's amount is at most the greatest reference amount
 abbrev InRange : Keyed Kept → Type 0
@@ -145,7 +140,7 @@ module _ (t : Tables) (c : Content) (sound : IsSound c) (are : AreTablesOf t c) 
     fitting : AreTablesOf (tables_after (Moved row status) t) (content_after (Moved row status) c) → IsSound (content_after (Moved row status) c)
         → FitsMovement H m status.state t
     fitting after_are after =
-        let now = all_of_map InRange (with_use_after H m status.state t) t.kept (in_range (tables_after (Moved row status) t) (content_after (Moved row status) c) after after_are keep) in
+        let now = all_from_map InRange (with_use_after H m status.state t) t.kept (in_range (tables_after (Moved row status) t) (content_after (Moved row status) c) after after_are keep) in
         all_both (λ k. InRange k × InRange (with_use_after H m status.state t k)) (λ k. is_of H k ≡ true → IsEnough k)
         (λ k. is_of H k ≡ true → MayFollow status.state (amount_between H m k.serial t) k.row.used)
         (λ k ranges own_enough own_row.

@@ -1,5 +1,5 @@
 -- Amounts in use that follow a movement, line by line.
-use Rattle.std.proofs.Common.{◌≡◌, ◌≢◌, ◌∙◌, ℕ, ◌+◌, ◌≤◌, ◌<◌, ◌^◌, Bool, true, false, List, [], ◌∷◌, ◌++◌, map, refl, sym, ap, ap₂, subst, arith, IsPermutation}
+use Rattle.std.proofs.Common.{◌≡◌, ◌≢◌, ◌∙◌, ℕ, ◌+◌, ◌≤◌, Bool, true, false, List, [], ◌∷◌, ◌++◌, map, refl, sym, ap, ap₂, subst, arith, IsPermutation}
 use Rattle.std.specs.Prelude.{◌==◌, ◌&&◌, filter, if◌then◌else◌}
 use Rattle.std.specs.List.{AllByRecursion, sum_by}
 use Rattle.std.proofs.lemmas.Bool.Decides.{nat_tests}
@@ -11,13 +11,12 @@ use Rattle.td_movement.specs.declared.state.State.{State}
 use Rattle.td_movement.specs.declared.state.State.TheVariants.{Accepted, Cancelled, Released, Enquired, Arrived, Discrepant, Cleared, WrittenOff}
 use Rattle.td_table_model.specs.Tables.{Keyed, Kept, LineCells, Tables, with_amount, without_amount}
 use Rattle.td_table_model.specs.Changes.{HaveSameRows, used_after, with_use_after}
-use Rattle.td_table_model.specs.Looking.{amount_between, cents_of, lines_between}
+use Rattle.td_table_model.specs.Looking.{amount_between, cents_of}
 use Rattle.td_table_model.proofs.Counting.{sum_by-map}
 use Rattle.td_table_model.proofs.Joining.{sum_by-passing, sum_by-same}
 use Rattle.typed_sql.specs.Reading.{IsInside, StaysInside}
 use Rattle.typed_sql.proofs.OnlyRead.{stays_nothing, stays_on}
 use Rattle.typed_sql.proofs.Ordered.{both_pass}
-use Rattle.td_schema.specs.declared.layout.Layout.{Layout}
 use Rattle.td_store_rows.specs.GuaranteeTable.{has_serial, is_of}
 use Rattle.td_store_rows.specs.KeptTable.{MayChange}
 use Rattle.td_store_rows.specs.LineTable.{is_line_of, line_row_of}

@@ -1,5 +1,5 @@
 -- What a movement that comes into a state does to the amounts in use on the guarantees of its lines, in a store's file.
-use Rattle.std.specs.Prelude.{◌≡◌, ◌≤◌, ◌<◌, ◌^◌, ◌+◌, ◌==◌, ℕ, Bool, true, false, List, if◌then◌else◌}
+use Rattle.std.specs.Prelude.{◌≤◌, ◌<◌, ◌^◌, ◌+◌, ◌==◌, ℕ, Bool, true, false, List, if◌then◌else◌}
 use Rattle.std.specs.List.{sum_by}
 use Rattle.sqlite.specs.State.{State as FileState}
 use Rattle.td_movement.specs.declared.state.State.{State}
@@ -23,8 +23,8 @@ changes_use Released = true
 changes_use WrittenOff = true
 changes_use state = false
 
--- So many cents may be put to an amount in use, or taken off it, as the state asks: the sum is an integer of SQL, and no more
--- is taken off than is in use.
+-- So many cents may be put to an amount in use, or taken off it, as the state asks: the sum is an integer of SQL, and
+-- no more is taken off than is in use.
 abbrev pub MayFollow : State → ℕ → ℕ → Type 0
 MayFollow Released cents used = used + cents < 2 ^ 63
 MayFollow WrittenOff cents used = (cents ≤ used) × (used < 2 ^ 63)
@@ -61,8 +61,8 @@ abbrev pub FitsChange : Change → Tables → Type 0
 FitsChange (Moved row status) t = FitsMovement row.holder (movement_no t.country status.mrn) status.state t
 FitsChange change t = Unit {0}
 
--- where the rows of a store's tables of the newest version were typed, and this was so of the tables, they are now what f makes
--- of them
+-- where the rows of a store's tables of the newest version were typed, and this was so of the tables, they are now what
+-- f makes of them
 abbrev pub TurnsFitting : (Tables → Type 0) → (Tables → Tables) → FileState → FileState → Type 0
 TurnsFitting Fits f old new =
     (l : Layout) → IsNewest l → HasSchema old (schema_of l) → AreAllTyped l old.now.trees → Fits (tables_in l old.now.trees)

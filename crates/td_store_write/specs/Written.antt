@@ -30,7 +30,8 @@ terms_by_key H n terms g = if has_grn H n terms.grn g then with_new_terms terms 
 abbrev pub kept_terms_by_key : ℕ → ℕ → NewTerms → Keyed Kept → Keyed Kept
 kept_terms_by_key H n terms k = if has_kept_grn H n terms.grn k then with_new_kept_terms terms k else k
 
--- a movement's new status in the tables of an office of this country, without what it does to the amounts in use, and with it
+-- a movement's new status in the tables of an office of this country, without what it does to the amounts in use, and
+-- with it
 abbrev pub with_status_set : List ℕ → HolderRow → NewStatus → Tables → Tables
 with_status_set country row status t = record t {
   holders = map (with_row row) t.holders;
@@ -44,9 +45,10 @@ with_move country row status t = record t {
   kept = map (with_use_after row.holder (movement_no country status.mrn) status.state t) t.kept;
 }
 
--- The statements of a change wrote it: in tables of the newest version and of this country, whose references tell their keys and
--- whose amounts in use fit the change, they did what the change says.
+-- The statements of a change wrote it: in tables of the newest version and of this country, whose references tell their
+-- keys and whose amounts in use fit the change, they did what the change says.
 abbrev pub WritesChange : List ℕ → Change → State → State → Type 0
 WritesChange country change old new =
     (l : Layout) → IsNewest l → HasSchema old (schema_of l) → AreAllTyped l old.now.trees → (tables_in l old.now.trees).country ≡ country
-    → MayBeAskedByKey (tables_in l old.now.trees) → FitsChange change (tables_in l old.now.trees) → HasTables l (tables_after change) old new
+    → MayBeAskedByKey (tables_in l old.now.trees) → FitsChange change (tables_in l old.now.trees)
+    → HasTables l (tables_after change) old new

@@ -1,5 +1,5 @@
-//! What a movement's new state does to the amounts in use on the guarantees of its lines. An error is the database's own, and
-//! commits nothing.
+//! What a movement's new state does to the amounts in use on the guarantees of its lines. An error is the database's
+//! own, and commits nothing.
 ghost use Rattle.std.specs.Prelude.{◌≡◌, map, OnOk, is_ok};
 ghost use Rattle.sqlite.specs.Held.{state};
 ghost use Rattle.sqlite.specs.State.{HasCleanDisk};
@@ -14,15 +14,16 @@ use td_base::{Cents, HolderNo};
 use td_movement::State;
 use td_store_rows::{StoredLine, add_used, take_used};
 
-/// Whether a movement that comes into a state changes the amounts in use: its lines take them up at the release, and give them
-/// back at the write-off.
+/// Whether a movement that comes into a state changes the amounts in use: its lines take them up at the release, and
+/// give them back at the write-off.
 pub fn changes_use(state: State) -> bool
     ensures { result ≡ changes_use state }
 {
     matches!(state, State::Released | State::WrittenOff)
 }
 
-// Changes the amount in use on the holder's guarantee with a serial by the cents of a line on it, whose movement came into a state.
+// Changes the amount in use on the holder's guarantee with a serial by the cents of a line on it, whose movement came
+// into a state.
 fn change_one<S: Alter>(
     tx: &mut Transaction<'_, S>,
     holder: HolderNo,
@@ -45,7 +46,8 @@ fn change_one<S: Alter>(
     }
 }
 
-/// Changes the amounts in use on the holder's guarantees by the lines of a movement of the holder's that came into a state.
+/// Changes the amounts in use on the holder's guarantees by the lines of a movement of the holder's that came into a
+/// state.
 pub fn change_by_lines<S: Alter>(
     tx: &mut Transaction<'_, S>,
     holder: HolderNo,

@@ -12,11 +12,10 @@ use td_acts::Change;
 use td_base::Country;
 use typed_sql::see_open;
 
-/// Carries a change that was decided on over the content of the tables, at an office of that country: all of it or, where it
-/// answers `Err`, nothing. An error is the database's own; `DatabaseCorrupt`, too, where a row that changes isn't there or a line
-/// can't be read; `OutOfMemory`: want of memory.
-/// A crash during the call leaves what it could leave before, or, if the connection was open, a desk's file of the content after
-/// the change.
+/// Carries a change that was decided on over the content of the tables, at an office of that country: all of it or,
+/// where it answers `Err`, nothing. An error is the database's own; `DatabaseCorrupt`, too, where a row that changes
+/// isn't there or a line can't be read; `OutOfMemory`: want of memory. A crash during the call leaves what it could
+/// leave before, or, if the connection was open, a desk's file of the content after the change.
 pub fn carry_change<S: Alter>(
     alloc: Global,
     conn: &mut Connection<S>,

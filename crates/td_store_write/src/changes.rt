@@ -100,8 +100,8 @@ fn write_declared<S: Alter>(
     )
 }
 
-// The holder's row as it is now, a movement of the holder's in its new status, and what that does to the amounts in use on the
-// guarantees of its lines.
+// The holder's row as it is now, a movement of the holder's in its new status, and what that does to the amounts in use
+// on the guarantees of its lines.
 fn write_moved<S: Alter>(
     alloc: Global,
     tx: &mut Transaction<'_, S>,

@@ -1,5 +1,5 @@
-//! What is looked up in the tables of guarantees. It changes nothing. `DatabaseCorrupt`: a row is no guarantee's, or there
-//! are several where there can be one; `OutOfMemory`: want of memory; any other error is the database's own.
+//! What is looked up in the tables of guarantees. It changes nothing. `DatabaseCorrupt`: a row is no guarantee's, or
+//! there are several where there can be one; `OutOfMemory`: want of memory; any other error is the database's own.
 ghost use Rattle.std.specs.Prelude.{◌≡◌, [], ◌∷◌, IfOk, is_ok};
 ghost use Rattle.sqlite.specs.Held.{state};
 ghost use Rattle.sqlite.specs.State.{HasCleanDisk};
@@ -82,8 +82,8 @@ pub fn guarantees_of<S: Alter>(
     fetch(alloc, tx, of_holder(version), &holder_key(holder))
 }
 
-/// All guarantees of a holder with the amounts in use on them, by their serials, in a file that keeps the amounts: one of
-/// version 2 or later.
+/// All guarantees of a holder with the amounts in use on them, by their serials, in a file that keeps the amounts: one
+/// of version 2 or later.
 pub fn kept_of<S: Alter>(
     alloc: Global,
     tx: &mut Transaction<'_, S>,

@@ -60,7 +60,8 @@ fn amount_columns(holder: HolderNo, serial: u32, cents: Cents) -> [ValueRef<'sta
     ]
 }
 
-/// Inserts the row of a holder's guarantee under a serial, with the amount in use on it in cents, and without its codes.
+/// Inserts the row of a holder's guarantee under a serial, with the amount in use on it in cents, and without its
+/// codes.
 pub fn insert_guarantee<S: Alter>(
     tx: &mut Transaction<'_, S>,
     holder: HolderNo,
@@ -100,8 +101,8 @@ pub fn set_terms<S: Alter>(
     typed_sql::update(tx, SET_TERMS, &terms_columns(holder, serial, terms))
 }
 
-/// Puts so many cents to the amount in use on the guarantee of a holder with a serial. `DatabaseCorrupt`: there isn't just one
-/// such guarantee. The database refuses an amount above the reference amount.
+/// Puts so many cents to the amount in use on the guarantee of a holder with a serial. `DatabaseCorrupt`: there isn't
+/// just one such guarantee. The database refuses an amount above the reference amount.
 pub fn add_used<S: Alter>(
     tx: &mut Transaction<'_, S>,
     holder: HolderNo,
@@ -120,8 +121,8 @@ pub fn add_used<S: Alter>(
     typed_sql::update(tx, ADD_USED, &amount_columns(holder, serial, cents))
 }
 
-/// Takes so many cents off the amount in use on the guarantee of a holder with a serial. `DatabaseCorrupt`: there isn't just one
-/// such guarantee. The database refuses an amount below 0.
+/// Takes so many cents off the amount in use on the guarantee of a holder with a serial. `DatabaseCorrupt`: there isn't
+/// just one such guarantee. The database refuses an amount below 0.
 pub fn take_used<S: Alter>(
     tx: &mut Transaction<'_, S>,
     holder: HolderNo,
@@ -140,8 +141,8 @@ pub fn take_used<S: Alter>(
     typed_sql::update(tx, TAKE_USED, &amount_columns(holder, serial, cents))
 }
 
-/// Empties the table of guarantees of version 1, in a file that is migrated from there: it has no row then, and the other tables
-/// are as they were.
+/// Empties the table of guarantees of version 1, in a file that is migrated from there: it has no row then, and the
+/// other tables are as they were.
 pub fn empty_guarantees1<S: Alter>(tx: &mut Transaction<'_, S>) -> Result<(), Error>
     requires { IsInside (state S.Store tx.old.conn.now) }
     ensures same_reference { tx.new.conn.ghost_name ≡ tx.old.conn.ghost_name }

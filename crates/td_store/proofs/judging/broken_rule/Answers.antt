@@ -1,10 +1,10 @@
-use Rattle.std.proofs.Common.{◌≡◌, ◌∙◌, [], arith, false, refl, rules, true}
+use Rattle.std.proofs.Common.{◌≡◌, ◌∙◌, [], arith, false, refl, rules, sym, true}
 use Rattle.std.specs.Prelude.{IsTrue}
 use Rattle.sqlite.specs.Held.{state}
 use Rattle.sqlite.specs.State.{State, HasCleanDisk, KeepsCommit, KeepsCounts, Shows, Survives}
-use Rattle.td_schema.specs.Layouts.{desk_schema, newest_layout}
-use Rattle.typed_sql.specs.Reading.{Reads}
-use Rattle.td_store_rows.specs.StoreReads.{LeavesNewest}
+use Rattle.td_schema.specs.Layouts.{version_of}
+use Rattle.td_schema.specs.declared.layout.Layout.{Layout}
+use Rattle.td_store_rows.specs.StoreReads.{IsOfVersion, LeavesVersion, ReadsVersion}
 use Rattle.typed_sql.proofs.OnlyRead.{one_read}
 use Rattle.td_store.proofs.Judged.{rules_told}
 use Rattle.td_store.proofs.Leaving.{seen_commits}
@@ -16,14 +16,15 @@ returns-in_err-commit-clause-crash g c =
     let l : State = state g.S.Store c.first_broken.new.tx.conn.now in
     let m : State = state g.S.Store c.see_open.new.tx.conn.now in
     let first = c.in_ok-broken.ensures in
-    let still : HasCleanDisk l → LeavesNewest a l = rw c.transaction-tx.ensures.begun at first.still in
+    let still : HasCleanDisk l → LeavesVersion c.version_in.result a l = rw c.transaction-tx.ensures.begun at first.still in
     let kept : HasCleanDisk l → KeepsCommit a l = rw c.transaction-tx.ensures.begun at first.kept in
     let survives : Survives a l (λ _. ⊥) = rw c.transaction-tx.ensures.begun at first.survives in
-    let reads : Reads desk_schema true a l = record {
-      still = λ clean well. one_read a l (still clean newest_layout refl);
+    let reads : ReadsVersion c.version_in.result true a l = record {
+      still = λ clean well layout at. one_read a l (still clean layout at);
       within = record { inside = λ clean well. first.inside clean; kept = kept; survives = survives };
     } in
-    seen_commits g.S.Store c.args.conn.now l m _ c.see_settled.ensures.settled (λ clean _. c.requires.tables clean) reads
+    seen_commits g.S.Store (IsOfVersion c.version_in.result) c.args.conn.now l m _ c.see_settled.ensures.settled
+    (λ clean. (c.args.layout, sym c.version_in.ensures, λ _. c.requires.tables clean)) reads
     c.in_ok-see_open.ensures.within c.in_ok-see_open.ensures.still (search rules)
 
 pub returns-clause-crash : goal.returns-clause-crash
@@ -32,14 +33,15 @@ returns-clause-crash g c =
     let l : State = state g.S.Store c.first_broken.new.tx.conn.now in
     let m : State = state g.S.Store c.see_open.new.tx.conn.now in
     let first = c.in_ok-broken.ensures in
-    let still : HasCleanDisk l → LeavesNewest a l = rw c.transaction-tx.ensures.begun at first.still in
+    let still : HasCleanDisk l → LeavesVersion c.version_in.result a l = rw c.transaction-tx.ensures.begun at first.still in
     let kept : HasCleanDisk l → KeepsCommit a l = rw c.transaction-tx.ensures.begun at first.kept in
     let survives : Survives a l (λ _. ⊥) = rw c.transaction-tx.ensures.begun at first.survives in
-    let reads : Reads desk_schema true a l = record {
-      still = λ clean well. one_read a l (still clean newest_layout refl);
+    let reads : ReadsVersion c.version_in.result true a l = record {
+      still = λ clean well layout at. one_read a l (still clean layout at);
       within = record { inside = λ clean well. first.inside clean; kept = kept; survives = survives };
     } in
-    seen_commits g.S.Store c.args.conn.now l m _ c.see_settled.ensures.settled (λ clean _. c.requires.tables clean) reads
+    seen_commits g.S.Store (IsOfVersion c.version_in.result) c.args.conn.now l m _ c.see_settled.ensures.settled
+    (λ clean. (c.args.layout, sym c.version_in.ensures, λ _. c.requires.tables clean)) reads
     c.in_ok-see_open.ensures.within c.in_ok-see_open.ensures.still (search rules)
 
 pub returns-clause-told : goal.returns-clause-told
@@ -54,10 +56,10 @@ returns-clause-told g c clean =
     let clean_l : HasCleanDisk l = omega (arith, clean_m, c.in_ok-see_open.ensures.within.survives.clean) in
     let survives : Survives a l (λ _. ⊥) = rw c.transaction-tx.ensures.begun at c.in_ok-broken.ensures.survives in
     let clean_o : HasCleanDisk o = omega (arith, clean_l, survives.clean) in
-    let left : HasCleanDisk l → LeavesNewest a l = rw c.transaction-tx.ensures.begun at c.in_ok-broken.ensures.still in
-    let is_open : IsTrue o.is_open = (left clean_l newest_layout refl (λ _. c.requires.tables clean_o)).0.was_open in
-    rules_told o c.database_keeps.ensures is_open (c.requires.tables clean_o) c.args.readable c.in_ok-broken.broken
-    (rw c.transaction-tx.ensures.begun at (c.in_ok-broken.ensures.told clean_l))
+    let left : HasCleanDisk l → LeavesVersion c.version_in.result a l = rw c.transaction-tx.ensures.begun at c.in_ok-broken.ensures.still in
+    let is_open : IsTrue o.is_open = (left clean_l c.args.layout (sym c.version_in.ensures) (λ _. c.requires.tables clean_o)).0.was_open in
+    rules_told o c.args.layout c.database_keeps.ensures is_open (c.requires.tables clean_o) c.args.readable c.in_ok-broken.broken
+    (rw c.version_in.ensures at (rw c.transaction-tx.ensures.begun at (c.in_ok-broken.ensures.told clean_l)))
 
 pub returns-clause-same : goal.returns-clause-same
 returns-clause-same g c clean is_open =
@@ -71,6 +73,6 @@ returns-clause-same g c clean is_open =
     let clean_l : HasCleanDisk l = omega (arith, clean_m, c.in_ok-see_open.ensures.within.survives.clean) in
     let survives : Survives a l (λ _. ⊥) = rw c.transaction-tx.ensures.begun at c.in_ok-broken.ensures.survives in
     let clean_o : HasCleanDisk o = omega (arith, clean_l, survives.clean) in
-    let left : HasCleanDisk l → LeavesNewest a l = rw c.transaction-tx.ensures.begun at c.in_ok-broken.ensures.still in
+    let left : HasCleanDisk l → LeavesVersion c.version_in.result a l = rw c.transaction-tx.ensures.begun at c.in_ok-broken.ensures.still in
     let done : IsTrue m.in_transaction × Shows m e m.now m.now false × KeepsCounts m e × (e.marks ≡ []) = search rules in
-    done.1.now_is ∙ (c.in_ok-see_open.ensures.still clean_m).0.now_is ∙ (left clean_l newest_layout refl (λ _. c.requires.tables clean_o)).0.now_is
+    done.1.now_is ∙ (c.in_ok-see_open.ensures.still clean_m).0.now_is ∙ (left clean_l c.args.layout (sym c.version_in.ensures) (λ _. c.requires.tables clean_o)).0.now_is

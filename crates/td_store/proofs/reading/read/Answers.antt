@@ -2,9 +2,9 @@ use Rattle.std.proofs.Common.{◌≡◌, ◌∙◌, [], arith, false, refl, rule
 use Rattle.std.specs.Prelude.{IsTrue}
 use Rattle.sqlite.specs.Held.{state}
 use Rattle.sqlite.specs.State.{State, HasCleanDisk, KeepsCounts, Shows, Survives}
-use Rattle.td_schema.specs.Layouts.{newest_layout}
+use Rattle.td_schema.specs.Layouts.{IsNewest}
 use Rattle.td_store_rows.specs.StoreReads.{ReadsNewest}
-use Rattle.td_store.proofs.Leaving.{at_newest, seen_commits}
+use Rattle.td_store.proofs.Leaving.{seen_commits}
 use Rattle.td_store.proofs.reading.read.Goals as goal
 
 pub returns-in_err-commit-clause-crash : goal.returns-in_err-commit-clause-crash
@@ -13,7 +13,7 @@ returns-in_err-commit-clause-crash g c =
     let l : State = state g.S.Store c.load.new.tx.conn.now in
     let m : State = state g.S.Store c.see_open.new.tx.conn.now in
     let reads : ReadsNewest true a l = rw c.transaction-tx.ensures.begun at c.in_ok-loaded.ensures.reads in
-    seen_commits g.S.Store c.args.conn.now l m _ c.see_settled.ensures.settled c.requires.tables (at_newest reads)
+    seen_commits g.S.Store IsNewest c.args.conn.now l m _ c.see_settled.ensures.settled c.requires.tables reads
     c.in_ok-see_open.ensures.within c.in_ok-see_open.ensures.still (search rules)
 
 pub returns-clause-crash : goal.returns-clause-crash
@@ -22,7 +22,7 @@ returns-clause-crash g c =
     let l : State = state g.S.Store c.load.new.tx.conn.now in
     let m : State = state g.S.Store c.see_open.new.tx.conn.now in
     let reads : ReadsNewest true a l = rw c.transaction-tx.ensures.begun at c.in_ok-loaded.ensures.reads in
-    seen_commits g.S.Store c.args.conn.now l m _ c.see_settled.ensures.settled c.requires.tables (at_newest reads)
+    seen_commits g.S.Store IsNewest c.args.conn.now l m _ c.see_settled.ensures.settled c.requires.tables reads
     c.in_ok-see_open.ensures.within c.in_ok-see_open.ensures.still (search rules)
 
 pub returns-clause-loaded : goal.returns-clause-loaded
@@ -47,5 +47,6 @@ returns-clause-same g c clean is_open =
     let reads : ReadsNewest true a l = rw c.transaction-tx.ensures.begun at c.in_ok-loaded.ensures.reads in
     let clean_o : HasCleanDisk o = omega (arith, clean_l, reads.within.survives.clean) in
     let done : IsTrue m.in_transaction × Shows m e m.now m.now false × KeepsCounts m e × (e.marks ≡ []) = search rules in
+    let there = c.requires.tables clean_o in
     done.1.now_is ∙ (c.in_ok-see_open.ensures.still clean_m).0.now_is
-    ∙ (reads.still clean_l refl newest_layout refl (c.requires.tables clean_o)).now_is
+    ∙ (reads.still clean_l refl there.0 there.1 there.2).now_is

@@ -32,7 +32,7 @@ returns-in-Err-open-clause-fault g c =
     let opened = c.in-Ok.ensures.open was in
     let is = found_there (image_at g.S.Start) found opened.0 (c.in-Ok.ensures.found was) in
     refused_for (image_at g.S.Start) c.args.country found refused.fault is
-    (told.unknown clean) (told.newest clean) (told.other clean) (told.broken clean) (told.sound clean opened.0.is_open)
+    (told.unknown clean) (told.earlier clean) (told.other clean) (told.broken clean) (told.sound clean opened.0.is_open)
     (λ content trees. c.what_a_crash_leaves_opens.ensures c.in-Ok.conn content opened.1 trees) neither))
     c.turn_away.ensures.handed c.turn_away.ensures.fault
 

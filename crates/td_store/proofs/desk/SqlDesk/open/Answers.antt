@@ -1,16 +1,16 @@
 use Rattle.std.proofs.Common.{refl}
 use Rattle.std.specs.Prelude.{IsTrue}
 use Rattle.sqlite.specs.Held.{state}
-use Rattle.td_store_rows.specs.StoreTables.{content_in}
+use Rattle.td_store.specs.Kept.{content_in}
 use Rattle.td_store.proofs.Leaving.{leaves_shown}
-use Rattle.td_store.proofs.Refusing.{another_there, desk_there, sound_there, unknown_there}
+use Rattle.td_store.proofs.Refusing.{another_there, broken_there, desk_there, earlier_there, sound_there, unknown_there}
 use Rattle.td_store.proofs.desk.SqlDesk.open.Goals as goal
 
 pub over-requires-clause-desk : goal.over-requires-clause-desk
 over-requires-clause-desk g c = λ clean is.
     let it = desk_there c.args.country (state g.S.Store c.args.conn).now (state g.S.Store c.refusal.new.conn)
     (c.in-None.ensures.told clean) (c.refusal.ensures.same clean is) c.see_settled.ensures.sound is in
-    (content_in (state g.S.Store c.refusal.new.conn).now.trees, it.0, it.1)
+    (content_in (state g.S.Store c.refusal.new.conn).now, it.0, it.1)
 
 pub returns-in-None-clause-opened : goal.returns-in-None-clause-opened
 returns-in-None-clause-opened g c =
@@ -39,7 +39,7 @@ returns-in-None-clause-leaves g c =
     (λ is.
     let it = desk_there c.args.country (state g.S.Store c.args.conn).now (state g.S.Store c.refusal.new.conn)
     (c.in-None.ensures.told clean) (c.refusal.ensures.same clean is) c.see_settled.ensures.sound is in
-    (content_in (state g.S.Store c.refusal.new.conn).now.trees, it.0)))
+    (content_in (state g.S.Store c.refusal.new.conn).now, it.0)))
 
 pub returns-in-Some-clause-unknown : goal.returns-in-Some-clause-unknown
 returns-in-Some-clause-unknown g c = λ clean is.
@@ -48,6 +48,14 @@ returns-in-Some-clause-unknown g c = λ clean is.
 pub returns-in-Some-clause-other : goal.returns-in-Some-clause-other
 returns-in-Some-clause-other g c = λ clean is.
     another_there c.args.country (state g.S.Store c.args.conn).now c.in-Some.fault (c.in-Some.ensures.told clean) is
+
+pub returns-in-Some-clause-earlier : goal.returns-in-Some-clause-earlier
+returns-in-Some-clause-earlier g c = λ clean version is.
+    earlier_there c.args.country (state g.S.Store c.args.conn).now c.in-Some.fault (c.in-Some.ensures.told clean) version is
+
+pub returns-in-Some-clause-broken : goal.returns-in-Some-clause-broken
+returns-in-Some-clause-broken g c = λ clean rule is.
+    broken_there c.args.country (state g.S.Store c.args.conn).now c.in-Some.fault (c.in-Some.ensures.told clean) rule is
 
 pub returns-in-Some-clause-sound : goal.returns-in-Some-clause-sound
 returns-in-Some-clause-sound g c = λ clean is content holds at.

@@ -9,7 +9,7 @@ use Rattle.td_desk.specs.Weighing.{kept_for}
 use Rattle.td_store_rows.specs.StoreTables.{HoldsContent}
 use Rattle.td_store.specs.Kept.{IsDeskOf}
 use Rattle.td_store.proofs.Calls.{desk_then, then_asked}
-use Rattle.td_store.proofs.Holding.{loaded_there, schema_there}
+use Rattle.td_store.proofs.Holding.{loaded_there, tables_there}
 use Rattle.td_store.proofs.Leaving.{adds_none, counts_faults, leaves_shown}
 use Rattle.td_store.proofs.desk.SqlDeskStore.load.Goals as goal
 
@@ -23,10 +23,10 @@ returns-in-Ok-clause-loaded g c = λ clean is sound.
     let was : (x : Content) × HoldsContent x a × (x.country ≡ c.self.inside.country) = desk clean_a is in
     let says : (x : Content) → HoldsContent x a → x.country ≡ c.self.inside.country → IsLoaded (kept_for c.args.owner x) (need_said c.args.needs.now) c.in-Ok.loaded =
     rw c.self.view_is at (c.in-Ok.ensures.loaded clean) in
-    loaded_there c.args.owner (need_said c.args.needs.now) a was.0 c.in-Ok.loaded was.1 (says was.0 was.1 was.2)
+    loaded_there c.args.owner (need_said c.args.needs.now) a was.0 c.in-Ok.loaded was.1 is (says was.0 was.1 was.2)
 
 pub read-requires-clause-tables : goal.read-requires-clause-tables
-read-requires-clause-tables g c = schema_there c.self.inside.country (state g.S.Store c.self.inside.conn) c.self.invariant.0
+read-requires-clause-tables g c = tables_there c.self.inside.country (state g.S.Store c.self.inside.conn) c.self.invariant.0
 
 pub returns-in-Ok-clause-crash : goal.returns-in-Ok-clause-crash
 returns-in-Ok-clause-crash g c = λ clean.

@@ -1,9 +1,9 @@
-use Rattle.std.proofs.Common.{◌≡◌}
+use Rattle.std.proofs.Common.{◌≡◌, ◌∙◌, ap, arith}
 use Rattle.std.specs.Prelude.{IsTrue}
 use Rattle.sqlite.specs.Held.{state}
 use Rattle.sqlite.specs.State.{State, HasCleanDisk, Survives}
 use Rattle.td_store_write.specs.Carried.{CarriesChange, MayLeave}
-use Rattle.td_store.specs.Kept.{IsDeskOf}
+use Rattle.td_store.specs.Kept.{IsDeskOf, content_in}
 use Rattle.td_store.proofs.Calls.{adds_change, content_carried, desk_carried, desk_then, then_asked}
 use Rattle.td_store.proofs.Leaving.{counts_faults, leaves_shown}
 use Rattle.td_store.proofs.desk.SqlDeskStore.write.Goals as goal
@@ -19,6 +19,15 @@ returns-in-Err-clause-crash g c = λ clean.
     let asked = c.fault_of-fault.ensures in
     adds_change g.S.Store country c.args.change c.args.self.now c.fault_of-fault.new.conn desk c.requires.decided
     (then_asked a b e (MayLeave country c.args.change a) survives asked.crash) clean
+
+pub returns-in-Err-clause-err : goal.returns-in-Err-clause-err
+returns-in-Err-clause-err g c = λ clean is.
+    let a : State = state g.S.Store c.args.self.now in
+    let b : State = state g.S.Store c.carry_change.new.conn in
+    let asked = c.fault_of-fault.ensures in
+    let same : HasCleanDisk b → IsTrue b.is_open → b.now ≡ a.now = rw c.self.view_is at c.in-Err.ensures.err in
+    let clean_b : HasCleanDisk b = omega (arith, clean, asked.crash.clean) in
+    ap content_in (asked.same clean is ∙ same clean_b (asked.live clean is))
 
 pub returns-in-Err-clause-settled : goal.returns-in-Err-clause-settled
 returns-in-Err-clause-settled g c = λ clean.

@@ -8,17 +8,17 @@ use Rattle.typed_sql.specs.Writing.{HasSchema}
 use Rattle.td_store_rows.specs.Columns.{MetaIsFirst}
 use Rattle.td_store_rows.specs.MetaTable.{IsTheMeta}
 use Rattle.td_store.proofs.Leaving.{read_commits}
-use Rattle.td_store.proofs.judging.fault_of_office.Goals as goal
+use Rattle.td_store.proofs.office.read_office.Goals as goal
 
 pub returns-in_err-commit-clause-crash : goal.returns-in_err-commit-clause-crash
 returns-in_err-commit-clause-crash g c =
     let o : State = state g.S.Store c.args.conn.now in
     let a : State = state g.S.Store (record c.args.conn.now { in_transaction = true }) in
     let m : State = state g.S.Store c.find_meta.new.tx.conn.now in
-    let within : StaysInside true a m = rw c.transaction-tx.ensures.begun at c.in_ok-meta.ensures.within in
-    let still : HasCleanDisk m → (s : Schema) → MetaIsFirst s → OnlyRead s a m = rw c.transaction-tx.ensures.begun at c.in_ok-meta.ensures.still in
+    let within : StaysInside true a m = rw c.transaction-tx.ensures.begun at c.in_ok-office.ensures.within in
+    let still : HasCleanDisk m → (s : Schema) → MetaIsFirst s → OnlyRead s a m = rw c.transaction-tx.ensures.begun at c.in_ok-office.ensures.still in
     let shown : HasCleanDisk m → (s : Schema) → MetaIsFirst s → HasSchema a s → IsTrue a.is_open =
-    rw c.transaction-tx.ensures.begun at c.in_ok-meta.ensures.was_open in
+    rw c.transaction-tx.ensures.begun at c.in_ok-office.ensures.was_open in
     read_commits g.S.Store c.args.conn.now m _ c.see_settled.ensures.settled within.survives
     (λ clean.
     let first : MetaIsFirst o.now.schema = c.requires.first (omega (arith, clean, within.survives.clean)) in
@@ -29,37 +29,34 @@ returns-clause-crash g c =
     let o : State = state g.S.Store c.args.conn.now in
     let a : State = state g.S.Store (record c.args.conn.now { in_transaction = true }) in
     let m : State = state g.S.Store c.find_meta.new.tx.conn.now in
-    let within : StaysInside true a m = rw c.transaction-tx.ensures.begun at c.in_ok-meta.ensures.within in
-    let still : HasCleanDisk m → (s : Schema) → MetaIsFirst s → OnlyRead s a m = rw c.transaction-tx.ensures.begun at c.in_ok-meta.ensures.still in
+    let within : StaysInside true a m = rw c.transaction-tx.ensures.begun at c.in_ok-office.ensures.within in
+    let still : HasCleanDisk m → (s : Schema) → MetaIsFirst s → OnlyRead s a m = rw c.transaction-tx.ensures.begun at c.in_ok-office.ensures.still in
     let shown : HasCleanDisk m → (s : Schema) → MetaIsFirst s → HasSchema a s → IsTrue a.is_open =
-    rw c.transaction-tx.ensures.begun at c.in_ok-meta.ensures.was_open in
+    rw c.transaction-tx.ensures.begun at c.in_ok-office.ensures.was_open in
     read_commits g.S.Store c.args.conn.now m _ c.see_settled.ensures.settled within.survives
     (λ clean.
     let first : MetaIsFirst o.now.schema = c.requires.first (omega (arith, clean, within.survives.clean)) in
     (shown clean o.now.schema first (λ _. refl), (still clean o.now.schema first (λ _. refl)).now_is)) (search rules)
 
-pub returns-clause-told : goal.returns-clause-told
-returns-clause-told g c clean =
+pub returns-clause-found : goal.returns-clause-found
+returns-clause-found g c clean =
     let o : State = state g.S.Store c.args.conn.now in
     let a : State = state g.S.Store (record c.args.conn.now { in_transaction = true }) in
     let m : State = state g.S.Store c.find_meta.new.tx.conn.now in
-    let within : StaysInside true a m = rw c.transaction-tx.ensures.begun at c.in_ok-meta.ensures.within in
+    let within : StaysInside true a m = rw c.transaction-tx.ensures.begun at c.in_ok-office.ensures.within in
     let e : State = state g.S.Store c.conn-2-1.given.0 in
     let ended : Survives m e (λ trees. trees ≡ m.now.trees) = search rules in
     let clean_m : HasCleanDisk m = omega (arith, clean, ended.clean) in
-    let found : IsTheMeta a c.in_ok-meta.meta = rw c.transaction-tx.ensures.begun at c.in_ok-meta.ensures.found clean_m in (
-      c.in_ok-meta.meta,
-      found o.now.schema (c.requires.first (omega (arith, clean_m, within.survives.clean))) (λ _. refl),
-      c.office_fault.ensures,
-    )
+    let found : IsTheMeta a c.in_ok-office.office = rw c.transaction-tx.ensures.begun at c.in_ok-office.ensures.found clean_m in
+    found o.now.schema (c.requires.first (omega (arith, clean_m, within.survives.clean))) (λ _. refl)
 
 pub returns-clause-same : goal.returns-clause-same
 returns-clause-same g c clean is =
     let o : State = state g.S.Store c.args.conn.now in
     let a : State = state g.S.Store (record c.args.conn.now { in_transaction = true }) in
     let m : State = state g.S.Store c.find_meta.new.tx.conn.now in
-    let within : StaysInside true a m = rw c.transaction-tx.ensures.begun at c.in_ok-meta.ensures.within in
-    let still : HasCleanDisk m → (s : Schema) → MetaIsFirst s → OnlyRead s a m = rw c.transaction-tx.ensures.begun at c.in_ok-meta.ensures.still in
+    let within : StaysInside true a m = rw c.transaction-tx.ensures.begun at c.in_ok-office.ensures.within in
+    let still : HasCleanDisk m → (s : Schema) → MetaIsFirst s → OnlyRead s a m = rw c.transaction-tx.ensures.begun at c.in_ok-office.ensures.still in
     let e : State = state g.S.Store c.conn-2-1.given.0 in
     let ended : Survives m e (λ trees. trees ≡ m.now.trees) = search rules in
     let clean_m : HasCleanDisk m = omega (arith, clean, ended.clean) in

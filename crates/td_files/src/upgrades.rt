@@ -1,0 +1,48 @@
+//! Files brought to the newest version of the tables.
+ghost use Rattle.std.specs.Prelude.{◌≡◌};
+ghost use Rattle.sqlite.specs.WalFiles.{image_at};
+ghost use Rattle.td_files.specs.declared.desks.DeskFault.TheVariants as fault;
+ghost use Rattle.td_files.specs.Upgraded.{IsUpgraded, refused_as};
+
+use crate::desks::{DeskFault, file_fault};
+use crate::files::{OneFile, open_file};
+use sqlite::{FileFrom, FileStore, Start};
+use td_migrate::{MigrateFault, upgrade};
+use td_store::OpenFault;
+
+// What a file is refused for that isn't brought to the newest version.
+fn refused(why: MigrateFault) -> DeskFault
+    ensures { result ≡ fault.Refused (refused_as why) }
+{
+    DeskFault::Refused(match why {
+        MigrateFault::UnknownVersion => OpenFault::UnknownVersion,
+        MigrateFault::Damaged(rule) => OpenFault::Damaged(rule),
+        MigrateFault::Store => OpenFault::Store,
+        MigrateFault::NoMemory => OpenFault::NoMemory,
+    })
+}
+
+impl<S: Start> OneFile<S, FileStore<FileFrom<S>>> {
+    /// Brings the database in the file at the path, which has to be there and have a desk's tables of any version, to the newest
+    /// version, and answers that. `File`: it isn't there, can't be opened, is no database, or this file was opened before; `Refused`:
+    /// as `td_migrate::upgrade` says, there was no memory, or another program has the file open (`Store`). The connection is kept: with
+    /// a fault it shows what was found, unless the fault shut it.
+    pub fn upgrade(&mut self, rt: &HostRuntime, path: &str) -> Result<u32, DeskFault>
+        ensures { IsUpgraded (image_at S.Start) self.old.connection self.new.connection result }
+    {
+        let Some(start) = self.start.take() else {
+            return Err(DeskFault::File);
+        };
+        let mut conn = match open_file(rt, path, false, start) {
+            Ok(conn) => conn,
+            Err(error) => return Err(file_fault(&error)),
+        };
+        let _settled = conn.is_autocommit();
+        let result = upgrade(rt.alloc(), &mut conn);
+        self.connection = Some(conn);
+        match result {
+            Ok(version) => Ok(version),
+            Err(why) => Err(refused(why)),
+        }
+    }
+}

@@ -1,0 +1,6 @@
+mod Sums
+mod Counted
+mod First
+mod Putting
+mod Becoming
+mod Contents

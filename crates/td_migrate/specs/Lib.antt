@@ -1,0 +1,5 @@
+pub mod InUse
+pub mod Filled
+pub mod Moved
+pub mod Grown
+pub mod Totals

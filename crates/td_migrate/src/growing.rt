@@ -1,0 +1,68 @@
+//! A file taken from version 1 to version 2.
+ghost use Rattle.std.specs.Prelude.{◌≡◌, false, map, IsTrue, OnOk, OnErr, is_ok};
+ghost use Rattle.sqlite.specs.Held.{state};
+ghost use Rattle.sqlite.specs.State.{HasCleanDisk, Survives};
+ghost use Rattle.typed_sql.specs.Reading.{IsInside, StaysInside};
+ghost use Rattle.td_store_rows.specs.GuaranteeTable.{guarantee_row_of};
+ghost use Rattle.td_migrate.specs.Grown.{GrowsTo2, MayLeaveGrown};
+ghost use Rattle.td_migrate.specs.Moved.{BecomesSecond, MovesTo2};
+
+use crate::filling::{fill, first_guarantees};
+use sqlite::{Connection, Error, Transaction};
+use sqlite_trees::store::Alter;
+use std::alloc::Global;
+use td_schema::make_guarantees2;
+use td_store_rows::{StoredGuarantee, empty_guarantees1, set_version};
+use td_table_model::tables_grow;
+
+// Makes the table of guarantees of version 2 with these guarantees, each with the amount in use on it, and empties the one of version 1.
+fn move_guarantees<S: Alter>(
+    alloc: Global,
+    tx: &mut Transaction<'_, S>,
+    rows: &[StoredGuarantee],
+) -> Result<(), Error>
+    requires { IsInside (state S.Store tx.old.conn.now) }
+    ensures same_reference { tx.new.conn.ghost_name ≡ tx.old.conn.ghost_name }
+    ensures moved { HasCleanDisk (state S.Store tx.new.conn.now) → OnOk result (MovesTo2 (map guarantee_row_of rows.now)
+        (state S.Store tx.old.conn.now) (state S.Store tx.new.conn.now)) }
+    ensures within { StaysInside (is_ok result) (state S.Store tx.old.conn.now) (state S.Store tx.new.conn.now) }
+{
+    make_guarantees2(tx)?;
+    fill(alloc, tx, rows)?;
+    empty_guarantees1(tx)
+}
+
+// Writes what version 2 has that version 1 has not.
+fn write_2<S: Alter>(alloc: Global, tx: &mut Transaction<'_, S>) -> Result<(), Error>
+    requires { IsInside (state S.Store tx.old.conn.now) }
+    ensures same_reference { tx.new.conn.ghost_name ≡ tx.old.conn.ghost_name }
+    ensures written { HasCleanDisk (state S.Store tx.new.conn.now)
+        → OnOk result (BecomesSecond (state S.Store tx.old.conn.now) (state S.Store tx.new.conn.now)) }
+    ensures within { StaysInside (is_ok result) (state S.Store tx.old.conn.now) (state S.Store tx.new.conn.now) }
+{
+    let rows = first_guarantees(alloc, tx)?;
+    move_guarantees(alloc, tx, &rows)?;
+    set_version(tx, 2)
+}
+
+/// Takes a file of version 1 to version 2, in one transaction: all of it or, where it answers `Err`, nothing. A crash during the call
+/// leaves what it could leave before, or the file of version 2. `OutOfMemory`: want of memory; any other error is the database's
+/// own, or `DatabaseCorrupt` for a row that is none.
+pub fn grow_to_2<S: Alter>(alloc: Global, conn: &mut Connection<S>) -> Result<(), Error>
+    requires { conn.old.in_transaction ≡ false }
+    ensures ended { conn.new.in_transaction ≡ false }
+    ensures live { HasCleanDisk (state S.Store conn.new) → IsTrue (state S.Store conn.new).is_open → IsTrue (state S.Store conn.old).is_open }
+    ensures shown { HasCleanDisk (state S.Store conn.new)
+        → OnOk result (IsTrue (state S.Store conn.old).is_open × IsTrue (state S.Store conn.new).is_open) }
+    ensures grown { HasCleanDisk (state S.Store conn.new)
+        → OnOk result (GrowsTo2 (state S.Store conn.old).now (state S.Store conn.new)) }
+    ensures err { HasCleanDisk (state S.Store conn.new) → IsTrue (state S.Store conn.new).is_open
+        → OnErr result ((state S.Store conn.new).now ≡ (state S.Store conn.old).now) }
+    ensures crash { Survives (state S.Store conn.old) (state S.Store conn.new) (MayLeaveGrown (state S.Store conn.old).now) }
+{
+    tables_grow();
+    let _settled = conn.is_autocommit();
+    let mut tx = conn.transaction();
+    write_2(alloc, &mut tx)?;
+    tx.commit()
+}

@@ -1,0 +1,76 @@
+//! The rows of a store's file, audited as those of a version.
+ghost use Rattle.std.specs.Prelude.{◌≡◌, ◌⊎◌, false, None, IsTrue, IfErr, IfOk, IfSome, OnOk};
+ghost use Rattle.sqlite.specs.Held.{state};
+ghost use Rattle.sqlite.specs.State.{HasCleanDisk, Survives};
+ghost use Rattle.td_desk.specs.Content.{Content};
+ghost use Rattle.td_store.specs.declared.refused.OpenFault.TheVariants as fault;
+ghost use Rattle.td_store.specs.Kept.{CrashLeavesShown};
+ghost use Rattle.td_store.specs.Opened.{HoldsAtVersion, IsDamage, TellsAudit, fault_in};
+
+use crate::faults::open_fault_of;
+use crate::judging::fault_of_rows;
+use crate::refused::OpenFault;
+use crate::schema::{Tables, tables_of, version_in};
+use crate::settling::see_settled;
+use sqlite::{Connection, Error};
+use sqlite_trees::store::Alter;
+use std::alloc::Global;
+use td_store_audit_rows::content_keeps_rules;
+
+// What the rows are refused for as those of that version; `Store` where the tables are none of a layout of it. An error is the
+// database's own, or want of memory.
+fn fault_at<S: Alter>(
+    alloc: Global,
+    conn: &mut Connection<S>,
+    version: u32,
+) -> Result<Option<OpenFault>, Error>
+    requires { conn.old.in_transaction ≡ false }
+    ensures ended { conn.new.in_transaction ≡ false }
+    ensures live { HasCleanDisk (state S.Store conn.new) → IsTrue (state S.Store conn.new).is_open → IsTrue (state S.Store conn.old).is_open }
+    ensures shown { HasCleanDisk (state S.Store conn.new) → IfOk result (λ fault. fault ≡ None
+        → IsTrue (state S.Store conn.old).is_open × IsTrue (state S.Store conn.new).is_open) }
+    ensures told { HasCleanDisk (state S.Store conn.new) → IfOk result (TellsAudit version (state S.Store conn.old).now) }
+    ensures kinds { IfOk result (λ told. IfSome told (λ why. (why ≡ fault.Store) ⊎ IsDamage why)) }
+    ensures same { HasCleanDisk (state S.Store conn.new) → IsTrue (state S.Store conn.new).is_open
+        → (state S.Store conn.new).now ≡ (state S.Store conn.old).now }
+    ensures crash { Survives (state S.Store conn.old) (state S.Store conn.new) (λ _. ⊥) }
+{
+    match tables_of(alloc, conn)? {
+        Tables::Store(layout) if version_in(layout) == version => fault_of_rows(alloc, conn, layout),
+        _ => Ok(Some(OpenFault::Store)),
+    }
+}
+
+/// Audits the rows of a store's file as those of a version of the tables, from the first to the newest. `Damaged`: the rows break
+/// this rule of sound tables, and none before it; `Store`: the tables are none of that version, or the database answered an error
+/// other than want of memory; `NoMemory`: want of memory. Nothing is changed, and a crash leaves what it could before.
+pub fn audit<S: Alter>(
+    alloc: Global,
+    conn: &mut Connection<S>,
+    version: u32,
+) -> Result<(), OpenFault>
+    requires { conn.old.in_transaction ≡ false }
+    ensures ended { conn.new.in_transaction ≡ false }
+    ensures live { HasCleanDisk (state S.Store conn.new) → IsTrue (state S.Store conn.new).is_open → IsTrue (state S.Store conn.old).is_open }
+    ensures shown { HasCleanDisk (state S.Store conn.new)
+        → OnOk result (IsTrue (state S.Store conn.old).is_open × IsTrue (state S.Store conn.new).is_open) }
+    ensures told { HasCleanDisk (state S.Store conn.new) → TellsAudit version (state S.Store conn.old).now (fault_in result) }
+    ensures kinds { IfErr result (λ why. ((why ≡ fault.Store) ⊎ (why ≡ fault.NoMemory)) ⊎ IsDamage why) }
+    ensures sound { HasCleanDisk (state S.Store conn.new) → (c : Content) → HoldsAtVersion version c (state S.Store conn.old).now
+        → IfErr result (λ why. (why ≡ fault.Store) ⊎ (why ≡ fault.NoMemory)) }
+    ensures same { HasCleanDisk (state S.Store conn.new) → IsTrue (state S.Store conn.new).is_open
+        → (state S.Store conn.new).now ≡ (state S.Store conn.old).now }
+    ensures crash { Survives (state S.Store conn.old) (state S.Store conn.new) (λ _. ⊥) }
+    ensures settled { CrashLeavesShown (state S.Store conn.new) }
+{
+    content_keeps_rules();
+    let fault = match fault_at(alloc, conn, version) {
+        Ok(fault) => fault,
+        Err(error) => Some(open_fault_of(&error)),
+    };
+    see_settled(conn);
+    match fault {
+        None => Ok(()),
+        Some(fault) => Err(fault),
+    }
+}
