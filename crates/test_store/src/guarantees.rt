@@ -66,7 +66,8 @@ fn a_guarantee_is_found_by_its_references(rt: HostRuntime) {
     let mut tx = conn.transaction();
     let found = find_kept(alloc, &mut tx, holder, 1, &grn).expect(&rt, "a row");
     let found = found.expect(&rt, "a guarantee");
-    assert!(rt; is_as_opened(&found.guarantee) && found.used.get() == 300_000);
+    assert!(rt; found.used.get() == 300_000);
+    assert!(rt; is_as_opened(&found.guarantee));
     let other = find_kept(alloc, &mut tx, holder, 2, &grn).expect(&rt, "no row");
     assert!(rt; other.is_none());
     let found = find_by_serial(alloc, &mut tx, holder, 1).expect(&rt, "a row");
