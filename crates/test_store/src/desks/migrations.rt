@@ -64,10 +64,17 @@ fn version_of(
     conn: &mut Connection<MemStore>,
 ) -> Result<u32, MigrateFault> {
     assert!(rt; conn.is_autocommit());
-    let found = version(rt.alloc(), conn);
-    let told = file_version(rt.alloc(), conn);
-    assert!(rt; found.ok() == told.ok());
-    found
+    let told = file_version(rt.alloc(), conn).ok();
+    match version(rt.alloc(), conn) {
+        Ok(found) => {
+            assert!(rt; told == Some(found));
+            Ok(found)
+        }
+        Err(fault) => {
+            assert!(rt; told.is_none());
+            Err(fault)
+        }
+    }
 }
 
 /// What its rows are as those of a version.
