@@ -1,6 +1,5 @@
-mod Sums
-mod Counted
 mod First
 mod Putting
 mod Becoming
 mod Contents
+mod Reached

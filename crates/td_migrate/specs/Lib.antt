@@ -2,4 +2,4 @@ pub mod InUse
 pub mod Filled
 pub mod Moved
 pub mod Grown
-pub mod Totals
+pub mod Upgraded

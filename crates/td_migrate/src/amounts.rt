@@ -8,11 +8,11 @@ ghost use Rattle.td_store_rows.specs.StoreReads.{ReadsStore};
 ghost use Rattle.td_store_rows.specs.MovementTable.{serial_of_stored};
 ghost use Rattle.td_migrate.specs.InUse.{IsInUse, IsInUseIfInRange};
 
-use crate::totals::total_on;
 use sqlite::{Error, ErrorCode, Transaction};
 use sqlite_trees::store::Alter;
 use std::alloc::Global;
 use td_base::{Cents, HolderNo};
+use td_store_audit::total_on;
 use td_store_rows::{MovementSerial, counting_serials, lines_on};
 
 // Whether serials stand in ascending order, no two alike.

@@ -48,7 +48,7 @@ fn write_2<S: Alter>(alloc: Global, tx: &mut Transaction<'_, S>) -> Result<(), E
 /// Takes a file of version 1 to version 2, in one transaction: all of it or, where it answers `Err`, nothing. A crash during the call
 /// leaves what it could leave before, or the file of version 2. `OutOfMemory`: want of memory; any other error is the database's
 /// own, or `DatabaseCorrupt` for a row that is none.
-pub fn grow_to_2<S: Alter>(alloc: Global, conn: &mut Connection<S>) -> Result<(), Error>
+pub(crate) fn grow_to_2<S: Alter>(alloc: Global, conn: &mut Connection<S>) -> Result<(), Error>
     requires { conn.old.in_transaction ≡ false }
     ensures ended { conn.new.in_transaction ≡ false }
     ensures live { HasCleanDisk (state S.Store conn.new) → IsTrue (state S.Store conn.new).is_open → IsTrue (state S.Store conn.old).is_open }

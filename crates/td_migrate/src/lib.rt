@@ -1,9 +1,12 @@
-//! Scratch.
+//! A store's file brought from an earlier version of its tables to the newest: one transaction for each version, whole or not begun,
+//! after the file's rows were audited.
 #![tactic(auto)]
 
 mod amounts;
+mod fault;
 mod filling;
 mod growing;
-mod totals;
+mod upgrading;
 
-pub use growing::grow_to_2;
+pub use fault::MigrateFault;
+pub use upgrading::{upgrade, version};

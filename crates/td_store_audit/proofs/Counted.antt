@@ -61,6 +61,16 @@ filter_map {X} f p (x ∷ xs) = by_test (p (f x)) (filter_map f p xs)
     by_test true later = ap (λ l. f x ∷ l) later
     by_test false later = later
 
+-- what passes passes again
+filter_again : {X : Type 0} (p : X → Bool) (xs : List X) → filter p (filter p xs) ≡ filter p xs
+filter_again p [] = refl
+filter_again {X} p (x ∷ xs) = by_test (p x) refl (filter_again p xs)
+  where
+    by_test : (b : Bool) → p x ≡ b → filter p (filter p xs) ≡ filter p xs
+        → filter p (cond b (x ∷ filter p xs) (filter p xs)) ≡ cond b (x ∷ filter p xs) (filter p xs)
+    by_test true is later = rw is (ap (λ l. x ∷ l) later)
+    by_test false is later = later
+
 -- two numbers are compared alike in either order
 either_way : (a b : ℕ) → (a == b) ≡ (b == a)
 either_way a b = grind (arith, nat_tests)
@@ -171,3 +181,11 @@ module _ (H n : ℕ) (t : Tables) where
     pub of_holder : (lines : List StoredLine) → IsPermutation (part H t.lines) (map line_row_of lines)
         → total_on n serials lines ≡ sum_by cents_of (lines_in_use H n t)
     of_holder lines found = of_any (part H t.lines) lines (filter_both names_it (λ l. owner l == H) t.lines) found
+
+    -- of those on the guarantee
+    pub of_guarantee : (lines : List StoredLine) → IsPermutation (filter is_on t.lines) (map line_row_of lines)
+        → total_on n serials lines ≡ sum_by cents_of (lines_in_use H n t)
+    of_guarantee lines found =
+        of_any (filter is_on t.lines) lines
+        (filter_both names_it (λ l. owner l == H) t.lines ∙ sym (filter_again names_it (part H t.lines))
+        ∙ sym (ap (filter names_it) (filter_both names_it (λ l. owner l == H) t.lines))) found

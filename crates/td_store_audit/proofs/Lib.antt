@@ -14,7 +14,7 @@ mod GuaranteesKept
 mod MovementsKept
 mod Walking
 mod Sums
-mod Counted
+pub mod Counted
 mod InUse
 mod UseKept
 mod CoverKept

@@ -12,8 +12,8 @@ use Rattle.td_store_rows.specs.MovementTable.{serial_of_stored}
 use Rattle.td_store_rows.specs.Columns.{line_typing}
 use Rattle.td_store_rows.specs.LineTable.{is_line_on, line_row_of}
 use Rattle.td_store_rows.specs.StoreTables.{tables_in}
-use Rattle.td_migrate.specs.Totals.{total_on}
-use Rattle.td_migrate.proofs.Counted.{of_guarantee}
+use Rattle.td_store_audit.specs.Totals.{total_on}
+use Rattle.td_store_audit.proofs.Counted.{of_guarantee}
 use Rattle.td_migrate.proofs.amounts.amount_if_in_range.Goals as goal
 use Rattle.typed_sql.proofs.OnlyRead.{still_has}
 

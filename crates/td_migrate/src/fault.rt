@@ -1,0 +1,47 @@
+//! Why a file isn't brought to the newest version.
+ghost use Rattle.td_migrate.specs.Upgraded.{IsKindOf, SaysNothing};
+
+use sqlite::{Error as SqlError, ErrorCode};
+use td_store::{OpenFault, Rule};
+use thiserror::Error;
+
+/// Why a file isn't brought to the newest version. Its line is what the program prints.
+#[derive(Clone, Copy, Debug, PartialEq, Eq, Error)]
+pub enum MigrateFault {
+    /// The tables are of no version that is known.
+    #[error("unknown-version")]
+    UnknownVersion,
+    /// The rows break a rule of sound tables: this, and none before it.
+    #[error("damaged {0}")]
+    Damaged(Rule),
+    /// The tables are none of a store of the version that the file says, or the store answered an error other than want of memory.
+    #[error("store")]
+    Store,
+    /// Want of memory.
+    #[error("no-memory")]
+    NoMemory,
+}
+
+/// The fault that says what an opening or an audit is refused for; `Store` for what neither a version nor an audit is.
+pub(crate) fn fault_of(fault: OpenFault) -> MigrateFault
+    ensures { IsKindOf fault result }
+{
+    match fault {
+        OpenFault::UnknownVersion => MigrateFault::UnknownVersion,
+        OpenFault::Damaged(rule) => MigrateFault::Damaged(rule),
+        OpenFault::NoMemory => MigrateFault::NoMemory,
+        OpenFault::NeedsMigration(_) | OpenFault::OtherCountry | OpenFault::Store => {
+            MigrateFault::Store
+        }
+    }
+}
+
+/// The fault that an error of the database is told as: want of memory where it says so, else the store's.
+pub(crate) fn fault_of_error(error: &SqlError) -> MigrateFault
+    ensures { SaysNothing result }
+{
+    match error {
+        SqlError::SqliteFailure(ErrorCode::OutOfMemory) => MigrateFault::NoMemory,
+        _ => MigrateFault::Store,
+    }
+}

@@ -1,0 +1,96 @@
+//! A file's version, and a file brought to the newest.
+ghost use Rattle.std.specs.Prelude.{◌≡◌, false, IsTrue, OnErr, OnOk};
+ghost use Rattle.sqlite.specs.Held.{state};
+ghost use Rattle.sqlite.specs.State.{HasCleanDisk, Survives};
+ghost use Rattle.td_store.specs.Kept.{CrashLeavesShown};
+ghost use Rattle.td_store.specs.Opened.{MaySay};
+ghost use Rattle.td_table_model.specs.Tables.{first_version};
+ghost use Rattle.td_migrate.specs.Upgraded.{MayLeaveUpgraded, TellsStep, TellsUpgrade, TellsVersion};
+
+use crate::fault::{MigrateFault, fault_of, fault_of_error};
+use crate::growing::grow_to_2;
+use sqlite::Connection;
+use sqlite_trees::store::Alter;
+use std::alloc::Global;
+use td_schema::NEWEST_VERSION;
+use td_store::{audit, file_version};
+
+/// The version of the tables in a file, from 1 to the newest, as the office's own row says it. `UnknownVersion`: there is no table
+/// `meta`, or it is the first and has no such row; `Store`: the tables are none of a store, or the database answered an error other
+/// than want of memory; `NoMemory`: want of memory. Nothing is changed, and a crash leaves what it could before.
+pub fn version<S: Alter>(alloc: Global, conn: &mut Connection<S>) -> Result<u32, MigrateFault>
+    requires { conn.old.in_transaction ≡ false }
+    ensures ended { conn.new.in_transaction ≡ false }
+    ensures live { HasCleanDisk (state S.Store conn.new) → IsTrue (state S.Store conn.new).is_open → IsTrue (state S.Store conn.old).is_open }
+    ensures shown { HasCleanDisk (state S.Store conn.new)
+        → OnOk result (IsTrue (state S.Store conn.old).is_open × IsTrue (state S.Store conn.new).is_open) }
+    ensures told { HasCleanDisk (state S.Store conn.new) → TellsVersion (state S.Store conn.old).now result }
+    ensures same { HasCleanDisk (state S.Store conn.new) → IsTrue (state S.Store conn.new).is_open
+        → (state S.Store conn.new).now ≡ (state S.Store conn.old).now }
+    ensures crash { Survives (state S.Store conn.old) (state S.Store conn.new) (λ _. ⊥) }
+{
+    match file_version(alloc, conn) {
+        Ok(version) => Ok(version),
+        Err(fault) => Err(fault_of(fault)),
+    }
+}
+
+// From version 1 to version 2, after the rows were audited.
+fn step_to_2<S: Alter>(alloc: Global, conn: &mut Connection<S>) -> Result<(), MigrateFault>
+    requires outside { conn.old.in_transaction ≡ false }
+    requires first { HasCleanDisk (state S.Store conn.old) → MaySay first_version (state S.Store conn.old).now.trees }
+    ensures ended { conn.new.in_transaction ≡ false }
+    ensures live { HasCleanDisk (state S.Store conn.new) → IsTrue (state S.Store conn.new).is_open → IsTrue (state S.Store conn.old).is_open }
+    ensures told { HasCleanDisk (state S.Store conn.new) → TellsStep (state S.Store conn.old).now (state S.Store conn.new) result }
+    ensures err { HasCleanDisk (state S.Store conn.new) → IsTrue (state S.Store conn.new).is_open
+        → OnErr result ((state S.Store conn.new).now ≡ (state S.Store conn.old).now) }
+    ensures crash { Survives (state S.Store conn.old) (state S.Store conn.new) (MayLeaveUpgraded (state S.Store conn.old).now) }
+{
+    if let Err(fault) = audit(alloc, conn, 1) {
+        return Err(fault_of(fault));
+    }
+    match grow_to_2(alloc, conn) {
+        Ok(()) => Ok(()),
+        Err(error) => Err(fault_of_error(&error)),
+    }
+}
+
+// Version by version to the newest, which it answers.
+fn go_on<S: Alter>(alloc: Global, conn: &mut Connection<S>) -> Result<u32, MigrateFault>
+    requires { conn.old.in_transaction ≡ false }
+    ensures ended { conn.new.in_transaction ≡ false }
+    ensures live { HasCleanDisk (state S.Store conn.new) → IsTrue (state S.Store conn.new).is_open → IsTrue (state S.Store conn.old).is_open }
+    ensures told { HasCleanDisk (state S.Store conn.new) → IsTrue (state S.Store conn.new).is_open
+        → TellsUpgrade (state S.Store conn.old).now (state S.Store conn.new) result }
+    ensures err { HasCleanDisk (state S.Store conn.new) → IsTrue (state S.Store conn.new).is_open
+        → OnErr result ((state S.Store conn.new).now ≡ (state S.Store conn.old).now) }
+    ensures crash { Survives (state S.Store conn.old) (state S.Store conn.new) (MayLeaveUpgraded (state S.Store conn.old).now) }
+{
+    let found = version(alloc, conn)?;
+    if found < NEWEST_VERSION {
+        step_to_2(alloc, conn)?;
+    }
+    Ok(NEWEST_VERSION)
+}
+
+/// Brings a file to the newest version of the tables, and answers that: one transaction for each version, whole or not begun, after
+/// the rows of the version before were audited. A file of the newest version is left as it is, and its rows aren't audited.
+/// `UnknownVersion`: as `version` says; `Damaged`: the rows break this rule of sound tables, and none before it; `Store`: the tables
+/// are none of the version that the office's own row says, or the database answered an error other than want of memory; `NoMemory`:
+/// want of memory. With a fault the file is as it was found. A crash during the call leaves what it could leave before, or the file
+/// of the next version with the same content; after it exactly what the connection shows.
+pub fn upgrade<S: Alter>(alloc: Global, conn: &mut Connection<S>) -> Result<u32, MigrateFault>
+    requires { conn.old.in_transaction ≡ false }
+    ensures ended { conn.new.in_transaction ≡ false }
+    ensures live { HasCleanDisk (state S.Store conn.new) → IsTrue (state S.Store conn.new).is_open → IsTrue (state S.Store conn.old).is_open }
+    ensures told { HasCleanDisk (state S.Store conn.new) → IsTrue (state S.Store conn.new).is_open
+        → TellsUpgrade (state S.Store conn.old).now (state S.Store conn.new) result }
+    ensures err { HasCleanDisk (state S.Store conn.new) → IsTrue (state S.Store conn.new).is_open
+        → OnErr result ((state S.Store conn.new).now ≡ (state S.Store conn.old).now) }
+    ensures crash { Survives (state S.Store conn.old) (state S.Store conn.new) (MayLeaveUpgraded (state S.Store conn.old).now) }
+    ensures settled { CrashLeavesShown (state S.Store conn.new) }
+{
+    let result = go_on(alloc, conn);
+    let _settled = conn.is_autocommit();
+    result
+}
