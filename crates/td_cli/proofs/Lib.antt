@@ -5,6 +5,7 @@ mod ServedConnections
 mod Agreeing
 mod Runs
 mod Batches
+mod LeftAtDesks
 mod KeptRows
 mod SentAgain
 mod Later

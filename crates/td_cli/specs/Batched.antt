@@ -1,5 +1,5 @@
--- A file of rows, done at a desk over a file.
-use Rattle.std.specs.Prelude.{◌≡◌, ◌⊎◌, ℕ, ℤ, Bool, List, ◌++◌, codes, Option, Some, None, Result, Ok, if◌then◌else◌}
+-- A file of rows, done at a desk.
+use Rattle.std.specs.Prelude.{◌≡◌, ◌⊎◌, ℕ, ℤ, Bool, List, ◌++◌, codes, Option, Some, None, Result, Ok, Err, if◌then◌else◌}
 use Rattle.std.specs.Fmt.{decimal}
 use Rattle.std.specs.Io.KnownBytes.{Appends}
 use Rattle.sqlite_wal.specs.Recovery.{Image}
@@ -11,7 +11,8 @@ use Rattle.td_commands.specs.declared.command.Command.{Command}
 use Rattle.td_commands.specs.declared.said.Said.{Said}
 use Rattle.td_desk.specs.declared.fault.Fault.{Fault}
 use Rattle.td_desk.specs.declared.fault.Fault.TheVariants as fault
-use Rattle.td_files.specs.Found.{FileSeen, IsKeptDesk, IsLeftAsFound, IsToldOf, over_file}
+use Rattle.td_desk.specs.View.{DeskView}
+use Rattle.td_files.specs.Found.{FileSeen}
 use Rattle.td_files.specs.declared.desks.DeskFault.{DeskFault}
 use Rattle.td_batch.specs.declared.fault.BatchFault.{BatchFault}
 use Rattle.td_batch.specs.declared.fault.BatchFault.TheVariants as batch
@@ -23,9 +24,11 @@ use Rattle.td_batch.specs.Rows.{Place, Tells}
 use Rattle.td_batch.specs.Runs.{IsRunOf, has_refusal}
 use Rattle.td_words.specs.declared.words.BatchKind.{BatchKind}
 use Rattle.td_words.specs.declared.words.BatchKind.TheVariants as kind
+use Rattle.td_words.specs.declared.words.Records.{Records}
+use Rattle.td_cli.specs.AtDesk.{AtDesk}
 use Rattle.td_cli.specs.declared.batching.Rows.{Rows}
 use Rattle.td_cli.specs.declared.batching.Rows.TheVariants as rows
-use Rattle.td_cli.specs.Desks.{BeginsKept, IsMoment}
+use Rattle.td_cli.specs.Desks.{IsMoment}
 use Rattle.td_cli.specs.Statuses.{IsFaultTold, IsTold}
 
 -- the rows that bytes are, or the first bad row and column
@@ -83,28 +86,44 @@ abbrev pub IsRunTold : {W E : Type 0} → (W → Option (List ℕ)) → (E → O
 IsRunTold contents said r out out_left errors errors_left status =
     IsTextTold contents said r.text.items (has_refusal r) r.stopped out out_left errors errors_left status
 
--- Rows were done at a desk of the country over what the file held, all at one moment, which is this one or the machine's, and what
--- became of them was told; the file shows the desk that they left. Or there was no desk, for this fault, nothing was printed, and
--- the file shows what it held.
+-- Rows were done, all at one moment, which the clock showed as it was asked once, at a desk that is seen so, and began and ended so.
+pub record HasDoneRows {D C : Type 0} (view : DeskView D) (begins ends : D → Type 0) (ticks : C → ℤ → C → Type 0)
+    (which : BatchKind) (commands : List Command) (clock : C) (r : BatchRun) : Type 0 where
+  pub opened : D
+  pub left : D
+  pub clock_left : C
+  pub moment : ℤ
+  pub begun : begins opened
+  pub ended : ends left
+  pub asked : ticks clock moment clock_left
+  pub ran : IsRunOf view (λ _ _ _. Unit {0}) (line_of which) (header_of which) moment commands r opened left
+
+-- what a run left was told; or there was no desk for it, for this fault, which was told, and nothing was printed
+abbrev pub IsBatchTold : {W E : Type 0} → (W → Option (List ℕ)) → (E → Option (List ℕ)) → Result BatchRun DeskFault
+    → Counted W → Counted W → Counted E → Counted E → ℕ → Type 0
+IsBatchTold contents said (Ok r) out out_left errors errors_left status = IsRunTold contents said r out out_left errors errors_left status
+IsBatchTold contents said (Err why) out out_left errors errors_left status =
+    (out_left ≡ out) × IsFaultTold said errors errors_left why status
+
+-- Rows were done at a desk whose records stand there, in this country, at this moment or at one of the machine's clock, and what
+-- became of them was told; or there was no desk.
 abbrev pub IsBatchAtDesk : {W E S : Type 0} {disk : Ghosts S} → (W → Option (List ℕ)) → (E → Option (List ℕ)) → Image → List ℕ → Option ℤ
-    → BatchKind → List Command → Counted W → Counted W → Counted E → Counted E
+    → Records → BatchKind → List Command → Counted W → Counted W → Counted E → Counted E
     → Option (FileSeen disk) → Option (FileSeen disk) → ℕ → Type 0
-IsBatchAtDesk {disk = disk} contents said image country at which commands out out_left errors errors_left before file status =
-    ((opened left : FileSeen disk) × (moment : ℤ) × (r : BatchRun)
-    × BeginsKept image country opened × (file ≡ Some left) × IsKeptDesk left × IsMoment at tt moment tt
-    × IsRunOf over_file (λ _ _ _. Unit {0}) (line_of which) (header_of which) moment commands r opened left
-    × IsRunTold contents said r out out_left errors errors_left status)
-    ⊎ ((why : DeskFault) × IsToldOf image country file why × IsLeftAsFound image before file × (out_left ≡ out)
-    × IsFaultTold said errors errors_left why status)
+IsBatchAtDesk contents said image country at records which commands out out_left errors errors_left before file status =
+    (end : Result BatchRun DeskFault)
+    × AtDesk image country records
+    (λ D view begins ends r. HasDoneRows {C = Unit {0}} view begins ends (IsMoment at) which commands tt r) (Unit {0}) before file end
+    × IsBatchTold contents said end out out_left errors errors_left status
 
 -- A file of rows was done. It couldn't be read, or it isn't wholly rows: then nothing was printed, and the desk's file wasn't opened.
 -- Or these bytes were read of it, which are these rows, and they were done at the desk.
 abbrev pub IsBatched : {W E S : Type 0} {disk : Ghosts S} → (W → Option (List ℕ)) → (E → Option (List ℕ)) → Image → List ℕ → Option ℤ
-    → BatchKind → Counted W → Counted W → Counted E → Counted E → Option (FileSeen disk) → Option (FileSeen disk) → ℕ → Type 0
-IsBatched contents said image country at which out out_left errors errors_left before file status =
+    → Records → BatchKind → Counted W → Counted W → Counted E → Counted E → Option (FileSeen disk) → Option (FileSeen disk) → ℕ → Type 0
+IsBatched contents said image country at records which out out_left errors errors_left before file status =
     ((out_left ≡ out) × (file ≡ before) × (status ≡ 1)
     × (IsTold said errors errors_left (codes "transit-desk: file\n") ⊎ IsTold said errors errors_left (codes "transit-desk: no-memory\n")))
     ⊎ (((bytes : List ℕ) × (why : BatchFault) × Tells (rows_in which bytes) why
     × (out_left ≡ out) × (file ≡ before) × IsBatchFaultTold said errors errors_left why status)
     ⊎ ((bytes : List ℕ) × (commands : List Command) × (rows_in which bytes ≡ Ok commands)
-    × IsBatchAtDesk contents said image country at which commands out out_left errors errors_left before file status))
+    × IsBatchAtDesk contents said image country at records which commands out out_left errors errors_left before file status))

@@ -7,8 +7,8 @@ use Rattle.http_wire.specs.declared.reply.Reply.{Reply}
 use Rattle.http_wire.specs.Wire.{Asked}
 use Rattle.td_http.specs.Connections.{Between, IsRefused, ServedConnections, ServesSockets, SocketConnection}
 use Rattle.td_desk.specs.View.{DeskView}
-use Rattle.td_cli.specs.Desks.{IsHandledAt, IsHeadHandledAt, Shows, view_by}
-use Rattle.td_cli.specs.Listening.{HasServed, IsUnserved, ServesAs}
+use Rattle.td_cli.specs.Desks.{IsHandledAt, IsHeadHandledAt, IsUnserved, Shows, view_by}
+use Rattle.td_cli.specs.Listening.{HasServed, ServesAs}
 use Rattle.td_cli.specs.StreamsSeen.{chain_keeps, handled_seen, head_seen, serves_seen}
 use Rattle.td_cli.specs.declared.serving.ServingEnd.{ServingEnd}
 use Rattle.td_cli.specs.declared.serving.ServingEnd.TheVariants.{Done, NoMemory, Socket, Write}
@@ -91,7 +91,7 @@ served_seen view see begins ends begins' ends' contents ticks moments look port 
     }
 
 -- what is seen of a desk that served no request
-unserved_seen : {D D' : Type 0} (see : D → D') (begins ends : D → Type 0) (begins' ends' : D' → Type 0)
+pub unserved_seen : {D D' : Type 0} (see : D → D') (begins ends : D → Type 0) (begins' ends' : D' → Type 0)
     → ((d : D) → begins d → begins' (see d)) → ((d : D) → ends d → ends' (see d)) → IsUnserved begins ends → IsUnserved begins' ends'
 unserved_seen see begins ends begins' ends' begin close is = (see is.0, begin is.0 is.1, close is.0 is.2)
 

@@ -65,6 +65,10 @@ BeginsIn true = BeginsMade
 abbrev pub IsReady : {D : Type 0} → DeskView D → D → Type 0
 IsReady view d = view.is_clean d → view.is_live d × IsSound (view.content d)
 
+-- no request was served: the desk that began is the one that is left
+abbrev pub IsUnserved : {D : Type 0} → (D → Type 0) → (D → Type 0) → Type 0
+IsUnserved {D} begins ends = (d : D) × begins d × ends d
+
 -- two desks of one country that have the same of H
 abbrev pub BeginAlike : List ℕ → ℕ → Content → Content → Type 0
 BeginAlike country H one other =

@@ -6,6 +6,8 @@ pub mod Listening
 pub mod StreamsSeen
 pub mod ConnectionsSeen
 pub mod Batched
+pub mod RowsSeen
+pub mod Migrated
 pub mod Performed
 pub mod Runs
 pub mod BatchLaws

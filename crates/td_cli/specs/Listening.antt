@@ -17,7 +17,7 @@ use Rattle.td_files.specs.declared.desks.DeskFault.{DeskFault}
 use Rattle.td_http.specs.Private.{IsServedOver}
 use Rattle.td_http.specs.Connections.{ServesSockets}
 use Rattle.td_cli.specs.AtDesk.{AtDesk, IsUntouched}
-use Rattle.td_cli.specs.Desks.{IsHandledAt, IsHeadHandledAt, IsMoment}
+use Rattle.td_cli.specs.Desks.{IsHandledAt, IsHeadHandledAt, IsMoment, IsUnserved}
 use Rattle.td_words.specs.declared.words.Listening.{Listening}
 use Rattle.td_words.specs.declared.words.Records.{Records}
 use Rattle.td_cli.specs.declared.serving.PrintedLines.{PrintedLines}
@@ -55,10 +55,6 @@ pub record HasServed {D W C : Type 0} (view : DeskView D) (begins ends : D → T
       → (c : Content) × IsServedOver (view.content opened).country books
       (map (λ connection. connection.exchanges) served.all_served) c
       × (view.is_live left → view.content left ≡ c)
-
--- no request was served: the desk that began is the one that is left
-abbrev pub IsUnserved : {D : Type 0} → (D → Type 0) → (D → Type 0) → Type 0
-IsUnserved {D} begins ends = (d : D) × begins d × ends d
 
 -- What a serving at a desk leaves that ended so. Without memory for what is printed, and where the port couldn't be listened on,
 -- nothing was printed and no request served; all connections were served where that is printed in the end, or couldn't be.

@@ -1,63 +1,84 @@
 -- What the program does with its words, its input and its outputs.
-use Rattle.std.specs.Prelude.{◌≡◌, ◌≢◌, ◌⊎◌, ℕ, ℤ, List, codes, Option, Some, Result}
+use Rattle.std.specs.Prelude.{◌≡◌, ◌≢◌, ◌⊎◌, ℕ, ℤ, List, codes, Option, Result, Ok, Err}
 use Rattle.std.specs.IoError.{error_kind}
 use Rattle.std.specs.declared.io.Error.{Error}
 use Rattle.std.specs.declared.io.ErrorKind.TheVariants.{OutOfMemory}
 use Rattle.sqlite_wal.specs.Recovery.{Image}
 use Rattle.counted_io.specs.declared.counted.Counted.{Counted}
 use Rattle.sqlite_disk.specs.declared.Disk.{Ghosts}
-use Rattle.td_files.specs.Found.{FileSeen, IsKeptDesk, IsLeftAsFound, IsToldOf}
+use Rattle.td_files.specs.Found.{FileSeen}
 use Rattle.td_files.specs.declared.desks.DeskFault.{DeskFault}
 use Rattle.http_wire.specs.declared.stream.StreamEnd.{StreamEnd}
+use Rattle.td_words.specs.declared.words.Job.{Job}
+use Rattle.td_words.specs.declared.words.Job.TheVariants.{AtDesk, Migrate}
 use Rattle.td_words.specs.declared.words.NoJob.{NoJob}
+use Rattle.td_words.specs.declared.words.Records.{Records}
+use Rattle.td_words.specs.declared.words.Records.TheVariants.{File}
 use Rattle.td_words.specs.declared.words.Task.{Task}
 use Rattle.td_words.specs.declared.words.Task.TheVariants.{Serve, Pipe, Batch, Check}
 use Rattle.td_words.specs.Words.{AsksFor, IsNoJob}
 use Rattle.td_cli.specs.declared.serving.ServingEnd.{ServingEnd}
+use Rattle.td_cli.specs.AtDesk as desks
 use Rattle.td_cli.specs.Batched.{IsBatched}
-use Rattle.td_cli.specs.Desks.{BeginsKept}
+use Rattle.td_cli.specs.Desks.{IsUnserved}
+use Rattle.td_cli.specs.Migrated.{IsMigrated}
 use Rattle.td_cli.specs.Piped.{PipesAs}
 use Rattle.td_cli.specs.Listening.{IsServing}
 use Rattle.td_cli.specs.Statuses.{IsAnswered, IsEndTold, IsFaultTold, IsPrinted, IsServingTold, IsTold}
 
--- A file that held this was tested, and what was found was told: it is sound where a desk of the country was opened over it,
--- which the file then shows, and else why none was, and then it shows what it held.
-abbrev pub IsChecked : {W E S : Type 0} {disk : Ghosts S} → (W → Option (List ℕ)) → (E → Option (List ℕ)) → Image → List ℕ
+-- what was found was told: sound where a desk was opened, or why there was none
+abbrev pub IsCheckTold : {W E : Type 0} → (W → Option (List ℕ)) → (E → Option (List ℕ)) → Result (Unit {0}) DeskFault
+    → Counted W → Counted W → Counted E → Counted E → ℕ → Type 0
+IsCheckTold contents said (Ok opened) out out_left errors errors_left status =
+    IsPrinted contents said out out_left errors errors_left (codes "sound\n") status
+IsCheckTold contents said (Err why) out out_left errors errors_left status =
+    (out_left ≡ out) × IsFaultTold said errors errors_left why status
+
+-- Records were tested: a desk of the country was opened where they stand, and left as it was, or there was none; and that was told.
+abbrev pub IsChecked : {W E S : Type 0} {disk : Ghosts S} → (W → Option (List ℕ)) → (E → Option (List ℕ)) → Image → List ℕ → Records
     → Counted W → Counted W → Counted E → Counted E → Option (FileSeen disk) → Option (FileSeen disk) → ℕ → Type 0
-IsChecked {disk = disk} contents said image country out out_left errors errors_left before file status =
-    ((s : FileSeen disk) × (file ≡ Some s) × IsKeptDesk s × BeginsKept image country s
-    × IsPrinted contents said out out_left errors errors_left (codes "sound\n") status)
-    ⊎ ((why : DeskFault) × IsToldOf image country file why × IsLeftAsFound image before file × (out_left ≡ out)
-    × IsFaultTold said errors errors_left why status)
+IsChecked contents said image country records out out_left errors errors_left before file status =
+    (end : Result (Unit {0}) DeskFault)
+    × desks.AtDesk image country records (λ D view begins ends opened. IsUnserved begins ends) (Unit {0}) before file end
+    × IsCheckTold contents said end out out_left errors errors_left status
 
 -- A task was done, in this country and at this moment or by the machine's clock, and how it ended was told: one stream from the
 -- input to the first writer; connections, for which the input isn't read; a file of rows; or a file was tested, of which the image is what it
 -- held. The file is what a connection to it shows before the task and after it, if one is there.
-abbrev pub IsDone : {R W E S : Type 0} {disk : Ghosts S} → (R → Option (List ℕ)) → (W → Option (List ℕ)) → (E → Option (List ℕ)) → Image
+abbrev pub IsTaskDone : {R W E S : Type 0} {disk : Ghosts S} → (R → Option (List ℕ)) → (W → Option (List ℕ)) → (E → Option (List ℕ)) → Image
     → Task → List ℕ → Option ℤ → Counted R → Counted R → Counted W → Counted W → Counted E → Counted E
     → Option (FileSeen disk) → Option (FileSeen disk) → ℕ → Type 0
-IsDone remaining contents said image (Pipe records) country at reader reader_left writer writer_left errors errors_left before file status =
+IsTaskDone remaining contents said image (Pipe records) country at reader reader_left writer writer_left errors errors_left before file status =
     (end : Result StreamEnd DeskFault)
     × PipesAs remaining contents image country at records reader reader_left writer writer_left before file end
     × IsEndTold said errors errors_left end status
-IsDone remaining contents said image (Serve listening records) country at reader reader_left writer writer_left errors errors_left before file status =
+IsTaskDone remaining contents said image (Serve listening records) country at reader reader_left writer writer_left errors errors_left before file status =
     (end : Result ServingEnd DeskFault)
     × IsServing contents image country at records listening.port listening.connections reader reader_left writer writer_left before file end
     × IsServingTold said errors errors_left end status
-IsDone remaining contents said image (Batch which csv records) country at reader reader_left writer writer_left errors errors_left before file status =
-    (reader_left ≡ reader) × IsBatched contents said image country at which writer writer_left errors errors_left before file status
-IsDone remaining contents said image (Check path) country at reader reader_left writer writer_left errors errors_left before file status =
-    (reader_left ≡ reader) × IsChecked contents said image country writer writer_left errors errors_left before file status
+IsTaskDone remaining contents said image (Batch which csv records) country at reader reader_left writer writer_left errors errors_left before file status =
+    (reader_left ≡ reader) × IsBatched contents said image country at (File records) which writer writer_left errors errors_left before file status
+IsTaskDone remaining contents said image (Check path) country at reader reader_left writer writer_left errors errors_left before file status =
+    (reader_left ≡ reader) × IsChecked contents said image country (File path) writer writer_left errors errors_left before file status
 
--- The words ask for a task, which was done in that country and at that moment. Or they were given none, for want of memory, or
+-- A job was done: a task at a desk of an office, or a file was brought to the newest version, for which the input isn't read.
+abbrev pub IsDone : {R W E S : Type 0} {disk : Ghosts S} → (R → Option (List ℕ)) → (W → Option (List ℕ)) → (E → Option (List ℕ)) → Image
+    → Job → Counted R → Counted R → Counted W → Counted W → Counted E → Counted E
+    → Option (FileSeen disk) → Option (FileSeen disk) → ℕ → Type 0
+IsDone remaining contents said image (AtDesk office task) reader reader_left writer writer_left errors errors_left before file status =
+    IsTaskDone remaining contents said image task office.country office.at reader reader_left writer writer_left errors errors_left before file status
+IsDone remaining contents said image (Migrate path) reader reader_left writer writer_left errors errors_left before file status =
+    (reader_left ≡ reader) × IsMigrated contents said image writer writer_left errors errors_left before file status
+
+-- The words ask for a job, which was done. Or they were given none, for want of memory, or
 -- since they ask for help, or for no task at all: then nothing was read, no file was opened, and they were answered. The image is
 -- what the file held that the words name, if they name one.
 abbrev pub IsPerformed : {R W E S : Type 0} {disk : Ghosts S} → (R → Option (List ℕ)) → (W → Option (List ℕ)) → (E → Option (List ℕ)) → Image
     → List (List ℕ) → Counted R → Counted R → Counted W → Counted W → Counted E → Counted E
     → Option (FileSeen disk) → Option (FileSeen disk) → ℕ → Type 0
 IsPerformed remaining contents said image words reader reader_left writer writer_left errors errors_left before file status =
-    ((task : Task) × (country : List ℕ) × (at : Option ℤ) × AsksFor words task country at
-    × IsDone remaining contents said image task country at reader reader_left writer writer_left errors errors_left before file status)
+    ((job : Job) × AsksFor words job
+    × IsDone remaining contents said image job reader reader_left writer writer_left errors errors_left before file status)
     ⊎ ((no_job : NoJob) × IsNoJob words no_job × (reader_left ≡ reader) × (file ≡ before)
     × IsAnswered contents said writer writer_left errors errors_left no_job status)
 

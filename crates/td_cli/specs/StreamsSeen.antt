@@ -144,7 +144,7 @@ module _ {C C' H H' : Type 0} (ticks : C → ℤ → C → Type 0) (moments : C'
         }
 
 -- what a crash leaves of a desk, said of what is seen of the desk
-alone_seen : {D D' : Type 0} (see : D → D') (view : DeskView D') (d : D) (c : Content) → LeavesOnly (view_by see view) d c → LeavesOnly view (see d) c
+pub alone_seen : {D D' : Type 0} (see : D → D') (view : DeskView D') (d : D) (c : Content) → LeavesOnly (view_by see view) d c → LeavesOnly view (see d) c
 alone_seen see view d c is = record { only = is.only; recovers = is.recovers }
 
 alone_back : {D D' : Type 0} (see : D → D') (view : DeskView D') (d : D) (c : Content) → LeavesOnly view (see d) c → LeavesOnly (view_by see view) d c
@@ -154,7 +154,7 @@ adds_seen : {D D' : Type 0} (see : D → D') (view : DeskView D') (added : Conte
     → AddsAtMost view added (see old) (see new)
 adds_seen see view added old new is = record { outcomes = is.outcomes; recovers = is.recovers }
 
-left_seen : {D D' : Type 0} (see : D → D') (view : DeskView D') (old : D) (s : Stamped) (failed : Bool) (new : D)
+pub left_seen : {D D' : Type 0} (see : D → D') (view : DeskView D') (old : D) (s : Stamped) (failed : Bool) (new : D)
     → LeavesAfter (view_by see view) old s failed new → LeavesAfter view (see old) s failed (see new)
 left_seen see view old s false new is = λ sound. (
   λ accepted. alone_seen see view new (view.content (see new)) ((is sound).0 accepted),

@@ -11,11 +11,11 @@ ghost use Rattle.td_cli.specs.Desks.{BeginsEmpty, IsMoment, IsReady, in_memory};
 use crate::clock::{FixedClock, MachineClock};
 use sqlite::Start;
 use std::io::{Read, Write};
-use td_base::{Counted, Country};
+use td_base::Counted;
 use td_desk::{Desk, PlainDesk};
 use td_files::{DeskFault, DeskFile, FileDesk, OpenFault};
 use td_http::Clock;
-use td_words::Records;
+use td_words::{Office, Records};
 
 /// A job that is done at a desk, wherever its records stand.
 pub(crate) trait DeskJob {
@@ -40,15 +40,6 @@ pub(crate) trait DeskJob {
         ensures { IsReady D.seen desk
             → does _ _ _ _ D.seen
             (λ d. d ≡ desk) (λ d. d ≡ result.1) R.remaining W.contents C.ticks self.now input.old input.new out.old out.new clock result.0 };
-}
-
-/// The office that a job is done for.
-#[derive(Clone, Copy)]
-pub(crate) struct Office {
-    /// Its country.
-    pub(crate) country: Country,
-    /// The moment of all requests, in seconds since 1970; with none, the machine's clock is asked.
-    pub(crate) at: Option<i64>,
 }
 
 /// Does a job at a desk of the office whose records stand there, and answers how it ended. An error: why there was no

@@ -1,17 +1,17 @@
-//! Batches: a file of rows, done at a desk over a file.
+//! Batches: a file of rows, done at a desk.
 ghost use Rattle.std.specs.Prelude.{◌≡◌, ◌⊎◌, Ok, IfErr, IfOk, codes, string_bytes};
 ghost use Rattle.sqlite.specs.WalFiles.{image_at};
 ghost use Rattle.td_batch.specs.Rows.{Tells};
 ghost use Rattle.td_batch.specs.Runs.{IsRunOf};
-ghost use Rattle.td_cli.specs.Batched.{IsBatchAtDesk, IsBatchFaultTold, IsBatched, IsRunTold, commands_of, header_of, kind_of, line_of, message_of_batch_fault, message_of_stop, rows_in};
-ghost use Rattle.td_cli.specs.Desks.{IsMoment};
+ghost use Rattle.td_cli.specs.AtDesk.{IsUntouched};
+ghost use Rattle.td_cli.specs.Batched.{HasDoneRows, IsBatchAtDesk, IsBatchFaultTold, IsBatchTold, IsBatched, IsRunTold, commands_of, header_of, kind_of, line_of, message_of_batch_fault, message_of_stop, rows_in};
+ghost use Rattle.td_cli.specs.RowsSeen.{rows_seen};
 
-use crate::at_desk::Office;
-use crate::clock::MachineClock;
+use crate::at_desk::{DeskJob, at_desk};
 use crate::telling::{DONE, FAULT, NO_MEMORY, fault, tell_desk_fault};
 use sqlite::Start;
 use std::alloc::{AllocError, Global};
-use std::io::{ErrorKind, Write};
+use std::io::{ErrorKind, Read, Write};
 use std::{fs, io};
 use td_base::{Counted, write_whole};
 use td_batch::{
@@ -19,9 +19,9 @@ use td_batch::{
     run_declarations,
 };
 use td_desk::{Desk, Fault};
-use td_files::DeskFile;
+use td_files::{DeskFault, DeskFile};
 use td_http::Clock;
-use td_words::BatchKind;
+use td_words::{BatchKind, Office, Records};
 
 /// The rows of a file.
 #[derive(Drop)]
@@ -52,27 +52,54 @@ impl Rows {
     }
 }
 
-/// Does the rows of the file at the path `csv` at a desk of the office over the file at the path `records`, prints what
-/// became of each, and gives the status. The desk's file isn't opened where the rows can't be read.
-pub(crate) fn batch<S: Start, W: Write, E: Write>(
+/// The job that does rows at one moment, for which the clock is asked once, and answers what became of them. It reads and
+/// prints nothing: what is printed of them is in its answer.
+impl DeskJob for Rows {
+    type End = BatchRun;
+
+    ghost does = { λ D R W C view begins ends remaining contents ticks job reader reader_left writer writer_left clock run.
+        IsUntouched reader reader_left writer writer_left
+        × HasDoneRows view begins ends ticks (kind_of job) (commands_of job) clock run };
+
+    ghost seen = { λ D D' R W C C' view see begins ends begins' ends' remaining contents ticks moments look job reader reader_left writer writer_left clock run begin close shows does.
+        (does.0, rows_seen view see begins ends begins' ends' ticks moments look (kind_of job) (commands_of job) clock run begin close shows does.1) };
+
+    fn on<D: Desk + Drop, C: Clock + Drop, R: Read, W: Write>(
+        &self,
+        rt: &HostRuntime,
+        mut desk: D,
+        mut clock: C,
+        _input: &mut Counted<R>,
+        _out: &mut Counted<W>,
+    ) -> (BatchRun, D) {
+        let run = self.run(rt.alloc(), &mut desk, clock.seconds());
+        (run, desk)
+    }
+}
+
+/// Does the rows of the file at the path `csv` at a desk of the office whose records stand there, prints what became of
+/// each, and gives the status. The desk's file isn't opened where the rows can't be read. The input isn't read.
+pub(crate) fn batch<S: Start, R: Read, W: Write, E: Write>(
     rt: &HostRuntime,
     office: Office,
     kind: BatchKind,
     csv: &str,
-    records: &str,
+    records: &Records,
     file: &mut DeskFile<S>,
+    input: &mut Counted<R>,
     out: &mut Counted<W>,
     errors: &mut Counted<E>,
 ) -> u8
-    ensures { IsBatched W.contents E.contents (image_at S.Start) office.country office.at kind out.old out.new errors.old errors.new
-        file.old.connection file.new.connection result }
+    ensures unread { input.new ≡ input.old }
+    ensures done { IsBatched W.contents E.contents (image_at S.Start) office.country office.at records.now kind
+        out.old out.new errors.old errors.new file.old.connection file.new.connection result }
 {
     let bytes = match fs::read(rt, csv) {
         Ok(bytes) => bytes,
         Err(error) => return fault(errors, unread_line(&error)),
     };
     match Rows::read(rt.alloc(), kind, &bytes) {
-        Ok(rows) => do_rows(rt, office, &rows, records, file, out, errors),
+        Ok(rows) => do_rows(rt, office, &rows, records, file, input, out, errors),
         Err(why) => tell_batch_fault(rt.alloc(), why, errors),
     }
 }
@@ -109,34 +136,36 @@ fn tell_batch_fault<E: Write>(alloc: Global, why: BatchFault, errors: &mut Count
 }
 
 // Does the rows at the desk, and tells what became of them.
-fn do_rows<S: Start, W: Write, E: Write>(
+fn do_rows<S: Start, R: Read, W: Write, E: Write>(
     rt: &HostRuntime,
     office: Office,
     rows: &Rows,
-    records: &str,
+    records: &Records,
     file: &mut DeskFile<S>,
+    input: &mut Counted<R>,
     out: &mut Counted<W>,
     errors: &mut Counted<E>,
 ) -> u8
-    ensures { IsBatchAtDesk W.contents E.contents (image_at S.Start) office.country office.at (kind_of rows.now) (commands_of rows.now)
+    ensures unread { input.new ≡ input.old }
+    ensures done { IsBatchAtDesk W.contents E.contents (image_at S.Start) office.country office.at records.now (kind_of rows.now) (commands_of rows.now)
         out.old out.new errors.old errors.new file.old.connection file.new.connection result }
 {
-    let mut desk = match file.open_desk(rt, office.country, records) {
-        Ok(desk) => desk,
-        Err(why) => return tell_desk_fault(rt.alloc(), why, errors),
-    };
-    let run = rows.run(rt.alloc(), &mut desk, moment(rt, office.at));
-    file.keep(desk);
-    tell_run(&run, out, errors)
+    let end = at_desk(rt, office, records, file, rows, input, out);
+    tell_batch(rt.alloc(), end, out, errors)
 }
 
-// The moment of all rows.
-fn moment(rt: &HostRuntime, at: Option<i64>) -> i64
-    ensures { IsMoment at tt result tt }
+// Tells what became of the rows, or why there was no desk for them, and gives the status.
+fn tell_batch<W: Write, E: Write>(
+    alloc: Global,
+    end: Result<BatchRun, DeskFault>,
+    out: &mut Counted<W>,
+    errors: &mut Counted<E>,
+) -> u8
+    ensures { IsBatchTold W.contents E.contents end out.old out.new errors.old errors.new result }
 {
-    match at {
-        Some(at) => at,
-        None => MachineClock { rt }.seconds(),
+    match end {
+        Ok(run) => tell_run(&run, out, errors),
+        Err(why) => tell_desk_fault(alloc, why, errors),
     }
 }
 

@@ -1,18 +1,20 @@
 //! The jobs of the program.
 ghost use Rattle.std.specs.Prelude.{◌≡◌, map, string_bytes};
 ghost use Rattle.sqlite.specs.WalFiles.{image_at};
-ghost use Rattle.td_cli.specs.Performed.{IsChecked, IsDone, IsPerformed};
+ghost use Rattle.td_cli.specs.Performed.{IsDone, IsPerformed, IsTaskDone};
 ghost use Rattle.td_cli.specs.Statuses.{IsAnswered};
 
-use crate::at_desk::{Office, at_desk};
+use crate::at_desk::at_desk;
 use crate::batching::batch;
+use crate::checking::check;
+use crate::migrating::migrate;
 use crate::piping::Piping;
-use crate::telling::{WRONG_WORDS, fault, print, tell_desk_fault, tell_end, tell_serving};
+use crate::telling::{WRONG_WORDS, fault, print, tell_end, tell_serving};
 use sqlite::Start;
 use std::io::{Read, Write};
-use td_base::{Counted, Country, write_whole};
+use td_base::{Counted, write_whole};
 use td_files::DeskFile;
-use td_words::{Job, NoJob, Task, read_words};
+use td_words::{Job, NoJob, Office, Records, Task, read_words};
 
 /// Does what the words ask for, and gives the program's status. The first word is the program's name; replies
 /// go to `out`, and the text of wrong words, or one message for a fault, to `errors`. A text that can't be
@@ -45,12 +47,30 @@ fn do_job<S: Start, R: Read, W: Write, E: Write>(
     out: &mut Counted<W>,
     errors: &mut Counted<E>,
 ) -> u8
-    ensures { IsDone R.remaining W.contents E.contents (image_at S.Start) job.task job.country job.at
+    ensures { IsDone R.remaining W.contents E.contents (image_at S.Start) job
         input.old input.new out.old out.new errors.old errors.new
         file.old.connection file.new.connection result }
 {
-    let Job { task, country, at } = job;
-    let office = Office { country, at };
+    match job {
+        Job::AtDesk(office, task) => do_task(rt, office, task, file, input, out, errors),
+        Job::Migrate(path) => migrate(rt, &path, file, out, errors),
+    }
+}
+
+// Does the task at a desk of the office, tells how it ended, and gives the status.
+fn do_task<S: Start, R: Read, W: Write, E: Write>(
+    rt: &HostRuntime,
+    office: Office,
+    task: Task,
+    file: &mut DeskFile<S>,
+    input: &mut Counted<R>,
+    out: &mut Counted<W>,
+    errors: &mut Counted<E>,
+) -> u8
+    ensures { IsTaskDone R.remaining W.contents E.contents (image_at S.Start) task office.country office.at
+        input.old input.new out.old out.new errors.old errors.new
+        file.old.connection file.new.connection result }
+{
     match task {
         Task::Serve(listening, records) => {
             let end = at_desk(rt, office, &records, file, &listening, input, out);
@@ -60,31 +80,14 @@ fn do_job<S: Start, R: Read, W: Write, E: Write>(
             let end = at_desk(rt, office, &records, file, &Piping, input, out);
             tell_end(rt.alloc(), end, errors)
         }
-        Task::Batch(kind, csv, records) => {
-            batch(rt, office, kind, &csv, &records, file, out, errors)
+        Task::Batch(kind, csv, path) => {
+            let records = Records::File(path);
+            batch(rt, office, kind, &csv, &records, file, input, out, errors)
         }
-        Task::Check(path) => check(rt, country, &path, file, out, errors),
-    }
-}
-
-// Tells whether a desk of this country can be opened over the file at the path, and gives the status.
-fn check<S: Start, W: Write, E: Write>(
-    rt: &HostRuntime,
-    country: Country,
-    path: &str,
-    file: &mut DeskFile<S>,
-    out: &mut Counted<W>,
-    errors: &mut Counted<E>,
-) -> u8
-    ensures { IsChecked W.contents E.contents (image_at S.Start) country out.old out.new errors.old errors.new
-        file.old.connection file.new.connection result }
-{
-    match file.open_desk(rt, country, path) {
-        Ok(desk) => {
-            file.keep(desk);
-            print("sound\n", out, errors)
+        Task::Check(path) => {
+            let records = Records::File(path);
+            check(rt, office, &records, file, input, out, errors)
         }
-        Err(why) => tell_desk_fault(rt.alloc(), why, errors),
     }
 }
 

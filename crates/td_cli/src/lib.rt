@@ -5,9 +5,11 @@
 mod at_desk;
 mod batch_laws;
 mod batching;
+mod checking;
 mod clock;
 mod jobs;
 mod laws;
+mod migrating;
 mod piping;
 mod program;
 mod run_laws;

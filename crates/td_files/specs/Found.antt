@@ -51,9 +51,9 @@ module _ {D : Type 0} {g : disk.Ghosts D} where
   pub record IsOpenedDesk (image : Image) (country : List ℕ) (c : FileSeen g) : Type 0 where
     pub live : IsTrue (file_state c).is_open
     pub found : IsFoundIn image (file_state c).now
-    pub holds : HoldsContent (content_in (file_state c).now) (file_state c)
-    pub country_is : (content_in (file_state c).now).country ≡ country
-    pub leaves : LeavesOnly over_file c (content_in (file_state c).now)
+    pub holds : HoldsContent (content_in (file_state c).now.trees) (file_state c)
+    pub country_is : (content_in (file_state c).now.trees).country ≡ country
+    pub leaves : LeavesOnly over_file c (content_in (file_state c).now.trees)
 
   -- A desk was made: the file held no table, and has a store's tables of the newest version now, and the office's own row; the desk
   -- is empty. A crash leaves that desk.
@@ -62,15 +62,15 @@ module _ {D : Type 0} {g : disk.Ghosts D} where
     pub before : Database
     pub found : IsFoundIn image before
     pub blank : ¬ (¬ IsEmptyOf no_schema before)
-    pub empty : content_in (file_state c).now ≡ empty_content country
-    pub holds : HoldsContent (content_in (file_state c).now) (file_state c)
-    pub leaves : LeavesOnly over_file c (content_in (file_state c).now)
+    pub empty : content_in (file_state c).now.trees ≡ empty_content country
+    pub holds : HoldsContent (content_in (file_state c).now.trees) (file_state c)
+    pub leaves : LeavesOnly over_file c (content_in (file_state c).now.trees)
 
   -- A connection that a desk handed back: while its disk is clean and no fault has shut it, it is to a desk's file, which the next
   -- opening takes, and a crash leaves just that.
   abbrev pub IsKeptDesk : FileSeen g → Type 0
   IsKeptDesk c = IsClean c → IsTrue (file_state c).is_open
-      → HoldsContent (content_in (file_state c).now) (file_state c) × LeavesOnly over_file c (content_in (file_state c).now)
+      → HoldsContent (content_in (file_state c).now.trees) (file_state c) × LeavesOnly over_file c (content_in (file_state c).now.trees)
 
   -- a connection shows what was found, as far as it is open, and a crash leaves just that
   pub record ShowsFound (image : Image) (c : FileSeen g) : Type 0 where

@@ -1,12 +1,14 @@
 //! Files brought to the newest version of the tables.
-ghost use Rattle.std.specs.Prelude.{◌≡◌};
+ghost use Rattle.std.specs.Prelude.{◌≡◌, false};
+ghost use Rattle.sqlite.specs.Held.{state};
 ghost use Rattle.sqlite.specs.WalFiles.{image_at};
+ghost use Rattle.td_store.specs.Kept.{CrashLeavesShown};
 ghost use Rattle.td_files.specs.declared.desks.DeskFault.TheVariants as fault;
 ghost use Rattle.td_files.specs.Upgraded.{IsUpgraded, refused_as};
 
 use crate::desks::{DeskFault, file_fault};
 use crate::files::{OneFile, open_file};
-use sqlite::{FileFrom, FileStore, Start};
+use sqlite::{Alter, Connection, FileFrom, FileStore, Start};
 use td_migrate::{MigrateFault, upgrade};
 use td_store::OpenFault;
 
@@ -20,6 +22,14 @@ fn refused(why: MigrateFault) -> DeskFault
         MigrateFault::Store => OpenFault::Store,
         MigrateFault::NoMemory => OpenFault::NoMemory,
     })
+}
+
+// Sees that a crash leaves what the connection shows: nothing is waiting to be committed. It does nothing.
+fn see_settled<S: Alter>(conn: &Connection<S>)
+    requires { conn.now.in_transaction ≡ false }
+    ensures { CrashLeavesShown (state S.Store conn.now) }
+{
+    let _settled = conn.is_autocommit();
 }
 
 impl<S: Start> OneFile<S, FileStore<FileFrom<S>>> {
@@ -37,7 +47,7 @@ impl<S: Start> OneFile<S, FileStore<FileFrom<S>>> {
             Ok(conn) => conn,
             Err(error) => return Err(file_fault(&error)),
         };
-        let _settled = conn.is_autocommit();
+        see_settled(&conn);
         let result = upgrade(rt.alloc(), &mut conn);
         self.connection = Some(conn);
         match result {

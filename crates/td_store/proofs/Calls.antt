@@ -30,8 +30,8 @@ desk_then country a b P desk survives live same =
 
 -- a call that carried a change that was decided on
 module _ {S : Type 0} (g : Ghosts S) (country : List ℕ) (change : Change) (old new : Held S) (desk : IsDeskOf country (state g old))
-    (decided : HasCleanDisk (state g old) → IsTrue (state g old).is_open → IsSound (content_in (state g old).now)
-    → (v : Verdict) × (v.change ≡ change) × IsDecision (content_in (state g old).now) v)
+    (decided : HasCleanDisk (state g old) → IsTrue (state g old).is_open → IsSound (content_in (state g old).now.trees)
+    → (v : Verdict) × (v.change ≡ change) × IsDecision (content_in (state g old).now.trees) v)
     (survives : Survives (state g old) (state g new) (MayLeave country change (state g old))) where
   abbrev a : State
   a = state g old
@@ -44,9 +44,9 @@ module _ {S : Type 0} (g : Ghosts S) (country : List ℕ) (change : Change) (old
 
   -- a crash leaves no more than the content after it
   pub adds_change : HasCleanDisk b
-      → AddsAtMost (sql_view g) (λ x. IsTrue a.is_open × (x ≡ content_after change (content_in a.now))) old new
+      → AddsAtMost (sql_view g) (λ x. IsTrue a.is_open × (x ≡ content_after change (content_in a.now.trees))) old new
   adds_change clean =
-      adds g old new (MayLeave country change a) (λ x. IsTrue a.is_open × (x ≡ content_after change (content_in a.now)))
+      adds g old new (MayLeave country change a) (λ x. IsTrue a.is_open × (x ≡ content_after change (content_in a.now.trees)))
       survives clean
       (λ trees may.
       let was = clean_before clean in
@@ -60,8 +60,8 @@ module _ {S : Type 0} (g : Ghosts S) (country : List ℕ) (change : Change) (old
       (carries : HasCleanDisk b → CarriesChange country change a b) where
     pub desk_carried : IsDeskOf country b
     desk_carried clean now =
-        desk_after country change a desk decided (clean_before clean) (live clean now) b now (carries clean)
+        desk_after country change a desk decided (clean_before clean) (live clean now) b (carries clean)
 
-    pub content_carried : HasCleanDisk b → IsTrue b.is_open → content_in b.now ≡ content_after change (content_in a.now)
+    pub content_carried : HasCleanDisk b → IsTrue b.is_open → content_in b.now.trees ≡ content_after change (content_in a.now.trees)
     content_carried clean now =
-        written country change a desk decided (clean_before clean) (live clean now) b now (carries clean)
+        written country change a desk decided (clean_before clean) (live clean now) b (carries clean)

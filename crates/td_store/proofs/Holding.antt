@@ -1,8 +1,13 @@
 -- What a connection that holds a content shows of it.
-use Rattle.std.proofs.Common.{◌≡◌, ◌∙◌, ℕ, Bool, true, false, List, Option, ap, refl, subst, sym}
+use Rattle.std.proofs.Common.{◌≡◌, ◌∙◌, ℕ, Bool, true, false, List, Option, [], ◌∷◌, ap, ap₂, refl, subst, sym}
 use Rattle.std.specs.Prelude.{IsTrue}
-use Rattle.sqlite_catalog.proofs.ReadLemmas.{lists_once}
-use Rattle.sqlite_schema.specs.Names.{same_name}
+use Rattle.std.specs.List.{AllZip, list_any}
+use Rattle.std.specs.Prelude.{◌||◌, codes, filter}
+use Rattle.std.specs.Str.{bytes_eq}
+use Rattle.sqlite_catalog.specs.Listing.{IsTableRow, is_table_row}
+use Rattle.sqlite_schema.specs.declared.schema.Table.{Table}
+use Rattle.sqlite_value.specs.Order.{Row, column}
+use Rattle.typed_sql.specs.Values.{text_in}
 use Rattle.sqlite_trees.specs.Objects.{catalog_tree}
 use Rattle.sqlite_trees.specs.Tree.{Trees}
 use Rattle.sqlite.specs.Effect.{Database}
@@ -24,40 +29,48 @@ use Rattle.td_store_rows.specs.StoreTables.{AreStoreTrees, AreTreesOf, HoldsCont
 use Rattle.td_store_rows.proofs.Holding.{holds_still}
 use Rattle.td_store_write.specs.Carried.{CarriesChange, IsDecidedOver}
 use Rattle.td_store_write.proofs.After.{after_country}
-use Rattle.td_store.specs.Kept.{HasNewestTables, IsDeskOf, content_in, layout_of}
+use Rattle.td_store.specs.Kept.{HasNewestTables, IsDeskOf, content_in, layout_by, layout_in}
 
--- the layout of a store's tables is told by them
-pub layout_back : (l : Layout) → layout_of (schema_of l) ≡ l
-unfolding same_name
-layout_back Made1 = refl
-layout_back Made2 = refl
-layout_back Grown2 = refl
+-- a name is listed where a table has it
+listed_as : (name : List ℕ) (rows : List Row) (tables : List Table) → AllZip IsTableRow rows tables
+    → list_any (λ row. bytes_eq (text_in (column row 2)) name) rows ≡ list_any (λ (t : Table). bytes_eq t.name name) tables
+listed_as name [] [] zip = refl
+listed_as name [] (t ∷ tables) zip = absurd zip
+listed_as name (r ∷ rows) [] zip = absurd zip
+listed_as name (r ∷ rows) (t ∷ tables) zip =
+    ap₂ ◌||◌ (ap (λ v. bytes_eq (text_in v) name) zip.0.described.name_is) (listed_as name rows tables zip.1)
 
--- trees list the tables of one layout
-pub one_layout : (l m : Layout) (trees : Trees) → AreStoreTrees l trees → AreStoreTrees m trees → l ≡ m
-one_layout l m trees these those =
-    sym (layout_back l) ∙ ap layout_of (lists_once (trees catalog_tree) (schema_of l) (schema_of m) these.lists those.lists) ∙ layout_back m
+-- so the layout of a store's tables is told by their names
+names_told : (l : Layout) → layout_by (list_any (λ (t : Table). bytes_eq t.name (codes "guarantees1")) (schema_of l).tables)
+    (list_any (λ (t : Table). bytes_eq t.name (codes "guarantees2")) (schema_of l).tables) ≡ l
+names_told Made1 = refl
+names_told Made2 = refl
+names_told Grown2 = refl
 
--- and are those of one content
+pub layout_back : (l : Layout) (trees : Trees) → AreStoreTrees l trees → layout_in trees ≡ l
+layout_back l trees listed =
+    let rows = filter is_table_row (trees catalog_tree) in
+    ap₂ layout_by (listed_as (codes "guarantees1") rows (schema_of l).tables listed.lists.listed.tables)
+    (listed_as (codes "guarantees2") rows (schema_of l).tables listed.lists.listed.tables)
+    ∙ names_told l
+
+-- a desk's trees hold the content that they are of
+pub trees_hold : (c : Content) (trees : Trees) → AreTreesOf c trees → content_in trees ≡ c
+trees_hold c trees are =
+    ap (λ l. content_of (tables_in l trees)) (layout_back are.layout trees are.listed)
+    ∙ content_is (tables_in are.layout trees) c are.sound are.tables
+
+-- and so are those of one content
 pub one_content : (c x : Content) (trees : Trees) → AreTreesOf c trees → AreTreesOf x trees → c ≡ x
-one_content c x trees are those =
-    let same : those.layout ≡ are.layout = one_layout those.layout are.layout trees those.listed are.listed in
-    sym (content_is (tables_in are.layout trees) c are.sound are.tables)
-    ∙ content_is (tables_in are.layout trees) x those.sound (subst (λ l. AreTablesOf (tables_in l trees) x) same those.tables)
+one_content c x trees are those = sym (trees_hold c trees are) ∙ trees_hold x trees those
 
--- the layout of an open connection to a desk's file
-layout_held : (c : Content) (s : State) (holds : HoldsContent c s) → IsTrue s.is_open → layout_of s.now.schema ≡ holds.trees.layout
-layout_held c s holds is = ap layout_of (holds.schema is) ∙ layout_back holds.trees.layout
-
--- the content that it holds is that of its database
-pub content_held : (c : Content) (s : State) → HoldsContent c s → IsTrue s.is_open → content_in s.now ≡ c
-content_held c s holds is =
-    ap (λ l. content_of (tables_in l s.now.trees)) (layout_held c s holds is)
-    ∙ content_is (tables_in holds.trees.layout s.now.trees) c holds.trees.sound holds.trees.tables
+-- the content that a connection holds is that of its trees
+pub content_held : (c : Content) (s : State) → HoldsContent c s → content_in s.now.trees ≡ c
+content_held c s holds = trees_hold c s.now.trees holds.trees
 
 -- which it holds then
-pub holds_shown : (c : Content) (s : State) → HoldsContent c s → IsTrue s.is_open → HoldsContent (content_in s.now) s
-holds_shown c s holds is = subst (λ x. HoldsContent x s) (sym (content_held c s holds is)) holds
+pub holds_shown : (c : Content) (s : State) → HoldsContent c s → HoldsContent (content_in s.now.trees) s
+holds_shown c s holds = subst (λ x. HoldsContent x s) (sym (content_held c s holds)) holds
 
 -- a connection that is shut is to a file of any layout; and so a desk has a store's tables
 by_open : (s : State) (live : Bool) → s.is_open ≡ live → (live ≡ true → (c : Content) × HoldsContent c s) → HasNewestTables s
@@ -70,12 +83,12 @@ pub tables_there : (country : List ℕ) (s : State) → IsDeskOf country s → H
 tables_there country s desk clean =
     by_open s s.is_open refl (λ is. let it = desk clean is in (it.0, it.1))
 
--- and holds the content of its database
+-- and holds the content of its trees
 pub holds_own : (country : List ℕ) (s : State) → IsDeskOf country s → HasCleanDisk s → IsTrue s.is_open
-    → HoldsContent (content_in s.now) s
+    → HoldsContent (content_in s.now.trees) s
 holds_own country s desk clean is =
     let was : (c : Content) × HoldsContent c s × (c.country ≡ country) = desk clean is in
-    holds_shown was.0 s was.1 is
+    holds_shown was.0 s was.1
 
 -- a desk that sees what another saw is a desk, too
 pub desk_still : (country : List ℕ) (a b : State) → IsDeskOf country a → (HasCleanDisk b → HasCleanDisk a)
@@ -86,12 +99,12 @@ desk_still country a b desk cleans live same clean is =
     let now : b.now ≡ a.now = same clean is in
     (was.0, holds_still was.0 a b now (λ _. live clean is) was.1, was.2)
 
--- what is decided on the content of the database is decided on the content that the connection holds
-decided_over : (country : List ℕ) (change : Change) (s : State) (c : Content) → HoldsContent c s → IsTrue s.is_open → c.country ≡ country
-    → (IsSound (content_in s.now) → (v : Verdict) × (v.change ≡ change) × IsDecision (content_in s.now) v)
+-- what is decided on the content of the trees is decided on the content that the connection holds
+decided_over : (country : List ℕ) (change : Change) (s : State) (c : Content) → HoldsContent c s → c.country ≡ country
+    → (IsSound (content_in s.now.trees) → (v : Verdict) × (v.change ≡ change) × IsDecision (content_in s.now.trees) v)
     → IsDecidedOver country change s c
-decided_over country change s c holds is at decided =
-    let same : content_in s.now ≡ c = content_held c s holds is in
+decided_over country change s c holds at decided =
+    let same : content_in s.now.trees ≡ c = content_held c s holds in
     let d = decided (subst IsSound (sym same) holds.trees.sound) in
     record {
       holds = holds;
@@ -101,30 +114,30 @@ decided_over country change s c holds is at decided =
       decision = subst (λ x. IsDecision x d.0) same d.2;
     }
 
--- what was loaded of the content that the connection holds was loaded of that of the database
-pub loaded_there : (owner : Option ℕ) (need : Need) (s : State) (c : Content) (loaded : Loaded) → HoldsContent c s → IsTrue s.is_open
-    → IsLoaded (kept_for owner c) need loaded → IsLoaded (kept_for owner (content_in s.now)) need loaded
-loaded_there owner need s c loaded holds live is = subst (λ x. IsLoaded (kept_for owner x) need loaded) (sym (content_held c s holds live)) is
+-- what was loaded of the content that the connection holds was loaded of that of the trees
+pub loaded_there : (owner : Option ℕ) (need : Need) (s : State) (c : Content) (loaded : Loaded) → HoldsContent c s
+    → IsLoaded (kept_for owner c) need loaded → IsLoaded (kept_for owner (content_in s.now.trees)) need loaded
+loaded_there owner need s c loaded holds is = subst (λ x. IsLoaded (kept_for owner x) need loaded) (sym (content_held c s holds)) is
 
--- a change that a desk decided on the content of its database; the connection was a desk's
+-- a change that a desk decided on the content of its trees; the connection was a desk's
 module _ (country : List ℕ) (change : Change) (a : State) (desk : IsDeskOf country a)
-    (decided : HasCleanDisk a → IsTrue a.is_open → IsSound (content_in a.now)
-    → (v : Verdict) × (v.change ≡ change) × IsDecision (content_in a.now) v) (clean : HasCleanDisk a) (is : IsTrue a.is_open) where
+    (decided : HasCleanDisk a → IsTrue a.is_open → IsSound (content_in a.now.trees)
+    → (v : Verdict) × (v.change ≡ change) × IsDecision (content_in a.now.trees) v) (clean : HasCleanDisk a) (is : IsTrue a.is_open) where
   -- so it is decided over a content that the connection holds
   pub decided_there : (c : Content) × IsDecidedOver country change a c
   decided_there =
       let was : (c : Content) × HoldsContent c a × (c.country ≡ country) = desk clean is in
-      (was.0, decided_over country change a was.0 was.1 is was.2 (decided clean is))
+      (was.0, decided_over country change a was.0 was.1 was.2 (decided clean is))
 
-  -- which is that of its database
-  pub there_is : decided_there.0 ≡ content_in a.now
-  there_is = sym (content_held decided_there.0 a decided_there.1.holds is)
+  -- which is that of its trees
+  pub there_is : decided_there.0 ≡ content_in a.now.trees
+  there_is = sym (content_held decided_there.0 a decided_there.1.holds)
 
-  module _ (b : State) (now : IsTrue b.is_open) (carries : CarriesChange country change a b) where
-    -- after the change the database holds the content after it
-    pub written : content_in b.now ≡ content_after change (content_in a.now)
+  module _ (b : State) (carries : CarriesChange country change a b) where
+    -- after the change the trees hold the content after it
+    pub written : content_in b.now.trees ≡ content_after change (content_in a.now.trees)
     written =
-        content_held (content_after change decided_there.0) b (carries decided_there.0 decided_there.1) now ∙ ap (content_after change) there_is
+        content_held (content_after change decided_there.0) b (carries decided_there.0 decided_there.1) ∙ ap (content_after change) there_is
 
     -- and it is a desk's
     pub desk_after : (d : Content) × HoldsContent d b × (d.country ≡ country)

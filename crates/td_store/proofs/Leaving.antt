@@ -98,7 +98,7 @@ module _ {S : Type 0} (g : Ghosts S) where
       → (IsTrue (state g d).is_open → (c : Content) × HoldsContent c (state g d)) → IsSettled (sql_view g) d
   leaves_shown d settled holds is_open =
       let it = holds is_open in
-      leaves_only d (content_in (state g d).now) settled is_open (holds_shown it.0 (state g d) it.1 is_open)
+      leaves_only d (content_in (state g d).now.trees) settled is_open (holds_shown it.0 (state g d) it.1)
 
 -- no fault is forgotten, whatever is committed
 pub counts_faults : (old new : State) (P : Trees → Type 0) → Survives old new P → CountsFaults old new

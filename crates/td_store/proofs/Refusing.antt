@@ -20,8 +20,8 @@ use Rattle.td_store_rows.proofs.Turned.{listed_there}
 use Rattle.td_store_audit_rows.specs.Laws.{ContentKeepsRules}
 use Rattle.td_store_audit_rows.specs.Untyped.{KeepsUntyped}
 use Rattle.td_store.proofs.Begins.{store_begins}
-use Rattle.td_store.proofs.Holding.{layout_back}
-use Rattle.td_store.specs.Kept.{content_in, layout_of}
+use Rattle.td_store.proofs.Holding.{layout_back, trees_hold}
+use Rattle.td_store.specs.Kept.{content_in}
 use Rattle.td_store.specs.declared.refused.OpenFault.{OpenFault}
 use Rattle.td_store.specs.declared.refused.OpenFault.TheVariants.{UnknownVersion, NeedsMigration, OtherCountry, Damaged, Store, NoMemory}
 use Rattle.td_store.specs.Opened.{AreDamaged, AreOfDesk, IsEarlier, IsOfAnother, IsOfEarlier, IsOfKnownVersion, IsOfUnknownVersion, IsStoreSchema, LacksMeta, TellsDatabase, TellsTables}
@@ -46,19 +46,16 @@ trees_of country layout db has obeys desk = record {
   office = desk.office ∙ ap (λ k. meta_row newest_version k ∷ []) (sym (ap country_in desk.office));
 }
 
-same_layout : (layout : Layout) (db : Database) → db.schema ≡ schema_of layout → content_of (tables_in layout db.trees) ≡ content_in db
-same_layout layout db has = ap (λ l. content_of (tables_in l db.trees)) (sym (ap layout_of has ∙ layout_back layout))
-
 holds : (country : List ℕ) (layout : Layout) (s : State) → s.now.schema ≡ schema_of layout → IsDatabase s.now
-    → AreOfDesk country layout s.now.trees → HoldsContent (content_in s.now) s
+    → AreOfDesk country layout s.now.trees → HoldsContent (content_in s.now.trees) s
 holds country layout s has obeys desk =
     let trees = trees_of country layout s.now has obeys desk in
-    subst (λ c. HoldsContent c s) (same_layout layout s.now has) (record { trees = trees; schema = λ _. has })
+    subst (λ c. HoldsContent c s) (sym (trees_hold _ s.now.trees trees)) (record { trees = trees; schema = λ _. has })
 
 -- so an open connection that sees that database holds the content of its trees, which is of that country
 pub desk_there : (country : List ℕ) (db : Database) (s : State) → TellsDatabase country db None → s.now ≡ db → IsLive s
     → IsTrue s.is_open
-    → HoldsContent (content_in s.now) s × ((content_in s.now).country ≡ country) × HasOfficeRow newest_version country s.now.trees
+    → HoldsContent (content_in s.now.trees) s × ((content_in s.now.trees).country ≡ country) × HasOfficeRow newest_version country s.now.trees
 desk_there country db s told same live is =
     let desk = of_desk country s.now (subst (λ d. TellsDatabase country d None) (sym same) told) in
     (holds country desk.0 s desk.1 (live is).0 desk.2, ap country_in desk.2.office, desk.2.office)
@@ -149,7 +146,9 @@ module _ (country : List ℕ) (s : State) (is_open : IsTrue s.is_open) (c : Cont
 
   -- and the layout is the one that the content stands in
   this_layout : (layout : Layout) → s.now.schema ≡ schema_of layout → layout ≡ has.trees.layout
-  this_layout layout at = sym (layout_back layout) ∙ ap layout_of (sym at ∙ has.schema is_open) ∙ layout_back has.trees.layout
+  this_layout layout at =
+      sym (layout_back layout s.now.trees (subst (λ k. IsDatabase (record { schema = k; trees = s.now.trees })) (sym (has.schema is_open) ∙ at) has.trees.listed))
+      ∙ layout_back has.trees.layout s.now.trees has.trees.listed
 
   sound_tables : (layout : Layout) → s.now.schema ≡ schema_of layout → (fault : OpenFault)
       → TellsTables country layout s.now.trees (Some fault) → (fault ≡ Store) ⊎ (fault ≡ NoMemory)

@@ -1,10 +1,12 @@
 -- What a desk over a store's file keeps, and what contracts see of it.
-use Rattle.std.specs.Prelude.{◌≡◌, ◌↔◌, ℕ, Bool, true, false, List, IsTrue, codes, is_some}
-use Rattle.sqlite_schema.specs.Names.{table_named}
-use Rattle.sqlite_schema.specs.declared.schema.Schema.{Schema}
+use Rattle.std.specs.Prelude.{◌≡◌, ◌↔◌, ℕ, Bool, true, false, List, IsTrue, codes, filter}
+use Rattle.std.specs.List.{list_any}
+use Rattle.std.specs.Str.{bytes_eq}
+use Rattle.sqlite_catalog.specs.Listing.{is_table_row}
+use Rattle.sqlite_trees.specs.Objects.{catalog_tree}
+use Rattle.sqlite_value.specs.Order.{column}
 use Rattle.sqlite_trees.specs.declared.store.Store.{Ghosts}
 use Rattle.sqlite_trees.specs.Tree.{Trees}
-use Rattle.sqlite.specs.Effect.{Database}
 use Rattle.sqlite.specs.Held.{Held, state}
 use Rattle.sqlite.specs.State.{State, HasCleanDisk, Survives}
 use Rattle.td_desk.specs.Content.{Content}
@@ -13,8 +15,13 @@ use Rattle.td_table_model.specs.Gathering.{content_of}
 use Rattle.td_schema.specs.Layouts.{IsNewest, schema_of}
 use Rattle.td_schema.specs.declared.layout.Layout.{Layout}
 use Rattle.td_schema.specs.declared.layout.Layout.TheVariants.{Grown2, Made1, Made2}
+use Rattle.typed_sql.specs.Values.{text_in}
 use Rattle.typed_sql.specs.Writing.{HasSchema}
 use Rattle.td_store_rows.specs.StoreTables.{AreTreesOf, HoldsContent, tables_in}
+
+-- the trees list a table of this name
+abbrev pub list_table : List ℕ → Trees → Bool
+list_table name trees = list_any (λ row. bytes_eq (text_in (column row 2)) name) (filter is_table_row (trees catalog_tree))
 
 -- the layout of a store's file, by whether it has the guarantees of version 1 and those from version 2 on
 abbrev pub layout_by : Bool → Bool → Layout
@@ -22,12 +29,12 @@ layout_by true true = Grown2
 layout_by true false = Made1
 layout_by false kept = Made2
 
-abbrev pub layout_of : Schema → Layout
-layout_of s = layout_by (is_some (table_named s (codes "guarantees1"))) (is_some (table_named s (codes "guarantees2")))
+abbrev pub layout_in : Trees → Layout
+layout_in trees = layout_by (list_table (codes "guarantees1") trees) (list_table (codes "guarantees2") trees)
 
--- the content that a database holds whose tables are a store's
-abbrev pub content_in : Database → Content
-content_in db = content_of (tables_in (layout_of db.schema) db.trees)
+-- the content that trees hold which are a store's
+abbrev pub content_in : Trees → Content
+content_in trees = content_of (tables_in (layout_in trees) trees)
 
 -- as far as the connection is open, it is to a file whose tables are those of a layout of the newest version
 abbrev pub HasNewestTables : State → Type 0
@@ -47,7 +54,7 @@ CrashLeavesShown s = IsTrue s.is_open → (trees : Trees) → s.may_leave trees 
 -- connection. What a crash leaves is a desk's where its trees are, with everything that the next opening asks of them.
 abbrev pub sql_view : {S : Type 0} → Ghosts S → DeskView (Held S)
 sql_view g = record {
-  content = λ d. content_in (state g d).now;
+  content = λ d. content_in (state g d).now.trees;
   is_clean = λ d. HasCleanDisk (state g d);
   is_live = λ d. IsTrue (state g d).is_open;
   has_store = Unit {0};

@@ -38,7 +38,7 @@ impl<S: Alter> SqlDesk<S> {
         ensures live { IfOk result (λ desk. HasCleanDisk (state S.Store desk)
             → IsTrue (state S.Store conn).is_open × IsTrue (state S.Store desk).is_open) }
         ensures empty { IfOk result (λ desk. HasCleanDisk (state S.Store desk)
-            → content_in (state S.Store desk).now ≡ empty_content country) }
+            → content_in (state S.Store desk).now.trees ≡ empty_content country) }
         ensures made { IfOk result (λ desk. HasCleanDisk (state S.Store desk)
             → HoldsContent (empty_content country) (state S.Store desk)) }
         ensures taken { ¬ IsEmptyOf no_schema (state S.Store conn).now

@@ -56,7 +56,7 @@ impl<S: Alter> SqlDesk<S> {
         ensures same { result ≡ self }
         ensures ended { result.in_transaction ≡ false }
         ensures holds { HasCleanDisk (state S.Store result) → IsTrue (state S.Store result).is_open
-            → HoldsContent (content_in (state S.Store result).now) (state S.Store result) }
+            → HoldsContent (content_in (state S.Store result).now.trees) (state S.Store result) }
         ensures settled { CrashLeavesShown (state S.Store result) }
         ensures leaves { HasCleanDisk (state S.Store result) → IsSettled (sql_view S.Store) result }
     {

@@ -39,9 +39,9 @@ impl<S: Alter> SqlDesk<S> {
         ensures live { IfOk result (λ desk. HasCleanDisk (state S.Store desk)
             → IsTrue (state S.Store conn).is_open × IsTrue (state S.Store desk).is_open) }
         ensures opened { IfOk result (λ desk. HasCleanDisk (state S.Store desk)
-            → HoldsContent (content_in (state S.Store desk).now) (state S.Store desk)) }
+            → HoldsContent (content_in (state S.Store desk).now.trees) (state S.Store desk)) }
         ensures country { IfOk result (λ desk. HasCleanDisk (state S.Store desk)
-            → (content_in (state S.Store desk).now).country ≡ country) }
+            → (content_in (state S.Store desk).now.trees).country ≡ country) }
         ensures version { IfOk result (λ desk. HasCleanDisk (state S.Store desk)
             → HasOfficeRow newest_version country (state S.Store desk).now.trees) }
         ensures same { IfOk result (λ desk. HasCleanDisk (state S.Store desk) → (state S.Store desk).now ≡ (state S.Store conn).now) }

@@ -114,8 +114,8 @@ pub fn load_declared_on<S: Alter>(
     ensures reads { ReadsNewest (is_ok result) (state S.Store tx.old.conn.now) (state S.Store tx.new.conn.now) }
 {
     let mut found = Vec::new(alloc);
-    'lines: for (line, _) in lines.as_slice() {
-        if let Some(entry) = load_entry(alloc, tx, country, holder, &line.grn)? {
+    'lines: for (declared, _) in lines.as_slice() {
+        if let Some(entry) = load_entry(alloc, tx, country, holder, &declared.grn)? {
             found.push(entry)?;
         }
     }

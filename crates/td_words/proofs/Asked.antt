@@ -62,8 +62,8 @@ no_fault faults k none one = cc
 
 module _ (words : List Text) (name : Text) (rows : List Row) (taken : AreTaken words) (named : subcommand_of program_app words ≡ Some (name, rows)) where
   -- the job of the subcommand is what the words ask for
-  pub asks_if : {E : Type 0} (r : Result Job E) → IfOk r (IsJob name rows) → IfOk r (λ job. AsksFor words job.task job.country job.at)
-  asks_if (Ok job) is = record { taken = taken; name = name; rows = rows; named = named; job = is }
+  pub asks_if : {E : Type 0} (r : Result Job E) → IfOk r (IsJob name rows) → IfOk r (AsksFor words)
+  asks_if (Ok job) is = record { taken = taken; name = name; rows = rows; named = named; is = is }
   asks_if (Err e) is = tt
 
   -- and where it is no job, they ask for none
@@ -72,10 +72,9 @@ module _ (words : List Text) (name : Text) (rows : List Row) (taken : AreTaken w
   asks_none (Err (Help text)) none = absurd none
   asks_none (Err NoMemory) none = tt
   asks_none (Err (Wrong text)) none = (
-    λ task country at asked.
+    λ job asked.
         let same = same_met asked.name name asked.rows rows (sym asked.named ∙ named) in
-        let job : Job = record { task = task; country = country; at = at } in
-        none job (subst (λ n. IsJob n rows job) same.0 (subst (λ r. IsJob asked.name r job) same.1 asked.job)),
+        none job (subst (λ n. IsJob n rows job) same.0 (subst (λ r. IsJob asked.name r job) same.1 asked.is)),
     ⊎_elim (no_fault _ DisplayHelp taken) (no_fault _ DisplayVersion taken),
   )
 
@@ -107,7 +106,7 @@ module _ (words : List Text) (kind : ErrorKind) (fails : (kind ≡ OutOfMemory) 
   found k is other = subst (λ x. IsAmong x (fault_of program_app words)) is (among (λ e. other (sym is ∙ e)))
 
   not_taken : kind ≢ OutOfMemory → AskForNone words
-  not_taken other task country at asked = subst (IsAmong kind) asked.taken (among other)
+  not_taken other job asked = subst (IsAmong kind) asked.taken (among other)
 
   not_alone : kind ≢ OutOfMemory → (k : ErrorKind) → kind ≢ k → fault_of program_app words ≡ k ∷ [] → ⊥
   not_alone other k differ alone = ⊎_elim differ (λ none. none) (subst (IsAmong kind) alone (among other))

@@ -1,10 +1,11 @@
 -- Words ask for at most one job.
 use Rattle.std.proofs.Common.{◌≡◌, ◌∙◌, ap, refl, sym, subst, ℕ, ℤ, pos, List, Option, None, Some, codes, slice_index, arith}
 use Rattle.clap.specs.Words.{Row, Text}
-use Rattle.td_words.specs.Laws.{AreSameRecords, IsSameTask, WordsAskForOneJob}
+use Rattle.td_words.specs.Laws.{AreSameRecords, IsSameJob, IsSameTask, WordsAskForOneJob}
 use Rattle.td_words.specs.Words.{AreRecordsBy, IsIdleOf, IsJob, IsMomentOf, IsNumberOf, IsTask}
 use Rattle.td_words.specs.declared.words.BatchKind.TheVariants.{Declarations, Acts}
 use Rattle.td_words.specs.declared.words.Job.{Job}
+use Rattle.td_words.specs.declared.words.Job.TheVariants.{AtDesk, Migrate}
 use Rattle.td_words.specs.declared.words.Records.{Records}
 use Rattle.td_words.specs.declared.words.Records.TheVariants.{Memory, File, NewFile}
 use Rattle.td_words.specs.declared.words.Task.{Task}
@@ -93,13 +94,26 @@ task_once name rows (Check path) (Batch Declarations there records) is other = a
 task_once name rows (Check path) (Batch Acts there records) is other = absurd (omega (arith, clash name rows (Check path) (Batch Acts there records) is other))
 task_once name rows (Check path) (Check there) is other = same_value _ _ _ is.1 other.1
 
+-- the name of a task's command isn't that of `migrate`
+no_migrate : (name : Text) (rows : List Row) (task : Task) → IsTask name rows task → name ≡ codes "migrate" → ⊥
+no_migrate name rows (Serve l r) is other = omega (arith, letter_is name rows (Serve l r) is, ap (λ t. slice_index t 0) other)
+no_migrate name rows (Pipe r) is other = omega (arith, letter_is name rows (Pipe r) is, ap (λ t. slice_index t 0) other)
+no_migrate name rows (Batch Declarations file db) is other = omega (arith, letter_is name rows (Batch Declarations file db) is, ap (λ t. slice_index t 0) other)
+no_migrate name rows (Batch Acts file db) is other = omega (arith, letter_is name rows (Batch Acts file db) is, ap (λ t. slice_index t 0) other)
+no_migrate name rows (Check path) is other = omega (arith, letter_is name rows (Check path) is, ap (λ t. slice_index t 0) other)
+
+job_once : (name : Text) (rows : List Row) (job other : Job) → IsJob name rows job → IsJob name rows other → IsSameJob job other
+job_once name rows (AtDesk office task) (AtDesk there other) is same = (
+  task_once name rows task other is.0 same.0,
+  same_value _ _ _ is.1.country.named same.1.country.named,
+  moment_once _ _ _ is.1.at same.1.at,
+)
+job_once name rows (AtDesk office task) (Migrate path) is same = absurd (no_migrate name rows task is.0 same.0)
+job_once name rows (Migrate path) (AtDesk office task) is same = absurd (no_migrate name rows task same.0 is.0)
+job_once name rows (Migrate path) (Migrate there) is same = same_value _ _ _ is.1 same.1
+
 pub one_job : WordsAskForOneJob
-one_job words task other_task country other_country at other_at asked other =
-    let met = same_met other.name asked.name other.rows asked.rows (sym other.named ∙ asked.named) in
-    let that : Job = record { task = other_task; country = other_country; at = other_at } in
-    let job : IsJob asked.name asked.rows that =
-    subst (λ n. IsJob n asked.rows that) met.0 (subst (λ r. IsJob other.name r that) met.1 other.job) in (
-      task_once asked.name asked.rows task other_task asked.job.task job.task,
-      same_value _ _ _ asked.job.country.named job.country.named,
-      moment_once _ at other_at asked.job.at job.at,
-    )
+one_job words job other asked same =
+    let met = same_met same.name asked.name same.rows asked.rows (sym same.named ∙ asked.named) in
+    job_once asked.name asked.rows job other asked.is
+    (subst (λ n. IsJob n asked.rows other) met.0 (subst (λ r. IsJob same.name r other) met.1 same.is))

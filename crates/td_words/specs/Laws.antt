@@ -1,7 +1,9 @@
 -- What words ask for is one job.
-use Rattle.std.specs.Prelude.{◌≡◌, ℕ, ℤ, List, Option, string_bytes, ⊤}
+use Rattle.std.specs.Prelude.{◌≡◌, List, string_bytes, ⊤}
 use Rattle.clap.specs.Words.{Text}
 use Rattle.td_words.specs.Words.{AsksFor}
+use Rattle.td_words.specs.declared.words.Job.{Job}
+use Rattle.td_words.specs.declared.words.Job.TheVariants.{AtDesk, Migrate}
 use Rattle.td_words.specs.declared.words.Records.{Records}
 use Rattle.td_words.specs.declared.words.Records.TheVariants.{Memory, File, NewFile}
 use Rattle.td_words.specs.declared.words.Task.{Task}
@@ -25,8 +27,13 @@ IsSameTask (Batch kind file db) (Batch other there records) =
 IsSameTask (Check path) (Check other) = string_bytes path ≡ string_bytes other
 IsSameTask _ _ = ⊥
 
--- Words that ask for two jobs ask for one: the same task, in the same country, at the same moment.
+-- two jobs are the same: the same task, in the same country, at the same moment; or of the same file
+abbrev pub IsSameJob : Job → Job → Type 0
+IsSameJob (AtDesk office task) (AtDesk other other_task) =
+    IsSameTask task other_task × (office.country ≡ other.country) × (office.at ≡ other.at)
+IsSameJob (Migrate path) (Migrate other) = string_bytes path ≡ string_bytes other
+IsSameJob _ _ = ⊥
+
+-- words that ask for two jobs ask for one
 abbrev pub WordsAskForOneJob : Type 0
-WordsAskForOneJob = (words : List Text) (task other_task : Task) (country other_country : List ℕ) (at other_at : Option ℤ)
-    → AsksFor words task country at → AsksFor words other_task other_country other_at
-    → IsSameTask task other_task × (country ≡ other_country) × (at ≡ other_at)
+WordsAskForOneJob = (words : List Text) (job other : Job) → AsksFor words job → AsksFor words other → IsSameJob job other

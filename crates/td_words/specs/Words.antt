@@ -10,9 +10,11 @@ use Rattle.td_base.specs.Codes.{IsCountry}
 use Rattle.td_words.specs.declared.words.BatchKind.{BatchKind}
 use Rattle.td_words.specs.declared.words.BatchKind.TheVariants.{Declarations, Acts}
 use Rattle.td_words.specs.declared.words.Job.{Job}
+use Rattle.td_words.specs.declared.words.Job.TheVariants.{AtDesk, Migrate}
 use Rattle.td_words.specs.declared.words.Listening.{Listening}
 use Rattle.td_words.specs.declared.words.NoJob.{NoJob}
 use Rattle.td_words.specs.declared.words.NoJob.TheVariants.{Help, Wrong, NoMemory}
+use Rattle.td_words.specs.declared.words.Office.{Office}
 use Rattle.td_words.specs.declared.words.Records.{Records}
 use Rattle.td_words.specs.declared.words.Records.TheVariants.{Memory, File, NewFile}
 use Rattle.td_words.specs.declared.words.Task.{Task}
@@ -27,7 +29,7 @@ abbrev pub new_file_rule : Rule
 new_file_rule =
     record (new_rule (codes "new")) { long = Some (codes "new"); action = Some SetTrue }
 
--- the option that every command has: the country of the office
+-- the option that every command at a desk has: the country of the office
 abbrev pub with_country : App → App
 with_country app = with_rule app (record (option_rule (codes "country")) { required = true })
 
@@ -37,7 +39,7 @@ with_office app =
     with_rule (with_rule (with_rule (with_country app) (option_rule (codes "db"))) new_file_rule)
     (option_rule (codes "at"))
 
--- the commands `serve`, `pipe`, `batch`, `acts` and `check`, and the program that has them
+-- the commands `serve`, `pipe`, `batch`, `acts`, `check` and `migrate`, and the program that has them
 abbrev pub serve_app : App
 serve_app =
     with_rule
@@ -65,6 +67,10 @@ batch_name Acts = codes "acts"
 abbrev pub check_app : App
 check_app = with_rule (with_country (new_app (codes "check"))) (record (option_rule (codes "db")) { required = true })
 
+-- the one that isn't done at a desk, and so has no office's options
+abbrev pub migrate_app : App
+migrate_app = with_rule (new_app (codes "migrate")) (record (option_rule (codes "db")) { required = true })
+
 -- the program, which has a version, before its jobs are added
 abbrev pub bare_app : App
 bare_app =
@@ -76,9 +82,11 @@ abbrev pub program_app : App
 program_app =
     with_subcommand
     (with_subcommand
+    (with_subcommand
     (with_subcommand (with_subcommand (with_subcommand bare_app serve_app.top) pipe_app.top) (batch_app (codes "batch")).top)
     (batch_app (codes "acts")).top)
-    check_app.top
+    check_app.top)
+    migrate_app.top
 
 -- A text of decimal digits, one or more and nothing else, that shows this number, and it is from the least to the greatest
 -- that there may be. So a sign, a blank, and no digit at all are no number.
@@ -138,29 +146,33 @@ pub record IsCountryIn (rows : List Row) (country : List ℕ) : Type 0 where
   pub named : first_of (codes "country") rows ≡ Some country
   pub form : IsCountry country
 
--- A command of this name with these options is this job: a task, a country, and perhaps a moment.
-pub record IsJob (name : Text) (rows : List Row) (job : Job) : Type 0 where
-  pub task : IsTask name rows job.task
-  pub country : IsCountryIn rows job.country
-  pub at : IsMomentOf (first_of (codes "at") rows) job.at
+-- the office of a desk: a country, and perhaps a moment
+pub record IsOffice (rows : List Row) (office : Office) : Type 0 where
+  pub country : IsCountryIn rows office.country
+  pub at : IsMomentOf (first_of (codes "at") rows) office.at
+
+-- A command of this name with these options is this job: a task at a desk of an office, or `migrate` of a file.
+abbrev pub IsJob : Text → List Row → Job → Type 0
+IsJob name rows (AtDesk office task) = IsTask name rows task × IsOffice rows office
+IsJob name rows (Migrate path) =
+    (name ≡ codes "migrate") × (first_of (codes "db") rows ≡ Some (string_bytes path))
 
 -- Words that clap takes: its own definitions find no fault in them. So each option is one of the command's, is there at
 -- most once and has its value, and what is required is there. The first word is the program's name.
 abbrev pub AreTaken : List Text → Type 0
 AreTaken words = fault_of program_app words ≡ []
 
--- The words ask for the job: clap takes them, and what they name, by its own definitions, is this task in this country
--- and at this moment.
-pub record AsksFor (words : List Text) (task : Task) (country : List ℕ) (at : Option ℤ) : Type 0 where
+-- The words ask for the job: clap takes them, and what they name, by its own definitions, is this job.
+pub record AsksFor (words : List Text) (job : Job) : Type 0 where
   pub taken : AreTaken words
   pub name : Text
   pub rows : List Row
   pub named : subcommand_of program_app words ≡ Some (name, rows)
-  pub job : IsJob name rows (record { task = task; country = country; at = at })
+  pub is : IsJob name rows job
 
 -- the words ask for no job at all
 abbrev pub AskForNone : List Text → Type 0
-AskForNone words = (task : Task) (country : List ℕ) (at : Option ℤ) → AsksFor words task country at → ⊥
+AskForNone words = (job : Job) → AsksFor words job → ⊥
 
 -- the first that clap finds in the words is a call for help or for the version; and it can be nothing else
 abbrev pub AskForHelp : List Text → Type 0

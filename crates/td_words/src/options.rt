@@ -2,7 +2,7 @@
 ghost use Rattle.std.specs.Prelude.{◌≡◌, codes, false, IfOk};
 ghost use Rattle.clap.specs.Words.{App, app_of, new_app, rule_of, with_subcommand};
 ghost use Rattle.clap.specs.declared.Command.TheViews.{out-Command};
-ghost use Rattle.td_words.specs.Words.{bare_app, batch_app, check_app, new_file_rule, option_rule, pipe_app, program_app, serve_app, with_country, with_office};
+ghost use Rattle.td_words.specs.Words.{bare_app, batch_app, check_app, migrate_app, new_file_rule, option_rule, pipe_app, program_app, serve_app, with_country, with_office};
 
 use clap::{Arg, ArgAction, Command};
 use std::alloc::{AllocError, Global};
@@ -33,6 +33,8 @@ const ACTS: &str = "acts";
 
 const CHECK: &str = "check";
 
+const MIGRATE: &str = "migrate";
+
 /// What `--version` tells.
 const VERSION: &str = "0.1";
 
@@ -51,13 +53,16 @@ const ACTS_USAGE: &str =
 
 const CHECK_USAGE: &str = "transit-desk check --country <CC> --db <FILE>";
 
+const MIGRATE_USAGE: &str = "transit-desk migrate --db <FILE>";
+
 const USAGE: &str =
     "transit-desk serve --country <CC> --port <N> --connections <K> [--idle <SECONDS>]
          [--db <FILE> [--new]] [--at <SECONDS>]
        transit-desk pipe --country <CC> [--db <FILE> [--new]] [--at <SECONDS>]
        transit-desk batch --country <CC> --db <FILE> --file <CSV> [--at <SECONDS>]
        transit-desk acts --country <CC> --db <FILE> --file <CSV> [--at <SECONDS>]
-       transit-desk check --country <CC> --db <FILE>";
+       transit-desk check --country <CC> --db <FILE>
+       transit-desk migrate --db <FILE>";
 
 /// What help says behind the options.
 const NOTES: &str =
@@ -72,10 +77,11 @@ Examples:
   transit-desk batch --country CH --db desk.db --file declarations.csv > result.csv
   transit-desk acts --country CH --db desk.db --file acts.csv > result.csv
   transit-desk check --country CH --db desk.db
+  transit-desk migrate --db desk.db
 
 Status:
   0  Done: the stream ended well, all connections were served, all rows were answered,
-     or the file is a desk's
+     the file is a desk's, or its tables are of the newest version
   1  A fault, which one line on standard error tells, as: transit-desk: stream cut;
      or a row was refused
   2  Wrong words: one line on standard error tells what was wrong";
@@ -102,7 +108,18 @@ fn new_option<'a>(alloc: Global) -> Arg<'a>
         .action(ArgAction::SetTrue)
 }
 
-// A command of that name, with the option that every command has.
+// A command of that name before its options are added.
+fn bare_command<'a>(alloc: Global, name: &'a str, about: &'a str, usage: &'a str) -> Command<'a>
+    ensures app { app_of result ≡ new_app name.now }
+    ensures local { (out-Command result).has_globals ≡ false }
+{
+    Command::new(alloc, name)
+        .about(about)
+        .override_usage(usage)
+        .after_help(NOTES)
+}
+
+// A command of that name, with the option that every command at a desk has.
 fn country_command<'a>(
     alloc: Global,
     name: &'a str,
@@ -111,17 +128,13 @@ fn country_command<'a>(
 ) -> Result<Command<'a>, AllocError>
     ensures { IfOk result (λ c. (app_of c ≡ with_country (new_app name.now)) × ((out-Command c).has_globals ≡ false)) }
 {
-    Command::new(alloc, name)
-        .about(about)
-        .override_usage(usage)
-        .after_help(NOTES)
-        .arg(option(
-            alloc,
-            COUNTRY,
-            "CC",
-            "The country of the office, two capital letters",
-        )
-        .required(true))
+    bare_command(alloc, name, about, usage).arg(option(
+        alloc,
+        COUNTRY,
+        "CC",
+        "The country of the office, two capital letters",
+    )
+    .required(true))
 }
 
 // A command of that name that serves requests, with the options that each of those has.
@@ -251,6 +264,18 @@ fn check_command<'a>(alloc: Global) -> Result<Command<'a>, AllocError>
     .arg(option(alloc, DB, "FILE", "The file that is tested").required(true))
 }
 
+fn migrate_command<'a>(alloc: Global) -> Result<Command<'a>, AllocError>
+    ensures { IfOk result (λ c. (app_of c ≡ migrate_app) × ((out-Command c).has_globals ≡ false)) }
+{
+    bare_command(
+        alloc,
+        MIGRATE,
+        "Brings the tables of a file to the newest version",
+        MIGRATE_USAGE,
+    )
+    .arg(option(alloc, DB, "FILE", "The file whose tables are brought to it").required(true))
+}
+
 // The program before its jobs are added.
 fn bare_program<'a>(alloc: Global) -> Result<Command<'a>, AllocError>
     ensures { IfOk result (λ c. app_of c ≡ bare_app) }
@@ -285,5 +310,6 @@ pub(crate) fn program<'a>(alloc: Global) -> Result<Command<'a>, AllocError>
     let program = with_job(program, pipe_command(alloc))?;
     let program = with_job(program, declarations_command(alloc))?;
     let program = with_job(program, acts_command(alloc))?;
-    with_job(program, check_command(alloc))
+    let program = with_job(program, check_command(alloc))?;
+    with_job(program, migrate_command(alloc))
 }

@@ -4,7 +4,7 @@ ghost use Rattle.ascii_text.specs.Digits.{digits_value};
 ghost use Rattle.clap.specs.Values.{kind_of};
 ghost use Rattle.clap.specs.Words.{first_of, found_of, rows_of};
 ghost use Rattle.td_words.specs.declared.words.NoJob.TheVariants.{NoMemory};
-ghost use Rattle.td_words.specs.Words.{AreRecords, AsksFor, IsCountryIn, IsDecimal, IsIdleOf, IsJob, IsListening, IsMomentOf, IsNoJob, IsNoneSuch, IsNumberOf, IsTask, IsTold, batch_name};
+ghost use Rattle.td_words.specs.Words.{AreRecords, AsksFor, IsCountryIn, IsDecimal, IsIdleOf, IsJob, IsListening, IsMomentOf, IsNoJob, IsNoneSuch, IsNumberOf, IsOffice, IsTask, IsTold, batch_name};
 
 use crate::options::{AT, CONNECTIONS, COUNTRY, DB, FILE, IDLE, NEW, PORT, program};
 use ascii_text::is_digits;
@@ -58,16 +58,23 @@ pub enum Task {
     Check(String),
 }
 
-/// What the words ask for.
-#[derive(Debug, PartialEq, Eq, Drop)]
-pub struct Job {
-    /// What is done with the desk.
-    pub task: Task,
+/// The office that a desk is of, and its clock.
+#[derive(Clone, Copy, Debug, PartialEq, Eq)]
+pub struct Office {
     /// The country of the office.
     pub country: Country,
     /// The moment of all requests, in seconds since 1970; with none, the machine's clock is asked for each.
     /// A test of a file has none.
     pub at: Option<i64>,
+}
+
+/// What the words ask for.
+#[derive(Debug, PartialEq, Eq, Drop)]
+pub enum Job {
+    /// This is done with a desk of this office.
+    AtDesk(Office, Task),
+    /// The tables of the file at this path are brought to the newest version.
+    Migrate(String),
 }
 
 /// Why the words ask for no job.
@@ -146,7 +153,7 @@ const USUAL_IDLE: u64 = 2;
 /// the text that they ask for by `--help` or `--version`, or one line on wrong words; or there was no memory.
 /// Words that ask for a job are given that job, or want of memory.
 pub fn read_words(alloc: Global, words: &[String]) -> Result<Job, NoJob>
-    ensures job { IfOk result (λ job. AsksFor (map string_bytes words.now) job.task job.country job.at) }
+    ensures job { IfOk result (AsksFor (map string_bytes words.now)) }
     ensures no_job { IfErr result (IsNoJob (map string_bytes words.now)) }
 {
     match program(alloc)?.try_get_matches_from(words) {
@@ -252,8 +259,21 @@ fn job_of(alloc: Global, name: &str, matches: &ArgMatches<'_>) -> Result<Job, No
     ensures job { IfOk result (IsJob name.now (rows_of (found_of matches.now))) }
     ensures none { IfErr result (IsNoneSuch (IsJob name.now (rows_of (found_of matches.now)))) }
 {
-    Ok(Job {
-        task: task_in(alloc, name, matches)?,
+    match name {
+        "migrate" => Ok(Job::Migrate(file_in(alloc, matches, DB)?)),
+        _ => {
+            let task = task_in(alloc, name, matches)?;
+            Ok(Job::AtDesk(office_in(alloc, matches)?, task))
+        }
+    }
+}
+
+// The office of a desk.
+fn office_in(alloc: Global, matches: &ArgMatches<'_>) -> Result<Office, NoJob>
+    ensures office { IfOk result (IsOffice (rows_of (found_of matches.now))) }
+    ensures none { IfErr result (IsNoneSuch (IsOffice (rows_of (found_of matches.now)))) }
+{
+    Ok(Office {
         country: country_in(alloc, matches)?,
         at: moment_in(alloc, matches)?,
     })

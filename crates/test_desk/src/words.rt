@@ -1,7 +1,7 @@
 //! What the words ask for. (Wrong words, help and the version stand in the transcripts of test_program.)
 use crate::examples::country;
 use std::process::Abort;
-use td_words::{BatchKind, Job, Listening, Records, Task, read_words};
+use td_words::{BatchKind, Job, Listening, Office, Records, Task, read_words};
 
 fn owned(rt: &(impl AllocGlobal + Abort), words: &[&str]) -> Vec<String> {
     let mut owned = Vec::new(rt.alloc());
@@ -62,7 +62,7 @@ const STREAMS: [(&[&str], Option<i64>); 3] = [
 /// The words ask for this task in Switzerland, and for that moment.
 fn assert_job(rt: &(impl AllocGlobal + Abort), words: &[&str], task: Task, at: Option<i64>) {
     let country = country(rt);
-    let wanted = Job { task, country, at };
+    let wanted = Job::AtDesk(Office { country, at }, task);
     assert!(rt; is_asked(rt, words, &wanted));
 }
 
@@ -225,6 +225,19 @@ const CHECKED: [&str; 6] = [
 fn a_test_of_a_file_is_asked_for(rt: HostRuntime) {
     let task = Task::Check(path(&rt, "desk.db"));
     assert_job(&rt, &CHECKED, task, None);
+}
+
+/// Words that bring a file's tables to the newest version.
+const MIGRATED: [(&[&str], &str); 2] = [
+    (&["transit-desk", "migrate", "--db", "desk.db"], "desk.db"),
+    (&["transit-desk", "migrate", "--db=-1"], "-1"),
+];
+
+#[test]
+fn a_migration_is_asked_for(rt: HostRuntime) {
+    for (words, name) in &MIGRATED {
+        assert!(rt; is_asked(&rt, words, &Job::Migrate(path(&rt, name))));
+    }
 }
 
 /// Words of a batch of declarations.

@@ -5,7 +5,7 @@ use std::test::Fail;
 const CASES: &str = r#"
 == what was wrong is told
 $
-! 2 error: 'transit-desk' requires a subcommand but one was not provided [subcommands: serve, pipe, batch, acts, check, help]
+! 2 error: 'transit-desk' requires a subcommand but one was not provided [subcommands: serve, pipe, batch, acts, check, migrate, help]
 $ report --country CH
 ! 2 error: unrecognized subcommand 'report'
 $ serve
@@ -99,6 +99,22 @@ $ check --country CH --db F --new
 $ check --country CH --db F --port 80
 ! 2 error: unexpected argument '--port' found
 
+== what was wrong on a migration is told
+$ migrate
+! 2 error: the following required arguments were not provided: --db <FILE>
+$ migrate --db F --country CH
+! 2 error: unexpected argument '--country' found
+$ migrate --db F --at 1
+! 2 error: unexpected argument '--at' found
+$ migrate --db F --new
+! 2 error: unexpected argument '--new' found
+$ migrate --db F --db F
+! 2 error: the argument '--db <FILE>' cannot be used multiple times
+$ migrate --db
+! 2 error: a value is required for '--db <FILE>' but none was supplied
+$ migrate F
+! 2 error: unexpected argument 'F' found
+
 == what was wrong on a batch is told
 $ batch --country CH --db F
 ! 2 error: the following required arguments were not provided: --file <CSV>
@@ -113,7 +129,7 @@ $ acts --country CH --db F --file F --at one
 # The request is not served, whatever the words ask for.
 $
 > GET /holders/000001
-! 2 error: 'transit-desk' requires a subcommand but one was not provided [subcommands: serve, pipe, batch, acts, check, help]
+! 2 error: 'transit-desk' requires a subcommand but one was not provided [subcommands: serve, pipe, batch, acts, check, migrate, help]
 $ pipe --country ch
 > GET /holders/000001
 ! 2 error: invalid value 'ch' for '--country <CC>': it must be two capital letters
@@ -141,14 +157,16 @@ $ --help
 <|        transit-desk batch --country <CC> --db <FILE> --file <CSV> [--at <SECONDS>]\n
 <|        transit-desk acts --country <CC> --db <FILE> --file <CSV> [--at <SECONDS>]\n
 <|        transit-desk check --country <CC> --db <FILE>\n
+<|        transit-desk migrate --db <FILE>\n
 <| \n
 <| Commands:\n
-<|   serve  Serves connections to a port of this machine, one after another\n
-<|   pipe   Serves one stream of HTTP requests, from standard input to standard output\n
-<|   batch  Does the declarations of a file, and prints what became of each\n
-<|   acts   Does the acts of an office in a file, and prints what became of each\n
-<|   check  Tests whether a desk of the country can be opened over a file\n
-<|   help   Print this message or the help of the given subcommand(s)\n
+<|   serve    Serves connections to a port of this machine, one after another\n
+<|   pipe     Serves one stream of HTTP requests, from standard input to standard output\n
+<|   batch    Does the declarations of a file, and prints what became of each\n
+<|   acts     Does the acts of an office in a file, and prints what became of each\n
+<|   check    Tests whether a desk of the country can be opened over a file\n
+<|   migrate  Brings the tables of a file to the newest version\n
+<|   help     Print this message or the help of the given subcommand(s)\n
 <| \n
 <| Options:\n
 <|   -h, --help     Print help\n
@@ -165,10 +183,11 @@ $ --help
 <|   transit-desk batch --country CH --db desk.db --file declarations.csv > result.csv\n
 <|   transit-desk acts --country CH --db desk.db --file acts.csv > result.csv\n
 <|   transit-desk check --country CH --db desk.db\n
+<|   transit-desk migrate --db desk.db\n
 <| \n
 <| Status:\n
 <|   0  Done: the stream ended well, all connections were served, all rows were answered,\n
-<|      or the file is a desk's\n
+<|      the file is a desk's, or its tables are of the newest version\n
 <|   1  A fault, which one line on standard error tells, as: transit-desk: stream cut;\n
 <|      or a row was refused\n
 <|   2  Wrong words: one line on standard error tells what was wrong\n
@@ -201,10 +220,11 @@ $ serve --help
 <|   transit-desk batch --country CH --db desk.db --file declarations.csv > result.csv\n
 <|   transit-desk acts --country CH --db desk.db --file acts.csv > result.csv\n
 <|   transit-desk check --country CH --db desk.db\n
+<|   transit-desk migrate --db desk.db\n
 <| \n
 <| Status:\n
 <|   0  Done: the stream ended well, all connections were served, all rows were answered,\n
-<|      or the file is a desk's\n
+<|      the file is a desk's, or its tables are of the newest version\n
 <|   1  A fault, which one line on standard error tells, as: transit-desk: stream cut;\n
 <|      or a row was refused\n
 <|   2  Wrong words: one line on standard error tells what was wrong\n
@@ -233,10 +253,11 @@ $ pipe --help
 <|   transit-desk batch --country CH --db desk.db --file declarations.csv > result.csv\n
 <|   transit-desk acts --country CH --db desk.db --file acts.csv > result.csv\n
 <|   transit-desk check --country CH --db desk.db\n
+<|   transit-desk migrate --db desk.db\n
 <| \n
 <| Status:\n
 <|   0  Done: the stream ended well, all connections were served, all rows were answered,\n
-<|      or the file is a desk's\n
+<|      the file is a desk's, or its tables are of the newest version\n
 <|   1  A fault, which one line on standard error tells, as: transit-desk: stream cut;\n
 <|      or a row was refused\n
 <|   2  Wrong words: one line on standard error tells what was wrong\n
@@ -263,10 +284,41 @@ $ check --help
 <|   transit-desk batch --country CH --db desk.db --file declarations.csv > result.csv\n
 <|   transit-desk acts --country CH --db desk.db --file acts.csv > result.csv\n
 <|   transit-desk check --country CH --db desk.db\n
+<|   transit-desk migrate --db desk.db\n
 <| \n
 <| Status:\n
 <|   0  Done: the stream ended well, all connections were served, all rows were answered,\n
-<|      or the file is a desk's\n
+<|      the file is a desk's, or its tables are of the newest version\n
+<|   1  A fault, which one line on standard error tells, as: transit-desk: stream cut;\n
+<|      or a row was refused\n
+<|   2  Wrong words: one line on standard error tells what was wrong\n
+
+== the help of migrate tells its options
+$ migrate --help
+<| Brings the tables of a file to the newest version\n
+<| \n
+<| Usage: transit-desk migrate --db <FILE>\n
+<| \n
+<| Options:\n
+<|       --db <FILE>  The file whose tables are brought to it\n
+<|   -h, --help       Print help\n
+<| \n
+<| Without --db the desk starts empty, and it is gone when the program ends. With --db its\n
+<| records stand in that file, an SQLite database; --new makes the desk's tables in it first.\n
+<| Moments are from 2000 to 2099: a request at any other is told clock-range.\n
+<| \n
+<| Examples:\n
+<|   transit-desk pipe --country CH --at 1740819600 < examples/first.http\n
+<|   transit-desk serve --country CH --port 8080 --connections 1000\n
+<|   transit-desk serve --country CH --port 8080 --connections 1000 --db desk.db --new\n
+<|   transit-desk batch --country CH --db desk.db --file declarations.csv > result.csv\n
+<|   transit-desk acts --country CH --db desk.db --file acts.csv > result.csv\n
+<|   transit-desk check --country CH --db desk.db\n
+<|   transit-desk migrate --db desk.db\n
+<| \n
+<| Status:\n
+<|   0  Done: the stream ended well, all connections were served, all rows were answered,\n
+<|      the file is a desk's, or its tables are of the newest version\n
 <|   1  A fault, which one line on standard error tells, as: transit-desk: stream cut;\n
 <|      or a row was refused\n
 <|   2  Wrong words: one line on standard error tells what was wrong\n

@@ -40,13 +40,13 @@ lines-preserved g c = (c.load_entry.ensures.same_reference ∙ c.lines.invariant
     line = c.lines-item.result
 
     n : ℕ
-    n = c.lines.line-index
+    n = c.lines.declared-index
 
     within : n < length items
-    within = subst (λ (l : List (Line × List ℕ)). n < length l) c.as_slice-line-items.ensures.value c.lines-test.true
+    within = subst (λ (l : List (Line × List ℕ)). n < length l) c.as_slice-declared-items.ensures.value c.lines-test.true
 
     at_n : line ≡ get_or items n line
-    at_n = subst (λ (l : List (Line × List ℕ)). line ≡ get_or l n line) c.as_slice-line-items.ensures.value c.lines-item.is
+    at_n = subst (λ (l : List (Line × List ℕ)). line ≡ get_or l n line) c.as_slice-declared-items.ensures.value c.lines-item.is
 
     one_line : take (n + 1) items ≡ take n items ++ line ∷ []
     one_line = take_more items n line within ∙ ap (λ s. take n items ++ s ∷ []) (sym at_n)
@@ -74,7 +74,7 @@ pub returns-clause-found : goal.returns-clause-found
 returns-clause-found g c clean content holds at =
     c.lines.invariant.2 clean content holds at
     ∙ ap (filter_map (λ l. entry_in (account_in c.args.holder content) l.0.grn))
-    (take_all c.lines.line-index c.args.lines.now (subst (λ (l : List (Line × List ℕ)). length l ≤ c.lines.line-index) c.as_slice-line-items.ensures.value c.lines-test.false))
+    (take_all c.lines.declared-index c.args.lines.now (subst (λ (l : List (Line × List ℕ)). length l ≤ c.lines.declared-index) c.as_slice-declared-items.ensures.value c.lines-test.false))
 
 pub returns-in_err-push-clause-reads : goal.returns-in_err-push-clause-reads
 returns-in_err-push-clause-reads g c = reads_well (reads_on c.lines.invariant.1 c.in_ok-entry.ensures.reads)

@@ -13,5 +13,5 @@ invariant-lines g l =
     (l.tx.conn.ghost_name ≡ l.initial.tx.conn.ghost_name)
     × ReadsNewest true (state g.S.Store l.initial.tx.conn.now) (state g.S.Store l.tx.conn.now)
     × (HasCleanDisk (state g.S.Store l.tx.conn.now)
-    → IsOfContent l.country (λ c. filter_map (λ x. entry_in (account_in l.holder c) x.0.grn) (take l.line-index l.lines))
+    → IsOfContent l.country (λ c. filter_map (λ x. entry_in (account_in l.holder c) x.0.grn) (take l.declared-index l.lines))
     (state g.S.Store l.initial.tx.conn.now) l.found.items)

@@ -16,7 +16,7 @@ pub returns-clause-empty : goal.returns-clause-empty
 returns-clause-empty g c =
     let none : IsEmptyOf no_schema (state g.S.Store c.args.conn).now = search rules in
     rw c.over.ensures (λ clean. content_held (empty_content c.args.country) (state g.S.Store c.create_tables.new.conn)
-    (c.in_default.ensures.created clean none) (c.in_default.ensures.shown clean).1)
+    (c.in_default.ensures.created clean none))
 
 pub returns-clause-made : goal.returns-clause-made
 returns-clause-made g c =

@@ -10,7 +10,7 @@ pub over-requires-clause-desk : goal.over-requires-clause-desk
 over-requires-clause-desk g c = λ clean is.
     let it = desk_there c.args.country (state g.S.Store c.args.conn).now (state g.S.Store c.refusal.new.conn)
     (c.in-None.ensures.told clean) (c.refusal.ensures.same clean is) c.see_settled.ensures.sound is in
-    (content_in (state g.S.Store c.refusal.new.conn).now, it.0, it.1)
+    (content_in (state g.S.Store c.refusal.new.conn).now.trees, it.0, it.1)
 
 pub returns-in-None-clause-opened : goal.returns-in-None-clause-opened
 returns-in-None-clause-opened g c =
@@ -39,7 +39,7 @@ returns-in-None-clause-leaves g c =
     (λ is.
     let it = desk_there c.args.country (state g.S.Store c.args.conn).now (state g.S.Store c.refusal.new.conn)
     (c.in-None.ensures.told clean) (c.refusal.ensures.same clean is) c.see_settled.ensures.sound is in
-    (content_in (state g.S.Store c.refusal.new.conn).now, it.0)))
+    (content_in (state g.S.Store c.refusal.new.conn).now.trees, it.0)))
 
 pub returns-in-Some-clause-unknown : goal.returns-in-Some-clause-unknown
 returns-in-Some-clause-unknown g c = λ clean is.

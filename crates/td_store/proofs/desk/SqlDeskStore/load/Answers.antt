@@ -23,7 +23,7 @@ returns-in-Ok-clause-loaded g c = λ clean is sound.
     let was : (x : Content) × HoldsContent x a × (x.country ≡ c.self.inside.country) = desk clean_a is in
     let says : (x : Content) → HoldsContent x a → x.country ≡ c.self.inside.country → IsLoaded (kept_for c.args.owner x) (need_said c.args.needs.now) c.in-Ok.loaded =
     rw c.self.view_is at (c.in-Ok.ensures.loaded clean) in
-    loaded_there c.args.owner (need_said c.args.needs.now) a was.0 c.in-Ok.loaded was.1 is (says was.0 was.1 was.2)
+    loaded_there c.args.owner (need_said c.args.needs.now) a was.0 c.in-Ok.loaded was.1 (says was.0 was.1 was.2)
 
 pub read-requires-clause-tables : goal.read-requires-clause-tables
 read-requires-clause-tables g c = tables_there c.self.inside.country (state g.S.Store c.self.inside.conn) c.self.invariant.0

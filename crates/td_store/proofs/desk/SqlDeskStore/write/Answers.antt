@@ -1,5 +1,6 @@
 use Rattle.std.proofs.Common.{◌≡◌, ◌∙◌, ap, arith}
 use Rattle.std.specs.Prelude.{IsTrue}
+use Rattle.sqlite.specs.Effect.{Database}
 use Rattle.sqlite.specs.Held.{state}
 use Rattle.sqlite.specs.State.{State, HasCleanDisk, Survives}
 use Rattle.td_store_write.specs.Carried.{CarriesChange, MayLeave}
@@ -27,7 +28,7 @@ returns-in-Err-clause-err g c = λ clean is.
     let asked = c.fault_of-fault.ensures in
     let same : HasCleanDisk b → IsTrue b.is_open → b.now ≡ a.now = rw c.self.view_is at c.in-Err.ensures.err in
     let clean_b : HasCleanDisk b = omega (arith, clean, asked.crash.clean) in
-    ap content_in (asked.same clean is ∙ same clean_b (asked.live clean is))
+    ap (λ (d : Database). content_in d.trees) (asked.same clean is ∙ same clean_b (asked.live clean is))
 
 pub returns-in-Err-clause-settled : goal.returns-in-Err-clause-settled
 returns-in-Err-clause-settled g c = λ clean.

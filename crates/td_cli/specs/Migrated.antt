@@ -1,0 +1,30 @@
+-- A file that was to be brought to the newest version of the tables, and what was told of it.
+use Rattle.std.specs.Prelude.{◌≡◌, ◌⊎◌, ℕ, List, ◌++◌, codes, Option, Result, Ok, Err}
+use Rattle.std.specs.Fmt.{decimal}
+use Rattle.sqlite_wal.specs.Recovery.{Image}
+use Rattle.counted_io.specs.declared.counted.Counted.{Counted}
+use Rattle.sqlite_disk.specs.declared.Disk.{Ghosts}
+use Rattle.td_files.specs.Found.{FileSeen}
+use Rattle.td_files.specs.Upgraded.{IsUpgraded}
+use Rattle.td_files.specs.declared.desks.DeskFault.{DeskFault}
+use Rattle.td_cli.specs.Statuses.{IsFaultTold, IsPrinted, IsTold}
+
+-- the line of a version
+abbrev pub message_of_version : ℕ → List ℕ
+message_of_version version = codes "version " ++ (decimal version ++ codes "\n")
+
+-- What was told: the version, or that there was no memory for its line; or why the file wasn't brought to it, and nothing was printed.
+abbrev pub IsMigrationTold : {W E : Type 0} → (W → Option (List ℕ)) → (E → Option (List ℕ)) → Counted W → Counted W → Counted E → Counted E
+    → Result ℕ DeskFault → ℕ → Type 0
+IsMigrationTold contents said out out_left errors errors_left (Ok version) status =
+    IsPrinted contents said out out_left errors errors_left (message_of_version version) status
+    ⊎ ((out_left ≡ out) × (status ≡ 1) × IsTold said errors errors_left (codes "transit-desk: no-memory\n"))
+IsMigrationTold contents said out out_left errors errors_left (Err why) status =
+    (out_left ≡ out) × IsFaultTold said errors errors_left why status
+
+-- a file that held this was to be brought to the newest version, and what came of it was told
+abbrev pub IsMigrated : {W E S : Type 0} {disk : Ghosts S} → (W → Option (List ℕ)) → (E → Option (List ℕ)) → Image
+    → Counted W → Counted W → Counted E → Counted E → Option (FileSeen disk) → Option (FileSeen disk) → ℕ → Type 0
+IsMigrated contents said image out out_left errors errors_left before file status =
+    (end : Result ℕ DeskFault) × IsUpgraded image before file end
+    × IsMigrationTold contents said out out_left errors errors_left end status

@@ -1,0 +1,75 @@
+//! Whether there is a desk where records stand.
+ghost use Rattle.std.specs.Prelude.{◌≡◌};
+ghost use Rattle.sqlite.specs.WalFiles.{image_at};
+ghost use Rattle.td_cli.specs.AtDesk.{IsUntouched};
+ghost use Rattle.td_cli.specs.ConnectionsSeen.{unserved_seen};
+ghost use Rattle.td_cli.specs.Desks.{IsUnserved};
+ghost use Rattle.td_cli.specs.Performed.{IsCheckTold, IsChecked};
+
+use crate::at_desk::{DeskJob, at_desk};
+use crate::telling::{print, tell_desk_fault};
+use sqlite::Start;
+use std::alloc::Global;
+use std::io::{Read, Write};
+use td_base::Counted;
+use td_desk::Desk;
+use td_files::{DeskFault, DeskFile};
+use td_http::Clock;
+use td_words::{Office, Records};
+
+/// The job that leaves a desk as it was opened. It reads and prints nothing, and asks no clock.
+struct Checking;
+
+impl DeskJob for Checking {
+    type End = ();
+
+    ghost does = { λ D R W C view begins ends remaining contents ticks job reader reader_left writer writer_left clock opened.
+        IsUntouched reader reader_left writer writer_left × IsUnserved begins ends };
+
+    ghost seen = { λ D D' R W C C' view see begins ends begins' ends' remaining contents ticks moments look job reader reader_left writer writer_left clock opened begin close shows does.
+        (does.0, unserved_seen see begins ends begins' ends' begin close does.1) };
+
+    fn on<D: Desk + Drop, C: Clock + Drop, R: Read, W: Write>(
+        &self,
+        _rt: &HostRuntime,
+        desk: D,
+        _clock: C,
+        _input: &mut Counted<R>,
+        _out: &mut Counted<W>,
+    ) -> ((), D) {
+        ((), desk)
+    }
+}
+
+/// Tells whether a desk of the office can be opened where the records stand, and gives the status. The input isn't read.
+pub(crate) fn check<S: Start, R: Read, W: Write, E: Write>(
+    rt: &HostRuntime,
+    office: Office,
+    records: &Records,
+    file: &mut DeskFile<S>,
+    input: &mut Counted<R>,
+    out: &mut Counted<W>,
+    errors: &mut Counted<E>,
+) -> u8
+    ensures unread { input.new ≡ input.old }
+    ensures checked { IsChecked W.contents E.contents (image_at S.Start) office.country records.now out.old out.new errors.old errors.new
+        file.old.connection file.new.connection result }
+{
+    let end = at_desk(rt, office, records, file, &Checking, input, out);
+    tell_check(rt.alloc(), end, out, errors)
+}
+
+// Says that there was a desk, or why there was none, and gives the status.
+fn tell_check<W: Write, E: Write>(
+    alloc: Global,
+    end: Result<(), DeskFault>,
+    out: &mut Counted<W>,
+    errors: &mut Counted<E>,
+) -> u8
+    ensures { IsCheckTold W.contents E.contents end out.old out.new errors.old errors.new result }
+{
+    match end {
+        Ok(()) => print("sound\n", out, errors),
+        Err(why) => tell_desk_fault(alloc, why, errors),
+    }
+}

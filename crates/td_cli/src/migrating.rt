@@ -1,0 +1,52 @@
+//! Files brought to the newest version of the tables.
+ghost use Rattle.std.specs.Prelude.{◌≡◌, IfOk, string_bytes};
+ghost use Rattle.sqlite.specs.WalFiles.{image_at};
+ghost use Rattle.td_cli.specs.Migrated.{IsMigrated, IsMigrationTold, message_of_version};
+
+use crate::telling::{NO_MEMORY, fault, print, tell_desk_fault};
+use sqlite::Start;
+use std::alloc::{AllocError, Global};
+use std::io::Write;
+use td_base::Counted;
+use td_files::{DeskFault, DeskFile};
+
+// What is told of the version that a file is of.
+fn version_line(alloc: Global, version: u32) -> Result<String, AllocError>
+    ensures { IfOk result (λ line. string_bytes line ≡ message_of_version version) }
+{
+    format!(in alloc; "version {version}\n")
+}
+
+/// Brings the file at the path to the newest version of the tables, tells that version or why it wasn't, and gives the status.
+pub(crate) fn migrate<S: Start, W: Write, E: Write>(
+    rt: &HostRuntime,
+    path: &str,
+    file: &mut DeskFile<S>,
+    out: &mut Counted<W>,
+    errors: &mut Counted<E>,
+) -> u8
+    ensures { IsMigrated W.contents E.contents (image_at S.Start) out.old out.new errors.old errors.new
+        file.old.connection file.new.connection result }
+{
+    let end = file.upgrade(rt, path);
+    tell_migration(rt.alloc(), end, out, errors)
+}
+
+// Tells the version of the file, or why it isn't of the newest, and gives the status. Where there is no memory for the line, that is
+// told: the file is of that version all the same.
+fn tell_migration<W: Write, E: Write>(
+    alloc: Global,
+    end: Result<u32, DeskFault>,
+    out: &mut Counted<W>,
+    errors: &mut Counted<E>,
+) -> u8
+    ensures { IsMigrationTold W.contents E.contents out.old out.new errors.old errors.new end result }
+{
+    match end {
+        Ok(version) => match version_line(alloc, version) {
+            Ok(line) => print(&line, out, errors),
+            Err(_) => fault(errors, NO_MEMORY),
+        },
+        Err(why) => tell_desk_fault(alloc, why, errors),
+    }
+}
