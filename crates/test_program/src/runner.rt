@@ -20,7 +20,7 @@
 //! - `$ sql STATEMENT`: another program changes the file. `$ sql-refused WHY STATEMENT`: the database doesn't take the
 //!   change, since it breaks a constraint of this kind. `$ sql-finds NUMBER QUERY`: the query finds this number there.
 //! - `$ check-after STATEMENT`: a run of `check` for a desk of CH over a copy of the file, in which the statement
-//!   changed a row.
+//!   changed a row. `$ migrate-after STATEMENT`: a run of `migrate` over such a copy.
 //! - `$ no-file`: the case's file isn't there, nor its log.
 //! - `# TEXT`: for who reads it.
 //!

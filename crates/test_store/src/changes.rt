@@ -1,25 +1,33 @@
 //! The tables are made, and each kind of change is carried into them, in a store in memory.
-use crate::examples::{GRN, MRN, code, country, day, grn, guarantee, line, movement, mrn, row};
+use crate::examples::{
+    GRN, MRN, SECOND_GRN, cents, code, country, day, grn, guarantee, line, movement, mrn, row,
+};
 use sqlite::{Connection, Error, ErrorCode, MemStore};
+use std::alloc::Global;
 use std::process::Abort;
 use td_acts::{Change, HolderRow, NewStatus, NewTerms};
 use td_base::{AccessCode, Country, Day, Grn, Mrn};
 use td_guarantee::Guarantee;
-use td_movement::{Movement, State};
-use td_store_rows::{codes_of, find_by_grn, find_by_mrn, find_holder, find_meta, lines_of};
+use td_movement::{Line, Movement, State};
+use td_store_rows::{codes_of, find_by_mrn, find_holder, find_kept, find_meta, kept_of, lines_of};
 use td_store_write::{carry_change, create_tables};
 
 /// Carries a change where no transaction is begun.
-fn carry(conn: &mut Connection<MemStore>, country: Country, change: &Change) -> Result<(), Error> {
+fn carry(
+    alloc: Global,
+    conn: &mut Connection<MemStore>,
+    country: Country,
+    change: &Change,
+) -> Result<(), Error> {
     if conn.is_autocommit() {
-        carry_change(conn, country, change)?;
+        carry_change(alloc, conn, country, change)?;
     }
     Ok(())
 }
 
 /// A change that is carried.
 fn carried(rt: &(impl AllocGlobal + Abort), conn: &mut Connection<MemStore>, change: &Change) {
-    carry(conn, country(rt), change).expect(rt, "a change");
+    carry(rt.alloc(), conn, country(rt), change).expect(rt, "a change");
 }
 
 /// The movement of a line of 5,000.00.
@@ -83,6 +91,86 @@ fn what_is_declared_and_moved_is_there(rt: HostRuntime) {
     assert_moved(&rt, &mut conn, &row, &mrn, limit);
 }
 
+// So many cents are in use on the holder's two guarantees.
+fn assert_used(
+    rt: &(impl AllocGlobal + Abort),
+    conn: &mut Connection<MemStore>,
+    row: &HolderRow,
+    used: [u64; 2],
+) {
+    assert!(rt; conn.is_autocommit());
+    let mut tx = conn.transaction();
+    let kept = kept_of(rt.alloc(), &mut tx, row.holder).expect(rt, "rows");
+    assert!(rt; kept.len() == 2);
+    assert!(rt; kept[0].used.get() == used[0] && kept[1].used.get() == used[1]);
+}
+
+/// The movement of a line of 5,000.00 on the first guarantee and one of 0.07 on the second.
+fn lodged_on_two(rt: &(impl AllocGlobal + Abort)) -> Movement {
+    let second = Line {
+        grn: grn(rt, SECOND_GRN),
+        cents: cents(rt, 7),
+    };
+    let lines = vec![in rt.alloc(); line(rt), second].expect(rt, "memory");
+    movement(rt, lines)
+}
+
+/// Holder 1 is registered, two guarantees are opened and that movement is declared on both.
+fn carry_on_two(rt: &(impl AllocGlobal + Abort), conn: &mut Connection<MemStore>) {
+    let (first, second) = (guarantee(rt, GRN), guarantee(rt, SECOND_GRN));
+    carried(rt, conn, &Change::Registered(row(rt, 1, 0, 0)));
+    carried(rt, conn, &Change::Opened(row(rt, 1, 1, 0), first));
+    carried(rt, conn, &Change::Opened(row(rt, 1, 2, 0), second));
+    carried(
+        rt,
+        conn,
+        &Change::Declared(row(rt, 1, 2, 1), lodged_on_two(rt)),
+    );
+}
+
+/// What the movement comes into, one state after another, and the cents that are then in use on the two guarantees.
+const STATES: [(State, [u64; 2]); 7] = [
+    (State::Accepted, [0, 0]),
+    (State::Released, [500_000, 7]),
+    (State::Enquired, [500_000, 7]),
+    (State::Arrived, [500_000, 7]),
+    (State::Discrepant, [500_000, 7]),
+    (State::Cleared, [500_000, 7]),
+    (State::WrittenOff, [0, 0]),
+];
+
+// The movement comes into a state, and so many cents are then in use.
+fn assert_in_use_at(
+    rt: &(impl AllocGlobal + Abort),
+    conn: &mut Connection<MemStore>,
+    row: &HolderRow,
+    state: State,
+    used: [u64; 2],
+) {
+    let status = NewStatus::of(mrn(rt, MRN), state);
+    carried(rt, conn, &Change::Moved(*row, status));
+    assert_used(rt, conn, row, used);
+}
+
+#[test]
+fn amounts_are_in_use_from_the_release_to_the_write_off(rt: HostRuntime) {
+    let row = row(&rt, 1, 2, 1);
+    let mut conn = made(&rt);
+    carry_on_two(&rt, &mut conn);
+    assert_used(&rt, &mut conn, &row, [0, 0]);
+    for (state, used) in &STATES {
+        assert_in_use_at(&rt, &mut conn, &row, *state, *used);
+    }
+}
+
+#[test]
+fn a_movement_that_is_cancelled_has_nothing_in_use(rt: HostRuntime) {
+    let row = row(&rt, 1, 2, 1);
+    let mut conn = made(&rt);
+    carry_on_two(&rt, &mut conn);
+    assert_in_use_at(&rt, &mut conn, &row, State::Cancelled, [0, 0]);
+}
+
 fn is_ended(guarantee: &Guarantee, end: Day) -> bool {
     guarantee.ends == Some(end) && guarantee.reference.get() == 1_000_000
 }
@@ -99,7 +187,7 @@ fn assert_set(
     let (end, code) = left;
     assert!(rt; conn.is_autocommit());
     let mut tx = conn.transaction();
-    let found = find_by_grn(alloc, &mut tx, row.holder, 1, grn).expect(rt, "a row");
+    let found = find_kept(alloc, &mut tx, row.holder, 1, grn).expect(rt, "a row");
     assert!(rt; is_ended(&found.expect(rt, "the guarantee").guarantee, end));
     let codes = codes_of(alloc, &mut tx, row.holder, 1).expect(rt, "codes");
     assert!(rt; codes.len() == 1);
@@ -142,10 +230,10 @@ fn assert_lodged(rt: &(impl AllocGlobal + Abort), conn: &mut Connection<MemStore
 fn nothing_is_left_of_a_change_that_fails(rt: HostRuntime) {
     let country = country(&rt);
     let mut conn = made(&rt);
-    let unknown = carry(&mut conn, country, &bare(&rt));
+    let unknown = carry(rt.alloc(), &mut conn, country, &bare(&rt));
     assert!(rt; unknown == Err(Error::SqliteFailure(ErrorCode::DatabaseCorrupt)));
     carry_first(&rt, &mut conn);
-    assert!(rt; carry(&mut conn, country, &bare(&rt)).is_err());
+    assert!(rt; carry(rt.alloc(), &mut conn, country, &bare(&rt)).is_err());
     assert_lodged(&rt, &mut conn);
 }
 
@@ -158,5 +246,5 @@ fn tables_are_made_once(rt: HostRuntime) {
     let mut tx = conn.transaction();
     let meta = find_meta(&mut tx).expect(&rt, "a row");
     let meta = meta.expect(&rt, "the office's row");
-    assert!(rt; meta.version == 1 && meta.country == Some(country(&rt)));
+    assert!(rt; meta.version == 2 && meta.country == Some(country(&rt)));
 }

@@ -8,7 +8,7 @@ use td_base::{
 };
 use td_guarantee::{Codes, Guarantee};
 use td_movement::{Line, Movement, MovementLines, State};
-use td_schema::{NEWEST_LAYOUT, make_tables};
+use td_schema::{Layout, NEWEST_LAYOUT, make_tables};
 
 /// The first two guarantees of holder 000001 in 2025.
 pub const GRN: &[u8] = b"25CH0000010000014";
@@ -111,18 +111,23 @@ pub fn movement(rt: &impl Abort, lines: Vec<Line>) -> Movement {
     }
 }
 
-fn make(rt: &impl Abort, conn: &mut Connection<MemStore>) {
+fn make(rt: &impl Abort, conn: &mut Connection<MemStore>, layout: Layout) {
     assert!(rt; conn.is_autocommit());
     let mut tx = conn.transaction();
-    make_tables(&mut tx, NEWEST_LAYOUT).expect(rt, "tables");
+    make_tables(&mut tx, layout).expect(rt, "tables");
     tx.commit().expect(rt, "a commit");
+}
+
+/// A database in memory with the tables of a layout.
+pub fn with_layout(rt: &(impl AllocGlobal + Abort), layout: Layout) -> Connection<MemStore> {
+    let mut conn = Connection::open_in_memory(rt.alloc()).expect(rt, "a database");
+    make(rt, &mut conn, layout);
+    conn
 }
 
 /// A database in memory with the tables.
 pub fn with_tables(rt: &(impl AllocGlobal + Abort)) -> Connection<MemStore> {
-    let mut conn = Connection::open_in_memory(rt.alloc()).expect(rt, "a database");
-    make(rt, &mut conn);
-    conn
+    with_layout(rt, NEWEST_LAYOUT)
 }
 
 /// Carries statements out, one after another.

@@ -1,22 +1,27 @@
 //! A guarantee is written, found and amended, in a store in memory, and the office's own row too.
-use crate::examples::{GRN, HOLDER, SECOND_GRN, cents, country, grn, guarantee, holder, with_rows};
+use crate::examples::{
+    GRN, HOLDER, SECOND_GRN, cents, country, fill, grn, guarantee, holder, with_layout, with_rows,
+};
 use sqlite::{Connection, Error, ErrorCode, MemStore};
 use std::process::Abort;
 use td_acts::NewTerms;
 use td_base::{Country, Day, HolderNo};
 use td_guarantee::Guarantee;
+use td_schema::Layout;
 use td_store_rows::{
-    StoredMeta, find_by_grn, find_by_serial, find_meta, guarantees_of, insert_guarantee,
-    insert_meta, set_terms,
+    StoredMeta, add_used, empty_guarantees1, find_by_serial, find_kept, find_meta, guarantees_of,
+    insert_guarantee, insert_meta, kept_of, set_terms, set_version, take_used,
 };
 
-/// Writes two guarantees for the holder, the later one first.
+const CORRUPT: Error = Error::SqliteFailure(ErrorCode::DatabaseCorrupt);
+
+/// Writes two guarantees for the holder, the later one first. On the first one 3,000.00 are in use.
 fn write_two(rt: &(impl AllocGlobal + Abort), conn: &mut Connection<MemStore>, holder: HolderNo) {
     let (first, second) = (guarantee(rt, GRN), guarantee(rt, SECOND_GRN));
     assert!(rt; conn.is_autocommit());
     let mut tx = conn.transaction();
-    insert_guarantee(&mut tx, holder, 2, &second).expect(rt, "a guarantee");
-    insert_guarantee(&mut tx, holder, 1, &first).expect(rt, "a guarantee");
+    insert_guarantee(&mut tx, holder, 2, &second, cents(rt, 0)).expect(rt, "a guarantee");
+    insert_guarantee(&mut tx, holder, 1, &first, cents(rt, 300_000)).expect(rt, "a guarantee");
     tx.commit().expect(rt, "a commit");
 }
 
@@ -59,9 +64,11 @@ fn a_guarantee_is_found_by_its_references(rt: HostRuntime) {
     write_two(&rt, &mut conn, holder);
     assert!(rt; conn.is_autocommit());
     let mut tx = conn.transaction();
-    let found = find_by_grn(alloc, &mut tx, holder, 1, &grn).expect(&rt, "a row");
-    assert!(rt; is_as_opened(&found.expect(&rt, "a guarantee").guarantee));
-    let other = find_by_grn(alloc, &mut tx, holder, 2, &grn).expect(&rt, "no row");
+    let found = find_kept(alloc, &mut tx, holder, 1, &grn).expect(&rt, "a row");
+    let found = found.expect(&rt, "a guarantee");
+    assert!(rt; found.used.get() == 300_000);
+    assert!(rt; is_as_opened(&found.guarantee));
+    let other = find_kept(alloc, &mut tx, holder, 2, &grn).expect(&rt, "no row");
     assert!(rt; other.is_none());
     let found = find_by_serial(alloc, &mut tx, holder, 1).expect(&rt, "a row");
     assert!(rt; found.expect(&rt, "a guarantee").guarantee.grn == grn);
@@ -75,7 +82,7 @@ fn terms_of(guarantee: &Guarantee) -> (u64, u64, Option<Day>) {
     (reference, cover, guarantee.ends)
 }
 
-// The holder has two guarantees, with these terms.
+// The holder has two guarantees, with these terms, and what was in use on them is.
 fn assert_terms(
     rt: &(impl AllocGlobal + Abort),
     conn: &mut Connection<MemStore>,
@@ -84,10 +91,14 @@ fn assert_terms(
 ) {
     assert!(rt; conn.is_autocommit());
     let mut tx = conn.transaction();
-    let all = guarantees_of(rt.alloc(), &mut tx, holder).expect(rt, "rows");
+    let all = guarantees_of(rt.alloc(), &mut tx, 2, holder).expect(rt, "rows");
     assert!(rt; all.len() == 2);
     assert!(rt; terms_of(&all[0].guarantee) == terms[0]);
     assert!(rt; terms_of(&all[1].guarantee) == terms[1]);
+    let kept = kept_of(rt.alloc(), &mut tx, holder).expect(rt, "rows");
+    assert!(rt; kept.len() == 2);
+    assert!(rt; terms_of(&kept[0].guarantee) == terms[0] && kept[0].used.get() == 300_000);
+    assert!(rt; terms_of(&kept[1].guarantee) == terms[1] && kept[1].used.get() == 0);
 }
 
 #[test]
@@ -107,9 +118,151 @@ fn terms_that_are_not_said_stay(rt: HostRuntime) {
     set_one(&mut conn, holder, 1, &lowered).expect(&rt, "terms");
     set_one(&mut conn, holder, 1, &ended).expect(&rt, "terms");
     let missing = set_one(&mut conn, holder, 2, &lowered);
-    assert!(rt; missing == Err(Error::SqliteFailure(ErrorCode::DatabaseCorrupt)));
+    assert!(rt; missing == Err(CORRUPT));
     let terms = [(400_000, 50, Day::new(20_156)), (1_000_000, 50, None)];
     assert_terms(&rt, &mut conn, holder, terms);
+}
+
+/// Puts so many cents to the amount in use on the holder's guarantee with a serial, in a transaction of its own.
+fn add_one(
+    rt: &impl Abort,
+    conn: &mut Connection<MemStore>,
+    holder: HolderNo,
+    serial: u32,
+    amount: u64,
+) -> Result<(), Error> {
+    let amount = cents(rt, amount);
+    if conn.is_autocommit() {
+        let mut tx = conn.transaction();
+        add_used(&mut tx, holder, serial, amount)?;
+        tx.commit()?;
+    }
+    Ok(())
+}
+
+/// Takes so many cents off it.
+fn take_one(
+    rt: &impl Abort,
+    conn: &mut Connection<MemStore>,
+    holder: HolderNo,
+    serial: u32,
+    amount: u64,
+) -> Result<(), Error> {
+    let amount = cents(rt, amount);
+    if conn.is_autocommit() {
+        let mut tx = conn.transaction();
+        take_used(&mut tx, holder, serial, amount)?;
+        tx.commit()?;
+    }
+    Ok(())
+}
+
+// So many cents are in use on the holder's two guarantees.
+fn assert_used(
+    rt: &(impl AllocGlobal + Abort),
+    conn: &mut Connection<MemStore>,
+    holder: HolderNo,
+    used: [u64; 2],
+) {
+    assert!(rt; conn.is_autocommit());
+    let mut tx = conn.transaction();
+    let kept = kept_of(rt.alloc(), &mut tx, holder).expect(rt, "rows");
+    assert!(rt; kept.len() == 2);
+    assert!(rt; kept[0].used.get() == used[0] && kept[1].used.get() == used[1]);
+}
+
+#[test]
+fn no_more_is_put_into_use_than_the_reference_amount(rt: HostRuntime) {
+    let holder = holder(&rt, 1);
+    let mut conn = with_rows(&rt, &[HOLDER]);
+    write_two(&rt, &mut conn, holder);
+    add_one(&rt, &mut conn, holder, 1, 700_000).expect(&rt, "an amount");
+    assert_used(&rt, &mut conn, holder, [1_000_000, 0]);
+    assert!(rt; add_one(&rt, &mut conn, holder, 1, 1).is_err());
+    assert!(rt; add_one(&rt, &mut conn, holder, 3, 1) == Err(CORRUPT));
+    assert_used(&rt, &mut conn, holder, [1_000_000, 0]);
+}
+
+#[test]
+fn no_more_is_taken_than_is_in_use(rt: HostRuntime) {
+    let holder = holder(&rt, 1);
+    let mut conn = with_rows(&rt, &[HOLDER]);
+    write_two(&rt, &mut conn, holder);
+    take_one(&rt, &mut conn, holder, 1, 299_999).expect(&rt, "an amount");
+    assert_used(&rt, &mut conn, holder, [1, 0]);
+    assert!(rt; take_one(&rt, &mut conn, holder, 1, 2).is_err());
+    assert!(rt; take_one(&rt, &mut conn, holder, 3, 1) == Err(CORRUPT));
+    take_one(&rt, &mut conn, holder, 1, 1).expect(&rt, "an amount");
+    assert_used(&rt, &mut conn, holder, [0, 0]);
+}
+
+// A file that was migrated, but that a guarantee stands in the table of each version.
+const BOTH: [&str; 3] = [
+    HOLDER,
+    "INSERT INTO guarantees1 VALUES (1, 1, '25CH0000010000014', 1000000, 50, NULL)",
+    "INSERT INTO guarantees2 VALUES (1, 2, '25CH0000010000023', 1000000, 50, NULL, 7)",
+];
+
+// The serials of the holder's guarantees in a file of that version, and the number of them.
+fn assert_serials(
+    rt: &(impl AllocGlobal + Abort),
+    conn: &mut Connection<MemStore>,
+    version: u32,
+    serials: &[u32],
+) {
+    let holder = holder(rt, 1);
+    assert!(rt; conn.is_autocommit());
+    let mut tx = conn.transaction();
+    let all = guarantees_of(rt.alloc(), &mut tx, version, holder).expect(rt, "rows");
+    assert!(rt; all.len() == serials.len());
+    for (at, serial) in serials.iter().enumerate() {
+        assert!(rt; at < all.len());
+        assert!(rt; all[at].serial == *serial);
+    }
+}
+
+fn empty_first(rt: &impl Abort, conn: &mut Connection<MemStore>) {
+    assert!(rt; conn.is_autocommit());
+    let mut tx = conn.transaction();
+    empty_guarantees1(&mut tx).expect(rt, "a deletion");
+    tx.commit().expect(rt, "a commit");
+}
+
+#[test]
+fn each_version_has_guarantees_of_its_own(rt: HostRuntime) {
+    let mut conn = with_layout(&rt, Layout::Grown2);
+    fill(&rt, &mut conn, &BOTH);
+    assert_serials(&rt, &mut conn, 1, &[1]);
+    assert_serials(&rt, &mut conn, 2, &[2]);
+    empty_first(&rt, &mut conn);
+    assert_serials(&rt, &mut conn, 1, &[]);
+    assert_serials(&rt, &mut conn, 2, &[2]);
+}
+
+/// Sets the version in a transaction of its own.
+fn set_one_version(conn: &mut Connection<MemStore>, version: u32) -> Result<(), Error> {
+    if conn.is_autocommit() {
+        let mut tx = conn.transaction();
+        set_version(&mut tx, version)?;
+        tx.commit()?;
+    }
+    Ok(())
+}
+
+#[test]
+fn a_version_is_set_and_the_country_stays(rt: HostRuntime) {
+    let country = country(&rt);
+    let mut conn = with_rows(&rt, &[HOLDER]);
+    assert!(rt; set_one_version(&mut conn, 2) == Err(CORRUPT));
+    write_meta(&mut conn, country).expect(&rt, "a row");
+    set_one_version(&mut conn, 2).expect(&rt, "a version");
+    assert!(rt; conn.is_autocommit());
+    let mut tx = conn.transaction();
+    let written = StoredMeta {
+        version: 2,
+        country: Some(country),
+    };
+    assert!(rt; find_meta(&mut tx) == Ok(Some(written)));
 }
 
 #[test]

@@ -1,5 +1,5 @@
-//! Each shape of needs is loaded, and amounts in use are read, from a store in memory.
-use crate::examples::{GRN, MRN, code, country, grn, holder, line, lrn, mrn, with_rows};
+//! Each shape of needs is loaded, with the amounts in use that are kept, from a store in memory.
+use crate::examples::{GRN, MRN, code, country, grn, line, lrn, mrn, with_rows};
 use sqlite::{Connection, MemStore};
 use std::alloc::AllocError;
 use std::process::Abort;
@@ -7,16 +7,16 @@ use td_acts::{Lines, Loaded, Needs};
 use td_base::{Cents, HolderNo};
 use td_guarantee::Guarantee;
 use td_movement::Movement;
-use td_store_load::{amount_in_use, load};
+use td_store_load::load;
 
 // Holder 1 has two guarantees, two movements that count and one that doesn't yet; holder 2 has one guarantee, a
 // movement that counts and one that doesn't any more.
 const ROWS: [&str; 20] = [
     "INSERT INTO holders VALUES (1, 'CH1234567', 1740819600, 2, 3)",
     "INSERT INTO holders VALUES (2, 'CH7654321', 1740819600, 1, 2)",
-    "INSERT INTO guarantees1 VALUES (1, 1, '25CH0000010000014', 1000000, 50, NULL)",
-    "INSERT INTO guarantees1 VALUES (1, 2, '25CH0000010000023', 5000000, 100, NULL)",
-    "INSERT INTO guarantees1 VALUES (2, 1, '25CH0000020000010', 1000000, 100, NULL)",
+    "INSERT INTO guarantees2 VALUES (1, 1, '25CH0000010000014', 1000000, 50, NULL, 400)",
+    "INSERT INTO guarantees2 VALUES (1, 2, '25CH0000010000023', 5000000, 100, NULL, 20000)",
+    "INSERT INTO guarantees2 VALUES (2, 1, '25CH0000020000010', 1000000, 100, NULL, 70)",
     "INSERT INTO codes VALUES (1, 1, 'CD34')",
     "INSERT INTO codes VALUES (1, 1, 'AB12')",
     "INSERT INTO codes VALUES (1, 2, 'EF56')",
@@ -112,7 +112,7 @@ fn each_need_is_loaded_of_its_owner(rt: HostRuntime) {
         (Needs::Nothing, "", ""),
         (
             Needs::Lodging(lrn, &lines),
-            "25CH00000100000021 1 25CH0000010000014 2 0.00 ",
+            "25CH00000100000021 1 25CH0000010000014 2 4.00 ",
             "",
         ),
         (Needs::Movement(mrn), "25CH00000100000013 2 ", ""),
@@ -136,35 +136,5 @@ fn each_need_is_loaded_of_its_owner(rt: HostRuntime) {
     let mut conn = with_rows(&rt, &ROWS);
     for (needs, first, second) in &rows {
         assert_each(&rt, &mut conn, needs, first, second);
-    }
-}
-
-/// A holder's number and a guarantee's serial, and the cents in use on it.
-const IN_USE: [(u32, u32, u64); 5] = [
-    (1, 1, 400),
-    (1, 2, 20_000),
-    (1, 3, 0),
-    (2, 1, 70),
-    (3, 1, 0),
-];
-
-fn assert_in_use(
-    rt: &(impl AllocGlobal + Abort),
-    conn: &mut Connection<MemStore>,
-    holder: HolderNo,
-    guarantee: u32,
-    cents: u64,
-) {
-    assert!(rt; conn.is_autocommit());
-    let mut tx = conn.transaction();
-    let amount = amount_in_use(rt.alloc(), &mut tx, holder, guarantee).expect(rt, "rows");
-    assert!(rt; amount.get() == cents, "{holder} {guarantee}");
-}
-
-#[test]
-fn what_counts_on_a_guarantee_is_in_use(rt: HostRuntime) {
-    let mut conn = with_rows(&rt, &ROWS);
-    for (number, guarantee, cents) in &IN_USE {
-        assert_in_use(&rt, &mut conn, holder(&rt, *number), *guarantee, *cents);
     }
 }

@@ -1,9 +1,11 @@
-//! The tables are made once, with their keys and checks.
-use crate::examples::with_tables;
-use td_schema::{NEWEST_LAYOUT, make_tables};
+//! The tables are made once, with their keys and checks, those of either version.
+use crate::examples::{fill, with_layout, with_tables};
+use sqlite::{Connection, MemStore};
+use std::process::Abort;
+use td_schema::{Layout, NEWEST_LAYOUT, make_guarantees2, make_tables};
 
 /// Statements, one after another, and whether each is taken.
-const STATEMENTS: [(&str, bool); 16] = [
+const STATEMENTS: [(&str, bool); 19] = [
     ("INSERT INTO meta VALUES (2, 1, 'CH')", false),
     ("INSERT INTO meta VALUES (1, 1, 'CH')", true),
     (
@@ -19,15 +21,27 @@ const STATEMENTS: [(&str, bool); 16] = [
         false,
     ),
     (
-        "INSERT INTO guarantees1 VALUES (2, 1, '25CH0000010000014', 1000000, 50, NULL)",
+        "INSERT INTO guarantees2 VALUES (2, 1, '25CH0000010000014', 1000000, 50, NULL, 0)",
         false,
     ),
     (
-        "INSERT INTO guarantees1 VALUES (1, 1, '25CH0000010000014', 1000000, 40, NULL)",
+        "INSERT INTO guarantees2 VALUES (1, 1, '25CH0000010000014', 1000000, 40, NULL, 0)",
         false,
     ),
     (
-        "INSERT INTO guarantees1 VALUES (1, 1, '25CH0000010000014', 1000000, 50, NULL)",
+        "INSERT INTO guarantees2 VALUES (1, 1, '25CH0000010000014', 1000000, 50, NULL, -1)",
+        false,
+    ),
+    (
+        "INSERT INTO guarantees2 VALUES (1, 1, '25CH0000010000014', 1000000, 50, NULL, 1000001)",
+        false,
+    ),
+    (
+        "INSERT INTO guarantees2 VALUES (1, 1, '25CH0000010000014', 1000000, 50, NULL, NULL)",
+        false,
+    ),
+    (
+        "INSERT INTO guarantees2 VALUES (1, 1, '25CH0000010000014', 1000000, 50, NULL, 1000000)",
         true,
     ),
     ("INSERT INTO codes VALUES (1, 1, 'AB12')", true),
@@ -63,4 +77,29 @@ fn tables_are_made_once(rt: HostRuntime) {
     assert!(rt; conn.is_autocommit());
     let mut tx = conn.transaction();
     assert!(rt; make_tables(&mut tx, NEWEST_LAYOUT).is_err());
+}
+
+/// Makes the table of guarantees of version 2 beside the tables of version 1.
+fn grow(rt: &impl Abort, conn: &mut Connection<MemStore>) {
+    assert!(rt; conn.is_autocommit());
+    let mut tx = conn.transaction();
+    make_guarantees2(&mut tx).expect(rt, "a table");
+    tx.commit().expect(rt, "a commit");
+}
+
+const HOLDER: &str = "INSERT INTO holders VALUES (1, 'CH1234567', 1740819600, 1, 0)";
+
+const FIRST: &str = "INSERT INTO guarantees1 VALUES (1, 1, '25CH0000010000014', 1000000, 50, NULL)";
+
+const SECOND: &str =
+    "INSERT INTO guarantees2 VALUES (1, 1, '25CH0000010000014', 1000000, 50, NULL, 0)";
+
+#[test]
+fn the_later_table_is_made_beside_the_first(rt: HostRuntime) {
+    let mut conn = with_layout(&rt, Layout::Made1);
+    fill(&rt, &mut conn, &[HOLDER, FIRST]);
+    assert!(rt; conn.execute(SECOND, &[]).is_err());
+    grow(&rt, &mut conn);
+    fill(&rt, &mut conn, &[SECOND]);
+    assert!(rt; conn.execute(FIRST, &[]).is_err());
 }

@@ -4,8 +4,8 @@ use sqlite_value::value::ValueRef;
 use std::alloc::Global;
 use std::process::Abort;
 use typed_sql::{
-    FromRow, delete, fetch, fetch_one, insert, integer_at, is_null_at, number_at, select, text_at,
-    update,
+    FromRow, delete, empty, fetch, fetch_one, insert, integer_at, is_null_at, number_at, select,
+    text_at, update,
 };
 
 const TABLE: &str =
@@ -14,6 +14,8 @@ const TABLE: &str =
 const ADD: &str = "INSERT INTO crew VALUES (?1, ?2, ?3)";
 
 const PROMOTE: &str = "UPDATE crew SET rank = COALESCE(?3, rank) WHERE ship = ?1 AND name = ?2";
+
+const RAISE: &str = "UPDATE crew SET rank = rank + ?3 WHERE ship = ?1 AND name = ?2";
 
 const DISCHARGE: &str = "DELETE FROM crew WHERE ship = ?1 AND name = ?2";
 
@@ -97,6 +99,30 @@ fn one_row_is_deleted(rt: HostRuntime) {
     let left = select(&mut tx, OF_SHIP, &[ValueRef::Int(1)]).expect(&rt, "rows");
     let others = select(&mut tx, OF_SHIP, &[ValueRef::Int(2)]).expect(&rt, "rows");
     assert!(rt; left.len() == 1 && others.len() == 1);
+}
+
+#[test]
+fn an_update_computes(rt: HostRuntime) {
+    let mut conn = with_crew(&rt);
+    assert!(rt; conn.is_autocommit());
+    let mut tx = conn.transaction();
+    let by_three = [ValueRef::Int(1), ValueRef::Text(b"Mio"), ValueRef::Int(3)];
+    update(&mut tx, RAISE, &by_three).expect(&rt, "an update");
+    let rows = select(&mut tx, OF_SHIP, &[ValueRef::Int(1)]).expect(&rt, "rows");
+    assert!(rt; rows.len() == 2);
+    assert!(rt; has_no_rank(&rows[0]) && has_rank(&rows[1], 7));
+}
+
+#[test]
+fn all_rows_are_deleted(rt: HostRuntime) {
+    let mut conn = with_crew(&rt);
+    assert!(rt; conn.is_autocommit());
+    let mut tx = conn.transaction();
+    empty(&mut tx, "DELETE FROM crew").expect(&rt, "a deletion");
+    let first = select(&mut tx, OF_SHIP, &[ValueRef::Int(1)]).expect(&rt, "rows");
+    let second = select(&mut tx, OF_SHIP, &[ValueRef::Int(2)]).expect(&rt, "rows");
+    assert!(rt; first.is_empty() && second.is_empty());
+    empty(&mut tx, "DELETE FROM crew").expect(&rt, "a deletion");
 }
 
 const CORRUPT: Error = Error::SqliteFailure(ErrorCode::DatabaseCorrupt);

@@ -9,6 +9,11 @@ use crate::helpers::{Done, done_over, served_at};
 use std::alloc::{AllocError, Global};
 use std::test::Fail;
 
+// The words of a run over a copy that was changed.
+const CHECK: &str = "check --country CH --db FILE";
+
+const MIGRATE: &str = "migrate --db FILE";
+
 // What the program with these words leaves over this file, on what these lines send.
 fn done_of(
     rt: &HostRuntime,
@@ -75,15 +80,16 @@ fn assert_program(
     Ok(())
 }
 
-// `check` over a copy of the file, in which the statement changed a row.
-fn assert_checked(
+// A run with these words over a copy of the file, in which the statement changed a row.
+fn assert_run_after(
     rt: &HostRuntime,
     place: Place<'_>,
     statement: &str,
+    words: &str,
     lines: &str,
 ) -> Result<(), Fail> {
     change_copy(rt, place, statement)?;
-    assert_run(rt, place, "check --country CH --db FILE", COPY, lines)
+    assert_run(rt, place, words, COPY, lines)
 }
 
 // A run, or what another program does: the line behind `$`, and then its lines.
@@ -95,7 +101,8 @@ fn assert_step(rt: &HostRuntime, place: Place<'_>, step: &str) -> Result<(), Fai
         "sql" => change(rt, place, rest),
         "sql-refused" => assert_refused(rt, place, rest),
         "sql-finds" => assert_found(rt, place, rest),
-        "check-after" => assert_checked(rt, place, rest, lines),
+        "check-after" => assert_run_after(rt, place, rest, CHECK, lines),
+        "migrate-after" => assert_run_after(rt, place, rest, MIGRATE, lines),
         "no-file" => assert_no_file(rt, place),
         _ => assert_program(rt, place, line, lines),
     }

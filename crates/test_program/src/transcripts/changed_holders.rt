@@ -10,7 +10,7 @@ const CASES: &str = r#"
 # 2025-03-01.
 $ pipe --country CH --at 1740819600 --db FILE --new
 $ sql INSERT INTO holders VALUES (1, 'CH1234567', 1740992400, 2, 3), (2, 'DE7654321', 1740819600, 1, 1), (3, 'FR1', 1740819600, 0, 0)
-$ sql INSERT INTO guarantees1 VALUES (1, 1, '25CH0000010000014', 1000000, 50, NULL), (1, 2, '25CH0000010000023', 500000, 100, 20164), (2, 1, '25CH0000020000010', 1000000, 30, NULL)
+$ sql INSERT INTO guarantees2 VALUES (1, 1, '25CH0000010000014', 1000000, 50, NULL, 900000), (1, 2, '25CH0000010000023', 500000, 100, 20164, 200000), (2, 1, '25CH0000020000010', 1000000, 30, NULL, 0)
 $ sql INSERT INTO codes VALUES (1, 1, 'AB12'), (1, 1, 'CD34'), (1, 2, 'EF56'), (2, 1, 'AB12')
 $ sql INSERT INTO movements VALUES (1, 1, '25CH00000100000013', 'A1', 'CH001251', 'DE005600', 20148, 'released', 20155, NULL, NULL), (1, 2, '25CH00000100000021', 'A2', 'CH001251', 'DE005600', 20148, 'arrived', 20155, 20150, 'FR000100')
 $ sql INSERT INTO movements VALUES (1, 3, '25CH00000100000030', 'A3', 'CH001251', 'DE005600', 20148, 'accepted', NULL, NULL, NULL), (2, 1, '25CH00000200000019', 'A1', 'CH001251', 'DE005600', 20148, 'accepted', NULL, NULL, NULL)
@@ -19,13 +19,17 @@ $ check --country CH --db FILE
 <| sound\n
 $ sql-refused check UPDATE meta SET one = 2
 $ sql-refused check UPDATE meta SET one = 0
-$ sql-refused primary-key INSERT INTO meta VALUES (1, 1, 'CH')
-$ sql-refused check INSERT INTO meta VALUES (2, 1, 'CH')
+$ sql-refused primary-key INSERT INTO meta VALUES (1, 2, 'CH')
+$ sql-refused check INSERT INTO meta VALUES (2, 2, 'CH')
 $ check-after DELETE FROM meta
 ! 1 transit-desk: unknown-version
 $ check-after UPDATE meta SET version = 0
 ! 1 transit-desk: unknown-version
+$ check-after UPDATE meta SET version = 1
+! 1 transit-desk: needs-migration 1
 $ check-after UPDATE meta SET version = 2
+<| sound\n
+$ check-after UPDATE meta SET version = 3
 ! 1 transit-desk: unknown-version
 $ check-after UPDATE meta SET version = -1
 ! 1 transit-desk: unknown-version
@@ -54,7 +58,7 @@ $ check --country CH --db FILE
 # 2025-03-01.
 $ pipe --country CH --at 1740819600 --db FILE --new
 $ sql INSERT INTO holders VALUES (1, 'CH1234567', 1740992400, 2, 3), (2, 'DE7654321', 1740819600, 1, 1), (3, 'FR1', 1740819600, 0, 0)
-$ sql INSERT INTO guarantees1 VALUES (1, 1, '25CH0000010000014', 1000000, 50, NULL), (1, 2, '25CH0000010000023', 500000, 100, 20164), (2, 1, '25CH0000020000010', 1000000, 30, NULL)
+$ sql INSERT INTO guarantees2 VALUES (1, 1, '25CH0000010000014', 1000000, 50, NULL, 900000), (1, 2, '25CH0000010000023', 500000, 100, 20164, 200000), (2, 1, '25CH0000020000010', 1000000, 30, NULL, 0)
 $ sql INSERT INTO codes VALUES (1, 1, 'AB12'), (1, 1, 'CD34'), (1, 2, 'EF56'), (2, 1, 'AB12')
 $ sql INSERT INTO movements VALUES (1, 1, '25CH00000100000013', 'A1', 'CH001251', 'DE005600', 20148, 'released', 20155, NULL, NULL), (1, 2, '25CH00000100000021', 'A2', 'CH001251', 'DE005600', 20148, 'arrived', 20155, 20150, 'FR000100')
 $ sql INSERT INTO movements VALUES (1, 3, '25CH00000100000030', 'A3', 'CH001251', 'DE005600', 20148, 'accepted', NULL, NULL, NULL), (2, 1, '25CH00000200000019', 'A1', 'CH001251', 'DE005600', 20148, 'accepted', NULL, NULL, NULL)

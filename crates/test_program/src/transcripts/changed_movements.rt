@@ -10,7 +10,7 @@ const CASES: &str = r#"
 # 2025-03-01.
 $ pipe --country CH --at 1740819600 --db FILE --new
 $ sql INSERT INTO holders VALUES (1, 'CH1234567', 1740992400, 2, 3), (2, 'DE7654321', 1740819600, 1, 1), (3, 'FR1', 1740819600, 0, 0)
-$ sql INSERT INTO guarantees1 VALUES (1, 1, '25CH0000010000014', 1000000, 50, NULL), (1, 2, '25CH0000010000023', 500000, 100, 20164), (2, 1, '25CH0000020000010', 1000000, 30, NULL)
+$ sql INSERT INTO guarantees2 VALUES (1, 1, '25CH0000010000014', 1000000, 50, NULL, 900000), (1, 2, '25CH0000010000023', 500000, 100, 20164, 200000), (2, 1, '25CH0000020000010', 1000000, 30, NULL, 0)
 $ sql INSERT INTO codes VALUES (1, 1, 'AB12'), (1, 1, 'CD34'), (1, 2, 'EF56'), (2, 1, 'AB12')
 $ sql INSERT INTO movements VALUES (1, 1, '25CH00000100000013', 'A1', 'CH001251', 'DE005600', 20148, 'released', 20155, NULL, NULL), (1, 2, '25CH00000100000021', 'A2', 'CH001251', 'DE005600', 20148, 'arrived', 20155, 20150, 'FR000100')
 $ sql INSERT INTO movements VALUES (1, 3, '25CH00000100000030', 'A3', 'CH001251', 'DE005600', 20148, 'accepted', NULL, NULL, NULL), (2, 1, '25CH00000200000019', 'A1', 'CH001251', 'DE005600', 20148, 'accepted', NULL, NULL, NULL)
@@ -71,7 +71,7 @@ $ check --country CH --db FILE
 # 2025-03-01.
 $ pipe --country CH --at 1740819600 --db FILE --new
 $ sql INSERT INTO holders VALUES (1, 'CH1234567', 1740992400, 2, 3), (2, 'DE7654321', 1740819600, 1, 1), (3, 'FR1', 1740819600, 0, 0)
-$ sql INSERT INTO guarantees1 VALUES (1, 1, '25CH0000010000014', 1000000, 50, NULL), (1, 2, '25CH0000010000023', 500000, 100, 20164), (2, 1, '25CH0000020000010', 1000000, 30, NULL)
+$ sql INSERT INTO guarantees2 VALUES (1, 1, '25CH0000010000014', 1000000, 50, NULL, 900000), (1, 2, '25CH0000010000023', 500000, 100, 20164, 200000), (2, 1, '25CH0000020000010', 1000000, 30, NULL, 0)
 $ sql INSERT INTO codes VALUES (1, 1, 'AB12'), (1, 1, 'CD34'), (1, 2, 'EF56'), (2, 1, 'AB12')
 $ sql INSERT INTO movements VALUES (1, 1, '25CH00000100000013', 'A1', 'CH001251', 'DE005600', 20148, 'released', 20155, NULL, NULL), (1, 2, '25CH00000100000021', 'A2', 'CH001251', 'DE005600', 20148, 'arrived', 20155, 20150, 'FR000100')
 $ sql INSERT INTO movements VALUES (1, 3, '25CH00000100000030', 'A3', 'CH001251', 'DE005600', 20148, 'accepted', NULL, NULL, NULL), (2, 1, '25CH00000200000019', 'A1', 'CH001251', 'DE005600', 20148, 'accepted', NULL, NULL, NULL)
@@ -121,20 +121,21 @@ $ check --country CH --db FILE
 # 2025-03-01.
 $ pipe --country CH --at 1740819600 --db FILE --new
 $ sql INSERT INTO holders VALUES (1, 'CH1234567', 1740992400, 2, 3), (2, 'DE7654321', 1740819600, 1, 1), (3, 'FR1', 1740819600, 0, 0)
-$ sql INSERT INTO guarantees1 VALUES (1, 1, '25CH0000010000014', 1000000, 50, NULL), (1, 2, '25CH0000010000023', 500000, 100, 20164), (2, 1, '25CH0000020000010', 1000000, 30, NULL)
+$ sql INSERT INTO guarantees2 VALUES (1, 1, '25CH0000010000014', 1000000, 50, NULL, 900000), (1, 2, '25CH0000010000023', 500000, 100, 20164, 200000), (2, 1, '25CH0000020000010', 1000000, 30, NULL, 0)
 $ sql INSERT INTO codes VALUES (1, 1, 'AB12'), (1, 1, 'CD34'), (1, 2, 'EF56'), (2, 1, 'AB12')
 $ sql INSERT INTO movements VALUES (1, 1, '25CH00000100000013', 'A1', 'CH001251', 'DE005600', 20148, 'released', 20155, NULL, NULL), (1, 2, '25CH00000100000021', 'A2', 'CH001251', 'DE005600', 20148, 'arrived', 20155, 20150, 'FR000100')
 $ sql INSERT INTO movements VALUES (1, 3, '25CH00000100000030', 'A3', 'CH001251', 'DE005600', 20148, 'accepted', NULL, NULL, NULL), (2, 1, '25CH00000200000019', 'A1', 'CH001251', 'DE005600', 20148, 'accepted', NULL, NULL, NULL)
 $ sql INSERT INTO lines1 VALUES (1, 1, 1, 1, 500000), (1, 1, 2, 2, 200000), (1, 2, 1, 1, 400000), (1, 3, 1, 1, 100001), (2, 1, 1, 1, 600000)
 $ check --country CH --db FILE
 <| sound\n
-# The state: one that asks for the same days, and leaves no more in use.
+# The state: one that asks for the same days, and leaves as much in use. Written off, a movement has nothing in use any
+# more, and what is kept is above the sum.
 $ check-after UPDATE movements SET state = 'enquired' WHERE holder = 1 AND serial = 1
 <| sound\n
 $ check-after UPDATE movements SET state = 'written-off' WHERE holder = 1 AND serial = 1
-<| sound\n
+! 1 transit-desk: damaged S7
 $ check-after UPDATE movements SET state = 'written-off' WHERE holder = 1 AND serial = 2
-<| sound\n
+! 1 transit-desk: damaged S7
 $ check-after UPDATE movements SET state = 'discrepant' WHERE holder = 1 AND serial = 2
 <| sound\n
 $ check-after UPDATE movements SET state = 'cleared' WHERE holder = 1 AND serial = 2
@@ -154,12 +155,12 @@ $ check-after UPDATE movements SET state = 'released' WHERE holder = 1 AND seria
 $ sql-refused check UPDATE movements SET state = 'gone' WHERE holder = 1 AND serial = 1
 $ sql-refused check UPDATE movements SET state = 'Released' WHERE holder = 1 AND serial = 1
 $ sql-refused not-null UPDATE movements SET state = NULL WHERE holder = 2
-# Released with its limit, the movement has too much in use: 900000 and 100001 cents of 1000000.
+# Released with its limit, the movement has in use what isn't kept: 100001 cents beside 900000, of 1000000.
 $ check-after UPDATE movements SET state = 'released', limit_day = 20155 WHERE holder = 1 AND serial = 3
-! 1 transit-desk: damaged S8
-# The one of holder 2 has not: 600000 of 1000000.
+! 1 transit-desk: damaged S7
+# So has the one of holder 2: 600000 of 1000000, and 0 are kept.
 $ check-after UPDATE movements SET state = 'released', limit_day = 20155 WHERE holder = 2
-<| sound\n
+! 1 transit-desk: damaged S7
 # The limit: there from the release on, and not before.
 $ check-after UPDATE movements SET limit_day = 20148 WHERE holder = 1 AND serial = 1
 <| sound\n
@@ -203,11 +204,35 @@ $ check-after UPDATE movements SET actual = 'DE005600' WHERE holder = 1 AND seri
 $ check-after UPDATE movements SET actual = 'DE005600' WHERE holder = 2
 ! 1 transit-desk: damaged S5
 $ sql-refused datatype UPDATE movements SET actual = x'44' WHERE holder = 1 AND serial = 2
-# Without both a movement that is written off was asked after; with one of them it is nothing.
+# Without both a movement that is written off was asked after, and has nothing in use; with one of them it is nothing.
 $ check-after UPDATE movements SET state = 'written-off', arrival = NULL, actual = NULL WHERE holder = 1 AND serial = 2
-<| sound\n
+! 1 transit-desk: damaged S7
 $ check-after UPDATE movements SET state = 'written-off', arrival = NULL WHERE holder = 1 AND serial = 2
 ! 1 transit-desk: damaged S5
+# With the amounts in use that such a change leaves each is sound, and none without it.
+$ sql UPDATE guarantees2 SET used = 500000 WHERE holder = 1 AND serial = 1
+$ check --country CH --db FILE
+! 1 transit-desk: damaged S7
+$ check-after UPDATE movements SET state = 'written-off' WHERE holder = 1 AND serial = 2
+<| sound\n
+$ check-after UPDATE movements SET state = 'written-off', arrival = NULL, actual = NULL WHERE holder = 1 AND serial = 2
+<| sound\n
+$ sql UPDATE guarantees2 SET used = 400000 WHERE holder = 1 AND serial = 1
+$ check-after UPDATE movements SET state = 'written-off' WHERE holder = 1 AND serial = 1
+! 1 transit-desk: damaged S7
+$ sql UPDATE guarantees2 SET used = 0 WHERE holder = 1 AND serial = 2
+$ check-after UPDATE movements SET state = 'written-off' WHERE holder = 1 AND serial = 1
+<| sound\n
+$ sql UPDATE guarantees2 SET used = 900000 WHERE holder = 1 AND serial = 1
+$ sql UPDATE guarantees2 SET used = 200000 WHERE holder = 1 AND serial = 2
+$ sql UPDATE guarantees2 SET used = 600000 WHERE holder = 2
+$ check --country CH --db FILE
+! 1 transit-desk: damaged S7
+$ check-after UPDATE movements SET state = 'released', limit_day = 20155 WHERE holder = 2
+<| sound\n
+$ check-after UPDATE movements SET state = 'enquired', limit_day = 20155 WHERE holder = 2
+<| sound\n
+$ sql UPDATE guarantees2 SET used = 0 WHERE holder = 2
 # What the database does not take leaves the rows as they were.
 $ check --country CH --db FILE
 <| sound\n

@@ -36,6 +36,13 @@ $ check --country CH --db FILE
 == a file that says this version and has other tables is none of a desk
 $ sql CREATE TABLE meta (one INTEGER PRIMARY KEY CHECK (one = 1), version INTEGER NOT NULL, country TEXT NOT NULL) STRICT
 $ sql CREATE TABLE ledger (holder INTEGER NOT NULL) STRICT
+$ sql INSERT INTO meta VALUES (1, 2, 'CH')
+$ check --country CH --db FILE
+! 1 transit-desk: store
+
+== nor is one that says an earlier version
+$ sql CREATE TABLE meta (one INTEGER PRIMARY KEY CHECK (one = 1), version INTEGER NOT NULL, country TEXT NOT NULL) STRICT
+$ sql CREATE TABLE ledger (holder INTEGER NOT NULL) STRICT
 $ sql INSERT INTO meta VALUES (1, 1, 'CH')
 $ check --country CH --db FILE
 ! 1 transit-desk: store

@@ -14,7 +14,7 @@ use td_table_model::Rule;
 /// nothing. Day 20148 is 2025-03-01.
 const ROWS: [&str; 6] = [
     "INSERT INTO holders VALUES (1, 'CH1234567', 1740992400, 2, 3), (2, 'DE7654321', 1740819600, 1, 1), (3, 'FR1', 1740819600, 0, 0)",
-    "INSERT INTO guarantees1 VALUES (1, 1, '25CH0000010000014', 1000000, 50, NULL), (1, 2, '25CH0000010000023', 500000, 100, 20164), (2, 1, '25CH0000020000010', 1000000, 30, NULL)",
+    "INSERT INTO guarantees2 VALUES (1, 1, '25CH0000010000014', 1000000, 50, NULL, 900000), (1, 2, '25CH0000010000023', 500000, 100, 20164, 200000), (2, 1, '25CH0000020000010', 1000000, 30, NULL, 0)",
     "INSERT INTO codes VALUES (1, 1, 'AB12'), (1, 1, 'CD34'), (1, 2, 'EF56'), (2, 1, 'AB12')",
     "INSERT INTO movements VALUES (1, 1, '25CH00000100000013', 'A1', 'CH001251', 'DE005600', 20148, 'released', 20155, NULL, NULL), (1, 2, '25CH00000100000021', 'A2', 'CH001251', 'DE005600', 20148, 'arrived', 20155, 20150, 'FR000100')",
     "INSERT INTO movements VALUES (1, 3, '25CH00000100000030', 'A3', 'CH001251', 'DE005600', 20148, 'accepted', NULL, NULL, NULL), (2, 1, '25CH00000200000019', 'A1', 'CH001251', 'DE005600', 20148, 'accepted', NULL, NULL, NULL)",
@@ -24,7 +24,7 @@ const ROWS: [&str; 6] = [
 /// A row that is put in, the rule that it breaks, and the statement that takes it away again.
 type Junk = (&'static str, Rule, &'static str);
 
-/// One for each rule; the last one is in its place, and takes up more than is free.
+/// One for each rule; the last one is in its place, and is in no amount in use that is kept.
 const JUNK: [Junk; 6] = [
     (
         "INSERT INTO holders VALUES (9, 'junk', 0, 0, 0)",
@@ -32,9 +32,9 @@ const JUNK: [Junk; 6] = [
         "DELETE FROM holders WHERE holder = 9",
     ),
     (
-        "INSERT INTO guarantees1 VALUES (2, 7, 'junk', 1, 0, NULL)",
+        "INSERT INTO guarantees2 VALUES (2, 7, 'junk', 1, 0, NULL, 0)",
         Rule::S3,
-        "DELETE FROM guarantees1 WHERE grn = 'junk'",
+        "DELETE FROM guarantees2 WHERE grn = 'junk'",
     ),
     (
         "INSERT INTO codes VALUES (2, 1, 'junk')",
@@ -53,7 +53,7 @@ const JUNK: [Junk; 6] = [
     ),
     (
         "INSERT INTO lines1 VALUES (1, 2, 2, 2, 300001)",
-        Rule::S8,
+        Rule::S7,
         "DELETE FROM lines1 WHERE cents = 300001",
     ),
 ];
@@ -61,14 +61,14 @@ const JUNK: [Junk; 6] = [
 const TABLES: [&str; 6] = [
     "SELECT one, version, country FROM meta",
     "SELECT holder, eori, last_at, grn_count, mrn_count FROM holders",
-    "SELECT holder, serial, grn, reference, cover, ends FROM guarantees1",
+    "SELECT holder, serial, grn, reference, cover, ends, used FROM guarantees2",
     "SELECT holder, serial, code FROM codes",
     "SELECT holder, serial, mrn, lrn, departure, destination, accepted, state, limit_day, arrival, actual FROM movements",
     "SELECT holder, serial, no, guarantee, cents FROM lines1",
 ];
 
 /// A database with these rows.
-fn tables(rt: &(impl AllocGlobal + Abort)) -> Connection<MemStore> {
+pub fn tables(rt: &(impl AllocGlobal + Abort)) -> Connection<MemStore> {
     let mut conn = made(rt).close();
     fill(rt, &mut conn, &ROWS);
     conn
@@ -81,7 +81,8 @@ fn tables_after(rt: &(impl AllocGlobal + Abort), statement: &str) -> Connection<
     conn
 }
 
-fn push_rows(
+/// Adds the rows of a query.
+pub fn push_rows(
     rt: &(impl AllocGlobal + Abort),
     words: &mut String,
     conn: &mut Connection<MemStore>,
@@ -101,7 +102,7 @@ fn rows_of(rt: &(impl AllocGlobal + Abort), conn: &mut Connection<MemStore>) -> 
 }
 
 /// All that a desk over the database shows of its holders.
-fn shown(rt: &(impl AllocGlobal + Abort), conn: Connection<MemStore>) -> String {
+pub fn shown(rt: &(impl AllocGlobal + Abort), conn: Connection<MemStore>) -> String {
     seen(rt, &mut opened(rt, conn))
 }
 

@@ -53,7 +53,7 @@ const CHANGES: [(&str, Rule); 2] = [
         Rule::S4,
     ),
     (
-        "UPDATE guarantees1 SET grn = 'none' WHERE serial = 400",
+        "UPDATE guarantees2 SET grn = 'none' WHERE serial = 400",
         Rule::S3,
     ),
 ];

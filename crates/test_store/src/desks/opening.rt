@@ -93,8 +93,10 @@ fn a_desk_is_opened_again(rt: HostRuntime) {
 }
 
 /// What the desk is refused for after a change by hand.
-const CHANGES: [(&str, OpenFault); 11] = [
+const CHANGES: [(&str, OpenFault); 13] = [
     ("UPDATE meta SET version = 9", OpenFault::UnknownVersion),
+    ("UPDATE meta SET version = 0", OpenFault::UnknownVersion),
+    ("UPDATE meta SET version = 1", OpenFault::NeedsMigration(1)),
     ("DELETE FROM meta", OpenFault::UnknownVersion),
     ("UPDATE meta SET country = 'DE'", OpenFault::OtherCountry),
     ("UPDATE meta SET country = 'ch'", OpenFault::OtherCountry),
@@ -117,8 +119,8 @@ const CHANGES: [(&str, OpenFault); 11] = [
     ),
     ("DELETE FROM lines1", OpenFault::Damaged(Rule::S6)),
     (
-        "UPDATE guarantees1 SET reference = 1",
-        OpenFault::Damaged(Rule::S8),
+        "UPDATE guarantees2 SET used = 0",
+        OpenFault::Damaged(Rule::S7),
     ),
 ];
 
