@@ -3,7 +3,6 @@ use Rattle.std.proofs.Common.{◌≡◌, ◌∙◌, List, [], ◌++◌, map, IsP
 use Rattle.std.specs.List.{AllByRecursion}
 use Rattle.sqlite_catalog.specs.Change.{KeepsRows}
 use Rattle.sqlite_trees.specs.Tree.{Trees}
-use Rattle.sqlite.specs.Effect.{Database}
 use Rattle.sqlite.specs.State.{State}
 use Rattle.td_guarantee.specs.declared.guarantee.Guarantee.{Guarantee}
 use Rattle.td_table_model.specs.Tables.{Keyed, Kept, version_with_amounts}
@@ -13,12 +12,11 @@ use Rattle.td_schema.specs.Tables.{guarantees2}
 use Rattle.td_schema.specs.declared.layout.Layout.TheVariants.{Made1, Grown2}
 use Rattle.typed_sql.specs.Typed.{AreTyped, HasNow, IsTypedRow, Typing, row_of, typed_rows}
 use Rattle.typed_sql.specs.Writing.{AreOthersKept, HasSchema, HaveIds, IsEmptied}
-use Rattle.td_store_rows.specs.Columns.{guarantee_typing, kept_typing, line_typing, meta_typing, movement_typing}
+use Rattle.td_store_rows.specs.Columns.{kept_typing, line_typing, meta_typing, movement_typing}
 use Rattle.td_store_rows.specs.KeptTable.{EmptiesFirst, first_guarantees}
 use Rattle.td_store_rows.specs.MetaTable.{TurnsMeta, with_version}
-use Rattle.td_store_rows.specs.StoreTables.{AreAllTyped}
 use Rattle.td_migrate.specs.Filled.{AreFirst, Fills, with_its_use}
-use Rattle.td_migrate.specs.Moved.{AreMoved, AreOthersSame, BecomesSecond, MovesTo2}
+use Rattle.td_migrate.specs.Moved.{AreOthersSame, BecomesSecond, MovesTo2}
 use Rattle.td_migrate.proofs.Putting.{all_still, typed_still}
 
 -- a table without rows is typed

@@ -15,12 +15,11 @@ use Rattle.sqlite.specs.State.{State}
 use Rattle.td_base.specs.References.{serial_of}
 use Rattle.td_desk.specs.Content.{Content, account_in}
 use Rattle.td_guarantee.specs.declared.guarantee.Guarantee.{Guarantee}
-use Rattle.td_guarantee.specs.Usage.{used_on}
 use Rattle.td_model.specs.Account.{guarantee_by_grn}
 use Rattle.td_table_model.specs.Gathering.{with_codes}
 use Rattle.td_table_model.specs.Laws.{IsAmountOf, TablesGrow}
 use Rattle.td_table_model.specs.Looking.{cents_of, lines_in_use}
-use Rattle.td_table_model.specs.Tables.{AreTablesOf, Keyed, Kept, Tables, first_version, guarantee_no, version_with_amounts, without_amount}
+use Rattle.td_table_model.specs.Tables.{AreTablesOf, Keyed, Kept, Tables, guarantee_no, version_with_amounts, without_amount}
 use Rattle.td_table_model.specs.Changes.{HaveSameRows}
 use Rattle.td_table_model.proofs.Following.{same_tables}
 use Rattle.td_table_model.proofs.Joining.{lines_are_use}
@@ -28,7 +27,7 @@ use Rattle.td_table_model.proofs.Looked.{are_found}
 use Rattle.td_table_model.proofs.Told.{tell_keys}
 use Rattle.td_schema.specs.declared.layout.Layout.TheVariants.{Made1, Grown2}
 use Rattle.typed_sql.specs.Typed.{Typing, row_of, typed_rows}
-use Rattle.td_store_rows.specs.Columns.{code_typing, guarantee_typing, holder_typing, kept_typing, line_typing, meta_row, meta_typing, movement_typing}
+use Rattle.td_store_rows.specs.Columns.{code_typing, guarantee_typing, holder_typing, line_typing, meta_row, meta_typing, movement_typing}
 use Rattle.td_store_rows.specs.MetaTable.{with_version}
 use Rattle.td_store_rows.specs.StoreTables.{AreAllTyped, AreTreesOf, HasOfficeRow, country_in, tables_in}
 use Rattle.td_store_rows.proofs.Turned.{listed_there, plain_rows, plain_typed}

@@ -1,5 +1,5 @@
 -- What an upgrade comes to, by what its parts tell.
-use Rattle.std.proofs.Common.{◌≡◌, ◌∙◌, ◌⊎◌, ℕ, [], ◌∷◌, Some, None, Result, Ok, Err, ap, arith, inl, inr, refl, subst, sym}
+use Rattle.std.proofs.Common.{◌≡◌, ◌∙◌, ◌⊎◌, ℕ, [], ◌∷◌, Some, None, Err, ap, arith, inl, inr, refl, subst, sym}
 use Rattle.std.specs.Prelude.{◌<◌}
 use Rattle.sqlite_trees.specs.Tree.{Trees}
 use Rattle.sqlite.specs.Effect.{Database}
@@ -17,8 +17,8 @@ use Rattle.td_store.specs.declared.refused.OpenFault.TheVariants as open_fault
 use Rattle.td_store.specs.Opened.{IsKnown, MaySay, TellsAudit, TellsFileVersion, TellsRows}
 use Rattle.td_migrate.specs.declared.fault.MigrateFault.{MigrateFault}
 use Rattle.td_migrate.specs.declared.fault.MigrateFault.TheVariants.{Damaged, NoMemory, Store, UnknownVersion}
-use Rattle.td_migrate.specs.Grown.{AreGrown, GrowsTo2, HoldsFirst, MayLeaveGrown}
-use Rattle.td_migrate.specs.Upgraded.{IsDamagedFirst, IsKindOf, MayLeaveUpgraded, SaysNothing, TellsStep, TellsUpgrade, TellsVersion, WasGrown}
+use Rattle.td_migrate.specs.Grown.{GrowsTo2, HoldsFirst, MayLeaveGrown}
+use Rattle.td_migrate.specs.Upgraded.{IsKindOf, MayLeaveUpgraded, SaysNothing, TellsStep, TellsUpgrade, TellsVersion, WasGrown}
 
 -- why no version is told
 pub version_fault : (db : Database) (why : OpenFault) (fault : MigrateFault) → TellsFileVersion db (Err why) → IsKindOf why fault

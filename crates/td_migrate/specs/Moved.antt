@@ -5,7 +5,7 @@ use Rattle.sqlite_trees.specs.Tree.{Trees}
 use Rattle.sqlite.specs.Effect.{Database, IsDatabase}
 use Rattle.sqlite.specs.State.{State}
 use Rattle.td_guarantee.specs.declared.guarantee.Guarantee.{Guarantee}
-use Rattle.td_table_model.specs.Tables.{Keyed, Kept, version_with_amounts}
+use Rattle.td_table_model.specs.Tables.{Keyed, version_with_amounts}
 use Rattle.td_schema.specs.Layouts.{schema_of}
 use Rattle.td_schema.specs.declared.layout.Layout.TheVariants.{Made1, Grown2}
 use Rattle.typed_sql.specs.Typed.{AreTyped, typed_rows}

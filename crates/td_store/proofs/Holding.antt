@@ -10,7 +10,6 @@ use Rattle.sqlite_value.specs.Order.{Row, column}
 use Rattle.typed_sql.specs.Values.{text_in}
 use Rattle.sqlite_trees.specs.Objects.{catalog_tree}
 use Rattle.sqlite_trees.specs.Tree.{Trees}
-use Rattle.sqlite.specs.Effect.{Database}
 use Rattle.sqlite.specs.State.{State, HasCleanDisk}
 use Rattle.td_acts.specs.declared.rows.Change.{Change}
 use Rattle.td_acts.specs.declared.rows.Verdict.{Verdict}
@@ -21,7 +20,6 @@ use Rattle.td_acts.specs.declared.rows.Loaded.{Loaded}
 use Rattle.td_commands.specs.Commands.{Need}
 use Rattle.td_table_model.proofs.Gathered.{content_is}
 use Rattle.td_table_model.specs.Gathering.{content_of}
-use Rattle.td_table_model.specs.Tables.{AreTablesOf}
 use Rattle.td_schema.specs.Layouts.{newest_layout, schema_of}
 use Rattle.td_schema.specs.declared.layout.Layout.{Layout}
 use Rattle.td_schema.specs.declared.layout.Layout.TheVariants.{Grown2, Made1, Made2}

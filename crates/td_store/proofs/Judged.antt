@@ -10,7 +10,6 @@ use Rattle.sqlite_trees.specs.Tree.{Trees}
 use Rattle.td_base.specs.Codes.{IsCountry, country_read, is_country}
 use Rattle.td_base.proofs.Decided.{capitals_decided, some_where}
 use Rattle.td_table_model.specs.declared.rule.Rule.{Rule}
-use Rattle.td_table_model.specs.declared.rule.Rule.TheVariants.{S1}
 use Rattle.typed_sql.specs.Typed.{AreTyped, typed_rows}
 use Rattle.sqlite.specs.State.{State}
 use Rattle.td_store_audit_rows.specs.declared.tables.Readable.{Readable}
@@ -24,7 +23,6 @@ use Rattle.td_schema.specs.declared.layout.Layout.{Layout}
 use Rattle.td_store_rows.specs.MetaTable.{stored_of}
 use Rattle.td_store_rows.specs.StoreTables.{HasOfficeRow}
 use Rattle.td_store_rows.specs.declared.meta.stored.StoredMeta.{StoredMeta}
-use Rattle.td_store_audit_rows.specs.Ids.{HaveAllIds}
 use Rattle.td_store_audit_rows.specs.Laws.{AreKept, KeptRulesMeanContent}
 use Rattle.td_store_audit.specs.Broken.{TellsBroken}
 use Rattle.td_store.specs.declared.refused.OpenFault.{OpenFault}

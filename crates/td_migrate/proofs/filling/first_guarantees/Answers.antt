@@ -1,4 +1,4 @@
-use Rattle.std.proofs.Common.{map, refl, true}
+use Rattle.std.proofs.Common.{refl, true}
 use Rattle.std.specs.Prelude.{[]}
 use Rattle.sqlite.specs.Held.{state}
 use Rattle.td_schema.specs.Layouts.{schema_of}

@@ -1,6 +1,5 @@
-use Rattle.std.proofs.Common.{rules, true, ◌≡◌, [], ap, refl, false, arith, subst, sym}
+use Rattle.std.proofs.Common.{rules, true, ◌≡◌, [], false, arith, subst, sym}
 use Rattle.std.specs.Prelude.{OnOk, IsTrue}
-use Rattle.sqlite.specs.Effect.{Database}
 use Rattle.sqlite.specs.Held.{state}
 use Rattle.sqlite.specs.State.{State, HasCleanDisk, KeepsCounts, Shows, Survives}
 use Rattle.sqlite.proofs.Callers.{survives_begin}

@@ -1,8 +1,7 @@
-use Rattle.std.proofs.Common.{IsPermutation, arith, map, refl, sym, subst, ◌≡◌}
+use Rattle.std.proofs.Common.{IsPermutation, arith, map, refl, sym, subst}
 use Rattle.sqlite.specs.Effect.{Database}
 use Rattle.sqlite.specs.Held.{state}
 use Rattle.sqlite.specs.State.{State, HasCleanDisk}
-use Rattle.td_schema.specs.Layouts.{schema_of}
 use Rattle.td_schema.specs.declared.layout.Layout.TheVariants.{Made1}
 use Rattle.typed_sql.proofs.Leaving.{on_ok}
 use Rattle.typed_sql.proofs.OnlyRead.{still_has}

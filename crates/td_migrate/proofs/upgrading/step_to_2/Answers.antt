@@ -1,5 +1,4 @@
 use Rattle.std.proofs.Common.{◌≡◌, arith}
-use Rattle.sqlite.specs.Effect.{Database}
 use Rattle.sqlite.specs.Held.{state}
 use Rattle.sqlite.specs.State.{HasCleanDisk, State}
 use Rattle.sqlite.proofs.StateLemmas.{survives_then}

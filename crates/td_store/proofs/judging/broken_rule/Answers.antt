@@ -1,9 +1,7 @@
-use Rattle.std.proofs.Common.{◌≡◌, ◌∙◌, [], arith, false, refl, rules, sym, true}
+use Rattle.std.proofs.Common.{◌≡◌, ◌∙◌, [], arith, false, rules, sym, true}
 use Rattle.std.specs.Prelude.{IsTrue}
 use Rattle.sqlite.specs.Held.{state}
 use Rattle.sqlite.specs.State.{State, HasCleanDisk, KeepsCommit, KeepsCounts, Shows, Survives}
-use Rattle.td_schema.specs.Layouts.{version_of}
-use Rattle.td_schema.specs.declared.layout.Layout.{Layout}
 use Rattle.td_store_rows.specs.StoreReads.{IsOfVersion, LeavesVersion, ReadsVersion}
 use Rattle.typed_sql.proofs.OnlyRead.{one_read}
 use Rattle.td_store.proofs.Judged.{rules_told}

@@ -1,5 +1,4 @@
 use Rattle.std.proofs.Common.{rules}
-use Rattle.std.specs.Prelude.{IsTrue}
 use Rattle.td_store.proofs.Begins.{begins_alike}
 use Rattle.td_store.proofs.schema.tables_of.Goals as goal
 

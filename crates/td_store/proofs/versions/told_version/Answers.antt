@@ -1,6 +1,6 @@
 use Rattle.std.proofs.Common.{subst, sym, ◌≡◌}
 use Rattle.sqlite.specs.Held.{state}
-use Rattle.sqlite.specs.State.{HasCleanDisk, State}
+use Rattle.sqlite.specs.State.{State}
 use Rattle.td_schema.specs.Layouts.{schema_of}
 use Rattle.td_store.specs.Opened.{AreTold, TellsFileVersion}
 use Rattle.td_store.proofs.Begins.{store_begins}
