@@ -1,6 +1,6 @@
 -- What the opening of a desk over a file says of what the file held.
 use Rattle.std.proofs.Common.{◌≡◌, ◌⊎◌, ◌∙◌, ℕ, ◌≤◌, List, Option, Some, ap, arith, inl, inr, refl, subst, sym}
-use Rattle.std.specs.Prelude.{IsTrue, OnErr, Result}
+use Rattle.std.specs.Prelude.{IsTrue, OnErr, OnOk, Result}
 use Rattle.sqlite_disk.specs.declared.Disk as disk
 use Rattle.sqlite_store.specs.declared.store.FileStore.{FileStore}
 use Rattle.sqlite_trees.specs.View.{doubt}
@@ -127,13 +127,15 @@ unmade_at fault why (inr memory) is = inr (inr (is ∙ ap Refused memory))
 -- what came of an upgrade of what a connection found
 pub shows_upgrade : {D : Type 0} {g : disk.Ghosts D} (image : Image) (found : State) (c : Held (FileStore D g)) (result : Result ℕ MigrateFault)
     → IsFoundIn image found.now → IsTrue found.is_open → CrashLeavesShown found
-    → (HasCleanDisk (file_state c) → IsTrue (file_state c).is_open → TellsUpgrade found.now (file_state c) result)
+    → (HasCleanDisk (file_state c) → OnOk result (IsTrue (file_state c).is_open))
+    → (HasCleanDisk (file_state c) → TellsUpgrade found.now (file_state c) result)
     → (HasCleanDisk (file_state c) → IsTrue (file_state c).is_open → OnErr result ((file_state c).now ≡ found.now))
     → Survives found (file_state c) (MayLeaveUpgraded found.now) → CrashLeavesShown (file_state c) → HasCleanDisk (file_state c)
     → ShowsUpgrade image c result
-shows_upgrade image found c result is is_open before told unchanged crash settled clean = record {
+shows_upgrade image found c result is is_open before open told unchanged crash settled clean = record {
   db = found.now;
   found = is;
+  open = open clean;
   told = told clean;
   unchanged = unchanged clean;
   leaves = λ trees may. elim (crash.crash clean trees may) [ inl was ↦ inl ((before is_open trees).0 was) | inr grown ↦ inr grown ];
