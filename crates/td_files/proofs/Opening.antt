@@ -132,10 +132,10 @@ pub shows_upgrade : {D : Type 0} {g : disk.Ghosts D} (image : Image) (found : St
     → (HasCleanDisk (file_state c) → IsTrue (file_state c).is_open → OnErr result ((file_state c).now ≡ found.now))
     → Survives found (file_state c) (MayLeaveUpgraded found.now) → CrashLeavesShown (file_state c) → HasCleanDisk (file_state c)
     → ShowsUpgrade image c result
-shows_upgrade image found c result is is_open before open told unchanged crash settled clean = record {
+shows_upgrade image found c result is is_open before shown told unchanged crash settled clean = record {
   db = found.now;
   found = is;
-  open = open clean;
+  shown = shown clean;
   told = told clean;
   unchanged = unchanged clean;
   leaves = λ trees may. elim (crash.crash clean trees may) [ inl was ↦ inl ((before is_open trees).0 was) | inr grown ↦ inr grown ];

@@ -28,7 +28,7 @@ module _ {D : Type 0} {g : disk.Ghosts D} where
   pub record ShowsUpgrade (image : Image) (c : FileSeen g) (result : Result ℕ MigrateFault) : Type 0 where
     pub db : Database
     pub found : IsFoundIn image db
-    pub open : OnOk result (IsTrue (file_state c).is_open)
+    pub shown : OnOk result (IsTrue (file_state c).is_open)
     pub told : TellsUpgrade db (file_state c) result
     pub unchanged : IsTrue (file_state c).is_open → OnErr result ((file_state c).now ≡ db)
     pub leaves : (trees : Trees) → (file_state c).may_leave trees → (trees ≡ db.trees) ⊎ MayLeaveUpgraded db trees
