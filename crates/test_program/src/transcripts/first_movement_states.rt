@@ -1,0 +1,131 @@
+//! Another program changes states of movements at version 1: what `migrate` tells, and the database refuses.
+use crate::runner::assert_transcript;
+use std::test::Fail;
+
+const CASES: &str = r#"
+== changes of movements' states at version 1
+# Holder 1 has two guarantees and three movements: of the first one's 1000000 cents 500000 are in use by movement 1,
+# which is released, and 400000 by movement 2, which has arrived; of the second one's 500000 cents 200000 by movement 1.
+# Movement 3 and the one of holder 2 are accepted, and have nothing in use. Holder 3 has nothing. Day 20148 is
+# 2025-03-01.
+$ sql CREATE TABLE meta (one INTEGER PRIMARY KEY CHECK (one = 1), version INTEGER NOT NULL, country TEXT NOT NULL) STRICT
+$ sql CREATE TABLE holders (holder INTEGER PRIMARY KEY CHECK (holder BETWEEN 1 AND 999999), eori TEXT NOT NULL, last_at INTEGER NOT NULL, grn_count INTEGER NOT NULL, mrn_count INTEGER NOT NULL) STRICT
+$ sql CREATE TABLE codes (holder INTEGER NOT NULL REFERENCES holders, serial INTEGER NOT NULL, code TEXT NOT NULL, PRIMARY KEY (holder, serial, code)) STRICT
+$ sql CREATE TABLE movements (holder INTEGER NOT NULL REFERENCES holders, serial INTEGER NOT NULL, mrn TEXT NOT NULL UNIQUE, lrn TEXT NOT NULL, departure TEXT NOT NULL, destination TEXT NOT NULL, accepted INTEGER NOT NULL, state TEXT NOT NULL CHECK (state IN ('accepted', 'cancelled', 'released', 'enquired', 'arrived', 'discrepant', 'cleared', 'written-off')), limit_day INTEGER, arrival INTEGER, actual TEXT, PRIMARY KEY (holder, serial), UNIQUE (holder, lrn)) STRICT
+$ sql CREATE TABLE guarantees1 (holder INTEGER NOT NULL REFERENCES holders, serial INTEGER NOT NULL, grn TEXT NOT NULL UNIQUE, reference INTEGER NOT NULL CHECK (reference BETWEEN 1 AND 1000000000000000), cover INTEGER NOT NULL CHECK (cover IN (0, 30, 50, 100)), ends INTEGER, PRIMARY KEY (holder, serial)) STRICT
+$ sql CREATE TABLE lines1 (holder INTEGER NOT NULL, serial INTEGER NOT NULL, no INTEGER NOT NULL CHECK (no BETWEEN 1 AND 9), guarantee INTEGER NOT NULL, cents INTEGER NOT NULL CHECK (cents BETWEEN 1 AND 1000000000000), PRIMARY KEY (holder, serial, no), UNIQUE (holder, serial, guarantee), FOREIGN KEY (holder, serial) REFERENCES movements) STRICT
+$ sql INSERT INTO meta VALUES (1, 1, 'CH')
+$ sql INSERT INTO holders VALUES (1, 'CH1234567', 1740992400, 2, 3), (2, 'DE7654321', 1740819600, 1, 1), (3, 'FR1', 1740819600, 0, 0)
+$ sql INSERT INTO guarantees1 VALUES (1, 1, '25CH0000010000014', 1000000, 50, NULL), (1, 2, '25CH0000010000023', 500000, 100, 20164), (2, 1, '25CH0000020000010', 1000000, 30, NULL)
+$ sql INSERT INTO codes VALUES (1, 1, 'AB12'), (1, 1, 'CD34'), (1, 2, 'EF56'), (2, 1, 'AB12')
+$ sql INSERT INTO movements VALUES (1, 1, '25CH00000100000013', 'A1', 'CH001251', 'DE005600', 20148, 'released', 20155, NULL, NULL), (1, 2, '25CH00000100000021', 'A2', 'CH001251', 'DE005600', 20148, 'arrived', 20155, 20150, 'FR000100')
+$ sql INSERT INTO movements VALUES (1, 3, '25CH00000100000030', 'A3', 'CH001251', 'DE005600', 20148, 'accepted', NULL, NULL, NULL), (2, 1, '25CH00000200000019', 'A1', 'CH001251', 'DE005600', 20148, 'accepted', NULL, NULL, NULL)
+$ sql INSERT INTO lines1 VALUES (1, 1, 1, 1, 500000), (1, 1, 2, 2, 200000), (1, 2, 1, 1, 400000), (1, 3, 1, 1, 100001), (2, 1, 1, 1, 600000)
+$ check --country CH --db FILE
+! 1 transit-desk: needs-migration 1
+$ pipe --country CH --at 1740819600 --db FILE
+> GET /holders/000001
+! 1 transit-desk: needs-migration 1
+# The state: one that asks for the same days, and leaves no more in use.
+$ migrate-after UPDATE movements SET state = 'enquired' WHERE holder = 1 AND serial = 1
+<| version 2\n
+$ migrate-after UPDATE movements SET state = 'written-off' WHERE holder = 1 AND serial = 1
+<| version 2\n
+$ migrate-after UPDATE movements SET state = 'written-off' WHERE holder = 1 AND serial = 2
+<| version 2\n
+$ migrate-after UPDATE movements SET state = 'discrepant' WHERE holder = 1 AND serial = 2
+<| version 2\n
+$ migrate-after UPDATE movements SET state = 'cleared' WHERE holder = 1 AND serial = 2
+<| version 2\n
+$ migrate-after UPDATE movements SET state = 'cancelled' WHERE holder = 1 AND serial = 3
+<| version 2\n
+$ migrate-after UPDATE movements SET state = 'accepted' WHERE holder = 1 AND serial = 1
+! 1 transit-desk: damaged S5
+$ migrate-after UPDATE movements SET state = 'arrived' WHERE holder = 1 AND serial = 1
+! 1 transit-desk: damaged S5
+$ migrate-after UPDATE movements SET state = 'released' WHERE holder = 1 AND serial = 2
+! 1 transit-desk: damaged S5
+$ migrate-after UPDATE movements SET state = 'cancelled' WHERE holder = 1 AND serial = 2
+! 1 transit-desk: damaged S5
+$ migrate-after UPDATE movements SET state = 'released' WHERE holder = 1 AND serial = 3
+! 1 transit-desk: damaged S5
+$ sql-refused check UPDATE movements SET state = 'gone' WHERE holder = 1 AND serial = 1
+$ sql-refused check UPDATE movements SET state = 'Released' WHERE holder = 1 AND serial = 1
+$ sql-refused not-null UPDATE movements SET state = NULL WHERE holder = 2
+# Released with its limit, the movement has too much in use: 900000 and 100001 cents of 1000000.
+$ migrate-after UPDATE movements SET state = 'released', limit_day = 20155 WHERE holder = 1 AND serial = 3
+! 1 transit-desk: damaged S8
+# The one of holder 2 has not: 600000 of 1000000.
+$ migrate-after UPDATE movements SET state = 'released', limit_day = 20155 WHERE holder = 2
+<| version 2\n
+# The limit: there from the release on, and not before.
+$ migrate-after UPDATE movements SET limit_day = 20148 WHERE holder = 1 AND serial = 1
+<| version 2\n
+$ migrate-after UPDATE movements SET limit_day = 10957 WHERE holder = 1 AND serial = 1
+<| version 2\n
+$ migrate-after UPDATE movements SET limit_day = 10956 WHERE holder = 1 AND serial = 1
+! 1 transit-desk: damaged S5
+$ migrate-after UPDATE movements SET limit_day = 47846 WHERE holder = 1 AND serial = 1
+<| version 2\n
+$ migrate-after UPDATE movements SET limit_day = 47847 WHERE holder = 1 AND serial = 1
+! 1 transit-desk: damaged S5
+$ migrate-after UPDATE movements SET limit_day = NULL WHERE holder = 1 AND serial = 1
+! 1 transit-desk: damaged S5
+$ migrate-after UPDATE movements SET limit_day = NULL WHERE holder = 1 AND serial = 2
+! 1 transit-desk: damaged S5
+$ migrate-after UPDATE movements SET limit_day = 20155 WHERE holder = 1 AND serial = 3
+! 1 transit-desk: damaged S5
+$ sql-refused datatype UPDATE movements SET limit_day = 'soon' WHERE holder = 1 AND serial = 1
+# The day and the office of arrival: both there from the arrival on, and not before.
+$ migrate-after UPDATE movements SET arrival = 20155 WHERE holder = 1 AND serial = 2
+<| version 2\n
+$ migrate-after UPDATE movements SET arrival = NULL WHERE holder = 1 AND serial = 2
+! 1 transit-desk: damaged S5
+$ migrate-after UPDATE movements SET arrival = 10956 WHERE holder = 1 AND serial = 2
+! 1 transit-desk: damaged S5
+$ migrate-after UPDATE movements SET arrival = 47847 WHERE holder = 1 AND serial = 2
+! 1 transit-desk: damaged S5
+$ migrate-after UPDATE movements SET arrival = 20150 WHERE holder = 1 AND serial = 1
+! 1 transit-desk: damaged S5
+$ migrate-after UPDATE movements SET arrival = 20150 WHERE holder = 1 AND serial = 3
+! 1 transit-desk: damaged S5
+$ sql-refused datatype UPDATE movements SET arrival = 'soon' WHERE holder = 1 AND serial = 2
+$ migrate-after UPDATE movements SET actual = 'DE005600' WHERE holder = 1 AND serial = 2
+<| version 2\n
+$ migrate-after UPDATE movements SET actual = NULL WHERE holder = 1 AND serial = 2
+! 1 transit-desk: damaged S5
+$ migrate-after UPDATE movements SET actual = 'DE00560' WHERE holder = 1 AND serial = 2
+! 1 transit-desk: damaged S5
+$ migrate-after UPDATE movements SET actual = 'DE005600' WHERE holder = 1 AND serial = 1
+! 1 transit-desk: damaged S5
+$ migrate-after UPDATE movements SET actual = 'DE005600' WHERE holder = 2
+! 1 transit-desk: damaged S5
+$ sql-refused datatype UPDATE movements SET actual = x'44' WHERE holder = 1 AND serial = 2
+# Without both a movement that is written off was asked after; with one of them it is nothing.
+$ migrate-after UPDATE movements SET state = 'written-off', arrival = NULL, actual = NULL WHERE holder = 1 AND serial = 2
+<| version 2\n
+$ migrate-after UPDATE movements SET state = 'written-off', arrival = NULL WHERE holder = 1 AND serial = 2
+! 1 transit-desk: damaged S5
+# What the database does not take leaves the rows as they were, and so did each run over a copy.
+$ check --country CH --db FILE
+! 1 transit-desk: needs-migration 1
+$ sql-finds 3 SELECT count(*) FROM guarantees1
+$ migrate --db FILE
+<| version 2\n
+$ check --country CH --db FILE
+<| sound\n
+$ migrate --db FILE
+<| version 2\n
+# The table of version 1 stands emptied, and each amount in use is the sum.
+$ sql-finds 0 SELECT count(*) FROM guarantees1
+$ sql-finds 3 SELECT count(*) FROM guarantees2
+$ sql-finds 900000 SELECT used FROM guarantees2 WHERE holder = 1 AND serial = 1
+$ sql-finds 200000 SELECT used FROM guarantees2 WHERE holder = 1 AND serial = 2
+$ sql-finds 0 SELECT used FROM guarantees2 WHERE holder = 2 AND serial = 1
+$ sql-finds 2 SELECT version FROM meta
+"#;
+
+#[test]
+fn the_transcript_is_kept(rt: HostRuntime) -> Result<(), Fail> {
+    assert_transcript(&rt, CASES)
+}
