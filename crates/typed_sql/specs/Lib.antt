@@ -4,3 +4,4 @@ pub mod Reading
 pub mod Typed
 pub mod Values
 pub mod Walked
+pub mod Visited

@@ -8,6 +8,7 @@ mod cells;
 mod fetching;
 mod rows;
 mod statements;
+mod visiting;
 mod walking;
 
 pub use asking::see_open;
@@ -15,4 +16,5 @@ pub use cells::{integer_at, is_null_at, number_at, text_at};
 pub use fetching::{fetch, fetch_one};
 pub use rows::{FromRow, only, read_rows};
 pub use statements::{delete, empty, insert, select, update};
+pub use visiting::Visitor;
 pub use walking::{Walker, walk};

@@ -1,0 +1,25 @@
+-- What rows of a desk were shown one after another, as far as they were, and to whom.
+use Rattle.std.specs.Prelude.{◌≡◌, ℕ, Bool, true, List, [], ◌++◌, map, Result, Ok}
+use Rattle.std.specs.List.{FoldsTo}
+use Rattle.td_desk.specs.declared.fault.Fault.{Fault}
+use Rattle.td_guarantee.specs.declared.guarantee.Guarantee.{Guarantee}
+use Rattle.td_movement.specs.declared.movement.Movement.{Movement}
+use Rattle.td_store_rows.specs.declared.guarantees.stored.KeptGuarantee.{KeptGuarantee}
+use Rattle.td_store_rows.specs.declared.movements.stored.StoredMovement.{StoredMovement}
+
+-- what the row of a movement says, and that of a guarantee with the amount in use on it, each with the holder's number
+abbrev pub said_of_movement : StoredMovement → ℕ × Movement
+said_of_movement r = (r.holder, r.movement)
+
+abbrev pub said_of_guarantee : KeptGuarantee → ℕ × (Guarantee × ℕ)
+said_of_guarantee r = (r.holder, (r.guarantee, r.used))
+
+-- A visitor and what stands beside it were shown rows that say the first of these things, one after another; and all of them, where
+-- the visit went on to its end.
+pub record IsVisit {V O T X : Type 0} (sees : V → O → T → V → O → Type 0) (says : T → X) (all : List X)
+    (old : V × O) (result : Result Bool Fault) (new : V × O) : Type 0 where
+  pub shown : List T
+  pub rest : List X
+  pub told : FoldsTo (λ p row q. sees p.0 p.1 row q.0 q.1) old shown new
+  pub are : map says shown ++ rest ≡ all
+  pub whole : result ≡ Ok true → rest ≡ []

@@ -1,0 +1,30 @@
+-- What is known of rows that were shown one after another, as far as they were, and of whom they were shown to.
+use Rattle.std.specs.Prelude.{◌≡◌, ◌<◌, ℕ, Bool, List, [], ◌++◌, length, map, IsTrue}
+use Rattle.std.specs.List.{FoldsTo}
+use Rattle.sqlite_value.specs.declared.keys.Key.{Key}
+use Rattle.sqlite_value.specs.Order.{Row}
+use Rattle.sqlite_sql.specs.Term.{Term}
+use Rattle.sqlite_schema.specs.declared.schema.Schema.{Schema}
+use Rattle.sqlite.specs.State.{State}
+use Rattle.typed_sql.specs.Meanings.{MeansSelect}
+use Rattle.typed_sql.specs.Reading.{IsAnswerOf, Selects, row_order, shown_by}
+use Rattle.typed_sql.specs.Writing.{HasSchema, passes}
+
+-- whatever rows the text asks for, these come first among them
+abbrev pub SelectsFirst : List ℕ → Row → State → List Row → Type 0
+SelectsFirst text values old first =
+    (s : Schema) (tree : ℕ) (tests shows : List Term) (order : List (Term × Key)) → HasSchema old s
+    → MeansSelect s text tree tests shows order
+    → (rest : List Row)
+    × IsAnswerOf (old.now.trees tree) (passes values tests) (shown_by shows values) (row_order order values) (first ++ rest)
+
+-- A visitor and what stands beside it were shown what these rows say, one after another; where all were shown, they are the answer,
+-- and else they come first in it.
+pub record HasVisited {V O T R : Type 0} (sees : V → O → T → V → O → Type 0) (typed : T → R) (from : Row → R) (text : List ℕ)
+    (state : State) (whole : Bool) (old new : V × O) : Type 0 where
+  pub shown : List T
+  pub rows : List Row
+  pub told : FoldsTo (λ p row q. sees p.0 p.1 row q.0 q.1) old shown new
+  pub read : map typed shown ≡ map from rows
+  pub first : 0 < length rows → SelectsFirst text [] state rows
+  pub all : IsTrue whole → Selects text [] state rows
