@@ -12,6 +12,7 @@ pub mod Fetched
 pub mod Columns
 pub mod Left
 mod Answered
+mod Shown
 mod Asked
 mod Emptied
 pub mod TypedWhere

@@ -1,5 +1,5 @@
 -- What is known of rows that were shown one after another, as far as they were, and of whom they were shown to.
-use Rattle.std.specs.Prelude.{◌≡◌, ◌<◌, ℕ, Bool, List, [], ◌++◌, length, map, IsTrue}
+use Rattle.std.specs.Prelude.{◌≡◌, ◌<◌, ℕ, Bool, false, List, [], ◌++◌, length, map, Result, Ok, Err, IsTrue}
 use Rattle.std.specs.List.{FoldsTo}
 use Rattle.sqlite_value.specs.declared.keys.Key.{Key}
 use Rattle.sqlite_value.specs.Order.{Row}
@@ -18,13 +18,22 @@ SelectsFirst text values old first =
     → (rest : List Row)
     × IsAnswerOf (old.now.trees tree) (passes values tests) (shown_by shows values) (row_order order values) (first ++ rest)
 
+-- what a visitor and what stands beside it do with a row, as a step from both to both
+abbrev pub step_of : {V O T : Type 0} → (V → O → T → V → O → Type 0) → V × O → T → V × O → Type 0
+step_of sees p row q = sees p.0 p.1 row q.0 q.1
+
 -- A visitor and what stands beside it were shown what these rows say, one after another; where all were shown, they are the answer,
 -- and else they come first in it.
 pub record HasVisited {V O T R : Type 0} (sees : V → O → T → V → O → Type 0) (typed : T → R) (from : Row → R) (text : List ℕ)
     (state : State) (whole : Bool) (old new : V × O) : Type 0 where
   pub shown : List T
   pub rows : List Row
-  pub told : FoldsTo (λ p row q. sees p.0 p.1 row q.0 q.1) old shown new
+  pub told : FoldsTo (step_of sees) old shown new
   pub read : map typed shown ≡ map from rows
   pub first : 0 < length rows → SelectsFirst text [] state rows
   pub all : IsTrue whole → Selects text [] state rows
+
+-- the answer says that all rows were shown
+abbrev pub is_whole : {E : Type 0} → Result Bool E → Bool
+is_whole (Ok all) = all
+is_whole (Err e) = false

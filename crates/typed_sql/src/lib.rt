@@ -16,5 +16,5 @@ pub use cells::{integer_at, is_null_at, number_at, text_at};
 pub use fetching::{fetch, fetch_one};
 pub use rows::{FromRow, only, read_rows};
 pub use statements::{delete, empty, insert, select, update};
-pub use visiting::Visitor;
+pub use visiting::{Visitor, visit};
 pub use walking::{Walker, walk};
