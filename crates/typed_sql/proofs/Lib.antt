@@ -16,3 +16,4 @@ mod Shown
 mod Asked
 mod Emptied
 pub mod TypedWhere
+pub mod VisitedTyped

@@ -1,6 +1,8 @@
 -- What is known of rows that were shown one after another, as far as they were, and of whom they were shown to.
 use Rattle.std.specs.Prelude.{◌≡◌, ◌<◌, ℕ, Bool, false, List, [], ◌++◌, length, map, Result, Ok, Err, IsTrue}
 use Rattle.std.specs.List.{FoldsTo}
+use Rattle.std.specs.List.Sorted.{IsPermutation, IsSorted}
+use Rattle.std.specs.declared.cmp.Ordering.{Ordering}
 use Rattle.sqlite_value.specs.declared.keys.Key.{Key}
 use Rattle.sqlite_value.specs.Order.{Row}
 use Rattle.sqlite_sql.specs.Term.{Term}
@@ -32,6 +34,19 @@ pub record HasVisited {V O T R : Type 0} (sees : V → O → T → V → O → T
   pub read : map typed shown ≡ map from rows
   pub first : 0 < length rows → SelectsFirst text [] state rows
   pub all : IsTrue whole → Selects text [] state rows
+
+-- these come first among the rows in an order
+abbrev pub ComeFirst : {R : Type 0} → (R → R → Ordering) → List R → List R → Type 0
+ComeFirst {R} cmp rows first = (rest : List R) × IsPermutation rows (first ++ rest) × IsSorted cmp (first ++ rest)
+
+-- A visitor and what stands beside it were shown typed rows that come first among these in an order, one after another; where all
+-- were shown, they are these rows.
+pub record HasVisitedRows {V O T R : Type 0} (sees : V → O → T → V → O → Type 0) (typed : T → R) (cmp : R → R → Ordering)
+    (rows : List R) (whole : Bool) (old new : V × O) : Type 0 where
+  pub shown : List T
+  pub told : FoldsTo (step_of sees) old shown new
+  pub first : 0 < length shown → ComeFirst cmp rows (map typed shown)
+  pub all : IsTrue whole → IsPermutation rows (map typed shown) × IsSorted cmp (map typed shown)
 
 -- the answer says that all rows were shown
 abbrev pub is_whole : {E : Type 0} → Result Bool E → Bool
