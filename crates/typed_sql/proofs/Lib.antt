@@ -15,3 +15,4 @@ mod Answered
 mod Asked
 mod Emptied
 pub mod TypedWhere
+mod First

@@ -1,5 +1,5 @@
 -- What is known of rows that were shown one after another, as far as they were, and of whom they were shown to.
-use Rattle.std.specs.Prelude.{◌≡◌, ◌<◌, ℕ, Bool, List, [], ◌++◌, length, map, IsTrue}
+use Rattle.std.specs.Prelude.{◌≡◌, ◌<◌, ℕ, Bool, List, [], ◌∷◌, ◌++◌, length, map, Option, Some, None, IsTrue}
 use Rattle.std.specs.List.{FoldsTo}
 use Rattle.sqlite_value.specs.declared.keys.Key.{Key}
 use Rattle.sqlite_value.specs.Order.{Row}
@@ -17,6 +17,11 @@ SelectsFirst text values old first =
     → MeansSelect s text tree tests shows order
     → (rest : List Row)
     × IsAnswerOf (old.now.trees tree) (passes values tests) (shown_by shows values) (row_order order values) (first ++ rest)
+
+-- this is what the row says that comes first among those that the text asks for; none: it asks for no row
+abbrev pub FetchesFirst : {T R : Type 0} → (T → R) → (Row → R) → List ℕ → Row → State → Option T → Type 0
+FetchesFirst typed from text values old None = Selects text values old []
+FetchesFirst typed from text values old (Some x) = (r : Row) × SelectsFirst text values old (r ∷ []) × (typed x ≡ from r)
 
 -- A visitor and what stands beside it were shown what these rows say, one after another; where all were shown, they are the answer,
 -- and else they come first in it.

@@ -13,7 +13,7 @@ mod walking;
 
 pub use asking::see_open;
 pub use cells::{integer_at, is_null_at, number_at, text_at};
-pub use fetching::{fetch, fetch_one};
+pub use fetching::{fetch, fetch_first, fetch_one};
 pub use rows::{FromRow, only, read_rows};
 pub use statements::{delete, empty, insert, select, update};
 pub use visiting::Visitor;
