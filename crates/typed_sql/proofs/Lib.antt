@@ -12,8 +12,9 @@ pub mod Fetched
 pub mod Columns
 pub mod Left
 mod Answered
-mod Shown
 mod Asked
 mod Emptied
 pub mod TypedWhere
+mod First
+mod Shown
 pub mod VisitedTyped

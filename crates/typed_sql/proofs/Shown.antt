@@ -5,18 +5,15 @@ use Rattle.std.proofs.lemmas.Fn.{FoldsTo-push}
 use Rattle.std.proofs.lemmas.List.{map_push}
 use Rattle.std.specs.List.{FoldsTo}
 use Rattle.sqlite_value.specs.Order.{Row}
-use Rattle.sqlite_schema.specs.declared.command.Command.{Command}
-use Rattle.sqlite_resolve.specs.declared.compiled.Compiled.{Compiled}
 use Rattle.std.specs.Prelude.{Result, Ok, IsErr}
-use Rattle.sqlite.specs.Clock.{timed}
 use Rattle.sqlite.specs.Effect.{Database}
-use Rattle.sqlite.specs.Listing.{IsSourceOf, reads_listing, understood}
-use Rattle.sqlite.specs.State.{Begins, IsStatement, IsUnchanged, Shown, State}
-use Rattle.sqlite.proofs.Callers.{EndsIn, begins_shown, command_of}
+use Rattle.sqlite.specs.State.{Begins, IsUnchanged, Shown, State}
 use Rattle.sqlite.proofs.StateLemmas.{unchanged}
 use Rattle.typed_sql.proofs.Answered.{shown_selects}
-use Rattle.typed_sql.proofs.Steps.{command_is}
+use Rattle.typed_sql.proofs.First.{begun_first}
+use Rattle.typed_sql.specs.Reading.{IsAnswerOf, row_order, shown_by}
 use Rattle.typed_sql.specs.Visited.{HasVisited, SelectsFirst, is_whole, step_of}
+use Rattle.typed_sql.specs.Writing.{passes}
 
 -- an error isn't told of all rows
 pub err_not_whole : {E : Type 0} (r : Result Bool E) → IsErr r → is_whole r ≡ false
@@ -37,14 +34,13 @@ shown_more sees typed from old mid new shown rows x row told read saw says = (
 pub begins_first : (text : List ℕ) (first now : State) (rows : List Row) → IsUnchanged first now → Begins text [] now rows
     → SelectsFirst text [] first rows
 begins_first text first now rows same begins s tree tests shows order has means =
-    let schema : now.now.schema ≡ s = ap (λ (d : Database). d.schema) same.0.now_is ∙ has same.0.was_open in
-    let command = command_is (understood s text) ∙ means.command in
-    let ends : (c : Compiled) (db : Database) (it : IsStatement now text [] c) → IsSourceOf (reads_listing now.now.schema text) now.now db
-    → EndsIn c.command db (timed [] c.formats it.now) =
-    λ c db it _. subst (λ (k : Command). EndsIn k db (timed [] c.formats it.now))
-    (sym command ∙ ap (λ s. command_of (understood s text)) (sym schema) ∙ ap command_of it.is) tt in
-    let whole = begins_shown text [] now now rows begins (unchanged now same.0.is_open) ends in
-    (whole.0, shown_selects text first now now (rows ++ whole.0) same whole.1 s tree tests shows order has means)
+    let it =
+    begun_first text [] now now rows begins (unchanged now same.0.is_open) s tree tests shows order
+    (λ _. ap (λ (d : Database). d.schema) same.0.now_is ∙ has same.0.was_open) means in (
+      it.0,
+      subst (λ (d : Database). IsAnswerOf (d.trees tree) (passes [] tests) (shown_by shows []) (row_order order []) (rows ++ it.0))
+          same.0.now_is it.1,
+    )
 
 module _ {V O T R : Type 0} (sees : V → O → T → V → O → Type 0) (typed : T → R) (from : Row → R) (text : List ℕ) (first : State)
     (old : V × O) where

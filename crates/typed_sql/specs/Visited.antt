@@ -1,5 +1,5 @@
 -- What is known of rows that were shown one after another, as far as they were, and of whom they were shown to.
-use Rattle.std.specs.Prelude.{◌≡◌, ◌<◌, ℕ, Bool, false, List, [], ◌++◌, length, map, Result, Ok, Err, IsTrue}
+use Rattle.std.specs.Prelude.{◌≡◌, ◌<◌, ℕ, Bool, false, List, [], ◌∷◌, ◌++◌, length, map, Option, Some, None, Result, Ok, Err, IsTrue}
 use Rattle.std.specs.List.{FoldsTo}
 use Rattle.std.specs.List.Sorted.{IsPermutation, IsSorted}
 use Rattle.std.specs.declared.cmp.Ordering.{Ordering}
@@ -19,6 +19,11 @@ SelectsFirst text values old first =
     → MeansSelect s text tree tests shows order
     → (rest : List Row)
     × IsAnswerOf (old.now.trees tree) (passes values tests) (shown_by shows values) (row_order order values) (first ++ rest)
+
+-- this is what the row says that comes first among those that the text asks for; none: it asks for no row
+abbrev pub FetchesFirst : {T R : Type 0} → (T → R) → (Row → R) → List ℕ → Row → State → Option T → Type 0
+FetchesFirst typed from text values old None = Selects text values old []
+FetchesFirst typed from text values old (Some x) = (r : Row) × SelectsFirst text values old (r ∷ []) × (typed x ≡ from r)
 
 -- what a visitor and what stands beside it do with a row, as a step from both to both
 abbrev pub step_of : {V O T : Type 0} → (V → O → T → V → O → Type 0) → V × O → T → V × O → Type 0
