@@ -19,7 +19,7 @@ use Rattle.td_table_model.proofs.Owned.{guarantees_rise, movements_rise, owned_k
 use Rattle.td_table_model.specs.Gathering.{owner, place}
 use Rattle.td_table_model.specs.Listed.{guarantees_listed, guarantees_of, movements_listed, movements_of, without_codes, without_lines}
 use Rattle.td_table_model.specs.Tables.{AreTablesOf, KeepAmounts, Keyed, Kept, Tables, guarantee_row, guarantees_in, kept_in, movement_row, movements_in, numbered, with_use}
-use Rattle.td_store_rows.specs.Visited.{by_keys}
+use Rattle.td_store_rows.specs.Places.{by_place}
 use Rattle.typed_sql.proofs.Ordered.{sorted_alike}
 
 -- No holder has so many movements or guarantees: so a holder's number and a serial are one number.
@@ -46,13 +46,13 @@ module _ {R : Type 0} where
   IsLow r = r.serial < many
 
   -- rows of low serials compare by their keys as by their ranks
-  ranks_alike : (a b : Keyed R) → IsLow a → IsLow b → by_keys a b ≡ nat_cmp (rank a) (rank b)
+  ranks_alike : (a b : Keyed R) → IsLow a → IsLow b → by_place a b ≡ nat_cmp (rank a) (rank b)
   unfolding rank
   ranks_alike a b low_a low_b = grind (arith, nat_tests, low_a, low_b)
 
   -- so those that are in order rise by rank
-  ranks_sorted : (rows : List (Keyed R)) → AllByRecursion IsLow rows → IsSorted by_keys rows → IsSortedByKey rank nat_cmp rows
-  ranks_sorted rows low sorted = sorted_alike IsLow by_keys (λ a b. nat_cmp (rank a) (rank b)) ranks_alike rows low sorted
+  ranks_sorted : (rows : List (Keyed R)) → AllByRecursion IsLow rows → IsSorted by_place rows → IsSortedByKey rank nat_cmp rows
+  ranks_sorted rows low sorted = sorted_alike IsLow by_place (λ a b. nat_cmp (rank a) (rank b)) ranks_alike rows low sorted
 
   -- rows of one holder that rise by serial rise by rank
   ranks_rise : (H low : ℕ) (rows : List (Keyed R)) → AllByRecursion (λ r. owner r ≡ H) rows → Rises place low rows
@@ -87,7 +87,7 @@ module _ {R : Type 0} where
 
     -- so rows that are all of them and stand by their keys are they
     ordered_are : (hs : List HolderRows) → Rises holder_key 0 hs → AllByRecursion AreOwn hs → (given rows : List (Keyed R))
-        → IsPermutation (flat_map f hs) given → IsPermutation given rows → IsSorted by_keys rows → rows ≡ flat_map f hs
+        → IsPermutation (flat_map f hs) given → IsPermutation given rows → IsSorted by_place rows → rows ≡ flat_map f hs
     ordered_are hs order are given rows those same sorted =
         let all = flat_map f hs in
         let rise = all_rise 0 hs order are in
@@ -138,7 +138,7 @@ module _ (t : Tables) (c : Content) (sound : IsSound c) (are : AreTablesOf t c) 
       bare n [] = refl
       bare n (m ∷ ms) = ap (λ l. (h.row.holder, record m { lines = [] }) ∷ l) (bare (n + 1) ms)
 
-  pub listed_movements : (rows : List (Keyed Movement)) → IsPermutation t.movements rows → IsSorted by_keys rows
+  pub listed_movements : (rows : List (Keyed Movement)) → IsPermutation t.movements rows → IsSorted by_place rows
       → map said_movement rows ≡ map without_lines (movements_listed c)
   listed_movements rows same sorted =
       ap (map said_movement) (ordered_are movements_in c.holders sound.order (all_weaker (AreHolderRows c.country) (AreOwn movements_in) movements_own c.holders sound.holders) t.movements rows are.movements same sorted)
@@ -155,7 +155,7 @@ module _ (t : Tables) (c : Content) (sound : IsSound c) (are : AreTablesOf t c) 
       bare n [] = refl
       bare n (g ∷ gs) = ap (λ l. (h.row.holder, (record g { codes = [] }, used_on g.grn h.movements)) ∷ l) (bare (n + 1) gs)
 
-  pub listed_guarantees : KeepAmounts t → (rows : List (Keyed Kept)) → IsPermutation t.kept rows → IsSorted by_keys rows
+  pub listed_guarantees : KeepAmounts t → (rows : List (Keyed Kept)) → IsPermutation t.kept rows → IsSorted by_place rows
       → map said_guarantee rows ≡ map without_codes (guarantees_listed c)
   listed_guarantees keep rows same sorted =
       ap (map said_guarantee) (ordered_are kept_in c.holders sound.order (all_weaker (AreHolderRows c.country) (AreOwn kept_in) kept_own c.holders sound.holders) t.kept rows (are.kept keep) same sorted)
