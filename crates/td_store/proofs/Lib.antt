@@ -6,3 +6,4 @@ mod Listed
 mod Judged
 mod Leaving
 mod Refusing
+mod Visiting
