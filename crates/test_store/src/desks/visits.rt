@@ -6,6 +6,7 @@ use crate::examples::{
     GRN, MRN, SECOND_GRN, cents, code, country, cover, day, eori, grn, holder, lrn, mrn, office,
 };
 use sqlite::MemStore;
+use std::alloc::AllocError;
 use std::process::Abort;
 use td_acts::Lines;
 use td_base::{Grn, Reference};
@@ -28,14 +29,25 @@ impl Clerk {
     }
 }
 
+fn push_movement(told: &mut String, row: &StoredMovement) -> Result<(), AllocError> {
+    let (holder, serial, lrn) = (row.holder, row.serial, row.movement.lrn);
+    let state = row.movement.state.name();
+    let lines = row.movement.lines.as_slice().len();
+    writeln!(told, "{holder}/{serial} {lrn} {state} {lines}")
+}
+
+fn push_guarantee(told: &mut String, row: &KeptGuarantee) -> Result<(), AllocError> {
+    let (holder, serial, reference) = (row.holder, row.serial, row.guarantee.reference);
+    let used = row.used;
+    let codes = row.guarantee.codes.len();
+    writeln!(told, "{holder}/{serial} {reference} {used} {codes}")
+}
+
 impl Visitor<StoredMovement, String> for Clerk {
     ghost sees = { λ _ _ _ _ _. Unit {0} };
 
     fn see(&mut self, row: StoredMovement, beside: &mut String) -> bool {
-        let (holder, serial, lrn) = (row.holder, row.serial, row.movement.lrn);
-        let (state, lines) = (row.movement.state.name(), row.movement.lines.as_slice().len());
-        let _told = writeln!(beside, "{holder}/{serial} {lrn} {state} {lines}");
-        self.wants_more()
+        push_movement(beside, &row).is_ok() && self.wants_more()
     }
 }
 
@@ -43,10 +55,7 @@ impl Visitor<KeptGuarantee, String> for Clerk {
     ghost sees = { λ _ _ _ _ _. Unit {0} };
 
     fn see(&mut self, row: KeptGuarantee, beside: &mut String) -> bool {
-        let (holder, serial, reference) = (row.holder, row.serial, row.guarantee.reference);
-        let (used, codes) = (row.used, row.guarantee.codes.len());
-        let _told = writeln!(beside, "{holder}/{serial} {reference} {used} {codes}");
-        self.wants_more()
+        push_guarantee(beside, &row).is_ok() && self.wants_more()
     }
 }
 
@@ -168,7 +177,10 @@ fn a_desk_goes_on_after_visits_that_stopped(rt: HostRuntime) {
     assert_eq!(rt; told.as_str(), "000001/1 A1 released 0\n");
     assert!(rt; !all);
     let (told, all) = guarantees_told(&rt, &mut desk, 2);
-    assert_eq!(rt; told.as_str(), "000001/1 10000.00 5000.00 0\n000001/2 8000.00 0.00 0\n");
+    assert_eq!(rt;
+        told.as_str(),
+        "000001/1 10000.00 5000.00 0\n000001/2 8000.00 0.00 0\n"
+    );
     assert!(rt; !all);
     let (after, before) = (seen(&rt, &mut desk), seen(&rt, &mut busy(&rt)));
     assert_eq!(rt; after.as_str(), before.as_str());
