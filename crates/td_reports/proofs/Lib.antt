@@ -1,0 +1,2 @@
+mod Padding
+mod Texts
