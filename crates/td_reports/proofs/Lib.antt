@@ -1,2 +1,4 @@
 mod Padding
 mod Texts
+mod Taking
+mod Ending

@@ -26,9 +26,13 @@ right_in places text = padding places text ++ text
 abbrev pub line_of : List (List ℕ) → List ℕ
 line_of fields = join_with_byte 32 fields ++ codes "\n"
 
+-- how many lines there are
+abbrev pub total_line : ℕ → List ℕ
+total_line lines = line_of (codes "TOTAL" ∷ decimal lines ∷ [])
+
 -- a report: its header, its lines, and how many these are
 abbrev pub report_text : List ℕ → List (List ℕ) → List ℕ
-report_text header lines = header ++ (concat lines ++ line_of (codes "TOTAL" ∷ decimal (length lines) ∷ []))
+report_text header lines = header ++ (concat lines ++ total_line (length lines))
 
 -- what is overdue, and the day on which it was due
 abbrev pub kind_of : Overdue → List ℕ

@@ -2,4 +2,8 @@
 //! are read one at a time, and the text is written in pieces.
 #![tactic(auto)]
 
+mod fault;
 mod lines;
+mod pieces;
+
+pub use fault::ReportFault;
