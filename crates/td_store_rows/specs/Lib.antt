@@ -9,3 +9,4 @@ pub mod CodeTable
 pub mod MovementTable
 pub mod LineTable
 pub mod StoreTables
+pub mod Visited

@@ -23,7 +23,7 @@ use Rattle.typed_sql.specs.Visited.{SelectsFirst}
 
 module _ (text : List ℕ) (values : Row) (old new : State) where
   -- rows that begin an answer come first among those that the text asks for
-  begun_first : (first : List Row) → Begins text values old first → IsUnchanged old new → SelectsFirst text values old first
+  pub begun_first : (first : List Row) → Begins text values old first → IsUnchanged old new → SelectsFirst text values old first
   begun_first first begins same s tree tests shows order has means =
       let whole = begins_shown text values old new first begins same (λ c db it from.
       let is : command_in (understood s text) ≡ c.command =

@@ -16,3 +16,5 @@ mod Asked
 mod Emptied
 pub mod TypedWhere
 mod First
+mod Shown
+pub mod VisitedTyped
