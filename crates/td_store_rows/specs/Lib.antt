@@ -1,5 +1,6 @@
 pub mod Columns
 pub mod StoreReads
+pub mod Places
 pub mod MetaTable
 pub mod HolderTable
 pub mod GuaranteeTable

@@ -6,7 +6,9 @@ mod texts;
 mod visiting;
 mod writing;
 
-pub use finding::{find_by_serial, find_kept, guarantees_of, kept_of};
+pub use finding::{
+    find_by_serial, find_kept, first_kept_above, guarantees_of, kept_of, next_kept_of,
+};
 pub use stored::{KeptGuarantee, StoredGuarantee};
 pub use visiting::visit_kept;
 pub use writing::{add_used, empty_guarantees1, insert_guarantee, set_terms, take_used};

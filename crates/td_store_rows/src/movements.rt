@@ -6,7 +6,10 @@ mod texts;
 mod visiting;
 mod writing;
 
-pub use finding::{counting_serials, find_by_lrn, find_by_mrn, movements_of};
+pub use finding::{
+    counting_serials, find_by_lrn, find_by_mrn, first_movement_above, movements_of,
+    next_movement_of,
+};
 pub use stored::{MovementSerial, StoredMovement};
 pub use visiting::visit_movements;
 pub use writing::{insert_movement, set_status};

@@ -9,6 +9,7 @@ pub mod OnlyRead
 pub mod TypedRows
 pub mod Ordered
 pub mod Fetched
+pub mod FetchedFirst
 pub mod Columns
 pub mod Left
 mod Answered
