@@ -11,7 +11,7 @@ use Rattle.sqlite_sql.specs.Term.{Term, lit, col, op2}
 use Rattle.sqlite_sql.specs.declared.ops.ArithOp.{ArithOp}
 use Rattle.sqlite_sql.specs.declared.ops.ArithOp.TheVariants.{Add, Sub}
 use Rattle.sqlite_sql.specs.declared.ops.BinaryOp.TheVariants.{Arith, Compare, Coalesce}
-use Rattle.sqlite_sql.specs.declared.ops.CompareOp.TheVariants.{Eq}
+use Rattle.sqlite_sql.specs.declared.ops.CompareOp.TheVariants.{Eq, Gt}
 use Rattle.td_schema.proofs.Acting.{none_acts}
 use Rattle.td_schema.specs.Layouts.{guarantees_place, guarantees_tree, schema_of, version_of}
 use Rattle.td_schema.specs.declared.layout.Layout.{Layout}
@@ -21,7 +21,7 @@ use Rattle.td_store_rows.specs.Columns.{guarantees_table}
 use Rattle.td_store_rows.specs.GuaranteeTexts.{of_holder_text}
 use Rattle.td_store_rows.specs.KeptTable.{first_guarantees}
 use Rattle.td_store_rows.specs.StoreReads.{IsOfVersion, KeepsUse}
-use Rattle.td_store_rows.specs.declared.guarantees.texts.TheConstants.{INSERT, SET_TERMS, ADD_USED, TAKE_USED, BY_GRN, BY_SERIAL, KEPT_OF_HOLDER, EMPTY_FIRST}
+use Rattle.td_store_rows.specs.declared.guarantees.texts.TheConstants.{INSERT, SET_TERMS, ADD_USED, TAKE_USED, BY_GRN, BY_SERIAL, KEPT_OF_HOLDER, KEPT_ALL, EMPTY_FIRST, NEXT_KEPT_OF_HOLDER, KEPT_OF_HOLDERS_ABOVE}
 
 guarantees_there : (l : Layout) → HasTable (schema_of l) (guarantees_place l) (guarantees_table l)
 guarantees_there Made1 = record { there = refl; free = none_acts Made1 (guarantees_tree Made1) }
@@ -40,6 +40,16 @@ serial_tests = equals 1 0 ∷ equals 2 1 ∷ []
 
 abbrev pub holder_tests : List Term
 holder_tests = equals 1 0 ∷ []
+
+-- a column is above the value that was given at a place
+abbrev pub exceeds : ℕ → ℕ → Term
+exceeds at given = op2 (Compare Gt Binary) (col 1 at) (col 0 given)
+
+abbrev pub after_tests : List Term
+after_tests = equals 1 0 ∷ exceeds 2 1 ∷ []
+
+abbrev pub above_tests : List Term
+above_tests = exceeds 1 0 ∷ []
 
 -- the columns of a new row, of a row that is set anew, and of one that is shown: with the amount in use, and without
 abbrev pub new_row : List Term
@@ -111,6 +121,24 @@ unfolding understood everything
 kept_of_holder_means Made1 keeps = absurd (omega (arith, keeps))
 kept_of_holder_means Made2 keeps = record { names = seven; command = refl; plain = (refl, refl); unlisted = refl }
 kept_of_holder_means Grown2 keeps = record { names = seven; command = refl; plain = (refl, refl); unlisted = refl }
+
+pub kept_all_means : (l : Layout) → KeepsUse l → MeansSelect (schema_of l) KEPT_ALL.now (guarantees_tree l) [] all_columns by_serial
+unfolding understood everything
+kept_all_means Made1 keeps = absurd (omega (arith, keeps))
+kept_all_means Made2 keeps = record { names = seven; command = refl; plain = (refl, refl); unlisted = refl }
+kept_all_means Grown2 keeps = record { names = seven; command = refl; plain = (refl, refl); unlisted = refl }
+
+pub next_kept_of_holder_means : (l : Layout) → KeepsUse l → MeansSelect (schema_of l) NEXT_KEPT_OF_HOLDER.now (guarantees_tree l) after_tests all_columns by_serial
+unfolding understood everything
+next_kept_of_holder_means Made1 keeps = absurd (omega (arith, keeps))
+next_kept_of_holder_means Made2 keeps = record { names = seven; command = refl; plain = (refl, refl); unlisted = refl }
+next_kept_of_holder_means Grown2 keeps = record { names = seven; command = refl; plain = (refl, refl); unlisted = refl }
+
+pub kept_of_holders_above_means : (l : Layout) → KeepsUse l → MeansSelect (schema_of l) KEPT_OF_HOLDERS_ABOVE.now (guarantees_tree l) above_tests all_columns by_serial
+unfolding understood everything
+kept_of_holders_above_means Made1 keeps = absurd (omega (arith, keeps))
+kept_of_holders_above_means Made2 keeps = record { names = seven; command = refl; plain = (refl, refl); unlisted = refl }
+kept_of_holders_above_means Grown2 keeps = record { names = seven; command = refl; plain = (refl, refl); unlisted = refl }
 
 of_holder_at : (l : Layout) → MeansSelect (schema_of l) (of_holder_text (version_of l)) (guarantees_tree l) holder_tests six_columns by_serial
 unfolding understood everything

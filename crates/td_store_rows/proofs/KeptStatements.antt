@@ -20,18 +20,19 @@ use Rattle.td_schema.specs.Tables.{guarantees2}
 use Rattle.td_schema.specs.Layouts.{schema_of}
 use Rattle.td_schema.specs.declared.layout.Layout.{Layout}
 use Rattle.td_store_rows.proofs.GuaranteeCells.{bare_kept, columns_at, given_else, kept_back, kept_stored, stored_at}
-use Rattle.td_store_rows.proofs.GuaranteeMeanings.{add_means, amount_columns, by_serial, grn_tests, holder_tests, insert_means, new_row, serial_tests, set_columns, set_means, take_means}
+use Rattle.td_store_rows.proofs.GuaranteeMeanings.{above_tests, add_means, after_tests, amount_columns, by_serial, grn_tests, holder_tests, insert_means, new_row, serial_tests, set_columns, set_means, take_means}
 use Rattle.td_store_rows.specs.Columns.{guarantees_table, kept_cells, kept_columns, kept_typing}
 use Rattle.td_store_rows.specs.GuaranteeTable.{has_serial, is_of}
 use Rattle.td_store_rows.specs.KeptTable.{AreKept, AreKeptBySerial, HasInUse, HasRoom, TurnsKept, TurnsWhere, has_kept_grn, kept_row_of, terms_values, with_less, with_more, with_new_kept_terms}
+use Rattle.td_store_rows.specs.Places.{by_place, is_above, is_after}
 use Rattle.td_store_rows.specs.StoreReads.{KeepsUse}
 use Rattle.td_store_rows.specs.declared.guarantees.stored.KeptGuarantee.{KeptGuarantee}
 use Rattle.td_store_rows.specs.declared.guarantees.texts.TheConstants.{ADD_USED, INSERT, SET_TERMS, TAKE_USED}
 use Rattle.td_table_model.proofs.Orders.{sorted_is_order}
-use Rattle.td_table_model.specs.Gathering.{place}
+use Rattle.td_table_model.specs.Gathering.{owner, place}
 use Rattle.td_table_model.specs.Tables.{Keyed, Kept}
-use Rattle.typed_sql.proofs.Columns.{given_or, number_is, text_is}
-use Rattle.typed_sql.proofs.Ordered.{Passes, by_second}
+use Rattle.typed_sql.proofs.Columns.{given_or, number_above, number_is, text_is}
+use Rattle.typed_sql.proofs.Ordered.{Passes, by_both, by_second}
 use Rattle.typed_sql.proofs.TypedRows.{inserted_typed, updated_typed}
 use Rattle.typed_sql.proofs.TypedWhere.{updated_where}
 use Rattle.typed_sql.specs.Reading.{row_order}
@@ -80,6 +81,12 @@ module _ (layout : Layout) (r : Row) (is : IsTypedRow (kept_typing layout) r) wh
 
   pub holder_passes : (H : ℕ) → passes (number_value H ∷ []) holder_tests r ≡ is_of H k
   holder_passes H = last_term (holder_is H)
+
+  pub after_passes : (H n : ℕ) → passes (number_value H ∷ number_value n ∷ []) after_tests r ≡ is_after H n k
+  after_passes H n = then_term (holder_is H) (last_term (number_above (column r 2) k.serial n (ap (λ l. column l 1) is)))
+
+  pub above_passes : (H : ℕ) → passes (number_value H ∷ []) above_tests r ≡ is_above H k
+  above_passes H = last_term (number_above (column r 1) k.holder H (ap (λ l. column l 0) is))
 
   pub terms_set : KeepsUse layout → (H n : ℕ) (terms : NewTerms)
       → kept_columns (rowid r ∷ columns_set (guarantees_table layout) set_columns (terms_values H n terms) r)
@@ -185,6 +192,11 @@ pub compared : (l : Layout) (H : ℕ) (a b : Row) → Passes (kept_typing l) (is
 compared l H =
     by_second (kept_typing l) (is_of H) (λ k. k.holder) H (λ r is. ap (λ l. column l 0) is) (λ k own. own)
     (number_value H ∷ []) place (λ r is. ap (λ l. column l 1) is)
+
+-- and those of several by holder and then by serial
+pub placed : (l : Layout) (p : Keyed Kept → Bool) (values : Row) (a b : Row) → Passes (kept_typing l) p a → Passes (kept_typing l) p b
+    → row_order by_serial values a b ≡ by_place (row_of (kept_typing l) a) (row_of (kept_typing l) b)
+placed l = by_both (kept_typing l) owner place (λ r is. ap (λ l. column l 0) is) (λ r is. ap (λ l. column l 1) is)
 
 -- so those that were fetched are they by their serials
 pub by_serials : (p : Keyed Kept → Bool) (old : State) (found : List KeptGuarantee) → AreKept p old found

@@ -19,3 +19,4 @@ mod LineStatements
 pub mod Turned
 pub mod Chained
 pub mod Holding
+mod VisitedKeys

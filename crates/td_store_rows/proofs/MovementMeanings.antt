@@ -9,14 +9,14 @@ use Rattle.sqlite_value.specs.declared.value.Value.TheVariants.{Null, Text}
 use Rattle.sqlite_value.specs.Keys.{ascending}
 use Rattle.sqlite_sql.specs.Term.{Term, lit, col, op2}
 use Rattle.sqlite_sql.specs.declared.ops.BinaryOp.TheVariants.{Compare, Coalesce, Or}
-use Rattle.sqlite_sql.specs.declared.ops.CompareOp.TheVariants.{Eq}
+use Rattle.sqlite_sql.specs.declared.ops.CompareOp.TheVariants.{Eq, Gt}
 use Rattle.td_schema.proofs.Acting.{none_acts}
 use Rattle.td_schema.specs.Layouts.{schema_of}
 use Rattle.td_schema.specs.declared.layout.Layout.{Layout}
 use Rattle.td_schema.specs.declared.layout.Layout.TheVariants.{Made1, Made2, Grown2}
 use Rattle.typed_sql.specs.Meanings.{HasTable, MeansInsert, MeansUpdate, MeansSelect}
 use Rattle.td_store_rows.specs.Columns.{movements_table}
-use Rattle.td_store_rows.specs.declared.movements.texts.TheConstants.{INSERT, SET_STATUS, BY_MRN, BY_LRN, OF_HOLDER, COUNTING_SERIALS}
+use Rattle.td_store_rows.specs.declared.movements.texts.TheConstants.{INSERT, SET_STATUS, BY_MRN, BY_LRN, OF_HOLDER, ALL, COUNTING_SERIALS, NEXT_OF_HOLDER, OF_HOLDERS_ABOVE}
 
 movements_there : (l : Layout) → HasTable (schema_of l) 3 movements_table
 movements_there Made1 = record { there = refl; free = none_acts Made1 4 }
@@ -35,6 +35,16 @@ lrn_tests = equals 1 0 ∷ equals 4 1 ∷ []
 
 abbrev pub holder_tests : List Term
 holder_tests = equals 1 0 ∷ []
+
+-- a column is above the value that was given at a place
+abbrev pub exceeds : ℕ → ℕ → Term
+exceeds at given = op2 (Compare Gt Binary) (col 1 at) (col 0 given)
+
+abbrev pub after_tests : List Term
+after_tests = equals 1 0 ∷ exceeds 2 1 ∷ []
+
+abbrev pub above_tests : List Term
+above_tests = exceeds 1 0 ∷ []
 
 -- the state has a name
 abbrev pub named : List ℕ → Term
@@ -101,6 +111,24 @@ unfolding understood everything
 of_holder_means Made1 = record { names = names; command = refl; plain = (refl, refl); unlisted = refl }
 of_holder_means Made2 = record { names = names; command = refl; plain = (refl, refl); unlisted = refl }
 of_holder_means Grown2 = record { names = names; command = refl; plain = (refl, refl); unlisted = refl }
+
+pub all_means : (l : Layout) → MeansSelect (schema_of l) ALL.now 4 [] all_columns by_serial
+unfolding understood everything
+all_means Made1 = record { names = names; command = refl; plain = (refl, refl); unlisted = refl }
+all_means Made2 = record { names = names; command = refl; plain = (refl, refl); unlisted = refl }
+all_means Grown2 = record { names = names; command = refl; plain = (refl, refl); unlisted = refl }
+
+pub next_of_holder_means : (l : Layout) → MeansSelect (schema_of l) NEXT_OF_HOLDER.now 4 after_tests all_columns by_serial
+unfolding understood everything
+next_of_holder_means Made1 = record { names = names; command = refl; plain = (refl, refl); unlisted = refl }
+next_of_holder_means Made2 = record { names = names; command = refl; plain = (refl, refl); unlisted = refl }
+next_of_holder_means Grown2 = record { names = names; command = refl; plain = (refl, refl); unlisted = refl }
+
+pub of_holders_above_means : (l : Layout) → MeansSelect (schema_of l) OF_HOLDERS_ABOVE.now 4 above_tests all_columns by_serial
+unfolding understood everything
+of_holders_above_means Made1 = record { names = names; command = refl; plain = (refl, refl); unlisted = refl }
+of_holders_above_means Made2 = record { names = names; command = refl; plain = (refl, refl); unlisted = refl }
+of_holders_above_means Grown2 = record { names = names; command = refl; plain = (refl, refl); unlisted = refl }
 
 -- the serial alone
 abbrev pub serial_column : List Term

@@ -2,13 +2,14 @@
 use Rattle.std.proofs.Common.{Bool, nat_cmp, true, List, [], ap, false, map, refl, subst, ℕ, ◌∙◌, ◌∷◌, ◌≡◌}
 use Rattle.std.specs.Prelude.{filter, codes, if◌then◌else◌, ◌==◌}
 use Rattle.sqlite_typed.proofs.TestLemmas.{at_or, last_term, then_term, truth_or, then_value}
-use Rattle.typed_sql.proofs.Ordered.{Passes, by_second}
+use Rattle.typed_sql.proofs.Ordered.{Passes, by_both, by_second}
 use Rattle.typed_sql.specs.Reading.{row_order}
 use Rattle.typed_sql.specs.Typed.{AreInOrder, typed_rows, IsTypedRow, row_of}
 use Rattle.td_table_model.proofs.Orders.{sorted_is_order}
-use Rattle.td_table_model.specs.Gathering.{place}
-use Rattle.td_store_rows.proofs.MovementMeanings.{by_serial, counting_tests, holder_tests, insert_means, key_tests, lrn_tests, new_row, set_columns, set_means}
+use Rattle.td_table_model.specs.Gathering.{owner, place}
+use Rattle.td_store_rows.proofs.MovementMeanings.{above_tests, after_tests, by_serial, counting_tests, holder_tests, insert_means, key_tests, lrn_tests, new_row, set_columns, set_means}
 use Rattle.td_store_rows.specs.MovementTable.{AreBySerial, AreMovements, movement_row_of, TurnsMovements, counts_for, has_lrn, has_mrn, is_of, status_values, with_new_status}
+use Rattle.td_store_rows.specs.Places.{by_place, is_above, is_after}
 use Rattle.td_store_rows.specs.declared.movements.stored.StoredMovement.{StoredMovement}
 use Rattle.sqlite.specs.State.{State}
 use Rattle.td_store_rows.proofs.MovementCells.{counting_names, back, bare, cells_stored}
@@ -29,7 +30,7 @@ use Rattle.td_store_rows.specs.Columns.{movement_cells, movement_columns, moveme
 use Rattle.td_store_rows.specs.declared.movements.texts.TheConstants.{INSERT, SET_STATUS}
 use Rattle.td_schema.specs.Layouts.{schema_of}
 use Rattle.td_schema.specs.declared.layout.Layout.{Layout}
-use Rattle.typed_sql.proofs.Columns.{given_or, number_is, text_is}
+use Rattle.typed_sql.proofs.Columns.{given_or, number_above, number_is, text_is}
 use Rattle.typed_sql.proofs.TypedRows.{inserted_typed, updated_typed}
 use Rattle.typed_sql.specs.Values.{number_or_null, number_value, text_or_null}
 use Rattle.typed_sql.specs.Writing.{Inserts, IsInserted, Updates, columns_set, passes}
@@ -65,6 +66,12 @@ module _ (r : Row) (is : IsTypedRow movement_typing r) where
 
   pub holder_passes : (H : ℕ) → passes (number_value H ∷ []) holder_tests r ≡ is_of H m
   holder_passes H = last_term (holder_is H)
+
+  pub after_passes : (H n : ℕ) → passes (number_value H ∷ number_value n ∷ []) after_tests r ≡ is_after H n m
+  after_passes H n = then_term (holder_is H) (last_term (number_above (column r 2) m.serial n (ap (λ l. column l 1) is)))
+
+  pub above_passes : (H : ℕ) → passes (number_value H ∷ []) above_tests r ≡ is_above H m
+  above_passes H = last_term (number_above (column r 1) m.holder H (ap (λ l. column l 0) is))
 
   state_is : (name : List ℕ)
       → truth_or false (binary (Compare Eq Binary) (column r 8) (Text name))
@@ -121,6 +128,11 @@ module _ (H : ℕ) (p : Keyed Movement → Bool)
   compared =
       by_second movement_typing p (λ m. m.holder) H (λ r is. ap (λ l. column l 0) is) own (number_value H ∷ []) place
       (λ r is. ap (λ l. column l 1) is)
+
+-- and those of several by holder and then by serial
+pub placed : (p : Keyed Movement → Bool) (values : Row) (a b : Row) → Passes movement_typing p a → Passes movement_typing p b
+    → row_order by_serial values a b ≡ by_place (row_of movement_typing a) (row_of movement_typing b)
+placed = by_both movement_typing owner place (λ r is. ap (λ l. column l 0) is) (λ r is. ap (λ l. column l 1) is)
 
 -- so those that were fetched are they by their serials
 pub by_serials : (p : Keyed Movement → Bool) (old : State) (found : List StoredMovement) → AreMovements p old found

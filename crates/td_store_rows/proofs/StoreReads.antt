@@ -1,5 +1,5 @@
 -- Calls that read one after another in a store's file.
-use Rattle.std.proofs.Common.{arith, refl, Result, List, ℕ}
+use Rattle.std.proofs.Common.{arith, refl, subst, sym, Result, List, ℕ}
 use Rattle.std.specs.Prelude.{Bool, OnOk, is_ok, true}
 use Rattle.sqlite.specs.Given.{IsPlain}
 use Rattle.sqlite.specs.Listing.{understood}
@@ -10,6 +10,7 @@ use Rattle.typed_sql.proofs.Leaving.{reads_by}
 use Rattle.typed_sql.proofs.OnlyRead.{none_read, read_more, stays_on, stays_well}
 use Rattle.typed_sql.specs.Reading.{OnlyReads, StaysInside}
 use Rattle.td_store_rows.specs.StoreReads.{KeepsUse, OnlyReadNewest, ReadsIn, ReadsNewest, ReadsStore}
+use Rattle.td_store_rows.specs.Visited.{IsOfLayout}
 
 -- a statement that doesn't write, whatever came of it
 pub reads_in : {T E : Type 0} (P : Layout → Type 0) (text : List ℕ) → ((l : Layout) → P l → IsPlain (understood (schema_of l) text))
@@ -19,6 +20,11 @@ reads_in P text plain old new r still within = record {
   still = λ clean well l is. (reads_by (schema_of l) text (plain l is) old new r still within).still clean well;
   within = within;
 }
+
+-- a text that doesn't write in any file of these layouts doesn't in one
+pub plain_there : (P : Layout → Type 0) (text : List ℕ) → ((l : Layout) → P l → IsPlain (understood (schema_of l) text)) → (s : State)
+    → IsOfLayout P s → IsPlain (understood s.now.schema text)
+plain_there P text plain s it = subst (λ schema. IsPlain (understood schema text)) (sym it.2) (plain it.0 it.1)
 
 -- what reads in files of some layouts reads in those of fewer
 pub reads_less : {P Q : Layout → Type 0} {w : Bool} {a b : State} → ((l : Layout) → Q l → P l) → ReadsIn P w a b → ReadsIn Q w a b

@@ -1,7 +1,7 @@
 -- What is asked of the guarantees in a store's file that keeps the amounts in use on them, and what is written of them.
 use Rattle.std.specs.Prelude.{◌≡◌, ◌≤◌, ◌<◌, ◌^◌, [], ◌∷◌, ℕ, ◌+◌, ◌-◌, true, Bool, if◌then◌else◌, List, filter, map, Option}
 use Rattle.std.specs.List.{AllByRecursion}
-use Rattle.std.specs.Option.{option_to_list}
+use Rattle.std.specs.Option.{option_map, option_to_list}
 use Rattle.td_guarantee.specs.declared.guarantee.Guarantee.{Guarantee}
 use Rattle.td_acts.specs.Changes.{with_terms}
 use Rattle.td_acts.specs.declared.rows.NewTerms.{NewTerms}
@@ -10,7 +10,7 @@ use Rattle.td_table_model.specs.Tables.{Keyed, Kept, with_amount, without_amount
 use Rattle.td_schema.specs.Layouts.{schema_of}
 use Rattle.td_schema.specs.declared.layout.Layout.{Layout}
 use Rattle.td_schema.specs.declared.layout.Layout.TheVariants.{Made1, Grown2}
-use Rattle.typed_sql.specs.Typed.{AreThose, AreTyped, HasNow, Turns, typed_rows}
+use Rattle.typed_sql.specs.Typed.{AreThose, AreTyped, HasNow, IsFirst, Turns, typed_rows}
 use Rattle.typed_sql.specs.Values.{number_value, number_or_null}
 use Rattle.typed_sql.specs.Writing.{HasSchema, HaveIds, IsEmptied}
 use Rattle.sqlite_schema.specs.declared.schema.Table.{Table}
@@ -19,6 +19,7 @@ use Rattle.sqlite_value.specs.Order.{Row}
 use Rattle.sqlite.specs.State.{State}
 use Rattle.td_store_rows.specs.Columns.{guarantees_table, kept_typing}
 use Rattle.td_store_rows.specs.GuaranteeTable.{has_grn}
+use Rattle.td_store_rows.specs.Places.{by_place}
 use Rattle.td_store_rows.specs.StoreReads.{KeepsUse}
 use Rattle.td_store_rows.specs.declared.guarantees.stored.KeptGuarantee.{KeptGuarantee}
 
@@ -81,6 +82,12 @@ AreKeptBySerial p state found =
 -- this is the guarantee that passes the test, or there is none
 abbrev pub IsTheKept : (Keyed Kept → Bool) → State → Option KeptGuarantee → Type 0
 IsTheKept p state found = AreKept p state (option_to_list found)
+
+-- in a file that keeps the amounts this is the first of the guarantees that pass the test, by holder and then by serial; none: none
+-- of them passes
+abbrev pub IsFirstKept : (Keyed Kept → Bool) → State → Option KeptGuarantee → Type 0
+IsFirstKept p state found =
+    (l : Layout) → KeepsUse l → IsFirst (kept_typing l) (schema_of l) p by_place state (option_map kept_row_of found)
 
 -- the table of guarantees of version 1, in a file that was migrated from there, has no row now, and the others are as
 -- they were

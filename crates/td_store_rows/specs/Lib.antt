@@ -1,5 +1,6 @@
 pub mod Columns
 pub mod StoreReads
+pub mod Places
 pub mod MetaTable
 pub mod HolderTable
 pub mod GuaranteeTable
@@ -9,3 +10,4 @@ pub mod CodeTable
 pub mod MovementTable
 pub mod LineTable
 pub mod StoreTables
+pub mod Visited

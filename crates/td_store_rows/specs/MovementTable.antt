@@ -1,7 +1,7 @@
 -- What is asked of the movements in a store's file, and what is said anew of one.
 use Rattle.std.specs.Prelude.{◌≡◌, [], ◌∷◌, ℕ, ◌==◌, Bool, ◌&&◌, List, filter, map, Option}
 use Rattle.std.specs.List.Sorted.{IsPermutation, IsSorted}
-use Rattle.std.specs.Option.{option_to_list}
+use Rattle.std.specs.Option.{option_map, option_to_list}
 use Rattle.std.specs.Ordering.{nat_cmp}
 use Rattle.std.specs.Str.{bytes_eq}
 use Rattle.td_movement.specs.States.{is_counting, state_name}
@@ -11,7 +11,7 @@ use Rattle.td_acts.specs.declared.rows.NewStatus.{NewStatus}
 use Rattle.td_table_model.specs.Tables.{Keyed}
 use Rattle.td_schema.specs.Layouts.{schema_of}
 use Rattle.td_schema.specs.declared.layout.Layout.{Layout}
-use Rattle.typed_sql.specs.Typed.{AreThose, AreTyped, Turns, typed_rows}
+use Rattle.typed_sql.specs.Typed.{AreThose, AreTyped, IsFirst, Turns, typed_rows}
 use Rattle.typed_sql.specs.Writing.{HasSchema}
 use Rattle.td_table_model.specs.Gathering.{IsApart, in_order, place}
 use Rattle.typed_sql.specs.Values.{number_value, number_or_null, text_or_null}
@@ -19,6 +19,7 @@ use Rattle.sqlite_value.specs.declared.value.Value.TheVariants.{Text}
 use Rattle.sqlite_value.specs.Order.{Row}
 use Rattle.sqlite.specs.State.{State}
 use Rattle.td_store_rows.specs.Columns.{movement_typing}
+use Rattle.td_store_rows.specs.Places.{by_place}
 use Rattle.td_store_rows.specs.declared.movements.stored.MovementSerial.{MovementSerial}
 use Rattle.td_store_rows.specs.declared.movements.stored.StoredMovement.{StoredMovement}
 
@@ -58,6 +59,10 @@ AreBySerial p state found =
     (l : Layout) → HasSchema state (schema_of l) → AreTyped movement_typing state.now.trees
     → IsApart place (filter p (typed_rows movement_typing state.now.trees))
     → map movement_row_of found ≡ in_order place (filter p (typed_rows movement_typing state.now.trees))
+
+-- this is the first of the movements that pass the test, by holder and then by serial; none: none of them passes
+abbrev pub IsFirstMovement : (Keyed Movement → Bool) → State → Option StoredMovement → Type 0
+IsFirstMovement p state found = (l : Layout) → IsFirst movement_typing (schema_of l) p by_place state (option_map movement_row_of found)
 
 -- a serial that was found
 abbrev pub serial_of_stored : MovementSerial → ℕ

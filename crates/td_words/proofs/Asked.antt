@@ -1,5 +1,5 @@
 -- What clap met in the words, and what the words don't ask for.
-use Rattle.std.proofs.Common.{◌≡◌, ◌≢◌, ◌∙◌, ◌⊎◌, ap, sym, subst, refl, inl, inr, ⊎_elim, List, [], ◌∷◌, Option, None, Some, option_map, codes, slice_get, true, Result, Ok, Err, IfErr, IfOk, IsErrAnd}
+use Rattle.std.proofs.Common.{◌≡◌, ◌≢◌, ◌∙◌, ◌⊎◌, ap, sym, subst, refl, ℕ, inl, inr, ⊎_elim, List, [], ◌∷◌, Option, None, Some, option_map, codes, slice_get, true, Result, Ok, Err, IfErr, IfOk, IsErrAnd}
 use Rattle.clap.specs.Faults.{is_simple_and_free, walk_fault}
 use Rattle.clap.specs.Kinds.{HasKind, Kinds}
 use Rattle.clap.specs.Words.{App, IsAmong, Row, Text, fault_of, subcommand_name_of, subcommand_of, subcommand_rows_of}
@@ -10,7 +10,9 @@ use Rattle.clap.specs.declared.error.kind.ErrorKind.TheVariants.{DisplayHelp, Di
 use Rattle.td_words.specs.declared.words.Job.{Job}
 use Rattle.td_words.specs.declared.words.NoJob.{NoJob}
 use Rattle.td_words.specs.declared.words.NoJob.TheVariants.{Help, Wrong, NoMemory}
-use Rattle.td_words.specs.Words.{AreTaken, AskForNone, AsksFor, IsJob, IsNoJob, IsNoneSuch, IsTold, program_app}
+use Rattle.td_words.specs.declared.words.ReportKind.{ReportKind}
+use Rattle.td_words.specs.declared.words.ReportKind.TheVariants.{Overdue, Guarantees}
+use Rattle.td_words.specs.Words.{AreTaken, AskForNone, AsksFor, IsDayOf, IsJob, IsNoJob, IsNoneSuch, IsReportBy, IsTold, program_app}
 
 pub is_simple_program : is_simple_and_free program_app ≡ true
 is_simple_program = refl
@@ -36,6 +38,11 @@ module _ {X Y : Type 0} (P : X → Type 0) (Q : Y → Type 0) (part : (y : Y) �
   pub none_up : {T : Type 0} (r : Result T NoJob) (e : NoJob) → IsErrAnd r (λ y. y ≡ e) → IsNoneSuch P e → IfErr r (IsNoneSuch Q)
   none_up (Ok x) e is none = absurd is
   none_up (Err y) e is none = subst (IsNoneSuch Q) (sym is) (none_of e none)
+
+-- a report has a day, or may have
+pub day_of_report : (kind day : Option Text) (report : ReportKind) → IsReportBy kind day report → (on : Option ℕ) × IsDayOf day on
+day_of_report kind day (Overdue on) is = (Some on, is.1)
+day_of_report kind day Guarantees is = is.1
 
 -- ---- words that clap takes
 

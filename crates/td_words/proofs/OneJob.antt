@@ -2,14 +2,16 @@
 use Rattle.std.proofs.Common.{◌≡◌, ◌∙◌, ap, refl, sym, subst, ℕ, ℤ, pos, List, Option, None, Some, codes, slice_index, arith}
 use Rattle.clap.specs.Words.{Row, Text}
 use Rattle.td_words.specs.Laws.{AreSameRecords, IsSameJob, IsSameTask, WordsAskForOneJob}
-use Rattle.td_words.specs.Words.{AreRecordsBy, IsIdleOf, IsJob, IsMomentOf, IsNumberOf, IsTask}
+use Rattle.td_words.specs.Words.{AreRecordsBy, IsDayOf, IsIdleOf, IsJob, IsMomentOf, IsNumberOf, IsReportBy, IsTask}
 use Rattle.td_words.specs.declared.words.BatchKind.TheVariants.{Declarations, Acts}
 use Rattle.td_words.specs.declared.words.Job.{Job}
 use Rattle.td_words.specs.declared.words.Job.TheVariants.{AtDesk, Migrate}
 use Rattle.td_words.specs.declared.words.Records.{Records}
 use Rattle.td_words.specs.declared.words.Records.TheVariants.{Memory, File, NewFile}
+use Rattle.td_words.specs.declared.words.ReportKind.{ReportKind}
+use Rattle.td_words.specs.declared.words.ReportKind.TheVariants.{Overdue, Guarantees}
 use Rattle.td_words.specs.declared.words.Task.{Task}
-use Rattle.td_words.specs.declared.words.Task.TheVariants.{Serve, Pipe, Batch, Check}
+use Rattle.td_words.specs.declared.words.Task.TheVariants.{Serve, Pipe, Batch, Report, Check}
 use Rattle.td_words.proofs.Asked.{same_met}
 
 number_once : (least greatest : ℕ) (value : Option Text) (m n : ℕ) → IsNumberOf least greatest value m → IsNumberOf least greatest value n → m ≡ n
@@ -30,6 +32,21 @@ same_value value a b is other = cc
 no_value : (value : Option Text) (a : Text) → value ≡ None → value ≡ Some a → ⊥
 no_value value a none some = cc
 
+day_once : (value : Option Text) (a b : ℕ) → IsDayOf value (Some a) → IsDayOf value (Some b) → a ≡ b
+day_once None a b is other = absurd (let no : Some a ≡ None = is in cc)
+day_once (Some text) a b is other =
+    let same : ◌≡◌ {A = Option ℕ} (Some a) (Some b) = is.2 ∙ sym is.1 ∙ other.1 ∙ sym other.2 in
+    cc
+
+two_kinds : (value : Option Text) → value ≡ Some (codes "overdue") → value ≡ Some (codes "guarantees") → ⊥
+two_kinds value one other = cc
+
+report_once : (kind day : Option Text) (a b : ReportKind) → IsReportBy kind day a → IsReportBy kind day b → a ≡ b
+report_once kind day (Overdue on) (Overdue at) is other = ap Overdue (day_once day on at is.1 other.1)
+report_once kind day (Overdue on) Guarantees is other = absurd (two_kinds kind is.0 other.0)
+report_once kind day Guarantees (Overdue at) is other = absurd (two_kinds kind other.0 is.0)
+report_once kind day Guarantees Guarantees is other = refl
+
 two_flags : (value : Option Text) → value ≡ Some (codes "false") → value ≡ Some (codes "true") → ⊥
 two_flags value without with_it = cc
 
@@ -39,6 +56,7 @@ first_letter (Serve l r) = 115
 first_letter (Pipe r) = 112
 first_letter (Batch Declarations file db) = 98
 first_letter (Batch Acts file db) = 97
+first_letter (Report report path) = 114
 first_letter (Check path) = 99
 
 letter_is : (name : Text) (rows : List Row) (task : Task) → IsTask name rows task → slice_index name 0 ≡ first_letter task
@@ -46,6 +64,7 @@ letter_is name rows (Serve l r) is = ap (λ t. slice_index t 0) is.0
 letter_is name rows (Pipe r) is = ap (λ t. slice_index t 0) is.0
 letter_is name rows (Batch Declarations file db) is = ap (λ t. slice_index t 0) is.0
 letter_is name rows (Batch Acts file db) is = ap (λ t. slice_index t 0) is.0
+letter_is name rows (Report report path) is = ap (λ t. slice_index t 0) is.0
 letter_is name rows (Check path) is = ap (λ t. slice_index t 0) is.0
 
 clash : (name : Text) (rows : List Row) (a b : Task) → IsTask name rows a → IsTask name rows b → first_letter a ≡ first_letter b
@@ -72,26 +91,37 @@ task_once name rows (Serve l r) (Serve m s) is other = (
 task_once name rows (Serve l r) (Pipe s) is other = absurd (omega (arith, clash name rows (Serve l r) (Pipe s) is other))
 task_once name rows (Serve l r) (Batch Declarations there records) is other = absurd (omega (arith, clash name rows (Serve l r) (Batch Declarations there records) is other))
 task_once name rows (Serve l r) (Batch Acts there records) is other = absurd (omega (arith, clash name rows (Serve l r) (Batch Acts there records) is other))
+task_once name rows (Serve l r) (Report kind there) is other = absurd (omega (arith, clash name rows (Serve l r) (Report kind there) is other))
 task_once name rows (Serve l r) (Check there) is other = absurd (omega (arith, clash name rows (Serve l r) (Check there) is other))
 task_once name rows (Pipe r) (Serve m s) is other = absurd (omega (arith, clash name rows (Pipe r) (Serve m s) is other))
 task_once name rows (Pipe r) (Pipe s) is other = records_once r s _ _ is.1 other.1
 task_once name rows (Pipe r) (Batch Declarations there records) is other = absurd (omega (arith, clash name rows (Pipe r) (Batch Declarations there records) is other))
 task_once name rows (Pipe r) (Batch Acts there records) is other = absurd (omega (arith, clash name rows (Pipe r) (Batch Acts there records) is other))
+task_once name rows (Pipe r) (Report kind there) is other = absurd (omega (arith, clash name rows (Pipe r) (Report kind there) is other))
 task_once name rows (Pipe r) (Check there) is other = absurd (omega (arith, clash name rows (Pipe r) (Check there) is other))
 task_once name rows (Batch Declarations file db) (Serve m s) is other = absurd (omega (arith, clash name rows (Batch Declarations file db) (Serve m s) is other))
 task_once name rows (Batch Declarations file db) (Pipe s) is other = absurd (omega (arith, clash name rows (Batch Declarations file db) (Pipe s) is other))
 task_once name rows (Batch Declarations file db) (Batch Declarations there records) is other = (refl, same_value _ _ _ is.1 other.1, same_value _ _ _ is.2 other.2)
 task_once name rows (Batch Declarations file db) (Batch Acts there records) is other = absurd (omega (arith, clash name rows (Batch Declarations file db) (Batch Acts there records) is other))
+task_once name rows (Batch Declarations file db) (Report kind there) is other = absurd (omega (arith, clash name rows (Batch Declarations file db) (Report kind there) is other))
 task_once name rows (Batch Declarations file db) (Check there) is other = absurd (omega (arith, clash name rows (Batch Declarations file db) (Check there) is other))
 task_once name rows (Batch Acts file db) (Serve m s) is other = absurd (omega (arith, clash name rows (Batch Acts file db) (Serve m s) is other))
 task_once name rows (Batch Acts file db) (Pipe s) is other = absurd (omega (arith, clash name rows (Batch Acts file db) (Pipe s) is other))
 task_once name rows (Batch Acts file db) (Batch Declarations there records) is other = absurd (omega (arith, clash name rows (Batch Acts file db) (Batch Declarations there records) is other))
 task_once name rows (Batch Acts file db) (Batch Acts there records) is other = (refl, same_value _ _ _ is.1 other.1, same_value _ _ _ is.2 other.2)
+task_once name rows (Batch Acts file db) (Report kind there) is other = absurd (omega (arith, clash name rows (Batch Acts file db) (Report kind there) is other))
 task_once name rows (Batch Acts file db) (Check there) is other = absurd (omega (arith, clash name rows (Batch Acts file db) (Check there) is other))
+task_once name rows (Report report path) (Serve m s) is other = absurd (omega (arith, clash name rows (Report report path) (Serve m s) is other))
+task_once name rows (Report report path) (Pipe s) is other = absurd (omega (arith, clash name rows (Report report path) (Pipe s) is other))
+task_once name rows (Report report path) (Batch Declarations there records) is other = absurd (omega (arith, clash name rows (Report report path) (Batch Declarations there records) is other))
+task_once name rows (Report report path) (Batch Acts there records) is other = absurd (omega (arith, clash name rows (Report report path) (Batch Acts there records) is other))
+task_once name rows (Report report path) (Report kind there) is other = (report_once _ _ report kind is.1 other.1, same_value _ _ _ is.2 other.2)
+task_once name rows (Report report path) (Check there) is other = absurd (omega (arith, clash name rows (Report report path) (Check there) is other))
 task_once name rows (Check path) (Serve m s) is other = absurd (omega (arith, clash name rows (Check path) (Serve m s) is other))
 task_once name rows (Check path) (Pipe s) is other = absurd (omega (arith, clash name rows (Check path) (Pipe s) is other))
 task_once name rows (Check path) (Batch Declarations there records) is other = absurd (omega (arith, clash name rows (Check path) (Batch Declarations there records) is other))
 task_once name rows (Check path) (Batch Acts there records) is other = absurd (omega (arith, clash name rows (Check path) (Batch Acts there records) is other))
+task_once name rows (Check path) (Report kind there) is other = absurd (omega (arith, clash name rows (Check path) (Report kind there) is other))
 task_once name rows (Check path) (Check there) is other = same_value _ _ _ is.1 other.1
 
 -- the name of a task's command isn't that of `migrate`
@@ -100,6 +130,7 @@ no_migrate name rows (Serve l r) is other = omega (arith, letter_is name rows (S
 no_migrate name rows (Pipe r) is other = omega (arith, letter_is name rows (Pipe r) is, ap (λ t. slice_index t 0) other)
 no_migrate name rows (Batch Declarations file db) is other = omega (arith, letter_is name rows (Batch Declarations file db) is, ap (λ t. slice_index t 0) other)
 no_migrate name rows (Batch Acts file db) is other = omega (arith, letter_is name rows (Batch Acts file db) is, ap (λ t. slice_index t 0) other)
+no_migrate name rows (Report report path) is other = omega (arith, letter_is name rows (Report report path) is, ap (λ t. slice_index t 0) other)
 no_migrate name rows (Check path) is other = omega (arith, letter_is name rows (Check path) is, ap (λ t. slice_index t 0) other)
 
 job_once : (name : Text) (rows : List Row) (job other : Job) → IsJob name rows job → IsJob name rows other → IsSameJob job other

@@ -7,7 +7,7 @@ use Rattle.td_words.specs.declared.words.Job.TheVariants.{AtDesk, Migrate}
 use Rattle.td_words.specs.declared.words.Records.{Records}
 use Rattle.td_words.specs.declared.words.Records.TheVariants.{Memory, File, NewFile}
 use Rattle.td_words.specs.declared.words.Task.{Task}
-use Rattle.td_words.specs.declared.words.Task.TheVariants.{Serve, Pipe, Batch, Check}
+use Rattle.td_words.specs.declared.words.Task.TheVariants.{Serve, Pipe, Batch, Report, Check}
 
 -- the records stand at the same place
 abbrev pub AreSameRecords : Records → Records → Type 0
@@ -24,6 +24,7 @@ IsSameTask (Serve listening records) (Serve other others) =
 IsSameTask (Pipe records) (Pipe others) = AreSameRecords records others
 IsSameTask (Batch kind file db) (Batch other there records) =
     (kind ≡ other) × (string_bytes file ≡ string_bytes there) × (string_bytes db ≡ string_bytes records)
+IsSameTask (Report report path) (Report other there) = (report ≡ other) × (string_bytes path ≡ string_bytes there)
 IsSameTask (Check path) (Check other) = string_bytes path ≡ string_bytes other
 IsSameTask _ _ = ⊥
 

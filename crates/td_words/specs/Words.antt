@@ -7,6 +7,7 @@ use Rattle.clap.specs.declared.builder.ArgAction.TheVariants.{Set, SetTrue}
 use Rattle.clap.specs.declared.error.kind.ErrorKind.{ErrorKind}
 use Rattle.clap.specs.declared.error.kind.ErrorKind.TheVariants.{DisplayHelp, DisplayVersion, OutOfMemory}
 use Rattle.td_base.specs.Codes.{IsCountry}
+use Rattle.td_base.specs.Days.{day_read}
 use Rattle.td_words.specs.declared.words.BatchKind.{BatchKind}
 use Rattle.td_words.specs.declared.words.BatchKind.TheVariants.{Declarations, Acts}
 use Rattle.td_words.specs.declared.words.Job.{Job}
@@ -17,8 +18,10 @@ use Rattle.td_words.specs.declared.words.NoJob.TheVariants.{Help, Wrong, NoMemor
 use Rattle.td_words.specs.declared.words.Office.{Office}
 use Rattle.td_words.specs.declared.words.Records.{Records}
 use Rattle.td_words.specs.declared.words.Records.TheVariants.{Memory, File, NewFile}
+use Rattle.td_words.specs.declared.words.ReportKind.{ReportKind}
+use Rattle.td_words.specs.declared.words.ReportKind.TheVariants.{Overdue, Guarantees}
 use Rattle.td_words.specs.declared.words.Task.{Task}
-use Rattle.td_words.specs.declared.words.Task.TheVariants.{Serve, Pipe, Batch, Check}
+use Rattle.td_words.specs.declared.words.Task.TheVariants.{Serve, Pipe, Batch, Report, Check}
 
 -- an option that takes one value
 abbrev pub option_rule : Text → Rule
@@ -39,7 +42,7 @@ with_office app =
     with_rule (with_rule (with_rule (with_country app) (option_rule (codes "db"))) new_file_rule)
     (option_rule (codes "at"))
 
--- the commands `serve`, `pipe`, `batch`, `acts`, `check` and `migrate`, and the program that has them
+-- the commands `serve`, `pipe`, `batch`, `acts`, `report`, `check` and `migrate`, and the program that has them
 abbrev pub serve_app : App
 serve_app =
     with_rule
@@ -64,6 +67,18 @@ abbrev pub batch_name : BatchKind → Text
 batch_name Declarations = codes "batch"
 batch_name Acts = codes "acts"
 
+-- the one that says which report by a word of its own
+abbrev pub kind_rule : Rule
+kind_rule = record (new_rule (codes "kind")) { action = Some Set; value_names = 1; required = true }
+
+abbrev pub report_app : App
+report_app =
+    with_rule
+    (with_rule
+    (with_rule (with_country (new_app (codes "report"))) kind_rule)
+    (record (option_rule (codes "db")) { required = true }))
+    (option_rule (codes "day"))
+
 abbrev pub check_app : App
 check_app = with_rule (with_country (new_app (codes "check"))) (record (option_rule (codes "db")) { required = true })
 
@@ -83,8 +98,10 @@ program_app =
     with_subcommand
     (with_subcommand
     (with_subcommand
+    (with_subcommand
     (with_subcommand (with_subcommand (with_subcommand bare_app serve_app.top) pipe_app.top) (batch_app (codes "batch")).top)
     (batch_app (codes "acts")).top)
+    report_app.top)
     check_app.top)
     migrate_app.top
 
@@ -129,8 +146,22 @@ pub record IsListening (rows : List Row) (listening : Listening) : Type 0 where
   pub connections : IsNumberOf 1 1000000 (first_of (codes "connections") rows) listening.connections
   pub idle : IsIdleOf (first_of (codes "idle") rows) listening.idle
 
+-- The day that an option has for its value, as 2025-03-01; an option that isn't there says that there is none.
+abbrev pub IsDayOf : Option Text → Option ℕ → Type 0
+IsDayOf None day = day ≡ None
+IsDayOf (Some text) day = (n : ℕ) × (day_read text ≡ Some n) × (day ≡ Some n)
+
+-- Which report: of what is overdue on a day, or of guarantees. There a day may be given and has no meaning, but it is a day.
+abbrev pub IsReportBy : Option Text → Option Text → ReportKind → Type 0
+IsReportBy kind day (Overdue on) = (kind ≡ Some (codes "overdue")) × IsDayOf day (Some on)
+IsReportBy kind day Guarantees = (kind ≡ Some (codes "guarantees")) × ((any : Option ℕ) × IsDayOf day any)
+
+abbrev pub IsReport : List Row → ReportKind → Type 0
+IsReport rows report = IsReportBy (first_of (codes "kind") rows) (first_of (codes "day") rows) report
+
 -- The task of this name, with the values of its own options: where the records stand, of `serve` a port, a number of
--- connections and perhaps an idle limit, of `batch` and `acts` the file with the rows, and of `check` the file.
+-- connections and perhaps an idle limit, of `batch` and `acts` the file with the rows, of `report` which it is, and of it and of
+-- `check` the file.
 abbrev pub IsTask : Text → List Row → Task → Type 0
 IsTask name rows (Pipe records) = (name ≡ codes "pipe") × AreRecords rows records
 IsTask name rows (Serve listening records) =
@@ -138,6 +169,8 @@ IsTask name rows (Serve listening records) =
 IsTask name rows (Batch kind file db) =
     (name ≡ batch_name kind) × (first_of (codes "file") rows ≡ Some (string_bytes file))
     × (first_of (codes "db") rows ≡ Some (string_bytes db))
+IsTask name rows (Report report path) =
+    (name ≡ codes "report") × IsReport rows report × (first_of (codes "db") rows ≡ Some (string_bytes path))
 IsTask name rows (Check path) =
     (name ≡ codes "check") × (first_of (codes "db") rows ≡ Some (string_bytes path))
 

@@ -6,4 +6,4 @@ mod options;
 mod words;
 
 pub use laws::words_ask_for_one_job;
-pub use words::{BatchKind, Job, Listening, NoJob, Office, Records, Task, read_words};
+pub use words::{BatchKind, Job, Listening, NoJob, Office, Records, ReportKind, Task, read_words};

@@ -2,7 +2,7 @@
 ghost use Rattle.std.specs.Prelude.{◌≡◌, codes, false, IfOk};
 ghost use Rattle.clap.specs.Words.{App, app_of, new_app, rule_of, with_subcommand};
 ghost use Rattle.clap.specs.declared.Command.TheViews.{out-Command};
-ghost use Rattle.td_words.specs.Words.{bare_app, batch_app, check_app, migrate_app, new_file_rule, option_rule, pipe_app, program_app, serve_app, with_country, with_office};
+ghost use Rattle.td_words.specs.Words.{bare_app, batch_app, check_app, kind_rule, migrate_app, new_file_rule, option_rule, pipe_app, program_app, report_app, serve_app, with_country, with_office};
 
 use clap::{Arg, ArgAction, Command};
 use std::alloc::{AllocError, Global};
@@ -23,6 +23,10 @@ pub(crate) const NEW: &str = "new";
 
 pub(crate) const FILE: &str = "file";
 
+pub(crate) const KIND: &str = "kind";
+
+pub(crate) const DAY: &str = "day";
+
 const SERVE: &str = "serve";
 
 const PIPE: &str = "pipe";
@@ -30,6 +34,8 @@ const PIPE: &str = "pipe";
 const BATCH: &str = "batch";
 
 const ACTS: &str = "acts";
+
+const REPORT: &str = "report";
 
 const CHECK: &str = "check";
 
@@ -51,6 +57,8 @@ const BATCH_USAGE: &str =
 const ACTS_USAGE: &str =
     "transit-desk acts --country <CC> --db <FILE> --file <CSV> [--at <SECONDS>]";
 
+const REPORT_USAGE: &str = "transit-desk report <KIND> --country <CC> --db <FILE> [--day <D>]";
+
 const CHECK_USAGE: &str = "transit-desk check --country <CC> --db <FILE>";
 
 const MIGRATE_USAGE: &str = "transit-desk migrate --db <FILE>";
@@ -61,6 +69,7 @@ const USAGE: &str =
        transit-desk pipe --country <CC> [--db <FILE> [--new]] [--at <SECONDS>]
        transit-desk batch --country <CC> --db <FILE> --file <CSV> [--at <SECONDS>]
        transit-desk acts --country <CC> --db <FILE> --file <CSV> [--at <SECONDS>]
+       transit-desk report <KIND> --country <CC> --db <FILE> [--day <D>]
        transit-desk check --country <CC> --db <FILE>
        transit-desk migrate --db <FILE>";
 
@@ -76,12 +85,14 @@ Examples:
   transit-desk serve --country CH --port 8080 --connections 1000 --db desk.db --new
   transit-desk batch --country CH --db desk.db --file declarations.csv > result.csv
   transit-desk acts --country CH --db desk.db --file acts.csv > result.csv
+  transit-desk report overdue --country CH --db desk.db --day 2025-03-20
+  transit-desk report guarantees --country CH --db desk.db
   transit-desk check --country CH --db desk.db
   transit-desk migrate --db desk.db
 
 Status:
   0  Done: the stream ended well, all connections were served, all rows were answered,
-     the file is a desk's, or its tables are of the newest version
+     the report was written, the file is a desk's, or its tables are of the newest version
   1  A fault, which one line on standard error tells, as: transit-desk: stream cut;
      or a row was refused
   2  Wrong words: one line on standard error tells what was wrong";
@@ -106,6 +117,18 @@ fn new_option<'a>(alloc: Global) -> Arg<'a>
         .long(NEW)
         .help("Makes the desk's tables in the file first")
         .action(ArgAction::SetTrue)
+}
+
+// Which report is asked for: a word of its own, with no option's name before it.
+fn kind_word<'a>(alloc: Global) -> Arg<'a>
+    ensures rule { rule_of result ≡ kind_rule }
+    ensures local { result.global ≡ false }
+{
+    Arg::new(alloc, KIND)
+        .value_name("KIND")
+        .help("The report: overdue or guarantees")
+        .action(ArgAction::Set)
+        .required(true)
 }
 
 // A command of that name before its options are added.
@@ -252,6 +275,31 @@ fn acts_command<'a>(alloc: Global) -> Result<Command<'a>, AllocError>
     )
 }
 
+fn report_command<'a>(alloc: Global) -> Result<Command<'a>, AllocError>
+    ensures { IfOk result (λ c. (app_of c ≡ report_app) × ((out-Command c).has_globals ≡ false)) }
+{
+    country_command(
+        alloc,
+        REPORT,
+        "Prints what is overdue on a day, or all guarantees",
+        REPORT_USAGE,
+    )?
+    .arg(kind_word(alloc))?
+    .arg(option(
+        alloc,
+        DB,
+        "FILE",
+        "The file with the records, an SQLite database",
+    )
+    .required(true))?
+    .arg(option(
+        alloc,
+        DAY,
+        "D",
+        "The day of the report, as 2025-03-01; overdue has to have it",
+    ))
+}
+
 fn check_command<'a>(alloc: Global) -> Result<Command<'a>, AllocError>
     ensures { IfOk result (λ c. (app_of c ≡ check_app) × ((out-Command c).has_globals ≡ false)) }
 {
@@ -310,6 +358,7 @@ pub(crate) fn program<'a>(alloc: Global) -> Result<Command<'a>, AllocError>
     let program = with_job(program, pipe_command(alloc))?;
     let program = with_job(program, declarations_command(alloc))?;
     let program = with_job(program, acts_command(alloc))?;
+    let program = with_job(program, report_command(alloc))?;
     let program = with_job(program, check_command(alloc))?;
     with_job(program, migrate_command(alloc))
 }

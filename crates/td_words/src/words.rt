@@ -4,14 +4,16 @@ ghost use Rattle.ascii_text.specs.Digits.{digits_value};
 ghost use Rattle.clap.specs.Values.{kind_of};
 ghost use Rattle.clap.specs.Words.{first_of, found_of, rows_of};
 ghost use Rattle.td_words.specs.declared.words.NoJob.TheVariants.{NoMemory};
-ghost use Rattle.td_words.specs.Words.{AreRecords, AsksFor, IsCountryIn, IsDecimal, IsIdleOf, IsJob, IsListening, IsMomentOf, IsNoJob, IsNoneSuch, IsNumberOf, IsOffice, IsTask, IsTold, batch_name};
+ghost use Rattle.td_words.specs.Words.{AreRecords, AsksFor, IsCountryIn, IsDayOf, IsDecimal, IsIdleOf, IsJob, IsListening, IsMomentOf, IsNoJob, IsNoneSuch, IsNumberOf, IsOffice, IsReport, IsTask, IsTold, batch_name};
 
-use crate::options::{AT, CONNECTIONS, COUNTRY, DB, FILE, IDLE, NEW, PORT, program};
+use crate::options::{
+    AT, CONNECTIONS, COUNTRY, DAY, DB, FILE, IDLE, KIND, NEW, PORT, program,
+};
 use ascii_text::is_digits;
 use clap::ArgMatches;
 use clap::error::ErrorKind;
 use std::alloc::{AllocError, Global};
-use td_base::Country;
+use td_base::{Country, Day};
 
 /// Where a desk is served: at a port of this machine, for so many connections, one after another.
 #[derive(Clone, Copy, Debug, PartialEq, Eq)]
@@ -44,6 +46,15 @@ pub enum BatchKind {
     Acts,
 }
 
+/// Which report is printed.
+#[derive(Clone, Copy, Debug, PartialEq, Eq)]
+pub enum ReportKind {
+    /// Of the movements that are overdue on this day.
+    Overdue(Day),
+    /// Of all guarantees.
+    Guarantees,
+}
+
 /// What is done with a desk.
 #[derive(Debug, PartialEq, Eq, Drop)]
 pub enum Task {
@@ -54,6 +65,8 @@ pub enum Task {
     /// The rows of a file are done, one after another: what they are, the file with them (CSV), and the file with the
     /// records.
     Batch(BatchKind, String, String),
+    /// A report on the records in the file at this path is printed.
+    Report(ReportKind, String),
     /// The file at this path is tested: whether a desk of the country can be opened over it.
     Check(String),
 }
@@ -64,7 +77,7 @@ pub struct Office {
     /// The country of the office.
     pub country: Country,
     /// The moment of all requests, in seconds since 1970; with none, the machine's clock is asked for each.
-    /// A test of a file has none.
+    /// A report and a test of a file have none.
     pub at: Option<i64>,
 }
 
@@ -113,6 +126,9 @@ struct NumberOption {
 
 /// What is told of `--new` without a file, as `clap` tells of an option that isn't there.
 const NO_FILE: &str = "error: the following required arguments were not provided: --db <FILE>\n";
+
+/// What is told of a report on a day without the day.
+const NO_DAY: &str = "error: the following required arguments were not provided: --day <D>\n";
 
 const AT_NUMBER: NumberOption = NumberOption {
     name: AT,
@@ -292,6 +308,10 @@ fn task_in(alloc: Global, name: &str, matches: &ArgMatches<'_>) -> Result<Task, 
         "pipe" => Ok(Task::Pipe(records_in(alloc, matches)?)),
         "batch" => batch_in(alloc, matches, BatchKind::Declarations),
         "acts" => batch_in(alloc, matches, BatchKind::Acts),
+        "report" => {
+            let report = report_in(alloc, matches)?;
+            Ok(Task::Report(report, file_in(alloc, matches, DB)?))
+        }
         "check" => Ok(Task::Check(file_in(alloc, matches, DB)?)),
         _ => Err(NoJob::NoMemory),
     }
@@ -304,6 +324,49 @@ fn batch_in(alloc: Global, matches: &ArgMatches<'_>, kind: BatchKind) -> Result<
 {
     let file = file_in(alloc, matches, FILE)?;
     Ok(Task::Batch(kind, file, file_in(alloc, matches, DB)?))
+}
+
+// The report that is asked for.
+fn report_in(alloc: Global, matches: &ArgMatches<'_>) -> Result<ReportKind, NoJob>
+    ensures report { IfOk result (IsReport (rows_of (found_of matches.now))) }
+    ensures none { IfErr result (IsNoneSuch (IsReport (rows_of (found_of matches.now)))) }
+{
+    match value_of(matches, KIND) {
+        Some("overdue") => match day_in(alloc, matches)? {
+            Some(day) => Ok(ReportKind::Overdue(day)),
+            None => Err(NoJob::Wrong(String::from_str(alloc, NO_DAY)?)),
+        },
+        Some("guarantees") => {
+            day_in(alloc, matches)?;
+            Ok(ReportKind::Guarantees)
+        }
+        Some(kind) => Err(NoJob::Wrong(wrong_value(
+            alloc,
+            kind,
+            "<KIND>",
+            "overdue or guarantees",
+        )?)),
+        None => Err(NoJob::NoMemory),
+    }
+}
+
+// The day that is given, if one is.
+fn day_in(alloc: Global, matches: &ArgMatches<'_>) -> Result<Option<Day>, NoJob>
+    ensures day { IfOk result (IsDayOf (first_of (codes "day") (rows_of (found_of matches.now)))) }
+    ensures none { IfErr result (IsNoneSuch (IsDayOf (first_of (codes "day") (rows_of (found_of matches.now))))) }
+{
+    let Some(text) = value_of(matches, DAY) else {
+        return Ok(None);
+    };
+    match Day::read(text.as_bytes()) {
+        Some(day) => Ok(Some(day)),
+        None => Err(NoJob::Wrong(wrong_value(
+            alloc,
+            text,
+            "--day <D>",
+            "a day from 2000-01-01 to 2100-12-31, written so",
+        )?)),
+    }
 }
 
 // Where the records stand. `clap` has "false" for a `--new` that isn't there.

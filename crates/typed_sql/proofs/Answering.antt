@@ -16,7 +16,7 @@ use Rattle.typed_sql.proofs.Queries.{plain_answer}
 use Rattle.typed_sql.proofs.Steps.{command_is}
 use Rattle.typed_sql.specs.Reading.{OnlyReads, Selects}
 
-bare : (r : Result Compiled CompileError) → IsPlain r → (c : Compiled) → r ≡ Ok c → c.returning ≡ None
+pub bare : (r : Result Compiled CompileError) → IsPlain r → (c : Compiled) → r ≡ Ok c → c.returning ≡ None
 bare r plain c is = (subst IsPlain is plain).0
 
 -- a shown answer was given by an open connection
@@ -47,7 +47,7 @@ selected_as text params old new rows h s tree tests shows order has means =
     let read = reads_as text params old new s same _ command means.plain means.unlisted rows h in
     plain_answer tree tests shows order old.now.trees params rows (read.answer Null)
 
-unchanged_keeps : (old new : State) → IsUnchanged old new → KeepsCommit old new
+pub unchanged_keeps : (old new : State) → IsUnchanged old new → KeepsCommit old new
 unchanged_keeps old new same = record { was_open = λ _. same.0.was_open; committed = λ _. same.0.committed_is }
 
 rolled_keeps : (old new : State) → IsRolledBack old new → KeepsCommit old new

@@ -7,7 +7,7 @@ use Rattle.std.specs.Ordering.{int_eq, is_eq, is_lt}
 use Rattle.sqlite_rules.specs.Cast.{cast}
 use Rattle.sqlite_sql.specs.Ops.{binary, is_null, unary}
 use Rattle.sqlite_sql.specs.declared.ops.BinaryOp.TheVariants.{Coalesce, Compare}
-use Rattle.sqlite_sql.specs.declared.ops.CompareOp.TheVariants.{Eq}
+use Rattle.sqlite_sql.specs.declared.ops.CompareOp.TheVariants.{Eq, Gt}
 use Rattle.sqlite_typed.proofs.TestLemmas.{at_ints, at_texts, truth_or}
 use Rattle.sqlite_value.specs.Order.{value_cmp}
 use Rattle.sqlite_value.specs.declared.keys.Collation.TheVariants.{Binary}
@@ -16,7 +16,7 @@ use Rattle.sqlite_value.specs.declared.value.Value.TheVariants.{Int, Null, Real,
 use Rattle.std.proofs.lemmas.Map.Text.{is_eq-slice_cmp}
 use Rattle.std.specs.Float.{minus_two_to}
 use Rattle.std.specs.Option.{option_or}
-use Rattle.std.specs.Prelude.{if◌then◌else◌, pos, ◌&&◌, ◌==◌}
+use Rattle.std.specs.Prelude.{if◌then◌else◌, int_lt, nat_lt, pos, ◌&&◌, ◌==◌}
 use Rattle.std.specs.Str.{bytes_eq}
 use Rattle.typed_sql.proofs.Effects.{cast_int}
 use Rattle.typed_sql.specs.Values.{number_if, number_or_null, text_if, text_or_null}
@@ -49,11 +49,19 @@ text_back (Some t) = refl
 numbers_same : (n N : ℕ) → int_eq (pos n) (pos N) ≡ (n == N)
 numbers_same n N = grind (arith, ints, nat_tests)
 
--- a column is this number; is this text
+-- a column is this number; is above this number; is this text
 pub number_is : (v : Value) (n N : ℕ) → v ≡ Int (pos n)
     → truth_or false (binary (Compare Eq Binary) v (Int (pos N))) ≡ (n == N)
 number_is v n N is = ap (λ v. truth_or false (binary (Compare Eq Binary) v (Int (pos N)))) is
     ∙ at_ints false Eq (pos n) (pos N) ∙ numbers_same n N
+
+numbers_above : (n N : ℕ) → int_lt (pos N) (pos n) ≡ nat_lt N n
+numbers_above n N = grind (arith, ints, nat_tests)
+
+pub number_above : (v : Value) (n N : ℕ) → v ≡ Int (pos n)
+    → truth_or false (binary (Compare Gt Binary) v (Int (pos N))) ≡ nat_lt N n
+number_above v n N is = ap (λ v. truth_or false (binary (Compare Gt Binary) v (Int (pos N)))) is
+    ∙ at_ints false Gt (pos n) (pos N) ∙ numbers_above n N
 
 pub text_is : (v : Value) (a b : List ℕ) → v ≡ Text a
     → truth_or false (binary (Compare Eq Binary) v (Text b)) ≡ bytes_eq a b

@@ -9,9 +9,13 @@ pub mod OnlyRead
 pub mod TypedRows
 pub mod Ordered
 pub mod Fetched
+pub mod FetchedFirst
 pub mod Columns
 pub mod Left
 mod Answered
 mod Asked
 mod Emptied
 pub mod TypedWhere
+mod First
+mod Shown
+pub mod VisitedTyped

@@ -11,7 +11,7 @@ use Rattle.std.specs.List.{AllByRecursion}
 use Rattle.std.specs.List.Sorted.{IsSorted}
 use Rattle.std.proofs.lemmas.Bool.Decides.{nat_tests}
 use Rattle.std.proofs.lemmas.Int.{ints}
-use Rattle.std.specs.Ordering.{int_cmp, is_lt}
+use Rattle.std.specs.Ordering.{int_cmp, is_lt, ordering_then}
 use Rattle.std.specs.declared.cmp.Ordering.{Ordering}
 use Rattle.sqlite_exec.proofs.RowsLemmas.{IsSorted-map}
 use Rattle.sqlite_trees.proofs.ListLemmas.{all-get_or, all-permutation, map-map}
@@ -122,3 +122,14 @@ module _ {R : Type 0} (ty : Typing R) (p : R → Bool) where
     by_third second n seconds own_second cmp thirds a b is other =
         then_key (ties 1 first H firsts own a b is other)
         (then_key (ties 2 second n seconds own_second a b is other) (last_key (thirds a b is.0 other.0)))
+
+-- rows whose first two columns are numbers stand by the first, and then by the second
+module _ {R : Type 0} (ty : Typing R) (first second : R → ℕ)
+    (firsts : (r : Row) → IsTypedRow ty r → column r 1 ≡ number_value (first (row_of ty r)))
+    (seconds : (r : Row) → IsTypedRow ty r → column r 2 ≡ number_value (second (row_of ty r))) (p : R → Bool) where
+  pub by_both : (values : Row) (a b : Row) → Passes ty p a → Passes ty p b
+      → row_order ((col 1 1, ascending Binary) ∷ (col 1 2, ascending Binary) ∷ []) values a b
+      ≡ ordering_then (nat_cmp (first (row_of ty a)) (first (row_of ty b))) (nat_cmp (second (row_of ty a)) (second (row_of ty b)))
+  by_both values a b is other =
+      then_key (numbers_compared (column a 1) (column b 1) (first (row_of ty a)) (first (row_of ty b)) (firsts a is.0) (firsts b other.0))
+      (last_key (numbers_compared (column a 2) (column b 2) (second (row_of ty a)) (second (row_of ty b)) (seconds a is.0) (seconds b other.0)))

@@ -1,5 +1,5 @@
 -- A table whose rows are typed: each has the columns of a typed row, and is read back as that.
-use Rattle.std.specs.Prelude.{◌≡◌, Bool, List, map, filter}
+use Rattle.std.specs.Prelude.{◌≡◌, Bool, List, [], ◌∷◌, map, filter, Option, Some, None}
 use Rattle.std.specs.List.{AllByRecursion}
 use Rattle.std.specs.List.Sorted.{IsPermutation, IsSorted}
 use Rattle.std.specs.declared.cmp.Ordering.{Ordering}
@@ -56,3 +56,13 @@ AreThose ty s p state found = HasSchema state s → AreTyped ty state.now.trees
 -- where the table's rows are typed, these are in this order
 abbrev pub AreInOrder : {R : Type 0} → Typing R → Schema → (R → R → Ordering) → State → List R → Type 0
 AreInOrder ty s cmp state found = HasSchema state s → AreTyped ty state.now.trees → IsSorted cmp found
+
+-- this is the first of the rows that pass the test, by this order; none: none of them passes
+abbrev pub ComesFirst : {R : Type 0} → (R → Bool) → (R → R → Ordering) → List R → Option R → Type 0
+ComesFirst p cmp rows None = filter p rows ≡ []
+ComesFirst {R} p cmp rows (Some x) = (rest : List R) × IsPermutation (filter p rows) (x ∷ rest) × IsSorted cmp (x ∷ rest)
+
+-- where the table's rows are typed, this is it
+abbrev pub IsFirst : {R : Type 0} → Typing R → Schema → (R → Bool) → (R → R → Ordering) → State → Option R → Type 0
+IsFirst ty s p cmp state found = HasSchema state s → AreTyped ty state.now.trees
+    → ComesFirst p cmp (typed_rows ty state.now.trees) found

@@ -5,6 +5,7 @@ ghost use Rattle.sqlite.specs.Held.{state};
 ghost use Rattle.sqlite.specs.State.{Executes, HasCleanDisk, Shows};
 ghost use Rattle.sqlite.specs.Values.{bound};
 ghost use Rattle.typed_sql.specs.Reading.{IsInside, OnlyReads, Selects, StaysInside};
+ghost use Rattle.typed_sql.specs.Visited.{FetchesFirst};
 ghost use Rattle.typed_sql.specs.Writing.{Deletes, Empties, Inserts, Updates};
 
 use sqlite::{Error, ErrorCode, Row, Transaction};
@@ -116,4 +117,26 @@ pub fn select<S: Alter>(
     ensures within { StaysInside (is_ok result) (state S.Store tx.old.conn.now) (state S.Store tx.new.conn.now) }
 {
     tx.query_all(text, values)
+}
+
+/// The first row that a text shows, if it shows any: no other is fetched. The text is a SELECT over one table, whose `?1`, `?2` ..
+/// are the values. It changes nothing.
+pub(crate) fn select_first<S: Alter>(
+    tx: &mut Transaction<'_, S>,
+    text: &str,
+    values: &[ValueRef<'_>],
+) -> Result<Option<Row>, Error>
+    requires { IsInside (state S.Store tx.old.conn.now) }
+    ensures same_reference { tx.new.conn.ghost_name ≡ tx.old.conn.ghost_name }
+    ensures selected { HasCleanDisk (state S.Store tx.new.conn.now)
+        → IfOk result (FetchesFirst (λ r. r) (λ r. r) text.now (bound values.now) (state S.Store tx.old.conn.now)) }
+    ensures still { HasCleanDisk (state S.Store tx.new.conn.now)
+        → OnOk result (OnlyReads text.now (state S.Store tx.old.conn.now) (state S.Store tx.new.conn.now)) }
+    ensures within { StaysInside (is_ok result) (state S.Store tx.old.conn.now) (state S.Store tx.new.conn.now) }
+{
+    match tx.query_row(text, values) {
+        Ok(row) => Ok(Some(row)),
+        Err(Error::QueryReturnedNoRows) => Ok(None),
+        Err(error) => Err(error),
+    }
 }

@@ -9,17 +9,21 @@ ghost use Rattle.typed_sql.specs.Reading.{IsInside};
 ghost use Rattle.typed_sql.specs.Values.{number_value};
 ghost use Rattle.td_store_rows.specs.StoreReads.{ReadsKept, ReadsNewest, ReadsVersion};
 ghost use Rattle.td_store_rows.specs.GuaranteeTable.{AreBySerial, AreGuarantees, IsTheGuarantee, has_serial, is_of};
-ghost use Rattle.td_store_rows.specs.KeptTable.{AreKept, AreKeptBySerial, IsTheKept, has_kept_grn};
+ghost use Rattle.td_store_rows.specs.KeptTable.{AreKept, AreKeptBySerial, IsFirstKept, IsTheKept, has_kept_grn};
+ghost use Rattle.td_store_rows.specs.Places.{is_above, is_after};
 
 use crate::guarantees::stored::{KeptGuarantee, StoredGuarantee};
-use crate::guarantees::texts::{BY_GRN, BY_SERIAL, KEPT_OF_HOLDER, of_holder};
+use crate::guarantees::texts::{
+    BY_GRN, BY_SERIAL, KEPT_OF_HOLDER, KEPT_OF_HOLDERS_ABOVE, NEXT_KEPT_OF_HOLDER, of_holder,
+};
+use crate::places::{above_key, place_key};
 use sqlite::{Error, Transaction};
 use sqlite_trees::store::Alter;
 use sqlite_value::value::ValueRef;
 use std::alloc::Global;
 use td_base::{Grn, HolderNo};
 use td_schema::{holder_key, number_of, serial_key};
-use typed_sql::{fetch, fetch_one};
+use typed_sql::{fetch, fetch_first, fetch_one};
 
 fn grn_values(holder: HolderNo, serial: u32, grn: &Grn) -> [ValueRef<'_>; 3]
     ensures { bound result ≡ number_value holder ∷ number_value serial ∷ Text grn.now ∷ [] }
@@ -98,4 +102,37 @@ pub fn kept_of<S: Alter>(
     ensures reads { ReadsKept (is_ok result) (state S.Store tx.old.conn.now) (state S.Store tx.new.conn.now) }
 {
     fetch(alloc, tx, KEPT_OF_HOLDER, &holder_key(holder))
+}
+
+/// The guarantee with the least serial above that one among those of the holder with a number, if there is one, and the amount in use
+/// on it, in a file that keeps the amounts: no other row is fetched.
+pub fn next_kept_of<S: Alter>(
+    alloc: Global,
+    tx: &mut Transaction<'_, S>,
+    holder: u32,
+    serial: u32,
+) -> Result<Option<KeptGuarantee>, Error>
+    requires { IsInside (state S.Store tx.old.conn.now) }
+    ensures same_reference { tx.new.conn.ghost_name ≡ tx.old.conn.ghost_name }
+    ensures found { HasCleanDisk (state S.Store tx.new.conn.now)
+        → IfOk result (IsFirstKept (is_after holder serial) (state S.Store tx.old.conn.now)) }
+    ensures reads { ReadsKept (is_ok result) (state S.Store tx.old.conn.now) (state S.Store tx.new.conn.now) }
+{
+    fetch_first(alloc, tx, NEXT_KEPT_OF_HOLDER, &place_key(holder, serial))
+}
+
+/// The first guarantee, by holder and then by serial, among those of the holders above that number, if there is one, and the amount in
+/// use on it, in a file that keeps the amounts: no other row is fetched.
+pub fn first_kept_above<S: Alter>(
+    alloc: Global,
+    tx: &mut Transaction<'_, S>,
+    holder: u32,
+) -> Result<Option<KeptGuarantee>, Error>
+    requires { IsInside (state S.Store tx.old.conn.now) }
+    ensures same_reference { tx.new.conn.ghost_name ≡ tx.old.conn.ghost_name }
+    ensures found { HasCleanDisk (state S.Store tx.new.conn.now)
+        → IfOk result (IsFirstKept (is_above holder) (state S.Store tx.old.conn.now)) }
+    ensures reads { ReadsKept (is_ok result) (state S.Store tx.old.conn.now) (state S.Store tx.new.conn.now) }
+{
+    fetch_first(alloc, tx, KEPT_OF_HOLDERS_ABOVE, &above_key(holder))
 }

@@ -8,10 +8,14 @@ ghost use Rattle.sqlite_value.specs.declared.value.Value.TheVariants.{Text};
 ghost use Rattle.typed_sql.specs.Values.{number_value};
 ghost use Rattle.typed_sql.specs.Reading.{IsInside};
 ghost use Rattle.td_store_rows.specs.StoreReads.{ReadsStore};
-ghost use Rattle.td_store_rows.specs.MovementTable.{AreBySerial, AreMovements, AreSerialsInOrder, AreSerialsOf, IsTheMovement, has_lrn, has_mrn, is_of, counts_for};
+ghost use Rattle.td_store_rows.specs.MovementTable.{AreBySerial, AreMovements, AreSerialsInOrder, AreSerialsOf, IsFirstMovement, IsTheMovement, has_lrn, has_mrn, is_of, counts_for};
+ghost use Rattle.td_store_rows.specs.Places.{is_above, is_after};
 
 use crate::movements::stored::{MovementSerial, StoredMovement};
-use crate::movements::texts::{BY_LRN, BY_MRN, COUNTING_SERIALS, OF_HOLDER};
+use crate::movements::texts::{
+    BY_LRN, BY_MRN, COUNTING_SERIALS, NEXT_OF_HOLDER, OF_HOLDER, OF_HOLDERS_ABOVE,
+};
+use crate::places::{above_key, place_key};
 use sqlite::{Error, Transaction};
 use sqlite_trees::store::Alter;
 use sqlite_value::value::ValueRef;
@@ -83,6 +87,39 @@ pub fn movements_of<S: Alter>(
     ensures reads { ReadsStore (is_ok result) (state S.Store tx.old.conn.now) (state S.Store tx.new.conn.now) }
 {
     typed_sql::fetch(alloc, tx, OF_HOLDER, &holder_key(holder))
+}
+
+/// The movement with the least serial above that one among those of the holder with a number, if there is one: no other row is
+/// fetched.
+pub fn next_movement_of<S: Alter>(
+    alloc: Global,
+    tx: &mut Transaction<'_, S>,
+    holder: u32,
+    serial: u32,
+) -> Result<Option<StoredMovement>, Error>
+    requires { IsInside (state S.Store tx.old.conn.now) }
+    ensures same_reference { tx.new.conn.ghost_name ≡ tx.old.conn.ghost_name }
+    ensures found { HasCleanDisk (state S.Store tx.new.conn.now)
+        → IfOk result (IsFirstMovement (is_after holder serial) (state S.Store tx.old.conn.now)) }
+    ensures reads { ReadsStore (is_ok result) (state S.Store tx.old.conn.now) (state S.Store tx.new.conn.now) }
+{
+    typed_sql::fetch_first(alloc, tx, NEXT_OF_HOLDER, &place_key(holder, serial))
+}
+
+/// The first movement, by holder and then by serial, among those of the holders above that number, if there is one: no other row is
+/// fetched.
+pub fn first_movement_above<S: Alter>(
+    alloc: Global,
+    tx: &mut Transaction<'_, S>,
+    holder: u32,
+) -> Result<Option<StoredMovement>, Error>
+    requires { IsInside (state S.Store tx.old.conn.now) }
+    ensures same_reference { tx.new.conn.ghost_name ≡ tx.old.conn.ghost_name }
+    ensures found { HasCleanDisk (state S.Store tx.new.conn.now)
+        → IfOk result (IsFirstMovement (is_above holder) (state S.Store tx.old.conn.now)) }
+    ensures reads { ReadsStore (is_ok result) (state S.Store tx.old.conn.now) (state S.Store tx.new.conn.now) }
+{
+    typed_sql::fetch_first(alloc, tx, OF_HOLDERS_ABOVE, &above_key(holder))
 }
 
 /// The serials of a holder's movements that count against their guarantees, in ascending order.

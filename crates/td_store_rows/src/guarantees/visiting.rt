@@ -1,0 +1,39 @@
+//! A visit of all guarantees with the amounts in use on them, outside a transaction. It changes nothing, and keeps no row.
+ghost use Rattle.std.specs.Prelude.{◌≡◌, false, Ok, OnOk};
+ghost use Rattle.sqlite.specs.Held.{state};
+ghost use Rattle.sqlite.specs.State.{HasCleanDisk, IsUnchanged, Survives};
+ghost use Rattle.typed_sql.specs.Visited.{is_whole};
+ghost use Rattle.typed_sql.specs.Walked.{IsLeftAlone};
+ghost use Rattle.td_store_rows.specs.StoreReads.{KeepsUse};
+ghost use Rattle.td_store_rows.specs.Visited.{IsOfLayout, VisitsKept};
+
+use crate::guarantees::stored::KeptGuarantee;
+use crate::guarantees::texts::KEPT_ALL;
+use sqlite::{Connection, Error};
+use sqlite_trees::store::Alter;
+use std::alloc::Global;
+use typed_sql::Visitor;
+
+/// Shows a visitor each guarantee with the amount in use on it, by holder and then by serial, until it wants no more: `true` where
+/// all were shown, `false` where it wanted no more. The file is one that keeps the amounts: one of version 2 or later.
+/// `DatabaseCorrupt`: a row is no guarantee's; `OutOfMemory`: want of memory; any other error is the
+/// database's own. What was shown before an error comes first among the rows.
+pub fn visit_kept<S: Alter, O, V: Visitor<KeptGuarantee, O>>(
+    alloc: Global,
+    conn: &mut Connection<S>,
+    visitor: &mut V,
+    beside: &mut O,
+) -> Result<bool, Error>
+    requires outside { conn.old.in_transaction ≡ false }
+    requires tables { HasCleanDisk (state S.Store conn.old) → IsOfLayout KeepsUse (state S.Store conn.old) }
+    ensures ended { conn.new.in_transaction ≡ false }
+    ensures visited { HasCleanDisk (state S.Store conn.new) → VisitsKept V.Visitor.sees (state S.Store conn.old)
+        (is_whole result) (visitor.old, beside.old) (visitor.new, beside.new) }
+    ensures stopped { result ≡ Ok false → V.Visitor.stops visitor.new beside.new }
+    ensures still { HasCleanDisk (state S.Store conn.new)
+        → OnOk result (IsUnchanged (state S.Store conn.old) (state S.Store conn.new)) }
+    ensures left { HasCleanDisk (state S.Store conn.new) → IsLeftAlone (state S.Store conn.old) (state S.Store conn.new) }
+    ensures survives { Survives (state S.Store conn.old) (state S.Store conn.new) (λ _. ⊥) }
+{
+    typed_sql::visit(alloc, conn, KEPT_ALL, visitor, beside)
+}
