@@ -1,5 +1,5 @@
 -- The ways in which a report ends.
-use Rattle.std.proofs.Common.{◌≡◌, ◌⊎◌, ℕ, Bool, true, false, List, [], ◌++◌, Option, Some, None, Result, Ok, Err, IsOk, OnOk, OnErr, IfErr, refl, sym, ap, ◌∙◌, append-nil, append_assoc, inl, inr, string_bytes}
+use Rattle.std.proofs.Common.{◌≡◌, ◌⊎◌, ℕ, Bool, true, false, List, [], ◌∷◌, ◌++◌, Option, Some, None, Result, Ok, Err, IsOk, OnOk, OnErr, IfErr, refl, sym, ap, ◌∙◌, append-nil, append_assoc, inl, inr, string_bytes}
 use Rattle.counted_io.specs.declared.counted.Counted.{Counted}
 use Rattle.counted_io.specs.Chains.{Wrote}
 use Rattle.td_desk.specs.declared.fault.Fault.{Fault}
@@ -33,9 +33,14 @@ both : (A B : Type 0) (closed : Result (Unit {0}) ReportFault) → OnOk closed (
 both A B (Ok done) p = (p.0, p.1)
 both A B (Err why) p = (p, p)
 
+-- what begins nothing is nothing
+pub append-nil-left : (xs ys : List ℕ) → xs ++ ys ≡ [] → xs ≡ []
+append-nil-left [] ys none = refl
+append-nil-left (x ∷ xs) ys none = cc none
+
 module _ {R W : Type 0} (contents : W → Option (List ℕ)) (old : Pieces R) (visited : Result Bool Fault) (before after : Counted W) (text : List ℕ)
     (closed : Result (Unit {0}) ReportFault) (ok : OnOk closed ((stop_of visited old.fault ≡ None) × (text ≡ left_of old visited)))
-    (err : OnErr closed (text ≡ string_bytes old.text)) where
+    (err : OnErr closed (text ≡ string_bytes old.text)) (idle : text ≡ [] → after ≡ before) where
   -- all of it was taken
   pub well_ended : IsStopped (stop_of visited old.fault) closed → Wrote contents before after text true → Ends contents old visited before closed after
   well_ended why wrote =
@@ -47,6 +52,7 @@ module _ {R W : Type 0} (contents : W → Option (List ℕ)) (old : Pieces R) (v
         wrote = wrote;
         text = left.1;
         whole = left.2;
+        still = λ none. idle (append-nil-left text left.0 (left.1 ∙ none));
         by = ends_as_closed _ closed (both _ _ closed ok).0 why;
       }
 
@@ -61,5 +67,6 @@ module _ {R W : Type 0} (contents : W → Option (List ℕ)) (old : Pieces R) (v
         wrote = wrote;
         text = sym (append_assoc sent rest left.0) ∙ (ap (λ (l : List ℕ). l ++ left.0) is ∙ left.1);
         whole = λ ok. cc ok;
+        still = λ none. idle (append-nil-left text left.0 (left.1 ∙ none));
         by = inl refl;
       }

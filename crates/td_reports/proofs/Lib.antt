@@ -1,4 +1,7 @@
 mod Padding
 mod Texts
 mod Taking
+mod Chains
 mod Ending
+mod Folding
+mod Reporting

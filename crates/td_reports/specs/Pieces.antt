@@ -56,4 +56,5 @@ module _ {R W : Type 0} (contents : W → Option (List ℕ)) where
     pub wrote : Wrote contents before after sent well
     pub text : sent ++ rest ≡ left_of old visited
     pub whole : IsOk result → rest ≡ []
+    pub still : left_of old visited ≡ [] → after ≡ before
     pub by : EndsBy (stop_of visited old.fault) well result

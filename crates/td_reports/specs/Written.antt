@@ -1,7 +1,8 @@
 -- How a report ends, and what was written of it.
-use Rattle.std.specs.Prelude.{◌≡◌, ◌⊎◌, ℕ, Bool, true, false, List, ◌++◌, Option, Some, None, Result, Ok, Err}
+use Rattle.std.specs.Prelude.{◌≡◌, ⊤, ◌⊎◌, ℕ, Bool, true, false, List, ◌++◌, Option, Some, None, Result, Ok, Err}
 use Rattle.std.specs.Io.KnownBytes.{Appends}
 use Rattle.counted_io.specs.declared.counted.Counted.{Counted}
+use Rattle.counted_io.specs.Chains.{Wrote}
 use Rattle.counted_io.specs.Counted.{known_bytes}
 use Rattle.td_desk.specs.declared.fault.Fault.{Fault}
 use Rattle.td_desk.specs.declared.fault.Fault.TheVariants as fault
@@ -13,6 +14,21 @@ abbrev pub IsReported : {W : Type 0} → (W → Option (List ℕ)) → Counted W
 IsReported contents old new text (Ok done) = Appends (known_bytes contents old) (known_bytes contents new) text
 IsReported contents old new text (Err why) =
     (written rest : List ℕ) × (written ++ rest ≡ text) × Appends (known_bytes contents old) (known_bytes contents new) written
+
+-- how a report may end whose writes were all well, or of which one failed
+abbrev pub IsTold : Bool → Result (Unit {0}) ReportFault → Type 0
+IsTold well (Ok done) = well ≡ true
+IsTold well (Err Write) = well ≡ false
+IsTold well (Err Store) = ⊤
+IsTold well (Err NoMemory) = well ≡ true
+
+-- What was written, whatever the report is: writes one after another, each of which took some of it, and none after one that failed
+-- or took nothing.
+pub record HasWritten {W : Type 0} (contents : W → Option (List ℕ)) (old new : Counted W) (result : Result (Unit {0}) ReportFault) : Type 0 where
+  pub written : List ℕ
+  pub well : Bool
+  pub wrote : Wrote contents old new written well
+  pub told : IsTold well result
 
 -- no fault of a report is that a write failed
 abbrev pub no_write_failed : Option ReportFault → Bool

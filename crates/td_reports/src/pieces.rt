@@ -82,6 +82,7 @@ impl<R> Pieces<R> {
     fn write_text<W: Write>(&mut self, writer: &mut Counted<W>) -> bool
         ensures whole { result ≡ true → Wrote W.contents writer.old writer.new (string_bytes self.old.text) true }
         ensures part { result ≡ false → (sent rest : List ℕ) × (sent ++ rest ≡ string_bytes self.old.text) × Wrote W.contents writer.old writer.new sent false }
+        ensures still { string_bytes self.old.text ≡ [] → writer.new ≡ writer.old }
         ensures none { string_bytes self.new.text ≡ [] }
         ensures report { self.new.report ≡ self.old.report }
         ensures lines { self.new.lines ≡ self.old.lines }
