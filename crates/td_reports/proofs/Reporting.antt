@@ -1,5 +1,5 @@
 -- What was written of a report, by the rows that were taken up and by how it was ended.
-use Rattle.std.proofs.Common.{◌≡◌, ◌≢◌, ◌⊎◌, ℕ, Bool, true, false, List, [], ◌++◌, length, Option, Some, None, Result, Ok, Err, refl, sym, ap, ◌∙◌, subst, append-nil, append_assoc, inl, inr, string_bytes, cond}
+use Rattle.std.proofs.Common.{◌≡◌, ◌≢◌, ◌⊎◌, ℕ, Bool, true, false, List, [], ◌++◌, length, Option, Some, None, Result, Ok, Err, IsSome, refl, sym, ap, ◌∙◌, subst, append-nil, append_assoc, inl, inr, string_bytes, cond}
 use Rattle.std.proofs.lemmas.List.Folds.{concat-append}
 use Rattle.std.specs.Io.KnownBytes.{Appends}
 use Rattle.std.specs.List.{concat, filter_map}
@@ -19,24 +19,18 @@ use Rattle.td_reports.specs.Written.{EndsBy, HasWritten, IsReported, IsTold, no_
 use Rattle.td_reports.proofs.Ending.{append-nil-left}
 use Rattle.td_reports.proofs.Folding.{HasTaken}
 
--- it stopped at nothing: all rows were shown, and taken up
-not_stopped : (visited : Result Bool Fault) (f : Option ReportFault) → stop_of visited f ≡ None → (visited ≡ Ok true) × (f ≡ None)
-not_stopped (Ok true) None is = (refl, refl)
-not_stopped (Ok false) None is = cc is
-not_stopped (Err fault.Store) None is = cc is
+-- it stopped at nothing: the visit ended well
+not_stopped : (visited : Result Bool Fault) (f : Option ReportFault) → stop_of visited f ≡ None → (f ≡ None) × (all : Bool) × (visited ≡ Ok all)
+not_stopped (Ok all) f is = (is, all, refl)
+not_stopped (Err fault.Store) f is = cc is
 not_stopped (Err fault.NoMemory) None is = cc is
-not_stopped (Ok all) (Some why) is = cc is
-not_stopped (Err fault.Store) (Some why) is = cc is
 not_stopped (Err fault.NoMemory) (Some why) is = cc is
 
 -- it stopped at a write
 stopped_at_write : (visited : Result Bool Fault) (f : Option ReportFault) → stop_of visited f ≡ Some Write → f ≡ Some Write
-stopped_at_write (Ok true) None is = cc is
-stopped_at_write (Ok false) None is = cc is
-stopped_at_write (Err fault.Store) None is = cc is
+stopped_at_write (Ok all) f is = is
+stopped_at_write (Err fault.Store) f is = cc is
 stopped_at_write (Err fault.NoMemory) None is = cc is
-stopped_at_write (Ok all) (Some why) is = is
-stopped_at_write (Err fault.Store) (Some why) is = cc is
 stopped_at_write (Err fault.NoMemory) (Some why) is = is
 
 -- how it is told where no write had failed before its end
@@ -51,7 +45,7 @@ told_then visited f well (Err NoMemory) other by = by.0
 -- and where one had
 told_before : (visited : Result Bool Fault) (well : Bool) (result : Result (Unit {0}) ReportFault) → EndsBy (stop_of visited (Some Write)) well result
     → IsTold false result
-told_before visited well (Ok done) by = cc (not_stopped visited (Some Write) by.0).1
+told_before visited well (Ok done) by = cc (not_stopped visited (Some Write) by.0).0
 told_before visited well (Err Write) by = refl
 told_before visited well (Err Store) by = tt
 told_before (Ok all) well (Err NoMemory) (well_is, inl is) = cc is
@@ -82,6 +76,10 @@ none_left p visited stopped none = rw (none, stopped) (by visited)
     by (Err fault.Store) = refl
     by (Err fault.NoMemory) = refl
 
+some_or_none : {A : Type 0} (o : Option A) → o ≡ None → IsSome o → ⊥
+some_or_none None none some = cc some
+some_or_none (Some a) none some = cc none
+
 module _ {T R W : Type 0} (contents : W → Option (List ℕ)) (line : R → T → Option (List ℕ)) (header : List ℕ) (report : R) (start : Counted W)
     (rows : List T) (p : Pieces R) (w v : Counted W) (visited : Result Bool Fault) (result : Result (Unit {0}) ReportFault)
     (h : HasTaken contents line header report start rows p w) (e : Ends contents p visited w result v) where
@@ -107,16 +105,21 @@ module _ {T R W : Type 0} (contents : W → Option (List ℕ)) (line : R → T �
 
   -- what was written begins the text of these rows and others
   module _ (lines : List (List ℕ)) (more : List (List ℕ)) (are : filter_map (line report) rows ++ more ≡ lines)
-      (all : visited ≡ Ok true → more ≡ []) where
+      (all : visited ≡ Ok true → more ≡ []) (stops : visited ≡ Ok false → IsSome p.fault) where
+    -- a visit that ended well, and that nothing stopped, showed all rows
+    shown_all : p.fault ≡ None → (b : Bool) → visited ≡ Ok b → more ≡ []
+    shown_all none true is = all is
+    shown_all none false is = absurd (some_or_none p.fault none (stops is))
+
     -- after a visit that showed all rows it is the whole where nothing is left of what was to be written then
     whole_text : stop_of visited p.fault ≡ None → (h.sent ++ e.sent) ++ e.rest ≡ report_text header lines
     whole_text none =
         let ended = not_stopped visited p.fault none in
-        let no_more : more ≡ [] = all ended.0 in
+        let no_more : more ≡ [] = shown_all ended.0 ended.1 ended.2 in
         let same : filter_map (line report) rows ≡ lines = sym (append-nil (filter_map (line report) rows)) ∙ (rw (sym no_more) are) in
-        let total : left_of p visited ≡ string_bytes p.text ++ total_line (length lines) = rw (none, (h.whole ended.1).1, same) refl in
+        let total : left_of p visited ≡ string_bytes p.text ++ total_line (length lines) = rw (none, (h.whole ended.0).1, same) refl in
         let before : h.sent ++ string_bytes p.text ≡ header ++ concat lines =
-        ap (λ (l : List ℕ). h.sent ++ l) (sym (append-nil (string_bytes p.text)) ∙ ap (λ (l : List ℕ). string_bytes p.text ++ l) (sym (h.whole ended.1).0))
+        ap (λ (l : List ℕ). h.sent ++ l) (sym (append-nil (string_bytes p.text)) ∙ ap (λ (l : List ℕ). string_bytes p.text ++ l) (sym (h.whole ended.0).0))
         ∙ (h.text ∙ ap (λ (l : List (List ℕ)). header ++ concat l) same) in
         append_assoc h.sent e.sent e.rest ∙ ap (λ (l : List ℕ). h.sent ++ l) (e.text ∙ total)
         ∙ sym (append_assoc h.sent (string_bytes p.text) (total_line (length lines)))

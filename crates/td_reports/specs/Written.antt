@@ -1,5 +1,6 @@
 -- How a report ends, and what was written of it.
 use Rattle.std.specs.Prelude.{◌≡◌, ⊤, ◌⊎◌, ℕ, Bool, true, false, List, ◌++◌, Option, Some, None, Result, Ok, Err}
+use Rattle.std.specs.Option.{option_or}
 use Rattle.std.specs.Io.KnownBytes.{Appends}
 use Rattle.counted_io.specs.declared.counted.Counted.{Counted}
 use Rattle.counted_io.specs.Chains.{Wrote}
@@ -35,13 +36,12 @@ abbrev pub no_write_failed : Option ReportFault → Bool
 no_write_failed (Some Write) = false
 no_write_failed other = true
 
--- why a report is not ended by its total: by how the visit to the rows ended, and by what stopped it, if anything did
+-- Why a report is not ended by its total: a fault of the store that ended the visit to the rows, else what stopped it, else want of
+-- memory that ended the visit. (A visit that ended well without showing all rows was stopped.)
 abbrev pub stop_of : Result Bool Fault → Option ReportFault → Option ReportFault
 stop_of (Err fault.Store) stopped = Some Store
-stop_of visited (Some why) = Some why
-stop_of (Err fault.NoMemory) None = Some NoMemory
-stop_of (Ok false) None = Some Store
-stop_of (Ok true) None = None
+stop_of (Err fault.NoMemory) stopped = option_or stopped (Some NoMemory)
+stop_of (Ok all) stopped = stopped
 
 -- how a report ends that stopped so, where all writes were well or where one failed: a fault of the store is told before a failed
 -- write, and that before want of memory

@@ -5,5 +5,6 @@
 mod fault;
 mod lines;
 mod pieces;
+mod rows;
 
 pub use fault::ReportFault;

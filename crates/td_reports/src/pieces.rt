@@ -42,12 +42,11 @@ pub(crate) struct Pieces<R> {
 fn stop_of(visited: Result<bool, Fault>, fault: Option<ReportFault>) -> Option<ReportFault>
     ensures { result ≡ stop_of visited fault }
 {
-    let why = match visited {
-        Err(Fault::Store) => return Some(ReportFault::Store),
-        Err(Fault::NoMemory) => Some(ReportFault::NoMemory),
-        Ok(all) => { if all { None } else { Some(ReportFault::Store) } }
-    };
-    fault.or(why)
+    match visited {
+        Err(Fault::Store) => Some(ReportFault::Store),
+        Err(Fault::NoMemory) => fault.or(Some(ReportFault::NoMemory)),
+        Ok(_) => fault,
+    }
 }
 
 impl<R> Pieces<R> {
@@ -113,7 +112,7 @@ impl<R> Pieces<R> {
         Ok(())
     }
 
-    // Puts the total behind what waits, after a visit that showed all rows. The error is why it isn't put; nothing is put then.
+    // Puts the total behind what waits, after a visit that nothing stopped. The error is why it isn't put; nothing is put then.
     fn add_total(&mut self, visited: Result<bool, Fault>) -> Result<(), ReportFault>
         ensures ok { OnOk result ((stop_of visited self.old.fault ≡ None) × (string_bytes self.new.text ≡ left_of self.old visited)) }
         ensures err { OnErr result (string_bytes self.new.text ≡ string_bytes self.old.text) }
@@ -127,7 +126,7 @@ impl<R> Pieces<R> {
         Ok(())
     }
 
-    /// Writes what waits and, after a visit that showed all rows, the total. The error is why the report isn't whole: a fault of
+    /// Writes what waits and, after a visit that nothing stopped, the total. The error is why the report isn't whole: a fault of
     /// the visit's store, else a write that failed, else want of memory. What waited is written before it is told.
     pub(crate) fn end<W: Write>(
         mut self,
@@ -149,9 +148,12 @@ impl<R> Pieces<R> {
 }
 
 impl<T: Drop, R: Report<T>, W: Write> Visitor<T, Counted<W>> for Pieces<R> {
+    ghost use Rattle.std.specs.Prelude.{IsSome};
     ghost use Rattle.td_reports.specs.Pieces.{SeesBy};
 
     ghost sees = { λ old before row new after. SeesBy W.contents old.fault (R.line old.report row) old before new after };
+
+    ghost stops = { λ now _. IsSome now.fault };
 
     fn see(&mut self, row: T, writer: &mut Counted<W>) -> bool {
         if self.fault.is_none() {
