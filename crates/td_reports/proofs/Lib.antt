@@ -4,4 +4,5 @@ mod Taking
 mod Chains
 mod Ending
 mod Folding
+mod Begun
 mod Reporting
