@@ -12,7 +12,6 @@ use Rattle.td_reports.proofs.Folding.{HasTaken}
 
 module _ {T R W : Type 0} (contents : W → Option (List ℕ)) (line : R → T → Option (List ℕ)) (header : List ℕ) (report : R) (start : Counted W)
     (p : Pieces R) (same : p.report ≡ report) (lines : p.lines ≡ 0) where
-
   -- with its header, or stopped for want of memory
   pub begun : {E : Type 0} (made : Result (String Global) E) → IfOk made (λ s. string_bytes s ≡ header)
       → IfOk made (λ s. (string_bytes p.text ≡ string_bytes s) × (p.fault ≡ None))

@@ -7,7 +7,7 @@ use Rattle.td_reports.specs.declared.fault.ReportFault.{ReportFault}
 use Rattle.td_reports.specs.declared.fault.ReportFault.TheVariants.{Write, Store, NoMemory}
 use Rattle.td_reports.specs.declared.pieces.Pieces.{Pieces}
 use Rattle.td_reports.specs.Pieces.{Ends, left_of}
-use Rattle.td_reports.specs.Written.{EndsBy, stop_of}
+use Rattle.td_reports.specs.Written.{EndsBy, fault_after_write, stop_of}
 
 -- why a total isn't put
 abbrev pub IsStopped : Option ReportFault → Result (Unit {0}) ReportFault → Type 0
@@ -16,7 +16,7 @@ IsStopped stop closed = IfErr closed (λ why. (stop ≡ Some why) ⊎ ((stop ≡
 -- where all writes were well, it ends as it was closed
 ends_as_closed : (stop : Option ReportFault) (closed : Result (Unit {0}) ReportFault) → OnOk closed (stop ≡ None) → IsStopped stop closed → EndsBy stop true closed
 ends_as_closed stop (Ok done) ok why = (ok, refl)
-ends_as_closed stop (Err Write) ok (inl is) = inr is
+ends_as_closed stop (Err Write) ok (inl is) = (λ store. cc (is, store), inr is)
 ends_as_closed stop (Err Write) ok (inr none) = absurd (cc none.1)
 ends_as_closed stop (Err Store) ok (inl is) = is
 ends_as_closed stop (Err Store) ok (inr none) = absurd (cc none.1)
@@ -28,6 +28,17 @@ begins_left : (text total waits left : List ℕ) (closed : Result (Unit {0}) Rep
     → OnOk closed (text ≡ left) → OnErr closed (text ≡ waits) → (rest : List ℕ) × (text ++ rest ≡ left) × (IsOk closed → rest ≡ [])
 begins_left text total waits left (Ok done) is ok err = ([], append-nil text ∙ ok, λ _. refl)
 begins_left text total waits left (Err why) is ok err = (total, ap (λ (l : List ℕ). l ++ total) err ∙ sym is, λ ok. cc ok)
+
+-- where one failed
+ends_after_write : (stop : Option ReportFault) (closed : Result (Unit {0}) ReportFault) → OnOk closed (stop ≡ None) → IsStopped stop closed
+    → EndsBy stop false (Err (fault_after_write closed))
+ends_after_write stop (Ok done) ok why = (λ store. cc (ok, store), inl refl)
+ends_after_write stop (Err Write) ok (inl is) = (λ store. cc (is, store), inl refl)
+ends_after_write stop (Err Write) ok (inr none) = absurd (cc none.1)
+ends_after_write stop (Err Store) ok (inl is) = is
+ends_after_write stop (Err Store) ok (inr none) = absurd (cc none.1)
+ends_after_write stop (Err NoMemory) ok (inl is) = (λ store. cc (is, store), inl refl)
+ends_after_write stop (Err NoMemory) ok (inr none) = (λ store. cc (none.0, store), inl refl)
 
 both : (A B : Type 0) (closed : Result (Unit {0}) ReportFault) → OnOk closed (A × B) → OnOk closed A × OnOk closed B
 both A B (Ok done) p = (p.0, p.1)
@@ -57,8 +68,9 @@ module _ {R W : Type 0} (contents : W → Option (List ℕ)) (old : Pieces R) (v
       }
 
   -- a write failed
-  pub cut_short : (sent rest : List ℕ) → sent ++ rest ≡ text → Wrote contents before after sent false → Ends contents old visited before (Err Write) after
-  cut_short sent rest is wrote =
+  pub cut_short : IsStopped (stop_of visited old.fault) closed → (sent rest : List ℕ) → sent ++ rest ≡ text → Wrote contents before after sent false
+      → Ends contents old visited before (Err (fault_after_write closed)) after
+  cut_short why sent rest is wrote =
       let left = begins_left text _ (string_bytes old.text) (left_of old visited) closed refl (both _ _ closed ok).1 err in
       record {
         sent = sent;
@@ -68,5 +80,5 @@ module _ {R W : Type 0} (contents : W → Option (List ℕ)) (old : Pieces R) (v
         text = sym (append_assoc sent rest left.0) ∙ (ap (λ (l : List ℕ). l ++ left.0) is ∙ left.1);
         whole = λ ok. cc ok;
         still = λ none. idle (append-nil-left text left.0 (left.1 ∙ none));
-        by = inl refl;
+        by = ends_after_write _ closed (both _ _ closed ok).0 why;
       }

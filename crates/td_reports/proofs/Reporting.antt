@@ -1,12 +1,13 @@
 -- What was written of a report, by the rows that were taken up and by how it was ended.
-use Rattle.std.proofs.Common.{◌≡◌, ◌≢◌, ◌⊎◌, ℕ, Bool, true, false, List, [], ◌++◌, length, Option, Some, None, Result, Ok, Err, IsSome, refl, sym, ap, ◌∙◌, subst, append-nil, append_assoc, inl, inr, string_bytes, cond}
+use Rattle.std.proofs.Common.{◌≡◌, ◌≢◌, ◌⊎◌, ℕ, Bool, true, false, List, [], ◌++◌, length, Option, Some, None, Result, Ok, Err, IsSome, IsTrue, refl, sym, ap, ◌∙◌, subst, append-nil, append_assoc, inl, inr, string_bytes, cond}
 use Rattle.std.proofs.lemmas.List.Folds.{concat-append}
 use Rattle.std.specs.Io.KnownBytes.{Appends}
 use Rattle.std.specs.List.{concat, filter_map}
 use Rattle.std.specs.Option.{is_none}
+use Rattle.std.specs.Result.{is_ok}
 use Rattle.counted_io.specs.declared.counted.Counted.{Counted}
 use Rattle.counted_io.specs.Chains.{Wrote}
-use Rattle.counted_io.specs.Counted.{known_bytes}
+use Rattle.counted_io.specs.Counted.{calls_of, has_failed, known_bytes, HasCalled}
 use Rattle.counted_io.proofs.Chaining.{wrote_appends, wrote_on}
 use Rattle.td_desk.specs.declared.fault.Fault.{Fault}
 use Rattle.td_desk.specs.declared.fault.Fault.TheVariants as fault
@@ -16,6 +17,7 @@ use Rattle.td_reports.specs.declared.pieces.Pieces.{Pieces}
 use Rattle.td_reports.specs.Pieces.{Ends, left_of}
 use Rattle.td_reports.specs.Texts.{report_text, total_line}
 use Rattle.td_reports.specs.Written.{EndsBy, HasWritten, IsReported, IsTold, no_write_failed, stop_of}
+use Rattle.td_reports.proofs.Chains.{failed_call}
 use Rattle.td_reports.proofs.Ending.{append-nil-left}
 use Rattle.td_reports.proofs.Folding.{HasTaken}
 
@@ -37,8 +39,8 @@ stopped_at_write (Err fault.NoMemory) (Some why) is = is
 told_then : (visited : Result Bool Fault) (f : Option ReportFault) (well : Bool) (result : Result (Unit {0}) ReportFault) → f ≢ Some Write
     → EndsBy (stop_of visited f) well result → IsTold well result
 told_then visited f well (Ok done) other by = by.1
-told_then visited f well (Err Write) other (inl cut) = cut
-told_then visited f well (Err Write) other (inr stop) = absurd (other (stopped_at_write visited f stop))
+told_then visited f well (Err Write) other (store, inl cut) = cut
+told_then visited f well (Err Write) other (store, inr stop) = absurd (other (stopped_at_write visited f stop))
 told_then visited f well (Err Store) other by = tt
 told_then visited f well (Err NoMemory) other by = by.0
 
@@ -163,3 +165,20 @@ module _ {T R W : Type 0} (contents : W → Option (List ℕ)) (line : R → T �
             subst (λ (l : List ℕ). Appends (known_bytes contents start) (known_bytes contents v) l)
             (sym (append-nil (h.sent ++ e.sent)) ∙ ap (λ (l : List ℕ). (h.sent ++ e.sent) ++ l) (sym nothing) ∙ whole_text none) appended
         by (Err why) is = (h.sent ++ e.sent, begins.0, begins.1, appended)
+
+-- what holds after a visit that ended well, or for want of memory, holds where a failed write is told
+pub told_write : (visited : Result Bool Fault) (f : Option ReportFault) (well : Bool) (result : Result (Unit {0}) ReportFault)
+    → EndsBy (stop_of visited f) well result → result ≡ Err Write → (P : Type 0) → (IsTrue (is_ok visited) → P) → (visited ≡ Err fault.NoMemory → P) → P
+told_write visited f well (Ok done) by is P ok memory = cc is
+told_write visited f well (Err Store) by is P ok memory = cc is
+told_write visited f well (Err NoMemory) by is P ok memory = cc is
+told_write (Ok all) f well (Err Write) by is P ok memory = ok refl
+told_write (Err fault.NoMemory) f well (Err Write) by is P ok memory = memory refl
+told_write (Err fault.Store) f well (Err Write) by is P ok memory = absurd (by.0 refl)
+
+-- where a failed write is told, the last write failed
+pub cause_of : {W : Type 0} (contents : W → Option (List ℕ)) (old new : Counted W) (result : Result (Unit {0}) ReportFault)
+    → HasWritten contents old new result → result ≡ Err Write → (has_failed new ≡ true) × HasCalled (calls_of old) (calls_of new)
+cause_of contents old new result h is =
+    let ill : h.well ≡ false = subst (IsTold h.well) is h.told in
+    failed_call contents old new h.written (subst (λ (b : Bool). Wrote contents old new h.written b) ill h.wrote)

@@ -1,5 +1,5 @@
 -- How a report ends, and what was written of it.
-use Rattle.std.specs.Prelude.{◌≡◌, ⊤, ◌⊎◌, ℕ, Bool, true, false, List, ◌++◌, Option, Some, None, Result, Ok, Err}
+use Rattle.std.specs.Prelude.{◌≡◌, ◌≢◌, ⊤, ◌⊎◌, ℕ, Bool, true, false, List, ◌++◌, Option, Some, None, Result, Ok, Err}
 use Rattle.std.specs.Option.{option_or}
 use Rattle.std.specs.Io.KnownBytes.{Appends}
 use Rattle.counted_io.specs.declared.counted.Counted.{Counted}
@@ -43,10 +43,15 @@ stop_of (Err fault.Store) stopped = Some Store
 stop_of (Err fault.NoMemory) stopped = option_or stopped (Some NoMemory)
 stop_of (Ok all) stopped = stopped
 
+-- what is told where the last write failed of a report that was closed so
+abbrev pub fault_after_write : Result (Unit {0}) ReportFault → ReportFault
+fault_after_write (Err Store) = Store
+fault_after_write closed = Write
+
 -- how a report ends that stopped so, where all writes were well or where one failed: a fault of the store is told before a failed
 -- write, and that before want of memory
 abbrev pub EndsBy : Option ReportFault → Bool → Result (Unit {0}) ReportFault → Type 0
 EndsBy stop well (Ok done) = (stop ≡ None) × (well ≡ true)
-EndsBy stop well (Err Write) = (well ≡ false) ⊎ (stop ≡ Some Write)
+EndsBy stop well (Err Write) = (stop ≢ Some Store) × ((well ≡ false) ⊎ (stop ≡ Some Write))
 EndsBy stop well (Err NoMemory) = (well ≡ true) × ((stop ≡ Some NoMemory) ⊎ (stop ≡ None))
 EndsBy stop well (Err Store) = stop ≡ Some Store

@@ -1,6 +1,6 @@
 //! Reports whose lines are put behind one another and written in pieces.
 ghost use Rattle.std.specs.Prelude.{◌≡◌};
-ghost use Rattle.td_reports.specs.Written.{stop_of};
+ghost use Rattle.td_reports.specs.Written.{fault_after_write, stop_of};
 
 use crate::fault::ReportFault;
 use std::alloc::{AllocError, Global};
@@ -46,6 +46,17 @@ fn stop_of(visited: Result<bool, Fault>, fault: Option<ReportFault>) -> Option<R
         Err(Fault::Store) => Some(ReportFault::Store),
         Err(Fault::NoMemory) => fault.or(Some(ReportFault::NoMemory)),
         Ok(_) => fault,
+    }
+}
+
+// What is told where the last write failed of a report that was closed so: a fault of the store before it, and it before want of
+// memory.
+fn fault_after_write(closed: Result<(), ReportFault>) -> ReportFault
+    ensures { result ≡ fault_after_write closed }
+{
+    match closed {
+        Err(ReportFault::Store) => ReportFault::Store,
+        _ => ReportFault::Write,
     }
 }
 
@@ -139,10 +150,10 @@ impl<R> Pieces<R> {
     {
         let closed = self.add_total(visited);
         let is_written = self.write_text(writer);
-        match closed {
-            Err(ReportFault::Store) => Err(ReportFault::Store),
-            _ if !is_written => Err(ReportFault::Write),
-            _ => closed,
+        if is_written {
+            closed
+        } else {
+            Err(fault_after_write(closed))
         }
     }
 }
