@@ -8,7 +8,7 @@ use Rattle.td_desk.specs.Content.{Content}
 use Rattle.td_desk.specs.View.{DeskView}
 use Rattle.td_files.specs.Found.{FileSeen}
 use Rattle.td_files.specs.declared.desks.DeskFault.{DeskFault}
-use Rattle.td_reports.specs.Reported.{IsReported}
+use Rattle.td_reports.specs.Written.{IsReported}
 use Rattle.td_reports.specs.Texts.{guarantees_text, overdue_text}
 use Rattle.td_reports.specs.declared.fault.ReportFault.{ReportFault}
 use Rattle.td_reports.specs.declared.fault.ReportFault.TheVariants as report

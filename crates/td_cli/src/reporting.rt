@@ -6,7 +6,7 @@ ghost use Rattle.td_cli.specs.AtDesk.{AtDesk};
 ghost use Rattle.td_cli.specs.Reported.{HasReported, IsReportDone, IsReportTold, message_of_report, report_text};
 ghost use Rattle.counted_io.specs.Counted.{has_failed};
 ghost use Rattle.td_files.specs.Found.{IsClean, over_file};
-ghost use Rattle.td_reports.specs.Reported.{IsReported};
+ghost use Rattle.td_reports.specs.Written.{IsReported};
 ghost use Rattle.td_store.specs.Looked.{HasLooked};
 
 use crate::telling::{DONE, NO_MEMORY, fault, tell_desk_fault};

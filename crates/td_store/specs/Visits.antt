@@ -1,6 +1,7 @@
 -- What rows of a desk were shown one after another, as far as they were, and to whom.
 use Rattle.std.specs.Prelude.{◌≡◌, ℕ, Bool, true, List, [], ◌++◌, map, Result, Ok}
 use Rattle.std.specs.List.{FoldsTo}
+use Rattle.typed_sql.specs.Visited.{step_of}
 use Rattle.td_desk.specs.declared.fault.Fault.{Fault}
 use Rattle.td_guarantee.specs.declared.guarantee.Guarantee.{Guarantee}
 use Rattle.td_movement.specs.declared.movement.Movement.{Movement}
@@ -20,6 +21,6 @@ pub record IsVisit {V O T X : Type 0} (sees : V → O → T → V → O → Type
     (old : V × O) (result : Result Bool Fault) (new : V × O) : Type 0 where
   pub shown : List T
   pub rest : List X
-  pub told : FoldsTo (λ p row q. sees p.0 p.1 row q.0 q.1) old shown new
+  pub told : FoldsTo (step_of sees) old shown new
   pub are : map says shown ++ rest ≡ all
   pub whole : result ≡ Ok true → rest ≡ []

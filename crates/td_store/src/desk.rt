@@ -16,7 +16,7 @@ use td_store_write::carry_change;
 #[derive(Drop)]
 pub struct SqlDesk<S: Alter> {
     country: Country,
-    conn: Connection<S>,
+    pub(crate) conn: Connection<S>,
 }
 
 impl<S: Alter> Model for SqlDesk<S> {

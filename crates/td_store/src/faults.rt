@@ -1,8 +1,9 @@
 //! Which fault an error of the database is told as.
-ghost use Rattle.std.specs.Prelude.{◌≡◌, ◌≢◌, ◌⊎◌, false, IsTrue, OnOk};
+ghost use Rattle.std.specs.Prelude.{◌≡◌, ◌≢◌, ◌⊎◌, false, Err, IfErr, IfOk, IsErr, IsTrue, Ok, OnOk};
 ghost use Rattle.sqlite.specs.Held.{state};
 ghost use Rattle.sqlite.specs.State.{HasCleanDisk, Survives};
 ghost use Rattle.td_desk.specs.declared.fault.Fault.TheVariants as fault;
+ghost use Rattle.td_store.specs.Kept.{CrashLeavesShown};
 ghost use Rattle.td_store.specs.declared.refused.OpenFault.TheVariants as open_fault;
 
 use crate::refused::OpenFault;
@@ -14,7 +15,7 @@ use typed_sql::see_open;
 
 /// Asks the connection whether it still answers. No memory is taken for it, once it was asked before. An error is the database's
 /// own.
-fn ask<S: Alter>(conn: &mut Connection<S>) -> Result<(), Error>
+pub(crate) fn ask<S: Alter>(conn: &mut Connection<S>) -> Result<(), Error>
     requires { conn.old.in_transaction ≡ false }
     ensures ended { conn.new.in_transaction ≡ false }
     ensures live { HasCleanDisk (state S.Store conn.new) → IsTrue (state S.Store conn.new).is_open → IsTrue (state S.Store conn.old).is_open }
@@ -45,6 +46,36 @@ pub(crate) fn fault_of<S: Alter>(conn: &mut Connection<S>, error: &Error) -> Fau
         return Fault::NoMemory;
     }
     Fault::Store
+}
+
+/// What a call of the database answered, with the fault in place of an error. Nothing is changed, and a crash leaves what it could
+/// before.
+pub(crate) fn told<S: Alter, T: Drop>(
+    conn: &mut Connection<S>,
+    answer: Result<T, Error>,
+) -> Result<T, Fault>
+    requires { conn.old.in_transaction ≡ false }
+    ensures ended { conn.new.in_transaction ≡ false }
+    ensures well { IfOk result (λ x. (answer ≡ Ok x) × (conn.new ≡ conn.old)) }
+    ensures ill { IfErr result (λ _. IsErr answer) }
+    ensures live { HasCleanDisk (state S.Store conn.new) → IsTrue (state S.Store conn.new).is_open → IsTrue (state S.Store conn.old).is_open }
+    ensures memory { HasCleanDisk (state S.Store conn.new) → result ≡ Err Fault.NoMemory → IsTrue (state S.Store conn.new).is_open }
+    ensures same { HasCleanDisk (state S.Store conn.new) → IsTrue (state S.Store conn.new).is_open
+        → (state S.Store conn.new).now ≡ (state S.Store conn.old).now }
+    ensures crash { Survives (state S.Store conn.old) (state S.Store conn.new) (λ _. ⊥) }
+    ensures settled { CrashLeavesShown (state S.Store conn.new) }
+{
+    match answer {
+        Ok(found) => {
+            see_settled(conn);
+            Ok(found)
+        }
+        Err(error) => {
+            let fault = fault_of(conn, &error);
+            see_settled(conn);
+            Err(fault)
+        }
+    }
 }
 
 /// Why a desk isn't made or opened, by the error that the database answered: `NoMemory` for want of memory, else `Store`.

@@ -1,5 +1,6 @@
 //! The desk over a store's file: it is made in an empty database, or opened where one was made before, loads and writes
-//! by transactions, and gives its connection back; and its rows audited as those of a version of the tables.
+//! by transactions, shows all its movements and guarantees one after another, and gives its connection back; and its rows audited
+//! as those of a version of the tables.
 #![tactic(auto)]
 
 mod auditing;
@@ -15,10 +16,13 @@ mod refused;
 mod schema;
 mod settling;
 mod versions;
+mod visits;
 
 pub use auditing::audit;
 pub use desk::SqlDesk;
 pub use laws::{acknowledged_decisions_are_kept, what_a_crash_leaves_opens};
 pub use refused::{OpenFault, Refused};
+pub use td_store_rows::{KeptGuarantee, StoredMovement};
 pub use td_table_model::Rule;
+pub use typed_sql::Visitor;
 pub use versions::file_version;

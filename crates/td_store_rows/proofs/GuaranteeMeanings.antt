@@ -21,7 +21,7 @@ use Rattle.td_store_rows.specs.Columns.{guarantees_table}
 use Rattle.td_store_rows.specs.GuaranteeTexts.{of_holder_text}
 use Rattle.td_store_rows.specs.KeptTable.{first_guarantees}
 use Rattle.td_store_rows.specs.StoreReads.{IsOfVersion, KeepsUse}
-use Rattle.td_store_rows.specs.declared.guarantees.texts.TheConstants.{INSERT, SET_TERMS, ADD_USED, TAKE_USED, BY_GRN, BY_SERIAL, KEPT_OF_HOLDER, KEPT_ALL, EMPTY_FIRST, NEXT_KEPT_OF_HOLDER, KEPT_OF_HOLDERS_ABOVE}
+use Rattle.td_store_rows.specs.declared.guarantees.texts.TheConstants.{INSERT, SET_TERMS, ADD_USED, TAKE_USED, BY_GRN, BY_SERIAL, KEPT_OF_HOLDER, NEXT_KEPT_OF_HOLDER, KEPT_OF_HOLDERS_ABOVE, KEPT_ALL, EMPTY_FIRST}
 
 guarantees_there : (l : Layout) → HasTable (schema_of l) (guarantees_place l) (guarantees_table l)
 guarantees_there Made1 = record { there = refl; free = none_acts Made1 (guarantees_tree Made1) }
@@ -122,12 +122,6 @@ kept_of_holder_means Made1 keeps = absurd (omega (arith, keeps))
 kept_of_holder_means Made2 keeps = record { names = seven; command = refl; plain = (refl, refl); unlisted = refl }
 kept_of_holder_means Grown2 keeps = record { names = seven; command = refl; plain = (refl, refl); unlisted = refl }
 
-pub kept_all_means : (l : Layout) → KeepsUse l → MeansSelect (schema_of l) KEPT_ALL.now (guarantees_tree l) [] all_columns by_serial
-unfolding understood everything
-kept_all_means Made1 keeps = absurd (omega (arith, keeps))
-kept_all_means Made2 keeps = record { names = seven; command = refl; plain = (refl, refl); unlisted = refl }
-kept_all_means Grown2 keeps = record { names = seven; command = refl; plain = (refl, refl); unlisted = refl }
-
 pub next_kept_of_holder_means : (l : Layout) → KeepsUse l → MeansSelect (schema_of l) NEXT_KEPT_OF_HOLDER.now (guarantees_tree l) after_tests all_columns by_serial
 unfolding understood everything
 next_kept_of_holder_means Made1 keeps = absurd (omega (arith, keeps))
@@ -139,6 +133,12 @@ unfolding understood everything
 kept_of_holders_above_means Made1 keeps = absurd (omega (arith, keeps))
 kept_of_holders_above_means Made2 keeps = record { names = seven; command = refl; plain = (refl, refl); unlisted = refl }
 kept_of_holders_above_means Grown2 keeps = record { names = seven; command = refl; plain = (refl, refl); unlisted = refl }
+
+pub kept_all_means : (l : Layout) → KeepsUse l → MeansSelect (schema_of l) KEPT_ALL.now (guarantees_tree l) [] all_columns by_serial
+unfolding understood everything
+kept_all_means Made1 keeps = absurd (omega (arith, keeps))
+kept_all_means Made2 keeps = record { names = seven; command = refl; plain = (refl, refl); unlisted = refl }
+kept_all_means Grown2 keeps = record { names = seven; command = refl; plain = (refl, refl); unlisted = refl }
 
 of_holder_at : (l : Layout) → MeansSelect (schema_of l) (of_holder_text (version_of l)) (guarantees_tree l) holder_tests six_columns by_serial
 unfolding understood everything

@@ -19,4 +19,3 @@ mod LineStatements
 pub mod Turned
 pub mod Chained
 pub mod Holding
-mod VisitedKeys

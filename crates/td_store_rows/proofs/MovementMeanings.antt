@@ -16,7 +16,7 @@ use Rattle.td_schema.specs.declared.layout.Layout.{Layout}
 use Rattle.td_schema.specs.declared.layout.Layout.TheVariants.{Made1, Made2, Grown2}
 use Rattle.typed_sql.specs.Meanings.{HasTable, MeansInsert, MeansUpdate, MeansSelect}
 use Rattle.td_store_rows.specs.Columns.{movements_table}
-use Rattle.td_store_rows.specs.declared.movements.texts.TheConstants.{INSERT, SET_STATUS, BY_MRN, BY_LRN, OF_HOLDER, ALL, COUNTING_SERIALS, NEXT_OF_HOLDER, OF_HOLDERS_ABOVE}
+use Rattle.td_store_rows.specs.declared.movements.texts.TheConstants.{INSERT, SET_STATUS, BY_MRN, BY_LRN, OF_HOLDER, NEXT_OF_HOLDER, OF_HOLDERS_ABOVE, ALL, COUNTING_SERIALS}
 
 movements_there : (l : Layout) → HasTable (schema_of l) 3 movements_table
 movements_there Made1 = record { there = refl; free = none_acts Made1 4 }
@@ -112,12 +112,6 @@ of_holder_means Made1 = record { names = names; command = refl; plain = (refl, r
 of_holder_means Made2 = record { names = names; command = refl; plain = (refl, refl); unlisted = refl }
 of_holder_means Grown2 = record { names = names; command = refl; plain = (refl, refl); unlisted = refl }
 
-pub all_means : (l : Layout) → MeansSelect (schema_of l) ALL.now 4 [] all_columns by_serial
-unfolding understood everything
-all_means Made1 = record { names = names; command = refl; plain = (refl, refl); unlisted = refl }
-all_means Made2 = record { names = names; command = refl; plain = (refl, refl); unlisted = refl }
-all_means Grown2 = record { names = names; command = refl; plain = (refl, refl); unlisted = refl }
-
 pub next_of_holder_means : (l : Layout) → MeansSelect (schema_of l) NEXT_OF_HOLDER.now 4 after_tests all_columns by_serial
 unfolding understood everything
 next_of_holder_means Made1 = record { names = names; command = refl; plain = (refl, refl); unlisted = refl }
@@ -129,6 +123,12 @@ unfolding understood everything
 of_holders_above_means Made1 = record { names = names; command = refl; plain = (refl, refl); unlisted = refl }
 of_holders_above_means Made2 = record { names = names; command = refl; plain = (refl, refl); unlisted = refl }
 of_holders_above_means Grown2 = record { names = names; command = refl; plain = (refl, refl); unlisted = refl }
+
+pub all_means : (l : Layout) → MeansSelect (schema_of l) ALL.now 4 [] all_columns by_serial
+unfolding understood everything
+all_means Made1 = record { names = names; command = refl; plain = (refl, refl); unlisted = refl }
+all_means Made2 = record { names = names; command = refl; plain = (refl, refl); unlisted = refl }
+all_means Grown2 = record { names = names; command = refl; plain = (refl, refl); unlisted = refl }
 
 -- the serial alone
 abbrev pub serial_column : List Term

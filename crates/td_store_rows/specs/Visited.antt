@@ -1,9 +1,6 @@
--- What a visitor is shown of the table of movements, and of that of guarantees with the amounts in use: rows by their keys.
+-- What a visitor is shown of the table of movements, and of that of guarantees with the amounts in use: rows by holder and serial.
 use Rattle.std.specs.Prelude.{◌≡◌, Bool}
-use Rattle.std.specs.Ordering.{nat_cmp, ordering_then}
-use Rattle.std.specs.declared.cmp.Ordering.{Ordering}
 use Rattle.sqlite.specs.State.{State}
-use Rattle.td_table_model.specs.Tables.{Keyed}
 use Rattle.td_schema.specs.Layouts.{schema_of}
 use Rattle.td_schema.specs.declared.layout.Layout.{Layout}
 use Rattle.typed_sql.specs.Typed.{AreTyped, typed_rows}
@@ -12,26 +9,23 @@ use Rattle.typed_sql.specs.Writing.{HasSchema}
 use Rattle.td_store_rows.specs.Columns.{kept_typing, movement_typing}
 use Rattle.td_store_rows.specs.KeptTable.{kept_row_of}
 use Rattle.td_store_rows.specs.MovementTable.{movement_row_of}
+use Rattle.td_store_rows.specs.Places.{by_place}
 use Rattle.td_store_rows.specs.StoreReads.{KeepsUse}
 use Rattle.td_store_rows.specs.declared.guarantees.stored.KeptGuarantee.{KeptGuarantee}
 use Rattle.td_store_rows.specs.declared.movements.stored.StoredMovement.{StoredMovement}
-
--- by holder, and then by serial
-abbrev pub by_keys : {R : Type 0} → Keyed R → Keyed R → Ordering
-by_keys a b = ordering_then (nat_cmp a.holder b.holder) (nat_cmp a.serial b.serial)
 
 -- the tables are those of one of these layouts
 abbrev pub IsOfLayout : (Layout → Type 0) → State → Type 0
 IsOfLayout P s = (l : Layout) × P l × (s.now.schema ≡ schema_of l)
 
--- where the table's rows are typed, a visitor was shown its movements by their keys, as far as it was
+-- where the table's rows are typed, a visitor was shown its movements by holder and serial, as far as it was
 abbrev pub VisitsMovements : {V O : Type 0} → (V → O → StoredMovement → V → O → Type 0) → State → Bool → V × O → V × O → Type 0
 VisitsMovements sees state whole old new =
     (l : Layout) → HasSchema state (schema_of l) → AreTyped movement_typing state.now.trees
-    → HasVisitedRows sees movement_row_of by_keys (typed_rows movement_typing state.now.trees) whole old new
+    → HasVisitedRows sees movement_row_of by_place (typed_rows movement_typing state.now.trees) whole old new
 
 -- and in a file that keeps the amounts in use its guarantees
 abbrev pub VisitsKept : {V O : Type 0} → (V → O → KeptGuarantee → V → O → Type 0) → State → Bool → V × O → V × O → Type 0
 VisitsKept sees state whole old new =
     (l : Layout) → KeepsUse l → HasSchema state (schema_of l) → AreTyped (kept_typing l) state.now.trees
-    → HasVisitedRows sees kept_row_of by_keys (typed_rows (kept_typing l) state.now.trees) whole old new
+    → HasVisitedRows sees kept_row_of by_place (typed_rows (kept_typing l) state.now.trees) whole old new

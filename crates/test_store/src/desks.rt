@@ -5,6 +5,7 @@ mod junk;
 mod long_tables;
 mod migrations;
 mod opening;
+mod visits;
 mod words;
 
 use crate::examples::country;

@@ -44,9 +44,9 @@ pub record HasVisited {V O T R : Type 0} (sees : V → O → T → V → O → T
   pub first : 0 < length rows → SelectsFirst text [] state rows
   pub all : IsTrue whole → Selects text [] state rows
 
--- these come first among the rows in an order
-abbrev pub ComeFirst : {R : Type 0} → (R → R → Ordering) → List R → List R → Type 0
-ComeFirst {R} cmp rows first = (rest : List R) × IsPermutation rows (first ++ rest) × IsSorted cmp (first ++ rest)
+-- these stand first among the rows in an order
+abbrev pub StandFirst : {R : Type 0} → (R → R → Ordering) → List R → List R → Type 0
+StandFirst {R} cmp rows first = (rest : List R) × IsPermutation rows (first ++ rest) × IsSorted cmp (first ++ rest)
 
 -- A visitor and what stands beside it were shown typed rows that come first among these in an order, one after another; where all
 -- were shown, they are these rows.
@@ -54,7 +54,7 @@ pub record HasVisitedRows {V O T R : Type 0} (sees : V → O → T → V → O �
     (rows : List R) (whole : Bool) (old new : V × O) : Type 0 where
   pub shown : List T
   pub told : FoldsTo (step_of sees) old shown new
-  pub first : 0 < length shown → ComeFirst cmp rows (map typed shown)
+  pub first : 0 < length shown → StandFirst cmp rows (map typed shown)
   pub all : IsTrue whole → IsPermutation rows (map typed shown) × IsSorted cmp (map typed shown)
 
 -- the answer says that all rows were shown

@@ -29,10 +29,6 @@ pub const BY_SERIAL: &str =
 pub const KEPT_OF_HOLDER: &str =
     "SELECT holder, serial, grn, reference, cover, ends, used FROM guarantees2 WHERE holder = ?1 ORDER BY holder, serial";
 
-/// All rows, with the amounts in use.
-pub const KEPT_ALL: &str =
-    "SELECT holder, serial, grn, reference, cover, ends, used FROM guarantees2 ORDER BY holder, serial";
-
 /// The rows of a holder behind a serial, with the amounts in use.
 pub const NEXT_KEPT_OF_HOLDER: &str =
     "SELECT holder, serial, grn, reference, cover, ends, used FROM guarantees2 WHERE holder = ?1 AND serial > ?2 ORDER BY holder, serial";
@@ -40,6 +36,10 @@ pub const NEXT_KEPT_OF_HOLDER: &str =
 /// The rows of the holders with a number above one, with the amounts in use.
 pub const KEPT_OF_HOLDERS_ABOVE: &str =
     "SELECT holder, serial, grn, reference, cover, ends, used FROM guarantees2 WHERE holder > ?1 ORDER BY holder, serial";
+
+/// All rows, with the amounts in use.
+pub const KEPT_ALL: &str =
+    "SELECT holder, serial, grn, reference, cover, ends, used FROM guarantees2 ORDER BY holder, serial";
 
 /// The rows of a holder, in a file of version 1.
 pub const OF_HOLDER1: &str =

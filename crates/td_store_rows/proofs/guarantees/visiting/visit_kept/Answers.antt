@@ -1,16 +1,15 @@
-use Rattle.std.proofs.Common.{ap, refl}
+use Rattle.std.proofs.Common.{[], refl, true}
 use Rattle.sqlite.specs.Held.{state}
-use Rattle.sqlite_value.specs.Order.{column}
 use Rattle.td_schema.specs.Layouts.{schema_of}
 use Rattle.typed_sql.proofs.VisitedTyped.{visited_rows}
 use Rattle.typed_sql.specs.Visited.{is_whole}
 use Rattle.td_store_rows.proofs.GuaranteeMeanings.{all_columns, by_serial, kept_all_means}
+use Rattle.td_store_rows.proofs.KeptStatements.{placed}
 use Rattle.td_store_rows.proofs.StoreReads.{plain_there}
-use Rattle.td_store_rows.proofs.VisitedKeys.{keys_compared}
 use Rattle.td_store_rows.specs.Columns.{kept_typing}
 use Rattle.td_store_rows.specs.KeptTable.{kept_row_of}
 use Rattle.td_store_rows.specs.StoreReads.{KeepsUse}
-use Rattle.td_store_rows.specs.Visited.{by_keys}
+use Rattle.td_store_rows.specs.Places.{by_place}
 use Rattle.td_store_rows.specs.declared.guarantees.texts.TheConstants.{KEPT_ALL}
 use Rattle.td_store_rows.proofs.guarantees.visiting.visit_kept.Goals as goal
 
@@ -20,7 +19,7 @@ visit-requires-clause-plain g c clean =
 
 pub returns-clause-visited : goal.returns-clause-visited
 returns-clause-visited g c clean l keeps has typed =
-    visited_rows (kept_typing l) (schema_of l) g.V.Visitor.sees kept_row_of KEPT_ALL.now all_columns by_serial by_keys (kept_all_means l keeps) (λ r. refl)
-    (keys_compared (kept_typing l) (λ r is. ap (λ l. column l 0) is) (λ r is. ap (λ l. column l 1) is))
+    visited_rows (kept_typing l) (schema_of l) g.V.Visitor.sees kept_row_of KEPT_ALL.now all_columns by_serial by_place (kept_all_means l keeps) (λ r. refl)
+    (λ a b is other. placed l (λ _. true) [] a b (is, refl) (other, refl))
     (state g.S.Store c.args.conn.now) typed (is_whole c.visit.result) (c.args.visitor.now, c.args.beside.now) (c.visit.new.visitor, c.visit.new.beside)
     has (c.visit.ensures.visited clean)

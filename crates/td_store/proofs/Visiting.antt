@@ -1,0 +1,178 @@
+-- What a visitor was shown of a desk over a file, and what a visit leaves.
+use Rattle.std.proofs.Common.{◌≡◌, ℕ, Bool, true, false, List, [], ◌∷◌, ◌++◌, Err, Ok, Result, ap, append-nil, arith, length, map, refl, subst, sym, ◌∙◌, IsPermutation}
+use Rattle.std.proofs.lemmas.Bool.{false≢true}
+use Rattle.std.proofs.lemmas.List.{map-append}
+use Rattle.std.specs.Prelude.{IfOk, IsTrue, OnOk, is_ok}
+use Rattle.sqlite.specs.declared.error.Error.{Error}
+use Rattle.std.specs.List.{FoldsTo}
+use Rattle.std.specs.List.Sorted.{IsSorted}
+use Rattle.std.specs.declared.cmp.Ordering.{Ordering}
+use Rattle.sqlite_trees.proofs.ListLemmas.{map-map}
+use Rattle.sqlite.specs.Effect.{Database}
+use Rattle.sqlite.specs.Held.{Held, state}
+use Rattle.sqlite.specs.State.{State, HasCleanDisk, Survives}
+use Rattle.sqlite_trees.specs.declared.store.Store.{Ghosts}
+use Rattle.td_desk.specs.Content.{Content}
+use Rattle.td_desk.specs.declared.fault.Fault.{Fault}
+use Rattle.td_table_model.specs.Listed.{guarantees_listed, movements_listed, without_codes, without_lines}
+use Rattle.td_store_rows.specs.Columns.{kept_typing, movement_typing}
+use Rattle.td_store_rows.proofs.StoreReads.{newest_keeps}
+use Rattle.td_store_rows.specs.Places.{by_place}
+use Rattle.td_store_rows.specs.StoreTables.{HoldsContent, tables_in}
+use Rattle.td_store_rows.specs.MovementTable.{movement_row_of}
+use Rattle.td_store_rows.specs.KeptTable.{kept_row_of}
+use Rattle.td_store_rows.specs.Visited.{VisitsKept, VisitsMovements}
+use Rattle.td_store_rows.specs.declared.guarantees.stored.KeptGuarantee.{KeptGuarantee}
+use Rattle.td_store_rows.specs.declared.movements.stored.StoredMovement.{StoredMovement}
+use Rattle.td_store.proofs.Calls.{desk_then, then_asked}
+use Rattle.td_store.proofs.Holding.{content_held}
+use Rattle.td_store.proofs.Leaving.{adds_none, counts_faults, leaves_shown}
+use Rattle.td_store.proofs.Listed.{listed_guarantees, listed_movements, said_guarantee, said_movement}
+use Rattle.td_store.specs.Kept.{CountsFaults, CrashLeavesShown, IsDeskOf, content_in, sql_view}
+use Rattle.td_store.specs.Looked.{HasLooked}
+use Rattle.td_store.specs.Visits.{IsVisit, said_of_guarantee, said_of_movement}
+use Rattle.typed_sql.specs.Typed.{AreTyped, typed_rows}
+use Rattle.typed_sql.specs.Visited.{HasVisitedRows, is_whole, step_of}
+
+-- rows that stand first in an order in which they say what is listed, say what is listed first
+module _ {V O T R X : Type 0} (sees : V → O → T → V → O → Type 0) (typed : T → R) (said : R → X) (cmp : R → R → Ordering)
+    (rows : List R) (all : List X) (listed : (given : List R) → IsPermutation rows given → IsSorted cmp given → map said given ≡ all) where
+  abbrev says : T → X
+  says x = said (typed x)
+
+  pub is_visit : (whole : Bool) (old new : V × O) (result : Result Bool Fault) → (result ≡ Ok true → IsTrue whole)
+      → HasVisitedRows sees typed cmp rows whole old new → IsVisit sees says all old result new
+  is_visit true old new result is h = record {
+    shown = h.shown;
+    rest = [];
+    told = h.told;
+    are = append-nil (map says h.shown) ∙ sym (map-map said typed h.shown) ∙ listed (map typed h.shown) (h.all refl).0 (h.all refl).1;
+    whole = λ e. refl;
+  }
+  is_visit false old new result is h = by_shown h.shown refl
+    where
+      by_shown : (xs : List T) → h.shown ≡ xs → IsVisit sees says all old result new
+      by_shown [] none = record {
+        shown = [];
+        rest = all;
+        told = subst (λ xs. FoldsTo (step_of sees) old xs new) none h.told;
+        are = refl;
+        whole = λ e. absurd (false≢true (is e));
+      }
+      by_shown (x ∷ xs) some =
+          let it = h.first (omega (arith, ap length some)) in
+          record {
+            shown = h.shown;
+            rest = map said it.0;
+            told = h.told;
+            are = ap (λ l. l ++ map said it.0) (sym (map-map said typed h.shown)) ∙ sym (map-append said (map typed h.shown) it.0)
+                ∙ listed (map typed h.shown ++ it.0) it.1 it.2;
+            whole = λ e. absurd (false≢true (is e));
+          }
+
+-- where nothing was shown
+pub none_visited : {V O T R : Type 0} (sees : V → O → T → V → O → Type 0) (typed : T → R) (cmp : R → R → Ordering) (rows : List R) (old : V × O)
+    → HasVisitedRows sees typed cmp rows false old old
+none_visited sees typed cmp rows old = record {
+  shown = [];
+  told = refl;
+  first = λ some. absurd (omega (arith, some));
+  all = λ is. absurd (false≢true is);
+}
+
+module _ {V O : Type 0} (whole : Bool) (old new : V × O) where
+  -- a visit of a connection that shows what another shows is one of that
+  module _ (a b : State) (same : b.now ≡ a.now) (live : IsTrue b.is_open → IsTrue a.is_open) where
+    pub movements_of_same : (sees : V → O → StoredMovement → V → O → Type 0) → VisitsMovements sees b whole old new → VisitsMovements sees a whole old new
+    movements_of_same sees visits l has typed =
+        subst (λ (d : Database). HasVisitedRows sees movement_row_of by_place (typed_rows movement_typing d.trees) whole old new) same
+        (visits l (λ is. ap (λ (d : Database). d.schema) same ∙ has (live is)) (subst (λ (d : Database). AreTyped movement_typing d.trees) (sym same) typed))
+
+    pub kept_of_same : (sees : V → O → KeptGuarantee → V → O → Type 0) → VisitsKept sees b whole old new → VisitsKept sees a whole old new
+    kept_of_same sees visits l keeps has typed =
+        subst (λ (d : Database). HasVisitedRows sees kept_row_of by_place (typed_rows (kept_typing l) d.trees) whole old new) same
+        (visits l keeps (λ is. ap (λ (d : Database). d.schema) same ∙ has (live is)) (subst (λ (d : Database). AreTyped (kept_typing l) d.trees) (sym same) typed))
+
+  -- a visit of a desk's connection shows what its content lists
+  module _ (country : List ℕ) (s : State) (desk : IsDeskOf country s) (clean : HasCleanDisk s) (live : IsTrue s.is_open)
+      (result : Result Bool Fault) (is : result ≡ Ok true → IsTrue whole) where
+    pub movements_visited : (sees : V → O → StoredMovement → V → O → Type 0) → VisitsMovements sees s whole old new
+        → IsVisit sees said_of_movement (map without_lines (movements_listed (content_in s.now.trees))) old result new
+    movements_visited sees visits =
+        let was : (c : Content) × HoldsContent c s × (c.country ≡ country) = desk clean live in
+        let trees = was.1.trees in
+        subst (λ c. IsVisit sees said_of_movement (map without_lines (movements_listed c)) old result new) (sym (content_held was.0 s was.1))
+        (is_visit sees movement_row_of said_movement by_place (typed_rows movement_typing s.now.trees) (map without_lines (movements_listed was.0))
+        (listed_movements (tables_in trees.layout s.now.trees) was.0 trees.sound trees.tables) whole old new result is
+        (visits trees.layout was.1.schema trees.typed.movements))
+
+    pub guarantees_visited : (sees : V → O → KeptGuarantee → V → O → Type 0) → VisitsKept sees s whole old new
+        → IsVisit sees said_of_guarantee (map without_codes (guarantees_listed (content_in s.now.trees))) old result new
+    guarantees_visited sees visits =
+        let was : (c : Content) × HoldsContent c s × (c.country ≡ country) = desk clean live in
+        let trees = was.1.trees in
+        let keeps = newest_keeps trees.layout trees.newest in
+        subst (λ c. IsVisit sees said_of_guarantee (map without_codes (guarantees_listed c)) old result new) (sym (content_held was.0 s was.1))
+        (is_visit sees kept_row_of said_guarantee by_place (typed_rows (kept_typing trees.layout) s.now.trees) (map without_codes (guarantees_listed was.0))
+        (listed_guarantees (tables_in trees.layout s.now.trees) was.0 trees.sound trees.tables keeps) whole old new result is
+        (visits trees.layout keeps was.1.schema (trees.typed.kept keeps)))
+
+-- a call that has only looked, and then the question what its error is told as
+module _ {S : Type 0} (g : Ghosts S) (country : List ℕ) (old mid new : Held S) (well : Bool) (desk : IsDeskOf country (state g old))
+    (survives : Survives (state g old) (state g mid) (λ _. ⊥)) (asked : Survives (state g mid) (state g new) (λ _. ⊥))
+    (live : HasCleanDisk (state g mid) → IsTrue (state g mid).is_open → IsTrue (state g old).is_open)
+    (alive : HasCleanDisk (state g new) → IsTrue (state g new).is_open → IsTrue (state g mid).is_open)
+    (same : HasCleanDisk (state g mid) → IsTrue (state g mid).is_open → (state g mid).now ≡ (state g old).now)
+    (still : HasCleanDisk (state g new) → IsTrue (state g new).is_open → (state g new).now ≡ (state g mid).now) where
+  abbrev a : State
+  a = state g old
+
+  abbrev b : State
+  b = state g mid
+
+  abbrev e : State
+  e = state g new
+
+  all_survives : Survives a e (λ _. ⊥)
+  all_survives = then_asked a b e (λ _. ⊥) survives asked
+
+  clean_mid : HasCleanDisk e → HasCleanDisk b
+  clean_mid clean = omega (arith, clean, asked.clean)
+
+  pub was_live : HasCleanDisk e → IsTrue e.is_open → IsTrue a.is_open
+  was_live clean is = live (clean_mid clean) (alive clean is)
+
+  is_same : HasCleanDisk e → IsTrue e.is_open → e.now ≡ a.now
+  is_same clean is = still clean is ∙ same (clean_mid clean) (alive clean is)
+
+  pub desk_looked : IsDeskOf country e
+  desk_looked = desk_then country a e (λ _. ⊥) desk all_survives was_live is_same
+
+  pub faults_counted : CountsFaults a e
+  faults_counted = counts_faults a e (λ _. ⊥) all_survives
+
+  pub has_looked : CrashLeavesShown e → (HasCleanDisk e → IsTrue well → IsTrue a.is_open × IsTrue e.is_open)
+      → HasLooked (sql_view g) well old new
+  has_looked settled shown = record {
+    clean = λ clean. omega (arith, clean, all_survives.clean);
+    live = was_live;
+    shown = shown;
+    same = λ clean is. ap (λ (d : Database). content_in d.trees) (is_same clean is);
+    crash = λ clean. adds_none g old new all_survives clean;
+    settled = λ clean. leaves_shown g new settled (λ is. let it = desk_looked clean is in (it.0, it.1));
+  }
+
+-- what was answered well was answered by an open connection, which is as it was; and all was shown that is told to be
+module _ {S : Type 0} (g : Ghosts S) (mid new : Held S) (answer : Result Bool Error) where
+  pub shown_well : (old : State) (r : Result Bool Fault) → IfOk r (λ x. (answer ≡ Ok x) × (new ≡ mid))
+      → (HasCleanDisk (state g mid) → OnOk answer (IsTrue old.is_open × IsTrue (state g mid).is_open))
+      → HasCleanDisk (state g new) → IsTrue (is_ok r) → IsTrue old.is_open × IsTrue (state g new).is_open
+  shown_well old (Ok x) told shown clean well =
+      let clean_mid : HasCleanDisk (state g mid) = subst (λ h. HasCleanDisk (state g h)) told.1 clean in
+      let both : IsTrue old.is_open × IsTrue (state g mid).is_open = subst (λ r. OnOk r (IsTrue old.is_open × IsTrue (state g mid).is_open)) told.0 (shown clean_mid) in
+      (both.0, subst (λ h. IsTrue (state g h).is_open) (sym told.1) both.1)
+  shown_well old (Err e) told shown clean well = absurd (false≢true well)
+
+  pub told_whole : (r : Result Bool Fault) → IfOk r (λ x. (answer ≡ Ok x) × (new ≡ mid)) → r ≡ Ok true → IsTrue (is_whole answer)
+  told_whole (Ok x) told whole = let is : x ≡ true = cc in ap is_whole told.0 ∙ is
+  told_whole (Err e) told whole = cc

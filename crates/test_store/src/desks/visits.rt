@@ -1,0 +1,185 @@
+//! All movements and all guarantees of a desk are shown one after another, by holder and then by serial, as long as more are
+//! wanted.
+use super::made;
+use super::opening::seen;
+use crate::examples::{
+    GRN, MRN, SECOND_GRN, cents, code, country, cover, day, eori, grn, holder, lrn, mrn, office,
+};
+use sqlite::MemStore;
+use std::process::Abort;
+use td_acts::Lines;
+use td_base::{Grn, Reference};
+use td_desk::{Command, Outcome, Said, Stamped, do_one};
+use td_movement::Line;
+use td_store::{KeptGuarantee, SqlDesk, StoredMovement, Visitor};
+
+const START: i64 = 1_740_819_600;
+
+/// Writes a line for each row that it is shown, as long as it wants more.
+#[derive(Drop)]
+struct Clerk {
+    wanted: u32,
+}
+
+impl Clerk {
+    fn wants_more(&mut self) -> bool {
+        self.wanted = self.wanted.saturating_sub(1);
+        self.wanted > 0
+    }
+}
+
+impl Visitor<StoredMovement, String> for Clerk {
+    ghost sees = { λ _ _ _ _ _. Unit {0} };
+
+    fn see(&mut self, row: StoredMovement, beside: &mut String) -> bool {
+        let (holder, serial, lrn) = (row.holder, row.serial, row.movement.lrn);
+        let (state, lines) = (row.movement.state.name(), row.movement.lines.len());
+        let _told = writeln!(beside, "{holder}/{serial} {lrn} {state} {lines}");
+        self.wants_more()
+    }
+}
+
+impl Visitor<KeptGuarantee, String> for Clerk {
+    ghost sees = { λ _ _ _ _ _. Unit {0} };
+
+    fn see(&mut self, row: KeptGuarantee, beside: &mut String) -> bool {
+        let (holder, serial, reference) = (row.holder, row.serial, row.guarantee.reference);
+        let (used, codes) = (row.used, row.guarantee.codes.len());
+        let _told = writeln!(beside, "{holder}/{serial} {reference} {used} {codes}");
+        self.wants_more()
+    }
+}
+
+/// What a clerk wrote who wanted so many rows of movements, and whether all were shown.
+fn movements_told(
+    rt: &(impl AllocGlobal + Abort),
+    desk: &mut SqlDesk<MemStore>,
+    wanted: u32,
+) -> (String, bool) {
+    let (mut clerk, mut told) = (Clerk { wanted }, String::new(rt.alloc()));
+    let all = desk.visit_movements(rt.alloc(), &mut clerk, &mut told);
+    (told, all.ok().expect(rt, "no fault"))
+}
+
+/// The same of guarantees.
+fn guarantees_told(
+    rt: &(impl AllocGlobal + Abort),
+    desk: &mut SqlDesk<MemStore>,
+    wanted: u32,
+) -> (String, bool) {
+    let (mut clerk, mut told) = (Clerk { wanted }, String::new(rt.alloc()));
+    let all = desk.visit_guarantees(rt.alloc(), &mut clerk, &mut told);
+    (told, all.ok().expect(rt, "no fault"))
+}
+
+fn register(rt: &impl Abort, number: u32) -> Command {
+    Command::Register {
+        holder: holder(rt, number),
+        eori: eori(rt, b"CH1234567"),
+    }
+}
+
+/// A guarantee of so many cents.
+fn open(rt: &impl Abort, number: u32, reference: u64) -> Command {
+    Command::OpenGuarantee {
+        holder: holder(rt, number),
+        reference: Reference::new(reference).expect(rt, "an amount"),
+        cover: cover(rt, 50),
+        code: code(rt, b"AB12"),
+    }
+}
+
+/// A declaration with one line of so many cents.
+fn lodge(
+    rt: &(impl AllocGlobal + Abort),
+    number: u32,
+    name: &[u8],
+    grn: Grn,
+    amount: u64,
+) -> Command {
+    let line = Line {
+        grn,
+        cents: cents(rt, amount),
+    };
+    let items = vec![in rt.alloc(); (line, code(rt, b"AB12"))].expect(rt, "memory");
+    Command::Ie015 {
+        holder: holder(rt, number),
+        lrn: lrn(rt, name),
+        departure: office(rt, b"CH001251"),
+        destination: office(rt, b"DE005600"),
+        lines: Lines::new(items).expect(rt, "lines"),
+    }
+}
+
+/// Has the desk do what it has to accept.
+fn accept(rt: &(impl AllocGlobal + Abort), desk: &mut SqlDesk<MemStore>, command: Command) {
+    let stamped = Stamped { at: START, command };
+    let outcome = do_one(rt.alloc(), desk, &stamped);
+    assert!(rt; matches!(outcome, Outcome::Said(Said::Answered(_))));
+}
+
+/// A desk of holders 1, 2 and 3, of which the second came first: 1 has two guarantees and two movements, of which the first is
+/// released, 2 has one of each, and 3 has none.
+fn busy(rt: &(impl AllocGlobal + Abort)) -> SqlDesk<MemStore> {
+    let mut desk = made(rt);
+    let others = Grn::make(25, country(rt), holder(rt, 2), 1).expect(rt, "a GRN");
+    let (first, second) = (grn(rt, GRN), grn(rt, SECOND_GRN));
+    for number in [2, 3, 1] {
+        accept(rt, &mut desk, register(rt, number));
+    }
+    for (number, reference) in [(2, 700_000), (1, 1_000_000), (1, 800_000)] {
+        accept(rt, &mut desk, open(rt, number, reference));
+    }
+    accept(rt, &mut desk, lodge(rt, 2, b"B1", others, 300_000));
+    accept(rt, &mut desk, lodge(rt, 1, b"A1", first, 500_000));
+    accept(rt, &mut desk, lodge(rt, 1, b"A2", second, 100_000));
+    let release = Command::Ie029 {
+        mrn: mrn(rt, MRN),
+        limit: day(rt, b"2025-03-09"),
+    };
+    accept(rt, &mut desk, release);
+    desk
+}
+
+const MOVEMENTS: &str = "000001/1 A1 released 0\n000001/2 A2 accepted 0\n000002/1 B1 accepted 0\n";
+
+/// Only the first movement is released, so 5,000.00 are in use on the first guarantee.
+const GUARANTEES: &str =
+    "000001/1 10000.00 5000.00 0\n000001/2 8000.00 0.00 0\n000002/1 7000.00 0.00 0\n";
+
+#[test]
+fn all_movements_are_shown_by_holder_and_serial(rt: HostRuntime) {
+    let (told, all) = movements_told(&rt, &mut busy(&rt), 4);
+    assert_eq!(rt; told.as_str(), MOVEMENTS);
+    assert!(rt; all);
+}
+
+#[test]
+fn all_guarantees_are_shown_with_what_is_in_use(rt: HostRuntime) {
+    let (told, all) = guarantees_told(&rt, &mut busy(&rt), 4);
+    assert_eq!(rt; told.as_str(), GUARANTEES);
+    assert!(rt; all);
+}
+
+#[test]
+fn a_desk_goes_on_after_visits_that_stopped(rt: HostRuntime) {
+    let mut desk = busy(&rt);
+    let (told, all) = movements_told(&rt, &mut desk, 1);
+    assert_eq!(rt; told.as_str(), "000001/1 A1 released 0\n");
+    assert!(rt; !all);
+    let (told, all) = guarantees_told(&rt, &mut desk, 2);
+    assert_eq!(rt; told.as_str(), "000001/1 10000.00 5000.00 0\n000001/2 8000.00 0.00 0\n");
+    assert!(rt; !all);
+    let (after, before) = (seen(&rt, &mut desk), seen(&rt, &mut busy(&rt)));
+    assert_eq!(rt; after.as_str(), before.as_str());
+    accept(&rt, &mut desk, register(&rt, 4));
+}
+
+#[test]
+fn nothing_is_shown_of_an_empty_desk(rt: HostRuntime) {
+    let mut desk = made(&rt);
+    let (told, all) = movements_told(&rt, &mut desk, 4);
+    assert!(rt; told.is_empty() && all);
+    let (told, all) = guarantees_told(&rt, &mut desk, 4);
+    assert!(rt; told.is_empty() && all);
+}
