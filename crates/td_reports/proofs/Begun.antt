@@ -5,7 +5,6 @@ use Rattle.std.specs.List.{filter_map}
 use Rattle.std.specs.List.{cons_option}
 use Rattle.counted_io.specs.declared.counted.Counted.{Counted}
 use Rattle.counted_io.proofs.Chaining.{wrote_nothing}
-use Rattle.td_reports.specs.declared.fault.ReportFault.{ReportFault}
 use Rattle.td_reports.specs.declared.fault.ReportFault.TheVariants.{NoMemory}
 use Rattle.td_reports.specs.declared.pieces.Pieces.{Pieces}
 use Rattle.td_reports.proofs.Folding.{HasTaken}

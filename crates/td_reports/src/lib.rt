@@ -5,6 +5,8 @@
 mod fault;
 mod lines;
 mod pieces;
+mod reports;
 mod rows;
 
 pub use fault::ReportFault;
+pub use reports::{guarantees, overdue};
