@@ -1,4 +1,5 @@
-//! Tables with many more rows than are read at once are walked along to their ends when a desk is opened.
+//! Tables with many more rows than are read at once are walked along to their ends when a desk is opened, and when all rows are
+//! shown.
 use super::made;
 use super::opening::{opened, refused_after};
 use crate::examples::{code, country, cover, eori, holder};
@@ -6,7 +7,7 @@ use sqlite::MemStore;
 use std::process::Abort;
 use td_base::Reference;
 use td_desk::{Command, Stamped, Store, do_one};
-use td_store::{OpenFault, SqlDesk};
+use td_store::{KeptGuarantee, OpenFault, SqlDesk, Visitor};
 use td_table_model::Rule;
 
 const START: i64 = 1_740_819_600;
@@ -70,4 +71,32 @@ fn a_change_in_the_last_row_is_found(rt: HostRuntime) {
 fn long_tables_are_opened_again(rt: HostRuntime) {
     let desk = opened(&rt, long(&rt).close());
     assert!(rt; desk.office() == country(&rt));
+}
+
+/// How many guarantees it was shown, and whether their serials rose by one from 1 on.
+#[derive(Drop)]
+struct Count {
+    shown: u32,
+    in_order: bool,
+}
+
+impl Visitor<KeptGuarantee, ()> for Count {
+    ghost sees = { λ _ _ _ _ _. Unit {0} };
+
+    fn see(&mut self, row: KeptGuarantee, _beside: &mut ()) -> bool {
+        self.shown = self.shown.saturating_add(1);
+        self.in_order = self.in_order && row.serial == self.shown;
+        true
+    }
+}
+
+#[test]
+fn a_long_table_is_shown_to_its_end(rt: HostRuntime) {
+    let mut count = Count {
+        shown: 0,
+        in_order: true,
+    };
+    let all = long(&rt).visit_guarantees(rt.alloc(), &mut count, &mut ());
+    assert!(rt; matches!(all, Ok(true)));
+    assert!(rt; count.shown == 400 && count.in_order);
 }

@@ -33,7 +33,7 @@ impl Visitor<StoredMovement, String> for Clerk {
 
     fn see(&mut self, row: StoredMovement, beside: &mut String) -> bool {
         let (holder, serial, lrn) = (row.holder, row.serial, row.movement.lrn);
-        let (state, lines) = (row.movement.state.name(), row.movement.lines.len());
+        let (state, lines) = (row.movement.state.name(), row.movement.lines.as_slice().len());
         let _told = writeln!(beside, "{holder}/{serial} {lrn} {state} {lines}");
         self.wants_more()
     }
