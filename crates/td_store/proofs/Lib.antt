@@ -5,3 +5,4 @@ mod Holding
 mod Judged
 mod Leaving
 mod Refusing
+mod Looking

@@ -1,8 +1,9 @@
 //! Which fault an error of the database is told as.
-ghost use Rattle.std.specs.Prelude.{◌≡◌, ◌≢◌, ◌⊎◌, false, IsTrue, OnOk};
+ghost use Rattle.std.specs.Prelude.{◌≡◌, ◌≢◌, ◌⊎◌, false, IfOk, IsErr, IsTrue, OnOk};
 ghost use Rattle.sqlite.specs.Held.{state};
 ghost use Rattle.sqlite.specs.State.{HasCleanDisk, Survives};
 ghost use Rattle.td_desk.specs.declared.fault.Fault.TheVariants as fault;
+ghost use Rattle.td_store.specs.Kept.{CrashLeavesShown};
 ghost use Rattle.td_store.specs.declared.refused.OpenFault.TheVariants as open_fault;
 
 use crate::refused::OpenFault;
@@ -45,6 +46,31 @@ pub(crate) fn fault_of<S: Alter>(conn: &mut Connection<S>, error: &Error) -> Fau
         return Fault::NoMemory;
     }
     Fault::Store
+}
+
+/// What a call of the database answered, where an error is told as its fault (`fault_of`). Nothing is changed, and a crash leaves what
+/// the connection shows.
+pub(crate) fn told<S: Alter, T>(
+    conn: &mut Connection<S>,
+    answer: Result<T, Error>,
+) -> Result<T, Fault>
+    requires { conn.old.in_transaction ≡ false }
+    ensures ended { conn.new.in_transaction ≡ false }
+    ensures ok { IfOk answer (λ x. (result ≡ Ok x) × (conn.new ≡ conn.old)) }
+    ensures err { IsErr answer → IsErr result }
+    ensures live { HasCleanDisk (state S.Store conn.new) → IsTrue (state S.Store conn.new).is_open → IsTrue (state S.Store conn.old).is_open }
+    ensures memory { HasCleanDisk (state S.Store conn.new) → result ≡ Err Fault.NoMemory → IsTrue (state S.Store conn.new).is_open }
+    ensures same { HasCleanDisk (state S.Store conn.new) → IsTrue (state S.Store conn.new).is_open
+        → (state S.Store conn.new).now ≡ (state S.Store conn.old).now }
+    ensures crash { Survives (state S.Store conn.old) (state S.Store conn.new) (λ _. ⊥) }
+    ensures settled { CrashLeavesShown (state S.Store conn.new) }
+{
+    let told = match answer {
+        Ok(found) => Ok(found),
+        Err(error) => Err(fault_of(conn, &error)),
+    };
+    see_settled(conn);
+    told
 }
 
 /// Why a desk isn't made or opened, by the error that the database answered: `NoMemory` for want of memory, else `Store`.

@@ -6,6 +6,7 @@ mod auditing;
 mod creating;
 mod desk;
 mod faults;
+mod following;
 mod judging;
 mod laws;
 mod office;
