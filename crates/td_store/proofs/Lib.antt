@@ -6,3 +6,4 @@ mod Judged
 mod Leaving
 mod Refusing
 mod Looking
+mod Stepping

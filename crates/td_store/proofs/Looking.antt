@@ -2,16 +2,20 @@
 use Rattle.std.proofs.Common.{◌≡◌, ◌∙◌, ℕ, List, Err, Ok, Option, Result, ap, arith, refl, subst, sym}
 use Rattle.std.proofs.lemmas.Bool.{false≢true}
 use Rattle.std.specs.Option.{option_map}
-use Rattle.std.specs.Prelude.{IfOk, IsErr, IsTrue, OnOk, is_ok, slice_get}
+use Rattle.std.specs.Prelude.{IfOk, IsErr, IsTrue, OnOk, is_ok}
 use Rattle.sqlite_trees.specs.declared.store.Store.{Ghosts}
 use Rattle.sqlite.specs.Effect.{Database}
 use Rattle.sqlite.specs.Held.{Held, state}
 use Rattle.sqlite.specs.State.{HasCleanDisk, Survives}
 use Rattle.sqlite.specs.declared.error.Error.{Error}
-use Rattle.td_desk.specs.Content.{Content}
+use Rattle.td_desk.specs.Content.{Content, IsSound}
 use Rattle.td_desk.specs.declared.fault.Fault.{Fault}
 use Rattle.td_table_model.specs.Tables.{Keyed}
-use Rattle.td_store_load.specs.Placed.{IsFirstBehind, behind}
+use Rattle.td_store_load.specs.Placed.{ComesNext, IsFirstBehind}
+use Rattle.td_store_load.proofs.Listing.{comes_next}
+use Rattle.td_store_load.proofs.Places.{IsBefore}
+use Rattle.td_store_rows.specs.StoreTables.{HoldsContent}
+use Rattle.sqlite_trees.specs.Tree.{IsAscending}
 use Rattle.td_store.specs.Kept.{CountsFaults, CrashLeavesShown, IsDeskOf, content_in, sql_view}
 use Rattle.td_store.specs.Looked.{HasLooked}
 use Rattle.td_store.proofs.Calls.{desk_then, then_asked}
@@ -65,16 +69,16 @@ module _ {S : Type 0} (g : Ghosts S) (country : List ℕ) (old mid new : Held S)
     }
 
   -- what was found behind a place of any content that the connection held was found of the desk's
-  pub found_behind : {X Y : Type 0} (f : Content → List (Keyed X)) (said : Y → Keyed X) (H n : ℕ) (answer : Result (Option Y) Error) (result : Result (Option Y) Fault)
+  pub found_behind : {X Y : Type 0} (f : Content → List (Keyed X)) (in_order : (c : Content) → IsSound c → IsAscending IsBefore (f c)) (said : Y → Keyed X) (H n : ℕ) (answer : Result (Option Y) Error) (result : Result (Option Y) Fault)
       → IfOk answer (λ x. (result ≡ Ok x) × (new ≡ mid)) → (IsErr answer → IsErr result)
       → (HasCleanDisk (state g mid) → IfOk answer (λ found. IsFirstBehind f H n (state g old) (option_map said found)))
       → HasCleanDisk (state g new) → IsTrue (state g old).is_open
-      → IfOk result (λ found. option_map said found ≡ slice_get (behind H n (f (content_in (state g old).now.trees))) 0)
-  found_behind {X} {Y} f said H n answer result ok err found clean is =
+      → IfOk result (λ found. ComesNext H n (f (content_in (state g old).now.trees)) (option_map said found))
+  found_behind {X} {Y} f in_order said H n answer result ok err found clean is =
       by_answer answer ok err (found (clean_mid clean))
     where
       Found : Result (Option Y) Fault → Type 0
-      Found r = IfOk r (λ found. option_map said found ≡ slice_get (behind H n (f (content_in (state g old).now.trees))) 0)
+      Found r = IfOk r (λ found. ComesNext H n (f (content_in (state g old).now.trees)) (option_map said found))
 
       none : (r : Result (Option Y) Fault) → IsErr r → Found r
       none (Ok x) failed = absurd (false≢true failed)
@@ -83,5 +87,7 @@ module _ {S : Type 0} (g : Ghosts S) (country : List ℕ) (old mid new : Held S)
       by_answer : (a : Result (Option Y) Error) → IfOk a (λ x. (result ≡ Ok x) × (new ≡ mid)) → (IsErr a → IsErr result)
           → IfOk a (λ found. IsFirstBehind f H n (state g old) (option_map said found)) → Found result
       by_answer (Ok x) ok err found =
-          subst Found (sym ok.0) (found (content_in (state g old).now.trees) (holds_own country (state g old) desk (omega (arith, clean, both.clean)) is))
+          let own : Content = content_in (state g old).now.trees in
+          let holds : HoldsContent own (state g old) = holds_own country (state g old) desk (omega (arith, clean, both.clean)) is in
+          subst Found (sym ok.0) (comes_next H n (f own) (option_map said x) (in_order own holds.trees.sound) (found own holds))
       by_answer (Err e) ok err found = none result (err refl)

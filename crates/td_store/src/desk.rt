@@ -37,12 +37,12 @@ impl<S: Alter> Model for SqlDesk<S> {
 }
 
 impl<S: Alter> SqlDesk<S> {
-    ghost use Rattle.std.specs.Prelude.{◌≡◌, false, IfOk, IsTrue, is_ok, slice_get};
+    ghost use Rattle.std.specs.Prelude.{◌≡◌, false, IfOk, IsTrue, is_ok};
     ghost use Rattle.std.specs.Option.{option_map};
     ghost use Rattle.sqlite.specs.Held.{state};
     ghost use Rattle.sqlite.specs.State.{HasCleanDisk};
     ghost use Rattle.td_store_rows.specs.StoreTables.{HoldsContent};
-    ghost use Rattle.td_store_load.specs.Placed.{behind, guarantee_found, guarantees_placed, movement_found, movements_placed};
+    ghost use Rattle.td_store_load.specs.Placed.{ComesNext, found_at, guarantees_placed, movements_placed};
     ghost use Rattle.td_desk.specs.View.{IsSettled};
     ghost use Rattle.td_store.specs.Kept.{CountsFaults, IsDeskOf, CrashLeavesShown, content_in, sql_view};
     ghost use Rattle.td_store.specs.Looked.{HasLooked};
@@ -75,8 +75,8 @@ impl<S: Alter> SqlDesk<S> {
         ensures counted { CountsFaults (state S.Store self.old) (state S.Store self.new) }
         ensures memory { HasCleanDisk (state S.Store self.new) → result ≡ Err Fault.NoMemory → IsTrue (state S.Store self.new).is_open }
         ensures found { HasCleanDisk (state S.Store self.new) → IsTrue (state S.Store self.old).is_open
-            → IfOk result (λ found. option_map movement_found found
-            ≡ slice_get (behind holder serial (movements_placed (content_in (state S.Store self.old).now.trees))) 0) }
+            → IfOk result (λ found. ComesNext holder serial (movements_placed (content_in (state S.Store self.old).now.trees))
+            (option_map found_at found)) }
     {
         let found = read_movement(alloc, &mut self.conn, holder, serial);
         told(&mut self.conn, found)
@@ -89,13 +89,13 @@ impl<S: Alter> SqlDesk<S> {
         alloc: Global,
         holder: u32,
         serial: u32,
-    ) -> Result<Option<(HolderNo, u32, Guarantee, Cents)>, Fault>
+    ) -> Result<Option<(HolderNo, u32, (Guarantee, Cents))>, Fault>
         ensures looked { HasLooked (sql_view S.Store) (is_ok result) self.old self.new }
         ensures counted { CountsFaults (state S.Store self.old) (state S.Store self.new) }
         ensures memory { HasCleanDisk (state S.Store self.new) → result ≡ Err Fault.NoMemory → IsTrue (state S.Store self.new).is_open }
         ensures found { HasCleanDisk (state S.Store self.new) → IsTrue (state S.Store self.old).is_open
-            → IfOk result (λ found. option_map guarantee_found found
-            ≡ slice_get (behind holder serial (guarantees_placed (content_in (state S.Store self.old).now.trees))) 0) }
+            → IfOk result (λ found. ComesNext holder serial (guarantees_placed (content_in (state S.Store self.old).now.trees))
+            (option_map found_at found)) }
     {
         let found = read_guarantee(alloc, &mut self.conn, holder, serial);
         told(&mut self.conn, found)

@@ -5,7 +5,7 @@ ghost use Rattle.std.specs.Prelude.{◌≡◌, false, IsTrue, IfOk, OnOk};
 ghost use Rattle.std.specs.Option.{option_map};
 ghost use Rattle.sqlite.specs.Held.{state};
 ghost use Rattle.sqlite.specs.State.{HasCleanDisk, Survives};
-ghost use Rattle.td_store_load.specs.Placed.{IsFirstBehind, guarantee_found, guarantees_placed, movement_found, movements_placed};
+ghost use Rattle.td_store_load.specs.Placed.{IsFirstBehind, found_at, guarantees_placed, movements_placed};
 ghost use Rattle.td_store.specs.Kept.{HasNewestTables};
 
 use crate::settling::see_settled;
@@ -33,7 +33,7 @@ pub(crate) fn read_movement<S: Alter>(
     ensures shown { HasCleanDisk (state S.Store conn.new)
         → OnOk result (IsTrue (state S.Store conn.old).is_open × IsTrue (state S.Store conn.new).is_open) }
     ensures found { HasCleanDisk (state S.Store conn.new)
-        → IfOk result (λ found. IsFirstBehind movements_placed holder serial (state S.Store conn.old) (option_map movement_found found)) }
+        → IfOk result (λ found. IsFirstBehind movements_placed holder serial (state S.Store conn.old) (option_map found_at found)) }
     ensures same { HasCleanDisk (state S.Store conn.new) → IsTrue (state S.Store conn.new).is_open
         → (state S.Store conn.new).now ≡ (state S.Store conn.old).now }
     ensures crash { Survives (state S.Store conn.old) (state S.Store conn.new) (λ _. ⊥) }
@@ -53,7 +53,7 @@ pub(crate) fn read_guarantee<S: Alter>(
     conn: &mut Connection<S>,
     holder: u32,
     serial: u32,
-) -> Result<Option<(HolderNo, u32, Guarantee, Cents)>, Error>
+) -> Result<Option<(HolderNo, u32, (Guarantee, Cents))>, Error>
     requires outside { conn.old.in_transaction ≡ false }
     requires tables { HasCleanDisk (state S.Store conn.old) → HasNewestTables (state S.Store conn.old) }
     ensures ended { conn.new.in_transaction ≡ false }
@@ -61,7 +61,7 @@ pub(crate) fn read_guarantee<S: Alter>(
     ensures shown { HasCleanDisk (state S.Store conn.new)
         → OnOk result (IsTrue (state S.Store conn.old).is_open × IsTrue (state S.Store conn.new).is_open) }
     ensures found { HasCleanDisk (state S.Store conn.new)
-        → IfOk result (λ found. IsFirstBehind guarantees_placed holder serial (state S.Store conn.old) (option_map guarantee_found found)) }
+        → IfOk result (λ found. IsFirstBehind guarantees_placed holder serial (state S.Store conn.old) (option_map found_at found)) }
     ensures same { HasCleanDisk (state S.Store conn.new) → IsTrue (state S.Store conn.new).is_open
         → (state S.Store conn.new).now ≡ (state S.Store conn.old).now }
     ensures crash { Survives (state S.Store conn.old) (state S.Store conn.new) (λ _. ⊥) }

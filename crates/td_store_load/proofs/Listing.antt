@@ -1,5 +1,5 @@
 -- All movements and all guarantees of a content under their keys: they stand in order, and one after another they are what is listed.
-use Rattle.std.proofs.Common.{◌≡◌, ◌∙◌, ℕ, ◌≤◌, Bool, true, false, cond, List, [], ◌∷◌, map, flat_map, Some, None, inl, inr, refl, sym, subst, ap, ap₂, arith}
+use Rattle.std.proofs.Common.{Option, ◌≡◌, ◌∙◌, ℕ, ◌≤◌, Bool, true, false, cond, List, [], ◌∷◌, map, flat_map, Some, None, inl, inr, refl, sym, subst, ap, ap₂, arith}
 use Rattle.std.specs.Prelude.{◌==◌, ◌&&◌, ◌||◌, nat_lt, slice_get}
 use Rattle.std.specs.List.{AllByRecursion}
 use Rattle.std.proofs.lemmas.Bool.Decides.{nat_tests}
@@ -16,7 +16,7 @@ use Rattle.td_table_model.specs.Listed.{guarantees_listed, movements_listed}
 use Rattle.td_table_model.specs.Tables.{Keyed, numbered}
 use Rattle.td_table_model.proofs.Numbered.{element, elements_are, number, numbered_rises, numbered_rises_low}
 use Rattle.td_table_model.proofs.Orders.{rises-map, rises_above}
-use Rattle.td_store_load.specs.Placed.{behind, guarantees_placed, is_behind, keyed, movements_placed, with_holder}
+use Rattle.td_store_load.specs.Placed.{ComesNext, behind, guarantees_placed, is_behind, keyed, movements_placed, with_holder}
 use Rattle.td_store_load.proofs.Behind.{all_in_order, flat_same}
 use Rattle.td_store_load.proofs.Places.{IsBefore}
 
@@ -95,7 +95,7 @@ module _ (c : Content) where
   all_guarantees_behind = all_behind own_guarantees with_its_use c.holders
 
 -- nothing is behind a place where no first is
-pub none_behind : {X : Type 0} (xs : List X) → slice_get xs 0 ≡ None → xs ≡ []
+none_behind : {X : Type 0} (xs : List X) → slice_get xs 0 ≡ None → xs ≡ []
 none_behind [] none = refl
 none_behind (x ∷ xs) none = absurd (let e = none in cc)
 
@@ -118,7 +118,7 @@ after_behind x y (inl less) = grind (arith, nat_tests, less)
 after_behind x y (inr same) = let one = same.0 in let less = same.1 in grind (arith, nat_tests, one, less)
 
 -- of what stands in order, that behind a place is its first and what stands behind that
-pub next_behind : {X : Type 0} (H n : ℕ) (xs : List (Keyed X)) (x : Keyed X) → IsAscending IsBefore xs → slice_get (behind H n xs) 0 ≡ Some x
+next_behind : {X : Type 0} (H n : ℕ) (xs : List (Keyed X)) (x : Keyed X) → IsAscending IsBefore xs → slice_get (behind H n xs) 0 ≡ Some x
     → behind H n xs ≡ x ∷ behind x.holder x.serial xs
 next_behind H n [] x up is = absurd (let e = is in cc)
 next_behind {X} H n (y ∷ xs) x up is = by_test (is_behind H n y) refl is (next_behind H n xs x up.1)
@@ -138,3 +138,21 @@ next_behind {X} H n (y ∷ xs) x up is = by_test (is_behind H n y) refl is (next
         let those = later is in
         let before : IsBefore y x = (subst (AllByRecursion (IsBefore y)) those (all-filter (IsBefore y) (is_behind H n) xs up.0)).0 in
         those ∙ ap (λ b. x ∷ cond b (y ∷ behind x.holder x.serial xs) (behind x.holder x.serial xs)) (sym (before_not_behind y x before))
+
+pub comes_next : {X : Type 0} (H n : ℕ) (xs : List (Keyed X)) (found : Option (Keyed X)) → IsAscending IsBefore xs
+    → found ≡ slice_get (behind H n xs) 0 → ComesNext H n xs found
+comes_next H n xs None up first = none_behind (behind H n xs) (sym first)
+comes_next H n xs (Some x) up first = next_behind H n xs x up (sym first)
+
+-- what comes next stands behind the place
+pub next_is_behind : {X : Type 0} (H n : ℕ) (xs : List (Keyed X)) (x : Keyed X) → ComesNext H n xs (Some x) → is_behind H n x ≡ true
+next_is_behind {X} H n xs x next = (subst (AllByRecursion (λ y. is_behind H n y ≡ true)) next (all_pass xs)).0
+  where
+    all_pass : (ys : List (Keyed X)) → AllByRecursion (λ y. is_behind H n y ≡ true) (behind H n ys)
+    all_pass [] = tt
+    all_pass (y ∷ ys) = by_test (is_behind H n y) refl (all_pass ys)
+      where
+        by_test : (b : Bool) → is_behind H n y ≡ b → AllByRecursion (λ y. is_behind H n y ≡ true) (behind H n ys)
+            → AllByRecursion (λ y. is_behind H n y ≡ true) (cond b (y ∷ behind H n ys) (behind H n ys))
+        by_test true is later = (is, later)
+        by_test false is later = later

@@ -1,5 +1,5 @@
 -- All movements and all guarantees of a desk under their keys, by holder and then by serial, and what of them stands behind a place.
-use Rattle.std.specs.Prelude.{◌≡◌, ℕ, ◌==◌, Bool, ◌&&◌, ◌||◌, nat_lt, List, map, filter, slice_get, Option}
+use Rattle.std.specs.Prelude.{◌≡◌, ℕ, ◌==◌, Bool, ◌&&◌, ◌||◌, nat_lt, List, [], ◌∷◌, map, filter, slice_get, Option, Some, None}
 use Rattle.std.specs.List.{flat_map}
 use Rattle.sqlite.specs.State.{State}
 use Rattle.td_guarantee.specs.declared.guarantee.Guarantee.{Guarantee}
@@ -46,13 +46,15 @@ is_behind H n x = nat_lt H x.holder || (x.holder == H && nat_lt n x.serial)
 abbrev pub behind : {X : Type 0} → ℕ → ℕ → List (Keyed X) → List (Keyed X)
 behind H n xs = filter (is_behind H n) xs
 
+-- this stands first behind that place, and behind it the others do; none: nothing stands behind that place
+abbrev pub ComesNext : {X : Type 0} → ℕ → ℕ → List (Keyed X) → Option (Keyed X) → Type 0
+ComesNext H n all None = behind H n all ≡ []
+ComesNext H n all (Some x) = behind H n all ≡ x ∷ behind x.holder x.serial all
+
 -- where the store holds a content, this is the first behind that place of what f says of the content; none: nothing stands behind it
 abbrev pub IsFirstBehind : {X : Type 0} → (Content → List (Keyed X)) → ℕ → ℕ → State → Option (Keyed X) → Type 0
 IsFirstBehind f H n s found = (c : Content) → HoldsContent c s → found ≡ slice_get (behind H n (f c)) 0
 
--- a movement, and a guarantee with the amount in use on it, that was found under a holder's number and a serial
-abbrev pub movement_found : ℕ × ℕ × Movement → Keyed Movement
-movement_found found = record { holder = found.0; serial = found.1; row = found.2 }
-
-abbrev pub guarantee_found : ℕ × ℕ × Guarantee × ℕ → Keyed (Guarantee × ℕ)
-guarantee_found found = record { holder = found.0; serial = found.1; row = (found.2, found.3) }
+-- what was found under a holder's number and a serial
+abbrev pub found_at : {X : Type 0} → ℕ × ℕ × X → Keyed X
+found_at found = record { holder = found.0; serial = found.1; row = found.2 }

@@ -9,7 +9,7 @@ ghost use Rattle.typed_sql.specs.Reading.{IsInside};
 ghost use Rattle.td_store_rows.specs.StoreReads.{ReadsNewest};
 ghost use Rattle.td_store_rows.specs.KeptTable.{kept_row_of};
 ghost use Rattle.td_store_rows.specs.MovementTable.{movement_row_of};
-ghost use Rattle.td_store_load.specs.Placed.{IsFirstBehind, guarantee_found, guarantees_placed, kept_rows, movement_found, movement_rows, movements_placed};
+ghost use Rattle.td_store_load.specs.Placed.{IsFirstBehind, found_at, guarantees_placed, kept_rows, movement_rows, movements_placed};
 
 use crate::entries::entry_in_row;
 use crate::movements::movement_with_lines;
@@ -55,7 +55,7 @@ pub fn following_movement<S: Alter>(
     ensures same_reference { tx.new.conn.ghost_name ≡ tx.old.conn.ghost_name }
     ensures found { HasCleanDisk (state S.Store tx.new.conn.now)
         → IfOk result (λ found. IsFirstBehind movements_placed holder serial (state S.Store tx.old.conn.now)
-        (option_map movement_found found)) }
+        (option_map found_at found)) }
     ensures reads { ReadsNewest (is_ok result) (state S.Store tx.old.conn.now) (state S.Store tx.new.conn.now) }
 {
     let Some(row) = next_movement(alloc, tx, holder, serial)? else {
@@ -92,17 +92,17 @@ pub fn following_guarantee<S: Alter>(
     tx: &mut Transaction<'_, S>,
     holder: u32,
     serial: u32,
-) -> Result<Option<(HolderNo, u32, Guarantee, Cents)>, Error>
+) -> Result<Option<(HolderNo, u32, (Guarantee, Cents))>, Error>
     requires { IsInside (state S.Store tx.old.conn.now) }
     ensures same_reference { tx.new.conn.ghost_name ≡ tx.old.conn.ghost_name }
     ensures found { HasCleanDisk (state S.Store tx.new.conn.now)
         → IfOk result (λ found. IsFirstBehind guarantees_placed holder serial (state S.Store tx.old.conn.now)
-        (option_map guarantee_found found)) }
+        (option_map found_at found)) }
     ensures reads { ReadsNewest (is_ok result) (state S.Store tx.old.conn.now) (state S.Store tx.new.conn.now) }
 {
     let Some(row) = next_kept(alloc, tx, holder, serial)? else {
         return Ok(None);
     };
-    let (guarantee, used) = entry_in_row(alloc, tx, &row)?;
-    Ok(Some((row.holder, row.serial, guarantee, used)))
+    let entry = entry_in_row(alloc, tx, &row)?;
+    Ok(Some((row.holder, row.serial, entry)))
 }

@@ -17,7 +17,7 @@ returns-in_default-clause-found g c clean =
 
 pub returns-clause-found : goal.returns-clause-found
 returns-clause-found g c clean =
-    guarantee_is a c.args.holder c.args.serial b c.in-Some.row (c.in_ok-guarantee.guarantee, c.in_ok-guarantee.used) first (c.in_ok-row.ensures.reads.still clean_b refl) (c.in_ok-guarantee.ensures.entry clean)
+    guarantee_is a c.args.holder c.args.serial b c.in-Some.row c.in_ok-entry.entry first (c.in_ok-row.ensures.reads.still clean_b refl) (c.in_ok-entry.ensures.entry clean)
   where
     a : State
     a = state g.S.Store c.args.tx.now.conn.now
@@ -33,4 +33,4 @@ returns-clause-found g c clean =
         (c.in_ok-row.ensures.first clean_b)
 
 pub returns-clause-reads : goal.returns-clause-reads
-returns-clause-reads g c = reads_on c.in_ok-row.ensures.reads c.in_ok-guarantee.ensures.reads
+returns-clause-reads g c = reads_on c.in_ok-row.ensures.reads c.in_ok-entry.ensures.reads

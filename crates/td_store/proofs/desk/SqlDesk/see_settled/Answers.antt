@@ -1,8 +1,5 @@
-use Rattle.sqlite.specs.Held.{Held}
-use Rattle.td_desk.specs.View.{IsSettled}
 use Rattle.sqlite.specs.Held.{state}
 use Rattle.sqlite.specs.State.{HasCleanDisk}
-use Rattle.td_store.specs.Kept.{sql_view}
 use Rattle.td_store.proofs.Leaving.{leaves_shown}
 use Rattle.td_store.proofs.desk.SqlDesk.see_settled.Goals as goal
 
