@@ -7,3 +7,4 @@ mod Leaving
 mod Refusing
 mod Looking
 mod Stepping
+mod Walked

@@ -20,7 +20,9 @@ mod versions;
 
 pub use auditing::audit;
 pub use desk::SqlDesk;
-pub use laws::{acknowledged_decisions_are_kept, what_a_crash_leaves_opens};
+pub use laws::{
+    acknowledged_decisions_are_kept, walks_give_what_is_listed, what_a_crash_leaves_opens,
+};
 pub use refused::{OpenFault, Refused};
 pub use rows::{GuaranteeRows, MovementRows};
 pub use td_table_model::Rule;
