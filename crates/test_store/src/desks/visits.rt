@@ -1,14 +1,20 @@
 //! All movements and all guarantees of a desk are shown one after another, by holder and then by serial, as long as more are
 //! wanted.
-use super::accepted::{accept, lodge, open, register};
 use super::made;
 use super::opening::seen;
-use crate::examples::{GRN, MRN, SECOND_GRN, country, day, grn, holder, mrn};
+use crate::examples::{
+    GRN, MRN, SECOND_GRN, cents, code, country, cover, day, eori, grn, holder, lrn, mrn, office,
+};
 use sqlite::MemStore;
+use std::alloc::AllocError;
 use std::process::Abort;
-use td_base::Grn;
-use td_desk::Command;
+use td_acts::Lines;
+use td_base::{Grn, Reference};
+use td_desk::{Command, Outcome, Said, Stamped, do_one};
+use td_movement::Line;
 use td_store::{KeptGuarantee, SqlDesk, StoredMovement, Visitor};
+
+const START: i64 = 1_740_819_600;
 
 /// Writes a line for each row that it is shown, as long as it wants more.
 #[derive(Drop)]
@@ -23,17 +29,25 @@ impl Clerk {
     }
 }
 
+fn push_movement(told: &mut String, row: &StoredMovement) -> Result<(), AllocError> {
+    let (holder, serial, lrn) = (row.holder, row.serial, row.movement.lrn);
+    let state = row.movement.state.name();
+    let lines = row.movement.lines.as_slice().len();
+    writeln!(told, "{holder}/{serial} {lrn} {state} {lines}")
+}
+
+fn push_guarantee(told: &mut String, row: &KeptGuarantee) -> Result<(), AllocError> {
+    let (holder, serial, reference) = (row.holder, row.serial, row.guarantee.reference);
+    let used = row.used;
+    let codes = row.guarantee.codes.len();
+    writeln!(told, "{holder}/{serial} {reference} {used} {codes}")
+}
+
 impl Visitor<StoredMovement, String> for Clerk {
     ghost sees = { λ _ _ _ _ _. Unit {0} };
 
     fn see(&mut self, row: StoredMovement, beside: &mut String) -> bool {
-        let (holder, serial, lrn) = (row.holder, row.serial, row.movement.lrn);
-        let (state, lines) = (
-            row.movement.state.name(),
-            row.movement.lines.as_slice().len(),
-        );
-        let _told = writeln!(beside, "{holder}/{serial} {lrn} {state} {lines}");
-        self.wants_more()
+        push_movement(beside, &row).is_ok() && self.wants_more()
     }
 }
 
@@ -41,10 +55,7 @@ impl Visitor<KeptGuarantee, String> for Clerk {
     ghost sees = { λ _ _ _ _ _. Unit {0} };
 
     fn see(&mut self, row: KeptGuarantee, beside: &mut String) -> bool {
-        let (holder, serial, reference) = (row.holder, row.serial, row.guarantee.reference);
-        let (used, codes) = (row.used, row.guarantee.codes.len());
-        let _told = writeln!(beside, "{holder}/{serial} {reference} {used} {codes}");
-        self.wants_more()
+        push_guarantee(beside, &row).is_ok() && self.wants_more()
     }
 }
 
@@ -70,6 +81,52 @@ fn guarantees_told(
     (told, all.ok().expect(rt, "no fault"))
 }
 
+fn register(rt: &impl Abort, number: u32) -> Command {
+    Command::Register {
+        holder: holder(rt, number),
+        eori: eori(rt, b"CH1234567"),
+    }
+}
+
+/// A guarantee of so many cents.
+fn open(rt: &impl Abort, number: u32, reference: u64) -> Command {
+    Command::OpenGuarantee {
+        holder: holder(rt, number),
+        reference: Reference::new(reference).expect(rt, "an amount"),
+        cover: cover(rt, 50),
+        code: code(rt, b"AB12"),
+    }
+}
+
+/// A declaration with one line of so many cents.
+fn lodge(
+    rt: &(impl AllocGlobal + Abort),
+    number: u32,
+    name: &[u8],
+    grn: Grn,
+    amount: u64,
+) -> Command {
+    let line = Line {
+        grn,
+        cents: cents(rt, amount),
+    };
+    let items = vec![in rt.alloc(); (line, code(rt, b"AB12"))].expect(rt, "memory");
+    Command::Ie015 {
+        holder: holder(rt, number),
+        lrn: lrn(rt, name),
+        departure: office(rt, b"CH001251"),
+        destination: office(rt, b"DE005600"),
+        lines: Lines::new(items).expect(rt, "lines"),
+    }
+}
+
+/// Has the desk do what it has to accept.
+fn accept(rt: &(impl AllocGlobal + Abort), desk: &mut SqlDesk<MemStore>, command: Command) {
+    let stamped = Stamped { at: START, command };
+    let outcome = do_one(rt.alloc(), desk, &stamped);
+    assert!(rt; matches!(outcome, Outcome::Said(Said::Answered(_))));
+}
+
 /// A desk of holders 1, 2 and 3, of which the second came first: 1 has two guarantees and two movements, of which the first is
 /// released, 2 has one of each, and 3 has none.
 fn busy(rt: &(impl AllocGlobal + Abort)) -> SqlDesk<MemStore> {
@@ -80,7 +137,7 @@ fn busy(rt: &(impl AllocGlobal + Abort)) -> SqlDesk<MemStore> {
         accept(rt, &mut desk, register(rt, number));
     }
     for (number, reference) in [(2, 700_000), (1, 1_000_000), (1, 800_000)] {
-        accept(rt, &mut desk, open(rt, number, reference, 50));
+        accept(rt, &mut desk, open(rt, number, reference));
     }
     accept(rt, &mut desk, lodge(rt, 2, b"B1", others, 300_000));
     accept(rt, &mut desk, lodge(rt, 1, b"A1", first, 500_000));
