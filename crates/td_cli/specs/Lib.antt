@@ -8,6 +8,7 @@ pub mod ConnectionsSeen
 pub mod Batched
 pub mod RowsSeen
 pub mod Migrated
+pub mod Reported
 pub mod Performed
 pub mod Runs
 pub mod BatchLaws

@@ -15,7 +15,7 @@ use Rattle.td_words.specs.declared.words.NoJob.{NoJob}
 use Rattle.td_words.specs.declared.words.Records.{Records}
 use Rattle.td_words.specs.declared.words.Records.TheVariants.{File}
 use Rattle.td_words.specs.declared.words.Task.{Task}
-use Rattle.td_words.specs.declared.words.Task.TheVariants.{Serve, Pipe, Batch, Check}
+use Rattle.td_words.specs.declared.words.Task.TheVariants.{Serve, Pipe, Batch, Report, Check}
 use Rattle.td_words.specs.Words.{AsksFor, IsNoJob}
 use Rattle.td_cli.specs.declared.serving.ServingEnd.{ServingEnd}
 use Rattle.td_cli.specs.AtDesk as desks
@@ -24,6 +24,7 @@ use Rattle.td_cli.specs.Desks.{IsUnserved}
 use Rattle.td_cli.specs.Migrated.{IsMigrated}
 use Rattle.td_cli.specs.Piped.{PipesAs}
 use Rattle.td_cli.specs.Listening.{IsServing}
+use Rattle.td_cli.specs.Reported.{IsReportDone}
 use Rattle.td_cli.specs.Statuses.{IsAnswered, IsEndTold, IsFaultTold, IsPrinted, IsServingTold, IsTold}
 
 -- what was found was told: sound where a desk was opened, or why there was none
@@ -43,7 +44,7 @@ IsChecked contents said image country records out out_left errors errors_left be
     × IsCheckTold contents said end out out_left errors errors_left status
 
 -- A task was done, in this country and at this moment or by the machine's clock, and how it ended was told: one stream from the
--- input to the first writer; connections, for which the input isn't read; a file of rows; or a file was tested, of which the image is what it
+-- input to the first writer; connections, for which the input isn't read; a file of rows; a report; or a file was tested, of which the image is what it
 -- held. The file is what a connection to it shows before the task and after it, if one is there.
 abbrev pub IsTaskDone : {R W E S : Type 0} {disk : Ghosts S} → (R → Option (List ℕ)) → (W → Option (List ℕ)) → (E → Option (List ℕ)) → Image
     → Task → List ℕ → Option ℤ → Counted R → Counted R → Counted W → Counted W → Counted E → Counted E
@@ -58,6 +59,9 @@ IsTaskDone remaining contents said image (Serve listening records) country at re
     × IsServingTold said errors errors_left end status
 IsTaskDone remaining contents said image (Batch which csv records) country at reader reader_left writer writer_left errors errors_left before file status =
     (reader_left ≡ reader) × IsBatched contents said image country at (File records) which writer writer_left errors errors_left before file status
+IsTaskDone remaining contents said image (Report kind path) country at reader reader_left writer writer_left errors errors_left before file status =
+    (reader_left ≡ reader)
+    × IsReportDone contents said image country kind (File path) writer writer_left errors errors_left before file status
 IsTaskDone remaining contents said image (Check path) country at reader reader_left writer writer_left errors errors_left before file status =
     (reader_left ≡ reader) × IsChecked contents said image country (File path) writer writer_left errors errors_left before file status
 

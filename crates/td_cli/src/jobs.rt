@@ -9,6 +9,7 @@ use crate::batching::batch;
 use crate::checking::check;
 use crate::migrating::migrate;
 use crate::piping::Piping;
+use crate::reporting::report;
 use crate::telling::{WRONG_WORDS, fault, print, tell_end, tell_serving};
 use sqlite::Start;
 use std::io::{Read, Write};
@@ -84,6 +85,7 @@ fn do_task<S: Start, R: Read, W: Write, E: Write>(
             let records = Records::File(path);
             batch(rt, office, kind, &csv, &records, file, input, out, errors)
         }
+        Task::Report(kind, path) => report(rt, office.country, kind, path, file, out, errors),
         Task::Check(path) => {
             let records = Records::File(path);
             check(rt, office, &records, file, input, out, errors)

@@ -12,6 +12,7 @@ mod laws;
 mod migrating;
 mod piping;
 mod program;
+mod reporting;
 mod run_laws;
 mod serving;
 mod telling;

@@ -2,7 +2,7 @@
 ghost use Rattle.std.specs.Prelude.{◌≡◌, false, IsTrue, Ok, OnOk};
 ghost use Rattle.sqlite.specs.Held.{state};
 ghost use Rattle.sqlite.specs.State.{HasCleanDisk, Survives};
-ghost use Rattle.typed_sql.specs.Visited.{is_whole};
+ghost use Rattle.typed_sql.specs.Visited.{HasSeen, is_whole};
 ghost use Rattle.td_store_rows.specs.Visited.{VisitsKept, VisitsMovements};
 ghost use Rattle.td_store.specs.Kept.{HasNewestTables};
 
@@ -29,6 +29,7 @@ fn show_movements<S: Alter, O, V: Visitor<StoredMovement, O>>(
     ensures live { HasCleanDisk (state S.Store conn.new) → IsTrue (state S.Store conn.new).is_open → IsTrue (state S.Store conn.old).is_open }
     ensures shown { HasCleanDisk (state S.Store conn.new)
         → OnOk result (IsTrue (state S.Store conn.old).is_open × IsTrue (state S.Store conn.new).is_open) }
+    ensures seen { HasSeen V.Visitor.sees (visitor.old, beside.old) (visitor.new, beside.new) }
     ensures visited { HasCleanDisk (state S.Store conn.new) → VisitsMovements V.Visitor.sees (state S.Store conn.old)
         (is_whole result) (visitor.old, beside.old) (visitor.new, beside.new) }
     ensures stopped { result ≡ Ok false → V.Visitor.stops visitor.new beside.new }
@@ -54,6 +55,7 @@ fn show_guarantees<S: Alter, O, V: Visitor<KeptGuarantee, O>>(
     ensures live { HasCleanDisk (state S.Store conn.new) → IsTrue (state S.Store conn.new).is_open → IsTrue (state S.Store conn.old).is_open }
     ensures shown { HasCleanDisk (state S.Store conn.new)
         → OnOk result (IsTrue (state S.Store conn.old).is_open × IsTrue (state S.Store conn.new).is_open) }
+    ensures seen { HasSeen V.Visitor.sees (visitor.old, beside.old) (visitor.new, beside.new) }
     ensures visited { HasCleanDisk (state S.Store conn.new) → VisitsKept V.Visitor.sees (state S.Store conn.old)
         (is_whole result) (visitor.old, beside.old) (visitor.new, beside.new) }
     ensures stopped { result ≡ Ok false → V.Visitor.stops visitor.new beside.new }
@@ -84,6 +86,8 @@ impl<S: Alter> SqlDesk<S> {
         ensures looked { HasLooked (sql_view S.Store) (is_ok result) self.old self.new }
         ensures counted { CountsFaults (state S.Store self.old) (state S.Store self.new) }
         ensures memory { HasCleanDisk (state S.Store self.new) → result ≡ Err Fault.NoMemory → IsTrue (state S.Store self.new).is_open }
+        // also where the disk returned other than what was written
+        ensures seen { HasSeen V.Visitor.sees (visitor.old, beside.old) (visitor.new, beside.new) }
         ensures visited { HasCleanDisk (state S.Store self.new) → IsTrue (state S.Store self.old).is_open
             → IsVisit V.Visitor.sees said_of_movement (map without_lines (movements_listed (content_in (state S.Store self.old).now.trees)))
             (visitor.old, beside.old) result (visitor.new, beside.new) }
@@ -93,9 +97,10 @@ impl<S: Alter> SqlDesk<S> {
         told(&mut self.conn, shown)
     }
 
-    /// Shows a visitor each guarantee, by holder and then by serial, with the amount in use on it and without its codes, and what stands beside it, until it wants no
-    /// more: `true` where all were shown, `false` where it wanted no more. No row is changed, and none is kept. `NoMemory`: want of
-    /// memory; `Store`: any other fault of the store. What was shown before a fault comes first among the rows.
+    /// Shows a visitor each guarantee, by holder and then by serial, with the amount in use on it and without its codes, and what
+    /// stands beside it, until it wants no more: `true` where all were shown, `false` where it wanted no more. No row is changed, and
+    /// none is kept. `NoMemory`: want of memory; `Store`: any other fault of the store. What was shown before a fault comes first
+    /// among the rows.
     pub fn visit_guarantees<O, V: Visitor<KeptGuarantee, O>>(
         &mut self,
         alloc: Global,
@@ -105,6 +110,8 @@ impl<S: Alter> SqlDesk<S> {
         ensures looked { HasLooked (sql_view S.Store) (is_ok result) self.old self.new }
         ensures counted { CountsFaults (state S.Store self.old) (state S.Store self.new) }
         ensures memory { HasCleanDisk (state S.Store self.new) → result ≡ Err Fault.NoMemory → IsTrue (state S.Store self.new).is_open }
+        // also where the disk returned other than what was written
+        ensures seen { HasSeen V.Visitor.sees (visitor.old, beside.old) (visitor.new, beside.new) }
         ensures visited { HasCleanDisk (state S.Store self.new) → IsTrue (state S.Store self.old).is_open
             → IsVisit V.Visitor.sees said_of_guarantee (map without_codes (guarantees_listed (content_in (state S.Store self.old).now.trees)))
             (visitor.old, beside.old) result (visitor.new, beside.new) }

@@ -1,6 +1,6 @@
 //! The rows of a store's file, table by table: what is read of each table and what is written into it. Each function runs one
-//! statement inside a transaction that the caller commits, but for the two that visit a whole table, which stand outside one. What the six tables are together, as the tables of a desk, stands in
-//! specs/.
+//! statement inside a transaction that the caller commits, but for the two that visit a whole table, which stand outside one.
+//! What the six tables are together, as the tables of a desk, stands in specs/.
 #![tactic(auto)]
 
 mod codes;

@@ -7,7 +7,7 @@ use Rattle.clap.specs.declared.builder.ArgAction.TheVariants.{Set, SetTrue}
 use Rattle.clap.specs.declared.error.kind.ErrorKind.{ErrorKind}
 use Rattle.clap.specs.declared.error.kind.ErrorKind.TheVariants.{DisplayHelp, DisplayVersion, OutOfMemory}
 use Rattle.td_base.specs.Codes.{IsCountry}
-use Rattle.td_time.specs.Days.{day_read}
+use Rattle.td_base.specs.Days.{day_read}
 use Rattle.td_words.specs.declared.words.BatchKind.{BatchKind}
 use Rattle.td_words.specs.declared.words.BatchKind.TheVariants.{Declarations, Acts}
 use Rattle.td_words.specs.declared.words.Job.{Job}

@@ -1,10 +1,12 @@
 //! Desks are made, opened, refused and closed, over a store in memory, and say what a plain desk says.
+mod accepted;
 mod alike;
 mod commands;
 mod junk;
 mod long_tables;
 mod migrations;
 mod opening;
+mod reports;
 mod visits;
 mod words;
 

@@ -12,7 +12,7 @@ use Rattle.sqlite.proofs.StateLemmas.{unchanged}
 use Rattle.typed_sql.proofs.Answered.{shown_selects}
 use Rattle.typed_sql.proofs.First.{begun_first}
 use Rattle.typed_sql.specs.Reading.{IsAnswerOf, row_order, shown_by}
-use Rattle.typed_sql.specs.Visited.{HasVisited, SelectsFirst, is_whole, step_of}
+use Rattle.typed_sql.specs.Visited.{HasSeen, HasVisited, SelectsFirst, is_whole, step_of}
 use Rattle.typed_sql.specs.Writing.{passes}
 
 -- an error isn't told of all rows
@@ -29,6 +29,11 @@ shown_more sees typed from old mid new shown rows x row told read saw says = (
   FoldsTo-push (step_of sees) old shown mid x new told saw,
   map_push typed shown x ∙ ap₂ (λ l y. l ++ y ∷ []) read says ∙ sym (map_push from rows row),
 )
+
+-- one row more was shown, whatever came before
+pub seen_more : {V O T : Type 0} (sees : V → O → T → V → O → Type 0) (old mid new : V × O) (x : T) → HasSeen sees old mid
+    → sees mid.0 mid.1 x new.0 new.1 → HasSeen sees old new
+seen_more sees old mid new x seen saw = (seen.0 ++ x ∷ [], FoldsTo-push (step_of sees) old seen.0 mid x new seen.1 saw)
 
 -- rows that begin an answer come first in it
 pub begins_first : (text : List ℕ) (first now : State) (rows : List Row) → IsUnchanged first now → Begins text [] now rows

@@ -29,6 +29,10 @@ FetchesFirst typed from text values old (Some x) = (r : Row) × SelectsFirst tex
 abbrev pub step_of : {V O T : Type 0} → (V → O → T → V → O → Type 0) → V × O → T → V × O → Type 0
 step_of sees p row q = sees p.0 p.1 row q.0 q.1
 
+-- a visitor and what stands beside it were shown some rows, one after another, whatever they are
+abbrev pub HasSeen : {V O T : Type 0} → (V → O → T → V → O → Type 0) → V × O → V × O → Type 0
+HasSeen {T = T} sees old new = (shown : List T) × FoldsTo (step_of sees) old shown new
+
 -- A visitor and what stands beside it were shown what these rows say, one after another; where all were shown, they are the answer,
 -- and else they come first in it.
 pub record HasVisited {V O T R : Type 0} (sees : V → O → T → V → O → Type 0) (typed : T → R) (from : Row → R) (text : List ℕ)

@@ -4,7 +4,7 @@ ghost use Rattle.sqlite.specs.Given.{IsPlain};
 ghost use Rattle.sqlite.specs.Held.{state};
 ghost use Rattle.sqlite.specs.Listing.{understood};
 ghost use Rattle.sqlite.specs.State.{HasCleanDisk, IsUnchanged, Survives};
-ghost use Rattle.typed_sql.specs.Visited.{HasVisited, is_whole};
+ghost use Rattle.typed_sql.specs.Visited.{HasSeen, HasVisited, is_whole};
 ghost use Rattle.typed_sql.specs.Walked.{IsLeftAlone};
 
 use crate::rows::FromRow;
@@ -40,6 +40,8 @@ pub fn visit<S: Alter, T: FromRow, O, V: Visitor<T, O>>(
     requires outside { conn.old.in_transaction ≡ false }
     requires plain { HasCleanDisk (state S.Store conn.old) → IsPlain (understood (state S.Store conn.old).now.schema text.now) }
     ensures ended { conn.new.in_transaction ≡ false }
+    // also where the disk returned other than what was written
+    ensures seen { HasSeen V.Visitor.sees (visitor.old, beside.old) (visitor.new, beside.new) }
     ensures visited { HasCleanDisk (state S.Store conn.new) → HasVisited V.Visitor.sees T.typed T.from text.now
         (state S.Store conn.old) (is_whole result) (visitor.old, beside.old) (visitor.new, beside.new) }
     ensures stopped { result ≡ Ok false → V.Visitor.stops visitor.new beside.new }

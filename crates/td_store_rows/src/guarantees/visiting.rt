@@ -2,7 +2,7 @@
 ghost use Rattle.std.specs.Prelude.{◌≡◌, false, Ok, OnOk};
 ghost use Rattle.sqlite.specs.Held.{state};
 ghost use Rattle.sqlite.specs.State.{HasCleanDisk, IsUnchanged, Survives};
-ghost use Rattle.typed_sql.specs.Visited.{is_whole};
+ghost use Rattle.typed_sql.specs.Visited.{HasSeen, is_whole};
 ghost use Rattle.typed_sql.specs.Walked.{IsLeftAlone};
 ghost use Rattle.td_store_rows.specs.StoreReads.{KeepsUse};
 ghost use Rattle.td_store_rows.specs.Visited.{IsOfLayout, VisitsKept};
@@ -27,6 +27,7 @@ pub fn visit_kept<S: Alter, O, V: Visitor<KeptGuarantee, O>>(
     requires outside { conn.old.in_transaction ≡ false }
     requires tables { HasCleanDisk (state S.Store conn.old) → IsOfLayout KeepsUse (state S.Store conn.old) }
     ensures ended { conn.new.in_transaction ≡ false }
+    ensures seen { HasSeen V.Visitor.sees (visitor.old, beside.old) (visitor.new, beside.new) }
     ensures visited { HasCleanDisk (state S.Store conn.new) → VisitsKept V.Visitor.sees (state S.Store conn.old)
         (is_whole result) (visitor.old, beside.old) (visitor.new, beside.new) }
     ensures stopped { result ≡ Ok false → V.Visitor.stops visitor.new beside.new }

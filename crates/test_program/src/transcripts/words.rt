@@ -5,9 +5,9 @@ use std::test::Fail;
 const CASES: &str = r#"
 == what was wrong is told
 $
-! 2 error: 'transit-desk' requires a subcommand but one was not provided [subcommands: serve, pipe, batch, acts, check, migrate, help]
-$ report --country CH
-! 2 error: unrecognized subcommand 'report'
+! 2 error: 'transit-desk' requires a subcommand but one was not provided [subcommands: serve, pipe, batch, acts, report, check, migrate, help]
+$ release --country CH
+! 2 error: unrecognized subcommand 'release'
 $ serve
 ! 2 error: the following required arguments were not provided: --country <CC> --port <N> --connections <K>
 $ pipe --country CH --version
@@ -125,11 +125,39 @@ $ batch --country CH --db F --file F --new
 $ acts --country CH --db F --file F --at one
 ! 2 error: invalid value 'one' for '--at <SECONDS>': it must be a whole number of seconds from 0 to 9223372036854775807
 
+== what was wrong on a report is told
+$ report
+! 2 error: the following required arguments were not provided: --country <CC> --db <FILE> <KIND>
+$ report overdue --country CH --db F
+! 2 error: the following required arguments were not provided: --day <D>
+$ report released --country CH --db F --day 2025-03-20
+! 2 error: invalid value 'released' for '<KIND>': it must be overdue or guarantees
+$ report overdue --country CH --db F --day 2025-02-29
+! 2 error: invalid value '2025-02-29' for '--day <D>': it must be a day from 2000-01-01 to 2100-12-31, written so
+$ report overdue --country CH --db F --day 1999-12-31
+! 2 error: invalid value '1999-12-31' for '--day <D>': it must be a day from 2000-01-01 to 2100-12-31, written so
+$ report guarantees --country CH --db F --day 2025-3-1
+! 2 error: invalid value '2025-3-1' for '--day <D>': it must be a day from 2000-01-01 to 2100-12-31, written so
+$ report guarantees --country CH
+! 2 error: the following required arguments were not provided: --db <FILE>
+$ report guarantees --db F
+! 2 error: the following required arguments were not provided: --country <CC>
+$ report guarantees overdue --country CH --db F
+! 2 error: unexpected argument 'overdue' found
+$ report guarantees --country CH --db F --at 1740819600
+! 2 error: unexpected argument '--at' found
+$ report guarantees --country CH --db F --new
+! 2 error: unexpected argument '--new' found
+$ report guarantees --country ch --db F
+! 2 error: invalid value 'ch' for '--country <CC>': it must be two capital letters
+$ report overdue --country CH --db F --day 2025-03-20 --day 2025-03-20
+! 2 error: the argument '--day <D>' cannot be used multiple times
+
 == wrong words do nothing
 # The request is not served, whatever the words ask for.
 $
 > GET /holders/000001
-! 2 error: 'transit-desk' requires a subcommand but one was not provided [subcommands: serve, pipe, batch, acts, check, migrate, help]
+! 2 error: 'transit-desk' requires a subcommand but one was not provided [subcommands: serve, pipe, batch, acts, report, check, migrate, help]
 $ pipe --country ch
 > GET /holders/000001
 ! 2 error: invalid value 'ch' for '--country <CC>': it must be two capital letters
@@ -156,6 +184,7 @@ $ --help
 <|        transit-desk pipe --country <CC> [--db <FILE> [--new]] [--at <SECONDS>]\n
 <|        transit-desk batch --country <CC> --db <FILE> --file <CSV> [--at <SECONDS>]\n
 <|        transit-desk acts --country <CC> --db <FILE> --file <CSV> [--at <SECONDS>]\n
+<|        transit-desk report <KIND> --country <CC> --db <FILE> [--day <D>]\n
 <|        transit-desk check --country <CC> --db <FILE>\n
 <|        transit-desk migrate --db <FILE>\n
 <| \n
@@ -164,6 +193,7 @@ $ --help
 <|   pipe     Serves one stream of HTTP requests, from standard input to standard output\n
 <|   batch    Does the declarations of a file, and prints what became of each\n
 <|   acts     Does the acts of an office in a file, and prints what became of each\n
+<|   report   Prints what is overdue on a day, or all guarantees\n
 <|   check    Tests whether a desk of the country can be opened over a file\n
 <|   migrate  Brings the tables of a file to the newest version\n
 <|   help     Print this message or the help of the given subcommand(s)\n
@@ -182,12 +212,14 @@ $ --help
 <|   transit-desk serve --country CH --port 8080 --connections 1000 --db desk.db --new\n
 <|   transit-desk batch --country CH --db desk.db --file declarations.csv > result.csv\n
 <|   transit-desk acts --country CH --db desk.db --file acts.csv > result.csv\n
+<|   transit-desk report overdue --country CH --db desk.db --day 2025-03-20\n
+<|   transit-desk report guarantees --country CH --db desk.db\n
 <|   transit-desk check --country CH --db desk.db\n
 <|   transit-desk migrate --db desk.db\n
 <| \n
 <| Status:\n
 <|   0  Done: the stream ended well, all connections were served, all rows were answered,\n
-<|      the file is a desk's, or its tables are of the newest version\n
+<|      the report was written, the file is a desk's, or its tables are of the newest version\n
 <|   1  A fault, which one line on standard error tells, as: transit-desk: stream cut;\n
 <|      or a row was refused\n
 <|   2  Wrong words: one line on standard error tells what was wrong\n
@@ -219,12 +251,14 @@ $ serve --help
 <|   transit-desk serve --country CH --port 8080 --connections 1000 --db desk.db --new\n
 <|   transit-desk batch --country CH --db desk.db --file declarations.csv > result.csv\n
 <|   transit-desk acts --country CH --db desk.db --file acts.csv > result.csv\n
+<|   transit-desk report overdue --country CH --db desk.db --day 2025-03-20\n
+<|   transit-desk report guarantees --country CH --db desk.db\n
 <|   transit-desk check --country CH --db desk.db\n
 <|   transit-desk migrate --db desk.db\n
 <| \n
 <| Status:\n
 <|   0  Done: the stream ended well, all connections were served, all rows were answered,\n
-<|      the file is a desk's, or its tables are of the newest version\n
+<|      the report was written, the file is a desk's, or its tables are of the newest version\n
 <|   1  A fault, which one line on standard error tells, as: transit-desk: stream cut;\n
 <|      or a row was refused\n
 <|   2  Wrong words: one line on standard error tells what was wrong\n
@@ -252,12 +286,51 @@ $ pipe --help
 <|   transit-desk serve --country CH --port 8080 --connections 1000 --db desk.db --new\n
 <|   transit-desk batch --country CH --db desk.db --file declarations.csv > result.csv\n
 <|   transit-desk acts --country CH --db desk.db --file acts.csv > result.csv\n
+<|   transit-desk report overdue --country CH --db desk.db --day 2025-03-20\n
+<|   transit-desk report guarantees --country CH --db desk.db\n
 <|   transit-desk check --country CH --db desk.db\n
 <|   transit-desk migrate --db desk.db\n
 <| \n
 <| Status:\n
 <|   0  Done: the stream ended well, all connections were served, all rows were answered,\n
-<|      the file is a desk's, or its tables are of the newest version\n
+<|      the report was written, the file is a desk's, or its tables are of the newest version\n
+<|   1  A fault, which one line on standard error tells, as: transit-desk: stream cut;\n
+<|      or a row was refused\n
+<|   2  Wrong words: one line on standard error tells what was wrong\n
+
+== the help of report tells its options
+$ report --help
+<| Prints what is overdue on a day, or all guarantees\n
+<| \n
+<| Usage: transit-desk report <KIND> --country <CC> --db <FILE> [--day <D>]\n
+<| \n
+<| Arguments:\n
+<|   <KIND>  The report: overdue or guarantees\n
+<| \n
+<| Options:\n
+<|       --country <CC>  The country of the office, two capital letters\n
+<|       --db <FILE>     The file with the records, an SQLite database\n
+<|       --day <D>       The day of the report, as 2025-03-01; overdue has to have it\n
+<|   -h, --help          Print help\n
+<| \n
+<| Without --db the desk starts empty, and it is gone when the program ends. With --db its\n
+<| records stand in that file, an SQLite database; --new makes the desk's tables in it first.\n
+<| Moments are from 2000 to 2099: a request at any other is told clock-range.\n
+<| \n
+<| Examples:\n
+<|   transit-desk pipe --country CH --at 1740819600 < examples/first.http\n
+<|   transit-desk serve --country CH --port 8080 --connections 1000\n
+<|   transit-desk serve --country CH --port 8080 --connections 1000 --db desk.db --new\n
+<|   transit-desk batch --country CH --db desk.db --file declarations.csv > result.csv\n
+<|   transit-desk acts --country CH --db desk.db --file acts.csv > result.csv\n
+<|   transit-desk report overdue --country CH --db desk.db --day 2025-03-20\n
+<|   transit-desk report guarantees --country CH --db desk.db\n
+<|   transit-desk check --country CH --db desk.db\n
+<|   transit-desk migrate --db desk.db\n
+<| \n
+<| Status:\n
+<|   0  Done: the stream ended well, all connections were served, all rows were answered,\n
+<|      the report was written, the file is a desk's, or its tables are of the newest version\n
 <|   1  A fault, which one line on standard error tells, as: transit-desk: stream cut;\n
 <|      or a row was refused\n
 <|   2  Wrong words: one line on standard error tells what was wrong\n
@@ -283,12 +356,14 @@ $ check --help
 <|   transit-desk serve --country CH --port 8080 --connections 1000 --db desk.db --new\n
 <|   transit-desk batch --country CH --db desk.db --file declarations.csv > result.csv\n
 <|   transit-desk acts --country CH --db desk.db --file acts.csv > result.csv\n
+<|   transit-desk report overdue --country CH --db desk.db --day 2025-03-20\n
+<|   transit-desk report guarantees --country CH --db desk.db\n
 <|   transit-desk check --country CH --db desk.db\n
 <|   transit-desk migrate --db desk.db\n
 <| \n
 <| Status:\n
 <|   0  Done: the stream ended well, all connections were served, all rows were answered,\n
-<|      the file is a desk's, or its tables are of the newest version\n
+<|      the report was written, the file is a desk's, or its tables are of the newest version\n
 <|   1  A fault, which one line on standard error tells, as: transit-desk: stream cut;\n
 <|      or a row was refused\n
 <|   2  Wrong words: one line on standard error tells what was wrong\n
@@ -313,12 +388,14 @@ $ migrate --help
 <|   transit-desk serve --country CH --port 8080 --connections 1000 --db desk.db --new\n
 <|   transit-desk batch --country CH --db desk.db --file declarations.csv > result.csv\n
 <|   transit-desk acts --country CH --db desk.db --file acts.csv > result.csv\n
+<|   transit-desk report overdue --country CH --db desk.db --day 2025-03-20\n
+<|   transit-desk report guarantees --country CH --db desk.db\n
 <|   transit-desk check --country CH --db desk.db\n
 <|   transit-desk migrate --db desk.db\n
 <| \n
 <| Status:\n
 <|   0  Done: the stream ended well, all connections were served, all rows were answered,\n
-<|      the file is a desk's, or its tables are of the newest version\n
+<|      the report was written, the file is a desk's, or its tables are of the newest version\n
 <|   1  A fault, which one line on standard error tells, as: transit-desk: stream cut;\n
 <|      or a row was refused\n
 <|   2  Wrong words: one line on standard error tells what was wrong\n

@@ -4,7 +4,7 @@ use Rattle.sqlite.specs.Held.{state}
 use Rattle.sqlite.specs.State.{CommitsShowing, HasCleanDisk, Survives}
 use Rattle.sqlite.proofs.Callers.{given_begin, unchanged_then}
 use Rattle.typed_sql.proofs.Left.{commits_nothing, query_left}
-use Rattle.typed_sql.proofs.Shown.{all_visited, err_not_whole, first_visited, none_visited, shown_more}
+use Rattle.typed_sql.proofs.Shown.{all_visited, err_not_whole, first_visited, none_visited, seen_more, shown_more}
 use Rattle.typed_sql.proofs.visiting.visit.Goals as goal
 
 pub returns-in_err-rows-clause-left : goal.returns-in_err-rows-clause-left
@@ -97,4 +97,11 @@ rows-preserved g c =
           let more = shown_more g.V.Visitor.sees g.T.FromRow.typed g.T.FromRow.from (c.args.visitor.now, c.args.beside.now) (c.rows.visitor, c.rows.beside)
           (c.see.new.self, c.see.new.beside) was.3 was.0 c.in-Some-from_row.read c.in-Some.row.now was.4 was.5 c.see.ensures.seen c.in-Some-from_row.ensures in
           (was.0 ++ c.in-Some.row.now ∷ [], given, same, was.3 ++ c.in-Some-from_row.read ∷ [], more.0, more.1),
+      seen_more g.V.Visitor.sees (c.args.visitor.now, c.args.beside.now) (c.rows.visitor, c.rows.beside) (c.see.new.self, c.see.new.beside)
+          c.in-Some-from_row.read c.rows.invariant.4 c.see.ensures.seen,
     )
+
+pub returns-then-not-see-clause-seen : goal.returns-then-not-see-clause-seen
+returns-then-not-see-clause-seen g c =
+    seen_more g.V.Visitor.sees (c.args.visitor.now, c.args.beside.now) (c.rows.visitor, c.rows.beside) (c.see.new.self, c.see.new.beside)
+    c.in-Some-from_row.read c.rows.invariant.4 c.see.ensures.seen

@@ -5,7 +5,7 @@ use Rattle.sqlite_value.specs.Order.{Row}
 use Rattle.sqlite.specs.Given.{HasGiven}
 use Rattle.sqlite.specs.Held.{state}
 use Rattle.sqlite.specs.State.{HasCleanDisk, IsUnchanged, Survives}
-use Rattle.typed_sql.specs.Visited.{step_of}
+use Rattle.typed_sql.specs.Visited.{HasSeen, step_of}
 use Rattle.typed_sql.proofs.visiting.visit.Given as goal
 
 abbrev pub invariant-rows : goal.invariant-rows
@@ -16,3 +16,4 @@ invariant-rows g l =
     × (HasCleanDisk now → (given : List Row) × HasGiven g.S.Store l.text [] l.rows.conn.now given × IsUnchanged old now
     × (shown : List g.row.T.Denot) × FoldsTo (step_of g.V.Visitor.sees) (l.fn.visitor, l.fn.beside) shown (l.visitor, l.beside)
     × (map g.T.FromRow.typed shown ≡ map g.T.FromRow.from given))
+    × HasSeen g.V.Visitor.sees (l.fn.visitor, l.fn.beside) (l.visitor, l.beside)

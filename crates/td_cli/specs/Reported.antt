@@ -1,0 +1,63 @@
+-- A report on the records in a file, and what was told of it.
+use Rattle.std.specs.Prelude.{◌≡◌, ℕ, List, codes, is_ok, true, Option, Result, Ok, Err}
+use Rattle.sqlite_wal.specs.Recovery.{Image}
+use Rattle.counted_io.specs.declared.counted.Counted.{Counted}
+use Rattle.counted_io.specs.Counted.{has_failed}
+use Rattle.sqlite_disk.specs.declared.Disk.{Ghosts}
+use Rattle.td_desk.specs.Content.{Content}
+use Rattle.td_desk.specs.View.{DeskView}
+use Rattle.td_files.specs.Found.{FileSeen}
+use Rattle.td_files.specs.declared.desks.DeskFault.{DeskFault}
+use Rattle.td_reports.specs.Written.{IsReported}
+use Rattle.td_reports.specs.Texts.{guarantees_text, overdue_text}
+use Rattle.td_reports.specs.declared.fault.ReportFault.{ReportFault}
+use Rattle.td_reports.specs.declared.fault.ReportFault.TheVariants as report
+use Rattle.td_store.specs.Looked.{HasLooked}
+use Rattle.td_table_model.specs.Listed.{guarantees_listed, movements_listed}
+use Rattle.td_words.specs.declared.words.Records.{Records}
+use Rattle.td_words.specs.declared.words.ReportKind.{ReportKind}
+use Rattle.td_words.specs.declared.words.ReportKind.TheVariants.{Overdue, Guarantees}
+use Rattle.td_cli.specs.AtDesk.{AtDesk}
+use Rattle.td_cli.specs.Statuses.{IsFaultTold, IsTold}
+
+-- the text of a report on a content
+abbrev pub report_text : ReportKind → Content → List ℕ
+report_text (Overdue day) c = overdue_text day (movements_listed c)
+report_text Guarantees c = guarantees_text (guarantees_listed c)
+
+-- A desk that is seen so, and began and ended so, was reported on, and left as it was. What was written is the text of its content, or
+-- where a fault ended the report the beginning of that.
+pub record HasReported {D W : Type 0} (view : DeskView D) (begins ends : D → Type 0) (contents : W → Option (List ℕ))
+    (kind : ReportKind) (out out_left : Counted W) (end : Result (Unit {0}) ReportFault) : Type 0 where
+  pub opened : D
+  pub left : D
+  pub begun : begins opened
+  pub ended : ends left
+  pub looked : HasLooked view (is_ok end) opened left
+  pub written : view.is_clean left → view.is_live opened
+      → IsReported contents out out_left (report_text kind (view.content opened)) end
+  pub cause : end ≡ Err report.Write → has_failed out_left ≡ true
+
+-- the message for the fault that ended a report
+abbrev pub message_of_report : ReportFault → List ℕ
+message_of_report report.Write = codes "transit-desk: write\n"
+message_of_report report.Store = codes "transit-desk: store\n"
+message_of_report report.NoMemory = codes "transit-desk: no-memory\n"
+
+-- What was told: nothing where the report is whole, and else the fault that ended it; or why there was no desk to report on.
+abbrev pub IsReportTold : {E : Type 0} → (E → Option (List ℕ)) → Counted E → Counted E
+    → Result (Result (Unit {0}) ReportFault) DeskFault → ℕ → Type 0
+IsReportTold said errors errors_left (Ok (Ok done)) status = (status ≡ 0) × (errors_left ≡ errors)
+IsReportTold said errors errors_left (Ok (Err why)) status =
+    (status ≡ 1) × IsTold said errors errors_left (message_of_report why)
+IsReportTold said errors errors_left (Err why) status = IsFaultTold said errors errors_left why status
+
+-- The records that stand there were reported on, of a desk of this country, or nothing was written, since there was no desk; and what
+-- came of it was told.
+abbrev pub IsReportDone : {W E S : Type 0} {disk : Ghosts S} → (W → Option (List ℕ)) → (E → Option (List ℕ)) → Image → List ℕ
+    → ReportKind → Records → Counted W → Counted W → Counted E → Counted E → Option (FileSeen disk) → Option (FileSeen disk) → ℕ → Type 0
+IsReportDone contents said image country kind records out out_left errors errors_left before file status =
+    (end : Result (Result (Unit {0}) ReportFault) DeskFault)
+    × AtDesk image country records (λ D view begins ends end. HasReported view begins ends contents kind out out_left end) (out_left ≡ out)
+    before file end
+    × IsReportTold said errors errors_left end status

@@ -1,0 +1,37 @@
+//! What the reports have of the rows of a desk's file.
+use crate::lines::{guarantee_line, overdue_line};
+use crate::pieces::Report;
+use std::alloc::{AllocError, Global};
+use td_base::Day;
+use td_store_rows::{KeptGuarantee, StoredMovement};
+
+/// The movements that are overdue on a day.
+#[derive(Drop)]
+pub(crate) struct OverdueOn {
+    pub(crate) day: Day,
+}
+
+impl Report<StoredMovement> for OverdueOn {
+    ghost use Rattle.td_reports.specs.Texts.{overdue_line};
+
+    ghost line = { λ report row. overdue_line report.day (row.holder, row.movement) };
+
+    fn line(&self, alloc: Global, row: &StoredMovement) -> Result<Option<String>, AllocError> {
+        overdue_line(alloc, self.day, row.holder, &row.movement)
+    }
+}
+
+/// All guarantees, with the amounts in use on them.
+#[derive(Drop)]
+pub(crate) struct AmountsInUse;
+
+impl Report<KeptGuarantee> for AmountsInUse {
+    ghost use Rattle.std.specs.Prelude.{Some};
+    ghost use Rattle.td_reports.specs.Texts.{guarantee_line};
+
+    ghost line = { λ _ row. Some (guarantee_line (row.holder, (row.guarantee, row.used))) };
+
+    fn line(&self, alloc: Global, row: &KeptGuarantee) -> Result<Option<String>, AllocError> {
+        Ok(Some(guarantee_line(alloc, row.holder, &row.guarantee, row.used)?))
+    }
+}
