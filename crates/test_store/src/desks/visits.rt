@@ -23,16 +23,27 @@ impl Clerk {
     }
 }
 
+/// Puts a movement's line behind the others.
+fn tell_movement(row: &StoredMovement, told: &mut String) {
+    let (holder, serial, lrn) = (row.holder, row.serial, row.movement.lrn);
+    let state = row.movement.state.name();
+    let lines = row.movement.lines.as_slice().len();
+    let _told = writeln!(told, "{holder}/{serial} {lrn} {state} {lines}");
+}
+
+/// Puts a guarantee's line behind the others.
+fn tell_guarantee(row: &KeptGuarantee, told: &mut String) {
+    let (holder, serial, used) = (row.holder, row.serial, row.used);
+    let reference = row.guarantee.reference;
+    let codes = row.guarantee.codes.len();
+    let _told = writeln!(told, "{holder}/{serial} {reference} {used} {codes}");
+}
+
 impl Visitor<StoredMovement, String> for Clerk {
     ghost sees = { λ _ _ _ _ _. Unit {0} };
 
     fn see(&mut self, row: StoredMovement, beside: &mut String) -> bool {
-        let (holder, serial, lrn) = (row.holder, row.serial, row.movement.lrn);
-        let (state, lines) = (
-            row.movement.state.name(),
-            row.movement.lines.as_slice().len(),
-        );
-        let _told = writeln!(beside, "{holder}/{serial} {lrn} {state} {lines}");
+        tell_movement(&row, beside);
         self.wants_more()
     }
 }
@@ -41,9 +52,7 @@ impl Visitor<KeptGuarantee, String> for Clerk {
     ghost sees = { λ _ _ _ _ _. Unit {0} };
 
     fn see(&mut self, row: KeptGuarantee, beside: &mut String) -> bool {
-        let (holder, serial, reference) = (row.holder, row.serial, row.guarantee.reference);
-        let (used, codes) = (row.used, row.guarantee.codes.len());
-        let _told = writeln!(beside, "{holder}/{serial} {reference} {used} {codes}");
+        tell_guarantee(&row, beside);
         self.wants_more()
     }
 }
