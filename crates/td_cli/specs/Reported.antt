@@ -1,5 +1,5 @@
 -- A report on the records in a file, and what was told of it.
-use Rattle.std.specs.Prelude.{◌≡◌, ℕ, List, codes, is_ok, Option, Result, Ok, Err}
+use Rattle.std.specs.Prelude.{◌≡◌, ℕ, List, codes, is_ok, true, Option, Result, Ok, Err}
 use Rattle.sqlite_wal.specs.Recovery.{Image}
 use Rattle.counted_io.specs.declared.counted.Counted.{Counted}
 use Rattle.counted_io.specs.Counted.{has_failed}

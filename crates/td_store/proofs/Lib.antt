@@ -7,3 +7,6 @@ mod Judged
 mod Leaving
 mod Refusing
 mod Visiting
+mod Looking
+mod Stepping
+mod Walked

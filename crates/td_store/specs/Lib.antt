@@ -3,3 +3,5 @@ pub mod Laws
 pub mod Opened
 pub mod Looked
 pub mod Visits
+pub mod Standing
+pub mod Pulled

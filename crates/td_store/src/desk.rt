@@ -1,5 +1,6 @@
 //! The desk over a store's file.
-use crate::faults::fault_of;
+use crate::faults::{fault_of, told};
+use crate::following::{read_guarantee, read_movement};
 use crate::reading::read;
 use crate::settling::see_settled;
 use sqlite::Connection;
@@ -7,8 +8,10 @@ use sqlite_trees::store::Alter;
 use std::alloc::Global;
 use std::marker::Model;
 use td_acts::{Change, Loaded, Needs};
-use td_base::{Country, HolderNo};
+use td_base::{Cents, Country, HolderNo};
 use td_desk::{Fault, Store};
+use td_guarantee::Guarantee;
+use td_movement::Movement;
 use td_store_write::carry_change;
 
 /// A desk whose rows stand in the tables of a store. It holds the store's connection, outside a transaction, and the country
@@ -34,12 +37,15 @@ impl<S: Alter> Model for SqlDesk<S> {
 }
 
 impl<S: Alter> SqlDesk<S> {
-    ghost use Rattle.std.specs.Prelude.{◌≡◌, false, IsTrue};
+    ghost use Rattle.std.specs.Prelude.{◌≡◌, false, IfOk, IsTrue, is_ok};
+    ghost use Rattle.std.specs.Option.{option_map};
     ghost use Rattle.sqlite.specs.Held.{state};
     ghost use Rattle.sqlite.specs.State.{HasCleanDisk};
     ghost use Rattle.td_store_rows.specs.StoreTables.{HoldsContent};
+    ghost use Rattle.td_store_load.specs.Placed.{ComesNext, found_at, guarantees_placed, movements_placed};
     ghost use Rattle.td_desk.specs.View.{IsSettled};
-    ghost use Rattle.td_store.specs.Kept.{IsDeskOf, CrashLeavesShown, content_in, sql_view};
+    ghost use Rattle.td_store.specs.Kept.{CountsFaults, IsDeskOf, CrashLeavesShown, content_in, sql_view};
+    ghost use Rattle.td_store.specs.Looked.{HasLooked};
 
     // The desk over a connection that holds a content of that country.
     pub(crate) fn over(conn: Connection<S>, country: Country) -> Self
@@ -48,6 +54,51 @@ impl<S: Alter> SqlDesk<S> {
         ensures { result ≡ conn }
     {
         SqlDesk { country, conn }
+    }
+
+    /// Sees that a crash leaves the desk's content. It does nothing.
+    pub(crate) fn see_settled(&self)
+        ensures settled { HasCleanDisk (state S.Store self.now) → IsSettled (sql_view S.Store) self.now }
+    {
+        see_settled(&self.conn);
+    }
+
+    /// The first movement behind the place of a holder's number and a serial, if there is one, with its holder, its serial and its
+    /// lines. An `Err` is want of memory or a fault of the store.
+    pub(crate) fn following_movement(
+        &mut self,
+        alloc: Global,
+        holder: u32,
+        serial: u32,
+    ) -> Result<Option<(HolderNo, u32, Movement)>, Fault>
+        ensures looked { HasLooked (sql_view S.Store) (is_ok result) self.old self.new }
+        ensures counted { CountsFaults (state S.Store self.old) (state S.Store self.new) }
+        ensures memory { HasCleanDisk (state S.Store self.new) → result ≡ Err Fault.NoMemory → IsTrue (state S.Store self.new).is_open }
+        ensures found { HasCleanDisk (state S.Store self.new) → IsTrue (state S.Store self.old).is_open
+            → IfOk result (λ found. ComesNext holder serial (movements_placed (content_in (state S.Store self.old).now.trees))
+            (option_map found_at found)) }
+    {
+        let found = read_movement(alloc, &mut self.conn, holder, serial);
+        told(&mut self.conn, found)
+    }
+
+    /// The first guarantee behind the place of a holder's number and a serial, if there is one, with its holder, its serial, its codes
+    /// and the amount in use on it. An `Err` is want of memory or a fault of the store.
+    pub(crate) fn following_guarantee(
+        &mut self,
+        alloc: Global,
+        holder: u32,
+        serial: u32,
+    ) -> Result<Option<(HolderNo, u32, (Guarantee, Cents))>, Fault>
+        ensures looked { HasLooked (sql_view S.Store) (is_ok result) self.old self.new }
+        ensures counted { CountsFaults (state S.Store self.old) (state S.Store self.new) }
+        ensures memory { HasCleanDisk (state S.Store self.new) → result ≡ Err Fault.NoMemory → IsTrue (state S.Store self.new).is_open }
+        ensures found { HasCleanDisk (state S.Store self.new) → IsTrue (state S.Store self.old).is_open
+            → IfOk result (λ found. ComesNext holder serial (guarantees_placed (content_in (state S.Store self.old).now.trees))
+            (option_map found_at found)) }
+    {
+        let found = read_guarantee(alloc, &mut self.conn, holder, serial);
+        told(&mut self.conn, found)
     }
 
     /// Gives the connection back, outside a transaction. No row is changed: as far as the disk is clean and the connection

@@ -48,14 +48,16 @@ pub(crate) fn fault_of<S: Alter>(conn: &mut Connection<S>, error: &Error) -> Fau
     Fault::Store
 }
 
-/// What a call of the database answered, with the fault in place of an error. Nothing is changed, and a crash leaves what it could
-/// before.
-pub(crate) fn told<S: Alter, T: Drop>(
+/// What a call of the database answered, where an error is told as its fault (`fault_of`). Nothing is changed, and a crash leaves what
+/// the connection shows.
+pub(crate) fn told<S: Alter, T>(
     conn: &mut Connection<S>,
     answer: Result<T, Error>,
 ) -> Result<T, Fault>
     requires { conn.old.in_transaction ≡ false }
     ensures ended { conn.new.in_transaction ≡ false }
+    ensures ok { IfOk answer (λ x. (result ≡ Ok x) × (conn.new ≡ conn.old)) }
+    ensures err { IsErr answer → IsErr result }
     ensures well { IfOk result (λ x. (answer ≡ Ok x) × (conn.new ≡ conn.old)) }
     ensures ill { IfErr result (λ _. IsErr answer) }
     ensures live { HasCleanDisk (state S.Store conn.new) → IsTrue (state S.Store conn.new).is_open → IsTrue (state S.Store conn.old).is_open }
@@ -65,17 +67,12 @@ pub(crate) fn told<S: Alter, T: Drop>(
     ensures crash { Survives (state S.Store conn.old) (state S.Store conn.new) (λ _. ⊥) }
     ensures settled { CrashLeavesShown (state S.Store conn.new) }
 {
-    match answer {
-        Ok(found) => {
-            see_settled(conn);
-            Ok(found)
-        }
-        Err(error) => {
-            let fault = fault_of(conn, &error);
-            see_settled(conn);
-            Err(fault)
-        }
-    }
+    let told = match answer {
+        Ok(found) => Ok(found),
+        Err(error) => Err(fault_of(conn, &error)),
+    };
+    see_settled(conn);
+    told
 }
 
 /// Why a desk isn't made or opened, by the error that the database answered: `NoMemory` for want of memory, else `Store`.

@@ -1,5 +1,8 @@
-//! Laws of what a crash leaves, as contracts of functions that do nothing.
-ghost use Rattle.td_store.specs.Laws.{AcknowledgedIsKept, AcknowledgedIsKeptMeanwhile, DesksTreesOpen};
+//! Laws of what a crash leaves, and of what a walk along a desk's rows gives, as contracts of functions that do nothing.
+ghost use Rattle.td_table_model.specs.Listed.{guarantees_listed, movements_listed};
+ghost use Rattle.td_store_load.specs.Placed.{guarantees_placed, movements_placed};
+ghost use Rattle.td_store.specs.Kept.{sql_view};
+ghost use Rattle.td_store.specs.Laws.{AcknowledgedIsKept, AcknowledgedIsKeptMeanwhile, DesksTreesOpen, WalksGiveWhatIsListed};
 
 use sqlite_trees::store::Alter;
 
@@ -16,4 +19,12 @@ pub fn what_a_crash_leaves_opens<S: Alter>()
 pub fn acknowledged_decisions_are_kept<S: Alter>()
     ensures kept { AcknowledgedIsKept S.Store }
     ensures meanwhile { AcknowledgedIsKeptMeanwhile S.Store }
+{}
+
+/// A walk gives what is listed: what calls of `MovementRows::next` one after another give, with the disk clean to the end, is the
+/// first of the desk's movements, by holder and then by serial, and at the first `Ok(None)` all of them; and the desk has the content
+/// that it had. So do those of `GuaranteeRows::next` with its guarantees. `IsNext` is what `next` says, clause by clause.
+pub fn walks_give_what_is_listed<S: Alter>()
+    ensures movements { WalksGiveWhatIsListed (sql_view S.Store) movements_placed movements_listed }
+    ensures guarantees { WalksGiveWhatIsListed (sql_view S.Store) guarantees_placed guarantees_listed }
 {}

@@ -7,12 +7,14 @@ mod auditing;
 mod creating;
 mod desk;
 mod faults;
+mod following;
 mod judging;
 mod laws;
 mod office;
 mod opening;
 mod reading;
 mod refused;
+mod rows;
 mod schema;
 mod settling;
 mod versions;
@@ -20,8 +22,11 @@ mod visits;
 
 pub use auditing::audit;
 pub use desk::SqlDesk;
-pub use laws::{acknowledged_decisions_are_kept, what_a_crash_leaves_opens};
+pub use laws::{
+    acknowledged_decisions_are_kept, walks_give_what_is_listed, what_a_crash_leaves_opens,
+};
 pub use refused::{OpenFault, Refused};
+pub use rows::{GuaranteeRows, MovementRows};
 pub use td_store_rows::{KeptGuarantee, StoredMovement};
 pub use td_table_model::Rule;
 pub use typed_sql::Visitor;

@@ -3,3 +3,6 @@ mod Reading
 mod Whole
 mod WithUse
 mod Owner
+pub mod Places
+mod Behind
+pub mod Listing

@@ -1,2 +1,3 @@
 pub mod Loaded
 pub mod Needed
+pub mod Placed

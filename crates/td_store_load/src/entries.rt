@@ -33,8 +33,8 @@ fn gather_codes(alloc: Global, rows: &[StoredCode]) -> Result<Codes, AllocError>
     Ok(codes)
 }
 
-// The guarantee in a row with its codes, and the amount in use that the row keeps.
-fn entry_in_row<S: Alter>(
+/// The guarantee in a row with its codes, and the amount in use that the row keeps.
+pub fn entry_in_row<S: Alter>(
     alloc: Global,
     tx: &mut Transaction<'_, S>,
     row: &KeptGuarantee,

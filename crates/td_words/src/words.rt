@@ -6,9 +6,7 @@ ghost use Rattle.clap.specs.Words.{first_of, found_of, rows_of};
 ghost use Rattle.td_words.specs.declared.words.NoJob.TheVariants.{NoMemory};
 ghost use Rattle.td_words.specs.Words.{AreRecords, AsksFor, IsCountryIn, IsDayOf, IsDecimal, IsIdleOf, IsJob, IsListening, IsMomentOf, IsNoJob, IsNoneSuch, IsNumberOf, IsOffice, IsReport, IsTask, IsTold, batch_name};
 
-use crate::options::{
-    AT, CONNECTIONS, COUNTRY, DAY, DB, FILE, IDLE, KIND, NEW, PORT, program,
-};
+use crate::options::{AT, CONNECTIONS, COUNTRY, DAY, DB, FILE, IDLE, KIND, NEW, PORT, program};
 use ascii_text::is_digits;
 use clap::ArgMatches;
 use clap::error::ErrorKind;
