@@ -1,5 +1,5 @@
 -- The ways in which a report ends.
-use Rattle.std.proofs.Common.{◌≡◌, ◌⊎◌, ℕ, Bool, true, false, List, [], ◌∷◌, ◌++◌, Option, Some, None, Result, Ok, Err, IsOk, OnOk, OnErr, IfErr, refl, sym, ap, ◌∙◌, append-nil, append_assoc, inl, inr, string_bytes}
+use Rattle.std.proofs.Common.{◌≡◌, ℕ, Bool, true, false, List, [], ◌∷◌, ◌++◌, Option, None, Result, Ok, Err, IsOk, OnOk, OnErr, IfErr, refl, sym, ap, ◌∙◌, append-nil, append_assoc, inl, inr, string_bytes}
 use Rattle.counted_io.specs.declared.counted.Counted.{Counted}
 use Rattle.counted_io.specs.Chains.{Wrote}
 use Rattle.td_desk.specs.declared.fault.Fault.{Fault}
@@ -7,14 +7,10 @@ use Rattle.td_reports.specs.declared.fault.ReportFault.{ReportFault}
 use Rattle.td_reports.specs.declared.fault.ReportFault.TheVariants.{Write, Store, NoMemory}
 use Rattle.td_reports.specs.declared.pieces.Pieces.{Pieces}
 use Rattle.td_reports.specs.Pieces.{Ends, left_of}
-use Rattle.td_reports.specs.Written.{EndsBy, fault_after_write, stop_of}
-
--- why a total isn't put
-abbrev pub IsStopped : Option ReportFault → Result (Unit {0}) ReportFault → Type 0
-IsStopped stop closed = IfErr closed (λ why. (stop ≡ Some why) ⊎ ((stop ≡ None) × (why ≡ NoMemory)))
+use Rattle.td_reports.specs.Written.{EndsBy, IsStopped, fault_after_write, stop_of}
 
 -- where all writes were well, it ends as it was closed
-ends_as_closed : (stop : Option ReportFault) (closed : Result (Unit {0}) ReportFault) → OnOk closed (stop ≡ None) → IsStopped stop closed → EndsBy stop true closed
+ends_as_closed : (stop : Option ReportFault) (closed : Result (Unit {0}) ReportFault) → OnOk closed (stop ≡ None) → IfErr closed (IsStopped stop) → EndsBy stop true closed
 ends_as_closed stop (Ok done) ok why = (ok, refl)
 ends_as_closed stop (Err Write) ok (inl is) = (λ store. cc (is, store), inr is)
 ends_as_closed stop (Err Write) ok (inr none) = absurd (cc none.1)
@@ -30,7 +26,7 @@ begins_left text total waits left (Ok done) is ok err = ([], append-nil text ∙
 begins_left text total waits left (Err why) is ok err = (total, ap (λ (l : List ℕ). l ++ total) err ∙ sym is, λ ok. cc ok)
 
 -- where one failed
-ends_after_write : (stop : Option ReportFault) (closed : Result (Unit {0}) ReportFault) → OnOk closed (stop ≡ None) → IsStopped stop closed
+ends_after_write : (stop : Option ReportFault) (closed : Result (Unit {0}) ReportFault) → OnOk closed (stop ≡ None) → IfErr closed (IsStopped stop)
     → EndsBy stop false (Err (fault_after_write closed))
 ends_after_write stop (Ok done) ok why = (λ store. cc (ok, store), inl refl)
 ends_after_write stop (Err Write) ok (inl is) = (λ store. cc (is, store), inl refl)
@@ -53,7 +49,7 @@ module _ {R W : Type 0} (contents : W → Option (List ℕ)) (old : Pieces R) (v
     (closed : Result (Unit {0}) ReportFault) (ok : OnOk closed ((stop_of visited old.fault ≡ None) × (text ≡ left_of old visited)))
     (err : OnErr closed (text ≡ string_bytes old.text)) (idle : text ≡ [] → after ≡ before) where
   -- all of it was taken
-  pub well_ended : IsStopped (stop_of visited old.fault) closed → Wrote contents before after text true → Ends contents old visited before closed after
+  pub well_ended : IfErr closed (IsStopped (stop_of visited old.fault)) → Wrote contents before after text true → Ends contents old visited before closed after
   well_ended why wrote =
       let left = begins_left text _ (string_bytes old.text) (left_of old visited) closed refl (both _ _ closed ok).1 err in
       record {
@@ -68,7 +64,7 @@ module _ {R W : Type 0} (contents : W → Option (List ℕ)) (old : Pieces R) (v
       }
 
   -- a write failed
-  pub cut_short : IsStopped (stop_of visited old.fault) closed → (sent rest : List ℕ) → sent ++ rest ≡ text → Wrote contents before after sent false
+  pub cut_short : IfErr closed (IsStopped (stop_of visited old.fault)) → (sent rest : List ℕ) → sent ++ rest ≡ text → Wrote contents before after sent false
       → Ends contents old visited before (Err (fault_after_write closed)) after
   cut_short why sent rest is wrote =
       let left = begins_left text _ (string_bytes old.text) (left_of old visited) closed refl (both _ _ closed ok).1 err in

@@ -43,6 +43,14 @@ stop_of (Err fault.Store) stopped = Some Store
 stop_of (Err fault.NoMemory) stopped = option_or stopped (Some NoMemory)
 stop_of (Ok all) stopped = stopped
 
+-- why a report isn't closed by its total: it was stopped, or there was no memory for that
+abbrev pub IsStopped : Option ReportFault → ReportFault → Type 0
+IsStopped stop why = (stop ≡ Some why) ⊎ ((stop ≡ None) × (why ≡ NoMemory))
+
+-- a write of a text failed, or took nothing: what was taken begins it
+abbrev pub BreaksOff : {W : Type 0} → (W → Option (List ℕ)) → Counted W → Counted W → List ℕ → Type 0
+BreaksOff contents old new text = (sent rest : List ℕ) × (sent ++ rest ≡ text) × Wrote contents old new sent false
+
 -- what is told where the last write failed of a report that was closed so
 abbrev pub fault_after_write : Result (Unit {0}) ReportFault → ReportFault
 fault_after_write (Err Store) = Store

@@ -61,12 +61,12 @@ fn fault_after_write(closed: Result<(), ReportFault>) -> ReportFault
 }
 
 impl<R> Pieces<R> {
-    ghost use Rattle.std.specs.Prelude.{◌≡◌, ◌⊎◌, ◌+◌, [], ◌++◌, None, Some, false, true, IfErr, IfOk, OnErr, OnOk, IsErr, List, ℕ, string_bytes};
+    ghost use Rattle.std.specs.Prelude.{[], None, Some, false, true, IfErr, IfOk, IsErr, OnErr, OnOk, string_bytes};
     ghost use Rattle.counted_io.specs.Chains.{Wrote};
     ghost use Rattle.td_reports.specs.declared.fault.ReportFault.TheVariants.{NoMemory};
     ghost use Rattle.std.specs.Result.{result_err};
     ghost use Rattle.td_reports.specs.Pieces.{Ends, TakesUp, left_of};
-    ghost use Rattle.td_reports.specs.Texts.{total_line};
+    ghost use Rattle.td_reports.specs.Written.{BreaksOff, IsStopped};
 
     /// A report that begins with this header, if there was memory for it.
     pub(crate) fn begin(alloc: Global, report: R, header: Result<String, AllocError>) -> Self
@@ -91,7 +91,7 @@ impl<R> Pieces<R> {
     // Writes what waits, and answers whether all of it was taken. None of it is kept.
     fn write_text<W: Write>(&mut self, writer: &mut Counted<W>) -> bool
         ensures whole { result ≡ true → Wrote W.contents writer.old writer.new (string_bytes self.old.text) true }
-        ensures part { result ≡ false → (sent rest : List ℕ) × (sent ++ rest ≡ string_bytes self.old.text) × Wrote W.contents writer.old writer.new sent false }
+        ensures part { result ≡ false → BreaksOff W.contents writer.old writer.new (string_bytes self.old.text) }
         ensures still { string_bytes self.old.text ≡ [] → writer.new ≡ writer.old }
         ensures none { string_bytes self.new.text ≡ [] }
         ensures report { self.new.report ≡ self.old.report }
@@ -102,6 +102,7 @@ impl<R> Pieces<R> {
         self.text.clear();
         is_written
     }
+
     // Puts the line of a row, if it has one, behind what waits, and writes this where it makes a piece. The error is why no row
     // more is taken up; `Store`: there are more lines than a number of 64 bits counts.
     fn take_up<T, W: Write>(&mut self, row: &T, writer: &mut Counted<W>) -> Result<(), ReportFault>
@@ -127,7 +128,7 @@ impl<R> Pieces<R> {
     fn add_total(&mut self, visited: Result<bool, Fault>) -> Result<(), ReportFault>
         ensures ok { OnOk result ((stop_of visited self.old.fault ≡ None) × (string_bytes self.new.text ≡ left_of self.old visited)) }
         ensures err { OnErr result (string_bytes self.new.text ≡ string_bytes self.old.text) }
-        ensures why { IfErr result (λ why. (stop_of visited self.old.fault ≡ Some why) ⊎ ((stop_of visited self.old.fault ≡ None) × (why ≡ NoMemory))) }
+        ensures why { IfErr result (IsStopped (stop_of visited self.old.fault)) }
     {
         if let Some(fault) = stop_of(visited, self.fault) {
             return Err(fault);

@@ -31,13 +31,15 @@ pub fn overdue<S: Alter, W: Write>(
 ) -> Result<(), ReportFault>
     ensures looked { HasLooked (sql_view S.Store) (is_ok result) desk.old desk.new }
     ensures counted { CountsFaults (state S.Store desk.old) (state S.Store desk.new) }
-    ensures memory { HasCleanDisk (state S.Store desk.new) → result ≡ Err ReportFault.NoMemory → IsTrue (state S.Store desk.new).is_open }
+    ensures memory { HasCleanDisk (state S.Store desk.new) → result ≡ Err ReportFault.NoMemory
+        → IsTrue (state S.Store desk.new).is_open }
     ensures stays { HasCleanDisk (state S.Store desk.new) → IsTrue (state S.Store desk.old).is_open → result ≡ Err ReportFault.Write
         → IsTrue (state S.Store desk.new).is_open }
     ensures written { HasCleanDisk (state S.Store desk.new) → IsTrue (state S.Store desk.old).is_open
         → IsReported W.contents writer.old writer.new
         (overdue_text day (movements_listed (content_in (state S.Store desk.old).now.trees))) result }
-    ensures cause { result ≡ Err ReportFault.Write → (has_failed writer.new ≡ true) × HasCalled (calls_of writer.old) (calls_of writer.new) }
+    ensures cause { result ≡ Err ReportFault.Write
+        → (has_failed writer.new ≡ true) × HasCalled (calls_of writer.old) (calls_of writer.new) }
     // also where the disk returned other than what was written
     ensures chain { HasWritten W.contents writer.old writer.new result }
 {
@@ -58,13 +60,15 @@ pub fn guarantees<S: Alter, W: Write>(
 ) -> Result<(), ReportFault>
     ensures looked { HasLooked (sql_view S.Store) (is_ok result) desk.old desk.new }
     ensures counted { CountsFaults (state S.Store desk.old) (state S.Store desk.new) }
-    ensures memory { HasCleanDisk (state S.Store desk.new) → result ≡ Err ReportFault.NoMemory → IsTrue (state S.Store desk.new).is_open }
+    ensures memory { HasCleanDisk (state S.Store desk.new) → result ≡ Err ReportFault.NoMemory
+        → IsTrue (state S.Store desk.new).is_open }
     ensures stays { HasCleanDisk (state S.Store desk.new) → IsTrue (state S.Store desk.old).is_open → result ≡ Err ReportFault.Write
         → IsTrue (state S.Store desk.new).is_open }
     ensures written { HasCleanDisk (state S.Store desk.new) → IsTrue (state S.Store desk.old).is_open
         → IsReported W.contents writer.old writer.new
         (guarantees_text (guarantees_listed (content_in (state S.Store desk.old).now.trees))) result }
-    ensures cause { result ≡ Err ReportFault.Write → (has_failed writer.new ≡ true) × HasCalled (calls_of writer.old) (calls_of writer.new) }
+    ensures cause { result ≡ Err ReportFault.Write
+        → (has_failed writer.new ≡ true) × HasCalled (calls_of writer.old) (calls_of writer.new) }
     // also where the disk returned other than what was written
     ensures chain { HasWritten W.contents writer.old writer.new result }
 {

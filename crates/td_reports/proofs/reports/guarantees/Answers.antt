@@ -29,8 +29,10 @@ pub returns-clause-written : goal.returns-clause-written
 returns-clause-written g c clean live =
     let visit = c.visit_guarantees-visited.ensures.visited clean live in
     let all = guarantees_listed (content_in (state g.S.Store c.args.desk.now).now.trees) in
-    let taken = taken_all _ _ _ _ _ _ visit.shown _ _ (starts g c) visit.told in
-    reported _ _ _ _ _ _ _ _ _ _ _ taken c.end.ensures (map guarantee_line all) (filter_map (λ row. Some (guarantee_line row)) visit.rest)
+    let taken = taken_all g.W.Write.contents (λ report row. Some (guarantee_line (said_of_guarantee row))) guarantees_header (record {}) c.args.writer.now [] visit.shown
+    (c.begin-report.result, c.args.writer.now) (c.visit_guarantees-visited.new.visitor, c.visit_guarantees-visited.new.beside) (starts g c) visit.told in
+    reported g.W.Write.contents (λ report row. Some (guarantee_line (said_of_guarantee row))) guarantees_header (record {}) c.args.writer.now visit.shown
+    c.visit_guarantees-visited.new.visitor c.visit_guarantees-visited.new.beside c.end.new.writer c.visit_guarantees-visited.result c.end.result taken c.end.ensures (map guarantee_line all) (filter_map (λ row. Some (guarantee_line row)) visit.rest)
     (lines_shown (λ row. Some (guarantee_line row)) said_of_guarantee visit.shown visit.rest (map without_codes all) visit.are
     ∙ lines_of_forms (λ row. Some (guarantee_line row)) without_codes (λ row. refl) all ∙ all_have_lines guarantee_line all)
     (λ is. ap (filter_map (λ row. Some (guarantee_line row))) (visit.whole is)) c.visit_guarantees-visited.ensures.stopped
@@ -38,7 +40,10 @@ returns-clause-written g c clean live =
 pub returns-clause-chain : goal.returns-clause-chain
 returns-clause-chain g c =
     let seen = c.visit_guarantees-visited.ensures.seen in
-    has_written _ _ _ _ _ _ _ _ _ _ _ (taken_all _ _ _ _ _ _ seen.0 _ _ (starts g c) seen.1) c.end.ensures
+    let taken = taken_all g.W.Write.contents (λ report row. Some (guarantee_line (said_of_guarantee row))) guarantees_header (record {}) c.args.writer.now [] seen.0
+    (c.begin-report.result, c.args.writer.now) (c.visit_guarantees-visited.new.visitor, c.visit_guarantees-visited.new.beside) (starts g c) seen.1 in
+    has_written g.W.Write.contents (λ report row. Some (guarantee_line (said_of_guarantee row))) guarantees_header (record {}) c.args.writer.now seen.0
+    c.visit_guarantees-visited.new.visitor c.visit_guarantees-visited.new.beside c.end.new.writer c.visit_guarantees-visited.result c.end.result taken c.end.ensures
 
 pub returns-clause-cause : goal.returns-clause-cause
-returns-clause-cause g c = cause_of _ _ _ _ (returns-clause-chain g c)
+returns-clause-cause g c = cause_of g.W.Write.contents c.args.writer.now c.end.new.writer c.end.result (returns-clause-chain g c)

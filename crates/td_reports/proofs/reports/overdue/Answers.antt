@@ -32,8 +32,10 @@ pub returns-clause-written : goal.returns-clause-written
 returns-clause-written g c clean live =
     let visit = c.visit_movements-visited.ensures.visited clean live in
     let all = movements_listed (content_in (state g.S.Store c.args.desk.now).now.trees) in
-    let taken = taken_all _ _ _ _ _ _ visit.shown _ _ (starts g c) visit.told in
-    reported _ _ _ _ _ _ _ _ _ _ _ taken c.end.ensures (filter_map (overdue_line c.args.day) all) (filter_map (overdue_line c.args.day) visit.rest)
+    let taken = taken_all g.W.Write.contents (λ report row. overdue_line report.day (said_of_movement row)) (overdue_header c.args.day) (record { day = c.args.day }) c.args.writer.now [] visit.shown
+    (c.begin-report.result, c.args.writer.now) (c.visit_movements-visited.new.visitor, c.visit_movements-visited.new.beside) (starts g c) visit.told in
+    reported g.W.Write.contents (λ report row. overdue_line report.day (said_of_movement row)) (overdue_header c.args.day) (record { day = c.args.day }) c.args.writer.now visit.shown
+    c.visit_movements-visited.new.visitor c.visit_movements-visited.new.beside c.end.new.writer c.visit_movements-visited.result c.end.result taken c.end.ensures (filter_map (overdue_line c.args.day) all) (filter_map (overdue_line c.args.day) visit.rest)
     (lines_shown (overdue_line c.args.day) said_of_movement visit.shown visit.rest (map without_lines all) visit.are
     ∙ lines_of_forms (overdue_line c.args.day) without_lines (λ row. refl) all)
     (λ is. ap (filter_map (overdue_line c.args.day)) (visit.whole is)) c.visit_movements-visited.ensures.stopped
@@ -41,7 +43,10 @@ returns-clause-written g c clean live =
 pub returns-clause-chain : goal.returns-clause-chain
 returns-clause-chain g c =
     let seen = c.visit_movements-visited.ensures.seen in
-    has_written _ _ _ _ _ _ _ _ _ _ _ (taken_all _ _ _ _ _ _ seen.0 _ _ (starts g c) seen.1) c.end.ensures
+    let taken = taken_all g.W.Write.contents (λ report row. overdue_line report.day (said_of_movement row)) (overdue_header c.args.day) (record { day = c.args.day }) c.args.writer.now [] seen.0
+    (c.begin-report.result, c.args.writer.now) (c.visit_movements-visited.new.visitor, c.visit_movements-visited.new.beside) (starts g c) seen.1 in
+    has_written g.W.Write.contents (λ report row. overdue_line report.day (said_of_movement row)) (overdue_header c.args.day) (record { day = c.args.day }) c.args.writer.now seen.0
+    c.visit_movements-visited.new.visitor c.visit_movements-visited.new.beside c.end.new.writer c.visit_movements-visited.result c.end.result taken c.end.ensures
 
 pub returns-clause-cause : goal.returns-clause-cause
-returns-clause-cause g c = cause_of _ _ _ _ (returns-clause-chain g c)
+returns-clause-cause g c = cause_of g.W.Write.contents c.args.writer.now c.end.new.writer c.end.result (returns-clause-chain g c)
