@@ -8,6 +8,7 @@ mod migrations;
 mod opening;
 mod reports;
 mod visits;
+mod walks;
 mod words;
 
 use crate::examples::country;

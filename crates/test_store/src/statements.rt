@@ -4,8 +4,8 @@ use sqlite_value::value::ValueRef;
 use std::alloc::Global;
 use std::process::Abort;
 use typed_sql::{
-    FromRow, delete, empty, fetch, fetch_one, insert, integer_at, is_null_at, number_at, select,
-    text_at, update,
+    FromRow, delete, empty, fetch, fetch_first, fetch_one, insert, integer_at, is_null_at,
+    number_at, select, text_at, update,
 };
 
 const TABLE: &str =
@@ -241,4 +241,25 @@ fn one_at_most_is_fetched(rt: HostRuntime) {
     assert!(rt; one.rank == 1 && none.expect(&rt, "no row").is_none());
     let several = fetch_one::<MemStore, Ranked>(alloc, &mut tx, OF_SHIP, &[ValueRef::Int(1)]);
     assert!(rt; several.err() == Some(CORRUPT));
+}
+
+// On the first ship Ana is shown first, whose rank is set to 2; nobody is on the third ship; and on the second a rank is NULL, which
+// is none.
+#[test]
+fn the_first_row_is_fetched(rt: HostRuntime) {
+    let alloc = rt.alloc();
+    let mut conn = with_crew(&rt);
+    conn.execute(
+        "UPDATE crew SET rank = CASE ship WHEN 1 THEN 2 END WHERE name = 'Ana'",
+        &[],
+    )
+    .expect(&rt, "an update");
+    assert!(rt; conn.is_autocommit());
+    let mut tx = conn.transaction();
+    let first = fetch_first::<MemStore, Ranked>(alloc, &mut tx, OF_SHIP, &[ValueRef::Int(1)]);
+    let first = first.expect(&rt, "a row").expect(&rt, "a rank");
+    let none = fetch_first::<MemStore, Ranked>(alloc, &mut tx, OF_SHIP, &[ValueRef::Int(3)]);
+    assert!(rt; first.rank == 2 && none.expect(&rt, "no row").is_none());
+    let unread = fetch_first::<MemStore, Ranked>(alloc, &mut tx, OF_SHIP, &[ValueRef::Int(2)]);
+    assert!(rt; unread.err() == Some(CORRUPT));
 }
