@@ -1,4 +1,4 @@
-//! Lines of a head that are cut, joined or padded, and bytes that belong in none: what the rules of framing make of each.
+//! Lines of a head that are cut, joined or padded, and bytes that no head has: what the rules of framing make of each.
 use crate::runner::assert_transcript;
 use std::test::Fail;
 
