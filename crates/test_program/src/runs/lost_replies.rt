@@ -1,7 +1,7 @@
 //! Replies that are lost on their way, since the writer fails or takes nothing after some of their bytes. What was asked
 //! stands all the same, and whoever asks next is told what is told where no reply is lost. The replies themselves are
 //! shown by the transcripts.
-use crate::helpers::devices::{Drip, Narrow};
+use crate::helpers::devices::Narrow;
 use crate::helpers::exchanges::{REGISTER, SEE, service_of_ch};
 use crate::helpers::{assert_equal, assert_text};
 use std::alloc::Global;
@@ -19,10 +19,10 @@ const LODGE: &[u8] =
 
 const LIST: &[u8] = b"GET /holders/000001/movements HTTP/1.1\r\n\r\n";
 
-// The declaration comes twice: sent again it has its answer again.
-const REQUESTS: [&[u8]; 7] = [REGISTER, OPEN, LODGE, LODGE, LIST, REGISTER, SEE];
+// The declaration is shown, and comes again: it has its answer again.
+const REQUESTS: [&[u8]; 7] = [REGISTER, OPEN, LODGE, LIST, LODGE, SEE, REGISTER];
 
-// What is written for a stream that comes one byte a read, to a writer that takes so many bytes, and how it ends.
+// What is written for a stream to a writer that takes so many bytes, and how it ends.
 fn told(
     alloc: Global,
     service: &mut Service<PlainDesk>,
@@ -30,7 +30,7 @@ fn told(
     left: usize,
     fails: bool,
 ) -> (Vec<u8>, StreamEnd) {
-    let mut reader = Counted::new(Drip::ending(input));
+    let mut reader = Counted::new(input);
     let mut writer = Counted::new(Narrow {
         taken: Vec::new(alloc),
         left,
