@@ -1,11 +1,13 @@
 -- What a made reference is, and what it says.
-use Rattle.std.proofs.Common.{◌≡◌, ℕ, ◌+◌, ◌^◌, ◌<◌, true, false, List, [], ◌∷◌, ◌++◌, length, Some, arith, ap, sym, ◌∙◌, subst, inl, inr}
+use Rattle.std.proofs.Common.{◌≡◌, ℕ, ◌+◌, ◌^◌, ◌<◌, true, false, List, [], ◌∷◌, ◌++◌, length, Some, arith, refl, ap, sym, ◌∙◌, subst, inl, inr}
 use Rattle.std.proofs.lemmas.Bool.{false≢true}
+use Rattle.std.proofs.lemmas.Option.{slice_get_past}
 use Rattle.ascii_text.specs.Digits.{fixed_decimal}
 use Rattle.td_base.specs.Codes.{IsCountry, IsHolderNumber}
-use Rattle.td_base.specs.References.{check_of, owner_of, serial_of, reference_text, procedure_letter, mrn_text, older_mrn_text, is_lettered, IsMrn, IsMrnTextOf, IsReferenceText}
+use Rattle.td_base.specs.References.{check_of, owner_of, serial_of, reference_text, procedure_letter, mrn_text, older_mrn_text, identifier_of, is_lettered, IsGrn, IsMrn, IsMrnTextOf, IsReferenceText}
 use Rattle.td_base.proofs.Identifiers.{numbers, numbers_digits, length-numbers, length-with_behind, plain, lettered, no_letter, letter_seen}
 use Rattle.td_base.proofs.Numbered.{numbered_parts, numbered_is_reference, numbered_owner, numbered_serial_is, numbered_apart}
+use Rattle.td_base.proofs.Owners.{length-identifier}
 use Rattle.td_base.proofs.ReferenceParts.{IsMadeOf}
 
 -- a reference with so many digits of serial
@@ -59,6 +61,12 @@ pub lettered_apart : (year year' : ℕ) (country country' : List ℕ) (holder ho
 lettered_apart year year' country country' holder holder' serial serial' form form' number number' small small' e =
     numbered_apart 6 year year' country country' holder holder' serial serial' (with_letter holder serial) (with_letter holder' serial') form form' number number' small small'
     (lettered holder serial) (lettered holder' serial') e
+
+-- a GRN has no place for the letter
+pub no_grn_lettered : (text : List ℕ) → IsGrn text → is_lettered text ≡ false
+no_grn_lettered text is =
+    let none = slice_get_past (identifier_of text) 12 (omega (arith, length-identifier text (omega (arith, is.size)), is.size)) in
+    rw none refl
 
 -- no MRN has both forms
 pub made_either : (year year' : ℕ) (country country' : List ℕ) (holder holder' serial serial' : ℕ) → IsCountry country → IsCountry country' → mrn_text year country holder serial ≡ older_mrn_text year' country' holder' serial' → ⊥

@@ -227,6 +227,10 @@ NoneHasBothForms =
 abbrev pub is_lettered : List ℕ → Bool
 is_lettered text = has_letter (identifier_of text)
 
+-- a GRN never has it
+abbrev pub NoGrnIsLettered : Type 0
+NoGrnIsLettered = (text : List ℕ) → IsGrn text → is_lettered text ≡ false
+
 -- Of all texts, the MRNs that a holder owns by this serial, with the letter or without, are just those that are made of
 -- a year of two digits, the country, the holder and the serial: of any serial that the form has digits for, 0 as well.
 abbrev pub AreJustMade : Bool → ℕ → (ℕ → List ℕ → ℕ → ℕ → List ℕ) → Type 0

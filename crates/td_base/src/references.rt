@@ -3,7 +3,7 @@
 ghost use Rattle.std.specs.Prelude.{◌≡◌, ◌+◌, ◌-◌, ◌≤◌, ◌++◌, length, All, IsTrue, ◌↔◌, SomeIff, IfSome, OkIff, IfErr};
 ghost use Rattle.ascii_text.specs.Digits.{fixed_decimal, IsMark};
 ghost use Rattle.td_base.specs.Codes.{IsCountry};
-ghost use Rattle.td_base.specs.References.{IsReferenceText, IsFirstFault, HasForm, has_form, reference_read, numbers_of as numbers_in, owner_of as owner_in, serial_of as serial_in, reference_text, grn_text, mrn_text, older_mrn_text, IsGrnSerial, IsMrnSerial, IsOlderMrnSerial, TellsApart, NoneHasBothForms};
+ghost use Rattle.td_base.specs.References.{IsReferenceText, IsFirstFault, HasForm, has_form, reference_read, numbers_of as numbers_in, owner_of as owner_in, serial_of as serial_in, reference_text, grn_text, mrn_text, older_mrn_text, IsGrnSerial, IsMrnSerial, IsOlderMrnSerial, TellsApart, NoneHasBothForms, NoGrnIsLettered};
 
 use crate::checking::check_digit;
 use crate::country::Country;
@@ -163,9 +163,11 @@ fn write_front(text: &mut [u8], year2: u8, country: Country, holder: HolderNo, s
 }
 
 /// References that are made for different holders, or of different serials, differ, and so do MRNs of different forms.
+/// No GRN has the form with the letter.
 pub fn made_references_differ()
     ensures grn { TellsApart grn_text IsGrnSerial }
     ensures mrn { TellsApart mrn_text IsMrnSerial }
     ensures older { TellsApart older_mrn_text IsOlderMrnSerial }
     ensures forms { NoneHasBothForms }
+    ensures letter { NoGrnIsLettered }
 {}

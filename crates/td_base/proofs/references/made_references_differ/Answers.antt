@@ -1,5 +1,5 @@
 use Rattle.std.proofs.Common.{arith}
-use Rattle.td_base.proofs.MadeReferences.{made_apart, lettered_apart, made_either}
+use Rattle.td_base.proofs.MadeReferences.{made_apart, lettered_apart, made_either, no_grn_lettered}
 use Rattle.td_base.proofs.references.made_references_differ.Goals as goal
 
 pub returns-clause-grn : goal.returns-clause-grn
@@ -16,3 +16,6 @@ returns-clause-older c = λ year year' country country' holder holder' serial se
 
 pub returns-clause-forms : goal.returns-clause-forms
 returns-clause-forms c = made_either
+
+pub returns-clause-letter : goal.returns-clause-letter
+returns-clause-letter c = no_grn_lettered
