@@ -8,8 +8,8 @@ use Rattle.ascii_text.specs.Digits.{digits_value, fixed_decimal}
 use Rattle.ascii_text.proofs.Decided.{some_decided}
 use Rattle.ascii_text.proofs.DigitsAgain.{below_power, digits_again}
 use Rattle.ascii_text.proofs.Places.{around}
-use Rattle.td_base.specs.Codes.{IsCountry, IsHolderNumber}
-use Rattle.td_base.specs.References.{check_of, front_of, country_of, identifier_of, procedure_letter, has_letter, numbers_of, holder_part, serial_part, is_owned, owner_of, serial_of, reference_text, IsReferenceText, IsMrn, is_lettered, mrn_text, older_mrn_text}
+use Rattle.td_base.specs.Codes.{IsHolderNumber}
+use Rattle.td_base.specs.References.{check_of, front_of, country_of, identifier_of, procedure_letter, has_letter, numbers_of, holder_part, serial_part, owner_of, serial_of, reference_text, IsReferenceText, IsMrn, is_lettered, mrn_text, older_mrn_text}
 use Rattle.td_base.proofs.Checked.{front_parts}
 use Rattle.td_base.proofs.Owners.{owned_since, owned_gives, owner_is, serial_is, length-identifier, same_holder, first_digits}
 

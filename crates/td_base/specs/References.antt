@@ -1,6 +1,6 @@
 -- The check digit of ISO 6346, over digits and capital letters.
 -- References: the MRN of a movement and the GRN of a guarantee (NCTS).
-use Rattle.std.specs.Prelude.{ℕ, ◌+◌, ◌-◌, ◌*◌, ◌%◌, ◌^◌, ◌≤◌, ◌==◌, nat_lt, if◌then◌else◌, List, [], ◌∷◌, length, slice_index, All, ◌≡◌, ◌≢◌, ◌&&◌, not, Bool, true, false, nat_eq, ◌++◌, take, drop, slice_range, slice_get, Option, Some, None, Result, Ok, Err, ◌↔◌, ◌⊎◌}
+use Rattle.std.specs.Prelude.{ℕ, ◌+◌, ◌-◌, ◌*◌, ◌%◌, ◌^◌, ◌≤◌, ◌==◌, nat_lt, if◌then◌else◌, List, [], ◌∷◌, length, slice_index, All, ◌≡◌, ◌≢◌, ◌&&◌, not, Bool, false, nat_eq, ◌++◌, take, drop, slice_range, slice_get, Option, Some, None, Result, Ok, Err, ◌↔◌, ◌⊎◌}
 use Rattle.ascii_text.specs.Digits.{IsMark, is_mark, digits_value, fixed_decimal}
 use Rattle.std.specs.Char.{IsAsciiDigit, IsAsciiUppercase, is_ascii_digit, is_ascii_uppercase}
 use Rattle.std.specs.List.{list_all}
@@ -201,7 +201,8 @@ IsMrnSerial serial = (1 ≤ serial) × (serial ≤ greatest_mrn_serial)
 abbrev pub IsOlderMrnSerial : ℕ → Type 0
 IsOlderMrnSerial serial = (1 ≤ serial) × (serial ≤ greatest_older_mrn_serial)
 
--- a text is the MRN of this year, country, holder and serial, in either form
+-- a text is the MRN of this year, country, holder and serial, in either form: with the letter only where six digits hold
+-- the serial
 abbrev pub IsMrnTextOf : ℕ → List ℕ → ℕ → ℕ → List ℕ → Type 0
 IsMrnTextOf year country holder serial text =
     (IsMrnSerial serial × (text ≡ mrn_text year country holder serial))

@@ -1,5 +1,6 @@
 //! Verdicts, with ample memory: what is said to each command, and whether something is written.
 mod moves;
+mod serials;
 mod shown;
 mod terms;
 
@@ -242,6 +243,7 @@ fn laws_hold() {
     writes_what_the_book_says();
     fresh_book_says_its_account();
     keeps_rows_sound();
+    other_form_names_nothing();
     nobody_writes();
 }
 

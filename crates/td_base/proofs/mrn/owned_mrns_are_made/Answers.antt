@@ -1,7 +1,6 @@
-use Rattle.std.proofs.Common.{arith, sym, subst}
+use Rattle.std.proofs.Common.{arith}
 use Rattle.td_base.proofs.MadeReferences.{made_is_reference, made_owner, made_serial_is, made_unlettered, lettered_form, lettered_owner, lettered_serial_is, made_lettered}
 use Rattle.td_base.proofs.OwnedReferences.{owned_lettered, owned_unlettered}
-use Rattle.td_base.specs.References.{IsMrn, is_lettered, owner_of, serial_of}
 use Rattle.td_base.proofs.mrn.owned_mrns_are_made.Goals as goal
 
 pub returns-clause-lettered : goal.returns-clause-lettered

@@ -1,6 +1,6 @@
 use Rattle.std.proofs.Common.{◌≡◌, ℕ, ◌+◌, ◌-◌, length, arith, subst}
 use Rattle.std.proofs.lemmas.List.{length-replicate}
-use Rattle.td_base.specs.References.{IsReferenceText, reference_text}
+use Rattle.td_base.specs.References.{IsReferenceText}
 use Rattle.td_base.proofs.Identifiers.{with_behind, length-with_behind, marks_behind}
 use Rattle.td_base.proofs.Numbered.{numbered_is_reference}
 use Rattle.td_base.proofs.references.make_reference.Goals as goal

@@ -1,5 +1,4 @@
-use Rattle.std.proofs.Common.{◌≡◌, ◌+◌, ◌-◌, ◌++◌, length, drop, arith, refl, sym, ap, ◌∙◌, rules}
-use borrow.Rule.Slice.PartMut.{put_mid}
+use Rattle.std.proofs.Common.{◌≡◌, ◌+◌, ◌++◌, arith, refl, ◌∙◌, rules}
 use Rattle.td_base.specs.References.{check_of}
 use Rattle.td_base.proofs.Written.{front_is, front_size, behind_put, found_digit, last_written}
 use Rattle.td_base.proofs.references.write_reference.Goals as goal
