@@ -10,7 +10,7 @@ use Rattle.td_base.specs.References.{mrn_text, older_mrn_text, serial_of}
 use Rattle.td_base.proofs.MadeReferences.{made_either, made_serial_is, lettered_serial_is}
 use Rattle.td_guarantee.specs.declared.guarantee.Guarantee.{Guarantee}
 use Rattle.td_movement.specs.declared.movement.Movement.{Movement}
-use Rattle.td_model.specs.Account.{HolderRows, movement_by_mrn}
+use Rattle.td_model.specs.Account.{movement_by_mrn}
 use Rattle.td_model.specs.Sound.{AllNumbered, IsMovementRow}
 use Rattle.td_acts.specs.Laws.{OtherFormNamesNothing}
 use Rattle.td_acts.proofs.Differing.{numbered_mrn}
