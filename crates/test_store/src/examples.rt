@@ -15,8 +15,10 @@ pub const GRN: &[u8] = b"25CH0000010000014";
 
 pub const SECOND_GRN: &[u8] = b"25CH0000010000023";
 
-/// The first movement of that holder.
-pub const MRN: &[u8] = b"25CH00000100000013";
+/// The first movement of that holder, and its MRN in the older form.
+pub const MRN: &[u8] = b"25CH000001000001J8";
+
+pub const OLDER_MRN: &[u8] = b"25CH00000100000013";
 
 /// That holder's row, after two guarantees and two movements.
 pub const HOLDER: &str = "INSERT INTO holders VALUES (1, 'CH1234567', 1740819600, 2, 2)";
