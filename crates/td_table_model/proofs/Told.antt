@@ -43,8 +43,8 @@ movements_told country h form is =
     all-map (λ (m : Keyed Movement). IsToldIn country m.row.mrn m.holder m.serial) (movement_row h.row.holder) (numbered 0 h.movements)
     (all_both (λ (p : ℕ × Movement). p.0 ≤ 0 + length h.movements) (λ (p : ℕ × Movement). IsMovementRow country h.row.holder h.guarantees p.0 p.1) (λ (p : ℕ × Movement). IsToldIn country p.1.mrn h.row.holder p.0)
     (λ p within m.
-        let read = either_read_back (year_of p.1.accepted % 100) country h.row.holder p.0 p.1.mrn form is.row.number m.mrn in
-        (read.owner, read.number))
+    let read = either_read_back (year_of p.1.accepted % 100) country h.row.holder p.0 p.1.mrn form is.row.number m.mrn in
+    (read.owner, read.number))
     (numbered 0 h.movements) (numbers_within 0 h.movements) (all_numbered (IsMovementRow country h.row.holder h.guarantees) 0 h.movements is.movements))
 
 -- the serials in the references of a holder's guarantees and movements are their places

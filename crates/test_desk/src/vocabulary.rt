@@ -61,7 +61,13 @@ fn assert_mrn(rt: &(impl AllocGlobal + Abort), mrn: Option<Mrn>, text: &str) {
     assert_eq!(rt; printed.as_str(), text);
 }
 
-fn assert_mrns(rt: &(impl AllocGlobal + Abort), holder: HolderNo, serial: u32, new: &str, older: &str) {
+fn assert_mrns(
+    rt: &(impl AllocGlobal + Abort),
+    holder: HolderNo,
+    serial: u32,
+    new: &str,
+    older: &str,
+) {
     let country = country(rt);
     assert_mrn(rt, Mrn::make(25, country, holder, serial), new);
     assert_mrn(rt, Mrn::make_older(25, country, holder, serial), older);

@@ -28,7 +28,10 @@ fn with_count(rt: &(impl AllocGlobal + Abort), count: u32) -> Loaded {
 fn serials_are_spent(rt: HostRuntime) {
     for (count, want, writes) in &COUNTS {
         let loaded = with_count(&rt, *count);
-        assert!(rt; is_decided(&rt, &loaded, &declaration(&rt), want, *writes), "{count}");
+        assert!(rt;
+            is_decided(&rt, &loaded, &declaration(&rt), want, *writes),
+            "{count}"
+        );
     }
 }
 
@@ -42,7 +45,10 @@ fn movements_with_older_serials_are_moved(rt: HostRuntime) {
     let movement = examples::movement(&rt, OLDER, b"A9", lines);
     loaded.movements.push(movement).expect(&rt, "memory");
     let (holder, mrn) = (holder(&rt, 1), mrn(&rt, OLDER));
-    let (view, cancel) = (Command::SeeMovement { holder, mrn }, Command::Ie014 { holder, mrn });
+    let (view, cancel) = (
+        Command::SeeMovement { holder, mrn },
+        Command::Ie014 { holder, mrn },
+    );
     assert!(rt; is_decided(&rt, &loaded, &view, "movement 25CH00000110000006", false));
     assert!(rt; is_decided(&rt, &loaded, &cancel, "IE014 25CH00000110000006", true));
 }
