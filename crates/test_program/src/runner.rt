@@ -24,8 +24,8 @@
 //! - `$ no-file`: the case's file isn't there, nor its log.
 //! - `# TEXT`: for who reads it.
 //!
-//! Bytes, words and lines have the escapes `\r`, `\n`, `\t`, `\s` for a space, `\b` for a backslash, and `\xff` for that
-//! byte, as well as `\xef`, `\xbb` and `\xbf`, the three of a mark in front of a file.
+//! Bytes, words and lines have the escapes `\r`, `\n`, `\t`, `\s` for a space, `\b` for a backslash, and `\x0b` for the
+//! byte with these two hexadecimal digits.
 mod bytes;
 mod cases;
 mod files;

@@ -84,16 +84,11 @@ fn push_reply(
     Ok(push_texts(bytes, &["\r\n", body])?)
 }
 
-// A byte that is named by its two digits, and the text after it.
+// A byte that is named by its two hexadecimal digits, and the text after it.
 fn byte(piece: &str) -> Option<(u8, &str)> {
     let (digits, rest) = piece.split_at_checked(2)?;
-    match digits {
-        "ff" => Some((0xff, rest)),
-        "ef" => Some((0xef, rest)),
-        "bb" => Some((0xbb, rest)),
-        "bf" => Some((0xbf, rest)),
-        _ => None,
-    }
+    let byte = u8::from_str_radix(digits, 16).ok()?;
+    Some((byte, rest))
 }
 
 // What stands behind a backslash, and the text after it.
