@@ -80,15 +80,13 @@ fn serve<D: Desk + Drop>(
 // How many of the replies stand at the front, whole, and what stands behind them.
 fn whole_in<'a>(told: &'a [u8], exchanges: &[Exchange]) -> (usize, &'a [u8]) {
     let mut left = told;
-    let mut whole = 0;
-    for (_, reply) in exchanges {
+    for (whole, (_, reply)) in exchanges.iter().enumerate() {
         match left.strip_prefix(*reply) {
             Some(rest) => left = rest,
             None => return (whole, left),
         }
-        whole += 1;
     }
-    (whole, left)
+    (exchanges.len(), left)
 }
 
 // The stream was served to its end, or up to the fixed reply. How many requests were answered.

@@ -238,7 +238,8 @@ fn running_commands_over_tables(rt: HostRuntime) {
 
 // The registration and the opening of a guarantee are done at the desk.
 fn with_guarantee<D: Desk>(rt: &(impl AllocGlobal + Abort), mut desk: D) -> D {
-    for stamped in list(rt).iter().take(2) {
+    let list = list(rt);
+    for stamped in &list[..2] {
         let outcome = do_one(rt.alloc(), &mut desk, stamped);
         assert!(rt; matches!(outcome, Outcome::Said(_)));
     }
@@ -249,7 +250,7 @@ fn with_guarantee<D: Desk>(rt: &(impl AllocGlobal + Abort), mut desk: D) -> D {
 fn assert_rows_done(rt: &impl Abort, found: &BatchRun, due: &BatchRun, rows: usize) {
     assert!(rt; found.done == due.done && due.stopped.is_none());
     assert!(rt; found.stopped.is_some() == (found.done < rows || found.text.is_empty()));
-    assert!(rt; found.stopped.is_none_or(|fault| fault == Fault::NoMemory));
+    assert!(rt; matches!(found.stopped, None | Some(Fault::NoMemory)));
     if found.done > 0 {
         assert_eq!(rt; found.text.as_slice(), due.text.as_slice());
     } else {

@@ -35,6 +35,10 @@ enum Job {
     Upgrading,
 }
 
+fn at_start(command: Command) -> Stamped {
+    Stamped { at: START, command }
+}
+
 /// A holder's way from the registration to the write-off of a movement.
 pub fn list(rt: &(impl AllocGlobal + Abort)) -> [Stamped; 7] {
     let mrn = mrn(rt, MRN);
@@ -42,15 +46,14 @@ pub fn list(rt: &(impl AllocGlobal + Abort)) -> [Stamped; 7] {
     let office = office(rt, b"DE005600");
     let (result, ground) = (Control::A1, Ground::Results);
     [
-        register(rt, 1),
-        open(rt, 1, 1_000_000, 50),
-        lodge(rt, 1, b"A1", grn(rt, GRN), 500_000),
-        Command::Ie029 { mrn, limit },
-        Command::Ie007 { mrn, office },
-        Command::Ie018 { mrn, result },
-        Command::Ie045 { mrn, ground },
+        at_start(register(rt, 1)),
+        at_start(open(rt, 1, 1_000_000, 50)),
+        at_start(lodge(rt, 1, b"A1", grn(rt, GRN), 500_000)),
+        at_start(Command::Ie029 { mrn, limit }),
+        at_start(Command::Ie007 { mrn, office }),
+        at_start(Command::Ie018 { mrn, result }),
+        at_start(Command::Ie045 { mrn, ground }),
     ]
-    .map(|command| Stamped { at: START, command })
 }
 
 /// Two further declarations.
@@ -91,14 +94,13 @@ fn rows_done<S: Alter>(
 
 // How many commands of the list, and rows of the batch behind it, were answered.
 fn carried<S: Alter>(rt: &(impl AllocGlobal + Abort), desk: &mut SqlDesk<S>) -> usize {
-    let mut answered = 0;
-    for stamped in &list(rt) {
+    let list = list(rt);
+    for (answered, stamped) in list.iter().enumerate() {
         if !is_answered(rt, desk, stamped) {
             return answered;
         }
-        answered += 1;
     }
-    answered + rows_done(rt, desk, &batch(rt))
+    rows_done(rt, desk, &batch(rt)).saturating_add(list.len())
 }
 
 /// All that the desk shows: its holders' views, and what it gives of movements and of guarantees, row by row.
@@ -292,15 +294,18 @@ const LEFT: [(Left, Left); 7] = [
     (Left::Junk, Left::Junk),
 ];
 
+fn is_text(wanted: Option<&String>, found: &str) -> bool {
+    match wanted {
+        Some(wanted) => wanted.as_str() == found,
+        None => false,
+    }
+}
+
 // After a crash all that was answered is there, and of what comes next all or nothing.
 fn assert_left(rt: &(impl AllocGlobal + Abort), found: &str, answered: usize, wanted: &[String]) {
-    let before = wanted.get(answered);
-    let after = wanted.get(answered + 1);
-    let is_one = |state: Option<&String>| state.is_some_and(|state| state.as_str() == found);
-    assert!(rt;
-        is_one(before) || is_one(after),
-        "after {answered}: {found}"
-    );
+    let is_before = is_text(wanted.get(answered), found);
+    let is_after = is_text(wanted.get(answered.saturating_add(1)), found);
+    assert!(rt; is_before || is_after, "after {answered}: {found}");
 }
 
 // Whether the job was done to its end where the files take so many calls. Whatever a crash then leaves is found again.
@@ -326,7 +331,7 @@ fn is_done(
         let found = found(rt, &crashed.contents(rt, *log, *db));
         assert_left(rt, &found, answered, wanted);
     }
-    is_whole && answered + 1 == wanted.len()
+    is_whole && answered.saturating_add(1) == wanted.len()
 }
 
 /// More calls of a file than a job makes.

@@ -135,15 +135,30 @@ fn differs(image: &Image, at: usize) -> bool {
     image.synced.get(at) != image.written.get(at)
 }
 
+fn first_difference(image: &Image) -> usize {
+    let length = image.written.len();
+    for at in 0..length {
+        if differs(image, at) {
+            return at;
+        }
+    }
+    length
+}
+
+fn last_difference(image: &Image) -> usize {
+    let mut last = 0;
+    for at in 0..image.written.len() {
+        if differs(image, at) {
+            last = at;
+        }
+    }
+    last
+}
+
 // The middle of what differs.
 fn middle(image: &Image) -> usize {
-    let length = image.written.len();
-    let first = (0..length).position(|at| differs(image, at));
-    let last = (0..length).rposition(|at| differs(image, at));
-    match (first, last) {
-        (Some(first), Some(last)) => first / 2 + last / 2,
-        _ => 0,
-    }
+    let (first, last) = (first_difference(image), last_difference(image));
+    (first / 2).saturating_add(last / 2)
 }
 
 // Past the end of what was synced a byte that wasn't written is nought.
