@@ -1,5 +1,4 @@
-//! A desk's file after one change for each rule that it has to keep; the first and the last rule, which only a file of version 1 can
-//! break, are in `first_office` and `changed_files`.
+//! A desk's file after one change for each rule; `first_office` and `changed_files` have those of version 1 alone.
 use crate::runner::assert_transcript;
 use std::test::Fail;
 
