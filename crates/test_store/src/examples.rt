@@ -1,6 +1,6 @@
 //! What the examples are made of. A text that is none of its kind stops the test, and so does what a database doesn't
 //! do: a test has no exit but its end, which its proof costs less for.
-use sqlite::{Connection, MemStore};
+use sqlite::{Alter, Connection, MemStore};
 use std::process::Abort;
 use td_acts::HolderRow;
 use td_base::{
@@ -113,7 +113,8 @@ pub fn movement(rt: &impl Abort, lines: Vec<Line>) -> Movement {
     }
 }
 
-fn make(rt: &impl Abort, conn: &mut Connection<MemStore>, layout: Layout) {
+/// Makes the tables of a layout in a database that has none.
+pub fn make<S: Alter>(rt: &impl Abort, conn: &mut Connection<S>, layout: Layout) {
     assert!(rt; conn.is_autocommit());
     let mut tx = conn.transaction();
     make_tables(&mut tx, layout).expect(rt, "tables");
@@ -133,7 +134,7 @@ pub fn with_tables(rt: &(impl AllocGlobal + Abort)) -> Connection<MemStore> {
 }
 
 /// Carries statements out, one after another.
-pub fn fill(rt: &impl Abort, conn: &mut Connection<MemStore>, rows: &[&str]) {
+pub fn fill<S: Alter>(rt: &impl Abort, conn: &mut Connection<S>, rows: &[&str]) {
     for statement in rows {
         conn.execute(statement, &[]).expect(rt, "a statement");
     }

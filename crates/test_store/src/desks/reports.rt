@@ -171,7 +171,7 @@ fn nothing_else_is_ever_overdue(rt: HostRuntime) {
 
 /// A desk of holders 1 and 2, of which the second came first: each has a movement that is released, and the first one more, and
 /// between these one that isn't.
-fn busy(rt: &(impl AllocGlobal + Abort)) -> SqlDesk<MemStore> {
+pub fn busy(rt: &(impl AllocGlobal + Abort)) -> SqlDesk<MemStore> {
     let mut desk = made(rt);
     let second = Grn::make(25, country(rt), holder(rt, 2), 1).expect(rt, "a GRN");
     for (number, grn) in [(2, second), (1, grn(rt, GRN))] {

@@ -149,7 +149,7 @@ fn push_guarantee(
 }
 
 // What five calls give of the desk's movements: the end is told by a dash.
-fn movements_told(rt: &(impl AllocGlobal + Abort), desk: &mut SqlDesk<MemStore>) -> String {
+pub fn movements_told<S: Alter>(rt: &(impl AllocGlobal + Abort), desk: &mut SqlDesk<S>) -> String {
     let mut words = String::new(rt.alloc());
     let mut rows = desk.movement_rows().expect(rt, "a walk");
     for _ in 0..5 {
@@ -163,7 +163,7 @@ fn movements_told(rt: &(impl AllocGlobal + Abort), desk: &mut SqlDesk<MemStore>)
 }
 
 // What six calls give of its guarantees.
-fn guarantees_told(rt: &(impl AllocGlobal + Abort), desk: &mut SqlDesk<MemStore>) -> String {
+pub fn guarantees_told<S: Alter>(rt: &(impl AllocGlobal + Abort), desk: &mut SqlDesk<S>) -> String {
     let mut words = String::new(rt.alloc());
     let mut rows = desk.guarantee_rows().expect(rt, "a walk");
     for _ in 0..6 {
