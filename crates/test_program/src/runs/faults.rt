@@ -24,31 +24,31 @@ const LIFE: [Exchange; 9] = [
     ),
     (
         b"POST /holders/000001/movements HTTP/1.1\r\nContent-Length: 127\r\n\r\n{\"departure\":\"CH001251\",\"destination\":\"DE005600\",\"lines\":[{\"cents\":100000,\"code\":\"AB12\",\"grn\":\"25CH0000010000014\"}],\"lrn\":\"A1\"}",
-        b"HTTP/1.1 200 OK\r\nContent-Type: application/json\r\nContent-Length: 57\r\n\r\n{\"lrn\":\"A1\",\"message\":\"IE028\",\"mrn\":\"25CH00000100000013\"}",
+        b"HTTP/1.1 200 OK\r\nContent-Type: application/json\r\nContent-Length: 57\r\n\r\n{\"lrn\":\"A1\",\"message\":\"IE028\",\"mrn\":\"25CH000001000001J8\"}",
     ),
     (
         b"POST /holders/000001/movements HTTP/1.1\r\nContent-Length: 127\r\n\r\n{\"departure\":\"CH001251\",\"destination\":\"DE005600\",\"lines\":[{\"cents\":100000,\"code\":\"AB12\",\"grn\":\"25CH0000010000014\"}],\"lrn\":\"A2\"}",
-        b"HTTP/1.1 200 OK\r\nContent-Type: application/json\r\nContent-Length: 57\r\n\r\n{\"lrn\":\"A2\",\"message\":\"IE028\",\"mrn\":\"25CH00000100000021\"}",
+        b"HTTP/1.1 200 OK\r\nContent-Type: application/json\r\nContent-Length: 57\r\n\r\n{\"lrn\":\"A2\",\"message\":\"IE028\",\"mrn\":\"25CH000001000002J7\"}",
     ),
     (
         b"POST /holders/000001/movements HTTP/1.1\r\nContent-Length: 127\r\n\r\n{\"departure\":\"CH001251\",\"destination\":\"DE005600\",\"lines\":[{\"cents\":100000,\"code\":\"AB12\",\"grn\":\"25CH0000010000014\"}],\"lrn\":\"A3\"}",
-        b"HTTP/1.1 200 OK\r\nContent-Type: application/json\r\nContent-Length: 57\r\n\r\n{\"lrn\":\"A3\",\"message\":\"IE028\",\"mrn\":\"25CH00000100000030\"}",
+        b"HTTP/1.1 200 OK\r\nContent-Type: application/json\r\nContent-Length: 57\r\n\r\n{\"lrn\":\"A3\",\"message\":\"IE028\",\"mrn\":\"25CH000001000003J6\"}",
     ),
     (
-        b"POST /office/movements/25CH00000100000013/ie029 HTTP/1.1\r\nContent-Length: 22\r\n\r\n{\"limit\":\"2025-03-08\"}",
-        b"HTTP/1.1 200 OK\r\nContent-Type: application/json\r\nContent-Length: 86\r\n\r\n{\"limit\":\"2025-03-08\",\"message\":\"IE029\",\"mrn\":\"25CH00000100000013\",\"state\":\"released\"}",
+        b"POST /office/movements/25CH000001000001J8/ie029 HTTP/1.1\r\nContent-Length: 22\r\n\r\n{\"limit\":\"2025-03-08\"}",
+        b"HTTP/1.1 200 OK\r\nContent-Type: application/json\r\nContent-Length: 86\r\n\r\n{\"limit\":\"2025-03-08\",\"message\":\"IE029\",\"mrn\":\"25CH000001000001J8\",\"state\":\"released\"}",
     ),
     (
-        b"POST /office/movements/25CH00000100000013/ie007 HTTP/1.1\r\nContent-Length: 21\r\n\r\n{\"office\":\"DE005600\"}",
-        b"HTTP/1.1 200 OK\r\nContent-Type: application/json\r\nContent-Length: 59\r\n\r\n{\"late\":false,\"message\":\"IE006\",\"mrn\":\"25CH00000100000013\"}",
+        b"POST /office/movements/25CH000001000001J8/ie007 HTTP/1.1\r\nContent-Length: 21\r\n\r\n{\"office\":\"DE005600\"}",
+        b"HTTP/1.1 200 OK\r\nContent-Type: application/json\r\nContent-Length: 59\r\n\r\n{\"late\":false,\"message\":\"IE006\",\"mrn\":\"25CH000001000001J8\"}",
     ),
     (
-        b"POST /office/movements/25CH00000100000013/ie018 HTTP/1.1\r\nContent-Length: 15\r\n\r\n{\"result\":\"A1\"}",
-        b"HTTP/1.1 200 OK\r\nContent-Type: application/json\r\nContent-Length: 64\r\n\r\n{\"message\":\"IE018\",\"mrn\":\"25CH00000100000013\",\"state\":\"cleared\"}",
+        b"POST /office/movements/25CH000001000001J8/ie018 HTTP/1.1\r\nContent-Length: 15\r\n\r\n{\"result\":\"A1\"}",
+        b"HTTP/1.1 200 OK\r\nContent-Type: application/json\r\nContent-Length: 64\r\n\r\n{\"message\":\"IE018\",\"mrn\":\"25CH000001000001J8\",\"state\":\"cleared\"}",
     ),
     (
-        b"POST /office/movements/25CH00000100000013/ie045 HTTP/1.1\r\nContent-Length: 20\r\n\r\n{\"ground\":\"results\"}",
-        b"HTTP/1.1 200 OK\r\nContent-Type: application/json\r\nContent-Length: 68\r\n\r\n{\"message\":\"IE045\",\"mrn\":\"25CH00000100000013\",\"state\":\"written-off\"}",
+        b"POST /office/movements/25CH000001000001J8/ie045 HTTP/1.1\r\nContent-Length: 20\r\n\r\n{\"ground\":\"results\"}",
+        b"HTTP/1.1 200 OK\r\nContent-Type: application/json\r\nContent-Length: 68\r\n\r\n{\"message\":\"IE045\",\"mrn\":\"25CH000001000001J8\",\"state\":\"written-off\"}",
     ),
 ];
 

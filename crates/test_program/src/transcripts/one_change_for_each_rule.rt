@@ -10,9 +10,9 @@ $ pipe --country CH --at 1740819600 --db FILE --new
 > POST /office/holders/000001/guarantees {"reference":1000000,"cover":50,"code":"AB12"}
 < 200 {"grn":"25CH0000010000014"}
 > POST /holders/000001/movements {"lrn":"A1","departure":"CH001251","destination":"DE005600","lines":[{"grn":"25CH0000010000014","code":"AB12","cents":500000}]}
-< 200 {"lrn":"A1","message":"IE028","mrn":"25CH00000100000013"}
-> POST /office/movements/25CH00000100000013/ie029 {"limit":"2025-03-08"}
-< 200 {"limit":"2025-03-08","message":"IE029","mrn":"25CH00000100000013","state":"released"}
+< 200 {"lrn":"A1","message":"IE028","mrn":"25CH000001000001J8"}
+> POST /office/movements/25CH000001000001J8/ie029 {"limit":"2025-03-08"}
+< 200 {"limit":"2025-03-08","message":"IE029","mrn":"25CH000001000001J8","state":"released"}
 $ check --country CH --db FILE
 <| sound\n
 $ check-after UPDATE holders SET eori = 'x'
@@ -21,7 +21,7 @@ $ check-after DELETE FROM guarantees2 WHERE holder = 1 AND serial = 1
 ! 1 transit-desk: damaged S3
 $ check-after DELETE FROM codes WHERE holder = 1 AND serial = 1
 ! 1 transit-desk: damaged S4
-$ check-after UPDATE movements SET mrn = '24CH00000100000011' WHERE holder = 1 AND serial = 1
+$ check-after UPDATE movements SET mrn = '24CH000001000001J6' WHERE holder = 1 AND serial = 1
 ! 1 transit-desk: damaged S5
 $ check-after UPDATE lines1 SET guarantee = 9
 ! 1 transit-desk: damaged S6
