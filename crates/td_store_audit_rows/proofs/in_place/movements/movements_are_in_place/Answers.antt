@@ -1,11 +1,11 @@
-use Rattle.std.proofs.Common.{◌≡◌, ◌∙◌, ◌+◌, refl, sym, subst, arith, map}
+use Rattle.std.proofs.Common.{◌≡◌, ◌∙◌, ◌+◌, ap, refl, sym, subst, arith, map}
 use Rattle.std.proofs.lemmas.Bool.{false≢true}
-use Rattle.std.proofs.lemmas.List.{length-map}
+use Rattle.std.proofs.lemmas.List.{get_or_default, length-map}
 use Rattle.td_table_model.specs.Gathering.{place}
 use Rattle.td_store_rows.specs.MovementTable.{movement_row_of}
 use Rattle.td_store_rows.specs.declared.movements.stored.StoredMovement.{StoredMovement}
 use Rattle.td_store_audit_rows.specs.InPlace.{AreMovementsInPlace, IsMovementInPlace}
-use Rattle.td_store_audit_rows.proofs.Placed.{each_placed, placed}
+use Rattle.td_store_audit_rows.proofs.Placed.{each_placed, one_more, placed}
 use Rattle.td_store_audit_rows.proofs.in_place.movements.movements_are_in_place.Goals as goal
 use Rattle.td_store_audit_rows.proofs.in_place.movements.movements_are_in_place.Goals.{then-rows-i-via-then-rows-i, then-rows-i-via-else-rows-i+then-not-is_in_place}
 
@@ -37,3 +37,11 @@ returns c =
       },
       λ kept. refl,
     )
+
+-- one more is in its place
+pub loop-i-preserved : goal.loop-i-preserved
+loop-i-preserved c =
+    let i = c.loop-i.i in
+    let x = c.index-rows-i-else-rows-i.result in
+    let serial : x.serial ≡ i + 1 = ap (λ (r : StoredMovement). r.serial) (c.index-rows-i-else-rows-i.is ∙ get_or_default c.args.rows.now i x c.index-rows-i.result c.loop-i-test.true) ∙ c.if-rows-i.false in
+    one_more movement_row_of place (IsMovementInPlace c.args.country) c.args.rows.now i x c.loop-i.invariant c.loop-i-test.true c.index-rows-i-else-rows-i.is serial (c.is_in_place.ensures.0 c.if-not-is_in_place.false)
