@@ -5,6 +5,7 @@ mod files;
 mod heads;
 mod help;
 mod laws;
+mod lost_replies;
 mod machine_clock;
 mod many_declarations;
 mod many_releases;

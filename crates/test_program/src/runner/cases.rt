@@ -5,6 +5,7 @@ use super::files::{
     write_rows,
 };
 use super::told::{Place, assert_ending, assert_replies, end_of};
+use crate::helpers::devices::Drip;
 use crate::helpers::{Done, done_over, served_at};
 use std::alloc::{AllocError, Global};
 use std::test::Fail;
@@ -62,6 +63,23 @@ fn assert_on_file(
     ran
 }
 
+// The same stream one byte a read, if it has fewer bytes than a stream may make reads.
+fn assert_byte_by_byte(
+    rt: &HostRuntime,
+    place: Place<'_>,
+    words: &str,
+    lines: &str,
+) -> Result<(), Fail> {
+    let input = input_of(rt.alloc(), place.below(1), lines)?;
+    let words = words_of(rt.alloc(), place, words, FILE)?;
+    if input.len() < 100_000 {
+        let done = done_over(rt, words, Drip::ending(&input));
+        assert_left(rt.alloc(), place, lines, &done)
+    } else {
+        Ok(())
+    }
+}
+
 // Whether a run serves a stream in memory.
 fn is_in_memory(words: &str, lines: &str) -> bool {
     words.starts_with("pipe ") && !words.contains("--db") && !end_of(lines).starts_with("2 ")
@@ -76,6 +94,7 @@ fn assert_program(
     assert_run(rt, place, words, FILE, lines)?;
     if is_in_memory(words, lines) {
         assert_on_file(rt, place, words, lines)?;
+        assert_byte_by_byte(rt, place, words, lines)?;
     }
     Ok(())
 }

@@ -1,4 +1,4 @@
-//! Bodies whose length is said twice, in two ways, or badly: what the rules of framing make of each, and of what stands behind it.
+//! Bodies whose length is said twice, in two ways, or badly: what the rules of framing make of each.
 use crate::runner::assert_transcript;
 use std::test::Fail;
 
