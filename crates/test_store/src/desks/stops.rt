@@ -356,7 +356,7 @@ fn stops_of_both(rt: &(impl AllocGlobal + Abort), job: Job) -> (u64, u64) {
 
 #[test]
 fn a_stop_while_a_desk_is_made_leaves_none_or_an_empty_one(rt: HostRuntime) {
-    assert_eq!(rt; stops_of_both(&rt, Job::Making), (61, 0));
+    assert_eq!(rt; stops_of_both(&rt, Job::Making), (61, 31));
 }
 
 #[test]
@@ -366,5 +366,5 @@ fn a_stop_while_decisions_are_carried_leaves_those_that_were_answered(rt: HostRu
 
 #[test]
 fn a_stop_of_an_upgrade_leaves_either_version(rt: HostRuntime) {
-    assert_eq!(rt; stops_of_both(&rt, Job::Upgrading), (58, 0));
+    assert_eq!(rt; stops_of_both(&rt, Job::Upgrading), (58, 65));
 }
