@@ -205,14 +205,14 @@ fn start(rt: &(impl AllocGlobal + Abort), job: Job) -> Contents {
 
 // The desk after each of the list's commands and each of the batch's rows.
 fn told_of_each(rt: &(impl AllocGlobal + Abort)) -> Vec<String> {
-    let mut desk = made(rt);
+    let (mut desk, rows) = (made(rt), batch(rt));
     let mut all = Vec::new(rt.alloc());
     all.push(told(rt, &mut desk)).expect(rt, "memory");
     for stamped in &list(rt) {
         assert!(rt; is_answered(rt, &mut desk, stamped));
         all.push(told(rt, &mut desk)).expect(rt, "memory");
     }
-    for row in batch(rt).chunks(1) {
+    for row in rows.chunks(1) {
         assert!(rt; rows_done(rt, &mut desk, row) == 1);
         all.push(told(rt, &mut desk)).expect(rt, "memory");
     }
