@@ -1,4 +1,5 @@
-//! Desks are made, opened, refused and closed, over a store in memory, and say what a plain desk says.
+//! Desks are made, opened, refused and closed, over a store in memory, say what a plain desk says, and stand want of
+//! memory and stops of their files.
 mod accepted;
 mod alike;
 mod commands;
