@@ -56,6 +56,7 @@ $ acts --country CH --db FILE --file CSV --at 1740819600
 - IE007,25CH00000100000013,arrived
 - IE007,25CH00000100000048,no-movement
 - IE007,25CH000001000004J5,arrived
+! 1
 
 == an empty desk gives the letter from the first movement on
 $ pipe --country CH --at 1740819600
@@ -78,9 +79,9 @@ $ pipe --country CH --at 1740819600
 < 404 {"error":"no-movement"}
 # With a check digit that isn't its own, and with a small letter.
 > POST /office/movements/25CH000001000001J3/ie029 {"limit":"2025-03-08"}
-< 400 {"error":"bad-mrn"}
+< 400 {"error":"bad-mrn","reason":"check-digit"}
 > POST /office/movements/25CH000001000001j8/ie029 {"limit":"2025-03-08"}
-< 400 {"error":"bad-mrn"}
+< 400 {"error":"bad-mrn","reason":"form"}
 > POST /office/movements/25CH000001000001J8/ie029 {"limit":"2025-03-08"}
 < 200 {"limit":"2025-03-08","message":"IE029","mrn":"25CH000001000001J8","state":"released"}
 
