@@ -1,5 +1,5 @@
 -- What holds of each command, case by case: all that a further command adds to the proofs of the model.
-use Rattle.std.proofs.Common.{◌≡◌, ℕ, ◌+◌, true, List, length, ◌++◌, Option, Some, None, refl, ap, subst, arith}
+use Rattle.std.proofs.Common.{◌≡◌, ℕ, ◌+◌, ◌<◌, true, List, length, ◌++◌, Option, Some, None, refl, ap, subst, arith, inl}
 use Rattle.std.specs.Prelude.{map, not, nat_lt, nat_le}
 use Rattle.std.proofs.lemmas.Bool.{false≢true}
 use Rattle.std.proofs.lemmas.Bool.Decides.{nat_tests}
@@ -202,13 +202,14 @@ rows_are_for H country None gs ms t (Ie015 h lrn departure destination lines) ow
 rows_are_for H country (Some row) gs ms t (Ie015 h lrn departure destination lines) own proper moment accepted =
     let facts = lodged_facts (nat_lt t row.last_at) (movement_by_lrn lrn ms) (has_contents departure destination (map line_of lines)) (nat_le greatest_mrn_given row.mrn_count) (first_refusal (day_of_moment t) gs lines) _ accepted in
     let same : h ≡ H = cc in
+    let left : row.mrn_count < greatest_mrn_given = grind (arith, nat_tests, facts.2) in
     record {
       old = row;
       known = refl;
       moment = moment;
       next = refl;
-      left = grind (arith, nat_tests, facts.2);
-      movement = record { mrn = ap (λ n. mrn_text (year2_at t) country n (row.mrn_count + 1)) same; lrn = proper.1; departure = proper.2; destination = proper.3; accepted = day_is t moment; status = record { days = (refl, (refl, refl)); limit = tt; arrival = tt; actual = tt }; lines = lines_kept gs lines proper.4 (named_if_fine (day_of_moment t) gs lines facts.3) };
+      left = left;
+      movement = record { mrn = inl ((omega arith, omega (arith, left)), ap (λ n. mrn_text (year2_at t) country n (row.mrn_count + 1)) same); lrn = proper.1; departure = proper.2; destination = proper.3; accepted = day_is t moment; status = record { days = (refl, (refl, refl)); limit = tt; arrival = tt; actual = tt }; lines = lines_kept gs lines proper.4 (named_if_fine (day_of_moment t) gs lines facts.3) };
       fresh = facts.1;
       accepted = refl;
     }

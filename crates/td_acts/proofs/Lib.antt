@@ -16,3 +16,4 @@ pub mod Written
 pub mod AcceptedRows
 pub mod Following
 pub mod Differing
+pub mod OneForm

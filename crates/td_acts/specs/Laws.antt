@@ -1,12 +1,13 @@
 -- Laws that tie the rows which the code writes to the model, where they are not mentioned.
-use Rattle.std.specs.Prelude.{◌≡◌, ℕ, ℤ, List, Option, Some, None, IfSome}
+use Rattle.std.specs.Prelude.{◌≡◌, ℕ, ℤ, List, Option, Some, None, IfSome, IsSome}
 use Rattle.td_base.specs.Codes.{IsCountry}
+use Rattle.td_base.specs.References.{IsMrnSerial, mrn_text, older_mrn_text}
 use Rattle.td_commands.specs.declared.command.Command.{Command}
 use Rattle.td_commands.specs.declared.command.Stamped.{Stamped}
 use Rattle.td_model.specs.declared.holder_row.HolderRow.{HolderRow}
 use Rattle.td_acts.specs.declared.rows.Change.{Change}
 use Rattle.td_acts.specs.declared.rows.Change.TheVariants.{Nothing}
-use Rattle.td_model.specs.Account.{Account, HolderRows, account_with, empty_account, IsAccountOf, ReferencesDiffer}
+use Rattle.td_model.specs.Account.{Account, HolderRows, account_with, empty_account, IsAccountOf, ReferencesDiffer, movement_by_mrn}
 use Rattle.td_model.specs.Book.{Book, account_of, fresh_book}
 use Rattle.td_commands.specs.Commands.{owner_of, IsProper}
 use Rattle.td_model.specs.Machine.{is_accepted, book_after, IsGrown}
@@ -50,6 +51,16 @@ KeepsRowsSound =
     → let change = (decision_on (account_with country found) s.at s.command).change in
     (row : HolderRow) → row_in change ≡ Some row
     → FollowsOn country H found change (rows_after change (rows_or_new row found))
+
+-- Over sound rows a movement is found by its MRN in one form alone: where the text of a serial with the letter is one's, the
+-- older text of that serial is nobody's, whatever its year, and the other way round.
+abbrev pub OtherFormNamesNothing : Type 0
+OtherFormNamesNothing =
+    (country : List ℕ) (h : HolderRows) (year older_year serial : ℕ) → IsCountry country → AreHolderRows country h
+    → IsMrnSerial serial
+    → let new = movement_by_mrn (mrn_text year country h.row.holder serial) h.movements in
+    let older = movement_by_mrn (older_mrn_text older_year country h.row.holder serial) h.movements in
+    (IsSome new → older ≡ None) × (IsSome older → new ≡ None)
 
 -- nothing is written for a command that nobody owns
 abbrev pub NobodyWrites : Type 0

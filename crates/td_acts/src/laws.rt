@@ -1,5 +1,5 @@
 //! Laws of the model, as contracts of functions that do nothing.
-ghost use Rattle.td_acts.specs.Laws.{WritesWhatIsAccepted, WritesWhatTheBookSays, FreshBookSaysItsAccount, KeepsRowsSound, NobodyWrites};
+ghost use Rattle.td_acts.specs.Laws.{WritesWhatIsAccepted, WritesWhatTheBookSays, FreshBookSaysItsAccount, KeepsRowsSound, OtherFormNamesNothing, NobodyWrites};
 
 /// Something is written exactly where the model accepts a change.
 pub fn writes_what_is_accepted()
@@ -20,6 +20,11 @@ pub fn fresh_book_says_its_account()
 /// What is written for a command into its owner's rows keeps the rules of one holder's rows.
 pub fn keeps_rows_sound()
     ensures { KeepsRowsSound }
+{}
+
+/// Over sound rows the text of a movement's serial in the other form, of whatever year, names no movement.
+pub fn other_form_names_nothing()
+    ensures { OtherFormNamesNothing }
 {}
 
 /// Nothing is written for a command that nobody owns.

@@ -17,8 +17,8 @@ mod views;
 
 pub use finding::{find_guarantee, find_movement_by_mrn};
 pub use laws::{
-    fresh_book_says_its_account, keeps_rows_sound, nobody_writes, writes_what_is_accepted,
-    writes_what_the_book_says,
+    fresh_book_says_its_account, keeps_rows_sound, nobody_writes, other_form_names_nothing,
+    writes_what_is_accepted, writes_what_the_book_says,
 };
 pub use rows::{Change, Loaded, NewStatus, NewTerms, Verdict};
 pub use td_commands::{

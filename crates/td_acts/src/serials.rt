@@ -9,7 +9,7 @@ use td_base::{Country, Day, Grn, HolderNo, Moment, Mrn};
 const GREATEST_GRN_GIVEN: u32 = 999_999;
 
 /// The greatest serial that a new movement of a holder is given.
-const GREATEST_MRN_GIVEN: u32 = 9_999_999;
+const GREATEST_MRN_GIVEN: u32 = 999_999;
 
 /// The serial after the last one of a holder's guarantees, and the GRN made of it in the year of a moment.
 /// `None` where the holder has used up all serials.

@@ -19,6 +19,13 @@ small_rest rest small = grind (arith, nat_tests)
 pub check_small : (text : List ℕ) → check_of text ≤ 9
 check_small text = small_rest (weighted_sum 0 text % 11) (omega arith)
 
+-- what stands before the check digit
+pub front_parts : (text : List ℕ) → 5 ≤ length text → front_of text ≡ take 2 text ++ (country_of text ++ identifier_of text)
+front_parts text some =
+    let places : length text - 1 ≡ 2 + (2 + (length text - 1 - 4)) = omega arith in
+    let rest : take (2 + (length text - 1 - 4)) (drop 2 text) ≡ country_of text ++ identifier_of text = take-add 2 (length text - 1 - 4) (drop 2 text) ∙ ap (λ (ys : List ℕ). country_of text ++ take (length text - 1 - 4) ys) (drop-drop 2 2 text) in
+    ap (λ (n : ℕ). take n text) places ∙ take-add 2 _ text ∙ ap (λ (ys : List ℕ). take 2 text ++ ys) rest
+
 -- all before the check digit are digits and capital letters
 pub front_marks : (text : List ℕ) → 5 ≤ length text → HasForm text → All IsMark (front_of text)
 front_marks text some form =
@@ -26,10 +33,7 @@ front_marks text some form =
     let country = All-weaker IsAsciiUppercase IsMark (λ c h. inr h) (country_of text) form.country in
     let behind = All-append IsMark (country_of text) (identifier_of text) country form.identifier in
     let all = All-append IsMark (take 2 text) (country_of text ++ identifier_of text) year behind in
-    let places : length text - 1 ≡ 2 + (2 + (length text - 1 - 4)) = omega arith in
-    let rest : take (2 + (length text - 1 - 4)) (drop 2 text) ≡ country_of text ++ identifier_of text = take-add 2 (length text - 1 - 4) (drop 2 text) ∙ ap (λ (ys : List ℕ). country_of text ++ take (length text - 1 - 4) ys) (drop-drop 2 2 text) in
-    let joined : front_of text ≡ take 2 text ++ (country_of text ++ identifier_of text) = ap (λ (n : ℕ). take n text) places ∙ take-add 2 _ text ∙ ap (λ (ys : List ℕ). take 2 text ++ ys) rest in
-    All-same IsMark (front_of text) _ joined all
+    All-same IsMark (front_of text) _ (front_parts text some) all
 
 -- so they have a check digit
 pub front_checkable : (text : List ℕ) → 5 ≤ length text → length text ≤ 41 → HasForm text → IsCheckable (front_of text)

@@ -6,6 +6,9 @@ mod Ascii
 mod ReferenceParts
 mod Owners
 pub mod Checked
+mod Identifiers
+mod Numbered
 pub mod MadeReferences
 mod Written
+mod OwnedReferences
 mod Printed

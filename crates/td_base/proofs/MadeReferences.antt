@@ -1,97 +1,120 @@
 -- What a made reference is, and what it says.
-use Rattle.std.proofs.Common.{◌≡◌, ℕ, ◌+◌, ◌^◌, ◌<◌, ◌≤◌, true, List, [], ◌++◌, length, take, drop, All, Some, arith, ap, sym, ◌∙◌, inl, mod-eq_of_lt}
-use Rattle.std.specs.Char.{IsAsciiDigit}
-use Rattle.std.proofs.lemmas.List.{take_at, drop_at, length-append}
-use Rattle.std.proofs.lemmas.List.Elements.{All-nil, All-cons, All-append, All-weaker}
-use Rattle.ascii_text.specs.Digits.{fixed_decimal, IsMark}
-use Rattle.ascii_text.proofs.Decimals.{length-fixed_decimal, fixed_decimal_digits, digits_value-fixed_decimal}
+use Rattle.std.proofs.Common.{◌≡◌, ℕ, ◌+◌, ◌^◌, ◌<◌, true, false, List, [], ◌∷◌, ◌++◌, length, Some, arith, refl, ap, sym, ◌∙◌, subst, inl, inr}
+use Rattle.std.proofs.lemmas.Bool.{false≢true}
+use Rattle.std.proofs.lemmas.Option.{slice_get_past}
+use Rattle.ascii_text.specs.Digits.{fixed_decimal}
 use Rattle.td_base.specs.Codes.{IsCountry, IsHolderNumber}
-use Rattle.td_base.specs.References.{check_of, IsCheckable, holder_part, serial_part, is_owned, owner_of, serial_of, reference_text, IsReferenceText}
-use Rattle.td_base.proofs.Checked.{check_small, front_checkable}
-use Rattle.td_base.proofs.Owners.{owned_from, owner_is, serial_is}
-use Rattle.td_base.proofs.ReferenceParts.{IsMadeOf, made_of}
-
--- holder and serial in digits
-abbrev pub numbers : ℕ → ℕ → ℕ → List ℕ
-numbers width holder serial = fixed_decimal 6 holder ++ fixed_decimal width serial
+use Rattle.td_base.specs.References.{check_of, owner_of, serial_of, reference_text, procedure_letter, mrn_text, older_mrn_text, identifier_of, is_lettered, IsGrn, IsMrn, IsMrnTextOf, IsReferenceText}
+use Rattle.td_base.proofs.Identifiers.{numbers, numbers_digits, length-numbers, length-with_behind, plain, lettered, no_letter, letter_seen}
+use Rattle.td_base.proofs.Numbered.{numbered_parts, numbered_is_reference, numbered_owner, numbered_serial_is, numbered_apart}
+use Rattle.td_base.proofs.Owners.{length-identifier}
+use Rattle.td_base.proofs.ReferenceParts.{IsMadeOf}
 
 -- a reference with so many digits of serial
 abbrev pub made : ℕ → ℕ → List ℕ → ℕ → ℕ → List ℕ
 made width year country holder serial = reference_text year country (numbers width holder serial)
 
--- how long they are
-pub length-numbers : (width holder serial : ℕ) → length (numbers width holder serial) ≡ width + 6
-length-numbers width holder serial =
-    omega (arith, length-append (fixed_decimal 6 holder) (fixed_decimal width serial), length-fixed_decimal 6 holder, length-fixed_decimal width serial)
-
--- they are digits
-numbers_digits : (width holder serial : ℕ) → All IsAsciiDigit (numbers width holder serial)
-numbers_digits width holder serial =
-    All-append IsAsciiDigit (fixed_decimal 6 holder) (fixed_decimal width serial) (fixed_decimal_digits 6 holder) (fixed_decimal_digits width serial)
-
 -- the parts of a made reference
 pub made_parts : (width year : ℕ) (country : List ℕ) (holder serial : ℕ) → IsCountry country → let front = fixed_decimal 2 year ++ country ++ numbers width holder serial in IsMadeOf (fixed_decimal 2 year) country (numbers width holder serial) (48 + check_of front) (made width year country holder serial)
-made_parts width year country holder serial form =
-    made_of (fixed_decimal 2 year) country (numbers width holder serial) _ (length-fixed_decimal 2 year) form.size
+made_parts width year country holder serial form = numbered_parts year country (numbers width holder serial) form
 
 -- it is a reference
 pub made_is_reference : (width year : ℕ) (country : List ℕ) (holder serial : ℕ) → IsCountry country → IsReferenceText (width + 11) (made width year country holder serial)
 made_is_reference width year country holder serial form =
-    let parts = made_parts width year country holder serial form in
-    let digit = check_small (fixed_decimal 2 year ++ country ++ numbers width holder serial) in
-    let marks = All-weaker IsAsciiDigit IsMark (λ c h. inl h) (numbers width holder serial) (numbers_digits width holder serial) in
-    record {
-      size = omega (arith, parts.size, length-numbers width holder serial);
-      form = record {
-        year = rw parts.year (fixed_decimal_digits 2 year);
-        country = rw parts.country form.letters;
-        identifier = rw parts.identifier marks;
-        last = rw parts.last (All-cons IsAsciiDigit _ [] (omega arith, omega arith) (All-nil IsAsciiDigit));
-      };
-      check = rw parts.front parts.check;
-    }
-
--- all before its check digit has one
-pub made_checkable : (width year : ℕ) (country : List ℕ) (holder serial : ℕ) → IsCountry country → width ≤ 30 → IsCheckable (fixed_decimal 2 year ++ country ++ numbers width holder serial)
-made_checkable width year country holder serial form small =
-    let text = made_is_reference width year country holder serial form in
-    let parts = made_parts width year country holder serial form in
-    rw (← parts.front) (front_checkable (made width year country holder serial) (omega (arith, text.size)) (omega (arith, text.size)) text.form)
-
--- the holder and the serial in it
-pub made_holder : (width year : ℕ) (country : List ℕ) (holder serial : ℕ) → IsCountry country → IsHolderNumber holder → holder_part (made width year country holder serial) ≡ holder
-made_holder width year country holder serial form number =
-    let parts = made_parts width year country holder serial form in
-    let first : take 6 (numbers width holder serial) ≡ fixed_decimal 6 holder = take_at (fixed_decimal 6 holder) (fixed_decimal width serial) 6 (length-fixed_decimal 6 holder) in
-    rw (parts.identifier, first, digits_value-fixed_decimal) (omega arith)
-
--- the serial, where its digits are enough
-pub made_serial : (width year : ℕ) (country : List ℕ) (holder serial : ℕ) → IsCountry country → serial < 10 ^ width → serial_part (made width year country holder serial) ≡ serial
-made_serial width year country holder serial form small =
-    let parts = made_parts width year country holder serial form in
-    let rest : drop 6 (numbers width holder serial) ≡ fixed_decimal width serial = drop_at (fixed_decimal 6 holder) (fixed_decimal width serial) 6 (length-fixed_decimal 6 holder) in
-    rw (parts.identifier, rest, digits_value-fixed_decimal) (mod-eq_of_lt small)
-
--- it is the holder's
-pub made_owned : (width year : ℕ) (country : List ℕ) (holder serial : ℕ) → IsCountry country → IsHolderNumber holder → is_owned country (made width year country holder serial) ≡ true
-made_owned width year country holder serial form number =
-    let parts = made_parts width year country holder serial form in
-    let text = made width year country holder serial in
-    owned_from country text parts.country (rw parts.identifier (numbers_digits width holder serial)) (omega (arith, made_holder width year country holder serial form number))
+    let size : length (numbers width holder serial) + 5 ≡ width + 11 = omega (arith, length-numbers width holder serial) in
+    subst (λ n. IsReferenceText n (made width year country holder serial)) size (numbered_is_reference year country (numbers width holder serial) form (plain width holder serial).marks)
 
 -- its owner is the holder
 pub made_owner : (width year : ℕ) (country : List ℕ) (holder serial : ℕ) → IsCountry country → IsHolderNumber holder → owner_of country (made width year country holder serial) ≡ Some holder
 made_owner width year country holder serial form number =
-    owner_is country (made width year country holder serial) (made_owned width year country holder serial form number) ∙ ap Some (made_holder width year country holder serial form number)
+    numbered_owner width year country holder serial (numbers width holder serial) form number (plain width holder serial)
 
 -- and its serial that serial
 pub made_serial_is : (width year : ℕ) (country : List ℕ) (holder serial : ℕ) → IsCountry country → IsHolderNumber holder → serial < 10 ^ width → serial_of country (made width year country holder serial) ≡ Some serial
 made_serial_is width year country holder serial form number small =
-    serial_is country (made width year country holder serial) (made_owned width year country holder serial form number) ∙ ap Some (made_serial width year country holder serial form small)
+    numbered_serial_is width year country holder serial (numbers width holder serial) form number small (plain width holder serial)
 
 -- holder and serial are known from it
 pub made_apart : (width year year' : ℕ) (country country' : List ℕ) (holder holder' serial serial' : ℕ) → IsCountry country → IsCountry country' → IsHolderNumber holder → IsHolderNumber holder' → serial < 10 ^ width → serial' < 10 ^ width → made width year country holder serial ≡ made width year' country' holder' serial' → (holder ≡ holder') × (serial ≡ serial')
-made_apart width year year' country country' holder holder' serial serial' form form' number number' small small' e = (
-  sym (made_holder width year country holder serial form number) ∙ ap holder_part e ∙ made_holder width year' country' holder' serial' form' number',
-  sym (made_serial width year country holder serial form small) ∙ ap serial_part e ∙ made_serial width year' country' holder' serial' form' small',
-)
+made_apart width year year' country country' holder holder' serial serial' form form' number number' small small' e =
+    numbered_apart width year year' country country' holder holder' serial serial' (numbers width holder serial) (numbers width holder' serial') form form' number number' small small'
+    (plain width holder serial) (plain width holder' serial') e
+
+-- the identifier of a new MRN
+abbrev with_letter : ℕ → ℕ → List ℕ
+with_letter holder serial = numbers 6 holder serial ++ procedure_letter ∷ []
+
+-- a new MRN has the letter
+pub made_lettered : (year : ℕ) (country : List ℕ) (holder serial : ℕ) → IsCountry country → is_lettered (mrn_text year country holder serial) ≡ true
+made_lettered year country holder serial form =
+    let parts = numbered_parts year country (with_letter holder serial) form in
+    rw parts.identifier (letter_seen (numbers 6 holder serial) (length-numbers 6 holder serial))
+
+-- an older one hasn't
+pub made_unlettered : (year : ℕ) (country : List ℕ) (holder serial : ℕ) → IsCountry country → is_lettered (older_mrn_text year country holder serial) ≡ false
+made_unlettered year country holder serial form =
+    let parts = made_parts 7 year country holder serial form in
+    rw parts.identifier (no_letter (numbers 7 holder serial) (numbers_digits 7 holder serial))
+
+-- holder and serial are known from a new one
+pub lettered_apart : (year year' : ℕ) (country country' : List ℕ) (holder holder' serial serial' : ℕ) → IsCountry country → IsCountry country' → IsHolderNumber holder → IsHolderNumber holder' → serial < 10 ^ 6 → serial' < 10 ^ 6 → mrn_text year country holder serial ≡ mrn_text year' country' holder' serial' → (holder ≡ holder') × (serial ≡ serial')
+lettered_apart year year' country country' holder holder' serial serial' form form' number number' small small' e =
+    numbered_apart 6 year year' country country' holder holder' serial serial' (with_letter holder serial) (with_letter holder' serial') form form' number number' small small'
+    (lettered holder serial) (lettered holder' serial') e
+
+-- a GRN has no place for the letter
+pub no_grn_lettered : (text : List ℕ) → IsGrn text → is_lettered text ≡ false
+no_grn_lettered text is =
+    let none = slice_get_past (identifier_of text) 12 (omega (arith, length-identifier text (omega (arith, is.size)), is.size)) in
+    rw none refl
+
+-- no MRN has both forms
+pub made_either : (year year' : ℕ) (country country' : List ℕ) (holder holder' serial serial' : ℕ) → IsCountry country → IsCountry country' → mrn_text year country holder serial ≡ older_mrn_text year' country' holder' serial' → ⊥
+made_either year year' country country' holder holder' serial serial' form form' e =
+    false≢true (sym (made_unlettered year' country' holder' serial' form') ∙ sym (ap is_lettered e) ∙ made_lettered year country holder serial form)
+
+-- what an MRN in either form is, and what it says
+pub record IsReadBack (country : List ℕ) (holder serial : ℕ) (text : List ℕ) : Type 0 where
+  pub form : IsMrn text
+  pub owner : owner_of country text ≡ Some holder
+  pub number : serial_of country text ≡ Some serial
+
+-- a new one is an MRN
+pub lettered_form : (year : ℕ) (country : List ℕ) (holder serial : ℕ) → IsCountry country → IsMrn (mrn_text year country holder serial)
+lettered_form year country holder serial form =
+    let identifier = with_letter holder serial in
+    let size : length identifier + 5 ≡ 18 = omega (arith, length-with_behind 6 holder serial (procedure_letter ∷ [])) in
+    subst (λ n. IsReferenceText n (reference_text year country identifier)) size (numbered_is_reference year country identifier form (lettered holder serial).marks)
+
+-- its owner is the holder
+pub lettered_owner : (year : ℕ) (country : List ℕ) (holder serial : ℕ) → IsCountry country → IsHolderNumber holder → owner_of country (mrn_text year country holder serial) ≡ Some holder
+lettered_owner year country holder serial form number =
+    numbered_owner 6 year country holder serial (with_letter holder serial) form number (lettered holder serial)
+
+-- and its serial that serial
+pub lettered_serial_is : (year : ℕ) (country : List ℕ) (holder serial : ℕ) → IsCountry country → IsHolderNumber holder → serial < 10 ^ 6 → serial_of country (mrn_text year country holder serial) ≡ Some serial
+lettered_serial_is year country holder serial form number small =
+    numbered_serial_is 6 year country holder serial (with_letter holder serial) form number small (lettered holder serial)
+
+-- with the letter
+new_read_back : (year : ℕ) (country : List ℕ) (holder serial : ℕ) → IsCountry country → IsHolderNumber holder → serial < 10 ^ 6 → IsReadBack country holder serial (mrn_text year country holder serial)
+new_read_back year country holder serial form number small = record {
+  form = lettered_form year country holder serial form;
+  owner = lettered_owner year country holder serial form number;
+  number = lettered_serial_is year country holder serial form number small;
+}
+
+-- and without
+older_read_back : (year : ℕ) (country : List ℕ) (holder serial : ℕ) → IsCountry country → IsHolderNumber holder → serial < 10 ^ 7 → IsReadBack country holder serial (older_mrn_text year country holder serial)
+older_read_back year country holder serial form number small = record {
+  form = made_is_reference 7 year country holder serial form;
+  owner = made_owner 7 year country holder serial form number;
+  number = made_serial_is 7 year country holder serial form number small;
+}
+
+-- in either
+pub either_read_back : (year : ℕ) (country : List ℕ) (holder serial : ℕ) (text : List ℕ) → IsCountry country → IsHolderNumber holder → IsMrnTextOf year country holder serial text → IsReadBack country holder serial text
+either_read_back year country holder serial text form number either = elim either [
+  | inl new ↦ subst (IsReadBack country holder serial) (sym new.1) (new_read_back year country holder serial form number (omega (arith, new.0)))
+  | inr older ↦ subst (IsReadBack country holder serial) (sym older.1) (older_read_back year country holder serial form number (omega (arith, older.0)))
+]

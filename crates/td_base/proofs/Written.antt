@@ -1,14 +1,15 @@
 -- A reference that is written part by part.
-use Rattle.std.proofs.Common.{◌≡◌, ℕ, suc, ◌+◌, ◌-◌, ◌≤◌, List, [], ◌∷◌, ◌++◌, length, take, drop, set, Option, Some, arith, refl, ap, ◌∙◌, append_assoc, append-nil}
-use Rattle.std.proofs.lemmas.List.{take_at, drop_all, length-append, length-drop, length-take-le, set_split}
+use Rattle.std.proofs.Common.{◌≡◌, ℕ, suc, ◌+◌, ◌-◌, ◌≤◌, List, [], ◌∷◌, ◌++◌, length, take, drop, set, All, Option, Some, arith, refl, ap, sym, ◌∙◌, append_assoc, append-nil}
+use Rattle.std.proofs.lemmas.List.{take_at, drop_at, drop-drop, drop_all, length-append, length-drop, length-take-le, set_split}
 use Rattle.std.proofs.lemmas.Slice.{take-put_mid}
 use borrow.Rule.Slice.PartMut.{put_mid}
-use Rattle.ascii_text.specs.Digits.{fixed_decimal}
+use Rattle.ascii_text.specs.Digits.{fixed_decimal, IsMark}
 use Rattle.ascii_text.proofs.Decimals.{length-fixed_decimal}
 use Rattle.td_base.specs.Codes.{IsCountry}
 use Rattle.td_base.specs.References.{check_of, IsCheckable}
 use Rattle.td_base.proofs.Checked.{some_of}
-use Rattle.td_base.proofs.MadeReferences.{numbers, length-numbers, made_checkable}
+use Rattle.td_base.proofs.Identifiers.{numbers, with_behind, length-with_behind, marks_behind}
+use Rattle.td_base.proofs.Numbered.{numbered_checkable}
 use Rattle.std.specs.Option.{SomeIff}
 
 -- a part that is replaced by one as long leaves the length
@@ -66,23 +67,42 @@ last_written b front last some size =
     let none : drop (suc (length b - 1)) all ≡ [] = drop_all (suc (length b - 1)) all (omega arith) in
     set_split all (length b - 1) last (omega arith) ∙ ap (λ (xs : List ℕ). xs ++ last ∷ drop (suc (length b - 1)) all) (take_at front (drop (length b - 1) b) (length b - 1) size) ∙ ap (λ (xs : List ℕ). front ++ last ∷ xs) none
 
--- the front that is written
-pub front_is : (b front : List ℕ) (year : ℕ) (country : List ℕ) (holder serial : ℕ) → 11 ≤ length b → front ≡ fixed_decimal 2 year ++ country ++ (fixed_decimal 6 holder ++ fixed_decimal (length (take (length b - 1) b) - 10) serial) → front ≡ fixed_decimal 2 year ++ country ++ numbers (length b - 11) holder serial
-front_is b front year country holder serial some e =
-    let size : length (take (length b - 1) b) - 10 ≡ length b - 11 = omega (arith, length-take-le (length b - 1) b (omega arith)) in
-    e ∙ ap (λ (w : ℕ). fixed_decimal 2 year ++ country ++ numbers w holder serial) size
+-- the front that is written, and what stands behind it
+pub front_is : (b front behind : List ℕ) (year : ℕ) (country : List ℕ) (holder serial : ℕ) → length behind + 11 ≤ length b → let digits = length b - 1 - length behind in front ≡ fixed_decimal 2 year ++ country ++ (fixed_decimal 6 holder ++ fixed_decimal (length (take digits b) - 10) serial)
+    → front ++ behind ≡ fixed_decimal 2 year ++ country ++ with_behind (length b - 11 - length behind) holder serial behind
+front_is b front behind year country holder serial some e =
+    let digits = length b - 1 - length behind in
+    let size : length (take digits b) - 10 ≡ length b - 11 - length behind = omega (arith, length-take-le digits b (omega arith)) in
+    ap (λ f. f ++ behind) (e ∙ ap (λ (w : ℕ). fixed_decimal 2 year ++ country ++ numbers w holder serial) size)
+    ∙ append_assoc (fixed_decimal 2 year ++ country) (numbers (length b - 11 - length behind) holder serial) behind
 
 -- how long it is
-pub front_size : (b front : List ℕ) (year : ℕ) (country : List ℕ) (holder serial : ℕ) → 11 ≤ length b → IsCountry country → front ≡ fixed_decimal 2 year ++ country ++ numbers (length b - 11) holder serial → length front ≡ length b - 1
-front_size b front year country holder serial some form e =
-    let all = length-append (fixed_decimal 2 year ++ country) (numbers (length b - 11) holder serial) in
+pub front_size : (b front behind : List ℕ) (year : ℕ) (country : List ℕ) (holder serial : ℕ) → length behind + 11 ≤ length b → IsCountry country → front ++ behind ≡ fixed_decimal 2 year ++ country ++ with_behind (length b - 11 - length behind) holder serial behind → length (front ++ behind) ≡ length b - 1
+front_size b front behind year country holder serial some form e =
+    let width = length b - 11 - length behind in
+    let all = length-append (fixed_decimal 2 year ++ country) (with_behind width holder serial behind) in
     let first = length-append (fixed_decimal 2 year) country in
-    ap length e ∙ omega (arith, all, first, length-fixed_decimal 2 year, form.size, length-numbers (length b - 11) holder serial)
+    ap length e ∙ omega (arith, all, first, length-fixed_decimal 2 year, form.size, length-with_behind width holder serial behind)
+
+-- what stands behind is put there
+pub behind_put : (b front behind put : List ℕ) → length behind + 11 ≤ length b → length (front ++ behind) ≡ length b - 1 → put ≡ behind
+    → let digits = length b - 1 - length behind in put_mid digits (length b - 1 - digits) (front ++ drop digits b) put ≡ front ++ behind ++ drop (length b - 1) b
+behind_put b front behind put some size same =
+    let digits = length b - 1 - length behind in
+    let front_long : length front ≡ digits = omega (arith, size, length-append front behind) in
+    let first : take digits (front ++ drop digits b) ≡ front = take_at front (drop digits b) digits front_long in
+    let places : digits + (length b - 1 - digits) ≡ length b - 1 = omega arith in
+    let back : drop digits (front ++ drop digits b) ≡ drop digits b = drop_at front (drop digits b) digits front_long in
+    let rest : drop (length b - 1 - digits) (drop digits b) ≡ drop (length b - 1) b = drop-drop (length b - 1 - digits) digits b ∙ ap (λ n. drop n b) places in
+    rw (first, back, rest, same) (sym (append_assoc front behind (drop (length b - 1) b)))
 
 -- its check digit
-pub found_digit : (b front : List ℕ) (r : Option ℕ) (year : ℕ) (country : List ℕ) (holder serial : ℕ) → 11 ≤ length b → length b ≤ 41 → IsCountry country → front ≡ fixed_decimal 2 year ++ country ++ numbers (length b - 11) holder serial → let text = take (length b - 1) (front ++ drop (length b - 1) b) in SomeIff r (IsCheckable text) (check_of text) → r ≡ Some (check_of front)
-found_digit b front r year country holder serial some short form e found =
-    let size = front_size b front year country holder serial some form e in
-    let here : take (length b - 1) (front ++ drop (length b - 1) b) ≡ front = take_at front (drop (length b - 1) b) (length b - 1) size in
+pub found_digit : (b front behind : List ℕ) (r : Option ℕ) (year : ℕ) (country : List ℕ) (holder serial : ℕ) → length behind + 11 ≤ length b → length b ≤ 41 → All IsMark behind → IsCountry country → front ++ behind ≡ fixed_decimal 2 year ++ country ++ with_behind (length b - 11 - length behind) holder serial behind
+    → let text = take (length b - 1) (front ++ behind ++ drop (length b - 1) b) in SomeIff r (IsCheckable text) (check_of text) → r ≡ Some (check_of (front ++ behind))
+found_digit b front behind r year country holder serial some short marks form e found =
+    let width = length b - 11 - length behind in
+    let size = front_size b front behind year country holder serial some form e in
+    let here : take (length b - 1) (front ++ behind ++ drop (length b - 1) b) ≡ front ++ behind = take_at (front ++ behind) (drop (length b - 1) b) (length b - 1) size in
     let text_found = rw here at found in
-    some_of r _ _ text_found (rw e (made_checkable (length b - 11) year country holder serial form (omega arith)))
+    let checkable = numbered_checkable year country (with_behind width holder serial behind) form (marks_behind width holder serial behind marks) (omega (arith, length-with_behind width holder serial behind)) in
+    some_of r _ _ text_found (rw e checkable)

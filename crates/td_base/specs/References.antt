@@ -1,6 +1,6 @@
 -- The check digit of ISO 6346, over digits and capital letters.
 -- References: the MRN of a movement and the GRN of a guarantee (NCTS).
-use Rattle.std.specs.Prelude.{ℕ, ◌+◌, ◌-◌, ◌*◌, ◌%◌, ◌^◌, ◌≤◌, ◌==◌, nat_lt, if◌then◌else◌, List, [], ◌∷◌, length, slice_index, All, ◌≡◌, ◌≢◌, ◌&&◌, not, Bool, nat_eq, ◌++◌, take, drop, slice_range, slice_get, Option, Some, None, Result, Ok, Err}
+use Rattle.std.specs.Prelude.{ℕ, ◌+◌, ◌-◌, ◌*◌, ◌%◌, ◌^◌, ◌≤◌, ◌==◌, nat_lt, if◌then◌else◌, List, [], ◌∷◌, length, slice_index, All, ◌≡◌, ◌≢◌, ◌&&◌, not, Bool, false, nat_eq, ◌++◌, take, drop, slice_range, slice_get, Option, Some, None, Result, Ok, Err, ◌↔◌, ◌⊎◌}
 use Rattle.ascii_text.specs.Digits.{IsMark, is_mark, digits_value, fixed_decimal}
 use Rattle.std.specs.Char.{IsAsciiDigit, IsAsciiUppercase, is_ascii_digit, is_ascii_uppercase}
 use Rattle.std.specs.List.{list_all}
@@ -122,18 +122,31 @@ grn_read = reference_read 17
 abbrev pub mrn_read : List ℕ → Result (List ℕ) RefFault
 mrn_read = reference_read 18
 
--- the holder in the first six digits of an identifier of digits
+-- the letter of the procedure, behind the numbers in the identifier of a new MRN: `J`
+abbrev pub procedure_letter : ℕ
+procedure_letter = 74
+
+-- whether it stands at an identifier's thirteenth place; a GRN's identifier has no such place
+abbrev pub has_letter : List ℕ → Bool
+has_letter identifier = option_eq nat_eq (slice_get identifier 12) (Some procedure_letter)
+
+-- the numbers of an identifier: the twelve characters before the letter, or all of it where there is none
+abbrev pub numbers_of : List ℕ → List ℕ
+numbers_of identifier = if has_letter identifier then take 12 identifier else identifier
+
+-- the holder in the first six digits of an identifier's numbers
 abbrev pub holder_part : List ℕ → ℕ
 holder_part text = digits_value (take 6 (identifier_of text))
 
 -- the serial in the others
 abbrev pub serial_part : List ℕ → ℕ
-serial_part text = digits_value (drop 6 (identifier_of text))
+serial_part text = digits_value (drop 6 (numbers_of (identifier_of text)))
 
 -- whether a reference is a holder's of this country, by its text alone
 abbrev pub is_owned : List ℕ → List ℕ → Bool
 is_owned country text =
-    bytes_eq (country_of text) country && all_ascii_digits (identifier_of text) && nat_lt 0 (holder_part text)
+    bytes_eq (country_of text) country && all_ascii_digits (numbers_of (identifier_of text))
+    && nat_lt 0 (holder_part text)
 
 -- the holder who owns a reference
 abbrev pub owner_of : List ℕ → List ℕ → Option ℕ
@@ -154,26 +167,46 @@ abbrev pub grn_text : ℕ → List ℕ → ℕ → ℕ → List ℕ
 grn_text year country holder serial =
     reference_text year country (fixed_decimal 6 holder ++ fixed_decimal 6 serial)
 
--- the MRN that is made for a holder: the holder in six digits, the serial in seven
+-- the MRN that is made for a holder: the holder in six digits, the serial in six, and the letter
 abbrev pub mrn_text : ℕ → List ℕ → ℕ → ℕ → List ℕ
 mrn_text year country holder serial =
+    reference_text year country (fixed_decimal 6 holder ++ fixed_decimal 6 serial ++ procedure_letter ∷ [])
+
+-- the MRN that was made for a holder until the letter came: the holder in six digits, the serial in seven
+abbrev pub older_mrn_text : ℕ → List ℕ → ℕ → ℕ → List ℕ
+older_mrn_text year country holder serial =
     reference_text year country (fixed_decimal 6 holder ++ fixed_decimal 7 serial)
 
 -- the greatest serial of a guarantee: a GRN has six digits for it
 abbrev pub greatest_grn_serial : ℕ
 greatest_grn_serial = 999999
 
--- the greatest serial of a movement: an MRN has seven digits for it
+-- the greatest serial of a movement that is given: an MRN has six digits for it
 abbrev pub greatest_mrn_serial : ℕ
-greatest_mrn_serial = 9999999
+greatest_mrn_serial = 999999
+
+-- the greatest serial of a movement that may stand: an MRN in the older form has seven digits for it
+abbrev pub greatest_older_mrn_serial : ℕ
+greatest_older_mrn_serial = 9999999
 
 -- the serials of guarantees
 abbrev pub IsGrnSerial : ℕ → Type 0
 IsGrnSerial serial = (1 ≤ serial) × (serial ≤ greatest_grn_serial)
 
--- the serials of movements
+-- the serials of movements whose MRN has the letter
 abbrev pub IsMrnSerial : ℕ → Type 0
 IsMrnSerial serial = (1 ≤ serial) × (serial ≤ greatest_mrn_serial)
+
+-- the serials of movements whose MRN has the older form
+abbrev pub IsOlderMrnSerial : ℕ → Type 0
+IsOlderMrnSerial serial = (1 ≤ serial) × (serial ≤ greatest_older_mrn_serial)
+
+-- a text is the MRN of this year, country, holder and serial, in either form: with the letter only where six digits hold
+-- the serial
+abbrev pub IsMrnTextOf : ℕ → List ℕ → ℕ → ℕ → List ℕ → Type 0
+IsMrnTextOf year country holder serial text =
+    (IsMrnSerial serial × (text ≡ mrn_text year country holder serial))
+    ⊎ (IsOlderMrnSerial serial × (text ≡ older_mrn_text year country holder serial))
 
 -- references that are made for different holders, or of different serials, differ
 abbrev pub TellsApart : (ℕ → List ℕ → ℕ → ℕ → List ℕ) → (ℕ → Type 0) → Type 0
@@ -183,3 +216,28 @@ TellsApart made IsSerial =
     → IsSerial serial'
     → made year country holder serial ≡ made year' country' holder' serial'
     → (holder ≡ holder') × (serial ≡ serial')
+
+-- no MRN has both forms, whatever it is made of
+abbrev pub NoneHasBothForms : Type 0
+NoneHasBothForms =
+    (year year' : ℕ) (country country' : List ℕ) (holder holder' serial serial' : ℕ)
+    → IsCountry country → IsCountry country'
+    → mrn_text year country holder serial ≢ older_mrn_text year' country' holder' serial'
+
+-- whether an MRN has the form with the letter
+abbrev pub is_lettered : List ℕ → Bool
+is_lettered text = has_letter (identifier_of text)
+
+-- a GRN never has it
+abbrev pub NoGrnIsLettered : Type 0
+NoGrnIsLettered = (text : List ℕ) → IsGrn text → is_lettered text ≡ false
+
+-- Of all texts, the MRNs that a holder owns by this serial, with the letter or without, are just those that are made of
+-- a year of two digits, the country, the holder and the serial: of any serial that the form has digits for, 0 as well.
+abbrev pub AreJustMade : Bool → ℕ → (ℕ → List ℕ → ℕ → ℕ → List ℕ) → Type 0
+AreJustMade letter greatest made =
+    (country text : List ℕ) (holder serial : ℕ) → IsCountry country
+    → (IsMrn text × (is_lettered text ≡ letter) × (owner_of country text ≡ Some holder)
+    × (serial_of country text ≡ Some serial))
+    ↔ ((year : ℕ) × (year ≤ 99) × IsHolderNumber holder × (serial ≤ greatest)
+    × (text ≡ made year country holder serial))

@@ -49,7 +49,7 @@ impl Grn {
     pub fn make(year2: u8, country: Country, holder: HolderNo, serial: u32) -> Option<Self>
         ensures { SomeIff result ((year2 ≤ 99) × IsGrnSerial serial) (grn_text year2 country holder serial) }
     {
-        let bytes = make_reference(year2, country, holder, serial, GREATEST_GRN_SERIAL)?;
+        let bytes = make_reference(year2, country, holder, serial, GREATEST_GRN_SERIAL, &[])?;
         Some(Grn { bytes })
     }
 

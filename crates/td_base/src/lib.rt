@@ -23,7 +23,10 @@ pub use grn::{GREATEST_GRN_SERIAL, Grn, made_grn_reads_back};
 pub use holder::{HolderNo, holder_reads_back};
 pub use laws::{read_texts_are_printed, texts_read_back};
 pub use lrn::Lrn;
-pub use mrn::{GREATEST_MRN_SERIAL, Mrn, made_mrn_reads_back};
+pub use mrn::{
+    GREATEST_MRN_SERIAL, GREATEST_OLDER_MRN_SERIAL, Mrn, made_mrn_reads_back,
+    made_older_mrn_reads_back, owned_mrns_are_made,
+};
 pub use office::OfficeNo;
 pub use references::{RefFault, made_references_differ};
 pub use td_money::{Cents, Cover, Reference, cents_read_back};

@@ -1,15 +1,18 @@
 //! References: what prints, owns and numbers them. The texts of MRN and GRN differ in their length alone: `Grn` and
 //! `Mrn` add that, and their greatest serial.
-ghost use Rattle.std.specs.Prelude.{◌≡◌, ◌+◌, ◌-◌, ◌≤◌, ◌++◌, length, IsTrue, ◌↔◌, SomeIff, IfSome, OkIff, IfErr};
-ghost use Rattle.ascii_text.specs.Digits.{fixed_decimal};
+ghost use Rattle.std.specs.Prelude.{◌≡◌, ◌+◌, ◌-◌, ◌≤◌, ◌++◌, length, All, IsTrue, ◌↔◌, SomeIff, IfSome, OkIff, IfErr};
+ghost use Rattle.ascii_text.specs.Digits.{fixed_decimal, IsMark};
 ghost use Rattle.td_base.specs.Codes.{IsCountry};
-ghost use Rattle.td_base.specs.References.{IsReferenceText, IsFirstFault, HasForm, has_form, reference_read, owner_of as owner_in, serial_of as serial_in, reference_text, grn_text, mrn_text, IsGrnSerial, IsMrnSerial, TellsApart};
+ghost use Rattle.td_base.specs.References.{IsReferenceText, IsFirstFault, HasForm, has_form, reference_read, numbers_of as numbers_in, owner_of as owner_in, serial_of as serial_in, reference_text, grn_text, mrn_text, older_mrn_text, IsGrnSerial, IsMrnSerial, IsOlderMrnSerial, TellsApart, NoneHasBothForms, NoGrnIsLettered};
 
 use crate::checking::check_digit;
 use crate::country::Country;
 use crate::holder::HolderNo;
 use ascii_text::{is_capitals, is_digits, is_marks, read_digits, write_digits};
 use thiserror::Error;
+
+/// The letter of the procedure: it stands at the thirteenth place of a new MRN's identifier, behind the numbers.
+pub const PROCEDURE_LETTER: u8 = b'J';
 
 /// What a text that isn't a reference is refused for: the first of these, in this order.
 #[derive(Clone, Copy, Debug, PartialEq, Eq, Error)]
@@ -60,7 +63,18 @@ fn has_form(text: &[u8]) -> bool
         && is_digits(&text[last..])
 }
 
-/// The holder in the first six of the identifier's digits, where the country is this one and all of it is digits.
+// The numbers of an identifier: all of it, but for the letter at its thirteenth place.
+fn numbers_of(identifier: &[u8]) -> &[u8]
+    ensures { result.now ≡ numbers_in identifier.now }
+{
+    if identifier.get(12) == Some(&PROCEDURE_LETTER) {
+        &identifier[..12]
+    } else {
+        identifier
+    }
+}
+
+/// The holder in the first six of the identifier's digits, where the country is this one and all its numbers are digits.
 pub fn owner_of(text: &[u8], country: Country) -> Option<HolderNo>
     requires { (17 ≤ length text.now) × (length text.now ≤ 18) }
     ensures { result ≡ owner_in country text.now }
@@ -69,7 +83,7 @@ pub fn owner_of(text: &[u8], country: Country) -> Option<HolderNo>
     if &text[2..4] != country.as_bytes() {
         return None;
     }
-    if !is_digits(identifier) {
+    if !is_digits(numbers_of(identifier)) {
         return None;
     }
     HolderNo::read(&identifier[..6])
@@ -81,47 +95,60 @@ pub fn serial_of(text: &[u8], country: Country) -> Option<u32>
     ensures { result ≡ serial_in country text.now }
 {
     owner_of(text, country)?;
-    let serial = read_digits(&text[10..text.len() - 1])?;
+    let numbers = numbers_of(&text[4..text.len() - 1]);
+    let serial = read_digits(&numbers[6..])?;
     Some(serial as u32)
 }
 
-/// A reference of `N` characters: year, country, holder and serial in digits, and the check digit.
-/// `None` for a year above 99, and for a serial of 0 or above the greatest.
+/// A reference of `N` characters: year, country, holder and serial in digits, what stands behind them, and the check
+/// digit. `None` for a year above 99, and for a serial of 0 or above the greatest.
 pub fn make_reference<const N: usize>(
     year2: u8,
     country: Country,
     holder: HolderNo,
     serial: u32,
     greatest: u32,
+    behind: &[u8],
 ) -> Option<[u8; N]>
-    requires { (11 ≤ N) × (N ≤ 41) }
+    requires { (length behind.now + 11 ≤ N) × (N ≤ 41) × All IsMark behind.now }
     ensures text { SomeIff result
         ((year2 ≤ 99) × ((1 ≤ serial) × (serial ≤ greatest)))
-        (reference_text year2 country (fixed_decimal 6 holder ++ fixed_decimal (N - 11) serial)) }
+        (reference_text year2 country
+        (fixed_decimal 6 holder ++ fixed_decimal (N - 11 - length behind.now) serial ++ behind.now)) }
     ensures form { IfSome result (IsReferenceText N) }
 {
     if year2 > 99 || serial < 1 || serial > greatest {
         return None;
     }
     let mut bytes = [0; N];
-    write_reference(&mut bytes, year2, country, holder, serial);
+    write_reference(&mut bytes, year2, country, holder, serial, behind);
     Some(bytes)
 }
 
 // Writes a reference of that length.
-fn write_reference(text: &mut [u8], year2: u8, country: Country, holder: HolderNo, serial: u32)
-    requires { (11 ≤ length text.old) × (length text.old ≤ 41) }
+fn write_reference(
+    text: &mut [u8],
+    year2: u8,
+    country: Country,
+    holder: HolderNo,
+    serial: u32,
+    behind: &[u8],
+)
+    requires { (length behind.now + 11 ≤ length text.old) × (length text.old ≤ 41) × All IsMark behind.now }
     ensures text { text.new
-        ≡ reference_text year2 country (fixed_decimal 6 holder ++ fixed_decimal (length text.old - 11) serial) }
+        ≡ reference_text year2 country
+        (fixed_decimal 6 holder ++ fixed_decimal (length text.old - 11 - length behind.now) serial ++ behind.now) }
     ensures country { IsCountry country }
 {
     let last = text.len() - 1;
-    write_front(&mut text[..last], year2, country, holder, serial);
+    let digits = last - behind.len();
+    write_front(&mut text[..digits], year2, country, holder, serial);
+    text[digits..last].copy_from_slice(behind);
     let check = check_digit(&text[..last]).unwrap();
     text[last] = b'0' + check;
 }
 
-// All but the check digit.
+// All but what stands behind the numbers.
 fn write_front(text: &mut [u8], year2: u8, country: Country, holder: HolderNo, serial: u32)
     requires { 10 ≤ length text.old }
     ensures text { text.new
@@ -135,8 +162,12 @@ fn write_front(text: &mut [u8], year2: u8, country: Country, holder: HolderNo, s
     write_digits(&mut text[10..], u64::from(serial));
 }
 
-/// References that are made for different holders, or of different serials, differ.
+/// References that are made for different holders, or of different serials, differ, and so do MRNs of different forms.
+/// No GRN has the form with the letter.
 pub fn made_references_differ()
     ensures grn { TellsApart grn_text IsGrnSerial }
     ensures mrn { TellsApart mrn_text IsMrnSerial }
+    ensures older { TellsApart older_mrn_text IsOlderMrnSerial }
+    ensures forms { NoneHasBothForms }
+    ensures letter { NoGrnIsLettered }
 {}

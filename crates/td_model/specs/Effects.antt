@@ -22,7 +22,7 @@ abbrev pub greatest_grn_given : ℕ
 greatest_grn_given = 999999
 
 abbrev pub greatest_mrn_given : ℕ
-greatest_mrn_given = 9999999
+greatest_mrn_given = 999999
 
 -- the serial after the last one, and the text made of it; none after the greatest
 abbrev pub next_serial : ℕ → ℕ → (ℕ → List ℕ) → Option (ℕ × List ℕ)

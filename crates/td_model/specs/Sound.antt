@@ -4,7 +4,7 @@ use Rattle.std.specs.List.{AllByRecursion}
 use Rattle.td_base.specs.Codes.{IsAccessCode, IsLrn, IsOfficeNo, IsEori, IsHolderNumber}
 use Rattle.td_base.specs.Days.{IsDay, year_of, IsMoment}
 use Rattle.td_base.specs.Money.{IsReference, IsCover}
-use Rattle.td_base.specs.References.{grn_text, mrn_text, greatest_grn_serial, greatest_mrn_serial}
+use Rattle.td_base.specs.References.{grn_text, IsMrnTextOf, greatest_grn_serial, greatest_older_mrn_serial}
 use Rattle.td_movement.specs.declared.line.Line.{Line}
 use Rattle.td_movement.specs.Status.{IsStatus}
 use Rattle.td_guarantee.specs.Codes.{AreAscending, most_codes}
@@ -33,9 +33,10 @@ pub record AreCodes (codes : List (List ℕ)) : Type 0 where
 abbrev pub IsGrnOf : List ℕ → ℕ → ℕ → Guarantee → Type 0
 IsGrnOf country H n g = (year : ℕ) × (year ≤ 99) × (g.grn ≡ grn_text year country H n)
 
--- the MRN of movement n of a holder: it was made of the year of its acceptance, the desk's country, the holder and this serial
+-- the MRN of movement n of a holder: it was made of the year of its acceptance, the desk's country, the holder and this serial,
+-- in either form
 abbrev pub IsMrnOf : List ℕ → ℕ → ℕ → Movement → Type 0
-IsMrnOf country H n m = m.mrn ≡ mrn_text (year_of m.accepted % 100) country H n
+IsMrnOf country H n m = IsMrnTextOf (year_of m.accepted % 100) country H n m.mrn
 
 -- guarantee n of a holder
 pub record IsGuaranteeRow (country : List ℕ) (H n : ℕ) (g : Guarantee) : Type 0 where
@@ -83,6 +84,6 @@ pub record AreHolderRows (country : List ℕ) (h : HolderRows) : Type 0 where
   pub grn_most : h.row.grn_count ≤ greatest_grn_serial
   pub movements : AllNumbered (IsMovementRow country h.row.holder h.guarantees) 0 h.movements
   pub mrn_count : h.row.mrn_count ≡ length h.movements
-  pub mrn_most : h.row.mrn_count ≤ greatest_mrn_serial
+  pub mrn_most : h.row.mrn_count ≤ greatest_older_mrn_serial
   pub lrns : AllPairs (λ a b. a.lrn ≢ b.lrn) h.movements
   pub cover : AllByRecursion (IsCovered h.movements) h.guarantees

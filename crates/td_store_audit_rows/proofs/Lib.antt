@@ -12,3 +12,4 @@ mod ReadByRules
 mod FoundHolders
 mod Placed
 mod Named
+mod EitherForm

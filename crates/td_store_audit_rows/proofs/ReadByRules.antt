@@ -9,8 +9,8 @@ use Rattle.sqlite_value.specs.Order.{Row}
 use Rattle.keyed_rows.specs.Rows.{row_at}
 use Rattle.keyed_rows.proofs.Putting.{All-row_at, row_at_has}
 use Rattle.td_base.specs.Codes.{IsAccessCode, IsHolderNumber}
-use Rattle.td_base.specs.References.{IsGrn, IsMrn, greatest_grn_serial, greatest_mrn_serial}
-use Rattle.td_base.proofs.MadeReferences.{made_is_reference}
+use Rattle.td_base.specs.References.{IsGrn, greatest_grn_serial, greatest_older_mrn_serial}
+use Rattle.td_base.proofs.MadeReferences.{made_is_reference, either_read_back}
 use Rattle.td_time.specs.Days.{year_of}
 use Rattle.td_movement.specs.declared.movement.Movement.{Movement}
 use Rattle.td_model.specs.declared.holder_row.HolderRow.{HolderRow}
@@ -113,19 +113,19 @@ module _ (t : Tables) (owners : HaveOwners t) where
         (all_both (λ c. owner c ≡ H) (λ c. IsSome (row_at place (place c) (guarantees_by H t))) (λ c. (owner c ≡ H) × (place c ≤ greatest_grn_serial))
         (λ c own some. (own, named_low has (place c) some)) (part H t.codes) (of_key_has owner H t.codes) codes.name)
 
-    movements_placed : HasMovements t row → AllByRecursion (λ m. (owner m ≡ H) × (place m ≤ greatest_mrn_serial)) (movements_by H t)
+    movements_placed : HasMovements t row → AllByRecursion (λ m. (owner m ≡ H) × (place m ≤ greatest_older_mrn_serial)) (movements_by H t)
     movements_placed has =
-        all_both (λ m. owner m ≡ H) (λ m. (0 < place m) × (place m ≤ 0 + length (movements_by H t))) (λ m. (owner m ≡ H) × (place m ≤ greatest_mrn_serial))
+        all_both (λ m. owner m ≡ H) (λ m. (0 < place m) × (place m ≤ 0 + length (movements_by H t))) (λ m. (owner m ≡ H) × (place m ≤ greatest_older_mrn_serial))
         (λ m own within. (own, omega (arith, within.1, has.count, has.most))) (movements_by H t) (are_mine H t.movements)
         (numbered_within place 0 (movements_by H t) has.serials)
 
     movement_fields : IsApart place (part H t.movements) → HasMovements t row → AllByRecursion AreMovementFields (part H t.movements)
     movement_fields apart has =
         all_brought place AreMovementFields (part H t.movements) apart
-        (all_both (IsMovementInRange t.country) (λ m. (owner m ≡ H) × (place m ≤ greatest_mrn_serial)) AreMovementFields
+        (all_both (IsMovementInRange t.country) (λ m. (owner m ≡ H) × (place m ≤ greatest_older_mrn_serial)) AreMovementFields
         (λ m is low. record {
           key = record { holder = subst IsHolderNumber (sym low.0) number; serial = omega (arith, low.1) };
-          mrn = subst IsMrn (sym is.mrn) (made_is_reference 7 (year_of m.row.accepted % 100) t.country m.holder m.serial owners.country);
+          mrn = (either_read_back (year_of m.row.accepted % 100) t.country m.holder m.serial m.row.mrn owners.country (subst IsHolderNumber (sym low.0) number) is.mrn).form;
           lrn = is.lrn;
           departure = is.departure;
           destination = is.destination;
@@ -136,7 +136,7 @@ module _ (t : Tables) (owners : HaveOwners t) where
         }) (movements_by H t) has.columns (movements_placed has))
 
     -- the lines of one movement
-    lines_on : HasGuarantees t row → (m : Keyed Movement) → owner m ≡ H → place m ≤ greatest_mrn_serial → AreLinesInRange t m
+    lines_on : HasGuarantees t row → (m : Keyed Movement) → owner m ≡ H → place m ≤ greatest_older_mrn_serial → AreLinesInRange t m
         → AllByRecursion AreLineFields (lines_by H (place m) t)
     lines_on has m own low is =
         let rows = lines_by H (place m) t in
@@ -168,8 +168,8 @@ module _ (t : Tables) (owners : HaveOwners t) where
     line_fields apart guarantees movements has =
         keys_all place (λ n. IsSome (row_at place n (movements_by H t))) AreLineFields (part H t.lines)
         (λ n some.
-        let it = found_has place (λ m. ((owner m ≡ H) × (place m ≤ greatest_mrn_serial)) × AreLinesInRange t m) n (movements_by H t)
-        (all_both (λ m. (owner m ≡ H) × (place m ≤ greatest_mrn_serial)) (AreLinesInRange t) (λ m. ((owner m ≡ H) × (place m ≤ greatest_mrn_serial)) × AreLinesInRange t m)
+        let it = found_has place (λ m. ((owner m ≡ H) × (place m ≤ greatest_older_mrn_serial)) × AreLinesInRange t m) n (movements_by H t)
+        (all_both (λ m. (owner m ≡ H) × (place m ≤ greatest_older_mrn_serial)) (AreLinesInRange t) (λ m. ((owner m ≡ H) × (place m ≤ greatest_older_mrn_serial)) × AreLinesInRange t m)
         (λ m low is. (low, is)) (movements_by H t) (movements_placed movements) has.columns) some in
         all_brought no_of AreLineFields (of_key place n (part H t.lines)) (apart n)
         (subst (λ k. AllByRecursion AreLineFields (lines_by H k t)) it.2 (lines_on guarantees it.0 it.1.0.0 it.1.0.1 it.1.1)))

@@ -2,7 +2,7 @@
 -- what its field's type says; these are the rules beyond that.
 use Rattle.std.specs.Prelude.{◌≡◌, ℕ, ◌≤◌, List, length}
 use Rattle.std.specs.List.{AllByRecursion}
-use Rattle.td_base.specs.References.{greatest_grn_serial, greatest_mrn_serial}
+use Rattle.td_base.specs.References.{greatest_grn_serial, greatest_older_mrn_serial}
 use Rattle.td_guarantee.specs.declared.guarantee.Guarantee.{Guarantee}
 use Rattle.td_movement.specs.declared.movement.Movement.{Movement}
 use Rattle.td_movement.specs.Status.{HasDaysOf}
@@ -18,8 +18,8 @@ pub record IsGuaranteeInPlace (country : List ℕ) (g : Keyed Guarantee) : Type 
   pub grn : IsGrnOf country g.holder g.serial g.row
   pub reference : 1 ≤ g.row.reference
 
--- a movement has the MRN of the year of its acceptance, the country, its holder and its serial, and the days and the
--- office of its state
+-- a movement has the MRN of the year of its acceptance, the country, its holder and its serial, in either form, and the
+-- days and the office of its state
 pub record IsMovementInPlace (country : List ℕ) (m : Keyed Movement) : Type 0 where
   pub mrn : IsMrnOf country m.holder m.serial m.row
   pub days : HasDaysOf m.row.state m.row
@@ -41,7 +41,7 @@ pub record AreGuaranteesInPlace (country : List ℕ) (counted : ℕ) (rows : Lis
 pub record AreMovementsInPlace (country : List ℕ) (counted : ℕ) (rows : List (Keyed Movement)) : Type 0 where
   pub serials : IsNumbered place 0 rows
   pub count : counted ≡ length rows
-  pub most : counted ≤ greatest_mrn_serial
+  pub most : counted ≤ greatest_older_mrn_serial
   pub each : AllByRecursion (IsMovementInPlace country) rows
 
 -- the lines of a movement of a holder who has so many guarantees: 1 to 9, no two on one guarantee

@@ -11,7 +11,7 @@ use Rattle.sqlite_trees.proofs.ListLemmas.{all_weaker, all_both, all-filter, all
 use Rattle.keyed_rows.specs.Rows.{row_at}
 use Rattle.std.proofs.lemmas.List.Elements.{All-from_recursion}
 use Rattle.td_base.specs.Codes.{IsAccessCode, IsCountry, IsHolderNumber}
-use Rattle.td_base.specs.References.{grn_text, mrn_text}
+use Rattle.td_base.specs.References.{grn_text, IsMrnTextOf}
 use Rattle.td_base.specs.Days.{year_of}
 use Rattle.td_guarantee.specs.declared.guarantee.Guarantee.{Guarantee}
 use Rattle.td_movement.specs.declared.line.Line.{Line}
@@ -135,7 +135,7 @@ module _ (t : Tables) (stored : AreStored t) (form : IsCountry t.country) (row :
 
   movement_is_sound : (m : Keyed Movement) → owner m ≡ H → IsMovementInRange t.country m → AreLinesInRange t m → IsMovementRow t.country H (gathered t row).guarantees m.serial (with_lines t m)
   movement_is_sound m own is lines = record {
-    mrn = is.mrn ∙ ap (λ h. mrn_text (year_of m.row.accepted % 100) t.country h m.serial) own;
+    mrn = subst (λ h. IsMrnTextOf (year_of m.row.accepted % 100) t.country h m.serial m.row.mrn) own is.mrn;
     lrn = is.lrn;
     departure = is.departure;
     destination = is.destination;

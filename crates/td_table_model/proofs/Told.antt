@@ -9,7 +9,7 @@ use Rattle.sqlite_trees.proofs.ListLemmas.{all_weaker, all_both, all-flat_map, a
 use Rattle.td_base.specs.Codes.{IsCountry}
 use Rattle.td_base.specs.Days.{year_of}
 use Rattle.td_base.specs.References.{owner_of, serial_of}
-use Rattle.td_base.proofs.MadeReferences.{made_owner, made_serial_is}
+use Rattle.td_base.proofs.MadeReferences.{made_owner, made_serial_is, either_read_back}
 use Rattle.td_guarantee.specs.declared.guarantee.Guarantee.{Guarantee}
 use Rattle.td_movement.specs.declared.movement.Movement.{Movement}
 use Rattle.td_model.specs.Account.{HolderRows}
@@ -42,10 +42,9 @@ movements_told : (country : List ℕ) (h : HolderRows) → IsCountry country →
 movements_told country h form is =
     all-map (λ (m : Keyed Movement). IsToldIn country m.row.mrn m.holder m.serial) (movement_row h.row.holder) (numbered 0 h.movements)
     (all_both (λ (p : ℕ × Movement). p.0 ≤ 0 + length h.movements) (λ (p : ℕ × Movement). IsMovementRow country h.row.holder h.guarantees p.0 p.1) (λ (p : ℕ × Movement). IsToldIn country p.1.mrn h.row.holder p.0)
-    (λ p within m. (
-      ap (owner_of country) m.mrn ∙ made_owner 7 (year_of p.1.accepted % 100) country h.row.holder p.0 form is.row.number,
-      ap (serial_of country) m.mrn ∙ made_serial_is 7 (year_of p.1.accepted % 100) country h.row.holder p.0 form is.row.number (omega (arith, within, is.mrn_count, is.mrn_most)),
-    ))
+    (λ p within m.
+    let read = either_read_back (year_of p.1.accepted % 100) country h.row.holder p.0 p.1.mrn form is.row.number m.mrn in
+    (read.owner, read.number))
     (numbered 0 h.movements) (numbers_within 0 h.movements) (all_numbered (IsMovementRow country h.row.holder h.guarantees) 0 h.movements is.movements))
 
 -- the serials in the references of a holder's guarantees and movements are their places

@@ -7,7 +7,7 @@ use Rattle.keyed_rows.specs.Rows.{row_at}
 use Rattle.td_base.specs.Codes.{IsAccessCode, IsLrn, IsOfficeNo, IsCountry, IsEori}
 use Rattle.td_base.specs.Days.{IsDay, IsMoment}
 use Rattle.td_base.specs.Money.{IsReference, IsCover}
-use Rattle.td_base.specs.References.{greatest_grn_serial, greatest_mrn_serial}
+use Rattle.td_base.specs.References.{greatest_grn_serial, greatest_older_mrn_serial}
 use Rattle.td_guarantee.specs.declared.guarantee.Guarantee.{Guarantee}
 use Rattle.td_guarantee.specs.Usage.{used_on}
 use Rattle.td_movement.specs.declared.movement.Movement.{Movement}
@@ -73,7 +73,7 @@ pub record IsMovementInRange (country : List ℕ) (m : Keyed Movement) : Type 0 
 pub record HasMovements (t : Tables) (row : HolderRow) : Type 0 where
   pub serials : IsNumbered place 0 (movements_by row.holder t)
   pub count : row.mrn_count ≡ length (movements_by row.holder t)
-  pub most : row.mrn_count ≤ greatest_mrn_serial
+  pub most : row.mrn_count ≤ greatest_older_mrn_serial
   pub columns : AllByRecursion (IsMovementInRange t.country) (movements_by row.holder t)
 
 -- the serial of the guarantee that a line names

@@ -12,9 +12,9 @@ pub const GRN: &[u8] = b"25CH0000010000014";
 pub const SECOND_GRN: &[u8] = b"25CH0000010000023";
 
 /// The first two movements of that holder.
-pub const MRN: &[u8] = b"25CH00000100000013";
+pub const MRN: &[u8] = b"25CH000001000001J8";
 
-pub const SECOND_MRN: &[u8] = b"25CH00000100000021";
+pub const SECOND_MRN: &[u8] = b"25CH000001000002J7";
 
 /// 2025-03-01T09:00:00Z.
 pub const AT: i64 = 1_740_819_600;

@@ -1,5 +1,6 @@
 //! Verdicts, with ample memory: what is said to each command, and whether something is written.
 mod moves;
+mod serials;
 mod shown;
 mod terms;
 
@@ -171,7 +172,7 @@ fn openings_are_decided(rt: HostRuntime) {
 /// wasn't.
 fn is_allocated(rt: &(impl AllocGlobal + Abort), lodged: bool) -> bool {
     let loaded = with_guarantee(rt, 0, lodged);
-    let answer = "IE028 A1 25CH00000100000013";
+    let answer = "IE028 A1 25CH000001000001J8";
     is_decided(rt, &loaded, &declaration(rt), answer, !lodged)
 }
 
@@ -203,7 +204,7 @@ fn cancellations_are_decided(rt: HostRuntime) {
     let none = holder_alone(&rt, Some(row(&rt, 1, 1)));
     assert!(rt; is_cancelled(&rt, &none, "no-movement", false));
     let mut lodged = with_guarantee(&rt, 0, true);
-    assert!(rt; is_cancelled(&rt, &lodged, "IE014 25CH00000100000013", true));
+    assert!(rt; is_cancelled(&rt, &lodged, "IE014 25CH000001000001J8", true));
     release_all(&mut lodged.movements);
     assert!(rt; is_cancelled(&rt, &lodged, "wrong-state", false));
 }
@@ -222,7 +223,7 @@ fn views_are_decided(rt: HostRuntime) {
         (Command::SeeHolder { holder }, "holder 000001 CH1234567 1 1"),
         (
             Command::SeeMovement { holder, mrn },
-            "movement 25CH00000100000013",
+            "movement 25CH000001000001J8",
         ),
         (Command::SeeMovements { holder }, "1 movements"),
         (
@@ -242,6 +243,7 @@ fn laws_hold() {
     writes_what_the_book_says();
     fresh_book_says_its_account();
     keeps_rows_sound();
+    other_form_names_nothing();
     nobody_writes();
 }
 

@@ -4,6 +4,7 @@ mod comparing;
 pub mod devices;
 pub mod exchanges;
 mod jobs;
+pub mod refusals;
 pub mod texts;
 
 pub use comparing::{assert_equal, assert_text, assert_that};

@@ -1,12 +1,15 @@
-//! Desks are made, opened, refused and closed, over a store in memory, and say what a plain desk says.
+//! Desks are made, opened, refused and closed, over a store in memory, say what a plain desk says, and stand want of
+//! memory and stops of their files.
 mod accepted;
 mod alike;
 mod commands;
 mod junk;
 mod long_tables;
+mod memory;
 mod migrations;
 mod opening;
 mod reports;
+mod stops;
 mod visits;
 mod walks;
 mod words;

@@ -1,6 +1,6 @@
 //! What the examples are made of. A text that is none of its kind stops the test, and so does what a database doesn't
 //! do: a test has no exit but its end, which its proof costs less for.
-use sqlite::{Connection, MemStore};
+use sqlite::{Alter, Connection, MemStore};
 use std::process::Abort;
 use td_acts::HolderRow;
 use td_base::{
@@ -15,8 +15,10 @@ pub const GRN: &[u8] = b"25CH0000010000014";
 
 pub const SECOND_GRN: &[u8] = b"25CH0000010000023";
 
-/// The first movement of that holder.
-pub const MRN: &[u8] = b"25CH00000100000013";
+/// The first movement of that holder, and its MRN in the older form.
+pub const MRN: &[u8] = b"25CH000001000001J8";
+
+pub const OLDER_MRN: &[u8] = b"25CH00000100000013";
 
 /// That holder's row, after two guarantees and two movements.
 pub const HOLDER: &str = "INSERT INTO holders VALUES (1, 'CH1234567', 1740819600, 2, 2)";
@@ -111,7 +113,8 @@ pub fn movement(rt: &impl Abort, lines: Vec<Line>) -> Movement {
     }
 }
 
-fn make(rt: &impl Abort, conn: &mut Connection<MemStore>, layout: Layout) {
+/// Makes the tables of a layout in a database that has none.
+pub fn make<S: Alter>(rt: &impl Abort, conn: &mut Connection<S>, layout: Layout) {
     assert!(rt; conn.is_autocommit());
     let mut tx = conn.transaction();
     make_tables(&mut tx, layout).expect(rt, "tables");
@@ -131,7 +134,7 @@ pub fn with_tables(rt: &(impl AllocGlobal + Abort)) -> Connection<MemStore> {
 }
 
 /// Carries statements out, one after another.
-pub fn fill(rt: &impl Abort, conn: &mut Connection<MemStore>, rows: &[&str]) {
+pub fn fill<S: Alter>(rt: &impl Abort, conn: &mut Connection<S>, rows: &[&str]) {
     for statement in rows {
         conn.execute(statement, &[]).expect(rt, "a statement");
     }

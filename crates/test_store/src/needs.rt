@@ -1,5 +1,5 @@
 //! Each shape of needs is loaded, with the amounts in use that are kept, from a store in memory.
-use crate::examples::{GRN, MRN, code, country, grn, line, lrn, mrn, with_rows};
+use crate::examples::{GRN, OLDER_MRN, code, country, grn, line, lrn, mrn, with_rows};
 use sqlite::{Connection, MemStore};
 use std::alloc::AllocError;
 use std::process::Abort;
@@ -107,7 +107,7 @@ fn lines(rt: &(impl AllocGlobal + Abort)) -> Lines {
 #[test]
 fn each_need_is_loaded_of_its_owner(rt: HostRuntime) {
     let lines = lines(&rt);
-    let (lrn, mrn, grn) = (lrn(&rt, b"A2"), mrn(&rt, MRN), grn(&rt, GRN));
+    let (lrn, mrn, grn) = (lrn(&rt, b"A2"), mrn(&rt, OLDER_MRN), grn(&rt, GRN));
     let rows: [(Needs<'_>, &str, &str); 7] = [
         (Needs::Nothing, "", ""),
         (

@@ -1,21 +1,21 @@
 //! A holder's movements.
 ghost use Rattle.std.specs.Prelude.{◌↔◌, map, IsTrue};
-ghost use Rattle.td_base.specs.References.{IsMrnSerial};
 ghost use Rattle.td_movement.specs.Status.{HasDaysOf};
+ghost use Rattle.td_model.specs.Sound.{IsMrnOf};
 ghost use Rattle.td_store_rows.specs.MovementTable.{movement_row_of};
 ghost use Rattle.td_store_audit_rows.specs.InPlace.{AreMovementsInPlace, IsMovementInPlace};
 
-use td_base::{Country, GREATEST_MRN_SERIAL, Mrn};
+use td_base::{Country, GREATEST_OLDER_MRN_SERIAL, Mrn};
 use td_movement::{Movement, State};
 use td_store_rows::StoredMovement;
 
 /// Whether these are all of a holder's movements, by their serials, of which the holder's row counts so many: none is left out, and
-/// each has the MRN of the year of its acceptance, the country, the holder and its serial, and the days and the office of
-/// its state.
+/// each has the MRN of the year of its acceptance, the country, the holder and its serial, in either form, and the days and
+/// the office of its state.
 pub fn movements_are_in_place(country: Country, count: u32, rows: &[StoredMovement]) -> bool
     ensures { IsTrue result ↔ AreMovementsInPlace country count (map movement_row_of rows.now) }
 {
-    if count as usize != rows.len() || count > GREATEST_MRN_SERIAL {
+    if count as usize != rows.len() || count > GREATEST_OLDER_MRN_SERIAL {
         return false;
     }
     for i in 0..rows.len() {
@@ -26,13 +26,21 @@ pub fn movements_are_in_place(country: Country, count: u32, rows: &[StoredMoveme
     true
 }
 
-// Whether a movement with such a serial is in its place.
+// Whether a movement is in its place.
 fn is_in_place(country: Country, row: &StoredMovement) -> bool
-    ensures { IsMrnSerial row.now.serial → (IsTrue result ↔ IsMovementInPlace country (movement_row_of row.now)) }
+    ensures { IsTrue result ↔ IsMovementInPlace country (movement_row_of row.now) }
 {
-    let movement = &row.movement;
-    let made = Mrn::make(movement.accepted.year2(), country, row.holder, row.serial);
-    made == Some(movement.mrn) && has_days(movement)
+    has_mrn(country, row) && has_days(&row.movement)
+}
+
+// Whether it has the MRN of the year of its acceptance, the country, its holder and its serial, in either form.
+fn has_mrn(country: Country, row: &StoredMovement) -> bool
+    ensures { IsTrue result ↔ IsMrnOf country row.now.holder row.now.serial row.now.movement }
+{
+    let year2 = row.movement.accepted.year2();
+    let mrn = Some(row.movement.mrn);
+    Mrn::make(year2, country, row.holder, row.serial) == mrn
+        || Mrn::make_older(year2, country, row.holder, row.serial) == mrn
 }
 
 // Whether it has the days and the office that its state asks for, and no others.

@@ -8,35 +8,35 @@ use td_movement::State;
 const CONTROLLED: [(State, &str); 8] = [
     (
         State::Accepted,
-        "HTTP/1.1 200 OK\r\nContent-Type: application/json\r\nContent-Length: 65\r\n\r\n{\"message\":\"IE018\",\"mrn\":\"25CH00000100000013\",\"state\":\"accepted\"}",
+        "HTTP/1.1 200 OK\r\nContent-Type: application/json\r\nContent-Length: 65\r\n\r\n{\"message\":\"IE018\",\"mrn\":\"25CH000001000001J8\",\"state\":\"accepted\"}",
     ),
     (
         State::Cancelled,
-        "HTTP/1.1 200 OK\r\nContent-Type: application/json\r\nContent-Length: 66\r\n\r\n{\"message\":\"IE018\",\"mrn\":\"25CH00000100000013\",\"state\":\"cancelled\"}",
+        "HTTP/1.1 200 OK\r\nContent-Type: application/json\r\nContent-Length: 66\r\n\r\n{\"message\":\"IE018\",\"mrn\":\"25CH000001000001J8\",\"state\":\"cancelled\"}",
     ),
     (
         State::Released,
-        "HTTP/1.1 200 OK\r\nContent-Type: application/json\r\nContent-Length: 65\r\n\r\n{\"message\":\"IE018\",\"mrn\":\"25CH00000100000013\",\"state\":\"released\"}",
+        "HTTP/1.1 200 OK\r\nContent-Type: application/json\r\nContent-Length: 65\r\n\r\n{\"message\":\"IE018\",\"mrn\":\"25CH000001000001J8\",\"state\":\"released\"}",
     ),
     (
         State::Enquired,
-        "HTTP/1.1 200 OK\r\nContent-Type: application/json\r\nContent-Length: 65\r\n\r\n{\"message\":\"IE018\",\"mrn\":\"25CH00000100000013\",\"state\":\"enquired\"}",
+        "HTTP/1.1 200 OK\r\nContent-Type: application/json\r\nContent-Length: 65\r\n\r\n{\"message\":\"IE018\",\"mrn\":\"25CH000001000001J8\",\"state\":\"enquired\"}",
     ),
     (
         State::Arrived,
-        "HTTP/1.1 200 OK\r\nContent-Type: application/json\r\nContent-Length: 64\r\n\r\n{\"message\":\"IE018\",\"mrn\":\"25CH00000100000013\",\"state\":\"arrived\"}",
+        "HTTP/1.1 200 OK\r\nContent-Type: application/json\r\nContent-Length: 64\r\n\r\n{\"message\":\"IE018\",\"mrn\":\"25CH000001000001J8\",\"state\":\"arrived\"}",
     ),
     (
         State::Discrepant,
-        "HTTP/1.1 200 OK\r\nContent-Type: application/json\r\nContent-Length: 67\r\n\r\n{\"message\":\"IE018\",\"mrn\":\"25CH00000100000013\",\"state\":\"discrepant\"}",
+        "HTTP/1.1 200 OK\r\nContent-Type: application/json\r\nContent-Length: 67\r\n\r\n{\"message\":\"IE018\",\"mrn\":\"25CH000001000001J8\",\"state\":\"discrepant\"}",
     ),
     (
         State::Cleared,
-        "HTTP/1.1 200 OK\r\nContent-Type: application/json\r\nContent-Length: 64\r\n\r\n{\"message\":\"IE018\",\"mrn\":\"25CH00000100000013\",\"state\":\"cleared\"}",
+        "HTTP/1.1 200 OK\r\nContent-Type: application/json\r\nContent-Length: 64\r\n\r\n{\"message\":\"IE018\",\"mrn\":\"25CH000001000001J8\",\"state\":\"cleared\"}",
     ),
     (
         State::WrittenOff,
-        "HTTP/1.1 200 OK\r\nContent-Type: application/json\r\nContent-Length: 68\r\n\r\n{\"message\":\"IE018\",\"mrn\":\"25CH00000100000013\",\"state\":\"written-off\"}",
+        "HTTP/1.1 200 OK\r\nContent-Type: application/json\r\nContent-Length: 68\r\n\r\n{\"message\":\"IE018\",\"mrn\":\"25CH000001000001J8\",\"state\":\"written-off\"}",
     ),
 ];
 

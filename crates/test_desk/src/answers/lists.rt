@@ -35,7 +35,7 @@ fn many_shown(alloc: Global) -> Result<String, AllocError> {
         let comma = if number == 1 { "" } else { "," };
         write!(
             shown,
-            r#"{comma}{{"lrn":"A{number}","mrn":"25CH00000100000013","state":"released"}}"#
+            r#"{comma}{{"lrn":"A{number}","mrn":"25CH000001000001J8","state":"released"}}"#
         )?;
     }
     Ok(shown)

@@ -34,7 +34,7 @@ fn many_shown(alloc: Global) -> Result<String, AllocError> {
 // What JSON shows of the movement with these lines, as it was lodged.
 fn body_with(alloc: Global, lines: &str) -> Result<String, AllocError> {
     format!(in alloc;
-        r#"{{"accepted":"2025-03-01","actual":null,"arrival":null,"departure":"CH001251","destination":"DE005600","limit":null,"lines":[{lines}],"lrn":"A1","mrn":"25CH00000100000013","state":"accepted"}}"#
+        r#"{{"accepted":"2025-03-01","actual":null,"arrival":null,"departure":"CH001251","destination":"DE005600","limit":null,"lines":[{lines}],"lrn":"A1","mrn":"25CH000001000001J8","state":"accepted"}}"#
     )
 }
 

@@ -81,17 +81,17 @@ const BAD_DECLARATIONS: [Bad; 16] = [
 const BAD_ACTS: [Bad; 8] = [
     (b"", 1, 0),
     (b"message,mrn\n", 1, 0),
-    (b"message,mrn,value\nIE140,25CH00000100000013\n", 2, 0),
-    (b"message,mrn,value\nIE014,25CH00000100000013,\n", 2, 1),
-    (b"message,mrn,value\nIE140,25CH00000100000014,\n", 2, 2),
+    (b"message,mrn,value\nIE140,25CH000001000001J8\n", 2, 0),
+    (b"message,mrn,value\nIE014,25CH000001000001J8,\n", 2, 1),
+    (b"message,mrn,value\nIE140,25CH000001000001J9,\n", 2, 2),
     (
-        b"message,mrn,value\nIE029,25CH00000100000013,2025-02-29\n",
+        b"message,mrn,value\nIE029,25CH000001000001J8,2025-02-29\n",
         2,
         3,
     ),
-    (b"message,mrn,value\nIE018,25CH00000100000013,A3\n", 2, 3),
+    (b"message,mrn,value\nIE018,25CH000001000001J8,A3\n", 2, 3),
     (
-        b"message,mrn,value\nIE045,25CH00000100000013,results\nIE140,25CH00000100000013,now\n",
+        b"message,mrn,value\nIE045,25CH000001000001J8,results\nIE140,25CH000001000001J8,now\n",
         3,
         3,
     ),
@@ -164,7 +164,7 @@ const TWO_OTHERWISE: &[u8] =
     b"\xef\xbb\xbfholder,lrn,departure,destination,lines\r\n\r\n\"000001\",A1,CH001251,DE005600,25CH0000010000014:AB12:5000.00\r\n000001,\"A2\",CH001251,DE005600,25CH0000010000014:AB12:12.50";
 
 const TWO_DONE: &str =
-    "holder,lrn,outcome,mrn\n000001,A1,IE028,25CH00000100000013\n000001,A2,IE028,25CH00000100000021\n";
+    "holder,lrn,outcome,mrn\n000001,A1,IE028,25CH000001000001J8\n000001,A2,IE028,25CH000001000002J7\n";
 
 /// Declarations, one after another at the same desk, and their results.
 const DECLARED: [(&[u8], &str); 6] = [
@@ -199,16 +199,16 @@ fn declarations_are_done_row_by_row(rt: HostRuntime) {
 const ACTED: [(&[u8], &str); 4] = [
     (b"message,mrn,value\n", "message,mrn,outcome\n"),
     (
-        b"message,mrn,value\nIE029,25CH00000100000013,2025-03-08\nIE140,25CH00000100000013,\n",
-        "message,mrn,outcome\nIE029,25CH00000100000013,released\nIE140,25CH00000100000013,too-early\n",
+        b"message,mrn,value\nIE029,25CH000001000001J8,2025-03-08\nIE140,25CH000001000001J8,\n",
+        "message,mrn,outcome\nIE029,25CH000001000001J8,released\nIE140,25CH000001000001J8,too-early\n",
     ),
     (
-        b"message,mrn,value\nIE029,25CH00000100000013,2025-03-08\nIE140,25CH00000100000013,\n",
-        "message,mrn,outcome\nIE029,25CH00000100000013,wrong-state\nIE140,25CH00000100000013,too-early\n",
+        b"message,mrn,value\nIE029,25CH000001000001J8,2025-03-08\nIE140,25CH000001000001J8,\n",
+        "message,mrn,outcome\nIE029,25CH000001000001J8,wrong-state\nIE140,25CH000001000001J8,too-early\n",
     ),
     (
-        b"message,mrn,value\nIE007,25CH00000100000013,DE005600\nIE018,25CH00000100000013,A1\nIE045,25CH00000100000013,results\n",
-        "message,mrn,outcome\nIE007,25CH00000100000013,arrived\nIE018,25CH00000100000013,cleared\nIE045,25CH00000100000013,written-off\n",
+        b"message,mrn,value\nIE007,25CH000001000001J8,DE005600\nIE018,25CH000001000001J8,A1\nIE045,25CH000001000001J8,results\n",
+        "message,mrn,outcome\nIE007,25CH000001000001J8,arrived\nIE018,25CH000001000001J8,cleared\nIE045,25CH000001000001J8,written-off\n",
     ),
 ];
 

@@ -41,8 +41,8 @@ fn views(rt: &impl Abort) -> [Stamped; 10] {
     [
         see_movement(rt, 1, MRN),
         see_movement(rt, 1, SECOND_MRN),
-        see_movement(rt, 1, b"25CH00000100000030"),
-        see_movement(rt, 1, b"24CH00000100000011"),
+        see_movement(rt, 1, b"25CH000001000003J6"),
+        see_movement(rt, 1, b"24CH000001000001J6"),
         see_movement(rt, 2, MRN),
         see_movement(rt, 3, MRN),
         see_guarantee(rt, 1, GRN),
@@ -74,21 +74,21 @@ const LODGED: [&str; 13] = [
     "holder 000002 DE7654321 0 0",
     "no-guarantee",
     "opened 25CH0000010000014",
-    "IE028 A1 25CH00000100000013",
-    "IE028 A1 25CH00000100000013",
+    "IE028 A1 25CH000001000001J8",
+    "IE028 A1 25CH000001000001J8",
     "lrn-used",
     "bad-code",
     "clock-back",
     "opened 25CH0000020000010",
     "no-guarantee",
-    "IE028 A2 25CH00000100000021",
+    "IE028 A2 25CH000001000002J7",
     "holder 000001 CH1234567 1 2",
 ];
 
 /// What is said to each view.
 const VIEWED: [&str; 10] = [
-    "movement 25CH00000100000013 accepted A1",
-    "movement 25CH00000100000021 accepted A2",
+    "movement 25CH000001000001J8 accepted A1",
+    "movement 25CH000001000002J7 accepted A2",
     "no-movement",
     "no-movement",
     "no-movement",

@@ -63,14 +63,14 @@ fn rows_are_loaded_by_needs(rt: HostRuntime) {
     let grn = grn(&rt, GRN);
     let rows: [(Needs<'_>, &str); 6] = [
         (Needs::Nothing, ""),
-        (Needs::Movement(mrn), "25CH00000100000021 "),
+        (Needs::Movement(mrn), "25CH000001000002J7 "),
         (
             Needs::Release(mrn),
-            "25CH00000100000021 25CH0000010000014 5.00 ",
+            "25CH000001000002J7 25CH0000010000014 5.00 ",
         ),
         (
             Needs::AllMovements,
-            "25CH00000100000013 25CH00000100000021 ",
+            "25CH000001000001J8 25CH000001000002J7 ",
         ),
         (Needs::Guarantee(grn), "25CH0000010000014 5.00 "),
         (

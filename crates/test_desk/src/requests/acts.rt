@@ -29,52 +29,52 @@ const REMOVE_READ: [(&str, &str); 1] = [(
     "remove 000001 25CH0000010000014 AB12",
 )];
 
-const RELEASE: &[u8] = b"/office/movements/25CH00000100000013/ie029";
+const RELEASE: &[u8] = b"/office/movements/25CH000001000001J8/ie029";
 
 // A release, with the limit.
 const RELEASE_READ: [(&str, &str); 3] = [
     (
         "{\"limit\":\"2025-03-08\"}",
-        "release 25CH00000100000013 2025-03-08",
+        "release 25CH000001000001J8 2025-03-08",
     ),
     (
         "{\"limit\":\"2100-12-31\"}",
-        "release 25CH00000100000013 2100-12-31",
+        "release 25CH000001000001J8 2100-12-31",
     ),
     (
         "{\"limit\":\"2024-02-29\"}",
-        "release 25CH00000100000013 2024-02-29",
+        "release 25CH000001000001J8 2024-02-29",
     ),
 ];
 
-const ARRIVE: &[u8] = b"/office/movements/25CH00000100000013/ie007";
+const ARRIVE: &[u8] = b"/office/movements/25CH000001000001J8/ie007";
 
 // An arrival, at an office.
 const ARRIVE_READ: [(&str, &str); 1] = [(
     "{\"office\":\"DE005600\"}",
-    "arrive 25CH00000100000013 DE005600",
+    "arrive 25CH000001000001J8 DE005600",
 )];
 
-const CONTROL: &[u8] = b"/office/movements/25CH00000100000013/ie018";
+const CONTROL: &[u8] = b"/office/movements/25CH000001000001J8/ie018";
 
 // The result of a control.
 const CONTROL_READ: [(&str, &str); 3] = [
-    ("{\"result\":\"A1\"}", "control 25CH00000100000013 A1"),
-    ("{\"result\":\"A2\"}", "control 25CH00000100000013 A2"),
-    ("{\"result\":\"B1\"}", "control 25CH00000100000013 B1"),
+    ("{\"result\":\"A1\"}", "control 25CH000001000001J8 A1"),
+    ("{\"result\":\"A2\"}", "control 25CH000001000001J8 A2"),
+    ("{\"result\":\"B1\"}", "control 25CH000001000001J8 B1"),
 ];
 
-const WRITE_OFF: &[u8] = b"/office/movements/25CH00000100000013/ie045";
+const WRITE_OFF: &[u8] = b"/office/movements/25CH000001000001J8/ie045";
 
 // A write-off, and its ground.
 const WRITE_OFF_READ: [(&str, &str); 2] = [
     (
         "{\"ground\":\"results\"}",
-        "write off 25CH00000100000013 results",
+        "write off 25CH000001000001J8 results",
     ),
     (
         "{\"ground\":\"proof\"}",
-        "write off 25CH00000100000013 proof",
+        "write off 25CH000001000001J8 proof",
     ),
 ];
 
@@ -86,12 +86,12 @@ const REVOKE_READ: [(&str, &str); 2] = [
     ("{[", "revoke 25CH0000010000014"),
 ];
 
-const ENQUIRE: &[u8] = b"/office/movements/25CH00000100000013/ie140";
+const ENQUIRE: &[u8] = b"/office/movements/25CH000001000001J8/ie140";
 
 // Nor has a request on a movement that has not arrived.
 const ENQUIRE_READ: [(&str, &str); 2] = [
-    ("", "enquire 25CH00000100000013"),
-    ("[1", "enquire 25CH00000100000013"),
+    ("", "enquire 25CH000001000001J8"),
+    ("[1", "enquire 25CH000001000001J8"),
 ];
 
 #[test]

@@ -44,15 +44,15 @@ const READ: [(&str, &str, &str, &str); 12] = [
     ("GET", "/holders/000001?", "not JSON", "see 000001"),
     (
         "GET",
-        "/holders/000001/movements/25CH00000100000013",
+        "/holders/000001/movements/25CH000001000001J8",
         "",
-        "see 000001 movement 25CH00000100000013",
+        "see 000001 movement 25CH000001000001J8",
     ),
     (
         "GET",
-        "/holders/000001/movements/25CH00000100000013?a=/b",
+        "/holders/000001/movements/25CH000001000001J8?a=/b",
         "not JSON",
-        "see 000001 movement 25CH00000100000013",
+        "see 000001 movement 25CH000001000001J8",
     ),
     (
         "GET",
@@ -127,7 +127,7 @@ fn routed(holder: HolderNo, mrn: Mrn, grn: Grn) -> [Routed; 6] {
         ("GET", "/holders/000001", Route::SeeHolder { holder }),
         (
             "GET",
-            "/holders/000001/movements/25CH00000100000013",
+            "/holders/000001/movements/25CH000001000001J8",
             Route::SeeMovement { holder, mrn },
         ),
         (

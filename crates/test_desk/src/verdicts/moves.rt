@@ -41,7 +41,7 @@ fn release(rt: &impl Abort, limit: &[u8]) -> Command {
 #[test]
 fn releases_are_decided(rt: HostRuntime) {
     let act = release(&rt, b"2025-03-08");
-    let answer = "IE029 2025-03-08 25CH00000100000013";
+    let answer = "IE029 2025-03-08 25CH000001000001J8";
     assert_told(&rt, State::Accepted, 500_000, &act, answer, true);
     assert_told(&rt, State::Accepted, 500_001, &act, "over-reference", false);
     assert_told(&rt, State::Released, 0, &act, "wrong-state", false);
@@ -52,7 +52,7 @@ fn limits_are_tested(rt: HostRuntime) {
     let late = release(&rt, b"2026-03-02");
     assert_told(&rt, State::Accepted, 0, &late, "limit-date", false);
     let last = release(&rt, b"2026-03-01");
-    let answer = "IE029 2026-03-01 25CH00000100000013";
+    let answer = "IE029 2026-03-01 25CH000001000001J8";
     assert_told(&rt, State::Accepted, 0, &last, answer, true);
 }
 
@@ -62,7 +62,7 @@ fn arrivals_are_decided(rt: HostRuntime) {
         mrn: mrn(&rt, MRN),
         office: office(&rt, b"DE005600"),
     };
-    let answer = "IE006 false 25CH00000100000013";
+    let answer = "IE006 false 25CH000001000001J8";
     assert_told(&rt, State::Enquired, 0, &act, answer, true);
     assert_told(&rt, State::Accepted, 0, &act, "wrong-state", false);
 }
@@ -77,10 +77,10 @@ fn controlled(rt: &impl Abort, control: Control) -> Command {
 #[test]
 fn controls_are_decided(rt: HostRuntime) {
     let act = controlled(&rt, Control::B1);
-    let answer = "IE018 25CH00000100000013 discrepant";
+    let answer = "IE018 25CH000001000001J8 discrepant";
     assert_told(&rt, State::Discrepant, 0, &act, answer, true);
     let act = controlled(&rt, Control::A2);
-    let answer = "IE018 25CH00000100000013 cleared";
+    let answer = "IE018 25CH000001000001J8 cleared";
     assert_told(&rt, State::Arrived, 0, &act, answer, true);
 }
 
@@ -90,7 +90,7 @@ fn write_offs_are_decided(rt: HostRuntime) {
         mrn: mrn(&rt, MRN),
         ground: Ground::Results,
     };
-    let answer = "IE045 25CH00000100000013";
+    let answer = "IE045 25CH000001000001J8";
     assert_told(&rt, State::Cleared, 0, &act, answer, true);
     assert_told(&rt, State::Enquired, 0, &act, "wrong-state", false);
 }
@@ -107,5 +107,5 @@ fn enquiries_are_decided(rt: HostRuntime) {
     let mrn = mrn(&rt, MRN);
     let act = Command::Ie140 { mrn };
     assert_told(&rt, State::Released, 0, &act, "too-early", false);
-    assert!(rt; is_said_at(&rt, 1_741_996_800, &act, "IE140 25CH00000100000013"));
+    assert!(rt; is_said_at(&rt, 1_741_996_800, &act, "IE140 25CH000001000001J8"));
 }

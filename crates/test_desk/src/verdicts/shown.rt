@@ -71,7 +71,7 @@ fn views_show_the_same(rt: HostRuntime) {
         (Command::SeeHolder { holder }, "holder 000001 CH1234567 1 1"),
         (
             Command::SeeMovement { holder, mrn },
-            "movement 25CH00000100000021",
+            "movement 25CH000001000002J7",
         ),
         (Command::SeeMovements { holder }, "2 movements"),
         (

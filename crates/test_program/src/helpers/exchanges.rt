@@ -38,7 +38,8 @@ pub fn assert_told(replies: &[u8], exchanges: &[Exchange]) -> Result<(), Fail> {
     assert_text(left, b"")
 }
 
-fn requests_of(alloc: Global, exchanges: &[Exchange]) -> Result<Vec<u8>, AllocError> {
+/// The requests of these exchanges, one behind another.
+pub fn requests_of(alloc: Global, exchanges: &[Exchange]) -> Result<Vec<u8>, AllocError> {
     let mut input = Vec::new(alloc);
     for (request, _) in exchanges {
         input.extend_from_slice(request)?;

@@ -1,5 +1,7 @@
-//! Want of memory, as the program tells it.
+//! Want of memory, as the program tells it. tests/memory runs what marks its places again and again, and refuses another request for
+//! memory in each run.
 use crate::helpers::exchanges::{REGISTER, SHOWN};
+use crate::helpers::refusals::{begin_refusals, end_refusals};
 use crate::helpers::{Done, Due, WORDS, assert_due, assert_that, words_of};
 use sqlite::Unknown;
 use std::alloc::{AllocError, Global};
@@ -86,11 +88,13 @@ fn room(alloc: Global) -> Result<(Vec<u8>, Vec<u8>), AllocError> {
     ))
 }
 
-// To be run with each allocation refused in turn: what the program itself misses is told by its status and line.
+// What the program itself misses is told by its status and line.
 #[test]
 fn want_of_memory_is_told(rt: HostRuntime) -> Result<(), Fail> {
     let words = words_of(rt.alloc(), &WORDS)?;
     let room = room(rt.alloc())?;
+    begin_refusals(&rt);
     let done = done_with_room(&rt, &words, room);
+    end_refusals(&rt);
     assert_that(is_told(&done), "what is told is one of the three")
 }

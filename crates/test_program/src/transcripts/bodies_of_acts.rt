@@ -42,50 +42,50 @@ $ pipe --country CH --at 1740819600
 
 == releases that can't be read
 $ pipe --country CH --at 1740819600
-> POST /office/movements/25CH00000100000013/ie029 {"limit":"2025-02-29"}
+> POST /office/movements/25CH000001000001J8/ie029 {"limit":"2025-02-29"}
 < 400 {"error":"bad-field","field":"limit"}
-> POST /office/movements/25CH00000100000013/ie029 {"limit":"2025-2-01"}
+> POST /office/movements/25CH000001000001J8/ie029 {"limit":"2025-2-01"}
 < 400 {"error":"bad-field","field":"limit"}
-> POST /office/movements/25CH00000100000013/ie029 {"limit":"1999-12-31"}
+> POST /office/movements/25CH000001000001J8/ie029 {"limit":"1999-12-31"}
 < 400 {"error":"bad-field","field":"limit"}
-> POST /office/movements/25CH00000100000013/ie029 {"limit":"2101-01-01"}
+> POST /office/movements/25CH000001000001J8/ie029 {"limit":"2101-01-01"}
 < 400 {"error":"bad-field","field":"limit"}
-> POST /office/movements/25CH00000100000013/ie029 {"limit":20250308}
+> POST /office/movements/25CH000001000001J8/ie029 {"limit":20250308}
 < 400 {"error":"bad-field","field":"limit"}
-> POST /office/movements/25CH00000100000013/ie029 {"office":"DE005600"}
+> POST /office/movements/25CH000001000001J8/ie029 {"office":"DE005600"}
 < 400 {"error":"bad-field","field":"limit"}
-> POST /office/movements/25CH00000100000013/ie029 nothing
+> POST /office/movements/25CH000001000001J8/ie029 nothing
 < 400 {"error":"bad-body"}
 
 == arrivals that can't be read
 $ pipe --country CH --at 1740819600
-> POST /office/movements/25CH00000100000013/ie007 {"office":"de005600"}
+> POST /office/movements/25CH000001000001J8/ie007 {"office":"de005600"}
 < 400 {"error":"bad-field","field":"office"}
-> POST /office/movements/25CH00000100000013/ie007 {"office":"DE00560"}
+> POST /office/movements/25CH000001000001J8/ie007 {"office":"DE00560"}
 < 400 {"error":"bad-field","field":"office"}
-> POST /office/movements/25CH00000100000013/ie007 {"office":["DE005600"]}
+> POST /office/movements/25CH000001000001J8/ie007 {"office":["DE005600"]}
 < 400 {"error":"bad-field","field":"office"}
-> POST /office/movements/25CH00000100000013/ie007 {}
+> POST /office/movements/25CH000001000001J8/ie007 {}
 < 400 {"error":"bad-field","field":"office"}
 
 == results of a control that can't be read
 $ pipe --country CH --at 1740819600
-> POST /office/movements/25CH00000100000013/ie018 {"result":"B2"}
+> POST /office/movements/25CH000001000001J8/ie018 {"result":"B2"}
 < 400 {"error":"bad-field","field":"result"}
-> POST /office/movements/25CH00000100000013/ie018 {"result":"a1"}
+> POST /office/movements/25CH000001000001J8/ie018 {"result":"a1"}
 < 400 {"error":"bad-field","field":"result"}
-> POST /office/movements/25CH00000100000013/ie018 {"result":""}
+> POST /office/movements/25CH000001000001J8/ie018 {"result":""}
 < 400 {"error":"bad-field","field":"result"}
-> POST /office/movements/25CH00000100000013/ie018 {"result":true}
+> POST /office/movements/25CH000001000001J8/ie018 {"result":true}
 < 400 {"error":"bad-field","field":"result"}
 
 == write-offs that can't be read
 $ pipe --country CH --at 1740819600
-> POST /office/movements/25CH00000100000013/ie045 {"ground":"Proof"}
+> POST /office/movements/25CH000001000001J8/ie045 {"ground":"Proof"}
 < 400 {"error":"bad-field","field":"ground"}
-> POST /office/movements/25CH00000100000013/ie045 {"ground":"result"}
+> POST /office/movements/25CH000001000001J8/ie045 {"ground":"result"}
 < 400 {"error":"bad-field","field":"ground"}
-> POST /office/movements/25CH00000100000013/ie045 {"grounds":"proof"}
+> POST /office/movements/25CH000001000001J8/ie045 {"grounds":"proof"}
 < 400 {"error":"bad-field","field":"ground"}
 "#;
 

@@ -142,7 +142,7 @@ $ pipe --country CH --at 1740819600
 < 400 {"error":"bad-field","field":"lines"}
 > POST /holders/000001/movements {"lrn":"A1","departure":"CH001251","destination":"DE005600","lines":[{"grn":"25CH000001000001","code":"AB12","cents":500000}]}
 < 400 {"error":"bad-field","field":"lines"}
-> POST /holders/000001/movements {"lrn":"A1","departure":"CH001251","destination":"DE005600","lines":[{"grn":"25CH00000100000144","code":"AB12","cents":500000}]}
+> POST /holders/000001/movements {"lrn":"A1","departure":"CH001251","destination":"DE005600","lines":[{"grn":"25CH000001000014J7","code":"AB12","cents":500000}]}
 < 400 {"error":"bad-field","field":"lines"}
 > POST /holders/000001/movements {"lrn":"A1","departure":"CH001251","destination":"DE005600","lines":[{"grn":"25ch0000010000014","code":"AB12","cents":500000}]}
 < 400 {"error":"bad-field","field":"lines"}

@@ -92,9 +92,9 @@ $ pipe --country CH --at 1740819600 --db FILE --new
 > POST /office/holders/000001/guarantees {"reference":1000000,"cover":50,"code":"AB12"}
 < 200 {"grn":"25CH0000010000014"}
 > POST /holders/000001/movements {"lrn":"A1","departure":"CH001251","destination":"DE005600","lines":[{"grn":"25CH0000010000014","code":"AB12","cents":500000}]}
-< 200 {"lrn":"A1","message":"IE028","mrn":"25CH00000100000013"}
-> POST /office/movements/25CH00000100000013/ie029 {"limit":"2025-03-08"}
-< 200 {"limit":"2025-03-08","message":"IE029","mrn":"25CH00000100000013","state":"released"}
+< 200 {"lrn":"A1","message":"IE028","mrn":"25CH000001000001J8"}
+> POST /office/movements/25CH000001000001J8/ie029 {"limit":"2025-03-08"}
+< 200 {"limit":"2025-03-08","message":"IE029","mrn":"25CH000001000001J8","state":"released"}
 $ sql UPDATE guarantees2 SET used = 500001
 $ check --country CH --db FILE
 ! 1 transit-desk: damaged S7
@@ -117,9 +117,9 @@ $ pipe --country CH --at 1740819600 --db FILE --new
 > POST /office/holders/000001/guarantees {"reference":1000000,"cover":50,"code":"AB12"}
 < 200 {"grn":"25CH0000010000014"}
 > POST /holders/000001/movements {"lrn":"A1","departure":"CH001251","destination":"DE005600","lines":[{"grn":"25CH0000010000014","code":"AB12","cents":500000}]}
-< 200 {"lrn":"A1","message":"IE028","mrn":"25CH00000100000013"}
-> POST /office/movements/25CH00000100000013/ie029 {"limit":"2025-03-08"}
-< 200 {"limit":"2025-03-08","message":"IE029","mrn":"25CH00000100000013","state":"released"}
+< 200 {"lrn":"A1","message":"IE028","mrn":"25CH000001000001J8"}
+> POST /office/movements/25CH000001000001J8/ie029 {"limit":"2025-03-08"}
+< 200 {"limit":"2025-03-08","message":"IE029","mrn":"25CH000001000001J8","state":"released"}
 $ sql UPDATE guarantees2 SET used = 499999
 $ check --country CH --db FILE
 ! 1 transit-desk: damaged S7
@@ -142,9 +142,9 @@ $ pipe --country CH --at 1740819600 --db FILE --new
 > POST /office/holders/000001/guarantees {"reference":1000000,"cover":50,"code":"AB12"}
 < 200 {"grn":"25CH0000010000014"}
 > POST /holders/000001/movements {"lrn":"A1","departure":"CH001251","destination":"DE005600","lines":[{"grn":"25CH0000010000014","code":"AB12","cents":500000}]}
-< 200 {"lrn":"A1","message":"IE028","mrn":"25CH00000100000013"}
-> POST /office/movements/25CH00000100000013/ie029 {"limit":"2025-03-08"}
-< 200 {"limit":"2025-03-08","message":"IE029","mrn":"25CH00000100000013","state":"released"}
+< 200 {"lrn":"A1","message":"IE028","mrn":"25CH000001000001J8"}
+> POST /office/movements/25CH000001000001J8/ie029 {"limit":"2025-03-08"}
+< 200 {"limit":"2025-03-08","message":"IE029","mrn":"25CH000001000001J8","state":"released"}
 $ sql UPDATE holders SET mrn_count = mrn_count + 1
 $ check --country CH --db FILE
 ! 1 transit-desk: damaged S5
@@ -163,9 +163,9 @@ $ pipe --country CH --at 1740819600 --db FILE --new
 > POST /office/holders/000001/guarantees {"reference":1000000,"cover":50,"code":"AB12"}
 < 200 {"grn":"25CH0000010000014"}
 > POST /holders/000001/movements {"lrn":"A1","departure":"CH001251","destination":"DE005600","lines":[{"grn":"25CH0000010000014","code":"AB12","cents":500000}]}
-< 200 {"lrn":"A1","message":"IE028","mrn":"25CH00000100000013"}
-> POST /office/movements/25CH00000100000013/ie029 {"limit":"2025-03-08"}
-< 200 {"limit":"2025-03-08","message":"IE029","mrn":"25CH00000100000013","state":"released"}
+< 200 {"lrn":"A1","message":"IE028","mrn":"25CH000001000001J8"}
+> POST /office/movements/25CH000001000001J8/ie029 {"limit":"2025-03-08"}
+< 200 {"limit":"2025-03-08","message":"IE029","mrn":"25CH000001000001J8","state":"released"}
 $ sql UPDATE meta SET version = 9
 $ check --country CH --db FILE
 ! 1 transit-desk: unknown-version
@@ -184,9 +184,9 @@ $ pipe --country CH --at 1740819600 --db FILE --new
 > POST /office/holders/000001/guarantees {"reference":1000000,"cover":50,"code":"AB12"}
 < 200 {"grn":"25CH0000010000014"}
 > POST /holders/000001/movements {"lrn":"A1","departure":"CH001251","destination":"DE005600","lines":[{"grn":"25CH0000010000014","code":"AB12","cents":500000}]}
-< 200 {"lrn":"A1","message":"IE028","mrn":"25CH00000100000013"}
-> POST /office/movements/25CH00000100000013/ie029 {"limit":"2025-03-08"}
-< 200 {"limit":"2025-03-08","message":"IE029","mrn":"25CH00000100000013","state":"released"}
+< 200 {"lrn":"A1","message":"IE028","mrn":"25CH000001000001J8"}
+> POST /office/movements/25CH000001000001J8/ie029 {"limit":"2025-03-08"}
+< 200 {"limit":"2025-03-08","message":"IE029","mrn":"25CH000001000001J8","state":"released"}
 $ sql UPDATE meta SET country = 'DE'
 $ check --country CH --db FILE
 ! 1 transit-desk: other-country
@@ -206,15 +206,15 @@ $ pipe --country CH --at 1740819600 --db FILE --new
 > POST /office/holders/000001/guarantees {"reference":1000000,"cover":50,"code":"AB12"}
 < 200 {"grn":"25CH0000010000014"}
 > POST /holders/000001/movements {"lrn":"A1","departure":"CH001251","destination":"DE005600","lines":[{"grn":"25CH0000010000014","code":"AB12","cents":500000}]}
-< 200 {"lrn":"A1","message":"IE028","mrn":"25CH00000100000013"}
-> POST /office/movements/25CH00000100000013/ie029 {"limit":"2025-03-08"}
-< 200 {"limit":"2025-03-08","message":"IE029","mrn":"25CH00000100000013","state":"released"}
+< 200 {"lrn":"A1","message":"IE028","mrn":"25CH000001000001J8"}
+> POST /office/movements/25CH000001000001J8/ie029 {"limit":"2025-03-08"}
+< 200 {"limit":"2025-03-08","message":"IE029","mrn":"25CH000001000001J8","state":"released"}
 > PUT /office/holders/000002 {"eori":"DE7654321"}
 < 200 {"eori":"DE7654321","guarantees":0,"holder":"000002","movements":0}
 > POST /office/holders/000002/guarantees {"reference":1000000,"cover":50,"code":"AB12"}
 < 200 {"grn":"25CH0000020000010"}
 > POST /holders/000002/movements {"lrn":"A1","departure":"CH001251","destination":"DE005600","lines":[{"grn":"25CH0000020000010","code":"AB12","cents":500000}]}
-< 200 {"lrn":"A1","message":"IE028","mrn":"25CH00000200000019"}
+< 200 {"lrn":"A1","message":"IE028","mrn":"25CH000002000001J3"}
 $ sql INSERT INTO guarantees2 VALUES (2, 7, 'junk', 1, 0, NULL, 0)
 $ check --country CH --db FILE
 ! 1 transit-desk: damaged S3

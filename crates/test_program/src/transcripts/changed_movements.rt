@@ -30,7 +30,7 @@ $ check-after INSERT INTO movements VALUES (3, 1, '25CH00000300000014', 'A1', 'C
 $ check-after INSERT INTO movements VALUES (1, 4, '25CH00000100000048', 'A4', 'CH001251', 'DE005600', 20148, 'accepted', NULL, NULL, NULL)
 ! 1 transit-desk: damaged S5
 $ sql-refused foreign-key INSERT INTO movements VALUES (9, 1, '25CH00000900000017', 'A1', 'CH001251', 'DE005600', 20148, 'accepted', NULL, NULL, NULL)
-# The MRN: made of the year of acceptance, country, holder and serial.
+# The MRN: made of the year of acceptance, country, holder and serial, here in the older form.
 $ check-after UPDATE movements SET mrn = '24CH00000100000011' WHERE holder = 1 AND serial = 1
 ! 1 transit-desk: damaged S5
 $ check-after UPDATE movements SET mrn = '25DE00000100000015' WHERE holder = 1 AND serial = 1
@@ -45,6 +45,21 @@ $ check-after UPDATE movements SET mrn = '' WHERE holder = 1 AND serial = 1
 ! 1 transit-desk: damaged S5
 $ sql-refused unique UPDATE movements SET mrn = '25CH00000200000019' WHERE holder = 1 AND serial = 1
 $ sql-refused not-null UPDATE movements SET mrn = NULL WHERE holder = 2
+# Or made with the letter, of the same.
+$ check-after UPDATE movements SET mrn = '25CH000001000001J8' WHERE holder = 1 AND serial = 1
+<| sound\n
+$ check-after UPDATE movements SET mrn = '24CH000001000001J6' WHERE holder = 1 AND serial = 1
+! 1 transit-desk: damaged S5
+$ check-after UPDATE movements SET mrn = '25DE000001000001J0' WHERE holder = 1 AND serial = 1
+! 1 transit-desk: damaged S5
+$ check-after UPDATE movements SET mrn = '25CH000002000001J3' WHERE holder = 1 AND serial = 1
+! 1 transit-desk: damaged S5
+$ check-after UPDATE movements SET mrn = '25CH000001000002J7' WHERE holder = 1 AND serial = 1
+! 1 transit-desk: damaged S5
+$ check-after UPDATE movements SET mrn = '25CH000001000001K6' WHERE holder = 1 AND serial = 1
+! 1 transit-desk: damaged S5
+$ check-after UPDATE movements SET mrn = '25CH000001000001J9' WHERE holder = 1 AND serial = 1
+! 1 transit-desk: damaged S5
 # The LRN: 1 to 22 digits, letters, `-`, `/` and `.`, the holder's own.
 $ check-after UPDATE movements SET lrn = 'b-2/3.4' WHERE holder = 1 AND serial = 1
 <| sound\n

@@ -27,7 +27,7 @@ $ pipe --country CH --at 1740819600
 > GET /holders/000001/guarantees/25CH0000010000014
 < 200 {"codes":["ZZ99"],"cover":50,"ends":null,"free":1000000,"grn":"25CH0000010000014","guaranteed":500000,"reference":1000000,"used":0}
 > POST /holders/000001/movements {"lrn":"A1","departure":"CH001251","destination":"DE005600","lines":[{"grn":"25CH0000010000014","code":"ZZ99","cents":500000}]}
-< 200 {"lrn":"A1","message":"IE028","mrn":"25CH00000100000013"}
+< 200 {"lrn":"A1","message":"IE028","mrn":"25CH000001000001J8"}
 
 == a guarantee has twenty codes at most
 $ pipe --country CH --at 1740819600

@@ -39,10 +39,10 @@ $ pipe --country CH --at 1740819600 --db FILE --new
 > POST /office/holders/000001/guarantees {"reference":1000000,"cover":50,"code":"AB12"}
 < 200 {"grn":"25CH0000010000014"}
 > POST /holders/000001/movements {"lrn":"A1","departure":"CH001251","destination":"DE005600","lines":[{"grn":"25CH0000010000014","code":"AB12","cents":500000}]}
-< 200 {"lrn":"A1","message":"IE028","mrn":"25CH00000100000013"}
+< 200 {"lrn":"A1","message":"IE028","mrn":"25CH000001000001J8"}
 $ pipe --country CH --at 1740823200 --db FILE
-> POST /office/movements/25CH00000100000013/ie029 {"limit":"2025-03-08"}
-< 200 {"limit":"2025-03-08","message":"IE029","mrn":"25CH00000100000013","state":"released"}
+> POST /office/movements/25CH000001000001J8/ie029 {"limit":"2025-03-08"}
+< 200 {"limit":"2025-03-08","message":"IE029","mrn":"25CH000001000001J8","state":"released"}
 $ pipe --country CH --at 1740823200 --db FILE
 > GET /holders/000001/guarantees/25CH0000010000014
 < 200 {"codes":["AB12"],"cover":50,"ends":null,"free":500000,"grn":"25CH0000010000014","guaranteed":500000,"reference":1000000,"used":500000}
@@ -54,18 +54,18 @@ $ pipe --country CH --at 1740819600 --db FILE
 # The limit of the release is 2025-03-08, and this is its first second.
 $ pipe --country CH --at 1741392000 --db FILE
 > POST /holders/000001/movements {"lrn":"A1","departure":"CH001251","destination":"DE005600","lines":[{"grn":"25CH0000010000014","code":"AB12","cents":500000}]}
-< 200 {"lrn":"A1","message":"IE028","mrn":"25CH00000100000013"}
-> POST /office/movements/25CH00000100000013/ie029 {"limit":"2025-03-08"}
+< 200 {"lrn":"A1","message":"IE028","mrn":"25CH000001000001J8"}
+> POST /office/movements/25CH000001000001J8/ie029 {"limit":"2025-03-08"}
 < 409 {"error":"wrong-state","state":"released"}
-> POST /office/movements/25CH00000100000013/ie007 {"office":"DE005600"}
-< 200 {"late":false,"message":"IE006","mrn":"25CH00000100000013"}
+> POST /office/movements/25CH000001000001J8/ie007 {"office":"DE005600"}
+< 200 {"late":false,"message":"IE006","mrn":"25CH000001000001J8"}
 $ pipe --country CH --at 1741392000 --db FILE
-> POST /office/movements/25CH00000100000013/ie018 {"result":"A1"}
-< 200 {"message":"IE018","mrn":"25CH00000100000013","state":"cleared"}
+> POST /office/movements/25CH000001000001J8/ie018 {"result":"A1"}
+< 200 {"message":"IE018","mrn":"25CH000001000001J8","state":"cleared"}
 > GET /holders/000001/guarantees/25CH0000010000014
 < 200 {"codes":["AB12"],"cover":50,"ends":null,"free":500000,"grn":"25CH0000010000014","guaranteed":500000,"reference":1000000,"used":500000}
-> POST /office/movements/25CH00000100000013/ie045 {"ground":"results"}
-< 200 {"message":"IE045","mrn":"25CH00000100000013","state":"written-off"}
+> POST /office/movements/25CH000001000001J8/ie045 {"ground":"results"}
+< 200 {"message":"IE045","mrn":"25CH000001000001J8","state":"written-off"}
 $ pipe --country CH --at 1741392000 --db FILE
 > GET /holders/000001/guarantees/25CH0000010000014
 < 200 {"codes":["AB12"],"cover":50,"ends":null,"free":1000000,"grn":"25CH0000010000014","guaranteed":500000,"reference":1000000,"used":0}

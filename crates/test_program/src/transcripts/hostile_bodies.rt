@@ -26,33 +26,33 @@ $ pipe --country CH --at 1740819600
 < 400 {"error":"bad-body"}
 >| POST /office/guarantees/25CH0000010000014/amend HTTP/1.1\r\nContent-Length: 2\r\n\r\n{}
 < 400 {"error":"bad-field","field":"reference"}
->| POST /office/movements/25CH00000100000013/ie029 HTTP/1.1\r\nContent-Length: 200\r\n\r\n
+>| POST /office/movements/25CH000001000001J8/ie029 HTTP/1.1\r\nContent-Length: 200\r\n\r\n
 >* 200 [
 < 400 {"error":"bad-body"}
->| POST /office/movements/25CH00000100000013/ie029 HTTP/1.1\r\nContent-Length: 1\r\n\r\n\xff
+>| POST /office/movements/25CH000001000001J8/ie029 HTTP/1.1\r\nContent-Length: 1\r\n\r\n\xff
 < 400 {"error":"bad-body"}
->| POST /office/movements/25CH00000100000013/ie029 HTTP/1.1\r\nContent-Length: 2\r\n\r\n{}
+>| POST /office/movements/25CH000001000001J8/ie029 HTTP/1.1\r\nContent-Length: 2\r\n\r\n{}
 < 400 {"error":"bad-field","field":"limit"}
->| POST /office/movements/25CH00000100000013/ie007 HTTP/1.1\r\nContent-Length: 200\r\n\r\n
+>| POST /office/movements/25CH000001000001J8/ie007 HTTP/1.1\r\nContent-Length: 200\r\n\r\n
 >* 200 [
 < 400 {"error":"bad-body"}
->| POST /office/movements/25CH00000100000013/ie007 HTTP/1.1\r\nContent-Length: 1\r\n\r\n\xff
+>| POST /office/movements/25CH000001000001J8/ie007 HTTP/1.1\r\nContent-Length: 1\r\n\r\n\xff
 < 400 {"error":"bad-body"}
->| POST /office/movements/25CH00000100000013/ie007 HTTP/1.1\r\nContent-Length: 2\r\n\r\n{}
+>| POST /office/movements/25CH000001000001J8/ie007 HTTP/1.1\r\nContent-Length: 2\r\n\r\n{}
 < 400 {"error":"bad-field","field":"office"}
->| POST /office/movements/25CH00000100000013/ie018 HTTP/1.1\r\nContent-Length: 200\r\n\r\n
+>| POST /office/movements/25CH000001000001J8/ie018 HTTP/1.1\r\nContent-Length: 200\r\n\r\n
 >* 200 [
 < 400 {"error":"bad-body"}
->| POST /office/movements/25CH00000100000013/ie018 HTTP/1.1\r\nContent-Length: 1\r\n\r\n\xff
+>| POST /office/movements/25CH000001000001J8/ie018 HTTP/1.1\r\nContent-Length: 1\r\n\r\n\xff
 < 400 {"error":"bad-body"}
->| POST /office/movements/25CH00000100000013/ie018 HTTP/1.1\r\nContent-Length: 2\r\n\r\n{}
+>| POST /office/movements/25CH000001000001J8/ie018 HTTP/1.1\r\nContent-Length: 2\r\n\r\n{}
 < 400 {"error":"bad-field","field":"result"}
->| POST /office/movements/25CH00000100000013/ie045 HTTP/1.1\r\nContent-Length: 200\r\n\r\n
+>| POST /office/movements/25CH000001000001J8/ie045 HTTP/1.1\r\nContent-Length: 200\r\n\r\n
 >* 200 [
 < 400 {"error":"bad-body"}
->| POST /office/movements/25CH00000100000013/ie045 HTTP/1.1\r\nContent-Length: 1\r\n\r\n\xff
+>| POST /office/movements/25CH000001000001J8/ie045 HTTP/1.1\r\nContent-Length: 1\r\n\r\n\xff
 < 400 {"error":"bad-body"}
->| POST /office/movements/25CH00000100000013/ie045 HTTP/1.1\r\nContent-Length: 2\r\n\r\n{}
+>| POST /office/movements/25CH000001000001J8/ie045 HTTP/1.1\r\nContent-Length: 2\r\n\r\n{}
 < 400 {"error":"bad-field","field":"ground"}
 >| POST /holders/000002/guarantees/25CH0000010000014/codes/add HTTP/1.1\r\nContent-Length: 200\r\n\r\n
 >* 200 [
@@ -80,9 +80,9 @@ $ pipe --country CH --at 1740819600
 $ pipe --country CH --at 1740819600
 >| POST /office/guarantees/25CH0000010000014/revoke HTTP/1.1\r\nContent-Length: 1\r\n\r\n\xff
 < 404 {"error":"no-guarantee"}
->| POST /office/movements/25CH00000100000013/ie140 HTTP/1.1\r\nContent-Length: 4\r\n\r\n[[[[
+>| POST /office/movements/25CH000001000001J8/ie140 HTTP/1.1\r\nContent-Length: 4\r\n\r\n[[[[
 < 404 {"error":"no-movement"}
->| POST /holders/000002/movements/25CH00000100000013/ie014 HTTP/1.1\r\nContent-Length: 1\r\n\r\n\x00
+>| POST /holders/000002/movements/25CH000001000001J8/ie014 HTTP/1.1\r\nContent-Length: 1\r\n\r\n\x00
 < 404 {"error":"no-holder"}
 >| GET /holders/000002 HTTP/1.1\r\nContent-Length: 9\r\n\r\n{"a":1,}\xff
 < 404 {"error":"no-holder"}

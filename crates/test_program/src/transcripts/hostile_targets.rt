@@ -107,7 +107,7 @@ $ pipe --country CH --at 1740819600
 < 400 {"error":"bad-grn","reason":"length"}
 > GET /office/../holders/000002
 < 404 {"error":"no-route"}
-> GET /holders/000002/movements/25CH00000100000013/..
+> GET /holders/000002/movements/25CH000001000001J8/..
 < 404 {"error":"no-route"}
 > GET //holders/000002
 < 404 {"error":"no-route"}
@@ -170,7 +170,7 @@ $ pipe --country CH --at 1740819600
 < 404 {"error":"no-route"}
 > GET /holders/000002/movement%73
 < 404 {"error":"no-route"}
-> GET /holders/000002/movements/%32%35CH00000100000013
+> GET /holders/000002/movements/%32%35CH000001000001J8
 < 400 {"error":"bad-mrn","reason":"length"}
 > GET /holders/000002/movements/25%43H000001000001
 < 400 {"error":"bad-mrn","reason":"form"}

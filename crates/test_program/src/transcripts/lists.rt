@@ -20,15 +20,15 @@ $ pipe --country CH --at 1740819600
 > GET /holders/000001/guarantees
 < 200 {"guarantees":[{"codes":["AB12"],"cover":50,"ends":null,"free":1000000,"grn":"25CH0000010000014","guaranteed":500000,"reference":1000000,"used":0}]}
 > POST /holders/000001/movements {"lrn":"A1","departure":"CH001251","destination":"DE005600","lines":[{"grn":"25CH0000010000014","code":"AB12","cents":500000}]}
-< 200 {"lrn":"A1","message":"IE028","mrn":"25CH00000100000013"}
+< 200 {"lrn":"A1","message":"IE028","mrn":"25CH000001000001J8"}
 > POST /holders/000001/movements {"lrn":"A2","departure":"CH001251","destination":"DE005600","lines":[{"grn":"25CH0000010000014","code":"AB12","cents":500000}]}
-< 200 {"lrn":"A2","message":"IE028","mrn":"25CH00000100000021"}
+< 200 {"lrn":"A2","message":"IE028","mrn":"25CH000001000002J7"}
 > GET /holders/000001/movements
-< 200 {"movements":[{"lrn":"A1","mrn":"25CH00000100000013","state":"accepted"},{"lrn":"A2","mrn":"25CH00000100000021","state":"accepted"}]}
-> POST /office/movements/25CH00000100000021/ie029 {"limit":"2025-03-08"}
-< 200 {"limit":"2025-03-08","message":"IE029","mrn":"25CH00000100000021","state":"released"}
+< 200 {"movements":[{"lrn":"A1","mrn":"25CH000001000001J8","state":"accepted"},{"lrn":"A2","mrn":"25CH000001000002J7","state":"accepted"}]}
+> POST /office/movements/25CH000001000002J7/ie029 {"limit":"2025-03-08"}
+< 200 {"limit":"2025-03-08","message":"IE029","mrn":"25CH000001000002J7","state":"released"}
 > GET /holders/000001/movements
-< 200 {"movements":[{"lrn":"A1","mrn":"25CH00000100000013","state":"accepted"},{"lrn":"A2","mrn":"25CH00000100000021","state":"released"}]}
+< 200 {"movements":[{"lrn":"A1","mrn":"25CH000001000001J8","state":"accepted"},{"lrn":"A2","mrn":"25CH000001000002J7","state":"released"}]}
 > POST /office/holders/000001/guarantees {"reference":1000000,"cover":50,"code":"AB12"}
 < 200 {"grn":"25CH0000010000023"}
 > GET /holders/000001/guarantees
@@ -43,7 +43,7 @@ $ pipe --country CH --at 1740819600
 > POST /office/holders/000001/guarantees {"reference":1000000,"cover":50,"code":"AB12"}
 < 200 {"grn":"25CH0000010000014"}
 > POST /holders/000001/movements {"lrn":"A1","departure":"CH001251","destination":"DE005600","lines":[{"grn":"25CH0000010000014","code":"AB12","cents":500000}]}
-< 200 {"lrn":"A1","message":"IE028","mrn":"25CH00000100000013"}
+< 200 {"lrn":"A1","message":"IE028","mrn":"25CH000001000001J8"}
 > GET /holders/000002/movements
 < 200 {"movements":[]}
 > GET /holders/000002/guarantees
@@ -51,15 +51,15 @@ $ pipe --country CH --at 1740819600
 > POST /office/holders/000002/guarantees {"reference":1000000,"cover":50,"code":"AB12"}
 < 200 {"grn":"25CH0000020000010"}
 > POST /holders/000002/movements {"lrn":"A1","departure":"CH001251","destination":"DE005600","lines":[{"grn":"25CH0000020000010","code":"AB12","cents":500000}]}
-< 200 {"lrn":"A1","message":"IE028","mrn":"25CH00000200000019"}
+< 200 {"lrn":"A1","message":"IE028","mrn":"25CH000002000001J3"}
 > GET /holders/000002/movements
-< 200 {"movements":[{"lrn":"A1","mrn":"25CH00000200000019","state":"accepted"}]}
+< 200 {"movements":[{"lrn":"A1","mrn":"25CH000002000001J3","state":"accepted"}]}
 > GET /holders/000002/guarantees
 < 200 {"guarantees":[{"codes":["AB12"],"cover":50,"ends":null,"free":1000000,"grn":"25CH0000020000010","guaranteed":500000,"reference":1000000,"used":0}]}
 > POST /holders/000001/movements {"lrn":"A2","departure":"CH001251","destination":"DE005600","lines":[{"grn":"25CH0000010000014","code":"AB12","cents":500000}]}
-< 200 {"lrn":"A2","message":"IE028","mrn":"25CH00000100000021"}
+< 200 {"lrn":"A2","message":"IE028","mrn":"25CH000001000002J7"}
 > GET /holders/000001/movements
-< 200 {"movements":[{"lrn":"A1","mrn":"25CH00000100000013","state":"accepted"},{"lrn":"A2","mrn":"25CH00000100000021","state":"accepted"}]}
+< 200 {"movements":[{"lrn":"A1","mrn":"25CH000001000001J8","state":"accepted"},{"lrn":"A2","mrn":"25CH000001000002J7","state":"accepted"}]}
 > GET /holders/000001/guarantees
 < 200 {"guarantees":[{"codes":["AB12"],"cover":50,"ends":null,"free":1000000,"grn":"25CH0000010000014","guaranteed":500000,"reference":1000000,"used":0}]}
 

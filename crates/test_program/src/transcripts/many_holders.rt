@@ -127,65 +127,65 @@ $ pipe --country CH --at 1740819600
 > POST /office/holders/000003/guarantees {"reference":1000000,"cover":50,"code":"AB12"}
 < 200 {"grn":"25CH0000030000015"}
 > POST /holders/500000/movements {"lrn":"A1","departure":"CH001251","destination":"DE005600","lines":[{"grn":"25CH5000000000011","code":"AB12","cents":500000}]}
-< 200 {"lrn":"A1","message":"IE028","mrn":"25CH50000000000010"}
+< 200 {"lrn":"A1","message":"IE028","mrn":"25CH500000000001J5"}
 > POST /holders/000001/movements {"lrn":"A1","departure":"CH001251","destination":"DE005600","lines":[{"grn":"25CH0000010000014","code":"AB12","cents":500000}]}
-< 200 {"lrn":"A1","message":"IE028","mrn":"25CH00000100000013"}
+< 200 {"lrn":"A1","message":"IE028","mrn":"25CH000001000001J8"}
 > POST /holders/999999/movements {"lrn":"A1","departure":"CH001251","destination":"DE005600","lines":[{"grn":"25CH9999990000016","code":"AB12","cents":500000}]}
-< 200 {"lrn":"A1","message":"IE028","mrn":"25CH99999900000015"}
+< 200 {"lrn":"A1","message":"IE028","mrn":"25CH999999000001J0"}
 > POST /holders/000010/movements {"lrn":"A1","departure":"CH001251","destination":"DE005600","lines":[{"grn":"25CH0000100000011","code":"AB12","cents":500000}]}
-< 200 {"lrn":"A1","message":"IE028","mrn":"25CH00001000000010"}
+< 200 {"lrn":"A1","message":"IE028","mrn":"25CH000010000001J5"}
 > POST /holders/000011/movements {"lrn":"A1","departure":"CH001251","destination":"DE005600","lines":[{"grn":"25CH0000110000017","code":"AB12","cents":500000}]}
-< 200 {"lrn":"A1","message":"IE028","mrn":"25CH00001100000016"}
+< 200 {"lrn":"A1","message":"IE028","mrn":"25CH000011000001J0"}
 > POST /holders/000002/movements {"lrn":"A1","departure":"CH001251","destination":"DE005600","lines":[{"grn":"25CH0000020000010","code":"AB12","cents":500000}]}
-< 200 {"lrn":"A1","message":"IE028","mrn":"25CH00000200000019"}
+< 200 {"lrn":"A1","message":"IE028","mrn":"25CH000002000001J3"}
 > POST /holders/000100/movements {"lrn":"A1","departure":"CH001251","destination":"DE005600","lines":[{"grn":"25CH0001000000015","code":"AB12","cents":500000}]}
-< 200 {"lrn":"A1","message":"IE028","mrn":"25CH00010000000014"}
+< 200 {"lrn":"A1","message":"IE028","mrn":"25CH000100000001J9"}
 > POST /holders/000101/movements {"lrn":"A1","departure":"CH001251","destination":"DE005600","lines":[{"grn":"25CH0001010000010","code":"AB12","cents":500000}]}
-< 200 {"lrn":"A1","message":"IE028","mrn":"25CH00010100000010"}
+< 200 {"lrn":"A1","message":"IE028","mrn":"25CH000101000001J4"}
 > POST /holders/000110/movements {"lrn":"A1","departure":"CH001251","destination":"DE005600","lines":[{"grn":"25CH0001100000018","code":"AB12","cents":500000}]}
-< 200 {"lrn":"A1","message":"IE028","mrn":"25CH00011000000017"}
+< 200 {"lrn":"A1","message":"IE028","mrn":"25CH000110000001J1"}
 > POST /holders/000111/movements {"lrn":"A1","departure":"CH001251","destination":"DE005600","lines":[{"grn":"25CH0001110000013","code":"AB12","cents":500000}]}
-< 200 {"lrn":"A1","message":"IE028","mrn":"25CH00011100000012"}
+< 200 {"lrn":"A1","message":"IE028","mrn":"25CH000111000001J7"}
 > POST /holders/000020/movements {"lrn":"A1","departure":"CH001251","destination":"DE005600","lines":[{"grn":"25CH0000200000014","code":"AB12","cents":500000}]}
-< 200 {"lrn":"A1","message":"IE028","mrn":"25CH00002000000013"}
+< 200 {"lrn":"A1","message":"IE028","mrn":"25CH000020000001J8"}
 > POST /holders/000012/movements {"lrn":"A1","departure":"CH001251","destination":"DE005600","lines":[{"grn":"25CH0000120000012","code":"AB12","cents":500000}]}
-< 200 {"lrn":"A1","message":"IE028","mrn":"25CH00001200000011"}
+< 200 {"lrn":"A1","message":"IE028","mrn":"25CH000012000001J6"}
 > POST /holders/000021/movements {"lrn":"A1","departure":"CH001251","destination":"DE005600","lines":[{"grn":"25CH0000210000010","code":"AB12","cents":500000}]}
-< 200 {"lrn":"A1","message":"IE028","mrn":"25CH00002100000019"}
+< 200 {"lrn":"A1","message":"IE028","mrn":"25CH000021000001J3"}
 > POST /holders/001000/movements {"lrn":"A1","departure":"CH001251","destination":"DE005600","lines":[{"grn":"25CH0010000000017","code":"AB12","cents":500000}]}
-< 200 {"lrn":"A1","message":"IE028","mrn":"25CH00100000000016"}
+< 200 {"lrn":"A1","message":"IE028","mrn":"25CH001000000001J0"}
 > POST /holders/001001/movements {"lrn":"A1","departure":"CH001251","destination":"DE005600","lines":[{"grn":"25CH0010010000012","code":"AB12","cents":500000}]}
-< 200 {"lrn":"A1","message":"IE028","mrn":"25CH00100100000011"}
+< 200 {"lrn":"A1","message":"IE028","mrn":"25CH001001000001J6"}
 > POST /holders/001010/movements {"lrn":"A1","departure":"CH001251","destination":"DE005600","lines":[{"grn":"25CH0010100000010","code":"AB12","cents":500000}]}
-< 200 {"lrn":"A1","message":"IE028","mrn":"25CH00101000000019"}
+< 200 {"lrn":"A1","message":"IE028","mrn":"25CH001010000001J3"}
 > POST /holders/001100/movements {"lrn":"A1","departure":"CH001251","destination":"DE005600","lines":[{"grn":"25CH0011000000013","code":"AB12","cents":500000}]}
-< 200 {"lrn":"A1","message":"IE028","mrn":"25CH00110000000012"}
+< 200 {"lrn":"A1","message":"IE028","mrn":"25CH001100000001J7"}
 > POST /holders/001111/movements {"lrn":"A1","departure":"CH001251","destination":"DE005600","lines":[{"grn":"25CH0011110000011","code":"AB12","cents":500000}]}
-< 200 {"lrn":"A1","message":"IE028","mrn":"25CH00111100000010"}
+< 200 {"lrn":"A1","message":"IE028","mrn":"25CH001111000001J5"}
 > POST /holders/000009/movements {"lrn":"A1","departure":"CH001251","destination":"DE005600","lines":[{"grn":"25CH0000090000018","code":"AB12","cents":500000}]}
-< 200 {"lrn":"A1","message":"IE028","mrn":"25CH00000900000017"}
+< 200 {"lrn":"A1","message":"IE028","mrn":"25CH000009000001J1"}
 > POST /holders/000090/movements {"lrn":"A1","departure":"CH001251","destination":"DE005600","lines":[{"grn":"25CH0000900000013","code":"AB12","cents":500000}]}
-< 200 {"lrn":"A1","message":"IE028","mrn":"25CH00009000000012"}
+< 200 {"lrn":"A1","message":"IE028","mrn":"25CH000090000001J7"}
 > POST /holders/000099/movements {"lrn":"A1","departure":"CH001251","destination":"DE005600","lines":[{"grn":"25CH0000990000012","code":"AB12","cents":500000}]}
-< 200 {"lrn":"A1","message":"IE028","mrn":"25CH00009900000011"}
+< 200 {"lrn":"A1","message":"IE028","mrn":"25CH000099000001J6"}
 > POST /holders/000999/movements {"lrn":"A1","departure":"CH001251","destination":"DE005600","lines":[{"grn":"25CH0009990000010","code":"AB12","cents":500000}]}
-< 200 {"lrn":"A1","message":"IE028","mrn":"25CH00099900000019"}
+< 200 {"lrn":"A1","message":"IE028","mrn":"25CH000999000001J3"}
 > POST /holders/009999/movements {"lrn":"A1","departure":"CH001251","destination":"DE005600","lines":[{"grn":"25CH0099990000013","code":"AB12","cents":500000}]}
-< 200 {"lrn":"A1","message":"IE028","mrn":"25CH00999900000012"}
+< 200 {"lrn":"A1","message":"IE028","mrn":"25CH009999000001J7"}
 > POST /holders/099999/movements {"lrn":"A1","departure":"CH001251","destination":"DE005600","lines":[{"grn":"25CH0999990000015","code":"AB12","cents":500000}]}
-< 200 {"lrn":"A1","message":"IE028","mrn":"25CH09999900000014"}
+< 200 {"lrn":"A1","message":"IE028","mrn":"25CH099999000001J9"}
 > POST /holders/100000/movements {"lrn":"A1","departure":"CH001251","destination":"DE005600","lines":[{"grn":"25CH1000000000013","code":"AB12","cents":500000}]}
-< 200 {"lrn":"A1","message":"IE028","mrn":"25CH10000000000012"}
+< 200 {"lrn":"A1","message":"IE028","mrn":"25CH100000000001J7"}
 > POST /holders/010000/movements {"lrn":"A1","departure":"CH001251","destination":"DE005600","lines":[{"grn":"25CH0100000000018","code":"AB12","cents":500000}]}
-< 200 {"lrn":"A1","message":"IE028","mrn":"25CH01000000000017"}
+< 200 {"lrn":"A1","message":"IE028","mrn":"25CH010000000001J1"}
 > POST /holders/111111/movements {"lrn":"A1","departure":"CH001251","destination":"DE005600","lines":[{"grn":"25CH1111110000015","code":"AB12","cents":500000}]}
-< 200 {"lrn":"A1","message":"IE028","mrn":"25CH11111100000014"}
+< 200 {"lrn":"A1","message":"IE028","mrn":"25CH111111000001J9"}
 > POST /holders/123456/movements {"lrn":"A1","departure":"CH001251","destination":"DE005600","lines":[{"grn":"25CH1234560000018","code":"AB12","cents":500000}]}
-< 200 {"lrn":"A1","message":"IE028","mrn":"25CH12345600000017"}
+< 200 {"lrn":"A1","message":"IE028","mrn":"25CH123456000001J1"}
 > POST /holders/654321/movements {"lrn":"A1","departure":"CH001251","destination":"DE005600","lines":[{"grn":"25CH6543210000014","code":"AB12","cents":500000}]}
-< 200 {"lrn":"A1","message":"IE028","mrn":"25CH65432100000013"}
+< 200 {"lrn":"A1","message":"IE028","mrn":"25CH654321000001J8"}
 > POST /holders/000003/movements {"lrn":"A1","departure":"CH001251","destination":"DE005600","lines":[{"grn":"25CH0000030000015","code":"AB12","cents":500000}]}
-< 200 {"lrn":"A1","message":"IE028","mrn":"25CH00000300000014"}
+< 200 {"lrn":"A1","message":"IE028","mrn":"25CH000003000001J9"}
 > GET /holders/500000
 < 200 {"eori":"CH1234567","guarantees":1,"holder":"500000","movements":1}
 > GET /holders/000001

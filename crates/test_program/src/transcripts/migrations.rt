@@ -57,15 +57,15 @@ $ pipe --country CH --at 1740819600 --db FILE
 < 200 {"accepted":"2025-03-01","actual":null,"arrival":null,"departure":"CH001251","destination":"DE005600","limit":"2025-03-08","lines":[{"cents":500000,"grn":"25CH0000010000014"}],"lrn":"A1","mrn":"25CH00000100000013","state":"released"}
 # A cent above what is free is not released, and what is free is.
 > POST /holders/000001/movements {"lrn":"A2","departure":"CH001251","destination":"DE005600","lines":[{"grn":"25CH0000010000014","code":"AB12","cents":500001}]}
-< 200 {"lrn":"A2","message":"IE028","mrn":"25CH00000100000021"}
-> POST /office/movements/25CH00000100000021/ie029 {"limit":"2025-03-08"}
+< 200 {"lrn":"A2","message":"IE028","mrn":"25CH000001000002J7"}
+> POST /office/movements/25CH000001000002J7/ie029 {"limit":"2025-03-08"}
 < 409 {"error":"over-reference","free":500000,"grn":"25CH0000010000014"}
 > GET /holders/000001/guarantees/25CH0000010000014
 < 200 {"codes":["AB12"],"cover":50,"ends":null,"free":500000,"grn":"25CH0000010000014","guaranteed":500000,"reference":1000000,"used":500000}
 > POST /holders/000001/movements {"lrn":"A3","departure":"CH001251","destination":"DE005600","lines":[{"grn":"25CH0000010000014","code":"AB12","cents":500000}]}
-< 200 {"lrn":"A3","message":"IE028","mrn":"25CH00000100000030"}
-> POST /office/movements/25CH00000100000030/ie029 {"limit":"2025-03-08"}
-< 200 {"limit":"2025-03-08","message":"IE029","mrn":"25CH00000100000030","state":"released"}
+< 200 {"lrn":"A3","message":"IE028","mrn":"25CH000001000003J6"}
+> POST /office/movements/25CH000001000003J6/ie029 {"limit":"2025-03-08"}
+< 200 {"limit":"2025-03-08","message":"IE029","mrn":"25CH000001000003J6","state":"released"}
 > GET /holders/000001/guarantees/25CH0000010000014
 < 200 {"codes":["AB12"],"cover":50,"ends":null,"free":0,"grn":"25CH0000010000014","guaranteed":500000,"reference":1000000,"used":1000000}
 # The same declaration again is the first movement, which was there before.
@@ -226,9 +226,9 @@ $ pipe --country CH --at 1740819600 --db FILE
 > POST /office/holders/000001/guarantees {"reference":1000000,"cover":50,"code":"AB12"}
 < 200 {"grn":"25CH0000010000014"}
 > POST /holders/000001/movements {"lrn":"A1","departure":"CH001251","destination":"DE005600","lines":[{"grn":"25CH0000010000014","code":"AB12","cents":500000}]}
-< 200 {"lrn":"A1","message":"IE028","mrn":"25CH00000100000013"}
-> POST /office/movements/25CH00000100000013/ie029 {"limit":"2025-03-08"}
-< 200 {"limit":"2025-03-08","message":"IE029","mrn":"25CH00000100000013","state":"released"}
+< 200 {"lrn":"A1","message":"IE028","mrn":"25CH000001000001J8"}
+> POST /office/movements/25CH000001000001J8/ie029 {"limit":"2025-03-08"}
+< 200 {"limit":"2025-03-08","message":"IE029","mrn":"25CH000001000001J8","state":"released"}
 > GET /holders/000001/guarantees/25CH0000010000014
 < 200 {"codes":["AB12"],"cover":50,"ends":null,"free":500000,"grn":"25CH0000010000014","guaranteed":500000,"reference":1000000,"used":500000}
 $ check --country CH --db FILE

@@ -11,22 +11,22 @@ const CASES: &str = r#"
 < 200 {"grn":"25CH0000010000014"}
 @ 1740819600 2025-03-01T09:00:00Z
 > POST /holders/000001/movements {"lrn":"A1","departure":"CH001251","destination":"DE005600","lines":[{"grn":"25CH0000010000014","code":"AB12","cents":500000}]}
-< 200 {"lrn":"A1","message":"IE028","mrn":"25CH00000100000013"}
+< 200 {"lrn":"A1","message":"IE028","mrn":"25CH000001000001J8"}
 @ 1740819599 2025-03-01T08:59:59Z
 > POST /holders/000001/movements {"lrn":"A1","departure":"CH001251","destination":"DE005600","lines":[{"grn":"25CH0000010000014","code":"AB12","cents":500000}]}
 < 409 {"error":"clock-back"}
 @ 1740819600 2025-03-01T09:00:00Z
 > POST /holders/000001/movements {"lrn":"A1","departure":"CH001251","destination":"DE005600","lines":[{"grn":"25CH0000010000014","code":"AB12","cents":500000}]}
-< 200 {"lrn":"A1","message":"IE028","mrn":"25CH00000100000013"}
+< 200 {"lrn":"A1","message":"IE028","mrn":"25CH000001000001J8"}
 @ 1740819660 2025-03-01T09:01:00Z
 > POST /holders/000001/movements {"lrn":"A2","departure":"CH001251","destination":"DE005600","lines":[{"grn":"25CH0000010000014","code":"AB12","cents":500000}]}
-< 200 {"lrn":"A2","message":"IE028","mrn":"25CH00000100000021"}
+< 200 {"lrn":"A2","message":"IE028","mrn":"25CH000001000002J7"}
 @ 1740819659 2025-03-01T09:00:59Z
 > POST /holders/000001/movements {"lrn":"A1","departure":"CH001251","destination":"DE005600","lines":[{"grn":"25CH0000010000014","code":"AB12","cents":500000}]}
 < 409 {"error":"clock-back"}
 @ 1740819660 2025-03-01T09:01:00Z
 > POST /holders/000001/movements {"lrn":"A1","departure":"CH001251","destination":"DE005600","lines":[{"grn":"25CH0000010000014","code":"AB12","cents":500000}]}
-< 200 {"lrn":"A1","message":"IE028","mrn":"25CH00000100000013"}
+< 200 {"lrn":"A1","message":"IE028","mrn":"25CH000001000001J8"}
 @ 1740819659 2025-03-01T09:00:59Z
 > POST /office/holders/000001/guarantees {"reference":1000000,"cover":50,"code":"AB12"}
 < 409 {"error":"clock-back"}
@@ -39,10 +39,10 @@ const CASES: &str = r#"
 > POST /office/holders/000001/guarantees {"reference":1000000,"cover":50,"code":"AB12"}
 < 200 {"grn":"25CH0000010000014"}
 > POST /holders/000001/movements {"lrn":"A1","departure":"CH001251","destination":"DE005600","lines":[{"grn":"25CH0000010000014","code":"AB12","cents":500000}]}
-< 200 {"lrn":"A1","message":"IE028","mrn":"25CH00000100000013"}
+< 200 {"lrn":"A1","message":"IE028","mrn":"25CH000001000001J8"}
 @ 1740819610 2025-03-01T09:00:10Z
 > POST /holders/000001/movements {"lrn":"A1","departure":"CH001251","destination":"DE005600","lines":[{"grn":"25CH0000010000014","code":"AB12","cents":500000}]}
-< 200 {"lrn":"A1","message":"IE028","mrn":"25CH00000100000013"}
+< 200 {"lrn":"A1","message":"IE028","mrn":"25CH000001000001J8"}
 @ 1740819620 2025-03-01T09:00:20Z
 > POST /holders/000001/movements {"lrn":"A2","departure":"CH001251","destination":"DE005600","lines":[{"grn":"25CH0000010000014","code":"ZZZZ","cents":500000}]}
 < 403 {"error":"bad-code"}
@@ -54,7 +54,7 @@ const CASES: &str = r#"
 < 200 {"eori":"CH1234567","guarantees":1,"holder":"000001","movements":1}
 @ 1740819600 2025-03-01T09:00:00Z
 > POST /holders/000001/movements {"lrn":"A2","departure":"CH001251","destination":"DE005600","lines":[{"grn":"25CH0000010000014","code":"AB12","cents":500000}]}
-< 200 {"lrn":"A2","message":"IE028","mrn":"25CH00000100000021"}
+< 200 {"lrn":"A2","message":"IE028","mrn":"25CH000001000002J7"}
 @ 1740819599 2025-03-01T08:59:59Z
 > POST /holders/000001/movements {"lrn":"A1","departure":"CH001251","destination":"DE005600","lines":[{"grn":"25CH0000010000014","code":"AB12","cents":500001}]}
 < 409 {"error":"clock-back"}
@@ -78,13 +78,13 @@ const CASES: &str = r#"
 > POST /office/holders/000002/guarantees {"reference":1000000,"cover":50,"code":"AB12"}
 < 200 {"grn":"25CH0000020000010"}
 > POST /holders/000002/movements {"lrn":"A1","departure":"CH001251","destination":"DE005600","lines":[{"grn":"25CH0000020000010","code":"AB12","cents":500000}]}
-< 200 {"lrn":"A1","message":"IE028","mrn":"25CH00000200000019"}
+< 200 {"lrn":"A1","message":"IE028","mrn":"25CH000002000001J3"}
 @ 1740819598 2025-03-01T08:59:58Z
 > POST /holders/000002/movements {"lrn":"A1","departure":"CH001251","destination":"DE005600","lines":[{"grn":"25CH0000020000010","code":"AB12","cents":500000}]}
 < 409 {"error":"clock-back"}
 @ 1740819600 2025-03-01T09:00:00Z
 > POST /holders/000001/movements {"lrn":"A1","departure":"CH001251","destination":"DE005600","lines":[{"grn":"25CH0000010000014","code":"AB12","cents":500000}]}
-< 200 {"lrn":"A1","message":"IE028","mrn":"25CH00000100000013"}
+< 200 {"lrn":"A1","message":"IE028","mrn":"25CH000001000001J8"}
 
 == no holder comes before clock back
 # A number that isn't registered has no last change.
@@ -114,14 +114,14 @@ const CASES: &str = r#"
 > POST /office/holders/000001/guarantees {"reference":1000000,"cover":50,"code":"AB12"}
 < 200 {"grn":"25CH0000010000014"}
 > POST /holders/000001/movements {"lrn":"A1","departure":"CH001251","destination":"DE005600","lines":[{"grn":"25CH0000010000014","code":"AB12","cents":500000}]}
-< 200 {"lrn":"A1","message":"IE028","mrn":"25CH00000100000013"}
+< 200 {"lrn":"A1","message":"IE028","mrn":"25CH000001000001J8"}
 @ 1767225600 2026-01-01T00:00:00Z
 > POST /holders/000001/movements {"lrn":"A2","departure":"CH001251","destination":"DE005600","lines":[{"grn":"25CH0000010000014","code":"AB12","cents":500000}]}
-< 200 {"lrn":"A2","message":"IE028","mrn":"26CH00000100000023"}
+< 200 {"lrn":"A2","message":"IE028","mrn":"26CH000001000002J9"}
 > POST /office/holders/000001/guarantees {"reference":1000000,"cover":50,"code":"AB12"}
 < 200 {"grn":"26CH0000010000025"}
 > POST /holders/000001/movements {"lrn":"A1","departure":"CH001251","destination":"DE005600","lines":[{"grn":"25CH0000010000014","code":"AB12","cents":500000}]}
-< 200 {"lrn":"A1","message":"IE028","mrn":"25CH00000100000013"}
+< 200 {"lrn":"A1","message":"IE028","mrn":"25CH000001000001J8"}
 
 == readable requests out of the clocks range: 946684799
 $ pipe --country CH --at 946684799
@@ -228,7 +228,7 @@ $ pipe --country CH --at 9223372036854775807
 > GET /holders/000001
 < 200 {"eori":"CH1234567","guarantees":1,"holder":"000001","movements":0}
 > POST /holders/000001/movements {"lrn":"A1","departure":"CH001251","destination":"DE005600","lines":[{"grn":"25CH0000010000014","code":"AB12","cents":500000}]}
-< 200 {"lrn":"A1","message":"IE028","mrn":"25CH00000100000013"}
+< 200 {"lrn":"A1","message":"IE028","mrn":"25CH000001000001J8"}
 
 == a registered holder out of the clocks range: 4102444800
 @ 1740819600 2025-03-01T09:00:00Z
@@ -251,7 +251,7 @@ $ pipe --country CH --at 9223372036854775807
 > GET /holders/000001
 < 200 {"eori":"CH1234567","guarantees":1,"holder":"000001","movements":0}
 > POST /holders/000001/movements {"lrn":"A1","departure":"CH001251","destination":"DE005600","lines":[{"grn":"25CH0000010000014","code":"AB12","cents":500000}]}
-< 200 {"lrn":"A1","message":"IE028","mrn":"25CH00000100000013"}
+< 200 {"lrn":"A1","message":"IE028","mrn":"25CH000001000001J8"}
 
 == a registered holder out of the clocks range: -1
 @ 1740819600 2025-03-01T09:00:00Z
@@ -274,7 +274,7 @@ $ pipe --country CH --at 9223372036854775807
 > GET /holders/000001
 < 200 {"eori":"CH1234567","guarantees":1,"holder":"000001","movements":0}
 > POST /holders/000001/movements {"lrn":"A1","departure":"CH001251","destination":"DE005600","lines":[{"grn":"25CH0000010000014","code":"AB12","cents":500000}]}
-< 200 {"lrn":"A1","message":"IE028","mrn":"25CH00000100000013"}
+< 200 {"lrn":"A1","message":"IE028","mrn":"25CH000001000001J8"}
 
 == the first moment is in range
 @ 946684800 2000-01-01T00:00:00Z
@@ -283,7 +283,7 @@ $ pipe --country CH --at 9223372036854775807
 > POST /office/holders/000001/guarantees {"reference":1000000,"cover":50,"code":"AB12"}
 < 200 {"grn":"00CH0000010000013"}
 > POST /holders/000001/movements {"lrn":"A1","departure":"CH001251","destination":"DE005600","lines":[{"grn":"00CH0000010000013","code":"AB12","cents":500000}]}
-< 200 {"lrn":"A1","message":"IE028","mrn":"00CH00000100000012"}
+< 200 {"lrn":"A1","message":"IE028","mrn":"00CH000001000001J7"}
 > GET /holders/000001
 < 200 {"eori":"CH1234567","guarantees":1,"holder":"000001","movements":1}
 @ 4102444799 2099-12-31T23:59:59Z
@@ -297,7 +297,7 @@ $ pipe --country CH --at 9223372036854775807
 > POST /office/holders/000001/guarantees {"reference":1000000,"cover":50,"code":"AB12"}
 < 200 {"grn":"99CH0000010000018"}
 > POST /holders/000001/movements {"lrn":"A1","departure":"CH001251","destination":"DE005600","lines":[{"grn":"99CH0000010000018","code":"AB12","cents":500000}]}
-< 200 {"lrn":"A1","message":"IE028","mrn":"99CH00000100000017"}
+< 200 {"lrn":"A1","message":"IE028","mrn":"99CH000001000001J1"}
 > GET /holders/000001
 < 200 {"eori":"CH1234567","guarantees":1,"holder":"000001","movements":1}
 "#;

@@ -44,7 +44,7 @@ $ pipe --country BE --at 1740819600
 > POST /office/holders/000001/guarantees {"reference":1000000,"cover":50,"code":"AB12"}
 < 200 {"grn":"25BE0000010000019"}
 > POST /holders/000001/movements {"lrn":"A1","departure":"CH001251","destination":"DE005600","lines":[{"grn":"25BE0000010000019","code":"AB12","cents":500000}]}
-< 200 {"lrn":"A1","message":"IE028","mrn":"25BE00000100000018"}
+< 200 {"lrn":"A1","message":"IE028","mrn":"25BE000001000001J2"}
 
 == a desk of LV has its check digits, at 1740819600
 $ pipe --country LV --at 1740819600
@@ -53,7 +53,7 @@ $ pipe --country LV --at 1740819600
 > POST /office/holders/000001/guarantees {"reference":1000000,"cover":50,"code":"AB12"}
 < 200 {"grn":"25LV0000010000017"}
 > POST /holders/000001/movements {"lrn":"A1","departure":"CH001251","destination":"DE005600","lines":[{"grn":"25LV0000010000017","code":"AB12","cents":500000}]}
-< 200 {"lrn":"A1","message":"IE028","mrn":"25LV00000100000016"}
+< 200 {"lrn":"A1","message":"IE028","mrn":"25LV000001000001J0"}
 
 == a desk of UZ has its check digits, at 1740819600
 $ pipe --country UZ --at 1740819600
@@ -62,7 +62,7 @@ $ pipe --country UZ --at 1740819600
 > POST /office/holders/000001/guarantees {"reference":1000000,"cover":50,"code":"AB12"}
 < 200 {"grn":"25UZ0000010000019"}
 > POST /holders/000001/movements {"lrn":"A1","departure":"CH001251","destination":"DE005600","lines":[{"grn":"25UZ0000010000019","code":"AB12","cents":500000}]}
-< 200 {"lrn":"A1","message":"IE028","mrn":"25UZ00000100000018"}
+< 200 {"lrn":"A1","message":"IE028","mrn":"25UZ000001000001J2"}
 
 == a desk of CH has its check digits, at 1740819600
 $ pipe --country CH --at 1740819600
@@ -71,7 +71,7 @@ $ pipe --country CH --at 1740819600
 > POST /office/holders/000001/guarantees {"reference":1000000,"cover":50,"code":"AB12"}
 < 200 {"grn":"25CH0000010000014"}
 > POST /holders/000001/movements {"lrn":"A1","departure":"CH001251","destination":"DE005600","lines":[{"grn":"25CH0000010000014","code":"AB12","cents":500000}]}
-< 200 {"lrn":"A1","message":"IE028","mrn":"25CH00000100000013"}
+< 200 {"lrn":"A1","message":"IE028","mrn":"25CH000001000001J8"}
 
 == a desk of CH has its check digits, at 1767225600
 $ pipe --country CH --at 1767225600
@@ -80,7 +80,7 @@ $ pipe --country CH --at 1767225600
 > POST /office/holders/000001/guarantees {"reference":1000000,"cover":50,"code":"AB12"}
 < 200 {"grn":"26CH0000010000016"}
 > POST /holders/000001/movements {"lrn":"A1","departure":"CH001251","destination":"DE005600","lines":[{"grn":"26CH0000010000016","code":"AB12","cents":500000}]}
-< 200 {"lrn":"A1","message":"IE028","mrn":"26CH00000100000015"}
+< 200 {"lrn":"A1","message":"IE028","mrn":"26CH000001000001J0"}
 
 == a desk of DE has its check digits, at 1740819600
 $ pipe --country DE --at 1740819600
@@ -89,7 +89,7 @@ $ pipe --country DE --at 1740819600
 > POST /office/holders/000001/guarantees {"reference":1000000,"cover":50,"code":"AB12"}
 < 200 {"grn":"25DE0000010000016"}
 > POST /holders/000001/movements {"lrn":"A1","departure":"CH001251","destination":"DE005600","lines":[{"grn":"25DE0000010000016","code":"AB12","cents":500000}]}
-< 200 {"lrn":"A1","message":"IE028","mrn":"25DE00000100000015"}
+< 200 {"lrn":"A1","message":"IE028","mrn":"25DE000001000001J0"}
 
 == a desk of DE has its check digits, at 1767225600
 $ pipe --country DE --at 1767225600
@@ -98,7 +98,7 @@ $ pipe --country DE --at 1767225600
 > POST /office/holders/000001/guarantees {"reference":1000000,"cover":50,"code":"AB12"}
 < 200 {"grn":"26DE0000010000018"}
 > POST /holders/000001/movements {"lrn":"A1","departure":"CH001251","destination":"DE005600","lines":[{"grn":"26DE0000010000018","code":"AB12","cents":500000}]}
-< 200 {"lrn":"A1","message":"IE028","mrn":"26DE00000100000017"}
+< 200 {"lrn":"A1","message":"IE028","mrn":"26DE000001000001J1"}
 "#;
 
 #[test]

@@ -37,13 +37,13 @@ $ pipe --country CH --at 1740819600
 < 404 {"error":"no-route"}
 > GET /holders/000001/movements/
 < 404 {"error":"no-route"}
-> GET /holders/000001/movements/25CH00000100000013/
+> GET /holders/000001/movements/25CH000001000001J8/
 < 404 {"error":"no-route"}
-> GET /holders/000001/movements//25CH00000100000013
+> GET /holders/000001/movements//25CH000001000001J8
 < 404 {"error":"no-route"}
-> GET /holders//movements/25CH00000100000013
+> GET /holders//movements/25CH000001000001J8
 < 404 {"error":"no-route"}
-> GET /holders/000001/Movements/25CH00000100000013
+> GET /holders/000001/Movements/25CH000001000001J8
 < 404 {"error":"no-route"}
 > GET /holders/000001/guarantees/
 < 404 {"error":"no-route"}
@@ -61,9 +61,9 @@ $ pipe --country CH --at 1740819600
 < 404 {"error":"no-route"}
 > POST /office/guarantees/25CH0000010000014/Revoke
 < 404 {"error":"no-route"}
-> POST /office/movements/25CH00000100000013/ie015 {}
+> POST /office/movements/25CH000001000001J8/ie015 {}
 < 404 {"error":"no-route"}
-> POST /office/movements/25CH00000100000013 {}
+> POST /office/movements/25CH000001000001J8 {}
 < 404 {"error":"no-route"}
 > POST /office/movements//ie140
 < 404 {"error":"no-route"}
@@ -78,9 +78,9 @@ $ pipe --country CH --at 1740819600
 < 405 Allow: GET {"error":"no-method"}
 > DELETE /holders/zzz/movements/x
 < 405 Allow: GET {"error":"no-method"}
-> POST /holders/000001/movements/25CH00000100000013 {}
+> POST /holders/000001/movements/25CH000001000001J8 {}
 < 405 Allow: GET {"error":"no-method"}
-> get /holders/000001/movements/25CH00000100000013
+> get /holders/000001/movements/25CH000001000001J8
 < 405 Allow: GET {"error":"no-method"}
 > POST /holders/000001/guarantees/25CH0000010000014 {}
 < 405 Allow: GET {"error":"no-method"}
@@ -132,7 +132,7 @@ $ pipe --country CH --at 1740819600
 < 400 {"error":"bad-holder"}
 > GET /holders/zzz/movements/x
 < 400 {"error":"bad-holder"}
-> GET /holders/000000/movements/25CH00000100000013
+> GET /holders/000000/movements/25CH000001000001J8
 < 400 {"error":"bad-holder"}
 > GET /holders/zzz/guarantees/x
 < 400 {"error":"bad-holder"}
@@ -146,7 +146,7 @@ $ pipe --country CH --at 1740819600
 == views with no reference in its place
 # A body is not looked at.
 $ pipe --country CH --at 1740819600
-> GET /holders/000001/movements/25CH00000100000014 not JSON
+> GET /holders/000001/movements/25CH000001000001J9 not JSON
 < 400 {"error":"bad-mrn","reason":"check-digit"}
 > GET /holders/000001/movements/25CH0000010000013 not JSON
 < 400 {"error":"bad-mrn","reason":"length"}
@@ -160,7 +160,7 @@ $ pipe --country CH --at 1740819600
 < 400 {"error":"bad-mrn","reason":"form"}
 > GET /holders/000001/movements/25CH0000010000001A not JSON
 < 400 {"error":"bad-mrn","reason":"form"}
-> GET /holders/000001/movements/25CH000001000000é?25CH00000100000013 not JSON
+> GET /holders/000001/movements/25CH000001000000é?25CH000001000001J8 not JSON
 < 400 {"error":"bad-mrn","reason":"form"}
 > GET /holders/000001/movements/x not JSON
 < 400 {"error":"bad-mrn","reason":"length"}
@@ -168,7 +168,7 @@ $ pipe --country CH --at 1740819600
 < 400 {"error":"bad-grn","reason":"check-digit"}
 > GET /holders/000001/guarantees/25CH000001000014 not JSON
 < 400 {"error":"bad-grn","reason":"length"}
-> GET /holders/000001/guarantees/25CH00000100000013 not JSON
+> GET /holders/000001/guarantees/25CH000001000001J8 not JSON
 < 400 {"error":"bad-grn","reason":"length"}
 > GET /holders/000001/guarantees/25cH0000010000014 not JSON
 < 400 {"error":"bad-grn","reason":"form"}

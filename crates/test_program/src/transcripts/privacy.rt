@@ -32,9 +32,9 @@ $ pipe --country CH --at 1740819600
 > GET /holders/000002
 < 200 {"eori":"DE7654321","guarantees":1,"holder":"000002","movements":0}
 > POST /holders/000001/movements {"lrn":"A1","departure":"CH001251","destination":"DE005600","lines":[{"grn":"25CH0000010000014","code":"AB12","cents":500000}]}
-< 200 {"lrn":"A1","message":"IE028","mrn":"25CH00000100000013"}
+< 200 {"lrn":"A1","message":"IE028","mrn":"25CH000001000001J8"}
 > POST /holders/000002/movements {"lrn":"A1","departure":"CH001251","destination":"DE005600","lines":[{"grn":"25CH0000020000010","code":"AB12","cents":500000}]}
-< 200 {"lrn":"A1","message":"IE028","mrn":"25CH00000200000019"}
+< 200 {"lrn":"A1","message":"IE028","mrn":"25CH000002000001J3"}
 > GET /holders/000001
 < 200 {"eori":"CH1234567","guarantees":1,"holder":"000001","movements":1}
 
@@ -65,11 +65,11 @@ $ pipe --country CH --at 1740819600
 > POST /office/holders/000002/guarantees {"reference":1000000,"cover":50,"code":"AB12"}
 < 200 {"grn":"25CH0000020000010"}
 > POST /holders/000002/movements {"lrn":"A1","departure":"CH001251","destination":"DE005600","lines":[{"grn":"25CH0000020000010","code":"AB12","cents":500000}]}
-< 200 {"lrn":"A1","message":"IE028","mrn":"25CH00000200000019"}
+< 200 {"lrn":"A1","message":"IE028","mrn":"25CH000002000001J3"}
 > GET /holders/000002
 < 200 {"eori":"CH1234567","guarantees":1,"holder":"000002","movements":1}
 > POST /holders/000001/movements {"lrn":"A1","departure":"CH001251","destination":"DE005600","lines":[{"grn":"25CH0000010000014","code":"AB12","cents":500000}]}
-< 200 {"lrn":"A1","message":"IE028","mrn":"25CH00000100000013"}
+< 200 {"lrn":"A1","message":"IE028","mrn":"25CH000001000001J8"}
 > GET /holders/000001
 < 200 {"eori":"CH1234567","guarantees":1,"holder":"000001","movements":1}
 
@@ -93,17 +93,17 @@ $ pipe --country CH --at 1740819600
 > POST /office/holders/000011/guarantees {"reference":1000000,"cover":50,"code":"AB12"}
 < 200 {"grn":"25CH0000110000017"}
 > POST /holders/000001/movements {"lrn":"A1","departure":"CH001251","destination":"DE005600","lines":[{"grn":"25CH0000010000014","code":"AB12","cents":500000}]}
-< 200 {"lrn":"A1","message":"IE028","mrn":"25CH00000100000013"}
+< 200 {"lrn":"A1","message":"IE028","mrn":"25CH000001000001J8"}
 > POST /holders/000010/movements {"lrn":"A1","departure":"CH001251","destination":"DE005600","lines":[{"grn":"25CH0000100000020","code":"AB12","cents":500000}]}
-< 200 {"lrn":"A1","message":"IE028","mrn":"25CH00001000000010"}
+< 200 {"lrn":"A1","message":"IE028","mrn":"25CH000010000001J5"}
 > POST /holders/000011/movements {"lrn":"A1","departure":"CH001251","destination":"DE005600","lines":[{"grn":"25CH0000110000017","code":"AB12","cents":500000}]}
-< 200 {"lrn":"A1","message":"IE028","mrn":"25CH00001100000016"}
+< 200 {"lrn":"A1","message":"IE028","mrn":"25CH000011000001J0"}
 > POST /holders/000001/movements {"lrn":"A2","departure":"CH001251","destination":"DE005600","lines":[{"grn":"25CH0000010000014","code":"AB12","cents":500000}]}
-< 200 {"lrn":"A2","message":"IE028","mrn":"25CH00000100000021"}
+< 200 {"lrn":"A2","message":"IE028","mrn":"25CH000001000002J7"}
 > POST /holders/000011/movements {"lrn":"A2","departure":"CH001251","destination":"DE005600","lines":[{"grn":"25CH0000110000017","code":"AB12","cents":500000}]}
-< 200 {"lrn":"A2","message":"IE028","mrn":"25CH00001100000024"}
+< 200 {"lrn":"A2","message":"IE028","mrn":"25CH000011000002J0"}
 > POST /holders/000001/movements {"lrn":"A3","departure":"CH001251","destination":"DE005600","lines":[{"grn":"25CH0000010000014","code":"AB12","cents":500000}]}
-< 200 {"lrn":"A3","message":"IE028","mrn":"25CH00000100000030"}
+< 200 {"lrn":"A3","message":"IE028","mrn":"25CH000001000003J6"}
 > GET /holders/000001
 < 200 {"eori":"CH1234567","guarantees":1,"holder":"000001","movements":3}
 > GET /holders/000010

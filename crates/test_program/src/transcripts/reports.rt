@@ -27,35 +27,35 @@ $ pipe --country CH --at 1740819600 --db FILE
 > POST /office/holders/000001/guarantees {"reference":1000000,"cover":50,"code":"AB12"}
 < 200 {"grn":"25CH0000010000014"}
 > POST /holders/000001/movements {"lrn":"A1","departure":"CH001251","destination":"DE005600","lines":[{"cents":500000,"code":"AB12","grn":"25CH0000010000014"}]}
-< 200 {"lrn":"A1","message":"IE028","mrn":"25CH00000100000013"}
+< 200 {"lrn":"A1","message":"IE028","mrn":"25CH000001000001J8"}
 > POST /holders/000001/movements {"lrn":"A2","departure":"CH001251","destination":"DE005600","lines":[{"cents":500000,"code":"AB12","grn":"25CH0000010000014"}]}
-< 200 {"lrn":"A2","message":"IE028","mrn":"25CH00000100000021"}
+< 200 {"lrn":"A2","message":"IE028","mrn":"25CH000001000002J7"}
 > POST /holders/000001/movements {"lrn":"A3","departure":"CH001251","destination":"DE005600","lines":[{"cents":1,"code":"AB12","grn":"25CH0000010000014"}]}
-< 200 {"lrn":"A3","message":"IE028","mrn":"25CH00000100000030"}
+< 200 {"lrn":"A3","message":"IE028","mrn":"25CH000001000003J6"}
 # Nothing is due of what is accepted.
 $ report overdue --country CH --db FILE --day 2025-03-20
 - OVERDUE 2025-03-20
 - TOTAL 0
 $ pipe --country CH --at 1740819600 --db FILE
-> POST /office/movements/25CH00000100000013/ie029 {"limit":"2025-03-08"}
-< 200 {"limit":"2025-03-08","message":"IE029","mrn":"25CH00000100000013","state":"released"}
+> POST /office/movements/25CH000001000001J8/ie029 {"limit":"2025-03-08"}
+< 200 {"limit":"2025-03-08","message":"IE029","mrn":"25CH000001000001J8","state":"released"}
 $ report overdue --country CH --db FILE --day 2025-03-20
 - OVERDUE 2025-03-20
-- 25CH00000100000013 000001 arrival released 2025-03-08    12
+- 25CH000001000001J8 000001 arrival released 2025-03-08    12
 - TOTAL 1
 $ report overdue --country CH --db FILE --day 2025-03-08
 - OVERDUE 2025-03-08
 - TOTAL 0
 $ report overdue --country CH --db FILE --day 2025-03-09
 - OVERDUE 2025-03-09
-- 25CH00000100000013 000001 arrival released 2025-03-08     1
+- 25CH000001000001J8 000001 arrival released 2025-03-08     1
 - TOTAL 1
 $ report overdue --country CH --db FILE --day 2000-01-01
 - OVERDUE 2000-01-01
 - TOTAL 0
 $ report overdue --country CH --db FILE --day 2100-12-31
 - OVERDUE 2100-12-31
-- 25CH00000100000013 000001 arrival released 2025-03-08 27691
+- 25CH000001000001J8 000001 arrival released 2025-03-08 27691
 - TOTAL 1
 $ report guarantees --country CH --db FILE
 - GUARANTEES
@@ -63,18 +63,18 @@ $ report guarantees --country CH --db FILE
 - TOTAL 1
 # It has arrived, and its control is due on the sixth day after that.
 $ pipe --country CH --at 1741424400 --db FILE
-> POST /office/movements/25CH00000100000013/ie007 {"office":"DE005600"}
-< 200 {"late":false,"message":"IE006","mrn":"25CH00000100000013"}
+> POST /office/movements/25CH000001000001J8/ie007 {"office":"DE005600"}
+< 200 {"late":false,"message":"IE006","mrn":"25CH000001000001J8"}
 $ report overdue --country CH --db FILE --day 2025-03-14
 - OVERDUE 2025-03-14
 - TOTAL 0
 $ report overdue --country CH --db FILE --day 2025-03-15
 - OVERDUE 2025-03-15
-- 25CH00000100000013 000001 control arrived  2025-03-14     1
+- 25CH000001000001J8 000001 control arrived  2025-03-14     1
 - TOTAL 1
 $ report overdue --country CH --db FILE --day 2025-03-20
 - OVERDUE 2025-03-20
-- 25CH00000100000013 000001 control arrived  2025-03-14     6
+- 25CH000001000001J8 000001 control arrived  2025-03-14     6
 - TOTAL 1
 $ report guarantees --country CH --db FILE
 - GUARANTEES
@@ -82,14 +82,14 @@ $ report guarantees --country CH --db FILE
 - TOTAL 1
 # A discrepant movement and a cleared one aren't overdue for anything, and a written-off one gives its amount back.
 $ pipe --country CH --at 1742461200 --db FILE
-> POST /office/movements/25CH00000100000013/ie018 {"result":"B1"}
-< 200 {"message":"IE018","mrn":"25CH00000100000013","state":"discrepant"}
+> POST /office/movements/25CH000001000001J8/ie018 {"result":"B1"}
+< 200 {"message":"IE018","mrn":"25CH000001000001J8","state":"discrepant"}
 $ report overdue --country CH --db FILE --day 2026-01-01
 - OVERDUE 2026-01-01
 - TOTAL 0
 $ pipe --country CH --at 1742461200 --db FILE
-> POST /office/movements/25CH00000100000013/ie018 {"result":"A1"}
-< 200 {"message":"IE018","mrn":"25CH00000100000013","state":"cleared"}
+> POST /office/movements/25CH000001000001J8/ie018 {"result":"A1"}
+< 200 {"message":"IE018","mrn":"25CH000001000001J8","state":"cleared"}
 $ report overdue --country CH --db FILE --day 2026-01-01
 - OVERDUE 2026-01-01
 - TOTAL 0
@@ -98,8 +98,8 @@ $ report guarantees --country CH --db FILE
 - 25CH0000010000014 000001  50          10000.00           5000.00           5000.00           5000.00 -
 - TOTAL 1
 $ pipe --country CH --at 1742461200 --db FILE
-> POST /office/movements/25CH00000100000013/ie045 {"ground":"results"}
-< 200 {"message":"IE045","mrn":"25CH00000100000013","state":"written-off"}
+> POST /office/movements/25CH000001000001J8/ie045 {"ground":"results"}
+< 200 {"message":"IE045","mrn":"25CH000001000001J8","state":"written-off"}
 $ report overdue --country CH --db FILE --day 2026-01-01
 - OVERDUE 2026-01-01
 - TOTAL 0
@@ -115,41 +115,41 @@ $ pipe --country CH --at 1740819600 --db FILE --new
 > POST /office/holders/000001/guarantees {"reference":1000000,"cover":50,"code":"AB12"}
 < 200 {"grn":"25CH0000010000014"}
 > POST /holders/000001/movements {"lrn":"A1","departure":"CH001251","destination":"DE005600","lines":[{"cents":100,"code":"AB12","grn":"25CH0000010000014"}]}
-< 200 {"lrn":"A1","message":"IE028","mrn":"25CH00000100000013"}
+< 200 {"lrn":"A1","message":"IE028","mrn":"25CH000001000001J8"}
 > POST /holders/000001/movements {"lrn":"A2","departure":"CH001251","destination":"DE005600","lines":[{"cents":100,"code":"AB12","grn":"25CH0000010000014"}]}
-< 200 {"lrn":"A2","message":"IE028","mrn":"25CH00000100000021"}
+< 200 {"lrn":"A2","message":"IE028","mrn":"25CH000001000002J7"}
 > POST /holders/000001/movements {"lrn":"A3","departure":"CH001251","destination":"DE005600","lines":[{"cents":100,"code":"AB12","grn":"25CH0000010000014"}]}
-< 200 {"lrn":"A3","message":"IE028","mrn":"25CH00000100000030"}
-> POST /office/movements/25CH00000100000013/ie029 {"limit":"2025-03-08"}
-< 200 {"limit":"2025-03-08","message":"IE029","mrn":"25CH00000100000013","state":"released"}
-> POST /office/movements/25CH00000100000021/ie029 {"limit":"2025-03-09"}
-< 200 {"limit":"2025-03-09","message":"IE029","mrn":"25CH00000100000021","state":"released"}
-> POST /holders/000001/movements/25CH00000100000030/ie014
-< 200 {"message":"IE014","mrn":"25CH00000100000030","state":"cancelled"}
+< 200 {"lrn":"A3","message":"IE028","mrn":"25CH000001000003J6"}
+> POST /office/movements/25CH000001000001J8/ie029 {"limit":"2025-03-08"}
+< 200 {"limit":"2025-03-08","message":"IE029","mrn":"25CH000001000001J8","state":"released"}
+> POST /office/movements/25CH000001000002J7/ie029 {"limit":"2025-03-09"}
+< 200 {"limit":"2025-03-09","message":"IE029","mrn":"25CH000001000002J7","state":"released"}
+> POST /holders/000001/movements/25CH000001000003J6/ie014
+< 200 {"message":"IE014","mrn":"25CH000001000003J6","state":"cancelled"}
 $ pipe --country CH --at 1742029200 --db FILE
-> POST /office/movements/25CH00000100000013/ie140
-< 200 {"message":"IE140","mrn":"25CH00000100000013","state":"enquired"}
+> POST /office/movements/25CH000001000001J8/ie140
+< 200 {"message":"IE140","mrn":"25CH000001000001J8","state":"enquired"}
 $ report overdue --country CH --db FILE --day 2025-03-15
 - OVERDUE 2025-03-15
-- 25CH00000100000013 000001 arrival enquired 2025-03-08     7
-- 25CH00000100000021 000001 arrival released 2025-03-09     6
+- 25CH000001000001J8 000001 arrival enquired 2025-03-08     7
+- 25CH000001000002J7 000001 arrival released 2025-03-09     6
 - TOTAL 2
 $ report overdue --country CH --db FILE --day 2025-03-10
 - OVERDUE 2025-03-10
-- 25CH00000100000013 000001 arrival enquired 2025-03-08     2
-- 25CH00000100000021 000001 arrival released 2025-03-09     1
+- 25CH000001000001J8 000001 arrival enquired 2025-03-08     2
+- 25CH000001000002J7 000001 arrival released 2025-03-09     1
 - TOTAL 2
 $ pipe --country CH --at 1742461200 --db FILE
-> POST /office/movements/25CH00000100000013/ie007 {"office":"DE005600"}
-< 200 {"late":true,"message":"IE006","mrn":"25CH00000100000013"}
+> POST /office/movements/25CH000001000001J8/ie007 {"office":"DE005600"}
+< 200 {"late":true,"message":"IE006","mrn":"25CH000001000001J8"}
 $ report overdue --country CH --db FILE --day 2025-03-26
 - OVERDUE 2025-03-26
-- 25CH00000100000021 000001 arrival released 2025-03-09    17
+- 25CH000001000002J7 000001 arrival released 2025-03-09    17
 - TOTAL 1
 $ report overdue --country CH --db FILE --day 2025-03-27
 - OVERDUE 2025-03-27
-- 25CH00000100000013 000001 control arrived  2025-03-26     1
-- 25CH00000100000021 000001 arrival released 2025-03-09    18
+- 25CH000001000001J8 000001 control arrived  2025-03-26     1
+- 25CH000001000002J7 000001 arrival released 2025-03-09    18
 - TOTAL 2
 $ report guarantees --country CH --db FILE
 - GUARANTEES

@@ -30,9 +30,9 @@ $ report guarantees --country CH --db FILE
 - TOTAL 6
 $ pipe --country CH --at 1740819600 --db FILE
 > POST /holders/000001/movements {"lrn":"A1","departure":"CH001251","destination":"DE005600","lines":[{"cents":1000000000000,"code":"AB12","grn":"25CH0000010000032"},{"cents":1,"code":"AB12","grn":"25CH0000010000014"},{"cents":7,"code":"AB12","grn":"25CH0000010000060"}]}
-< 200 {"lrn":"A1","message":"IE028","mrn":"25CH00000100000013"}
-> POST /office/movements/25CH00000100000013/ie029 {"limit":"2025-03-01"}
-< 200 {"limit":"2025-03-01","message":"IE029","mrn":"25CH00000100000013","state":"released"}
+< 200 {"lrn":"A1","message":"IE028","mrn":"25CH000001000001J8"}
+> POST /office/movements/25CH000001000001J8/ie029 {"limit":"2025-03-01"}
+< 200 {"limit":"2025-03-01","message":"IE029","mrn":"25CH000001000001J8","state":"released"}
 > POST /office/guarantees/25CH0000010000023/revoke
 < 200 {"ends":"2025-03-17","grn":"25CH0000010000023"}
 > POST /office/guarantees/25CH0000010000032/revoke
@@ -116,66 +116,66 @@ $ pipe --country CH --at 1740819600 --db FILE --new
 > POST /office/holders/000002/guarantees {"reference":1010,"cover":50,"code":"AB12"}
 < 200 {"grn":"25CH0000020000123"}
 > POST /holders/000002/movements {"lrn":"B0","departure":"CH001251","destination":"DE005600","lines":[{"cents":10,"code":"AB12","grn":"25CH0000020000010"}]}
-< 200 {"lrn":"B0","message":"IE028","mrn":"25CH00000200000019"}
+< 200 {"lrn":"B0","message":"IE028","mrn":"25CH000002000001J3"}
 > POST /holders/999999/movements {"lrn":"X0","departure":"CH001251","destination":"DE005600","lines":[{"cents":5,"code":"AB12","grn":"25CH9999990000016"}]}
-< 200 {"lrn":"X0","message":"IE028","mrn":"25CH99999900000015"}
+< 200 {"lrn":"X0","message":"IE028","mrn":"25CH999999000001J0"}
 > POST /holders/000002/movements {"lrn":"B1","departure":"CH001251","destination":"DE005600","lines":[{"cents":11,"code":"AB12","grn":"25CH0000020000029"}]}
-< 200 {"lrn":"B1","message":"IE028","mrn":"25CH00000200000027"}
+< 200 {"lrn":"B1","message":"IE028","mrn":"25CH000002000002J2"}
 > POST /holders/999999/movements {"lrn":"X1","departure":"CH001251","destination":"DE005600","lines":[{"cents":5,"code":"AB12","grn":"25CH9999990000016"}]}
-< 200 {"lrn":"X1","message":"IE028","mrn":"25CH99999900000023"}
+< 200 {"lrn":"X1","message":"IE028","mrn":"25CH999999000002J9"}
 > POST /holders/000002/movements {"lrn":"B2","departure":"CH001251","destination":"DE005600","lines":[{"cents":12,"code":"AB12","grn":"25CH0000020000038"}]}
-< 200 {"lrn":"B2","message":"IE028","mrn":"25CH00000200000035"}
+< 200 {"lrn":"B2","message":"IE028","mrn":"25CH000002000003J1"}
 > POST /holders/000002/movements {"lrn":"B3","departure":"CH001251","destination":"DE005600","lines":[{"cents":13,"code":"AB12","grn":"25CH0000020000047"}]}
-< 200 {"lrn":"B3","message":"IE028","mrn":"25CH00000200000043"}
+< 200 {"lrn":"B3","message":"IE028","mrn":"25CH000002000004J0"}
 > POST /holders/000001/movements {"lrn":"A1","departure":"CH001251","destination":"DE005600","lines":[{"cents":77,"code":"AB12","grn":"25CH0000010000014"}]}
-< 200 {"lrn":"A1","message":"IE028","mrn":"25CH00000100000013"}
+< 200 {"lrn":"A1","message":"IE028","mrn":"25CH000001000001J8"}
 > POST /holders/000002/movements {"lrn":"B4","departure":"CH001251","destination":"DE005600","lines":[{"cents":14,"code":"AB12","grn":"25CH0000020000056"}]}
-< 200 {"lrn":"B4","message":"IE028","mrn":"25CH00000200000051"}
+< 200 {"lrn":"B4","message":"IE028","mrn":"25CH000002000005J0"}
 > POST /holders/000002/movements {"lrn":"B5","departure":"CH001251","destination":"DE005600","lines":[{"cents":15,"code":"AB12","grn":"25CH0000020000065"}]}
-< 200 {"lrn":"B5","message":"IE028","mrn":"25CH00000200000060"}
+< 200 {"lrn":"B5","message":"IE028","mrn":"25CH000002000006J9"}
 > POST /holders/000002/movements {"lrn":"B6","departure":"CH001251","destination":"DE005600","lines":[{"cents":16,"code":"AB12","grn":"25CH0000020000074"}]}
-< 200 {"lrn":"B6","message":"IE028","mrn":"25CH00000200000078"}
+< 200 {"lrn":"B6","message":"IE028","mrn":"25CH000002000007J8"}
 > POST /holders/000002/movements {"lrn":"B7","departure":"CH001251","destination":"DE005600","lines":[{"cents":17,"code":"AB12","grn":"25CH0000020000083"}]}
-< 200 {"lrn":"B7","message":"IE028","mrn":"25CH00000200000086"}
+< 200 {"lrn":"B7","message":"IE028","mrn":"25CH000002000008J7"}
 > POST /holders/000002/movements {"lrn":"B8","departure":"CH001251","destination":"DE005600","lines":[{"cents":18,"code":"AB12","grn":"25CH0000020000092"}]}
-< 200 {"lrn":"B8","message":"IE028","mrn":"25CH00000200000094"}
+< 200 {"lrn":"B8","message":"IE028","mrn":"25CH000002000009J6"}
 > POST /holders/000002/movements {"lrn":"B9","departure":"CH001251","destination":"DE005600","lines":[{"cents":19,"code":"AB12","grn":"25CH0000020000105"}]}
-< 200 {"lrn":"B9","message":"IE028","mrn":"25CH00000200000100"}
+< 200 {"lrn":"B9","message":"IE028","mrn":"25CH000002000010J9"}
 > POST /holders/000002/movements {"lrn":"B10","departure":"CH001251","destination":"DE005600","lines":[{"cents":20,"code":"AB12","grn":"25CH0000020000114"}]}
-< 200 {"lrn":"B10","message":"IE028","mrn":"25CH00000200000118"}
+< 200 {"lrn":"B10","message":"IE028","mrn":"25CH000002000011J8"}
 > POST /holders/000002/movements {"lrn":"B11","departure":"CH001251","destination":"DE005600","lines":[{"cents":21,"code":"AB12","grn":"25CH0000020000123"}]}
-< 200 {"lrn":"B11","message":"IE028","mrn":"25CH00000200000126"}
-> POST /office/movements/25CH00000200000126/ie029 {"limit":"2025-03-13"}
-< 200 {"limit":"2025-03-13","message":"IE029","mrn":"25CH00000200000126","state":"released"}
-> POST /office/movements/25CH00000200000035/ie029 {"limit":"2025-03-04"}
-< 200 {"limit":"2025-03-04","message":"IE029","mrn":"25CH00000200000035","state":"released"}
-> POST /office/movements/25CH00000200000019/ie029 {"limit":"2025-03-02"}
-< 200 {"limit":"2025-03-02","message":"IE029","mrn":"25CH00000200000019","state":"released"}
-> POST /office/movements/25CH00000200000100/ie029 {"limit":"2025-03-11"}
-< 200 {"limit":"2025-03-11","message":"IE029","mrn":"25CH00000200000100","state":"released"}
-> POST /office/movements/25CH00000200000027/ie029 {"limit":"2025-03-03"}
-< 200 {"limit":"2025-03-03","message":"IE029","mrn":"25CH00000200000027","state":"released"}
-> POST /office/movements/25CH99999900000023/ie029 {"limit":"2025-03-02"}
-< 200 {"limit":"2025-03-02","message":"IE029","mrn":"25CH99999900000023","state":"released"}
-> POST /office/movements/25CH00000100000013/ie029 {"limit":"2025-03-31"}
-< 200 {"limit":"2025-03-31","message":"IE029","mrn":"25CH00000100000013","state":"released"}
+< 200 {"lrn":"B11","message":"IE028","mrn":"25CH000002000012J7"}
+> POST /office/movements/25CH000002000012J7/ie029 {"limit":"2025-03-13"}
+< 200 {"limit":"2025-03-13","message":"IE029","mrn":"25CH000002000012J7","state":"released"}
+> POST /office/movements/25CH000002000003J1/ie029 {"limit":"2025-03-04"}
+< 200 {"limit":"2025-03-04","message":"IE029","mrn":"25CH000002000003J1","state":"released"}
+> POST /office/movements/25CH000002000001J3/ie029 {"limit":"2025-03-02"}
+< 200 {"limit":"2025-03-02","message":"IE029","mrn":"25CH000002000001J3","state":"released"}
+> POST /office/movements/25CH000002000010J9/ie029 {"limit":"2025-03-11"}
+< 200 {"limit":"2025-03-11","message":"IE029","mrn":"25CH000002000010J9","state":"released"}
+> POST /office/movements/25CH000002000002J2/ie029 {"limit":"2025-03-03"}
+< 200 {"limit":"2025-03-03","message":"IE029","mrn":"25CH000002000002J2","state":"released"}
+> POST /office/movements/25CH999999000002J9/ie029 {"limit":"2025-03-02"}
+< 200 {"limit":"2025-03-02","message":"IE029","mrn":"25CH999999000002J9","state":"released"}
+> POST /office/movements/25CH000001000001J8/ie029 {"limit":"2025-03-31"}
+< 200 {"limit":"2025-03-31","message":"IE029","mrn":"25CH000001000001J8","state":"released"}
 $ report overdue --country CH --db FILE --day 2025-03-12
 - OVERDUE 2025-03-12
-- 25CH00000200000019 000002 arrival released 2025-03-02    10
-- 25CH00000200000027 000002 arrival released 2025-03-03     9
-- 25CH00000200000035 000002 arrival released 2025-03-04     8
-- 25CH00000200000100 000002 arrival released 2025-03-11     1
-- 25CH99999900000023 999999 arrival released 2025-03-02    10
+- 25CH000002000001J3 000002 arrival released 2025-03-02    10
+- 25CH000002000002J2 000002 arrival released 2025-03-03     9
+- 25CH000002000003J1 000002 arrival released 2025-03-04     8
+- 25CH000002000010J9 000002 arrival released 2025-03-11     1
+- 25CH999999000002J9 999999 arrival released 2025-03-02    10
 - TOTAL 5
 $ report overdue --country CH --db FILE --day 2025-04-01
 - OVERDUE 2025-04-01
-- 25CH00000100000013 000001 arrival released 2025-03-31     1
-- 25CH00000200000019 000002 arrival released 2025-03-02    30
-- 25CH00000200000027 000002 arrival released 2025-03-03    29
-- 25CH00000200000035 000002 arrival released 2025-03-04    28
-- 25CH00000200000100 000002 arrival released 2025-03-11    21
-- 25CH00000200000126 000002 arrival released 2025-03-13    19
-- 25CH99999900000023 999999 arrival released 2025-03-02    30
+- 25CH000001000001J8 000001 arrival released 2025-03-31     1
+- 25CH000002000001J3 000002 arrival released 2025-03-02    30
+- 25CH000002000002J2 000002 arrival released 2025-03-03    29
+- 25CH000002000003J1 000002 arrival released 2025-03-04    28
+- 25CH000002000010J9 000002 arrival released 2025-03-11    21
+- 25CH000002000012J7 000002 arrival released 2025-03-13    19
+- 25CH999999000002J9 999999 arrival released 2025-03-02    30
 - TOTAL 7
 $ report guarantees --country CH --db FILE
 - GUARANTEES
@@ -200,16 +200,16 @@ $ check --country CH --db FILE
 <| sound\n
 $ pipe --country CH --at 1740819600 --db FILE
 > POST /holders/000001/movements {"lrn":"A2","departure":"CH001251","destination":"DE005600","lines":[{"cents":1,"code":"AB12","grn":"25CH0000010000014"}]}
-< 200 {"lrn":"A2","message":"IE028","mrn":"25CH00000100000021"}
+< 200 {"lrn":"A2","message":"IE028","mrn":"25CH000001000002J7"}
 $ report overdue --country CH --db FILE --day 2025-04-01
 - OVERDUE 2025-04-01
-- 25CH00000100000013 000001 arrival released 2025-03-31     1
-- 25CH00000200000019 000002 arrival released 2025-03-02    30
-- 25CH00000200000027 000002 arrival released 2025-03-03    29
-- 25CH00000200000035 000002 arrival released 2025-03-04    28
-- 25CH00000200000100 000002 arrival released 2025-03-11    21
-- 25CH00000200000126 000002 arrival released 2025-03-13    19
-- 25CH99999900000023 999999 arrival released 2025-03-02    30
+- 25CH000001000001J8 000001 arrival released 2025-03-31     1
+- 25CH000002000001J3 000002 arrival released 2025-03-02    30
+- 25CH000002000002J2 000002 arrival released 2025-03-03    29
+- 25CH000002000003J1 000002 arrival released 2025-03-04    28
+- 25CH000002000010J9 000002 arrival released 2025-03-11    21
+- 25CH000002000012J7 000002 arrival released 2025-03-13    19
+- 25CH999999000002J9 999999 arrival released 2025-03-02    30
 - TOTAL 7
 
 == the first day and the last
@@ -219,24 +219,24 @@ $ pipe --country CH --at 946717200 --db FILE --new
 > POST /office/holders/000001/guarantees {"reference":1000,"cover":100,"code":"AB12"}
 < 200 {"grn":"00CH0000010000013"}
 > POST /holders/000001/movements {"lrn":"A1","departure":"CH001251","destination":"DE005600","lines":[{"cents":10,"code":"AB12","grn":"00CH0000010000013"}]}
-< 200 {"lrn":"A1","message":"IE028","mrn":"00CH00000100000012"}
-> POST /office/movements/00CH00000100000012/ie029 {"limit":"2000-01-01"}
-< 200 {"limit":"2000-01-01","message":"IE029","mrn":"00CH00000100000012","state":"released"}
+< 200 {"lrn":"A1","message":"IE028","mrn":"00CH000001000001J7"}
+> POST /office/movements/00CH000001000001J7/ie029 {"limit":"2000-01-01"}
+< 200 {"limit":"2000-01-01","message":"IE029","mrn":"00CH000001000001J7","state":"released"}
 > POST /holders/000001/movements {"lrn":"A2","departure":"CH001251","destination":"DE005600","lines":[{"cents":10,"code":"AB12","grn":"00CH0000010000013"}]}
-< 200 {"lrn":"A2","message":"IE028","mrn":"00CH00000100000020"}
-> POST /office/movements/00CH00000100000020/ie029 {"limit":"2000-12-31"}
-< 200 {"limit":"2000-12-31","message":"IE029","mrn":"00CH00000100000020","state":"released"}
+< 200 {"lrn":"A2","message":"IE028","mrn":"00CH000001000002J6"}
+> POST /office/movements/00CH000001000002J6/ie029 {"limit":"2000-12-31"}
+< 200 {"limit":"2000-12-31","message":"IE029","mrn":"00CH000001000002J6","state":"released"}
 $ report overdue --country CH --db FILE --day 2100-12-31
 - OVERDUE 2100-12-31
-- 00CH00000100000012 000001 arrival released 2000-01-01 36889
-- 00CH00000100000020 000001 arrival released 2000-12-31 36524
+- 00CH000001000001J7 000001 arrival released 2000-01-01 36889
+- 00CH000001000002J6 000001 arrival released 2000-12-31 36524
 - TOTAL 2
 $ report overdue --country CH --db FILE --day 2000-01-01
 - OVERDUE 2000-01-01
 - TOTAL 0
 $ report overdue --country CH --db FILE --day 2000-01-02
 - OVERDUE 2000-01-02
-- 00CH00000100000012 000001 arrival released 2000-01-01     1
+- 00CH000001000001J7 000001 arrival released 2000-01-01     1
 - TOTAL 1
 $ report guarantees --country CH --db FILE
 - GUARANTEES

@@ -14,14 +14,14 @@ $ pipe --country CH --at 1740819600
 > POST /office/holders/000002/guarantees {"reference":1000000,"cover":50,"code":"AB12"}
 < 200 {"grn":"25CH0000020000010"}
 > POST /holders/000001/movements {"lrn":"A1","departure":"CH001251","destination":"DE005600","lines":[{"grn":"25CH0000010000014","code":"AB12","cents":500000}]}
-< 200 {"lrn":"A1","message":"IE028","mrn":"25CH00000100000013"}
-> POST /holders/000002/movements/25CH00000100000013/ie014
+< 200 {"lrn":"A1","message":"IE028","mrn":"25CH000001000001J8"}
+> POST /holders/000002/movements/25CH000001000001J8/ie014
 < 404 {"error":"no-movement"}
-> POST /holders/000002/movements/25CH00000200000027/ie014
+> POST /holders/000002/movements/25CH000002000002J2/ie014
 < 404 {"error":"no-movement"}
-> GET /holders/000002/movements/25CH00000100000013
+> GET /holders/000002/movements/25CH000001000001J8
 < 404 {"error":"no-movement"}
-> GET /holders/000002/movements/25CH00000200000027
+> GET /holders/000002/movements/25CH000002000002J2
 < 404 {"error":"no-movement"}
 > GET /holders/000002/guarantees/25CH0000010000014
 < 404 {"error":"no-guarantee"}
@@ -41,8 +41,8 @@ $ pipe --country CH --at 1740819600
 < 404 {"error":"no-guarantee"}
 > GET /holders/000001/guarantees/25CH0000010000014
 < 200 {"codes":["AB12"],"cover":50,"ends":null,"free":1000000,"grn":"25CH0000010000014","guaranteed":500000,"reference":1000000,"used":0}
-> POST /holders/000001/movements/25CH00000100000013/ie014
-< 200 {"message":"IE014","mrn":"25CH00000100000013","state":"cancelled"}
+> POST /holders/000001/movements/25CH000001000001J8/ie014
+< 200 {"message":"IE014","mrn":"25CH000001000001J8","state":"cancelled"}
 
 == an act on what is not there is told alike
 $ pipe --country CH --at 1740819600
@@ -51,58 +51,58 @@ $ pipe --country CH --at 1740819600
 > POST /office/holders/000001/guarantees {"reference":1000000,"cover":50,"code":"AB12"}
 < 200 {"grn":"25CH0000010000014"}
 > POST /holders/000001/movements {"lrn":"A1","departure":"CH001251","destination":"DE005600","lines":[{"grn":"25CH0000010000014","code":"AB12","cents":500000}]}
-< 200 {"lrn":"A1","message":"IE028","mrn":"25CH00000100000013"}
-> POST /office/movements/25CH00000900000017/ie029 {"limit":"2025-03-08"}
+< 200 {"lrn":"A1","message":"IE028","mrn":"25CH000001000001J8"}
+> POST /office/movements/25CH000009000001J1/ie029 {"limit":"2025-03-08"}
 < 404 {"error":"no-movement"}
-> POST /office/movements/25CH00000900000017/ie007 {"office":"DE005600"}
+> POST /office/movements/25CH000009000001J1/ie007 {"office":"DE005600"}
 < 404 {"error":"no-movement"}
-> POST /office/movements/25CH00000900000017/ie018 {"result":"A1"}
+> POST /office/movements/25CH000009000001J1/ie018 {"result":"A1"}
 < 404 {"error":"no-movement"}
-> POST /office/movements/25CH00000900000017/ie045 {"ground":"results"}
+> POST /office/movements/25CH000009000001J1/ie045 {"ground":"results"}
 < 404 {"error":"no-movement"}
-> POST /office/movements/25CH00000900000017/ie140
+> POST /office/movements/25CH000009000001J1/ie140
 < 404 {"error":"no-movement"}
 > POST /office/guarantees/25CH0000090000018/amend {"reference":1000000,"cover":50}
 < 404 {"error":"no-guarantee"}
 > POST /office/guarantees/25CH0000090000018/revoke
 < 404 {"error":"no-guarantee"}
-> POST /office/movements/25DE00000100000015/ie029 {"limit":"2025-03-08"}
+> POST /office/movements/25DE000001000001J0/ie029 {"limit":"2025-03-08"}
 < 404 {"error":"no-movement"}
-> POST /office/movements/25DE00000100000015/ie007 {"office":"DE005600"}
+> POST /office/movements/25DE000001000001J0/ie007 {"office":"DE005600"}
 < 404 {"error":"no-movement"}
-> POST /office/movements/25DE00000100000015/ie018 {"result":"A1"}
+> POST /office/movements/25DE000001000001J0/ie018 {"result":"A1"}
 < 404 {"error":"no-movement"}
-> POST /office/movements/25DE00000100000015/ie045 {"ground":"results"}
+> POST /office/movements/25DE000001000001J0/ie045 {"ground":"results"}
 < 404 {"error":"no-movement"}
-> POST /office/movements/25DE00000100000015/ie140
+> POST /office/movements/25DE000001000001J0/ie140
 < 404 {"error":"no-movement"}
 > POST /office/guarantees/25DE0000010000016/amend {"reference":1000000,"cover":50}
 < 404 {"error":"no-guarantee"}
 > POST /office/guarantees/25DE0000010000016/revoke
 < 404 {"error":"no-guarantee"}
-> POST /office/movements/25CH00000100000021/ie029 {"limit":"2025-03-08"}
+> POST /office/movements/25CH000001000002J7/ie029 {"limit":"2025-03-08"}
 < 404 {"error":"no-movement"}
-> POST /office/movements/25CH00000100000021/ie007 {"office":"DE005600"}
+> POST /office/movements/25CH000001000002J7/ie007 {"office":"DE005600"}
 < 404 {"error":"no-movement"}
-> POST /office/movements/25CH00000100000021/ie018 {"result":"A1"}
+> POST /office/movements/25CH000001000002J7/ie018 {"result":"A1"}
 < 404 {"error":"no-movement"}
-> POST /office/movements/25CH00000100000021/ie045 {"ground":"results"}
+> POST /office/movements/25CH000001000002J7/ie045 {"ground":"results"}
 < 404 {"error":"no-movement"}
-> POST /office/movements/25CH00000100000021/ie140
+> POST /office/movements/25CH000001000002J7/ie140
 < 404 {"error":"no-movement"}
 > POST /office/guarantees/25CH0000010000023/amend {"reference":1000000,"cover":50}
 < 404 {"error":"no-guarantee"}
 > POST /office/guarantees/25CH0000010000023/revoke
 < 404 {"error":"no-guarantee"}
-> POST /office/movements/24CH00000100000011/ie029 {"limit":"2025-03-08"}
+> POST /office/movements/24CH000001000001J6/ie029 {"limit":"2025-03-08"}
 < 404 {"error":"no-movement"}
-> POST /office/movements/24CH00000100000011/ie007 {"office":"DE005600"}
+> POST /office/movements/24CH000001000001J6/ie007 {"office":"DE005600"}
 < 404 {"error":"no-movement"}
-> POST /office/movements/24CH00000100000011/ie018 {"result":"A1"}
+> POST /office/movements/24CH000001000001J6/ie018 {"result":"A1"}
 < 404 {"error":"no-movement"}
-> POST /office/movements/24CH00000100000011/ie045 {"ground":"results"}
+> POST /office/movements/24CH000001000001J6/ie045 {"ground":"results"}
 < 404 {"error":"no-movement"}
-> POST /office/movements/24CH00000100000011/ie140
+> POST /office/movements/24CH000001000001J6/ie140
 < 404 {"error":"no-movement"}
 > POST /office/guarantees/24CH0000010000012/amend {"reference":1000000,"cover":50}
 < 404 {"error":"no-guarantee"}
@@ -110,8 +110,8 @@ $ pipe --country CH --at 1740819600
 < 404 {"error":"no-guarantee"}
 > GET /holders/000001/guarantees/25CH0000010000014
 < 200 {"codes":["AB12"],"cover":50,"ends":null,"free":1000000,"grn":"25CH0000010000014","guaranteed":500000,"reference":1000000,"used":0}
-> POST /office/movements/25CH00000100000013/ie029 {"limit":"2025-03-08"}
-< 200 {"limit":"2025-03-08","message":"IE029","mrn":"25CH00000100000013","state":"released"}
+> POST /office/movements/25CH000001000001J8/ie029 {"limit":"2025-03-08"}
+< 200 {"limit":"2025-03-08","message":"IE029","mrn":"25CH000001000001J8","state":"released"}
 
 == the owner is tested before the clock
 # Whose a reference is stands in its text: where its owner isn't registered, that is told at any moment.
@@ -121,39 +121,39 @@ $ pipe --country CH --at 1740819600
 > POST /office/holders/000001/guarantees {"reference":1000000,"cover":50,"code":"AB12"}
 < 200 {"grn":"25CH0000010000014"}
 > POST /holders/000001/movements {"lrn":"A1","departure":"CH001251","destination":"DE005600","lines":[{"grn":"25CH0000010000014","code":"AB12","cents":500000}]}
-< 200 {"lrn":"A1","message":"IE028","mrn":"25CH00000100000013"}
+< 200 {"lrn":"A1","message":"IE028","mrn":"25CH000001000001J8"}
 @ 1740819599 2025-03-01T08:59:59Z
-> POST /office/movements/25CH00000900000017/ie029 {"limit":"2025-03-08"}
+> POST /office/movements/25CH000009000001J1/ie029 {"limit":"2025-03-08"}
 < 404 {"error":"no-movement"}
-> POST /office/movements/25CH00000900000017/ie007 {"office":"DE005600"}
+> POST /office/movements/25CH000009000001J1/ie007 {"office":"DE005600"}
 < 404 {"error":"no-movement"}
-> POST /office/movements/25CH00000900000017/ie018 {"result":"A1"}
+> POST /office/movements/25CH000009000001J1/ie018 {"result":"A1"}
 < 404 {"error":"no-movement"}
-> POST /office/movements/25CH00000900000017/ie045 {"ground":"results"}
+> POST /office/movements/25CH000009000001J1/ie045 {"ground":"results"}
 < 404 {"error":"no-movement"}
-> POST /office/movements/25CH00000900000017/ie140
+> POST /office/movements/25CH000009000001J1/ie140
 < 404 {"error":"no-movement"}
 > POST /office/guarantees/25CH0000090000018/amend {"reference":1000000,"cover":50}
 < 404 {"error":"no-guarantee"}
 > POST /office/guarantees/25CH0000090000018/revoke
 < 404 {"error":"no-guarantee"}
-> POST /office/movements/25DE00000100000015/ie029 {"limit":"2025-03-08"}
+> POST /office/movements/25DE000001000001J0/ie029 {"limit":"2025-03-08"}
 < 404 {"error":"no-movement"}
-> POST /office/movements/25DE00000100000015/ie007 {"office":"DE005600"}
+> POST /office/movements/25DE000001000001J0/ie007 {"office":"DE005600"}
 < 404 {"error":"no-movement"}
-> POST /office/movements/25DE00000100000015/ie018 {"result":"A1"}
+> POST /office/movements/25DE000001000001J0/ie018 {"result":"A1"}
 < 404 {"error":"no-movement"}
-> POST /office/movements/25DE00000100000015/ie045 {"ground":"results"}
+> POST /office/movements/25DE000001000001J0/ie045 {"ground":"results"}
 < 404 {"error":"no-movement"}
-> POST /office/movements/25DE00000100000015/ie140
+> POST /office/movements/25DE000001000001J0/ie140
 < 404 {"error":"no-movement"}
 > POST /office/guarantees/25DE0000010000016/amend {"reference":1000000,"cover":50}
 < 404 {"error":"no-guarantee"}
 > POST /office/guarantees/25DE0000010000016/revoke
 < 404 {"error":"no-guarantee"}
 @ 1740819600 2025-03-01T09:00:00Z
-> POST /office/movements/25CH00000100000013/ie029 {"limit":"2025-03-08"}
-< 200 {"limit":"2025-03-08","message":"IE029","mrn":"25CH00000100000013","state":"released"}
+> POST /office/movements/25CH000001000001J8/ie029 {"limit":"2025-03-08"}
+< 200 {"limit":"2025-03-08","message":"IE029","mrn":"25CH000001000001J8","state":"released"}
 
 == the clock is tested before the movement
 # A registered owner's last change comes before what is asked of the reference.
@@ -163,53 +163,53 @@ $ pipe --country CH --at 1740819600
 > POST /office/holders/000001/guarantees {"reference":1000000,"cover":50,"code":"AB12"}
 < 200 {"grn":"25CH0000010000014"}
 > POST /holders/000001/movements {"lrn":"A1","departure":"CH001251","destination":"DE005600","lines":[{"grn":"25CH0000010000014","code":"AB12","cents":500000}]}
-< 200 {"lrn":"A1","message":"IE028","mrn":"25CH00000100000013"}
+< 200 {"lrn":"A1","message":"IE028","mrn":"25CH000001000001J8"}
 @ 1740819599 2025-03-01T08:59:59Z
-> POST /office/movements/25CH00000100000021/ie029 {"limit":"2025-03-08"}
+> POST /office/movements/25CH000001000002J7/ie029 {"limit":"2025-03-08"}
 < 409 {"error":"clock-back"}
-> POST /office/movements/25CH00000100000021/ie007 {"office":"DE005600"}
+> POST /office/movements/25CH000001000002J7/ie007 {"office":"DE005600"}
 < 409 {"error":"clock-back"}
-> POST /office/movements/25CH00000100000021/ie018 {"result":"A1"}
+> POST /office/movements/25CH000001000002J7/ie018 {"result":"A1"}
 < 409 {"error":"clock-back"}
-> POST /office/movements/25CH00000100000021/ie045 {"ground":"results"}
+> POST /office/movements/25CH000001000002J7/ie045 {"ground":"results"}
 < 409 {"error":"clock-back"}
-> POST /office/movements/25CH00000100000021/ie140
+> POST /office/movements/25CH000001000002J7/ie140
 < 409 {"error":"clock-back"}
 > POST /office/guarantees/25CH0000010000023/amend {"reference":1000000,"cover":50}
 < 409 {"error":"clock-back"}
 > POST /office/guarantees/25CH0000010000023/revoke
 < 409 {"error":"clock-back"}
-> POST /office/movements/24CH00000100000011/ie029 {"limit":"2025-03-08"}
+> POST /office/movements/24CH000001000001J6/ie029 {"limit":"2025-03-08"}
 < 409 {"error":"clock-back"}
-> POST /office/movements/24CH00000100000011/ie007 {"office":"DE005600"}
+> POST /office/movements/24CH000001000001J6/ie007 {"office":"DE005600"}
 < 409 {"error":"clock-back"}
-> POST /office/movements/24CH00000100000011/ie018 {"result":"A1"}
+> POST /office/movements/24CH000001000001J6/ie018 {"result":"A1"}
 < 409 {"error":"clock-back"}
-> POST /office/movements/24CH00000100000011/ie045 {"ground":"results"}
+> POST /office/movements/24CH000001000001J6/ie045 {"ground":"results"}
 < 409 {"error":"clock-back"}
-> POST /office/movements/24CH00000100000011/ie140
+> POST /office/movements/24CH000001000001J6/ie140
 < 409 {"error":"clock-back"}
 > POST /office/guarantees/24CH0000010000012/amend {"reference":1000000,"cover":50}
 < 409 {"error":"clock-back"}
 > POST /office/guarantees/24CH0000010000012/revoke
 < 409 {"error":"clock-back"}
-> POST /office/movements/25CH00000100000013/ie029 {"limit":"2025-03-08"}
+> POST /office/movements/25CH000001000001J8/ie029 {"limit":"2025-03-08"}
 < 409 {"error":"clock-back"}
-> POST /office/movements/25CH00000100000013/ie007 {"office":"DE005600"}
+> POST /office/movements/25CH000001000001J8/ie007 {"office":"DE005600"}
 < 409 {"error":"clock-back"}
-> POST /office/movements/25CH00000100000013/ie018 {"result":"A1"}
+> POST /office/movements/25CH000001000001J8/ie018 {"result":"A1"}
 < 409 {"error":"clock-back"}
-> POST /office/movements/25CH00000100000013/ie045 {"ground":"results"}
+> POST /office/movements/25CH000001000001J8/ie045 {"ground":"results"}
 < 409 {"error":"clock-back"}
-> POST /office/movements/25CH00000100000013/ie140
+> POST /office/movements/25CH000001000001J8/ie140
 < 409 {"error":"clock-back"}
 @ 1740819600 2025-03-01T09:00:00Z
-> POST /office/movements/25CH00000100000021/ie029 {"limit":"2025-03-08"}
+> POST /office/movements/25CH000001000002J7/ie029 {"limit":"2025-03-08"}
 < 404 {"error":"no-movement"}
-> POST /office/movements/25CH00000100000013/ie007 {"office":"DE005600"}
+> POST /office/movements/25CH000001000001J8/ie007 {"office":"DE005600"}
 < 409 {"error":"wrong-state","state":"accepted"}
-> POST /office/movements/25CH00000100000013/ie029 {"limit":"2025-03-08"}
-< 200 {"limit":"2025-03-08","message":"IE029","mrn":"25CH00000100000013","state":"released"}
+> POST /office/movements/25CH000001000001J8/ie029 {"limit":"2025-03-08"}
+< 200 {"limit":"2025-03-08","message":"IE029","mrn":"25CH000001000001J8","state":"released"}
 
 == the clock is tested before the guarantee
 @ 1740819600 2025-03-01T09:00:00Z

@@ -10,13 +10,13 @@ $ pipe --country CH --at 1740819600
 > POST /office/holders/000001/guarantees {"reference":1000000,"cover":50,"code":"AB12"}
 < 200 {"grn":"25CH0000010000014"}
 > POST /holders/000001/movements {"lrn":"A1","departure":"CH001251","destination":"DE005600","lines":[{"grn":"25CH0000010000014","code":"AB12","cents":500000}]}
-< 200 {"lrn":"A1","message":"IE028","mrn":"25CH00000100000013"}
+< 200 {"lrn":"A1","message":"IE028","mrn":"25CH000001000001J8"}
 > POST /holders/000001/movements {"lrn":"A2","departure":"CH001251","destination":"DE005600","lines":[{"grn":"25CH0000010000014","code":"AB12","cents":500000}]}
-< 200 {"lrn":"A2","message":"IE028","mrn":"25CH00000100000021"}
-> POST /office/movements/25CH00000100000013/ie029 {"limit":"2025-03-08"}
-< 200 {"limit":"2025-03-08","message":"IE029","mrn":"25CH00000100000013","state":"released"}
-> POST /office/movements/25CH00000100000021/ie029 {"limit":"2025-03-08"}
-< 200 {"limit":"2025-03-08","message":"IE029","mrn":"25CH00000100000021","state":"released"}
+< 200 {"lrn":"A2","message":"IE028","mrn":"25CH000001000002J7"}
+> POST /office/movements/25CH000001000001J8/ie029 {"limit":"2025-03-08"}
+< 200 {"limit":"2025-03-08","message":"IE029","mrn":"25CH000001000001J8","state":"released"}
+> POST /office/movements/25CH000001000002J7/ie029 {"limit":"2025-03-08"}
+< 200 {"limit":"2025-03-08","message":"IE029","mrn":"25CH000001000002J7","state":"released"}
 > POST /office/guarantees/25CH0000010000014/amend {"reference":999999,"cover":50}
 < 409 {"error":"below-use","used":1000000}
 > GET /holders/000001/guarantees/25CH0000010000014
@@ -46,9 +46,9 @@ $ pipe --country CH --at 1740819600
 > POST /office/holders/000001/guarantees {"reference":1000000,"cover":50,"code":"AB12"}
 < 200 {"grn":"25CH0000010000014"}
 > POST /holders/000001/movements {"lrn":"A1","departure":"CH001251","destination":"DE005600","lines":[{"grn":"25CH0000010000014","code":"AB12","cents":500000}]}
-< 200 {"lrn":"A1","message":"IE028","mrn":"25CH00000100000013"}
+< 200 {"lrn":"A1","message":"IE028","mrn":"25CH000001000001J8"}
 > POST /holders/000001/movements {"lrn":"A2","departure":"CH001251","destination":"DE005600","lines":[{"grn":"25CH0000010000014","code":"AB12","cents":500000}]}
-< 200 {"lrn":"A2","message":"IE028","mrn":"25CH00000100000021"}
+< 200 {"lrn":"A2","message":"IE028","mrn":"25CH000001000002J7"}
 > POST /office/guarantees/25CH0000010000014/revoke
 < 200 {"ends":"2025-03-17","grn":"25CH0000010000014"}
 > POST /office/guarantees/25CH0000010000014/revoke
@@ -56,17 +56,17 @@ $ pipe --country CH --at 1740819600
 > GET /holders/000001/guarantees/25CH0000010000014
 < 200 {"codes":["AB12"],"cover":50,"ends":"2025-03-17","free":1000000,"grn":"25CH0000010000014","guaranteed":500000,"reference":1000000,"used":0}
 @ 1742169599 2025-03-16T23:59:59Z
-> POST /office/movements/25CH00000100000013/ie029 {"limit":"2025-03-31"}
-< 200 {"limit":"2025-03-31","message":"IE029","mrn":"25CH00000100000013","state":"released"}
+> POST /office/movements/25CH000001000001J8/ie029 {"limit":"2025-03-31"}
+< 200 {"limit":"2025-03-31","message":"IE029","mrn":"25CH000001000001J8","state":"released"}
 > POST /holders/000001/movements {"lrn":"A3","departure":"CH001251","destination":"DE005600","lines":[{"grn":"25CH0000010000014","code":"AB12","cents":1}]}
-< 200 {"lrn":"A3","message":"IE028","mrn":"25CH00000100000030"}
+< 200 {"lrn":"A3","message":"IE028","mrn":"25CH000001000003J6"}
 @ 1742169600 2025-03-17T00:00:00Z
-> POST /office/movements/25CH00000100000021/ie029 {"limit":"2025-03-31"}
+> POST /office/movements/25CH000001000002J7/ie029 {"limit":"2025-03-31"}
 < 409 {"error":"guarantee-ended"}
 > POST /office/guarantees/25CH0000010000014/revoke
 < 409 {"error":"already-ended"}
 > POST /holders/000001/movements {"lrn":"A1","departure":"CH001251","destination":"DE005600","lines":[{"grn":"25CH0000010000014","code":"AB12","cents":500000}]}
-< 200 {"lrn":"A1","message":"IE028","mrn":"25CH00000100000013"}
+< 200 {"lrn":"A1","message":"IE028","mrn":"25CH000001000001J8"}
 > POST /holders/000001/movements {"lrn":"A4","departure":"CH001251","destination":"DE005600","lines":[{"grn":"25CH0000010000014","code":"AB12","cents":1}]}
 < 409 {"error":"guarantee-ended"}
 > POST /office/guarantees/25CH0000010000014/amend {"reference":2000001,"cover":30}

@@ -9,7 +9,7 @@ use td_movement::Line;
 use td_store::SqlDesk;
 
 /// 2025-03-01, at 9 in the morning.
-const START: i64 = 1_740_819_600;
+pub const START: i64 = 1_740_819_600;
 
 pub fn register(rt: &impl Abort, number: u32) -> Command {
     Command::Register {

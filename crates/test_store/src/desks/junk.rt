@@ -3,7 +3,7 @@
 use super::made;
 use super::opening::{opened, refused, seen};
 use crate::examples::fill;
-use sqlite::{Connection, MemStore};
+use sqlite::{Alter, Connection, MemStore};
 use std::process::Abort;
 use td_store::OpenFault;
 use td_table_model::Rule;
@@ -82,10 +82,10 @@ fn tables_after(rt: &(impl AllocGlobal + Abort), statement: &str) -> Connection<
 }
 
 /// Adds the rows of a query.
-pub fn push_rows(
+pub fn push_rows<S: Alter>(
     rt: &(impl AllocGlobal + Abort),
     words: &mut String,
-    conn: &mut Connection<MemStore>,
+    conn: &mut Connection<S>,
     query: &str,
 ) {
     let rows = conn.query_all(query, &[]).expect(rt, "rows");
@@ -93,7 +93,7 @@ pub fn push_rows(
 }
 
 /// All rows of the six tables, as a text.
-fn rows_of(rt: &(impl AllocGlobal + Abort), conn: &mut Connection<MemStore>) -> String {
+pub fn rows_of(rt: &(impl AllocGlobal + Abort), conn: &mut Connection<MemStore>) -> String {
     let mut words = String::new(rt.alloc());
     for query in &TABLES {
         push_rows(rt, &mut words, conn, query);

@@ -3,7 +3,7 @@
 use super::junk::{push_rows, shown, tables};
 use super::opening::refused;
 use crate::examples::{fill, holder, with_layout};
-use sqlite::{Connection, MemStore};
+use sqlite::{Alter, Connection, MemStore};
 use std::process::Abort;
 use td_base::HolderNo;
 use td_migrate::{MigrateFault, upgrade, version};
@@ -16,7 +16,7 @@ use td_table_model::Rule;
 /// 500000 are in use by movement 1, which is released, and 400000 by movement 2, which has arrived; of the second one's
 /// 500000 cents 200000 by movement 1. Movement 3 and the one of holder 2 are accepted, and have nothing in use. Holder 3 has
 /// nothing. Day 20148 is 2025-03-01.
-const ROWS: [&str; 7] = [
+pub const ROWS: [&str; 7] = [
     "INSERT INTO meta VALUES (1, 1, 'CH')",
     "INSERT INTO holders VALUES (1, 'CH1234567', 1740992400, 2, 3), (2, 'DE7654321', 1740819600, 1, 1), (3, 'FR1', 1740819600, 0, 0)",
     "INSERT INTO guarantees1 VALUES (1, 1, '25CH0000010000014', 1000000, 50, NULL), (1, 2, '25CH0000010000023', 500000, 100, 20164), (2, 1, '25CH0000020000010', 1000000, 30, NULL)",
@@ -36,7 +36,7 @@ const TABLES: [&str; 6] = [
 ];
 
 /// A database of version 1 with these rows.
-fn first(rt: &(impl AllocGlobal + Abort)) -> Connection<MemStore> {
+pub fn first(rt: &(impl AllocGlobal + Abort)) -> Connection<MemStore> {
     let mut conn = with_layout(rt, Layout::Made1);
     fill(rt, &mut conn, &ROWS);
     conn
@@ -50,7 +50,7 @@ fn first_after(rt: &(impl AllocGlobal + Abort), statement: &str) -> Connection<M
 }
 
 /// What it is brought to, where no transaction is begun.
-fn upgraded(
+pub fn upgraded(
     rt: &(impl AllocGlobal + Abort),
     conn: &mut Connection<MemStore>,
 ) -> Result<u32, MigrateFault> {
@@ -59,7 +59,7 @@ fn upgraded(
 }
 
 /// Its version, by either of the two calls that tell it.
-fn version_of(
+pub fn version_of(
     rt: &(impl AllocGlobal + Abort),
     conn: &mut Connection<MemStore>,
 ) -> Result<u32, MigrateFault> {
@@ -219,7 +219,7 @@ fn an_audit_tells_an_amount_that_is_none_in_use(rt: HostRuntime) {
 }
 
 /// All rows of the six tables, as a text.
-fn rows_of(rt: &(impl AllocGlobal + Abort), conn: &mut Connection<MemStore>) -> String {
+pub fn rows_of<S: Alter>(rt: &(impl AllocGlobal + Abort), conn: &mut Connection<S>) -> String {
     let mut words = String::new(rt.alloc());
     for query in &TABLES {
         push_rows(rt, &mut words, conn, query);

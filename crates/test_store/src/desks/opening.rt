@@ -3,7 +3,7 @@ use super::commands::{Dice, drawn};
 use super::words::push_words;
 use super::{database, made};
 use crate::examples::{country, fill, holder};
-use sqlite::{Connection, MemStore};
+use sqlite::{Alter, Connection, MemStore};
 use std::process::Abort;
 use td_base::HolderNo;
 use td_desk::{Command, Stamped, Store, do_one};
@@ -22,10 +22,10 @@ fn filled(rt: &(impl AllocGlobal + Abort)) -> SqlDesk<MemStore> {
 }
 
 /// Adds what the desk answers to a view.
-fn push_view(
+fn push_view<S: Alter>(
     rt: &(impl AllocGlobal + Abort),
     words: &mut String,
-    desk: &mut SqlDesk<MemStore>,
+    desk: &mut SqlDesk<S>,
     command: Command,
 ) {
     let stamped = Stamped {
@@ -37,10 +37,10 @@ fn push_view(
     words.push_str("\n").expect(rt, "memory");
 }
 
-fn push_holder(
+fn push_holder<S: Alter>(
     rt: &(impl AllocGlobal + Abort),
     words: &mut String,
-    desk: &mut SqlDesk<MemStore>,
+    desk: &mut SqlDesk<S>,
     holder: HolderNo,
 ) {
     push_view(rt, words, desk, Command::SeeHolder { holder });
@@ -49,7 +49,7 @@ fn push_holder(
 }
 
 /// All that the desk shows of its holders.
-pub fn seen(rt: &(impl AllocGlobal + Abort), desk: &mut SqlDesk<MemStore>) -> String {
+pub fn seen<S: Alter>(rt: &(impl AllocGlobal + Abort), desk: &mut SqlDesk<S>) -> String {
     let mut words = String::new(rt.alloc());
     for number in 1..4 {
         push_holder(rt, &mut words, desk, holder(rt, number));

@@ -115,10 +115,10 @@ const NOTHING: &str = "OVERDUE 2025-06-01\nTOTAL 0\n";
 fn a_released_movement_is_overdue_after_its_limit(rt: HostRuntime) {
     let mut desk = released(&rt);
     let text = "OVERDUE 2025-03-20\n\
-        25CH00000100000013 000001 arrival released 2025-03-08    12\nTOTAL 1\n";
+        25CH000001000001J8 000001 arrival released 2025-03-08    12\nTOTAL 1\n";
     assert_overdue(&rt, &mut desk, b"2025-03-20", text);
     let text = "OVERDUE 2025-03-09\n\
-        25CH00000100000013 000001 arrival released 2025-03-08     1\nTOTAL 1\n";
+        25CH000001000001J8 000001 arrival released 2025-03-08     1\nTOTAL 1\n";
     assert_overdue(&rt, &mut desk, b"2025-03-09", text);
     assert_overdue(
         &rt,
@@ -127,7 +127,7 @@ fn a_released_movement_is_overdue_after_its_limit(rt: HostRuntime) {
         "OVERDUE 2025-03-08\nTOTAL 0\n",
     );
     let text = "OVERDUE 2100-12-31\n\
-        25CH00000100000013 000001 arrival released 2025-03-08 27691\nTOTAL 1\n";
+        25CH000001000001J8 000001 arrival released 2025-03-08 27691\nTOTAL 1\n";
     assert_overdue(&rt, &mut desk, b"2100-12-31", text);
 }
 
@@ -136,7 +136,7 @@ fn an_enquired_one_is_too(rt: HostRuntime) {
     let mut desk = released(&rt);
     accept_after(&rt, &mut desk, 14, Command::Ie140 { mrn: mrn(&rt, MRN) });
     let text = "OVERDUE 2025-03-20\n\
-        25CH00000100000013 000001 arrival enquired 2025-03-08    12\nTOTAL 1\n";
+        25CH000001000001J8 000001 arrival enquired 2025-03-08    12\nTOTAL 1\n";
     assert_overdue(&rt, &mut desk, b"2025-03-20", text);
 }
 
@@ -144,7 +144,7 @@ fn an_enquired_one_is_too(rt: HostRuntime) {
 fn control_is_overdue_after_the_sixth_day(rt: HostRuntime) {
     let mut desk = arrived(&rt);
     let text = "OVERDUE 2025-03-15\n\
-        25CH00000100000013 000001 control arrived  2025-03-14     1\nTOTAL 1\n";
+        25CH000001000001J8 000001 control arrived  2025-03-14     1\nTOTAL 1\n";
     assert_overdue(&rt, &mut desk, b"2025-03-15", text);
     assert_overdue(
         &rt,
@@ -171,7 +171,7 @@ fn nothing_else_is_ever_overdue(rt: HostRuntime) {
 
 /// A desk of holders 1 and 2, of which the second came first: each has a movement that is released, and the first one more, and
 /// between these one that isn't.
-fn busy(rt: &(impl AllocGlobal + Abort)) -> SqlDesk<MemStore> {
+pub fn busy(rt: &(impl AllocGlobal + Abort)) -> SqlDesk<MemStore> {
     let mut desk = made(rt);
     let second = Grn::make(25, country(rt), holder(rt, 2), 1).expect(rt, "a GRN");
     for (number, grn) in [(2, second), (1, grn(rt, GRN))] {
@@ -192,9 +192,9 @@ fn busy(rt: &(impl AllocGlobal + Abort)) -> SqlDesk<MemStore> {
 fn rows_come_by_holder_and_serial(rt: HostRuntime) {
     let mut desk = busy(&rt);
     let text = "OVERDUE 2025-03-20\n\
-        25CH00000100000013 000001 arrival released 2025-03-08    12\n\
-        25CH00000100000030 000001 arrival released 2025-03-08    12\n\
-        25CH00000200000019 000002 arrival released 2025-03-08    12\n\
+        25CH000001000001J8 000001 arrival released 2025-03-08    12\n\
+        25CH000001000003J6 000001 arrival released 2025-03-08    12\n\
+        25CH000002000001J3 000002 arrival released 2025-03-08    12\n\
         TOTAL 3\n";
     assert_overdue(&rt, &mut desk, b"2025-03-20", text);
     let text = "GUARANTEES\n\

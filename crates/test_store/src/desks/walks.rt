@@ -118,8 +118,8 @@ fn filled(rt: &(impl AllocGlobal + Abort)) -> SqlDesk<MemStore> {
     let lines: [(&[u8], u64, &[u8]); 2] = [(SECOND, 20_000, b"GH78"), (FIRST, 100, b"CD34")];
     declare(rt, &mut desk, 1, b"A1", &lines);
     declare(rt, &mut desk, 1, b"A2", &[(FIRST, 300, b"AB12")]);
-    release(rt, &mut desk, b"25CH00000300000014");
-    release(rt, &mut desk, b"25CH00000100000013");
+    release(rt, &mut desk, b"25CH000003000001J9");
+    release(rt, &mut desk, b"25CH000001000001J8");
     desk
 }
 
@@ -149,7 +149,7 @@ fn push_guarantee(
 }
 
 // What five calls give of the desk's movements: the end is told by a dash.
-fn movements_told(rt: &(impl AllocGlobal + Abort), desk: &mut SqlDesk<MemStore>) -> String {
+pub fn movements_told<S: Alter>(rt: &(impl AllocGlobal + Abort), desk: &mut SqlDesk<S>) -> String {
     let mut words = String::new(rt.alloc());
     let mut rows = desk.movement_rows().expect(rt, "a walk");
     for _ in 0..5 {
@@ -163,7 +163,7 @@ fn movements_told(rt: &(impl AllocGlobal + Abort), desk: &mut SqlDesk<MemStore>)
 }
 
 // What six calls give of its guarantees.
-fn guarantees_told(rt: &(impl AllocGlobal + Abort), desk: &mut SqlDesk<MemStore>) -> String {
+pub fn guarantees_told<S: Alter>(rt: &(impl AllocGlobal + Abort), desk: &mut SqlDesk<S>) -> String {
     let mut words = String::new(rt.alloc());
     let mut rows = desk.guarantee_rows().expect(rt, "a walk");
     for _ in 0..6 {
@@ -177,9 +177,9 @@ fn guarantees_told(rt: &(impl AllocGlobal + Abort), desk: &mut SqlDesk<MemStore>
 }
 
 const MOVEMENTS: &str =
-    "000001 25CH00000100000013 released 25CH0000010000023:200.00 25CH0000010000014:1.00
-000001 25CH00000100000021 accepted 25CH0000010000014:3.00
-000003 25CH00000300000014 released 25CH0000030000015:0.70
+    "000001 25CH000001000001J8 released 25CH0000010000023:200.00 25CH0000010000014:1.00
+000001 25CH000001000002J7 accepted 25CH0000010000014:3.00
+000003 25CH000003000001J9 released 25CH0000030000015:0.70
 -
 -
 ";

@@ -11,10 +11,12 @@ returns-then-ne c =
 
 pub returns-then-not-is_digits : goal.returns-then-not-is_digits
 returns-then-not-is_digits c =
-    no_owner c.args.country c.args.text.now (λ e. false≢true (c.if-not-is_digits.ensures.digits.1 (owned_gives c.args.country c.args.text.now e).1))
+    let differ = rw c.numbers_of.ensures at c.if-not-is_digits.ensures.digits.1 in
+    no_owner c.args.country c.args.text.now (λ e. false≢true (differ (owned_gives c.args.country c.args.text.now e).1))
 
 pub returns : goal.returns
 returns c =
     let same = rw c.as_bytes.ensures.value at c.if-ne.ensures in
     let long = length-identifier c.args.text.now (omega arith) in
-    owner_read c.args.country c.args.text.now c.read.result (omega arith) (same_country (country_of c.args.text.now) c.args.country same) (c.is_digits.ensures.digits.0 c.if-not-is_digits.false) c.read.ensures.form
+    let digits = rw c.numbers_of.ensures at (c.is_digits.ensures.digits.0 c.if-not-is_digits.false) in
+    owner_read c.args.country c.args.text.now c.read.result (omega arith) (same_country (country_of c.args.text.now) c.args.country same) digits c.read.ensures.form

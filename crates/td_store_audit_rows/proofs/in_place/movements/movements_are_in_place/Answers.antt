@@ -1,12 +1,11 @@
-use Rattle.std.proofs.Common.{◌≡◌, ◌∙◌, ◌+◌, refl, sym, subst, arith, map}
+use Rattle.std.proofs.Common.{◌≡◌, ◌∙◌, ◌+◌, ap, refl, sym, subst, arith, map}
 use Rattle.std.proofs.lemmas.Bool.{false≢true}
-use Rattle.std.proofs.lemmas.List.{length-map}
-use Rattle.td_base.specs.References.{IsMrnSerial}
+use Rattle.std.proofs.lemmas.List.{get_or_default, length-map}
 use Rattle.td_table_model.specs.Gathering.{place}
 use Rattle.td_store_rows.specs.MovementTable.{movement_row_of}
 use Rattle.td_store_rows.specs.declared.movements.stored.StoredMovement.{StoredMovement}
 use Rattle.td_store_audit_rows.specs.InPlace.{AreMovementsInPlace, IsMovementInPlace}
-use Rattle.td_store_audit_rows.proofs.Placed.{each_placed, placed}
+use Rattle.td_store_audit_rows.proofs.Placed.{each_placed, one_more, placed}
 use Rattle.td_store_audit_rows.proofs.in_place.movements.movements_are_in_place.Goals as goal
 use Rattle.td_store_audit_rows.proofs.in_place.movements.movements_are_in_place.Goals.{then-rows-i-via-then-rows-i, then-rows-i-via-else-rows-i+then-not-is_in_place}
 
@@ -22,8 +21,7 @@ returns-then-rows-i c =
         | then-rows-i-via-else-rows-i+then-not-is_in_place w ↦
             let d = w.index-rows-i-else-rows-i.result in
             let fact = subst (λ (x : StoredMovement). (x.serial ≡ 0 + (i + 1)) × IsMovementInPlace c.args.country (movement_row_of x)) (sym w.index-rows-i-else-rows-i.is) (keeps kept d) in
-            let serial : IsMrnSerial d.serial = (omega (arith, fact.0), omega (arith, fact.0, c.loop-i-test.true, c.if-count-rows.false, c.if-count-gt-GREATEST_MRN_SERIAL.false)) in
-            absurd (false≢true (sym w.if-not-is_in_place.true ∙ (w.is_in_place.ensures serial).1 fact.1))
+            absurd (false≢true (sym w.if-not-is_in_place.true ∙ w.is_in_place.ensures.1 fact.1))
       ],
     )
 
@@ -34,8 +32,16 @@ returns c =
       λ t. record {
         serials = all.0;
         count = c.if-count-rows.false ∙ sym (length-map c.args.rows.now movement_row_of);
-        most = c.if-count-gt-GREATEST_MRN_SERIAL.false;
+        most = c.if-count-gt-GREATEST_OLDER_MRN_SERIAL.false;
         each = all.1;
       },
       λ kept. refl,
     )
+
+-- one more is in its place
+pub loop-i-preserved : goal.loop-i-preserved
+loop-i-preserved c =
+    let i = c.loop-i.i in
+    let x = c.index-rows-i-else-rows-i.result in
+    let serial : x.serial ≡ i + 1 = ap (λ (r : StoredMovement). r.serial) (c.index-rows-i-else-rows-i.is ∙ get_or_default c.args.rows.now i x c.index-rows-i.result c.loop-i-test.true) ∙ c.if-rows-i.false in
+    one_more movement_row_of place (IsMovementInPlace c.args.country) c.args.rows.now i x c.loop-i.invariant c.loop-i-test.true c.index-rows-i-else-rows-i.is serial (c.is_in_place.ensures.0 c.if-not-is_in_place.false)

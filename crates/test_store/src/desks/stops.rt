@@ -1,0 +1,370 @@
+//! Stops at each call of a file, as where the power fails: of a desk's file while it is made, while decisions are carried, and while
+//! it is brought to the newest version; and what is found when the files are opened again. A call is a read too, a look at the length,
+//! or a sync.
+mod files;
+
+use super::accepted::{START, lodge, open, register};
+use super::junk::tables;
+use super::made;
+use super::migrations::{ROWS, rows_of};
+use super::opening::{opened as desk_over, seen};
+use super::walks::{guarantees_told, movements_told};
+use crate::examples::{GRN, MRN, country, day, fill, grn, make, mrn, office};
+use files::{
+    Calls, Contents, Crashed, File, FileConnection, FusedFiles, Left, blank, closed, opened,
+};
+use sqlite::{Alter, FileStore};
+use std::process::Abort;
+use td_batch::{DeclarationRow, read_declarations, run_declarations};
+use td_desk::{Command, Fault, Outcome, Said, Stamped, do_one};
+use td_migrate::{MigrateFault, upgrade};
+use td_movement::{Control, Ground};
+use td_schema::Layout;
+use td_store::{OpenFault, Refused, SqlDesk};
+
+type FileDesk = SqlDesk<FileStore<files::Fused>>;
+
+/// What is done to the files until they stop.
+#[derive(Clone, Copy, Debug)]
+enum Job {
+    /// A desk is made.
+    Making,
+    /// The list is carried out, and then the batch.
+    Carrying,
+    /// The file is brought to the newest version.
+    Upgrading,
+}
+
+fn at_start(command: Command) -> Stamped {
+    Stamped { at: START, command }
+}
+
+/// A holder's way from the registration to the write-off of a movement.
+pub fn list(rt: &(impl AllocGlobal + Abort)) -> [Stamped; 7] {
+    let mrn = mrn(rt, MRN);
+    let limit = day(rt, b"2025-03-08");
+    let office = office(rt, b"DE005600");
+    let (result, ground) = (Control::A1, Ground::Results);
+    [
+        at_start(register(rt, 1)),
+        at_start(open(rt, 1, 1_000_000, 50)),
+        at_start(lodge(rt, 1, b"A1", grn(rt, GRN), 500_000)),
+        at_start(Command::Ie029 { mrn, limit }),
+        at_start(Command::Ie007 { mrn, office }),
+        at_start(Command::Ie018 { mrn, result }),
+        at_start(Command::Ie045 { mrn, ground }),
+    ]
+}
+
+/// Two further declarations.
+const BATCH: &[u8] =
+    b"holder,lrn,departure,destination,lines\n000001,B1,CH001251,DE005600,25CH0000010000014:AB12:5.00\n000001,B2,CH001251,DE005600,25CH0000010000014:AB12:7.50\n";
+
+pub fn batch(rt: &(impl AllocGlobal + Abort)) -> Vec<DeclarationRow> {
+    let rows = read_declarations(rt.alloc(), BATCH);
+    rows.ok().expect(rt, "declarations")
+}
+
+// Whether the command was answered; else the file has stopped.
+fn is_answered<S: Alter>(
+    rt: &(impl AllocGlobal + Abort),
+    desk: &mut SqlDesk<S>,
+    stamped: &Stamped,
+) -> bool {
+    match do_one(rt.alloc(), desk, stamped) {
+        Outcome::Said(Said::Answered(_)) => true,
+        outcome => {
+            assert!(rt; matches!(outcome, Outcome::Failed(Fault::Store)));
+            false
+        }
+    }
+}
+
+// How many rows of a batch were done: else the file has stopped.
+fn rows_done<S: Alter>(
+    rt: &(impl AllocGlobal + Abort),
+    desk: &mut SqlDesk<S>,
+    rows: &[DeclarationRow],
+) -> usize {
+    let run = run_declarations(rt.alloc(), desk, START, rows);
+    assert!(rt; !run.has_refusal());
+    assert!(rt; run.stopped == None || run.stopped == Some(Fault::Store));
+    run.done
+}
+
+// How many commands of the list, and rows of the batch behind it, were answered.
+fn carried<S: Alter>(rt: &(impl AllocGlobal + Abort), desk: &mut SqlDesk<S>) -> usize {
+    let list = list(rt);
+    for (answered, stamped) in list.iter().enumerate() {
+        if !is_answered(rt, desk, stamped) {
+            return answered;
+        }
+    }
+    rows_done(rt, desk, &batch(rt)).saturating_add(list.len())
+}
+
+/// All that the desk shows: its holders' views, and what it gives of movements and of guarantees, row by row.
+fn told<S: Alter>(rt: &(impl AllocGlobal + Abort), desk: &mut SqlDesk<S>) -> String {
+    let mut words = seen(rt, desk);
+    let movements = movements_told(rt, desk);
+    let guarantees = guarantees_told(rt, desk);
+    words.push_str(&movements).expect(rt, "memory");
+    words.push_str(&guarantees).expect(rt, "memory");
+    words
+}
+
+// Why there is no desk, and of a file of version 1 all its rows.
+fn told_of_refused<S: Alter + Drop>(
+    rt: &(impl AllocGlobal + Abort),
+    mut refused: Refused<S>,
+) -> String {
+    let fault = refused.fault;
+    let mut words = format!(in rt.alloc(); "{fault}").expect(rt, "memory");
+    if fault == OpenFault::NeedsMigration(1) {
+        let rows = rows_of(rt, &mut refused.connection);
+        words.push_str(&rows).expect(rt, "memory");
+    }
+    words
+}
+
+// What is found where the files are opened that hold this: they can be opened.
+fn found(rt: &(impl AllocGlobal + Abort), contents: &Contents) -> String {
+    let conn = opened(rt, contents, Calls::ALL);
+    let conn = conn.ok().expect(rt, "a database");
+    assert!(rt; conn.is_autocommit());
+    match SqlDesk::open(rt.alloc(), conn, country(rt)) {
+        Ok(mut desk) => told(rt, &mut desk),
+        Err(refused) => told_of_refused(rt, refused),
+    }
+}
+
+// What the files hold once the connection is closed.
+fn contents_of(rt: &(impl AllocGlobal + Abort), conn: FileConnection) -> Contents {
+    let (files, is_whole) = closed(conn);
+    assert!(rt; is_whole);
+    Crashed::new(rt, files).contents(rt, Left::All, Left::All)
+}
+
+fn blank_connection(rt: &(impl AllocGlobal + Abort)) -> FileConnection {
+    let conn = opened(rt, &blank(rt), Calls::ALL);
+    conn.ok().expect(rt, "a database")
+}
+
+fn made_over(
+    rt: &(impl AllocGlobal + Abort),
+    conn: FileConnection,
+) -> Result<FileDesk, FileConnection> {
+    assert!(rt; conn.is_autocommit());
+    match SqlDesk::create(conn, country(rt)) {
+        Ok(desk) => Ok(desk),
+        Err(refused) => {
+            assert!(rt; refused.fault == OpenFault::Store);
+            Err(refused.connection)
+        }
+    }
+}
+
+fn opened_over(
+    rt: &(impl AllocGlobal + Abort),
+    conn: FileConnection,
+) -> Result<FileDesk, FileConnection> {
+    assert!(rt; conn.is_autocommit());
+    match SqlDesk::open(rt.alloc(), conn, country(rt)) {
+        Ok(desk) => Ok(desk),
+        Err(refused) => {
+            assert!(rt; refused.fault == OpenFault::Store);
+            Err(refused.connection)
+        }
+    }
+}
+
+// Whether the file was brought to the newest version; else it has stopped.
+fn is_upgraded(rt: &(impl AllocGlobal + Abort), conn: &mut FileConnection) -> bool {
+    assert!(rt; conn.is_autocommit());
+    let upgraded = upgrade(rt.alloc(), conn);
+    assert!(rt; upgraded == Ok(2) || upgraded == Err(MigrateFault::Store));
+    upgraded.is_ok()
+}
+
+// What the files hold before the job.
+fn start(rt: &(impl AllocGlobal + Abort), job: Job) -> Contents {
+    match job {
+        Job::Making => blank(rt),
+        Job::Carrying => {
+            let desk = made_over(rt, blank_connection(rt));
+            contents_of(rt, desk.ok().expect(rt, "a desk").close())
+        }
+        Job::Upgrading => {
+            let mut conn = blank_connection(rt);
+            make(rt, &mut conn, Layout::Made1);
+            fill(rt, &mut conn, &ROWS);
+            contents_of(rt, conn)
+        }
+    }
+}
+
+// The desk after each of the list's commands and each of the batch's rows.
+fn told_of_each(rt: &(impl AllocGlobal + Abort)) -> Vec<String> {
+    let (mut desk, rows) = (made(rt), batch(rt));
+    let mut all = Vec::new(rt.alloc());
+    all.push(told(rt, &mut desk)).expect(rt, "memory");
+    for stamped in &list(rt) {
+        assert!(rt; is_answered(rt, &mut desk, stamped));
+        all.push(told(rt, &mut desk)).expect(rt, "memory");
+    }
+    for row in rows.chunks(1) {
+        assert!(rt; rows_done(rt, &mut desk, row) == 1);
+        all.push(told(rt, &mut desk)).expect(rt, "memory");
+    }
+    all
+}
+
+// What is found before each part of the job, and after the last one.
+fn wanted(rt: &(impl AllocGlobal + Abort), job: Job, start: &Contents) -> Vec<String> {
+    let (before, after) = match job {
+        Job::Carrying => return told_of_each(rt),
+        Job::Making => (found(rt, start), told(rt, &mut made(rt))),
+        Job::Upgrading => (found(rt, start), told_of_tables(rt)),
+    };
+    vec![in rt.alloc(); before, after].expect(rt, "memory")
+}
+
+// The desk over tables of the newest version that have the rows of the file of version 1.
+fn told_of_tables(rt: &(impl AllocGlobal + Abort)) -> String {
+    let mut desk = desk_over(rt, tables(rt));
+    told(rt, &mut desk)
+}
+
+// What a job did of its parts until the files stopped, the files, and whether none stopped.
+struct Ended {
+    answered: usize,
+    files: FusedFiles,
+    is_whole: bool,
+}
+
+// The parts that were answered, and the connection after them.
+fn done_over(
+    rt: &(impl AllocGlobal + Abort),
+    job: Job,
+    mut conn: FileConnection,
+) -> (usize, FileConnection) {
+    match job {
+        Job::Making => match made_over(rt, conn) {
+            Ok(desk) => (1, desk.close()),
+            Err(conn) => (0, conn),
+        },
+        Job::Carrying => match opened_over(rt, conn) {
+            Ok(mut desk) => (carried(rt, &mut desk), desk.close()),
+            Err(conn) => (0, conn),
+        },
+        Job::Upgrading => {
+            let answered = usize::from(is_upgraded(rt, &mut conn));
+            (answered, conn)
+        }
+    }
+}
+
+fn done(rt: &(impl AllocGlobal + Abort), job: Job, start: &Contents, calls: Calls) -> Ended {
+    match opened(rt, start, calls) {
+        Ok(conn) => {
+            let (answered, conn) = done_over(rt, job, conn);
+            let (files, is_whole) = closed(conn);
+            Ended {
+                answered,
+                files,
+                is_whole,
+            }
+        }
+        Err(files) => Ended {
+            answered: 0,
+            files,
+            is_whole: false,
+        },
+    }
+}
+
+/// What a crash leaves of the log and of the database file.
+const LEFT: [(Left, Left); 7] = [
+    (Left::Nothing, Left::Nothing),
+    (Left::All, Left::All),
+    (Left::Nothing, Left::All),
+    (Left::All, Left::Nothing),
+    (Left::Front, Left::Front),
+    (Left::Back, Left::Back),
+    (Left::Junk, Left::Junk),
+];
+
+fn is_text(wanted: Option<&String>, found: &str) -> bool {
+    match wanted {
+        Some(wanted) => wanted.as_str() == found,
+        None => false,
+    }
+}
+
+// After a crash all that was answered is there, and of what comes next all or nothing.
+fn assert_left(rt: &(impl AllocGlobal + Abort), found: &str, answered: usize, wanted: &[String]) {
+    let is_before = is_text(wanted.get(answered), found);
+    let is_after = is_text(wanted.get(answered.saturating_add(1)), found);
+    assert!(rt; is_before || is_after, "after {answered}: {found}");
+}
+
+// Whether the job was done to its end where the files take so many calls. Whatever a crash then leaves is found again.
+fn is_done(
+    rt: &(impl AllocGlobal + Abort),
+    job: Job,
+    start: &Contents,
+    wanted: &[String],
+    calls: Calls,
+) -> bool {
+    let Ended {
+        answered,
+        files,
+        is_whole,
+    } = done(rt, job, start, calls);
+    let crashed = Crashed::new(rt, files);
+    let ways = if crashed.is_synced() {
+        &LEFT[..1]
+    } else {
+        &LEFT[..]
+    };
+    for (log, db) in ways {
+        let found = found(rt, &crashed.contents(rt, *log, *db));
+        assert_left(rt, &found, answered, wanted);
+    }
+    is_whole && answered.saturating_add(1) == wanted.len()
+}
+
+/// More calls of a file than a job makes.
+const MOST_CALLS: u64 = 1_000;
+
+// At how many calls a file can stop, so that the job isn't done.
+fn stops(rt: &(impl AllocGlobal + Abort), job: Job, file: File) -> u64 {
+    let start = start(rt, job);
+    let wanted = wanted(rt, job, &start);
+    for calls in 0..MOST_CALLS {
+        if is_done(rt, job, &start, &wanted, file.takes(calls)) {
+            return calls;
+        }
+    }
+    MOST_CALLS
+}
+
+// So many of the log, and so many of the database file.
+fn stops_of_both(rt: &(impl AllocGlobal + Abort), job: Job) -> (u64, u64) {
+    (stops(rt, job, File::Log), stops(rt, job, File::Database))
+}
+
+#[test]
+fn a_stop_while_a_desk_is_made_leaves_none_or_an_empty_one(rt: HostRuntime) {
+    assert_eq!(rt; stops_of_both(&rt, Job::Making), (61, 31));
+}
+
+#[test]
+fn a_stop_while_decisions_are_carried_leaves_those_that_were_answered(rt: HostRuntime) {
+    assert_eq!(rt; stops_of_both(&rt, Job::Carrying), (111, 70));
+}
+
+#[test]
+fn a_stop_of_an_upgrade_leaves_either_version(rt: HostRuntime) {
+    assert_eq!(rt; stops_of_both(&rt, Job::Upgrading), (58, 65));
+}
