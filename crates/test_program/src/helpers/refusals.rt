@@ -1,5 +1,5 @@
-//! Places that tests/memory knows: it runs a test that marks them again and again, and refuses in each run another request for memory
-//! between the two.
+//! Places that tests/memory knows: it runs a test that marks them again and again, and refuses in each run another
+//! request for memory between the two.
 use std::process::Abort;
 
 /// What is asked for where the requests begin that may be refused, in bytes.

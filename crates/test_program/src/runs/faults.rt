@@ -1,6 +1,6 @@
-//! A stream that finds no memory, at a desk in memory and at one over tables: the replies before the fault are those of all memory, then
-//! the fixed one comes, and from the request on that wasn't answered the rest is served as the next stream. tests/memory runs these
-//! again and again, and refuses another request for memory in each run.
+//! A stream that finds no memory, at a desk in memory and at one over tables: the replies before the fault are those
+//! of all memory, then the fixed one comes, and from the request on that wasn't answered the rest is served as the
+//! next stream. tests/memory runs these again and again, and refuses another request for memory in each run.
 use crate::helpers::devices::Drip;
 use crate::helpers::exchanges::{Exchange, requests_of};
 use crate::helpers::refusals::{begin_refusals, end_refusals};
@@ -12,7 +12,8 @@ use td_desk::{Desk, PlainDesk};
 use td_http::{Service, StreamEnd, serve_stream};
 use td_store::SqlDesk;
 
-/// A holder's registration, the opening of a guarantee, three declarations, and the way of the first one to its write-off.
+/// A holder's registration, the opening of a guarantee, three declarations, and the way of the first one to its
+/// write-off.
 const LIFE: [Exchange; 9] = [
     (
         b"PUT /office/holders/000001 HTTP/1.1\r\nContent-Length: 20\r\n\r\n{\"eori\":\"CH1234567\"}",

@@ -1,5 +1,5 @@
-//! Want of memory, as the program tells it. tests/memory runs what marks its places again and again, and refuses another request for
-//! memory in each run.
+//! Want of memory, as the program tells it. tests/memory runs what marks its places again and again, and refuses
+//! another request for memory in each run.
 use crate::helpers::exchanges::{REGISTER, SHOWN};
 use crate::helpers::refusals::{begin_refusals, end_refusals};
 use crate::helpers::{Done, Due, WORDS, assert_due, assert_that, words_of};

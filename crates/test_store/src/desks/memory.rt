@@ -1,6 +1,6 @@
-//! Want of memory in calls on a desk: what a call leaves that finds none, and that it is done where it is asked again. tests/memory runs
-//! these tests again and again, and refuses another request for memory in each run; with ample memory they show that the calls
-//! succeed.
+//! Want of memory in calls on a desk: what a call leaves that finds none, and that it is done where it is asked
+//! again. tests/memory runs these tests again and again, and refuses another request for memory in each run; with
+//! ample memory they show that the calls succeed.
 use super::accepted::START;
 use super::junk::{rows_of, shown, tables};
 use super::migrations::{first, rows_of as first_rows_of, upgraded, version_of};
@@ -202,8 +202,8 @@ fn said<D: Desk>(rt: &(impl AllocGlobal + Abort), desk: &mut D, list: &[Stamped]
     said_in(rt, &outcomes)
 }
 
-// A command that failed changed nothing, and so did a run that found no room: the other desk, which never missed memory and is told
-// the commands that didn't fail, says the same to them, and to the whole list after them.
+// A command that failed changed nothing, and so did a run that found no room: the other desk, which never missed
+// memory and is told the commands that didn't fail, says the same to them, and to the whole list after them.
 fn assert_run<D: Desk>(rt: &(impl AllocGlobal + Abort), mut desk: D, mut other: D) -> (D, D) {
     let list = list(rt);
     mark(rt, BEGIN);
@@ -246,7 +246,8 @@ fn with_guarantee<D: Desk>(rt: &(impl AllocGlobal + Abort), mut desk: D) -> D {
     desk
 }
 
-// The text is that of the rows that were done, which another desk did too; where the header found no memory there is none.
+// The text is that of the rows that were done, which another desk did too; where the header found no memory there is
+// none.
 fn assert_rows_done(rt: &impl Abort, found: &BatchRun, due: &BatchRun, rows: usize) {
     assert!(rt; found.done == due.done && due.stopped.is_none());
     assert!(rt; found.stopped.is_some() == (found.done < rows || found.text.is_empty()));

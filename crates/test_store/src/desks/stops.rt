@@ -1,6 +1,6 @@
-//! Stops at each call of a file, as where the power fails: of a desk's file while it is made, while decisions are carried, and while
-//! it is brought to the newest version; and what is found when the files are opened again. A call is a read too, a look at the length,
-//! or a sync.
+//! Stops at each call of a file, as where the power fails: of a desk's file while it is made, while decisions are
+//! carried, and while it is brought to the newest version; and what is found when the files are opened again. A call
+//! is a read too, a look at the length, or a sync.
 mod files;
 
 use super::accepted::{START, lodge, open, register};
