@@ -1,5 +1,6 @@
 //! What the program does beside devices that fail, other programs, sockets and want of memory, in the folder that the
 //! tests run in. Expected bytes are those of the desk's formats, written out.
+mod failed_reads;
 mod faults;
 mod files;
 mod heads;

@@ -14,7 +14,7 @@ use td_store::SqlDesk;
 
 /// A holder's registration, the opening of a guarantee, three declarations, and the way of the first one to its
 /// write-off.
-const LIFE: [Exchange; 9] = [
+pub const LIFE: [Exchange; 9] = [
     (
         b"PUT /office/holders/000001 HTTP/1.1\r\nContent-Length: 20\r\n\r\n{\"eori\":\"CH1234567\"}",
         b"HTTP/1.1 200 OK\r\nContent-Type: application/json\r\nContent-Length: 67\r\n\r\n{\"eori\":\"CH1234567\",\"guarantees\":0,\"holder\":\"000001\",\"movements\":0}",
@@ -57,12 +57,12 @@ const NO_MEMORY: &[u8] =
     b"HTTP/1.1 503 Service Unavailable\r\nContent-Type: application/json\r\nContent-Length: 21\r\nConnection: close\r\n\r\n{\"error\":\"no-memory\"}";
 
 // A writer that has its room.
-fn paper(rt: &(impl AllocGlobal + Abort)) -> Counted<Vec<u8>> {
+pub fn paper(rt: &(impl AllocGlobal + Abort)) -> Counted<Vec<u8>> {
     let room = Vec::with_capacity(rt.alloc(), 4096);
     Counted::new(room.expect(rt, "memory"))
 }
 
-fn input_of(rt: &(impl AllocGlobal + Abort), exchanges: &[Exchange]) -> Vec<u8> {
+pub fn input_of(rt: &(impl AllocGlobal + Abort), exchanges: &[Exchange]) -> Vec<u8> {
     requests_of(rt.alloc(), exchanges).expect(rt, "memory")
 }
 
@@ -79,7 +79,7 @@ fn serve<D: Desk + Drop>(
 }
 
 // How many of the replies stand at the front, whole, and what stands behind them.
-fn whole_in<'a>(told: &'a [u8], exchanges: &[Exchange]) -> (usize, &'a [u8]) {
+pub fn whole_in<'a>(told: &'a [u8], exchanges: &[Exchange]) -> (usize, &'a [u8]) {
     let mut left = told;
     for (whole, (_, reply)) in exchanges.iter().enumerate() {
         match left.strip_prefix(*reply) {
@@ -102,7 +102,7 @@ fn assert_told(rt: &impl Abort, end: StreamEnd, told: &[u8]) -> usize {
 }
 
 // These are served as they are due.
-fn assert_served<D: Desk + Drop>(
+pub fn assert_served<D: Desk + Drop>(
     rt: &(impl AllocGlobal + Abort),
     service: &mut Service<D>,
     exchanges: &[Exchange],
@@ -127,7 +127,7 @@ fn assert_served_after_a_fault<D: Desk + Drop>(rt: &(impl AllocGlobal + Abort), 
     assert_served(rt, &mut service, rest);
 }
 
-fn office(rt: &impl Abort) -> Country {
+pub fn office(rt: &impl Abort) -> Country {
     Country::read(b"CH").expect(rt, "a country")
 }
 
