@@ -9,7 +9,7 @@ use std::marker::Model;
 use td_base::{AccessCode, Cents, Grn};
 use td_movement::{Line, MOST_LINE_CENTS, MOST_LINES, MovementLines};
 
-/// The lines of a declaration, each with the access code of its guarantee: 1 to 9 of them, each of 1 to
+/// The lines of a declaration, each with the access code of its guarantee: 1 to 99 of them, each of 1 to
 /// 10^12 cents, and no two on one guarantee.
 #[derive(Debug, Drop)]
 pub struct Lines {
@@ -29,7 +29,7 @@ impl Model for Lines {
 }
 
 impl Lines {
-    /// These lines, in order. `None` for no line and more than 9, for an amount outside 1 to 10^12 cents,
+    /// These lines, in order. `None` for no line and more than 99, for an amount outside 1 to 10^12 cents,
     /// and where two lines name one guarantee.
     pub fn new(items: Vec<(Line, AccessCode)>) -> Option<Self>
         ensures value { result ≡ lines_of items.items }

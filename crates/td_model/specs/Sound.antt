@@ -46,7 +46,7 @@ pub record IsGuaranteeRow (country : List ℕ) (H n : ℕ) (g : Guarantee) : Typ
   pub ends : IfSome g.ends IsDay
   pub codes : AreCodes g.codes
 
--- the lines of a movement: 1 to 9, each on a guarantee of the holder's own, no two on one, with amounts in
+-- the lines of a movement: 1 to 99, each on a guarantee of the holder's own, no two on one, with amounts in
 -- range
 pub record AreMovementLines (guarantees : List Guarantee) (lines : List Line) : Type 0 where
   pub some : 1 ≤ length lines

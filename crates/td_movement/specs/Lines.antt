@@ -6,7 +6,7 @@ use Rattle.td_movement.specs.declared.line.Line.{Line}
 
 -- the most lines of a movement
 abbrev pub most_lines : ℕ
-most_lines = 9
+most_lines = 99
 
 -- the greatest amount of a line, in cents
 abbrev pub most_line_cents : ℕ

@@ -6,7 +6,7 @@ use std::marker::Model;
 use td_base::{Cents, Grn};
 
 /// The most lines of a movement.
-pub const MOST_LINES: usize = 9;
+pub const MOST_LINES: usize = 99;
 
 /// The greatest amount of a line, in cents.
 pub const MOST_LINE_CENTS: u64 = 1_000_000_000_000;

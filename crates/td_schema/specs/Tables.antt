@@ -171,6 +171,10 @@ lines = record {
   is_counted = false;
 }
 
+-- from version 3 on: the same with up to 99 lines of a movement
+abbrev pub lines3 : Table
+lines3 = record lines { name = codes "lines3"; checks = between 3 1 99 ∷ between 5 1 1000000000000 ∷ [] }
+
 -- no table
 abbrev pub no_schema : Schema
 no_schema = record { tables = []; indexes = []; views = [] }

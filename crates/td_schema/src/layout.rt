@@ -16,4 +16,10 @@ pub enum Layout {
     Made2,
     /// Made at version 1, and migrated to version 2.
     Grown2,
+    /// Made at version 3.
+    Made3,
+    /// Made at version 2, and migrated to version 3.
+    Grown3From2,
+    /// Made at version 1, and migrated to version 2 and then to version 3.
+    Grown3From1,
 }

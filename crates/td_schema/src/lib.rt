@@ -14,4 +14,4 @@ pub use columns::{
     serial_key, state_at,
 };
 pub use layout::{Layout, NEWEST_LAYOUT, NEWEST_VERSION};
-pub use making::{make_guarantees2, make_tables};
+pub use making::{make_guarantees2, make_lines3, make_tables};

@@ -7,13 +7,14 @@ ghost use Rattle.sqlite_schema.specs.declared.schema.Schema.{Schema};
 ghost use Rattle.sqlite_schema.specs.declared.schema.Table.{Table};
 ghost use Rattle.typed_sql.specs.Reading.{IsInside, StaysInside};
 ghost use Rattle.typed_sql.specs.Writing.{HasSchema};
-ghost use Rattle.td_schema.specs.Tables.{no_schema, guarantees2, IsEmptyOf};
-ghost use Rattle.td_schema.specs.Layouts.{base_schema, schema_of};
+ghost use Rattle.td_schema.specs.Tables.{no_schema, guarantees2, lines3, IsEmptyOf};
+ghost use Rattle.td_schema.specs.Layouts.{base_schema, grown, schema_of, version_of};
+ghost use Rattle.td_schema.specs.declared.layout.Layout.{Layout};
 ghost use Rattle.td_schema.specs.declared.layout.Layout.TheVariants as variant;
 ghost use Rattle.td_schema.specs.Making.{MakesOne, IsMade};
 
 use crate::layout::Layout;
-use crate::texts::{CODES, GUARANTEES, GUARANTEES2, HOLDERS, LINES, META, MOVEMENTS};
+use crate::texts::{CODES, GUARANTEES, GUARANTEES2, HOLDERS, LINES, LINES3, META, MOVEMENTS};
 use sqlite::{Error, Transaction};
 use sqlite_trees::store::Alter;
 
@@ -72,6 +73,15 @@ fn make_rest<S: Alter>(tx: &mut Transaction<'_, S>, layout: Layout) -> Result<()
             make_two(tx, GUARANTEES, LINES)?;
             make(tx, GUARANTEES2)
         }
+        Layout::Made3 => make_two(tx, GUARANTEES2, LINES3),
+        Layout::Grown3From2 => {
+            make_two(tx, GUARANTEES2, LINES)?;
+            make(tx, LINES3)
+        }
+        Layout::Grown3From1 => {
+            make_two(tx, GUARANTEES, LINES)?;
+            make_two(tx, GUARANTEES2, LINES3)
+        }
     }
 }
 
@@ -103,4 +113,21 @@ pub fn make_guarantees2<S: Alter>(tx: &mut Transaction<'_, S>) -> Result<(), Err
     ensures within { StaysInside (is_ok result) (state S.Store tx.old.conn.now) (state S.Store tx.new.conn.now) }
 {
     make(tx, GUARANTEES2)
+}
+
+/// Makes the table of lines of version 3 in a file of version 2, of whichever layout, inside a transaction that the
+/// caller commits: the table has no row then, the others are as they were, and the tables are those of the layout that
+/// the file's own grows to. An error is the database's own, and commits nothing.
+pub fn make_lines3<S: Alter>(tx: &mut Transaction<'_, S>) -> Result<(), Error>
+    requires { IsInside (state S.Store tx.old.conn.now) }
+    ensures same_reference { tx.new.conn.ghost_name ≡ tx.old.conn.ghost_name }
+    ensures made { HasCleanDisk (state S.Store tx.new.conn.now)
+        → OnOk result ((l : Layout) → version_of l ≡ 2 → HasSchema (state S.Store tx.old.conn.now) (schema_of l)
+        → IsMade (schema_of l) lines3 (state S.Store tx.old.conn.now).now (state S.Store tx.new.conn.now).now) }
+    ensures grown { HasCleanDisk (state S.Store tx.new.conn.now)
+        → OnOk result ((l : Layout) → version_of l ≡ 2 → HasSchema (state S.Store tx.old.conn.now) (schema_of l)
+        → (state S.Store tx.new.conn.now).now.schema ≡ schema_of (grown l)) }
+    ensures within { StaysInside (is_ok result) (state S.Store tx.old.conn.now) (state S.Store tx.new.conn.now) }
+{
+    make(tx, LINES3)
 }

@@ -20,9 +20,13 @@ pub const MOVEMENTS: &str =
 pub const GUARANTEES: &str =
     "CREATE TABLE guarantees1 (holder INTEGER NOT NULL REFERENCES holders, serial INTEGER NOT NULL, grn TEXT NOT NULL UNIQUE, reference INTEGER NOT NULL CHECK (reference BETWEEN 1 AND 1000000000000000), cover INTEGER NOT NULL CHECK (cover IN (0, 30, 50, 100)), ends INTEGER, PRIMARY KEY (holder, serial)) STRICT";
 
-/// The lines of movements: the serial of the guarantee, and the liability in cents.
+/// The lines of movements below version 3, up to nine of each: the serial of the guarantee, and the liability in cents.
 pub const LINES: &str =
     "CREATE TABLE lines1 (holder INTEGER NOT NULL, serial INTEGER NOT NULL, no INTEGER NOT NULL CHECK (no BETWEEN 1 AND 9), guarantee INTEGER NOT NULL, cents INTEGER NOT NULL CHECK (cents BETWEEN 1 AND 1000000000000), PRIMARY KEY (holder, serial, no), UNIQUE (holder, serial, guarantee), FOREIGN KEY (holder, serial) REFERENCES movements) STRICT";
+
+/// The lines from version 3 on: the same, and up to 99 of a movement.
+pub const LINES3: &str =
+    "CREATE TABLE lines3 (holder INTEGER NOT NULL, serial INTEGER NOT NULL, no INTEGER NOT NULL CHECK (no BETWEEN 1 AND 99), guarantee INTEGER NOT NULL, cents INTEGER NOT NULL CHECK (cents BETWEEN 1 AND 1000000000000), PRIMARY KEY (holder, serial, no), UNIQUE (holder, serial, guarantee), FOREIGN KEY (holder, serial) REFERENCES movements) STRICT";
 
 /// The guarantees from version 2 on: the same, and the amount in use in cents.
 pub const GUARANTEES2: &str =
