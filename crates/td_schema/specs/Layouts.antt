@@ -1,5 +1,5 @@
 -- The layouts of a store's file: which tables stand in it, and where.
-use Rattle.std.specs.Prelude.{◌≡◌, ℕ}
+use Rattle.std.specs.Prelude.{◌≡◌, ◌≤◌, ◌<◌, ℕ}
 use Rattle.sqlite_catalog.specs.Change.{created}
 use Rattle.sqlite_schema.specs.declared.schema.Schema.{Schema}
 use Rattle.sqlite_schema.specs.declared.schema.Table.{Table}
@@ -29,6 +29,17 @@ version_of Grown2 = 2
 version_of Made3 = 3
 version_of Grown3From2 = 3
 version_of Grown3From1 = 3
+
+-- the version from which on a movement may have more than nine lines, and that a file of this layout is of it or of a
+-- later one, or of an earlier one
+abbrev pub version_with_more_lines : ℕ
+version_with_more_lines = 3
+
+abbrev pub HasMoreLines : Layout → Type 0
+HasMoreLines l = version_with_more_lines ≤ version_of l
+
+abbrev pub HasFewLines : Layout → Type 0
+HasFewLines l = version_of l < version_with_more_lines
 
 -- the layout of a file of this one after it was migrated to the version behind its own
 abbrev pub grown : Layout → Layout

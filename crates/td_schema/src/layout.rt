@@ -1,10 +1,10 @@
 //! The layouts of a store's file: which tables stand in it, in which order they were made.
 
 /// The newest version of the tables.
-pub const NEWEST_VERSION: u32 = 2;
+pub const NEWEST_VERSION: u32 = 3;
 
 /// The layout of a file that is made at the newest version.
-pub const NEWEST_LAYOUT: Layout = Layout::Made2;
+pub const NEWEST_LAYOUT: Layout = Layout::Made3;
 
 /// Which tables stand in a store's file, in the order in which they were made. The tables of an earlier version stay in a file
 /// that was migrated, without rows.

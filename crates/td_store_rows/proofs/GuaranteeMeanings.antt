@@ -15,7 +15,7 @@ use Rattle.sqlite_sql.specs.declared.ops.CompareOp.TheVariants.{Eq, Gt}
 use Rattle.td_schema.proofs.Acting.{none_acts}
 use Rattle.td_schema.specs.Layouts.{guarantees_place, guarantees_tree, schema_of, version_of}
 use Rattle.td_schema.specs.declared.layout.Layout.{Layout}
-use Rattle.td_schema.specs.declared.layout.Layout.TheVariants.{Made1, Made2, Grown2}
+use Rattle.td_schema.specs.declared.layout.Layout.TheVariants.{Made1, Made2, Grown2, Made3, Grown3From2, Grown3From1}
 use Rattle.typed_sql.specs.Meanings.{HasTable, MeansDelete, MeansInsert, MeansUpdate, MeansSelect}
 use Rattle.td_store_rows.specs.Columns.{guarantees_table}
 use Rattle.td_store_rows.specs.GuaranteeTexts.{of_holder_text}
@@ -27,6 +27,9 @@ guarantees_there : (l : Layout) → HasTable (schema_of l) (guarantees_place l) 
 guarantees_there Made1 = record { there = refl; free = none_acts Made1 (guarantees_tree Made1) }
 guarantees_there Made2 = record { there = refl; free = none_acts Made2 (guarantees_tree Made2) }
 guarantees_there Grown2 = record { there = refl; free = none_acts Grown2 (guarantees_tree Grown2) }
+guarantees_there Made3 = record { there = refl; free = none_acts Made3 (guarantees_tree Made3) }
+guarantees_there Grown3From2 = record { there = refl; free = none_acts Grown3From2 (guarantees_tree Grown3From2) }
+guarantees_there Grown3From1 = record { there = refl; free = none_acts Grown3From1 (guarantees_tree Grown3From1) }
 
 -- a column is the value that was given at a place
 abbrev pub equals : ℕ → ℕ → Term
@@ -85,66 +88,99 @@ unfolding understood everything
 insert_means Made1 keeps = absurd (omega (arith, keeps))
 insert_means Made2 keeps = record { place = guarantees_place Made2; width = 8; table = guarantees_there Made2; command = refl; plain = (refl, refl); one = λ values. refl }
 insert_means Grown2 keeps = record { place = guarantees_place Grown2; width = 8; table = guarantees_there Grown2; command = refl; plain = (refl, refl); one = λ values. refl }
+insert_means Made3 keeps = record { place = guarantees_place Made3; width = 8; table = guarantees_there Made3; command = refl; plain = (refl, refl); one = λ values. refl }
+insert_means Grown3From2 keeps = record { place = guarantees_place Grown3From2; width = 8; table = guarantees_there Grown3From2; command = refl; plain = (refl, refl); one = λ values. refl }
+insert_means Grown3From1 keeps = record { place = guarantees_place Grown3From1; width = 8; table = guarantees_there Grown3From1; command = refl; plain = (refl, refl); one = λ values. refl }
 
 pub set_means : (l : Layout) → KeepsUse l → MeansUpdate (schema_of l) SET_TERMS.now (guarantees_table l) grn_tests set_columns
 unfolding understood everything
 set_means Made1 keeps = absurd (omega (arith, keeps))
 set_means Made2 keeps = record { place = guarantees_place Made2; table = guarantees_there Made2; command = refl; plain = (refl, refl) }
 set_means Grown2 keeps = record { place = guarantees_place Grown2; table = guarantees_there Grown2; command = refl; plain = (refl, refl) }
+set_means Made3 keeps = record { place = guarantees_place Made3; table = guarantees_there Made3; command = refl; plain = (refl, refl) }
+set_means Grown3From2 keeps = record { place = guarantees_place Grown3From2; table = guarantees_there Grown3From2; command = refl; plain = (refl, refl) }
+set_means Grown3From1 keeps = record { place = guarantees_place Grown3From1; table = guarantees_there Grown3From1; command = refl; plain = (refl, refl) }
 
 pub add_means : (l : Layout) → KeepsUse l → MeansUpdate (schema_of l) ADD_USED.now (guarantees_table l) serial_tests (amount_columns Add)
 unfolding understood everything
 add_means Made1 keeps = absurd (omega (arith, keeps))
 add_means Made2 keeps = record { place = guarantees_place Made2; table = guarantees_there Made2; command = refl; plain = (refl, refl) }
 add_means Grown2 keeps = record { place = guarantees_place Grown2; table = guarantees_there Grown2; command = refl; plain = (refl, refl) }
+add_means Made3 keeps = record { place = guarantees_place Made3; table = guarantees_there Made3; command = refl; plain = (refl, refl) }
+add_means Grown3From2 keeps = record { place = guarantees_place Grown3From2; table = guarantees_there Grown3From2; command = refl; plain = (refl, refl) }
+add_means Grown3From1 keeps = record { place = guarantees_place Grown3From1; table = guarantees_there Grown3From1; command = refl; plain = (refl, refl) }
 
 pub take_means : (l : Layout) → KeepsUse l → MeansUpdate (schema_of l) TAKE_USED.now (guarantees_table l) serial_tests (amount_columns Sub)
 unfolding understood everything
 take_means Made1 keeps = absurd (omega (arith, keeps))
 take_means Made2 keeps = record { place = guarantees_place Made2; table = guarantees_there Made2; command = refl; plain = (refl, refl) }
 take_means Grown2 keeps = record { place = guarantees_place Grown2; table = guarantees_there Grown2; command = refl; plain = (refl, refl) }
+take_means Made3 keeps = record { place = guarantees_place Made3; table = guarantees_there Made3; command = refl; plain = (refl, refl) }
+take_means Grown3From2 keeps = record { place = guarantees_place Grown3From2; table = guarantees_there Grown3From2; command = refl; plain = (refl, refl) }
+take_means Grown3From1 keeps = record { place = guarantees_place Grown3From1; table = guarantees_there Grown3From1; command = refl; plain = (refl, refl) }
 
 pub by_grn_means : (l : Layout) → KeepsUse l → MeansSelect (schema_of l) BY_GRN.now (guarantees_tree l) grn_tests all_columns []
 unfolding understood everything
 by_grn_means Made1 keeps = absurd (omega (arith, keeps))
 by_grn_means Made2 keeps = record { names = seven; command = refl; plain = (refl, refl); unlisted = refl }
 by_grn_means Grown2 keeps = record { names = seven; command = refl; plain = (refl, refl); unlisted = refl }
+by_grn_means Made3 keeps = record { names = seven; command = refl; plain = (refl, refl); unlisted = refl }
+by_grn_means Grown3From2 keeps = record { names = seven; command = refl; plain = (refl, refl); unlisted = refl }
+by_grn_means Grown3From1 keeps = record { names = seven; command = refl; plain = (refl, refl); unlisted = refl }
 
 pub by_serial_means : (l : Layout) → KeepsUse l → MeansSelect (schema_of l) BY_SERIAL.now (guarantees_tree l) serial_tests six_columns []
 unfolding understood everything
 by_serial_means Made1 keeps = absurd (omega (arith, keeps))
 by_serial_means Made2 keeps = record { names = six; command = refl; plain = (refl, refl); unlisted = refl }
 by_serial_means Grown2 keeps = record { names = six; command = refl; plain = (refl, refl); unlisted = refl }
+by_serial_means Made3 keeps = record { names = six; command = refl; plain = (refl, refl); unlisted = refl }
+by_serial_means Grown3From2 keeps = record { names = six; command = refl; plain = (refl, refl); unlisted = refl }
+by_serial_means Grown3From1 keeps = record { names = six; command = refl; plain = (refl, refl); unlisted = refl }
 
 pub kept_of_holder_means : (l : Layout) → KeepsUse l → MeansSelect (schema_of l) KEPT_OF_HOLDER.now (guarantees_tree l) holder_tests all_columns by_serial
 unfolding understood everything
 kept_of_holder_means Made1 keeps = absurd (omega (arith, keeps))
 kept_of_holder_means Made2 keeps = record { names = seven; command = refl; plain = (refl, refl); unlisted = refl }
 kept_of_holder_means Grown2 keeps = record { names = seven; command = refl; plain = (refl, refl); unlisted = refl }
+kept_of_holder_means Made3 keeps = record { names = seven; command = refl; plain = (refl, refl); unlisted = refl }
+kept_of_holder_means Grown3From2 keeps = record { names = seven; command = refl; plain = (refl, refl); unlisted = refl }
+kept_of_holder_means Grown3From1 keeps = record { names = seven; command = refl; plain = (refl, refl); unlisted = refl }
 
 pub next_kept_of_holder_means : (l : Layout) → KeepsUse l → MeansSelect (schema_of l) NEXT_KEPT_OF_HOLDER.now (guarantees_tree l) after_tests all_columns by_serial
 unfolding understood everything
 next_kept_of_holder_means Made1 keeps = absurd (omega (arith, keeps))
 next_kept_of_holder_means Made2 keeps = record { names = seven; command = refl; plain = (refl, refl); unlisted = refl }
 next_kept_of_holder_means Grown2 keeps = record { names = seven; command = refl; plain = (refl, refl); unlisted = refl }
+next_kept_of_holder_means Made3 keeps = record { names = seven; command = refl; plain = (refl, refl); unlisted = refl }
+next_kept_of_holder_means Grown3From2 keeps = record { names = seven; command = refl; plain = (refl, refl); unlisted = refl }
+next_kept_of_holder_means Grown3From1 keeps = record { names = seven; command = refl; plain = (refl, refl); unlisted = refl }
 
 pub kept_of_holders_above_means : (l : Layout) → KeepsUse l → MeansSelect (schema_of l) KEPT_OF_HOLDERS_ABOVE.now (guarantees_tree l) above_tests all_columns by_serial
 unfolding understood everything
 kept_of_holders_above_means Made1 keeps = absurd (omega (arith, keeps))
 kept_of_holders_above_means Made2 keeps = record { names = seven; command = refl; plain = (refl, refl); unlisted = refl }
 kept_of_holders_above_means Grown2 keeps = record { names = seven; command = refl; plain = (refl, refl); unlisted = refl }
+kept_of_holders_above_means Made3 keeps = record { names = seven; command = refl; plain = (refl, refl); unlisted = refl }
+kept_of_holders_above_means Grown3From2 keeps = record { names = seven; command = refl; plain = (refl, refl); unlisted = refl }
+kept_of_holders_above_means Grown3From1 keeps = record { names = seven; command = refl; plain = (refl, refl); unlisted = refl }
 
 pub kept_all_means : (l : Layout) → KeepsUse l → MeansSelect (schema_of l) KEPT_ALL.now (guarantees_tree l) [] all_columns by_serial
 unfolding understood everything
 kept_all_means Made1 keeps = absurd (omega (arith, keeps))
 kept_all_means Made2 keeps = record { names = seven; command = refl; plain = (refl, refl); unlisted = refl }
 kept_all_means Grown2 keeps = record { names = seven; command = refl; plain = (refl, refl); unlisted = refl }
+kept_all_means Made3 keeps = record { names = seven; command = refl; plain = (refl, refl); unlisted = refl }
+kept_all_means Grown3From2 keeps = record { names = seven; command = refl; plain = (refl, refl); unlisted = refl }
+kept_all_means Grown3From1 keeps = record { names = seven; command = refl; plain = (refl, refl); unlisted = refl }
 
 of_holder_at : (l : Layout) → MeansSelect (schema_of l) (of_holder_text (version_of l)) (guarantees_tree l) holder_tests six_columns by_serial
 unfolding understood everything
 of_holder_at Made1 = record { names = six; command = refl; plain = (refl, refl); unlisted = refl }
 of_holder_at Made2 = record { names = six; command = refl; plain = (refl, refl); unlisted = refl }
 of_holder_at Grown2 = record { names = six; command = refl; plain = (refl, refl); unlisted = refl }
+of_holder_at Made3 = record { names = six; command = refl; plain = (refl, refl); unlisted = refl }
+of_holder_at Grown3From2 = record { names = six; command = refl; plain = (refl, refl); unlisted = refl }
+of_holder_at Grown3From1 = record { names = six; command = refl; plain = (refl, refl); unlisted = refl }
 
 pub of_holder_means : (version : ℕ) (l : Layout) → IsOfVersion version l
     → MeansSelect (schema_of l) (of_holder_text version) (guarantees_tree l) holder_tests six_columns by_serial

@@ -11,7 +11,7 @@ use Rattle.sqlite_sql.specs.declared.ops.CompareOp.TheVariants.{Eq}
 use Rattle.td_schema.proofs.Acting.{none_acts}
 use Rattle.td_schema.specs.Layouts.{schema_of}
 use Rattle.td_schema.specs.declared.layout.Layout.{Layout}
-use Rattle.td_schema.specs.declared.layout.Layout.TheVariants.{Made1, Made2, Grown2}
+use Rattle.td_schema.specs.declared.layout.Layout.TheVariants.{Made1, Made2, Grown2, Made3, Grown3From2, Grown3From1}
 use Rattle.typed_sql.specs.Meanings.{HasTable, MeansInsert, MeansUpdate, MeansSelect}
 use Rattle.td_store_rows.specs.Columns.{holders_table}
 use Rattle.td_store_rows.specs.declared.holders.texts.TheConstants.{INSERT, SET, BY_NUMBER}
@@ -20,6 +20,9 @@ holders_there : (l : Layout) → HasTable (schema_of l) 1 holders_table
 holders_there Made1 = record { there = refl; free = none_acts Made1 1 }
 holders_there Made2 = record { there = refl; free = none_acts Made2 1 }
 holders_there Grown2 = record { there = refl; free = none_acts Grown2 1 }
+holders_there Made3 = record { there = refl; free = none_acts Made3 1 }
+holders_there Grown3From2 = record { there = refl; free = none_acts Grown3From2 1 }
+holders_there Grown3From1 = record { there = refl; free = none_acts Grown3From1 1 }
 
 -- the number is the value that was given first
 abbrev pub number_tests : List Term
@@ -43,15 +46,24 @@ unfolding understood everything
 insert_means Made1 = record { place = 1; width = 6; table = holders_there Made1; command = refl; plain = (refl, refl); one = λ values. refl }
 insert_means Made2 = record { place = 1; width = 6; table = holders_there Made2; command = refl; plain = (refl, refl); one = λ values. refl }
 insert_means Grown2 = record { place = 1; width = 6; table = holders_there Grown2; command = refl; plain = (refl, refl); one = λ values. refl }
+insert_means Made3 = record { place = 1; width = 6; table = holders_there Made3; command = refl; plain = (refl, refl); one = λ values. refl }
+insert_means Grown3From2 = record { place = 1; width = 6; table = holders_there Grown3From2; command = refl; plain = (refl, refl); one = λ values. refl }
+insert_means Grown3From1 = record { place = 1; width = 6; table = holders_there Grown3From1; command = refl; plain = (refl, refl); one = λ values. refl }
 
 pub set_means : (l : Layout) → MeansUpdate (schema_of l) SET.now holders_table number_tests set_columns
 unfolding understood everything
 set_means Made1 = record { place = 1; table = holders_there Made1; command = refl; plain = (refl, refl) }
 set_means Made2 = record { place = 1; table = holders_there Made2; command = refl; plain = (refl, refl) }
 set_means Grown2 = record { place = 1; table = holders_there Grown2; command = refl; plain = (refl, refl) }
+set_means Made3 = record { place = 1; table = holders_there Made3; command = refl; plain = (refl, refl) }
+set_means Grown3From2 = record { place = 1; table = holders_there Grown3From2; command = refl; plain = (refl, refl) }
+set_means Grown3From1 = record { place = 1; table = holders_there Grown3From1; command = refl; plain = (refl, refl) }
 
 pub by_number_means : (l : Layout) → MeansSelect (schema_of l) BY_NUMBER.now 1 number_tests all_columns []
 unfolding understood everything
 by_number_means Made1 = record { names = names; command = refl; plain = (refl, refl); unlisted = refl }
 by_number_means Made2 = record { names = names; command = refl; plain = (refl, refl); unlisted = refl }
 by_number_means Grown2 = record { names = names; command = refl; plain = (refl, refl); unlisted = refl }
+by_number_means Made3 = record { names = names; command = refl; plain = (refl, refl); unlisted = refl }
+by_number_means Grown3From2 = record { names = names; command = refl; plain = (refl, refl); unlisted = refl }
+by_number_means Grown3From1 = record { names = names; command = refl; plain = (refl, refl); unlisted = refl }

@@ -12,7 +12,7 @@ use Rattle.sqlite_sql.specs.Term.{Term, lit, col}
 use Rattle.td_schema.proofs.Acting.{none_acts}
 use Rattle.td_schema.specs.Layouts.{schema_of}
 use Rattle.td_schema.specs.declared.layout.Layout.{Layout}
-use Rattle.td_schema.specs.declared.layout.Layout.TheVariants.{Made1, Made2, Grown2}
+use Rattle.td_schema.specs.declared.layout.Layout.TheVariants.{Made1, Made2, Grown2, Made3, Grown3From2, Grown3From1}
 use Rattle.typed_sql.specs.Meanings.{HasTable, MeansInsert, MeansSelect, MeansUpdate}
 use Rattle.td_store_rows.specs.Columns.{MetaIsFirst, meta_table}
 use Rattle.td_store_rows.specs.declared.meta.texts.TheConstants.{INSERT, SET_VERSION, FIND}
@@ -21,6 +21,9 @@ meta_there : (l : Layout) → HasTable (schema_of l) 0 meta_table
 meta_there Made1 = record { there = refl; free = none_acts Made1 0 }
 meta_there Made2 = record { there = refl; free = none_acts Made2 0 }
 meta_there Grown2 = record { there = refl; free = none_acts Grown2 0 }
+meta_there Made3 = record { there = refl; free = none_acts Made3 0 }
+meta_there Grown3From2 = record { there = refl; free = none_acts Grown3From2 0 }
+meta_there Grown3From1 = record { there = refl; free = none_acts Grown3From1 0 }
 
 -- the columns of a new row, under the rowid 1, of one whose version is set, and of one that is shown
 abbrev pub new_row : List Term
@@ -37,12 +40,18 @@ unfolding understood everything
 insert_means Made1 = record { place = 0; width = 4; table = meta_there Made1; command = refl; plain = (refl, refl); one = λ values. refl }
 insert_means Made2 = record { place = 0; width = 4; table = meta_there Made2; command = refl; plain = (refl, refl); one = λ values. refl }
 insert_means Grown2 = record { place = 0; width = 4; table = meta_there Grown2; command = refl; plain = (refl, refl); one = λ values. refl }
+insert_means Made3 = record { place = 0; width = 4; table = meta_there Made3; command = refl; plain = (refl, refl); one = λ values. refl }
+insert_means Grown3From2 = record { place = 0; width = 4; table = meta_there Grown3From2; command = refl; plain = (refl, refl); one = λ values. refl }
+insert_means Grown3From1 = record { place = 0; width = 4; table = meta_there Grown3From1; command = refl; plain = (refl, refl); one = λ values. refl }
 
 pub set_means : (l : Layout) → MeansUpdate (schema_of l) SET_VERSION.now meta_table [] new_version
 unfolding understood everything
 set_means Made1 = record { place = 0; table = meta_there Made1; command = refl; plain = (refl, refl) }
 set_means Made2 = record { place = 0; table = meta_there Made2; command = refl; plain = (refl, refl) }
 set_means Grown2 = record { place = 0; table = meta_there Grown2; command = refl; plain = (refl, refl) }
+set_means Made3 = record { place = 0; table = meta_there Made3; command = refl; plain = (refl, refl) }
+set_means Grown3From2 = record { place = 0; table = meta_there Grown3From2; command = refl; plain = (refl, refl) }
+set_means Grown3From1 = record { place = 0; table = meta_there Grown3From1; command = refl; plain = (refl, refl) }
 
 find_first : (others : List Table) (indexes : List Index) (views : List View)
     → MeansSelect (record { tables = meta_table ∷ others; indexes = indexes; views = views }) FIND.now 0 [] all_columns []
@@ -60,3 +69,6 @@ pub meta_first : (l : Layout) → MetaIsFirst (schema_of l)
 meta_first Made1 = (_, refl)
 meta_first Made2 = (_, refl)
 meta_first Grown2 = (_, refl)
+meta_first Made3 = (_, refl)
+meta_first Grown3From2 = (_, refl)
+meta_first Grown3From1 = (_, refl)

@@ -13,7 +13,7 @@ use Rattle.sqlite_sql.specs.declared.ops.CompareOp.TheVariants.{Eq, Gt}
 use Rattle.td_schema.proofs.Acting.{none_acts}
 use Rattle.td_schema.specs.Layouts.{schema_of}
 use Rattle.td_schema.specs.declared.layout.Layout.{Layout}
-use Rattle.td_schema.specs.declared.layout.Layout.TheVariants.{Made1, Made2, Grown2}
+use Rattle.td_schema.specs.declared.layout.Layout.TheVariants.{Made1, Made2, Grown2, Made3, Grown3From2, Grown3From1}
 use Rattle.typed_sql.specs.Meanings.{HasTable, MeansInsert, MeansUpdate, MeansSelect}
 use Rattle.td_store_rows.specs.Columns.{movements_table}
 use Rattle.td_store_rows.specs.declared.movements.texts.TheConstants.{INSERT, SET_STATUS, BY_MRN, BY_LRN, OF_HOLDER, NEXT_OF_HOLDER, OF_HOLDERS_ABOVE, ALL, COUNTING_SERIALS}
@@ -22,6 +22,9 @@ movements_there : (l : Layout) → HasTable (schema_of l) 3 movements_table
 movements_there Made1 = record { there = refl; free = none_acts Made1 4 }
 movements_there Made2 = record { there = refl; free = none_acts Made2 4 }
 movements_there Grown2 = record { there = refl; free = none_acts Grown2 4 }
+movements_there Made3 = record { there = refl; free = none_acts Made3 4 }
+movements_there Grown3From2 = record { there = refl; free = none_acts Grown3From2 4 }
+movements_there Grown3From1 = record { there = refl; free = none_acts Grown3From1 4 }
 
 -- a column is the value that was given at a place
 abbrev pub equals : ℕ → ℕ → Term
@@ -87,48 +90,72 @@ unfolding understood everything
 insert_means Made1 = record { place = 3; width = 12; table = movements_there Made1; command = refl; plain = (refl, refl); one = λ values. refl }
 insert_means Made2 = record { place = 3; width = 12; table = movements_there Made2; command = refl; plain = (refl, refl); one = λ values. refl }
 insert_means Grown2 = record { place = 3; width = 12; table = movements_there Grown2; command = refl; plain = (refl, refl); one = λ values. refl }
+insert_means Made3 = record { place = 3; width = 12; table = movements_there Made3; command = refl; plain = (refl, refl); one = λ values. refl }
+insert_means Grown3From2 = record { place = 3; width = 12; table = movements_there Grown3From2; command = refl; plain = (refl, refl); one = λ values. refl }
+insert_means Grown3From1 = record { place = 3; width = 12; table = movements_there Grown3From1; command = refl; plain = (refl, refl); one = λ values. refl }
 
 pub set_means : (l : Layout) → MeansUpdate (schema_of l) SET_STATUS.now movements_table key_tests set_columns
 unfolding understood everything
 set_means Made1 = record { place = 3; table = movements_there Made1; command = refl; plain = (refl, refl) }
 set_means Made2 = record { place = 3; table = movements_there Made2; command = refl; plain = (refl, refl) }
 set_means Grown2 = record { place = 3; table = movements_there Grown2; command = refl; plain = (refl, refl) }
+set_means Made3 = record { place = 3; table = movements_there Made3; command = refl; plain = (refl, refl) }
+set_means Grown3From2 = record { place = 3; table = movements_there Grown3From2; command = refl; plain = (refl, refl) }
+set_means Grown3From1 = record { place = 3; table = movements_there Grown3From1; command = refl; plain = (refl, refl) }
 
 pub by_mrn_means : (l : Layout) → MeansSelect (schema_of l) BY_MRN.now 4 key_tests all_columns []
 unfolding understood everything
 by_mrn_means Made1 = record { names = names; command = refl; plain = (refl, refl); unlisted = refl }
 by_mrn_means Made2 = record { names = names; command = refl; plain = (refl, refl); unlisted = refl }
 by_mrn_means Grown2 = record { names = names; command = refl; plain = (refl, refl); unlisted = refl }
+by_mrn_means Made3 = record { names = names; command = refl; plain = (refl, refl); unlisted = refl }
+by_mrn_means Grown3From2 = record { names = names; command = refl; plain = (refl, refl); unlisted = refl }
+by_mrn_means Grown3From1 = record { names = names; command = refl; plain = (refl, refl); unlisted = refl }
 
 pub by_lrn_means : (l : Layout) → MeansSelect (schema_of l) BY_LRN.now 4 lrn_tests all_columns []
 unfolding understood everything
 by_lrn_means Made1 = record { names = names; command = refl; plain = (refl, refl); unlisted = refl }
 by_lrn_means Made2 = record { names = names; command = refl; plain = (refl, refl); unlisted = refl }
 by_lrn_means Grown2 = record { names = names; command = refl; plain = (refl, refl); unlisted = refl }
+by_lrn_means Made3 = record { names = names; command = refl; plain = (refl, refl); unlisted = refl }
+by_lrn_means Grown3From2 = record { names = names; command = refl; plain = (refl, refl); unlisted = refl }
+by_lrn_means Grown3From1 = record { names = names; command = refl; plain = (refl, refl); unlisted = refl }
 
 pub of_holder_means : (l : Layout) → MeansSelect (schema_of l) OF_HOLDER.now 4 holder_tests all_columns by_serial
 unfolding understood everything
 of_holder_means Made1 = record { names = names; command = refl; plain = (refl, refl); unlisted = refl }
 of_holder_means Made2 = record { names = names; command = refl; plain = (refl, refl); unlisted = refl }
 of_holder_means Grown2 = record { names = names; command = refl; plain = (refl, refl); unlisted = refl }
+of_holder_means Made3 = record { names = names; command = refl; plain = (refl, refl); unlisted = refl }
+of_holder_means Grown3From2 = record { names = names; command = refl; plain = (refl, refl); unlisted = refl }
+of_holder_means Grown3From1 = record { names = names; command = refl; plain = (refl, refl); unlisted = refl }
 
 pub next_of_holder_means : (l : Layout) → MeansSelect (schema_of l) NEXT_OF_HOLDER.now 4 after_tests all_columns by_serial
 unfolding understood everything
 next_of_holder_means Made1 = record { names = names; command = refl; plain = (refl, refl); unlisted = refl }
 next_of_holder_means Made2 = record { names = names; command = refl; plain = (refl, refl); unlisted = refl }
 next_of_holder_means Grown2 = record { names = names; command = refl; plain = (refl, refl); unlisted = refl }
+next_of_holder_means Made3 = record { names = names; command = refl; plain = (refl, refl); unlisted = refl }
+next_of_holder_means Grown3From2 = record { names = names; command = refl; plain = (refl, refl); unlisted = refl }
+next_of_holder_means Grown3From1 = record { names = names; command = refl; plain = (refl, refl); unlisted = refl }
 
 pub of_holders_above_means : (l : Layout) → MeansSelect (schema_of l) OF_HOLDERS_ABOVE.now 4 above_tests all_columns by_serial
 unfolding understood everything
 of_holders_above_means Made1 = record { names = names; command = refl; plain = (refl, refl); unlisted = refl }
 of_holders_above_means Made2 = record { names = names; command = refl; plain = (refl, refl); unlisted = refl }
 of_holders_above_means Grown2 = record { names = names; command = refl; plain = (refl, refl); unlisted = refl }
+of_holders_above_means Made3 = record { names = names; command = refl; plain = (refl, refl); unlisted = refl }
+of_holders_above_means Grown3From2 = record { names = names; command = refl; plain = (refl, refl); unlisted = refl }
+of_holders_above_means Grown3From1 = record { names = names; command = refl; plain = (refl, refl); unlisted = refl }
 
 pub all_means : (l : Layout) → MeansSelect (schema_of l) ALL.now 4 [] all_columns by_serial
 unfolding understood everything
 all_means Made1 = record { names = names; command = refl; plain = (refl, refl); unlisted = refl }
 all_means Made2 = record { names = names; command = refl; plain = (refl, refl); unlisted = refl }
 all_means Grown2 = record { names = names; command = refl; plain = (refl, refl); unlisted = refl }
+all_means Made3 = record { names = names; command = refl; plain = (refl, refl); unlisted = refl }
+all_means Grown3From2 = record { names = names; command = refl; plain = (refl, refl); unlisted = refl }
+all_means Grown3From1 = record { names = names; command = refl; plain = (refl, refl); unlisted = refl }
 
 -- the serial alone
 abbrev pub serial_column : List Term
@@ -139,3 +166,6 @@ unfolding understood everything
 counting_means Made1 = record { names = codes "serial" ∷ []; command = refl; plain = (refl, refl); unlisted = refl }
 counting_means Made2 = record { names = codes "serial" ∷ []; command = refl; plain = (refl, refl); unlisted = refl }
 counting_means Grown2 = record { names = codes "serial" ∷ []; command = refl; plain = (refl, refl); unlisted = refl }
+counting_means Made3 = record { names = codes "serial" ∷ []; command = refl; plain = (refl, refl); unlisted = refl }
+counting_means Grown3From2 = record { names = codes "serial" ∷ []; command = refl; plain = (refl, refl); unlisted = refl }
+counting_means Grown3From1 = record { names = codes "serial" ∷ []; command = refl; plain = (refl, refl); unlisted = refl }

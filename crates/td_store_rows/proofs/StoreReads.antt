@@ -5,7 +5,7 @@ use Rattle.sqlite.specs.Given.{IsPlain}
 use Rattle.sqlite.specs.Listing.{understood}
 use Rattle.sqlite.specs.State.{State, HasCleanDisk}
 use Rattle.td_schema.specs.declared.layout.Layout.{Layout}
-use Rattle.td_schema.specs.Layouts.{IsNewest, schema_of}
+use Rattle.td_schema.specs.Layouts.{HasMoreLines, IsNewest, schema_of}
 use Rattle.typed_sql.proofs.Leaving.{reads_by}
 use Rattle.typed_sql.proofs.OnlyRead.{none_read, read_more, stays_on, stays_well}
 use Rattle.typed_sql.specs.Reading.{OnlyReads, StaysInside}
@@ -34,9 +34,13 @@ reads_less fewer reads = record { still = λ clean well l is. reads.still clean 
 pub anywhere : {w : Bool} {a b : State} → ReadsStore w a b → ReadsNewest w a b
 anywhere reads = reads_less (λ l newest. tt) reads
 
--- a layout of version 2 keeps the amounts in use, as one of the newest version does
+-- a layout of the newest version keeps the amounts in use
 pub newest_keeps : (l : Layout) → IsNewest l → KeepsUse l
 newest_keeps l newest = omega (arith, newest)
+
+-- and takes more lines
+pub newest_more_lines : (l : Layout) → IsNewest l → HasMoreLines l
+newest_more_lines l newest = omega (arith, newest)
 
 -- calls after calls that were well
 pub reads_on : {P : Layout → Type 0} {w : Bool} {a b d : State} → ReadsIn P true a b → ReadsIn P w b d → ReadsIn P w a d

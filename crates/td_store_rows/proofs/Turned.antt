@@ -11,9 +11,9 @@ use Rattle.td_model.specs.declared.holder_row.HolderRow.{HolderRow}
 use Rattle.td_guarantee.specs.declared.guarantee.Guarantee.{Guarantee}
 use Rattle.td_movement.specs.declared.movement.Movement.{Movement}
 use Rattle.td_table_model.specs.Tables.{Keyed, Kept, LineCells, Tables, version_with_amounts, without_amount}
-use Rattle.td_schema.specs.Layouts.{guarantees_tree, schema_of}
+use Rattle.td_schema.specs.Layouts.{guarantees_tree, lines_tree, schema_of}
 use Rattle.td_schema.specs.declared.layout.Layout.{Layout}
-use Rattle.td_schema.specs.declared.layout.Layout.TheVariants.{Made1, Made2, Grown2}
+use Rattle.td_schema.specs.declared.layout.Layout.TheVariants.{Made1, Made2, Grown2, Made3, Grown3From2, Grown3From1}
 use Rattle.typed_sql.specs.Writing.{AreOthersKept, HaveIds, HasSchema}
 use Rattle.typed_sql.specs.Typed.{Typing, AreTyped, HasNow, IsTypedRow, Turns, row_of, typed_rows}
 use Rattle.td_store_rows.specs.Columns.{meta_typing, holder_typing, guarantee_typing, kept_typing, code_typing, movement_typing, line_typing}
@@ -40,18 +40,25 @@ office_still old new is = ap (map (row_of meta_typing)) is
 pub listed_there : (l : Layout) (db : Database) → db.schema ≡ schema_of l → IsDatabase db → AreStoreTrees l db.trees
 listed_there l db has sound = subst (λ s. IsDatabase (record { schema = s; trees = db.trees })) has sound
 
--- the tree of guarantees is none of the other tables'
+-- the trees of guarantees and of lines are none of the other tables', and two
 record StandsApart (l : Layout) : Type 0 where
   meta : guarantees_tree l ≢ 0
   holders : guarantees_tree l ≢ 1
   codes : guarantees_tree l ≢ 2
   movements : guarantees_tree l ≢ 4
-  lines : guarantees_tree l ≢ 11
+  lines : guarantees_tree l ≢ lines_tree l
+  lines_meta : lines_tree l ≢ 0
+  lines_holders : lines_tree l ≢ 1
+  lines_codes : lines_tree l ≢ 2
+  lines_movements : lines_tree l ≢ 4
 
 apart : (l : Layout) → StandsApart l
-apart Made1 = record { meta = λ e. cc; holders = λ e. cc; codes = λ e. cc; movements = λ e. cc; lines = λ e. cc }
-apart Made2 = record { meta = λ e. cc; holders = λ e. cc; codes = λ e. cc; movements = λ e. cc; lines = λ e. cc }
-apart Grown2 = record { meta = λ e. cc; holders = λ e. cc; codes = λ e. cc; movements = λ e. cc; lines = λ e. cc }
+apart Made1 = record { meta = λ e. cc; holders = λ e. cc; codes = λ e. cc; movements = λ e. cc; lines = λ e. cc; lines_meta = λ e. cc; lines_holders = λ e. cc; lines_codes = λ e. cc; lines_movements = λ e. cc }
+apart Made2 = record { meta = λ e. cc; holders = λ e. cc; codes = λ e. cc; movements = λ e. cc; lines = λ e. cc; lines_meta = λ e. cc; lines_holders = λ e. cc; lines_codes = λ e. cc; lines_movements = λ e. cc }
+apart Grown2 = record { meta = λ e. cc; holders = λ e. cc; codes = λ e. cc; movements = λ e. cc; lines = λ e. cc; lines_meta = λ e. cc; lines_holders = λ e. cc; lines_codes = λ e. cc; lines_movements = λ e. cc }
+apart Made3 = record { meta = λ e. cc; holders = λ e. cc; codes = λ e. cc; movements = λ e. cc; lines = λ e. cc; lines_meta = λ e. cc; lines_holders = λ e. cc; lines_codes = λ e. cc; lines_movements = λ e. cc }
+apart Grown3From2 = record { meta = λ e. cc; holders = λ e. cc; codes = λ e. cc; movements = λ e. cc; lines = λ e. cc; lines_meta = λ e. cc; lines_holders = λ e. cc; lines_codes = λ e. cc; lines_movements = λ e. cc }
+apart Grown3From1 = record { meta = λ e. cc; holders = λ e. cc; codes = λ e. cc; movements = λ e. cc; lines = λ e. cc; lines_meta = λ e. cc; lines_holders = λ e. cc; lines_codes = λ e. cc; lines_movements = λ e. cc }
 
 -- which trees are not this one, and so are as they were
 record AreKept (l : Layout) (tree : ℕ) (old new : Trees) : Type 0 where
@@ -60,7 +67,7 @@ record AreKept (l : Layout) (tree : ℕ) (old new : Trees) : Type 0 where
   codes : 2 ≢ tree → new 2 ≡ old 2
   movements : 4 ≢ tree → new 4 ≡ old 4
   guarantees : guarantees_tree l ≢ tree → new (guarantees_tree l) ≡ old (guarantees_tree l)
-  lines : 11 ≢ tree → new 11 ≡ old 11
+  lines : lines_tree l ≢ tree → new (lines_tree l) ≡ old (lines_tree l)
 
 kept : (l : Layout) (tree : ℕ) (old new : Trees) → AreOthersKept (schema_of l) tree old new → AreKept l tree old new
 kept Made1 tree old new others = record {
@@ -86,6 +93,30 @@ kept Grown2 tree old new others = record {
   movements = others.1.1.1.0;
   guarantees = others.1.1.1.1.1.1.0;
   lines = others.1.1.1.1.1.0;
+}
+kept Made3 tree old new others = record {
+  meta = others.0;
+  holders = others.1.0;
+  codes = others.1.1.0;
+  movements = others.1.1.1.0;
+  guarantees = others.1.1.1.1.0;
+  lines = others.1.1.1.1.1.0;
+}
+kept Grown3From2 tree old new others = record {
+  meta = others.0;
+  holders = others.1.0;
+  codes = others.1.1.0;
+  movements = others.1.1.1.0;
+  guarantees = others.1.1.1.1.0;
+  lines = others.1.1.1.1.1.1.0;
+}
+kept Grown3From1 tree old new others = record {
+  meta = others.0;
+  holders = others.1.0;
+  codes = others.1.1.0;
+  movements = others.1.1.1.0;
+  guarantees = others.1.1.1.1.1.1.0;
+  lines = others.1.1.1.1.1.1.1.0;
 }
 
 -- a table has these rows now, in any order, and they are typed
@@ -121,7 +152,7 @@ assembled : (l : Layout) (f : Tables → Tables) (old new : State)
     → (KeepsUse l → Now (kept_typing l) (f (tables_in l old.now.trees)).kept new.now.trees)
     → Now code_typing (f (tables_in l old.now.trees)).codes new.now.trees
     → Now movement_typing (f (tables_in l old.now.trees)).movements new.now.trees
-    → Now line_typing (f (tables_in l old.now.trees)).lines new.now.trees
+    → Now (line_typing l) (f (tables_in l old.now.trees)).lines new.now.trees
     → new.now.schema ≡ schema_of l → IsDatabase new.now → HasTables l f old new
 assembled l f old new version country office meta holders guarantees kept codes movements lines schema sound = record {
   same = record {
@@ -167,7 +198,7 @@ module _ (l : Layout) (old new : State) (has : HasSchema old (schema_of l)) (typ
       (λ keeps. still (kept_typing l) a b (typed.kept keeps) (rest.guarantees (apart l).holders))
       (still code_typing a b typed.codes (rest.codes (λ e. cc)))
       (still movement_typing a b typed.movements (rest.movements (λ e. cc)))
-      (still line_typing a b typed.lines (rest.lines (λ e. cc)))
+      (still (line_typing l) a b typed.lines (rest.lines (apart l).lines_holders))
       now.schema now.sound
 
   -- the guarantees: with the amounts in use, and so without them
@@ -189,7 +220,7 @@ module _ (l : Layout) (old new : State) (has : HasSchema old (schema_of l)) (typ
       (λ keeps. record { same = now.same; typed = now.typed })
       (still code_typing a b typed.codes (rest.codes (λ e. (apart l).codes (sym e))))
       (still movement_typing a b typed.movements (rest.movements (λ e. (apart l).movements (sym e))))
-      (still line_typing a b typed.lines (rest.lines (λ e. (apart l).lines (sym e))))
+      (still (line_typing l) a b typed.lines (rest.lines (λ e. (apart l).lines (sym e))))
       now.schema now.sound
 
   pub kept_turned : KeepsUse l → (f : List (Keyed Kept) → List (Keyed Kept)) (g : List (Keyed Guarantee) → List (Keyed Guarantee))
@@ -209,7 +240,7 @@ module _ (l : Layout) (old new : State) (has : HasSchema old (schema_of l)) (typ
       (λ keeps. still (kept_typing l) a b (typed.kept keeps) (rest.guarantees (apart l).codes))
       (record { same = now.same; typed = now.typed })
       (still movement_typing a b typed.movements (rest.movements (λ e. cc)))
-      (still line_typing a b typed.lines (rest.lines (λ e. cc)))
+      (still (line_typing l) a b typed.lines (rest.lines (apart l).lines_codes))
       now.schema now.sound
 
   pub movements_turned : (f : List (Keyed Movement) → List (Keyed Movement)) → Turns movement_typing (schema_of l) f old new
@@ -224,20 +255,20 @@ module _ (l : Layout) (old new : State) (has : HasSchema old (schema_of l)) (typ
       (λ keeps. still (kept_typing l) a b (typed.kept keeps) (rest.guarantees (apart l).movements))
       (still code_typing a b typed.codes (rest.codes (λ e. cc)))
       (record { same = now.same; typed = now.typed })
-      (still line_typing a b typed.lines (rest.lines (λ e. cc)))
+      (still (line_typing l) a b typed.lines (rest.lines (apart l).lines_movements))
       now.schema now.sound
 
-  pub lines_turned : (f : List (Keyed LineCells) → List (Keyed LineCells)) → Turns line_typing (schema_of l) f old new
+  pub lines_turned : (f : List (Keyed LineCells) → List (Keyed LineCells)) → Turns (line_typing l) (schema_of l) f old new
       → HasTables l (λ t. record t { lines = f t.lines }) old new
   lines_turned f turns =
       let now = turns has typed.lines in
-      let rest = kept l 11 a b now.others in
-      assembled l (λ t. record t { lines = f t.lines }) old new refl refl (office_still a b (rest.meta (λ e. cc)))
-      (typed_still meta_typing a b (rest.meta (λ e. cc)) typed.meta)
-      (still holder_typing a b typed.holders (rest.holders (λ e. cc)))
+      let rest = kept l (lines_tree l) a b now.others in
+      assembled l (λ t. record t { lines = f t.lines }) old new refl refl (office_still a b (rest.meta (λ e. (apart l).lines_meta (sym e))))
+      (typed_still meta_typing a b (rest.meta (λ e. (apart l).lines_meta (sym e))) typed.meta)
+      (still holder_typing a b typed.holders (rest.holders (λ e. (apart l).lines_holders (sym e))))
       (still (guarantee_typing l) a b typed.guarantees (rest.guarantees (apart l).lines))
       (λ keeps. still (kept_typing l) a b (typed.kept keeps) (rest.guarantees (apart l).lines))
-      (still code_typing a b typed.codes (rest.codes (λ e. cc)))
-      (still movement_typing a b typed.movements (rest.movements (λ e. cc)))
+      (still code_typing a b typed.codes (rest.codes (λ e. (apart l).lines_codes (sym e))))
+      (still movement_typing a b typed.movements (rest.movements (λ e. (apart l).lines_movements (sym e))))
       (record { same = now.same; typed = now.typed })
       now.schema now.sound

@@ -5,8 +5,8 @@ use Rattle.sqlite_value.specs.Order.{Row, column}
 use Rattle.sqlite_schema.specs.declared.schema.Schema.{Schema}
 use Rattle.sqlite_schema.specs.declared.schema.Table.{Table}
 use Rattle.td_schema.specs.declared.layout.Layout.{Layout}
-use Rattle.td_schema.specs.Layouts.{guarantees_shape, guarantees_tree}
-use Rattle.td_schema.specs.Tables.{meta, holders, codes_table, movements, lines}
+use Rattle.td_schema.specs.Layouts.{guarantees_shape, guarantees_tree, lines_shape, lines_tree}
+use Rattle.td_schema.specs.Tables.{meta, holders, codes_table, movements}
 use Rattle.typed_sql.specs.Typed.{Typing}
 use Rattle.typed_sql.specs.Values.{as_integer, text_in, number_in, number_value, number_if, number_or_null, text_if, text_or_null}
 use Rattle.td_model.specs.declared.holder_row.HolderRow.{HolderRow}
@@ -235,9 +235,9 @@ line_from cells = record {
   };
 }
 
--- the table of lines in a store's file, and how its rows are typed
-abbrev pub lines_table : Table
-lines_table = record lines { tree = 11 }
+-- the table of lines in a store's file of a layout, and how its rows are typed
+abbrev pub lines_table : Layout → Table
+lines_table l = record (lines_shape l) { tree = lines_tree l }
 
-abbrev pub line_typing : Typing (Keyed LineCells)
-line_typing = record { table = lines_table; columns = line_columns; cells = line_cells; from = line_from }
+abbrev pub line_typing : Layout → Typing (Keyed LineCells)
+line_typing l = record { table = lines_table l; columns = line_columns; cells = line_cells; from = line_from }

@@ -4,7 +4,7 @@ use Rattle.sqlite.specs.Effect.{Database}
 use Rattle.sqlite.specs.State.{State, HasCleanDisk}
 use Rattle.sqlite_trees.specs.Tree.{Trees}
 use Rattle.td_schema.specs.declared.layout.Layout.{Layout}
-use Rattle.td_schema.specs.Layouts.{IsNewest, newest_version, schema_of, version_of}
+use Rattle.td_schema.specs.Layouts.{HasFewLines, HasMoreLines, IsNewest, newest_version, schema_of, version_of}
 use Rattle.td_table_model.specs.Tables.{version_with_amounts}
 use Rattle.typed_sql.specs.Reading.{LeavesAll, OnlyRead, StaysInside}
 
@@ -36,6 +36,13 @@ KeepsUse l = version_with_amounts ≤ version_of l
 
 abbrev pub ReadsKept : Bool → State → State → Type 0
 ReadsKept = ReadsIn KeepsUse
+
+-- of a layout with up to nine lines of a movement; with more
+abbrev pub ReadsFew : Bool → State → State → Type 0
+ReadsFew = ReadsIn HasFewLines
+
+abbrev pub ReadsMore : Bool → State → State → Type 0
+ReadsMore = ReadsIn HasMoreLines
 
 -- the calls between two states have only read, in a file of a version; of the newest one
 abbrev pub OnlyReadVersion : ℕ → State → State → Type 0

@@ -29,7 +29,7 @@ tables_in l trees = record {
   kept = typed_rows (kept_typing l) trees;
   codes = typed_rows code_typing trees;
   movements = typed_rows movement_typing trees;
-  lines = typed_rows line_typing trees;
+  lines = typed_rows (line_typing l) trees;
 }
 
 -- the rows of every table are typed, and those of guarantees with the amounts in use where the layout keeps them
@@ -40,7 +40,7 @@ pub record AreAllTyped (l : Layout) (trees : Trees) : Type 0 where
   pub kept : KeepsUse l → AreTyped (kept_typing l) trees
   pub codes : AreTyped code_typing trees
   pub movements : AreTyped movement_typing trees
-  pub lines : AreTyped line_typing trees
+  pub lines : AreTyped (line_typing l) trees
 
 -- the office's own row, which is there once, says this version and this country
 abbrev pub HasOfficeRow : ℕ → List ℕ → Trees → Type 0

@@ -18,7 +18,7 @@ pub use guarantees::{
     visit_kept,
 };
 pub use holders::{find_holder, insert_holder, set_holder};
-pub use lines::{StoredLine, insert_line, lines_of, lines_on};
+pub use lines::{StoredLine, empty_lines1, insert_line, lines_of, lines_on, older_lines};
 pub use meta::{StoredMeta, find_meta, insert_meta, set_version};
 pub use movements::{
     MovementSerial, StoredMovement, counting_serials, find_by_lrn, find_by_mrn,

@@ -5,6 +5,6 @@ mod stored;
 mod texts;
 mod writing;
 
-pub use finding::{lines_of, lines_on};
+pub use finding::{lines_of, lines_on, older_lines};
 pub use stored::StoredLine;
-pub use writing::insert_line;
+pub use writing::{empty_lines1, insert_line};

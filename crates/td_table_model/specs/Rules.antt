@@ -80,7 +80,7 @@ pub record HasMovements (t : Tables) (row : HolderRow) : Type 0 where
 abbrev pub named_by : Keyed LineCells → ℕ
 named_by l = l.row.guarantee
 
--- the lines of a movement: numbered from 1 to at most 9, each on a guarantee of the holder's, no two on one,
+-- the lines of a movement: numbered from 1 to at most 99, each on a guarantee of the holder's, no two on one,
 -- with amounts in range
 pub record AreLinesInRange (t : Tables) (m : Keyed Movement) : Type 0 where
   pub numbers : IsNumbered no_of 0 (lines_by m.holder m.serial t)

@@ -21,8 +21,8 @@ pub enum Rule {
     /// its acceptance, the desk's country, the holder and its serial, an LRN, offices and days in range, and the days
     /// and the office of its state.
     S5,
-    /// Each movement's lines are numbered from 1 to at most 9, each on a guarantee of the holder's, no two on one, with
-    /// amounts in range; and no line is without a movement.
+    /// Each movement's lines are numbered from 1 to at most 99, each on a guarantee of the holder's, no two on one, with
+    /// amounts in range; and no line is without a movement. Below version 3 the table itself takes at most 9.
     S6,
     /// Each amount in use that is kept is the sum of the lines that it stands for. Version 1 keeps none.
     S7,

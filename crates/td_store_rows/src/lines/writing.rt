@@ -5,10 +5,10 @@ ghost use Rattle.sqlite.specs.State.{HasCleanDisk, Shows};
 ghost use Rattle.sqlite.specs.Values.{bound};
 ghost use Rattle.typed_sql.specs.Reading.{IsInside, StaysInside};
 ghost use Rattle.td_store_rows.specs.Columns.{line_cells};
-ghost use Rattle.td_store_rows.specs.LineTable.{TurnsLines, line_row_of};
+ghost use Rattle.td_store_rows.specs.LineTable.{EmptiesFirstLines, TurnsLines, line_row_of};
 
 use crate::lines::stored::StoredLine;
-use crate::lines::texts::INSERT;
+use crate::lines::texts::{EMPTY_FIRST, INSERT};
 use sqlite::{Error, Transaction};
 use sqlite_trees::store::Alter;
 use sqlite_value::value::ValueRef;
@@ -27,7 +27,7 @@ fn columns(line: &StoredLine) -> [ValueRef<'static>; 5]
     ]
 }
 
-/// Inserts the row of a line.
+/// Inserts the row of a line, in a file of version 3 or later.
 pub fn insert_line<S: Alter>(tx: &mut Transaction<'_, S>, line: &StoredLine) -> Result<(), Error>
     requires { IsInside (state S.Store tx.old.conn.now) }
     ensures same_reference { tx.new.conn.ghost_name ≡ tx.old.conn.ghost_name }
@@ -39,4 +39,18 @@ pub fn insert_line<S: Alter>(tx: &mut Transaction<'_, S>, line: &StoredLine) -> 
     ensures within { StaysInside (is_ok result) (state S.Store tx.old.conn.now) (state S.Store tx.new.conn.now) }
 {
     typed_sql::insert(tx, INSERT, &columns(line))
+}
+
+/// Empties the table of lines of the versions below 3, in a file that is migrated from there: it has no row then, and the
+/// other tables are as they were.
+pub fn empty_lines1<S: Alter>(tx: &mut Transaction<'_, S>) -> Result<(), Error>
+    requires { IsInside (state S.Store tx.old.conn.now) }
+    ensures same_reference { tx.new.conn.ghost_name ≡ tx.old.conn.ghost_name }
+    ensures emptied { HasCleanDisk (state S.Store tx.new.conn.now)
+        → OnOk result (EmptiesFirstLines (state S.Store tx.old.conn.now) (state S.Store tx.new.conn.now)) }
+    ensures inside { HasCleanDisk (state S.Store tx.new.conn.now) → OnOk result (Shows (state S.Store tx.old.conn.now)
+        (state S.Store tx.new.conn.now) (state S.Store tx.new.conn.now).now (state S.Store tx.old.conn.now).committed true) }
+    ensures within { StaysInside (is_ok result) (state S.Store tx.old.conn.now) (state S.Store tx.new.conn.now) }
+{
+    typed_sql::empty(tx, EMPTY_FIRST)
 }
