@@ -40,4 +40,4 @@ pub record IsFilled (rows : List (Keyed Guarantee)) (old new : Database) : Type 
 abbrev pub Fills : List (Keyed Guarantee) → State → State → Type 0
 Fills rows old new =
     old.now.schema ≡ schema_of Grown2 → AreTyped (kept_typing Grown2) old.now.trees
-    → AreTyped movement_typing old.now.trees → AreTyped line_typing old.now.trees → IsFilled rows old.now new.now
+    → AreTyped movement_typing old.now.trees → AreTyped (line_typing Grown2) old.now.trees → IsFilled rows old.now new.now

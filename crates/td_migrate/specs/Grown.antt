@@ -1,38 +1,51 @@
--- A file of version 1 with a content, and the file of version 2 with the same content that it becomes.
-use Rattle.std.specs.Prelude.{◌≡◌, []}
+-- A file of an earlier version with a content, and the file of the next version with the same content that it becomes.
+use Rattle.std.specs.Prelude.{◌≡◌, ℕ, []}
 use Rattle.sqlite_trees.specs.Tree.{Trees}
 use Rattle.sqlite.specs.Effect.{Database}
 use Rattle.sqlite.specs.State.{State}
 use Rattle.td_desk.specs.Content.{Content, IsSound}
-use Rattle.td_table_model.specs.Tables.{AreTablesOf, first_version}
-use Rattle.td_schema.specs.Layouts.{schema_of}
-use Rattle.td_schema.specs.declared.layout.Layout.TheVariants.{Made1, Grown2}
-use Rattle.td_store_rows.specs.KeptTable.{first_guarantees}
-use Rattle.td_store_rows.specs.StoreTables.{AreAllTyped, AreTreesOf, HasOfficeRow, HoldsContent, tables_in}
+use Rattle.td_table_model.specs.Tables.{AreTablesOf}
+use Rattle.td_schema.specs.Layouts.{grown, guarantees_tree, lines_tree, schema_of, version_of}
+use Rattle.td_schema.specs.declared.layout.Layout.{Layout}
+use Rattle.td_schema.specs.declared.layout.Layout.TheVariants.{Made1, Made2, Grown2, Made3, Grown3From2, Grown3From1}
+use Rattle.td_store_rows.specs.StoreTables.{AreAllTyped, AreStoreTrees, HasOfficeRow, tables_in}
 
--- the database has the tables of version 1, and their rows are those of this content, which is sound
-pub record HoldsFirst (c : Content) (db : Database) : Type 0 where
-  pub schema : db.schema ≡ schema_of Made1
-  pub typed : AreAllTyped Made1 db.trees
+-- the rows of trees of a layout are those of this content, which is sound, and the office's own row says the layout's version and the
+-- content's country
+pub record HaveContent (l : Layout) (c : Content) (trees : Trees) : Type 0 where
+  pub typed : AreAllTyped l trees
   pub sound : IsSound c
-  pub tables : AreTablesOf (tables_in Made1 db.trees) c
-  pub office : HasOfficeRow first_version c.country db.trees
+  pub tables : AreTablesOf (tables_in l trees) c
+  pub office : HasOfficeRow (version_of l) c.country trees
 
--- Trees are a desk's of this content, that were brought from version 1: they list the tables of version 2 behind those of version 1,
--- whose table of guarantees has no row.
-pub record AreGrown (c : Content) (trees : Trees) : Type 0 where
-  pub desk : AreTreesOf c trees
-  pub layout : desk.layout ≡ Grown2
-  pub emptied : trees first_guarantees.tree ≡ []
+-- the database has the tables of the layout, and its rows are those
+pub record HoldsVersion (l : Layout) (c : Content) (db : Database) : Type 0 where
+  pub schema : db.schema ≡ schema_of l
+  pub content : HaveContent l c db.trees
 
--- and a connection is to such a file
-pub record IsGrown (c : Content) (s : State) : Type 0 where
-  pub holds : HoldsContent c s
-  pub trees : AreGrown c s.now.trees
+-- the table that the step to the next version leaves has no row, and one that an earlier step left is as it was
+abbrev pub LeavesEmpty : Layout → Trees → Trees → Type 0
+LeavesEmpty Made1 old new = new (guarantees_tree Made1) ≡ []
+LeavesEmpty Made2 old new = new (lines_tree Made2) ≡ []
+LeavesEmpty Grown2 old new = (new (lines_tree Grown2) ≡ []) × (new (guarantees_tree Made1) ≡ old (guarantees_tree Made1))
+LeavesEmpty Made3 old new = Unit {0}
+LeavesEmpty Grown3From2 old new = Unit {0}
+LeavesEmpty Grown3From1 old new = Unit {0}
 
--- whatever content a file of version 1 held, it is now of version 2 with that content; and a crash leaves such trees
-abbrev pub GrowsTo2 : Database → State → Type 0
-GrowsTo2 old new = (c : Content) → HoldsFirst c old → IsGrown c new
+-- Trees list the tables of the layout that a file of this layout grows to, and no others, with the same content.
+pub record AreGrown (l : Layout) (c : Content) (old new : Trees) : Type 0 where
+  pub listed : AreStoreTrees (grown l) new
+  pub content : HaveContent (grown l) c new
+  pub left : LeavesEmpty l old new
 
-abbrev pub MayLeaveGrown : Database → Trees → Type 0
-MayLeaveGrown old trees = (c : Content) → HoldsFirst c old → AreGrown c trees
+-- so a file of the layout is now
+pub record IsGrown (l : Layout) (c : Content) (old new : Database) : Type 0 where
+  pub schema : new.schema ≡ schema_of (grown l)
+  pub trees : AreGrown l c old.trees new.trees
+
+-- whatever content a file of that version held, it is now of the next version with that content; and a crash leaves such trees
+abbrev pub GrowsFrom : ℕ → Database → Database → Type 0
+GrowsFrom version old new = (l : Layout) → version_of l ≡ version → (c : Content) → HoldsVersion l c old → IsGrown l c old new
+
+abbrev pub MayLeaveGrown : ℕ → Database → Trees → Type 0
+MayLeaveGrown version old trees = (l : Layout) → version_of l ≡ version → (c : Content) → HoldsVersion l c old → AreGrown l c old.trees trees

@@ -1,5 +1,6 @@
 pub mod InUse
 pub mod Filled
 pub mod Moved
+pub mod LinesMoved
 pub mod Grown
 pub mod Upgraded

@@ -21,7 +21,7 @@ pub record AreOthersSame (a b : Trees) : Type 0 where
   pub holders : b holder_typing.table.tree ≡ a holder_typing.table.tree
   pub codes : b code_typing.table.tree ≡ a code_typing.table.tree
   pub movements : b movement_typing.table.tree ≡ a movement_typing.table.tree
-  pub lines : b line_typing.table.tree ≡ a line_typing.table.tree
+  pub lines : b (line_typing Grown2).table.tree ≡ a (line_typing Grown2).table.tree
 
 -- the guarantees stand in the table of version 2, which is new, with what was in use on them, and the table of version 1 has no row
 pub record AreMoved (rows : List (Keyed Guarantee)) (a b : Database) : Type 0 where

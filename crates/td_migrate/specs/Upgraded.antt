@@ -1,20 +1,22 @@
 -- What is told of a file's version, and what an upgrade makes of a file.
-use Rattle.std.specs.Prelude.{◌≡◌, ◌⊎◌, ℕ, Result, Ok, Err}
+use Rattle.std.specs.Prelude.{◌≡◌, ◌⊎◌, ◌<◌, ℕ, [], Result, Ok, Err}
 use Rattle.sqlite_trees.specs.Tree.{Trees}
 use Rattle.sqlite.specs.Effect.{Database}
 use Rattle.sqlite.specs.State.{State}
 use Rattle.td_desk.specs.Content.{Content}
 use Rattle.td_table_model.specs.Tables.{first_version}
 use Rattle.td_table_model.specs.declared.rule.Rule.{Rule}
-use Rattle.td_schema.specs.Layouts.{newest_version, schema_of}
+use Rattle.td_schema.specs.Layouts.{grown, guarantees_tree, lines_tree, newest_version, schema_of, version_of}
+use Rattle.td_schema.specs.declared.layout.Layout.{Layout}
 use Rattle.td_schema.specs.declared.layout.Layout.TheVariants.{Made1}
+use Rattle.td_store_rows.specs.StoreTables.{AreTreesOf, HoldsContent}
 use Rattle.td_store_audit_rows.specs.Untyped.{IsFirstBrokenUntyped}
 use Rattle.td_store.specs.declared.refused.OpenFault.{OpenFault}
 use Rattle.td_store.specs.declared.refused.OpenFault.TheVariants as open_fault
-use Rattle.td_store.specs.Opened.{IsKnown, IsOfUnknownVersion, IsStoreSchema, MaySay}
+use Rattle.td_store.specs.Opened.{IsKnown, IsOfEarlier, IsOfUnknownVersion, IsStoreSchema, MaySay}
 use Rattle.td_migrate.specs.declared.fault.MigrateFault.{MigrateFault}
 use Rattle.td_migrate.specs.declared.fault.MigrateFault.TheVariants.{Damaged, NoMemory, Store, UnknownVersion}
-use Rattle.td_migrate.specs.Grown.{AreGrown, HoldsFirst, IsGrown}
+use Rattle.td_migrate.specs.Grown.{AreGrown, GrowsFrom, HoldsVersion, LeavesEmpty, MayLeaveGrown}
 
 -- the fault is of the kind of what an opening is refused for
 abbrev pub IsKindOf : OpenFault → MigrateFault → Type 0
@@ -37,33 +39,77 @@ TellsVersion db (Err (Damaged rule)) = ⊥
 TellsVersion db (Err Store) = Unit {0}
 TellsVersion db (Err NoMemory) = Unit {0}
 
--- a file of version 1 breaks this rule first
-pub record IsDamagedFirst (rule : Rule) (db : Database) : Type 0 where
-  pub schema : db.schema ≡ schema_of Made1
-  pub first : IsFirstBrokenUntyped Made1 db.trees rule
+-- a file of that version breaks this rule first
+pub record IsDamagedAt (version : ℕ) (rule : Rule) (db : Database) : Type 0 where
+  pub layout : Layout
+  pub version_is : version_of layout ≡ version
+  pub schema : db.schema ≡ schema_of layout
+  pub first : IsFirstBrokenUntyped layout db.trees rule
 
--- the file of version 1 held a content, and it is of version 2 now with the same content
-abbrev pub WasGrown : Database → State → Type 0
-WasGrown old new = (c : Content) × HoldsFirst c old × IsGrown c new
+-- a file of that version held a content
+abbrev pub Held : ℕ → Database → Type 0
+Held version old = (l : Layout) × (version_of l ≡ version) × (c : Content) × HoldsVersion l c old
 
--- what came of a step from version 1
-abbrev pub TellsStep : Database → State → Result (Unit {0}) MigrateFault → Type 0
-TellsStep old new (Ok done) = WasGrown old new
-TellsStep old new (Err (Damaged rule)) = IsDamagedFirst rule old
-TellsStep old new (Err UnknownVersion) = ⊥
-TellsStep old new (Err Store) = Unit {0}
-TellsStep old new (Err NoMemory) = Unit {0}
+-- it did, and whatever content it held, it is of the next version now with the same
+abbrev pub WasGrown : ℕ → Database → Database → Type 0
+WasGrown version old new = Held version old × GrowsFrom version old new
+
+-- what came of a step from that version to the next
+abbrev pub TellsStep : ℕ → Database → State → Result (Unit {0}) MigrateFault → Type 0
+TellsStep version old new (Ok done) = WasGrown version old new.now
+TellsStep version old new (Err (Damaged rule)) = IsDamagedAt version rule old
+TellsStep version old new (Err UnknownVersion) = ⊥
+TellsStep version old new (Err Store) = Unit {0}
+TellsStep version old new (Err NoMemory) = Unit {0}
+
+-- and what a crash may leave beside what it could leave before: the file of the next version alone
+abbrev pub MayLeaveStep : ℕ → Database → Trees → Type 0
+MayLeaveStep version old trees = Held version old × MayLeaveGrown version old trees
+
+-- The tables that the steps to the newest version leave have no row, and one that an earlier upgrade left is as it was.
+abbrev pub LeavesAllEmpty : Layout → Trees → Trees → Type 0
+LeavesAllEmpty Made1 old new = (new (guarantees_tree Made1) ≡ []) × (new (lines_tree Made1) ≡ [])
+LeavesAllEmpty l old new = LeavesEmpty l old new
+
+-- Trees are a desk's of this content, that were brought from a layout of an earlier version.
+pub record AreUpgraded (l : Layout) (c : Content) (old new : Trees) : Type 0 where
+  pub desk : AreTreesOf c new
+  pub layout : desk.layout ≡ grown (grown l)
+  pub left : LeavesAllEmpty l old new
+
+-- a file of an earlier version held this content
+pub record HeldEarlier (l : Layout) (c : Content) (db : Database) : Type 0 where
+  pub earlier : version_of l < newest_version
+  pub held : HoldsVersion l c db
+
+-- and it is of the newest version now with the same content
+pub record WasUpgraded (old : Database) (new : State) : Type 0 where
+  pub layout : Layout
+  pub content : Content
+  pub held : HeldEarlier layout content old
+  pub holds : HoldsContent content new
+  pub upgraded : AreUpgraded layout content old.trees new.now.trees
 
 -- What came of an upgrade. It answers the newest version: the office's own row said that, and nothing is changed, or the file was of
--- version 1. Or a fault: no version is known, or the rows of version 1 break this rule first.
+-- an earlier one. Or a fault: no version is known, or the rows of that earlier version break this rule first.
 abbrev pub TellsUpgrade : Database → State → Result ℕ MigrateFault → Type 0
 TellsUpgrade old new (Ok version) =
-    (version ≡ newest_version) × (((new.now ≡ old) × MaySay newest_version old.trees) ⊎ (MaySay first_version old.trees × WasGrown old new))
+    (version ≡ newest_version) × (((new.now ≡ old) × MaySay newest_version old.trees) ⊎ WasUpgraded old new)
 TellsUpgrade old new (Err UnknownVersion) = IsOfUnknownVersion old
-TellsUpgrade old new (Err (Damaged rule)) = MaySay first_version old.trees × IsDamagedFirst rule old
+TellsUpgrade old new (Err (Damaged rule)) = (version : ℕ) × IsOfEarlier version old.trees × IsDamagedAt version rule old
 TellsUpgrade old new (Err Store) = Unit {0}
 TellsUpgrade old new (Err NoMemory) = Unit {0}
 
--- what a crash may leave beside what it could leave before: the file of version 2 alone that the file of version 1 becomes
+-- What a fault leaves: the file as it was; or, where the store failed or memory was missed in the step after it, a file of version 1 is
+-- of version 2 with the same content.
+abbrev pub LeavesWithFault : Database → Database → MigrateFault → Type 0
+LeavesWithFault old new UnknownVersion = new ≡ old
+LeavesWithFault old new (Damaged rule) = new ≡ old
+LeavesWithFault old new Store = (new ≡ old) ⊎ WasGrown first_version old new
+LeavesWithFault old new NoMemory = (new ≡ old) ⊎ WasGrown first_version old new
+
+-- what a crash may leave beside what it could leave before: the file of the next version alone, or of the newest, that the file of an
+-- earlier version becomes
 abbrev pub MayLeaveUpgraded : Database → Trees → Type 0
-MayLeaveUpgraded old trees = (c : Content) × HoldsFirst c old × AreGrown c trees
+MayLeaveUpgraded old trees =
+    (l : Layout) × (c : Content) × HeldEarlier l c old × (AreGrown l c old.trees trees ⊎ AreUpgraded l c old.trees trees)

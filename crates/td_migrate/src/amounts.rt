@@ -1,10 +1,10 @@
-//! What is in use on a guarantee, by the lines of the movements that count. It changes nothing.
+//! What is in use on a guarantee, by the lines of the movements that count, in a file below version 3. It changes nothing.
 ghost use Rattle.std.specs.Prelude.{◌≡◌, ◌↔◌, IsTrue, IfOk, is_ok};
 ghost use Rattle.keyed_rows.specs.Rows.{Rises};
 ghost use Rattle.sqlite.specs.Held.{state};
 ghost use Rattle.sqlite.specs.State.{HasCleanDisk};
 ghost use Rattle.typed_sql.specs.Reading.{IsInside};
-ghost use Rattle.td_store_rows.specs.StoreReads.{ReadsStore};
+ghost use Rattle.td_store_rows.specs.StoreReads.{ReadsFew};
 ghost use Rattle.td_store_rows.specs.MovementTable.{serial_of_stored};
 ghost use Rattle.td_migrate.specs.InUse.{IsInUse, IsInUseIfInRange};
 
@@ -44,7 +44,7 @@ fn amount_if_in_range<S: Alter>(
     ensures same_reference { tx.new.conn.ghost_name ≡ tx.old.conn.ghost_name }
     ensures found { HasCleanDisk (state S.Store tx.new.conn.now)
         → IfOk result (IsInUseIfInRange holder guarantee (state S.Store tx.old.conn.now)) }
-    ensures reads { ReadsStore (is_ok result) (state S.Store tx.old.conn.now) (state S.Store tx.new.conn.now) }
+    ensures reads { ReadsFew (is_ok result) (state S.Store tx.old.conn.now) (state S.Store tx.new.conn.now) }
 {
     let serials = counting_serials(alloc, tx, holder)?;
     if !rise(&serials) {
@@ -66,7 +66,7 @@ pub(crate) fn amount_in_use<S: Alter>(
     ensures same_reference { tx.new.conn.ghost_name ≡ tx.old.conn.ghost_name }
     ensures found { HasCleanDisk (state S.Store tx.new.conn.now)
         → IfOk result (IsInUse holder guarantee (state S.Store tx.old.conn.now)) }
-    ensures reads { ReadsStore (is_ok result) (state S.Store tx.old.conn.now) (state S.Store tx.new.conn.now) }
+    ensures reads { ReadsFew (is_ok result) (state S.Store tx.old.conn.now) (state S.Store tx.new.conn.now) }
 {
     amount_if_in_range(alloc, tx, holder, guarantee)?.ok_or(Error::SqliteFailure(
         ErrorCode::DatabaseCorrupt,

@@ -1,13 +1,15 @@
-//! A file taken from version 1 to version 2.
+//! A file taken from a version to the next.
 ghost use Rattle.std.specs.Prelude.{◌≡◌, false, map, IsTrue, OnOk, OnErr, is_ok};
 ghost use Rattle.sqlite.specs.Held.{state};
 ghost use Rattle.sqlite.specs.State.{HasCleanDisk, Survives};
 ghost use Rattle.typed_sql.specs.Reading.{IsInside, StaysInside};
 ghost use Rattle.td_store_rows.specs.GuaranteeTable.{guarantee_row_of};
-ghost use Rattle.td_migrate.specs.Grown.{GrowsTo2, MayLeaveGrown};
+ghost use Rattle.td_migrate.specs.Grown.{GrowsFrom, MayLeaveGrown};
+ghost use Rattle.td_store.specs.Opened.{IsEarlier};
 ghost use Rattle.td_migrate.specs.Moved.{BecomesSecond, MovesTo2};
 
 use crate::filling::{fill, first_guarantees};
+use crate::lines::write_3;
 use sqlite::{Connection, Error, Transaction};
 use sqlite_trees::store::Alter;
 use std::alloc::Global;
@@ -45,24 +47,49 @@ fn write_2<S: Alter>(alloc: Global, tx: &mut Transaction<'_, S>) -> Result<(), E
     set_version(tx, 2)
 }
 
-/// Takes a file of version 1 to version 2, in one transaction: all of it or, where it answers `Err`, nothing. A crash during the call
-/// leaves what it could leave before, or the file of version 2. `OutOfMemory`: want of memory; any other error is the database's
+// Writes what the version behind this one has that this one has not, from 1 on: a file of this version, whatever content it holds, is
+// then one of the next with the same.
+fn write_next<S: Alter>(
+    alloc: Global,
+    tx: &mut Transaction<'_, S>,
+    version: u32,
+) -> Result<(), Error>
+    requires inside { IsInside (state S.Store tx.old.conn.now) }
+    requires earlier { IsEarlier version }
+    ensures same_reference { tx.new.conn.ghost_name ≡ tx.old.conn.ghost_name }
+    ensures written { HasCleanDisk (state S.Store tx.new.conn.now)
+        → OnOk result (GrowsFrom version (state S.Store tx.old.conn.now).now (state S.Store tx.new.conn.now).now) }
+    ensures within { StaysInside (is_ok result) (state S.Store tx.old.conn.now) (state S.Store tx.new.conn.now) }
+{
+    tables_grow();
+    if version < 2 {
+        return write_2(alloc, tx);
+    }
+    write_3(alloc, tx)
+}
+
+/// Takes a file of this version to the next, in one transaction: all of it or, where it answers `Err`, nothing. A crash during the call
+/// leaves what it could leave before, or the file of the next version. `OutOfMemory`: want of memory; any other error is the database's
 /// own, or `DatabaseCorrupt` for a row that is none.
-pub(crate) fn grow_to_2<S: Alter>(alloc: Global, conn: &mut Connection<S>) -> Result<(), Error>
-    requires { conn.old.in_transaction ≡ false }
+pub(crate) fn grow<S: Alter>(
+    alloc: Global,
+    conn: &mut Connection<S>,
+    version: u32,
+) -> Result<(), Error>
+    requires outside { conn.old.in_transaction ≡ false }
+    requires earlier { IsEarlier version }
     ensures ended { conn.new.in_transaction ≡ false }
     ensures live { HasCleanDisk (state S.Store conn.new) → IsTrue (state S.Store conn.new).is_open → IsTrue (state S.Store conn.old).is_open }
     ensures shown { HasCleanDisk (state S.Store conn.new)
         → OnOk result (IsTrue (state S.Store conn.old).is_open × IsTrue (state S.Store conn.new).is_open) }
     ensures grown { HasCleanDisk (state S.Store conn.new)
-        → OnOk result (GrowsTo2 (state S.Store conn.old).now (state S.Store conn.new)) }
+        → OnOk result (GrowsFrom version (state S.Store conn.old).now (state S.Store conn.new).now) }
     ensures err { HasCleanDisk (state S.Store conn.new) → IsTrue (state S.Store conn.new).is_open
         → OnErr result ((state S.Store conn.new).now ≡ (state S.Store conn.old).now) }
-    ensures crash { Survives (state S.Store conn.old) (state S.Store conn.new) (MayLeaveGrown (state S.Store conn.old).now) }
+    ensures crash { Survives (state S.Store conn.old) (state S.Store conn.new) (MayLeaveGrown version (state S.Store conn.old).now) }
 {
-    tables_grow();
     let _settled = conn.is_autocommit();
     let mut tx = conn.transaction();
-    write_2(alloc, &mut tx)?;
+    write_next(alloc, &mut tx, version)?;
     tx.commit()
 }

@@ -6,6 +6,7 @@ mod amounts;
 mod fault;
 mod filling;
 mod growing;
+mod lines;
 mod upgrading;
 
 pub use fault::MigrateFault;

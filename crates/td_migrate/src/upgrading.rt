@@ -1,14 +1,13 @@
 //! A file's version, and a file brought to the newest.
-ghost use Rattle.std.specs.Prelude.{◌≡◌, false, IsTrue, OnErr, OnOk};
+ghost use Rattle.std.specs.Prelude.{◌≡◌, false, IsTrue, IfErr, OnErr, OnOk};
 ghost use Rattle.sqlite.specs.Held.{state};
 ghost use Rattle.sqlite.specs.State.{HasCleanDisk, Survives};
 ghost use Rattle.td_store.specs.Kept.{CrashLeavesShown};
-ghost use Rattle.td_store.specs.Opened.{MaySay};
-ghost use Rattle.td_table_model.specs.Tables.{first_version};
-ghost use Rattle.td_migrate.specs.Upgraded.{MayLeaveUpgraded, TellsStep, TellsUpgrade, TellsVersion};
+ghost use Rattle.td_store.specs.Opened.{IsEarlier, MaySay};
+ghost use Rattle.td_migrate.specs.Upgraded.{LeavesWithFault, MayLeaveStep, MayLeaveUpgraded, TellsStep, TellsUpgrade, TellsVersion};
 
 use crate::fault::{MigrateFault, fault_of, fault_of_error};
-use crate::growing::grow_to_2;
+use crate::growing::grow;
 use sqlite::Connection;
 use sqlite_trees::store::Alter;
 use std::alloc::Global;
@@ -35,26 +34,53 @@ pub fn version<S: Alter>(alloc: Global, conn: &mut Connection<S>) -> Result<u32,
     }
 }
 
-// From version 1 to version 2, after the rows were audited.
-fn step_to_2<S: Alter>(alloc: Global, conn: &mut Connection<S>) -> Result<(), MigrateFault>
+// From a version to the next, after the rows were audited.
+fn step<S: Alter>(alloc: Global, conn: &mut Connection<S>, version: u32) -> Result<(), MigrateFault>
     requires outside { conn.old.in_transaction ≡ false }
-    requires first { HasCleanDisk (state S.Store conn.old) → MaySay first_version (state S.Store conn.old).now.trees }
+    requires earlier { IsEarlier version }
+    requires says { HasCleanDisk (state S.Store conn.old) → MaySay version (state S.Store conn.old).now.trees }
     ensures ended { conn.new.in_transaction ≡ false }
     ensures live { HasCleanDisk (state S.Store conn.new) → IsTrue (state S.Store conn.new).is_open → IsTrue (state S.Store conn.old).is_open }
     ensures shown { HasCleanDisk (state S.Store conn.new)
         → OnOk result (IsTrue (state S.Store conn.old).is_open × IsTrue (state S.Store conn.new).is_open) }
-    ensures told { HasCleanDisk (state S.Store conn.new) → TellsStep (state S.Store conn.old).now (state S.Store conn.new) result }
+    ensures told { HasCleanDisk (state S.Store conn.new)
+        → TellsStep version (state S.Store conn.old).now (state S.Store conn.new) result }
     ensures err { HasCleanDisk (state S.Store conn.new) → IsTrue (state S.Store conn.new).is_open
         → OnErr result ((state S.Store conn.new).now ≡ (state S.Store conn.old).now) }
-    ensures crash { Survives (state S.Store conn.old) (state S.Store conn.new) (MayLeaveUpgraded (state S.Store conn.old).now) }
+    ensures crash { Survives (state S.Store conn.old) (state S.Store conn.new) (MayLeaveStep version (state S.Store conn.old).now) }
 {
-    if let Err(fault) = audit(alloc, conn, 1) {
+    if let Err(fault) = audit(alloc, conn, version) {
         return Err(fault_of(fault));
     }
-    match grow_to_2(alloc, conn) {
+    match grow(alloc, conn, version) {
         Ok(()) => Ok(()),
         Err(error) => Err(fault_of_error(&error)),
     }
+}
+
+// From an earlier version, which the office's own row says, to the newest: by way of version 2 from version 1.
+fn steps_from<S: Alter>(
+    alloc: Global,
+    conn: &mut Connection<S>,
+    version: u32,
+) -> Result<u32, MigrateFault>
+    requires outside { conn.old.in_transaction ≡ false }
+    requires earlier { IsEarlier version }
+    requires says { HasCleanDisk (state S.Store conn.old) → MaySay version (state S.Store conn.old).now.trees }
+    ensures ended { conn.new.in_transaction ≡ false }
+    ensures live { HasCleanDisk (state S.Store conn.new) → IsTrue (state S.Store conn.new).is_open → IsTrue (state S.Store conn.old).is_open }
+    ensures shown { HasCleanDisk (state S.Store conn.new)
+        → OnOk result (IsTrue (state S.Store conn.old).is_open × IsTrue (state S.Store conn.new).is_open) }
+    ensures told { HasCleanDisk (state S.Store conn.new) → TellsUpgrade (state S.Store conn.old).now (state S.Store conn.new) result }
+    ensures left { HasCleanDisk (state S.Store conn.new) → IsTrue (state S.Store conn.new).is_open
+        → IfErr result (LeavesWithFault (state S.Store conn.old).now (state S.Store conn.new).now) }
+    ensures crash { Survives (state S.Store conn.old) (state S.Store conn.new) (MayLeaveUpgraded (state S.Store conn.old).now) }
+{
+    if version < 2 {
+        step(alloc, conn, 1)?;
+    }
+    step(alloc, conn, 2)?;
+    Ok(NEWEST_VERSION)
 }
 
 // Version by version to the newest, which it answers.
@@ -65,13 +91,13 @@ fn go_on<S: Alter>(alloc: Global, conn: &mut Connection<S>) -> Result<u32, Migra
     ensures shown { HasCleanDisk (state S.Store conn.new)
         → OnOk result (IsTrue (state S.Store conn.old).is_open × IsTrue (state S.Store conn.new).is_open) }
     ensures told { HasCleanDisk (state S.Store conn.new) → TellsUpgrade (state S.Store conn.old).now (state S.Store conn.new) result }
-    ensures err { HasCleanDisk (state S.Store conn.new) → IsTrue (state S.Store conn.new).is_open
-        → OnErr result ((state S.Store conn.new).now ≡ (state S.Store conn.old).now) }
+    ensures left { HasCleanDisk (state S.Store conn.new) → IsTrue (state S.Store conn.new).is_open
+        → IfErr result (LeavesWithFault (state S.Store conn.old).now (state S.Store conn.new).now) }
     ensures crash { Survives (state S.Store conn.old) (state S.Store conn.new) (MayLeaveUpgraded (state S.Store conn.old).now) }
 {
     let found = version(alloc, conn)?;
     if found < NEWEST_VERSION {
-        step_to_2(alloc, conn)?;
+        return steps_from(alloc, conn, found);
     }
     Ok(NEWEST_VERSION)
 }
@@ -80,8 +106,9 @@ fn go_on<S: Alter>(alloc: Global, conn: &mut Connection<S>) -> Result<u32, Migra
 /// the rows of the version before were audited. A file of the newest version is left as it is, and its rows aren't audited.
 /// `UnknownVersion`: as `version` says; `Damaged`: the rows break this rule of sound tables, and none before it; `Store`: the tables
 /// are none of the version that the office's own row says, or the database answered an error other than want of memory; `NoMemory`:
-/// want of memory. With a fault the file is as it was found. A crash during the call leaves what it could leave before, or the file
-/// of the next version with the same content; after it exactly what the connection shows.
+/// want of memory. With a fault the file is as it was found; or, with one of the last two, a file of version 1 may be of version 2 with
+/// the same content, where the first step was done and the second one wasn't. A crash during the call leaves what it could leave before,
+/// or the file of the next version, or of the newest, with the same content; after it exactly what the connection shows.
 pub fn upgrade<S: Alter>(alloc: Global, conn: &mut Connection<S>) -> Result<u32, MigrateFault>
     requires { conn.old.in_transaction ≡ false }
     ensures ended { conn.new.in_transaction ≡ false }
@@ -89,8 +116,8 @@ pub fn upgrade<S: Alter>(alloc: Global, conn: &mut Connection<S>) -> Result<u32,
     ensures shown { HasCleanDisk (state S.Store conn.new)
         → OnOk result (IsTrue (state S.Store conn.old).is_open × IsTrue (state S.Store conn.new).is_open) }
     ensures told { HasCleanDisk (state S.Store conn.new) → TellsUpgrade (state S.Store conn.old).now (state S.Store conn.new) result }
-    ensures err { HasCleanDisk (state S.Store conn.new) → IsTrue (state S.Store conn.new).is_open
-        → OnErr result ((state S.Store conn.new).now ≡ (state S.Store conn.old).now) }
+    ensures left { HasCleanDisk (state S.Store conn.new) → IsTrue (state S.Store conn.new).is_open
+        → IfErr result (LeavesWithFault (state S.Store conn.old).now (state S.Store conn.new).now) }
     ensures crash { Survives (state S.Store conn.old) (state S.Store conn.new) (MayLeaveUpgraded (state S.Store conn.old).now) }
     ensures settled { CrashLeavesShown (state S.Store conn.new) }
 {
