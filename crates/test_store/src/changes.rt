@@ -246,5 +246,5 @@ fn tables_are_made_once(rt: HostRuntime) {
     let mut tx = conn.transaction();
     let meta = find_meta(&mut tx).expect(&rt, "a row");
     let meta = meta.expect(&rt, "the office's row");
-    assert!(rt; meta.version == 2 && meta.country == Some(country(&rt)));
+    assert!(rt; meta.version == 3 && meta.country == Some(country(&rt)));
 }

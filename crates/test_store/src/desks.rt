@@ -43,7 +43,7 @@ fn a_desk_is_made_and_closed(rt: HostRuntime) {
     let mut tx = conn.transaction();
     let meta = find_meta(&mut tx).expect(&rt, "a row");
     let meta = meta.expect(&rt, "the office's row");
-    assert!(rt; meta.version == 2 && meta.country == Some(country));
+    assert!(rt; meta.version == 3 && meta.country == Some(country));
 }
 
 const LINES: [(OpenFault, &str); 6] = [

@@ -26,12 +26,12 @@ const ROWS: [&str; 20] = [
     "INSERT INTO movements VALUES (1, 3, '25CH00000100000030', 'A3', 'CH001251', 'DE005600', 20148, 'accepted', NULL, NULL, NULL)",
     "INSERT INTO movements VALUES (2, 1, '25CH00000200000019', 'B1', 'CH001251', 'DE005600', 20148, 'enquired', 20156, NULL, NULL)",
     "INSERT INTO movements VALUES (2, 2, '25CH00000200000027', 'B2', 'CH001251', 'DE005600', 20148, 'written-off', 20156, NULL, NULL)",
-    "INSERT INTO lines1 VALUES (1, 1, 1, 1, 100)",
-    "INSERT INTO lines1 VALUES (1, 1, 2, 2, 20000)",
-    "INSERT INTO lines1 VALUES (1, 2, 1, 1, 300)",
-    "INSERT INTO lines1 VALUES (1, 3, 1, 1, 5000)",
-    "INSERT INTO lines1 VALUES (2, 1, 1, 1, 70)",
-    "INSERT INTO lines1 VALUES (2, 2, 1, 1, 9)",
+    "INSERT INTO lines3 VALUES (1, 1, 1, 1, 100)",
+    "INSERT INTO lines3 VALUES (1, 1, 2, 2, 20000)",
+    "INSERT INTO lines3 VALUES (1, 2, 1, 1, 300)",
+    "INSERT INTO lines3 VALUES (1, 3, 1, 1, 5000)",
+    "INSERT INTO lines3 VALUES (2, 1, 1, 1, 70)",
+    "INSERT INTO lines3 VALUES (2, 2, 1, 1, 9)",
 ];
 
 fn push_movements(words: &mut String, movements: &[Movement]) -> Result<(), AllocError> {

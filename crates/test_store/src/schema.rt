@@ -1,8 +1,8 @@
-//! The tables are made once, with their keys and checks, those of either version.
+//! The tables are made once, with their keys and checks, those of each version.
 use crate::examples::{fill, with_layout, with_tables};
 use sqlite::{Connection, MemStore};
 use std::process::Abort;
-use td_schema::{Layout, NEWEST_LAYOUT, make_guarantees2, make_tables};
+use td_schema::{Layout, NEWEST_LAYOUT, make_guarantees2, make_lines3, make_tables};
 
 /// Statements, one after another, and whether each is taken.
 const STATEMENTS: [(&str, bool); 19] = [
@@ -58,9 +58,9 @@ const STATEMENTS: [(&str, bool); 19] = [
         "INSERT INTO movements VALUES (1, 2, '25CH00000100000029', 'A1', 'CH001251', 'DE005600', 20148, 'accepted', NULL, NULL, NULL)",
         false,
     ),
-    ("INSERT INTO lines1 VALUES (1, 2, 1, 1, 500000)", false),
-    ("INSERT INTO lines1 VALUES (1, 1, 10, 1, 500000)", false),
-    ("INSERT INTO lines1 VALUES (1, 1, 1, 1, 500000)", true),
+    ("INSERT INTO lines3 VALUES (1, 2, 1, 1, 500000)", false),
+    ("INSERT INTO lines3 VALUES (1, 1, 100, 1, 500000)", false),
+    ("INSERT INTO lines3 VALUES (1, 1, 99, 1, 500000)", true),
 ];
 
 #[test]
@@ -102,4 +102,49 @@ fn the_later_table_is_made_beside_the_first(rt: HostRuntime) {
     grow(&rt, &mut conn);
     fill(&rt, &mut conn, &[SECOND]);
     assert!(rt; conn.execute(FIRST, &[]).is_err());
+}
+
+/// Makes the table of lines of version 3 beside the tables of version 2.
+fn grow_lines(rt: &impl Abort, conn: &mut Connection<MemStore>) {
+    assert!(rt; conn.is_autocommit());
+    let mut tx = conn.transaction();
+    make_lines3(&mut tx).expect(rt, "a table");
+    tx.commit().expect(rt, "a commit");
+}
+
+const MOVEMENT: &str =
+    "INSERT INTO movements VALUES (1, 1, '25CH00000100000013', 'A1', 'CH001251', 'DE005600', 20148, 'accepted', NULL, NULL, NULL)";
+
+const TENTH: [&str; 2] = [
+    "INSERT INTO lines1 VALUES (1, 1, 10, 1, 500000)",
+    "INSERT INTO lines3 VALUES (1, 1, 10, 1, 500000)",
+];
+
+#[test]
+fn a_tenth_line_is_taken_by_the_table_of_version_3_alone(rt: HostRuntime) {
+    for layout in [Layout::Made2, Layout::Grown2] {
+        let mut conn = with_layout(&rt, layout);
+        fill(&rt, &mut conn, &[HOLDER, MOVEMENT]);
+        assert!(rt; conn.execute(TENTH[0], &[]).is_err() && conn.execute(TENTH[1], &[]).is_err());
+        grow_lines(&rt, &mut conn);
+        assert!(rt; conn.execute(TENTH[0], &[]).is_err() && conn.execute(TENTH[1], &[]).is_ok());
+    }
+}
+
+/// Each layout, and the number of its tables.
+const LAYOUTS: [(Layout, i64); 6] = [
+    (Layout::Made1, 6),
+    (Layout::Made2, 6),
+    (Layout::Grown2, 7),
+    (Layout::Made3, 6),
+    (Layout::Grown3From2, 7),
+    (Layout::Grown3From1, 8),
+];
+
+#[test]
+fn the_tables_of_each_layout_are_made(rt: HostRuntime) {
+    for (layout, tables) in &LAYOUTS {
+        let conn = with_layout(&rt, *layout);
+        assert!(rt; conn.schema().tables.len() == *tables as usize);
+    }
 }

@@ -39,7 +39,7 @@ $ migrate --db FILE
 ! 1 transit-desk: damaged S8
 $ sql UPDATE guarantees1 SET reference = 500000
 $ migrate --db FILE
-<| version 2\n
+<| version 3\n
 $ check --country CH --db FILE
 <| sound\n
 $ sql-finds 500000 SELECT used FROM guarantees2
@@ -79,7 +79,7 @@ $ migrate --db FILE
 ! 1 transit-desk: damaged S8
 $ sql UPDATE guarantees1 SET reference = 500000
 $ migrate --db FILE
-<| version 2\n
+<| version 3\n
 $ check --country CH --db FILE
 <| sound\n
 $ sql-finds 500000 SELECT used FROM guarantees2
@@ -249,7 +249,7 @@ $ pipe --country CH --at 1740819600 --db FILE
 < 200 {"codes":["AB12"],"cover":50,"ends":null,"free":500000,"grn":"25CH0000010000014","guaranteed":500000,"reference":1000000,"used":500000}
 > GET /holders/000002
 < 200 {"eori":"DE7654321","guarantees":1,"holder":"000002","movements":1}
-$ sql INSERT INTO lines1 VALUES (2, 1, 9, 99, 1)
+$ sql INSERT INTO lines3 VALUES (2, 1, 9, 99, 1)
 $ check --country CH --db FILE
 ! 1 transit-desk: damaged S6
 $ pipe --country CH --at 1740819600 --db FILE
@@ -258,7 +258,7 @@ $ pipe --country CH --at 1740819600 --db FILE
 $ pipe --country CH --at 1740819600 --db FILE --new
 > GET /holders/000001
 ! 1 transit-desk: store
-$ sql DELETE FROM lines1 WHERE no = 9
+$ sql DELETE FROM lines3 WHERE no = 9
 $ pipe --country CH --at 1740819600 --db FILE
 > GET /holders/000001
 < 200 {"eori":"CH1234567","guarantees":1,"holder":"000001","movements":1}

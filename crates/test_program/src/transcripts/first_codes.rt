@@ -30,13 +30,13 @@ $ pipe --country CH --at 1740819600 --db FILE
 $ migrate-after UPDATE codes SET holder = 2 WHERE code = 'EF56'
 ! 1 transit-desk: damaged S4
 $ migrate-after UPDATE codes SET holder = 2 WHERE code = 'CD34'
-<| version 2\n
+<| version 3\n
 $ migrate-after UPDATE codes SET holder = 3 WHERE code = 'CD34'
 ! 1 transit-desk: damaged S4
 $ sql-refused foreign-key UPDATE codes SET holder = 9 WHERE code = 'CD34'
 # The serial: a code may be another guarantee's, where the one it was of has a further code.
 $ migrate-after UPDATE codes SET serial = 2 WHERE code = 'CD34'
-<| version 2\n
+<| version 3\n
 $ migrate-after UPDATE codes SET serial = 1 WHERE code = 'EF56'
 ! 1 transit-desk: damaged S4
 $ migrate-after UPDATE codes SET serial = 3 WHERE code = 'CD34'
@@ -51,9 +51,9 @@ $ sql-refused not-null UPDATE codes SET serial = NULL WHERE code = 'CD34'
 $ sql-refused datatype UPDATE codes SET serial = 'one' WHERE code = 'CD34'
 # The code: four digits or capital letters.
 $ migrate-after UPDATE codes SET code = 'ZZ99' WHERE code = 'CD34'
-<| version 2\n
+<| version 3\n
 $ migrate-after UPDATE codes SET code = '0000' WHERE code = 'EF56'
-<| version 2\n
+<| version 3\n
 $ migrate-after UPDATE codes SET code = 'cd34' WHERE code = 'CD34'
 ! 1 transit-desk: damaged S4
 $ migrate-after UPDATE codes SET code = 'CD3' WHERE code = 'CD34'
@@ -69,11 +69,11 @@ $ sql-refused not-null UPDATE codes SET code = NULL WHERE code = 'CD34'
 $ sql-refused datatype UPDATE codes SET code = x'41423132' WHERE code = 'CD34'
 # 1 to 20 of a guarantee.
 $ migrate-after DELETE FROM codes WHERE code = 'CD34'
-<| version 2\n
+<| version 3\n
 $ migrate-after DELETE FROM codes WHERE code = 'EF56'
 ! 1 transit-desk: damaged S4
 $ migrate-after INSERT INTO codes VALUES (1, 1, 'X001'), (1, 1, 'X002'), (1, 1, 'X003'), (1, 1, 'X004'), (1, 1, 'X005'), (1, 1, 'X006'), (1, 1, 'X007'), (1, 1, 'X008'), (1, 1, 'X009'), (1, 1, 'X010'), (1, 1, 'X011'), (1, 1, 'X012'), (1, 1, 'X013'), (1, 1, 'X014'), (1, 1, 'X015'), (1, 1, 'X016'), (1, 1, 'X017'), (1, 1, 'X018')
-<| version 2\n
+<| version 3\n
 $ migrate-after INSERT INTO codes VALUES (1, 1, 'X001'), (1, 1, 'X002'), (1, 1, 'X003'), (1, 1, 'X004'), (1, 1, 'X005'), (1, 1, 'X006'), (1, 1, 'X007'), (1, 1, 'X008'), (1, 1, 'X009'), (1, 1, 'X010'), (1, 1, 'X011'), (1, 1, 'X012'), (1, 1, 'X013'), (1, 1, 'X014'), (1, 1, 'X015'), (1, 1, 'X016'), (1, 1, 'X017'), (1, 1, 'X018'), (1, 1, 'X019')
 ! 1 transit-desk: damaged S4
 # What the database does not take leaves the rows as they were, and so did each run over a copy.
@@ -81,18 +81,20 @@ $ check --country CH --db FILE
 ! 1 transit-desk: needs-migration 1
 $ sql-finds 3 SELECT count(*) FROM guarantees1
 $ migrate --db FILE
-<| version 2\n
+<| version 3\n
 $ check --country CH --db FILE
 <| sound\n
 $ migrate --db FILE
-<| version 2\n
+<| version 3\n
 # The table of version 1 stands emptied, and each amount in use is the sum.
 $ sql-finds 0 SELECT count(*) FROM guarantees1
 $ sql-finds 3 SELECT count(*) FROM guarantees2
 $ sql-finds 900000 SELECT used FROM guarantees2 WHERE holder = 1 AND serial = 1
 $ sql-finds 200000 SELECT used FROM guarantees2 WHERE holder = 1 AND serial = 2
 $ sql-finds 0 SELECT used FROM guarantees2 WHERE holder = 2 AND serial = 1
-$ sql-finds 2 SELECT version FROM meta
+$ sql-finds 3 SELECT version FROM meta
+$ sql-finds 5 SELECT count(*) FROM lines3
+$ sql-finds 0 SELECT count(*) FROM lines1
 "#;
 
 #[test]

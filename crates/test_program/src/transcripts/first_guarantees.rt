@@ -51,9 +51,9 @@ $ sql-refused not-null UPDATE guarantees1 SET serial = NULL WHERE holder = 2
 $ sql-refused datatype UPDATE guarantees1 SET serial = 'one' WHERE holder = 2
 # The GRN: made of country, holder and serial, in any year, since no column says when a guarantee was opened.
 $ migrate-after UPDATE guarantees1 SET grn = '24CH0000010000012' WHERE holder = 1 AND serial = 1
-<| version 2\n
+<| version 3\n
 $ migrate-after UPDATE guarantees1 SET grn = '00CH0000010000013' WHERE holder = 1 AND serial = 1
-<| version 2\n
+<| version 3\n
 $ migrate-after UPDATE guarantees1 SET grn = '25CH0000010000015' WHERE holder = 1 AND serial = 1
 ! 1 transit-desk: damaged S3
 $ migrate-after UPDATE guarantees1 SET grn = '25DE0000010000016' WHERE holder = 1 AND serial = 1
@@ -70,39 +70,39 @@ $ sql-refused unique UPDATE guarantees1 SET grn = '25CH0000020000010' WHERE hold
 $ sql-refused not-null UPDATE guarantees1 SET grn = NULL WHERE holder = 2
 # The reference amount: from 1 to 10^15, and no less than what is in use.
 $ migrate-after UPDATE guarantees1 SET reference = 1000000000000000 WHERE holder = 2
-<| version 2\n
+<| version 3\n
 $ sql-refused check UPDATE guarantees1 SET reference = 1000000000000001 WHERE holder = 2
 $ migrate-after UPDATE guarantees1 SET reference = 1 WHERE holder = 2
-<| version 2\n
+<| version 3\n
 $ sql-refused check UPDATE guarantees1 SET reference = 0 WHERE holder = 2
 $ migrate-after UPDATE guarantees1 SET reference = 900000 WHERE holder = 1 AND serial = 1
-<| version 2\n
+<| version 3\n
 $ migrate-after UPDATE guarantees1 SET reference = 899999 WHERE holder = 1 AND serial = 1
 ! 1 transit-desk: damaged S8
 $ migrate-after UPDATE guarantees1 SET reference = 200000 WHERE holder = 1 AND serial = 2
-<| version 2\n
+<| version 3\n
 $ migrate-after UPDATE guarantees1 SET reference = 199999 WHERE holder = 1 AND serial = 2
 ! 1 transit-desk: damaged S8
 $ sql-refused not-null UPDATE guarantees1 SET reference = NULL WHERE holder = 2
 # The cover: another of the four. What is in use hangs on the lines alone.
 $ migrate-after UPDATE guarantees1 SET cover = 30 WHERE holder = 1
-<| version 2\n
+<| version 3\n
 $ migrate-after UPDATE guarantees1 SET cover = 0 WHERE holder = 1
-<| version 2\n
+<| version 3\n
 $ sql-refused check UPDATE guarantees1 SET cover = 40 WHERE holder = 1
 $ sql-refused check UPDATE guarantees1 SET cover = -50 WHERE holder = 1
 $ sql-refused not-null UPDATE guarantees1 SET cover = NULL WHERE holder = 2
 # The day on which it ends: none, or one from 2000 to 2100. It says nothing of what is in use.
 $ migrate-after UPDATE guarantees1 SET ends = 20164 WHERE holder = 1 AND serial = 1
-<| version 2\n
+<| version 3\n
 $ migrate-after UPDATE guarantees1 SET ends = NULL WHERE holder = 1 AND serial = 2
-<| version 2\n
+<| version 3\n
 $ migrate-after UPDATE guarantees1 SET ends = 10957 WHERE holder = 1 AND serial = 2
-<| version 2\n
+<| version 3\n
 $ migrate-after UPDATE guarantees1 SET ends = 10956 WHERE holder = 1 AND serial = 2
 ! 1 transit-desk: damaged S3
 $ migrate-after UPDATE guarantees1 SET ends = 47846 WHERE holder = 1 AND serial = 2
-<| version 2\n
+<| version 3\n
 $ migrate-after UPDATE guarantees1 SET ends = 47847 WHERE holder = 1 AND serial = 2
 ! 1 transit-desk: damaged S3
 $ migrate-after UPDATE guarantees1 SET ends = -1 WHERE holder = 2
@@ -116,18 +116,20 @@ $ check --country CH --db FILE
 ! 1 transit-desk: needs-migration 1
 $ sql-finds 3 SELECT count(*) FROM guarantees1
 $ migrate --db FILE
-<| version 2\n
+<| version 3\n
 $ check --country CH --db FILE
 <| sound\n
 $ migrate --db FILE
-<| version 2\n
+<| version 3\n
 # The table of version 1 stands emptied, and each amount in use is the sum.
 $ sql-finds 0 SELECT count(*) FROM guarantees1
 $ sql-finds 3 SELECT count(*) FROM guarantees2
 $ sql-finds 900000 SELECT used FROM guarantees2 WHERE holder = 1 AND serial = 1
 $ sql-finds 200000 SELECT used FROM guarantees2 WHERE holder = 1 AND serial = 2
 $ sql-finds 0 SELECT used FROM guarantees2 WHERE holder = 2 AND serial = 1
-$ sql-finds 2 SELECT version FROM meta
+$ sql-finds 3 SELECT version FROM meta
+$ sql-finds 5 SELECT count(*) FROM lines3
+$ sql-finds 0 SELECT count(*) FROM lines1
 "#;
 
 #[test]

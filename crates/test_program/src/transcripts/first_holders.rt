@@ -28,23 +28,23 @@ $ pipe --country CH --at 1740819600 --db FILE
 ! 1 transit-desk: needs-migration 1
 # The number: one without rows is another holder's, one with rows has rows that refer to it.
 $ migrate-after UPDATE holders SET holder = 4 WHERE holder = 3
-<| version 2\n
+<| version 3\n
 $ migrate-after UPDATE holders SET holder = 999999 WHERE holder = 3
-<| version 2\n
+<| version 3\n
 $ sql-refused check UPDATE holders SET holder = 0 WHERE holder = 3
 $ sql-refused check UPDATE holders SET holder = 1000000 WHERE holder = 3
 $ sql-refused primary-key UPDATE holders SET holder = 2 WHERE holder = 3
 $ sql-refused foreign-key UPDATE holders SET holder = 4 WHERE holder = 1
 $ sql-refused foreign-key DELETE FROM holders WHERE holder = 2
 $ migrate-after DELETE FROM holders WHERE holder = 3
-<| version 2\n
+<| version 3\n
 $ migrate-after INSERT INTO holders VALUES (4, 'IT9', 1740819600, 0, 0)
-<| version 2\n
+<| version 3\n
 # The EORI: 3 to 17 characters, the first two capital letters, the rest these or digits.
 $ migrate-after UPDATE holders SET eori = 'DE1' WHERE holder = 1
-<| version 2\n
+<| version 3\n
 $ migrate-after UPDATE holders SET eori = 'CH123456789012345' WHERE holder = 2
-<| version 2\n
+<| version 3\n
 $ migrate-after UPDATE holders SET eori = 'CH1234567890123456' WHERE holder = 2
 ! 1 transit-desk: damaged S2
 $ migrate-after UPDATE holders SET eori = 'CH' WHERE holder = 3
@@ -61,15 +61,15 @@ $ sql-refused not-null UPDATE holders SET eori = NULL WHERE holder = 1
 $ sql-refused datatype UPDATE holders SET eori = x'4348' WHERE holder = 1
 # The moment of the last change: from 2000 to 2099. No rule ties it to the days of the holder's movements.
 $ migrate-after UPDATE holders SET last_at = 1740819600 WHERE holder = 1
-<| version 2\n
+<| version 3\n
 $ migrate-after UPDATE holders SET last_at = 1750000000 WHERE holder = 1
-<| version 2\n
+<| version 3\n
 $ migrate-after UPDATE holders SET last_at = 946684800 WHERE holder = 1
-<| version 2\n
+<| version 3\n
 $ migrate-after UPDATE holders SET last_at = 946684799 WHERE holder = 1
 ! 1 transit-desk: damaged S2
 $ migrate-after UPDATE holders SET last_at = 4102444799 WHERE holder = 3
-<| version 2\n
+<| version 3\n
 $ migrate-after UPDATE holders SET last_at = 4102444800 WHERE holder = 3
 ! 1 transit-desk: damaged S2
 $ migrate-after UPDATE holders SET last_at = -1 WHERE holder = 2
@@ -116,18 +116,20 @@ $ check --country CH --db FILE
 ! 1 transit-desk: needs-migration 1
 $ sql-finds 3 SELECT count(*) FROM guarantees1
 $ migrate --db FILE
-<| version 2\n
+<| version 3\n
 $ check --country CH --db FILE
 <| sound\n
 $ migrate --db FILE
-<| version 2\n
+<| version 3\n
 # The table of version 1 stands emptied, and each amount in use is the sum.
 $ sql-finds 0 SELECT count(*) FROM guarantees1
 $ sql-finds 3 SELECT count(*) FROM guarantees2
 $ sql-finds 900000 SELECT used FROM guarantees2 WHERE holder = 1 AND serial = 1
 $ sql-finds 200000 SELECT used FROM guarantees2 WHERE holder = 1 AND serial = 2
 $ sql-finds 0 SELECT used FROM guarantees2 WHERE holder = 2 AND serial = 1
-$ sql-finds 2 SELECT version FROM meta
+$ sql-finds 3 SELECT version FROM meta
+$ sql-finds 5 SELECT count(*) FROM lines3
+$ sql-finds 0 SELECT count(*) FROM lines1
 "#;
 
 #[test]

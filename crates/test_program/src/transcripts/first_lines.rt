@@ -34,7 +34,7 @@ $ sql-refused unique UPDATE lines1 SET holder = 2 WHERE holder = 1 AND serial = 
 $ sql-refused not-null UPDATE lines1 SET holder = NULL WHERE holder = 2
 # The serial: the last line of movement 1 may be the last one of another.
 $ migrate-after UPDATE lines1 SET serial = 3 WHERE holder = 1 AND serial = 1 AND no = 2
-<| version 2\n
+<| version 3\n
 $ migrate-after UPDATE lines1 SET serial = 3, no = 3 WHERE holder = 1 AND serial = 1 AND no = 2
 ! 1 transit-desk: damaged S6
 $ sql-refused foreign-key UPDATE lines1 SET serial = 4 WHERE holder = 1 AND serial = 1 AND no = 2
@@ -54,7 +54,7 @@ $ sql-refused not-null UPDATE lines1 SET no = NULL WHERE holder = 2
 $ sql-refused datatype UPDATE lines1 SET no = 'one' WHERE holder = 2
 # The guarantee: one of the holder's, each line on another. A movement that doesn't count uses none up.
 $ migrate-after UPDATE lines1 SET guarantee = 2 WHERE holder = 1 AND serial = 3
-<| version 2\n
+<| version 3\n
 $ migrate-after UPDATE lines1 SET guarantee = 2 WHERE holder = 1 AND serial = 2
 ! 1 transit-desk: damaged S8
 $ sql-refused unique UPDATE lines1 SET guarantee = 2 WHERE holder = 1 AND serial = 1 AND no = 1
@@ -72,15 +72,15 @@ $ sql-refused not-null UPDATE lines1 SET guarantee = NULL WHERE holder = 2
 $ sql-refused datatype UPDATE lines1 SET guarantee = 'one' WHERE holder = 2
 # The amount: from 1 to 10^12, and no more than is free on the guarantee where the movement counts.
 $ migrate-after UPDATE lines1 SET cents = 600000 WHERE holder = 1 AND serial = 1 AND no = 1
-<| version 2\n
+<| version 3\n
 $ migrate-after UPDATE lines1 SET cents = 600001 WHERE holder = 1 AND serial = 1 AND no = 1
 ! 1 transit-desk: damaged S8
 $ migrate-after UPDATE lines1 SET cents = 500001 WHERE holder = 1 AND serial = 2
 ! 1 transit-desk: damaged S8
 $ migrate-after UPDATE lines1 SET cents = 1 WHERE holder = 1 AND serial = 1 AND no = 1
-<| version 2\n
+<| version 3\n
 $ migrate-after UPDATE lines1 SET cents = 1000000000000 WHERE holder = 1 AND serial = 3
-<| version 2\n
+<| version 3\n
 $ migrate-after UPDATE lines1 SET cents = 1000000000000 WHERE holder = 1 AND serial = 2
 ! 1 transit-desk: damaged S8
 $ sql-refused check UPDATE lines1 SET cents = 1000000000001 WHERE holder = 1 AND serial = 3
@@ -89,7 +89,7 @@ $ sql-refused not-null UPDATE lines1 SET cents = NULL WHERE holder = 2
 $ sql-refused datatype UPDATE lines1 SET cents = 'one' WHERE holder = 2
 # A movement has 1 to 9 lines; each is there from the first to the last.
 $ migrate-after DELETE FROM lines1 WHERE holder = 1 AND serial = 1 AND no = 2
-<| version 2\n
+<| version 3\n
 $ migrate-after DELETE FROM lines1 WHERE holder = 1 AND serial = 1 AND no = 1
 ! 1 transit-desk: damaged S6
 $ migrate-after DELETE FROM lines1 WHERE holder = 2
@@ -102,18 +102,20 @@ $ check --country CH --db FILE
 ! 1 transit-desk: needs-migration 1
 $ sql-finds 3 SELECT count(*) FROM guarantees1
 $ migrate --db FILE
-<| version 2\n
+<| version 3\n
 $ check --country CH --db FILE
 <| sound\n
 $ migrate --db FILE
-<| version 2\n
+<| version 3\n
 # The table of version 1 stands emptied, and each amount in use is the sum.
 $ sql-finds 0 SELECT count(*) FROM guarantees1
 $ sql-finds 3 SELECT count(*) FROM guarantees2
 $ sql-finds 900000 SELECT used FROM guarantees2 WHERE holder = 1 AND serial = 1
 $ sql-finds 200000 SELECT used FROM guarantees2 WHERE holder = 1 AND serial = 2
 $ sql-finds 0 SELECT used FROM guarantees2 WHERE holder = 2 AND serial = 1
-$ sql-finds 2 SELECT version FROM meta
+$ sql-finds 3 SELECT version FROM meta
+$ sql-finds 5 SELECT count(*) FROM lines3
+$ sql-finds 0 SELECT count(*) FROM lines1
 "#;
 
 #[test]

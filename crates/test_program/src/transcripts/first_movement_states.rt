@@ -28,17 +28,17 @@ $ pipe --country CH --at 1740819600 --db FILE
 ! 1 transit-desk: needs-migration 1
 # The state: one that asks for the same days, and leaves no more in use.
 $ migrate-after UPDATE movements SET state = 'enquired' WHERE holder = 1 AND serial = 1
-<| version 2\n
+<| version 3\n
 $ migrate-after UPDATE movements SET state = 'written-off' WHERE holder = 1 AND serial = 1
-<| version 2\n
+<| version 3\n
 $ migrate-after UPDATE movements SET state = 'written-off' WHERE holder = 1 AND serial = 2
-<| version 2\n
+<| version 3\n
 $ migrate-after UPDATE movements SET state = 'discrepant' WHERE holder = 1 AND serial = 2
-<| version 2\n
+<| version 3\n
 $ migrate-after UPDATE movements SET state = 'cleared' WHERE holder = 1 AND serial = 2
-<| version 2\n
+<| version 3\n
 $ migrate-after UPDATE movements SET state = 'cancelled' WHERE holder = 1 AND serial = 3
-<| version 2\n
+<| version 3\n
 $ migrate-after UPDATE movements SET state = 'accepted' WHERE holder = 1 AND serial = 1
 ! 1 transit-desk: damaged S5
 $ migrate-after UPDATE movements SET state = 'arrived' WHERE holder = 1 AND serial = 1
@@ -57,16 +57,16 @@ $ migrate-after UPDATE movements SET state = 'released', limit_day = 20155 WHERE
 ! 1 transit-desk: damaged S8
 # The one of holder 2 has not: 600000 of 1000000.
 $ migrate-after UPDATE movements SET state = 'released', limit_day = 20155 WHERE holder = 2
-<| version 2\n
+<| version 3\n
 # The limit: there from the release on, and not before.
 $ migrate-after UPDATE movements SET limit_day = 20148 WHERE holder = 1 AND serial = 1
-<| version 2\n
+<| version 3\n
 $ migrate-after UPDATE movements SET limit_day = 10957 WHERE holder = 1 AND serial = 1
-<| version 2\n
+<| version 3\n
 $ migrate-after UPDATE movements SET limit_day = 10956 WHERE holder = 1 AND serial = 1
 ! 1 transit-desk: damaged S5
 $ migrate-after UPDATE movements SET limit_day = 47846 WHERE holder = 1 AND serial = 1
-<| version 2\n
+<| version 3\n
 $ migrate-after UPDATE movements SET limit_day = 47847 WHERE holder = 1 AND serial = 1
 ! 1 transit-desk: damaged S5
 $ migrate-after UPDATE movements SET limit_day = NULL WHERE holder = 1 AND serial = 1
@@ -78,7 +78,7 @@ $ migrate-after UPDATE movements SET limit_day = 20155 WHERE holder = 1 AND seri
 $ sql-refused datatype UPDATE movements SET limit_day = 'soon' WHERE holder = 1 AND serial = 1
 # The day and the office of arrival: both there from the arrival on, and not before.
 $ migrate-after UPDATE movements SET arrival = 20155 WHERE holder = 1 AND serial = 2
-<| version 2\n
+<| version 3\n
 $ migrate-after UPDATE movements SET arrival = NULL WHERE holder = 1 AND serial = 2
 ! 1 transit-desk: damaged S5
 $ migrate-after UPDATE movements SET arrival = 10956 WHERE holder = 1 AND serial = 2
@@ -91,7 +91,7 @@ $ migrate-after UPDATE movements SET arrival = 20150 WHERE holder = 1 AND serial
 ! 1 transit-desk: damaged S5
 $ sql-refused datatype UPDATE movements SET arrival = 'soon' WHERE holder = 1 AND serial = 2
 $ migrate-after UPDATE movements SET actual = 'DE005600' WHERE holder = 1 AND serial = 2
-<| version 2\n
+<| version 3\n
 $ migrate-after UPDATE movements SET actual = NULL WHERE holder = 1 AND serial = 2
 ! 1 transit-desk: damaged S5
 $ migrate-after UPDATE movements SET actual = 'DE00560' WHERE holder = 1 AND serial = 2
@@ -103,7 +103,7 @@ $ migrate-after UPDATE movements SET actual = 'DE005600' WHERE holder = 2
 $ sql-refused datatype UPDATE movements SET actual = x'44' WHERE holder = 1 AND serial = 2
 # Without both a movement that is written off was asked after; with one of them it is nothing.
 $ migrate-after UPDATE movements SET state = 'written-off', arrival = NULL, actual = NULL WHERE holder = 1 AND serial = 2
-<| version 2\n
+<| version 3\n
 $ migrate-after UPDATE movements SET state = 'written-off', arrival = NULL WHERE holder = 1 AND serial = 2
 ! 1 transit-desk: damaged S5
 # What the database does not take leaves the rows as they were, and so did each run over a copy.
@@ -111,18 +111,20 @@ $ check --country CH --db FILE
 ! 1 transit-desk: needs-migration 1
 $ sql-finds 3 SELECT count(*) FROM guarantees1
 $ migrate --db FILE
-<| version 2\n
+<| version 3\n
 $ check --country CH --db FILE
 <| sound\n
 $ migrate --db FILE
-<| version 2\n
+<| version 3\n
 # The table of version 1 stands emptied, and each amount in use is the sum.
 $ sql-finds 0 SELECT count(*) FROM guarantees1
 $ sql-finds 3 SELECT count(*) FROM guarantees2
 $ sql-finds 900000 SELECT used FROM guarantees2 WHERE holder = 1 AND serial = 1
 $ sql-finds 200000 SELECT used FROM guarantees2 WHERE holder = 1 AND serial = 2
 $ sql-finds 0 SELECT used FROM guarantees2 WHERE holder = 2 AND serial = 1
-$ sql-finds 2 SELECT version FROM meta
+$ sql-finds 3 SELECT version FROM meta
+$ sql-finds 5 SELECT count(*) FROM lines3
+$ sql-finds 0 SELECT count(*) FROM lines1
 "#;
 
 #[test]

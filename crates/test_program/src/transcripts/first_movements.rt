@@ -56,7 +56,7 @@ $ sql-refused unique UPDATE movements SET mrn = '25CH00000200000019' WHERE holde
 $ sql-refused not-null UPDATE movements SET mrn = NULL WHERE holder = 2
 # Or made with the letter, of the same.
 $ migrate-after UPDATE movements SET mrn = '25CH000001000001J8' WHERE holder = 1 AND serial = 1
-<| version 2\n
+<| version 3\n
 $ migrate-after UPDATE movements SET mrn = '24CH000001000001J6' WHERE holder = 1 AND serial = 1
 ! 1 transit-desk: damaged S5
 $ migrate-after UPDATE movements SET mrn = '25DE000001000001J0' WHERE holder = 1 AND serial = 1
@@ -71,9 +71,9 @@ $ migrate-after UPDATE movements SET mrn = '25CH000001000001J9' WHERE holder = 1
 ! 1 transit-desk: damaged S5
 # The LRN: 1 to 22 digits, letters, `-`, `/` and `.`, the holder's own.
 $ migrate-after UPDATE movements SET lrn = 'b-2/3.4' WHERE holder = 1 AND serial = 1
-<| version 2\n
+<| version 3\n
 $ migrate-after UPDATE movements SET lrn = '1234567890123456789012' WHERE holder = 1 AND serial = 1
-<| version 2\n
+<| version 3\n
 $ migrate-after UPDATE movements SET lrn = '12345678901234567890123' WHERE holder = 1 AND serial = 1
 ! 1 transit-desk: damaged S5
 $ migrate-after UPDATE movements SET lrn = '' WHERE holder = 1 AND serial = 1
@@ -82,25 +82,27 @@ $ migrate-after UPDATE movements SET lrn = 'A 1' WHERE holder = 1 AND serial = 1
 ! 1 transit-desk: damaged S5
 $ sql-refused unique UPDATE movements SET lrn = 'A2' WHERE holder = 1 AND serial = 1
 $ migrate-after UPDATE movements SET lrn = 'A2' WHERE holder = 2
-<| version 2\n
+<| version 3\n
 $ sql-refused not-null UPDATE movements SET lrn = NULL WHERE holder = 2
 # What the database does not take leaves the rows as they were, and so did each run over a copy.
 $ check --country CH --db FILE
 ! 1 transit-desk: needs-migration 1
 $ sql-finds 3 SELECT count(*) FROM guarantees1
 $ migrate --db FILE
-<| version 2\n
+<| version 3\n
 $ check --country CH --db FILE
 <| sound\n
 $ migrate --db FILE
-<| version 2\n
+<| version 3\n
 # The table of version 1 stands emptied, and each amount in use is the sum.
 $ sql-finds 0 SELECT count(*) FROM guarantees1
 $ sql-finds 3 SELECT count(*) FROM guarantees2
 $ sql-finds 900000 SELECT used FROM guarantees2 WHERE holder = 1 AND serial = 1
 $ sql-finds 200000 SELECT used FROM guarantees2 WHERE holder = 1 AND serial = 2
 $ sql-finds 0 SELECT used FROM guarantees2 WHERE holder = 2 AND serial = 1
-$ sql-finds 2 SELECT version FROM meta
+$ sql-finds 3 SELECT version FROM meta
+$ sql-finds 5 SELECT count(*) FROM lines3
+$ sql-finds 0 SELECT count(*) FROM lines1
 
 == changes of movements' offices and days at version 1
 # Holder 1 has two guarantees and three movements: of the first one's 1000000 cents 500000 are in use by movement 1,
@@ -127,7 +129,7 @@ $ pipe --country CH --at 1740819600 --db FILE
 ! 1 transit-desk: needs-migration 1
 # An office is two capital letters and six of these or digits. Any is as good as another.
 $ migrate-after UPDATE movements SET departure = 'DE005600' WHERE holder = 1 AND serial = 1
-<| version 2\n
+<| version 3\n
 $ migrate-after UPDATE movements SET departure = 'CH00125' WHERE holder = 1 AND serial = 1
 ! 1 transit-desk: damaged S5
 $ migrate-after UPDATE movements SET departure = 'CH0012511' WHERE holder = 1 AND serial = 1
@@ -136,9 +138,9 @@ $ migrate-after UPDATE movements SET departure = 'ch001251' WHERE holder = 2
 ! 1 transit-desk: damaged S5
 $ sql-refused not-null UPDATE movements SET departure = NULL WHERE holder = 2
 $ migrate-after UPDATE movements SET destination = 'CH001251' WHERE holder = 1 AND serial = 1
-<| version 2\n
+<| version 3\n
 $ migrate-after UPDATE movements SET destination = 'ITZZ0200' WHERE holder = 1 AND serial = 1
-<| version 2\n
+<| version 3\n
 $ migrate-after UPDATE movements SET destination = '12005600' WHERE holder = 1 AND serial = 1
 ! 1 transit-desk: damaged S5
 $ migrate-after UPDATE movements SET destination = '' WHERE holder = 2
@@ -146,11 +148,11 @@ $ migrate-after UPDATE movements SET destination = '' WHERE holder = 2
 $ sql-refused not-null UPDATE movements SET destination = NULL WHERE holder = 2
 # The day of acceptance: any of the year that the MRN has, 2025. No rule ties the days of a movement to one another.
 $ migrate-after UPDATE movements SET accepted = 20089 WHERE holder = 1 AND serial = 1
-<| version 2\n
+<| version 3\n
 $ migrate-after UPDATE movements SET accepted = 20088 WHERE holder = 1 AND serial = 1
 ! 1 transit-desk: damaged S5
 $ migrate-after UPDATE movements SET accepted = 20453 WHERE holder = 1 AND serial = 1
-<| version 2\n
+<| version 3\n
 $ migrate-after UPDATE movements SET accepted = 20454 WHERE holder = 1 AND serial = 1
 ! 1 transit-desk: damaged S5
 $ migrate-after UPDATE movements SET accepted = -1 WHERE holder = 2
@@ -162,18 +164,20 @@ $ check --country CH --db FILE
 ! 1 transit-desk: needs-migration 1
 $ sql-finds 3 SELECT count(*) FROM guarantees1
 $ migrate --db FILE
-<| version 2\n
+<| version 3\n
 $ check --country CH --db FILE
 <| sound\n
 $ migrate --db FILE
-<| version 2\n
+<| version 3\n
 # The table of version 1 stands emptied, and each amount in use is the sum.
 $ sql-finds 0 SELECT count(*) FROM guarantees1
 $ sql-finds 3 SELECT count(*) FROM guarantees2
 $ sql-finds 900000 SELECT used FROM guarantees2 WHERE holder = 1 AND serial = 1
 $ sql-finds 200000 SELECT used FROM guarantees2 WHERE holder = 1 AND serial = 2
 $ sql-finds 0 SELECT used FROM guarantees2 WHERE holder = 2 AND serial = 1
-$ sql-finds 2 SELECT version FROM meta
+$ sql-finds 3 SELECT version FROM meta
+$ sql-finds 5 SELECT count(*) FROM lines3
+$ sql-finds 0 SELECT count(*) FROM lines1
 "#;
 
 #[test]

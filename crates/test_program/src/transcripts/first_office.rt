@@ -35,11 +35,15 @@ $ migrate-after DELETE FROM meta
 $ migrate-after UPDATE meta SET version = 0
 ! 1 transit-desk: unknown-version
 $ migrate-after UPDATE meta SET version = 1
-<| version 2\n
+<| version 3\n
 # The tables are not of the version that the row says.
 $ check-after UPDATE meta SET version = 2
+! 1 transit-desk: needs-migration 2
+$ migrate-after UPDATE meta SET version = 2
 ! 1 transit-desk: store
-$ migrate-after UPDATE meta SET version = 3
+$ check-after UPDATE meta SET version = 3
+! 1 transit-desk: store
+$ migrate-after UPDATE meta SET version = 4
 ! 1 transit-desk: unknown-version
 $ migrate-after UPDATE meta SET version = -1
 ! 1 transit-desk: unknown-version
@@ -71,18 +75,20 @@ $ check --country CH --db FILE
 ! 1 transit-desk: needs-migration 1
 $ sql-finds 3 SELECT count(*) FROM guarantees1
 $ migrate --db FILE
-<| version 2\n
+<| version 3\n
 $ check --country CH --db FILE
 <| sound\n
 $ migrate --db FILE
-<| version 2\n
+<| version 3\n
 # The table of version 1 stands emptied, and each amount in use is the sum.
 $ sql-finds 0 SELECT count(*) FROM guarantees1
 $ sql-finds 3 SELECT count(*) FROM guarantees2
 $ sql-finds 900000 SELECT used FROM guarantees2 WHERE holder = 1 AND serial = 1
 $ sql-finds 200000 SELECT used FROM guarantees2 WHERE holder = 1 AND serial = 2
 $ sql-finds 0 SELECT used FROM guarantees2 WHERE holder = 2 AND serial = 1
-$ sql-finds 2 SELECT version FROM meta
+$ sql-finds 3 SELECT version FROM meta
+$ sql-finds 5 SELECT count(*) FROM lines3
+$ sql-finds 0 SELECT count(*) FROM lines1
 "#;
 
 #[test]

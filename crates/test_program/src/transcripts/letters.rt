@@ -9,7 +9,7 @@ $ sql INSERT INTO holders VALUES (1, 'CH1234567', 1740819600, 1, 3)
 $ sql INSERT INTO guarantees2 VALUES (1, 1, '25CH0000010000014', 1500000, 50, NULL, 0)
 $ sql INSERT INTO codes VALUES (1, 1, 'AB12')
 $ sql INSERT INTO movements VALUES (1, 1, '25CH00000100000013', 'A1', 'CH001251', 'DE005600', 20148, 'accepted', NULL, NULL, NULL), (1, 2, '25CH00000100000021', 'A2', 'CH001251', 'DE005600', 20148, 'accepted', NULL, NULL, NULL), (1, 3, '25CH00000100000030', 'A3', 'CH001251', 'DE005600', 20148, 'accepted', NULL, NULL, NULL)
-$ sql INSERT INTO lines1 VALUES (1, 1, 1, 1, 500000), (1, 2, 1, 1, 500000), (1, 3, 1, 1, 500000)
+$ sql INSERT INTO lines3 VALUES (1, 1, 1, 1, 500000), (1, 2, 1, 1, 500000), (1, 3, 1, 1, 500000)
 $ check --country CH --db FILE
 <| sound\n
 $ pipe --country CH --at 1740819600 --db FILE

@@ -40,9 +40,11 @@ $ sql-finds 1 SELECT version FROM meta
 $ sql-finds 1 SELECT count(*) FROM guarantees1
 $ sql-finds 1 SELECT count(*) FROM movements
 $ migrate --db FILE
-<| version 2\n
-$ sql-finds 2 SELECT version FROM meta
+<| version 3\n
+$ sql-finds 3 SELECT version FROM meta
 $ sql-finds 0 SELECT count(*) FROM guarantees1
+$ sql-finds 0 SELECT count(*) FROM lines1
+$ sql-finds 500000 SELECT cents FROM lines3 WHERE holder = 1 AND serial = 1 AND no = 1 AND guarantee = 1
 $ sql-finds 500000 SELECT used FROM guarantees2 WHERE holder = 1 AND serial = 1
 $ check --country CH --db FILE
 <| sound\n
@@ -72,7 +74,7 @@ $ pipe --country CH --at 1740819600 --db FILE
 > POST /holders/000001/movements {"lrn":"A1","departure":"CH001251","destination":"DE005600","lines":[{"grn":"25CH0000010000014","code":"AB12","cents":500000}]}
 < 200 {"lrn":"A1","message":"IE028","mrn":"25CH00000100000013"}
 $ migrate --db FILE
-<| version 2\n
+<| version 3\n
 $ check --country CH --db FILE
 <| sound\n
 $ sql-finds 1000000 SELECT used FROM guarantees2
@@ -91,7 +93,7 @@ $ pipe --country CH --at 1740819600 --db FILE
 $ check --country CH --db FILE
 <| sound\n
 $ migrate --db FILE
-<| version 2\n
+<| version 3\n
 $ sql-finds 500000 SELECT used FROM guarantees2
 $ sql-finds 0 SELECT count(*) FROM guarantees1
 
@@ -112,7 +114,7 @@ $ sql INSERT INTO lines1 VALUES (1, 1, 1, 1, 500000), (1, 2, 1, 1, 500000), (1, 
 $ check --country CH --db FILE
 ! 1 transit-desk: needs-migration 1
 $ migrate --db FILE
-<| version 2\n
+<| version 3\n
 $ check --country CH --db FILE
 <| sound\n
 $ sql-finds 1000000 SELECT used FROM guarantees2
@@ -126,7 +128,7 @@ $ pipe --country CH --at 1740819600 --db FILE
 > GET /holders/000002
 < 200 {"eori":"DE7654321","guarantees":0,"holder":"000002","movements":0}
 $ migrate --db FILE
-<| version 2\n
+<| version 3\n
 $ check --country CH --db FILE
 <| sound\n
 
@@ -150,7 +152,7 @@ $ sql INSERT INTO lines1 VALUES (1, 1, 2, 2, 1000), (1, 2, 2, 2, 1000), (1, 3, 2
 $ check --country CH --db FILE
 ! 1 transit-desk: needs-migration 1
 $ migrate --db FILE
-<| version 2\n
+<| version 3\n
 $ sql-finds 11111000 SELECT used FROM guarantees2 WHERE serial = 1
 $ sql-finds 0 SELECT used FROM guarantees2 WHERE serial = 2
 $ check --country CH --db FILE
@@ -159,7 +161,7 @@ $ pipe --country CH --at 1740819600 --db FILE
 > GET /holders/000001/guarantees
 < 200 {"guarantees":[{"codes":["AB12"],"cover":100,"ends":null,"free":188889000,"grn":"25CH0000010000014","guaranteed":200000000,"reference":200000000,"used":11111000},{"codes":["AB12"],"cover":100,"ends":null,"free":1,"grn":"25CH0000010000023","guaranteed":1,"reference":1,"used":0}]}
 $ migrate --db FILE
-<| version 2\n
+<| version 3\n
 $ check --country CH --db FILE
 <| sound\n
 
@@ -182,7 +184,7 @@ $ sql INSERT INTO lines1 VALUES (1, 1, 1, 1, 100), (1, 1, 2, 2, 1000000000000), 
 $ check --country CH --db FILE
 ! 1 transit-desk: needs-migration 1
 $ migrate --db FILE
-<| version 2\n
+<| version 3\n
 $ check --country CH --db FILE
 <| sound\n
 $ sql-finds 300 SELECT used FROM guarantees2 WHERE holder = 1 AND serial = 1
@@ -201,7 +203,7 @@ $ pipe --country CH --at 1740819600 --db FILE
 > GET /holders/999999/guarantees
 < 200 {"guarantees":[]}
 $ migrate --db FILE
-<| version 2\n
+<| version 3\n
 $ check --country CH --db FILE
 <| sound\n
 
@@ -216,7 +218,7 @@ $ sql INSERT INTO meta VALUES (1, 1, 'CH')
 $ check --country CH --db FILE
 ! 1 transit-desk: needs-migration 1
 $ migrate --db FILE
-<| version 2\n
+<| version 3\n
 $ check --country CH --db FILE
 <| sound\n
 $ sql-finds 0 SELECT count(*) FROM guarantees2
@@ -259,7 +261,7 @@ $ sql-finds 1 SELECT version FROM meta
 $ sql-finds 1 SELECT count(*) FROM guarantees1
 $ sql UPDATE meta SET country = 'CH'
 $ migrate --db FILE
-<| version 2\n
+<| version 3\n
 $ check --country CH --db FILE
 <| sound\n
 
@@ -282,7 +284,7 @@ $ pipe --country CH --at 1740819600 --db FILE
 $ check --country CH --db FILE
 ! 1 transit-desk: needs-migration 1
 $ migrate --db FILE
-<| version 2\n
+<| version 3\n
 $ pipe --country CH --at 1740819600 --db FILE
 > GET /holders/000001
 ! 1 transit-desk: other-country

@@ -17,7 +17,7 @@ $ sql INSERT INTO guarantees1 VALUES (1, 1, '25CH0000010000014', 1000000, 50, NU
 $ sql INSERT INTO codes VALUES (1, 1, 'AB12')
 $ sql INSERT INTO movements VALUES (1, 1, '25CH00000100000013', 'A1', 'CH001251', 'DE005600', 20148, 'released', 20155, NULL, NULL)
 $ sql INSERT INTO lines1 VALUES (1, 1, 1, 1, 500000)
-$ sql UPDATE meta SET version = 3
+$ sql UPDATE meta SET version = 4
 $ check --country CH --db FILE
 ! 1 transit-desk: unknown-version
 $ pipe --country CH --at 1740819600 --db FILE
@@ -25,7 +25,7 @@ $ pipe --country CH --at 1740819600 --db FILE
 ! 1 transit-desk: unknown-version
 $ migrate --db FILE
 ! 1 transit-desk: unknown-version
-$ sql-finds 3 SELECT version FROM meta
+$ sql-finds 4 SELECT version FROM meta
 $ sql UPDATE meta SET version = 0
 $ check --country CH --db FILE
 ! 1 transit-desk: unknown-version
@@ -61,11 +61,11 @@ $ migrate --db FILE
 $ sql INSERT INTO meta VALUES (1, 1, 'CH')
 $ sql-finds 1 SELECT count(*) FROM guarantees1
 $ migrate --db FILE
-<| version 2\n
+<| version 3\n
 $ check --country CH --db FILE
 <| sound\n
 # So it is in a file of the newest version.
-$ sql UPDATE meta SET version = 3
+$ sql UPDATE meta SET version = 4
 $ check --country CH --db FILE
 ! 1 transit-desk: unknown-version
 $ migrate --db FILE
@@ -85,18 +85,18 @@ $ check --country CH --db FILE
 ! 1 transit-desk: unknown-version
 $ migrate --db FILE
 ! 1 transit-desk: unknown-version
-$ sql UPDATE meta SET version = 2
+$ sql UPDATE meta SET version = 3
 $ check --country CH --db FILE
 <| sound\n
 
 == tables of another version than the office's row says are none of a desk
-# A desk that is made has the tables of version 2, and a file that was migrated has both.
+# A desk that is made has the tables of version 3, and a file that was migrated has those of earlier versions as well.
 $ pipe --country CH --at 1740819600 --db FILE --new
 > PUT /office/holders/000001 {"eori":"CH1234567"}
 < 200 {"eori":"CH1234567","guarantees":0,"holder":"000001","movements":0}
-$ sql-finds 2 SELECT version FROM meta
+$ sql-finds 3 SELECT version FROM meta
 $ migrate --db FILE
-<| version 2\n
+<| version 3\n
 $ sql UPDATE meta SET version = 1
 $ check --country CH --db FILE
 ! 1 transit-desk: needs-migration 1
@@ -105,9 +105,15 @@ $ migrate --db FILE
 $ sql-finds 1 SELECT version FROM meta
 $ sql UPDATE meta SET version = 2
 $ check --country CH --db FILE
+! 1 transit-desk: needs-migration 2
+$ migrate --db FILE
+! 1 transit-desk: store
+$ sql-finds 2 SELECT version FROM meta
+$ sql UPDATE meta SET version = 3
+$ check --country CH --db FILE
 <| sound\n
 
-== tables of both versions are none of version 1
+== tables of all versions are none of version 1 or 2
 $ sql CREATE TABLE meta (one INTEGER PRIMARY KEY CHECK (one = 1), version INTEGER NOT NULL, country TEXT NOT NULL) STRICT
 $ sql CREATE TABLE holders (holder INTEGER PRIMARY KEY CHECK (holder BETWEEN 1 AND 999999), eori TEXT NOT NULL, last_at INTEGER NOT NULL, grn_count INTEGER NOT NULL, mrn_count INTEGER NOT NULL) STRICT
 $ sql CREATE TABLE codes (holder INTEGER NOT NULL REFERENCES holders, serial INTEGER NOT NULL, code TEXT NOT NULL, PRIMARY KEY (holder, serial, code)) STRICT
@@ -121,7 +127,7 @@ $ sql INSERT INTO codes VALUES (1, 1, 'AB12')
 $ sql INSERT INTO movements VALUES (1, 1, '25CH00000100000013', 'A1', 'CH001251', 'DE005600', 20148, 'released', 20155, NULL, NULL)
 $ sql INSERT INTO lines1 VALUES (1, 1, 1, 1, 500000)
 $ migrate --db FILE
-<| version 2\n
+<| version 3\n
 $ sql UPDATE meta SET version = 1
 $ check --country CH --db FILE
 ! 1 transit-desk: needs-migration 1
@@ -130,9 +136,15 @@ $ migrate --db FILE
 $ sql-finds 500000 SELECT used FROM guarantees2
 $ sql UPDATE meta SET version = 2
 $ check --country CH --db FILE
+! 1 transit-desk: needs-migration 2
+$ migrate --db FILE
+! 1 transit-desk: store
+$ sql-finds 1 SELECT count(*) FROM lines3
+$ sql UPDATE meta SET version = 3
+$ check --country CH --db FILE
 <| sound\n
 
-== tables of version 1 are none of version 2
+== tables of version 1 are none of version 2 or 3
 $ sql CREATE TABLE meta (one INTEGER PRIMARY KEY CHECK (one = 1), version INTEGER NOT NULL, country TEXT NOT NULL) STRICT
 $ sql CREATE TABLE holders (holder INTEGER PRIMARY KEY CHECK (holder BETWEEN 1 AND 999999), eori TEXT NOT NULL, last_at INTEGER NOT NULL, grn_count INTEGER NOT NULL, mrn_count INTEGER NOT NULL) STRICT
 $ sql CREATE TABLE codes (holder INTEGER NOT NULL REFERENCES holders, serial INTEGER NOT NULL, code TEXT NOT NULL, PRIMARY KEY (holder, serial, code)) STRICT
@@ -147,13 +159,22 @@ $ sql INSERT INTO movements VALUES (1, 1, '25CH00000100000013', 'A1', 'CH001251'
 $ sql INSERT INTO lines1 VALUES (1, 1, 1, 1, 500000)
 $ sql UPDATE meta SET version = 2
 $ check --country CH --db FILE
+! 1 transit-desk: needs-migration 2
+$ pipe --country CH --at 1740819600 --db FILE
+> GET /holders/000001
+! 1 transit-desk: needs-migration 2
+$ migrate --db FILE
+! 1 transit-desk: store
+$ sql-finds 2 SELECT version FROM meta
+$ sql UPDATE meta SET version = 3
+$ check --country CH --db FILE
 ! 1 transit-desk: store
 $ pipe --country CH --at 1740819600 --db FILE
 > GET /holders/000001
 ! 1 transit-desk: store
 $ sql UPDATE meta SET version = 1
 $ migrate --db FILE
-<| version 2\n
+<| version 3\n
 $ check --country CH --db FILE
 <| sound\n
 
@@ -172,12 +193,12 @@ $ sql INSERT INTO codes VALUES (1, 1, 'AB12')
 $ sql INSERT INTO movements VALUES (1, 1, '25CH00000100000013', 'A1', 'CH001251', 'DE005600', 20148, 'released', 20155, NULL, NULL)
 $ sql INSERT INTO lines1 VALUES (1, 1, 1, 1, 500000)
 $ migrate --db FILE
-<| version 2\n
+<| version 3\n
 $ sql UPDATE guarantees2 SET used = 500001
 $ check --country CH --db FILE
 ! 1 transit-desk: damaged S7
 $ migrate --db FILE
-<| version 2\n
+<| version 3\n
 $ sql-finds 500001 SELECT used FROM guarantees2
 $ check --country CH --db FILE
 ! 1 transit-desk: damaged S7
@@ -239,7 +260,7 @@ $ sql-finds 1 SELECT version FROM meta
 $ sql-finds 1 SELECT count(*) FROM guarantees1
 $ sql DROP TABLE notes
 $ migrate --db FILE
-<| version 2\n
+<| version 3\n
 $ check --country CH --db FILE
 <| sound\n
 
@@ -269,7 +290,7 @@ $ sql-finds 1 SELECT version FROM meta
 $ migrate --db FILE
 # What is sent is not read.
 > GET /holders/000001
-<| version 2\n
+<| version 3\n
 "#;
 
 #[test]

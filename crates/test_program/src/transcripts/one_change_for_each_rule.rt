@@ -23,7 +23,7 @@ $ check-after DELETE FROM codes WHERE holder = 1 AND serial = 1
 ! 1 transit-desk: damaged S4
 $ check-after UPDATE movements SET mrn = '24CH000001000001J6' WHERE holder = 1 AND serial = 1
 ! 1 transit-desk: damaged S5
-$ check-after UPDATE lines1 SET guarantee = 9
+$ check-after UPDATE lines3 SET guarantee = 9
 ! 1 transit-desk: damaged S6
 $ check-after UPDATE guarantees2 SET used = used + 1
 ! 1 transit-desk: damaged S7

@@ -18,7 +18,7 @@ const ROWS: [&str; 6] = [
     "INSERT INTO codes VALUES (1, 1, 'AB12'), (1, 1, 'CD34'), (1, 2, 'EF56'), (2, 1, 'AB12')",
     "INSERT INTO movements VALUES (1, 1, '25CH00000100000013', 'A1', 'CH001251', 'DE005600', 20148, 'released', 20155, NULL, NULL), (1, 2, '25CH00000100000021', 'A2', 'CH001251', 'DE005600', 20148, 'arrived', 20155, 20150, 'FR000100')",
     "INSERT INTO movements VALUES (1, 3, '25CH00000100000030', 'A3', 'CH001251', 'DE005600', 20148, 'accepted', NULL, NULL, NULL), (2, 1, '25CH00000200000019', 'A1', 'CH001251', 'DE005600', 20148, 'accepted', NULL, NULL, NULL)",
-    "INSERT INTO lines1 VALUES (1, 1, 1, 1, 500000), (1, 1, 2, 2, 200000), (1, 2, 1, 1, 400000), (1, 3, 1, 1, 100001), (2, 1, 1, 1, 600000)",
+    "INSERT INTO lines3 VALUES (1, 1, 1, 1, 500000), (1, 1, 2, 2, 200000), (1, 2, 1, 1, 400000), (1, 3, 1, 1, 100001), (2, 1, 1, 1, 600000)",
 ];
 
 /// A row that is put in, the rule that it breaks, and the statement that takes it away again.
@@ -47,14 +47,14 @@ const JUNK: [Junk; 6] = [
         "DELETE FROM movements WHERE mrn = 'junk'",
     ),
     (
-        "INSERT INTO lines1 VALUES (2, 1, 9, 99, 1)",
+        "INSERT INTO lines3 VALUES (2, 1, 9, 99, 1)",
         Rule::S6,
-        "DELETE FROM lines1 WHERE no = 9",
+        "DELETE FROM lines3 WHERE no = 9",
     ),
     (
-        "INSERT INTO lines1 VALUES (1, 2, 2, 2, 300001)",
+        "INSERT INTO lines3 VALUES (1, 2, 2, 2, 300001)",
         Rule::S7,
-        "DELETE FROM lines1 WHERE cents = 300001",
+        "DELETE FROM lines3 WHERE cents = 300001",
     ),
 ];
 
@@ -64,7 +64,7 @@ const TABLES: [&str; 6] = [
     "SELECT holder, serial, grn, reference, cover, ends, used FROM guarantees2",
     "SELECT holder, serial, code FROM codes",
     "SELECT holder, serial, mrn, lrn, departure, destination, accepted, state, limit_day, arrival, actual FROM movements",
-    "SELECT holder, serial, no, guarantee, cents FROM lines1",
+    "SELECT holder, serial, no, guarantee, cents FROM lines3",
 ];
 
 /// A database with these rows.

@@ -1,5 +1,5 @@
-//! Files of version 1, whose tables and rows are made by hand: they are told as that, audited, and brought to the newest
-//! version with all that they hold, or refused and left.
+//! Files of version 1 and of version 2, whose tables and rows are made by hand: they are told as that, audited, and brought to
+//! the newest version with all that they hold, or refused and left.
 use super::junk::{push_rows, shown, tables};
 use super::opening::refused;
 use crate::examples::{fill, holder, with_layout};
@@ -9,7 +9,7 @@ use td_base::HolderNo;
 use td_migrate::{MigrateFault, upgrade, version};
 use td_schema::Layout;
 use td_store::{OpenFault, audit, file_version};
-use td_store_rows::{guarantees_of, kept_of};
+use td_store_rows::{guarantees_of, kept_of, older_lines};
 use td_table_model::Rule;
 
 /// The rows of a desk of CH at version 1. Holder 1 has two guarantees and three movements: of the first one's 1000000 cents
@@ -87,42 +87,42 @@ fn audited(
     audit(rt.alloc(), conn, version)
 }
 
-/// The same, of version 2.
-fn second(rt: &(impl AllocGlobal + Abort)) -> Connection<MemStore> {
+/// The same, brought to the newest version.
+fn newest(rt: &(impl AllocGlobal + Abort)) -> Connection<MemStore> {
     let mut conn = first(rt);
-    assert!(rt; upgraded(rt, &mut conn) == Ok(2));
+    assert!(rt; upgraded(rt, &mut conn) == Ok(3));
     conn
 }
 
 #[test]
-fn a_file_of_version_1_becomes_one_of_version_2(rt: HostRuntime) {
+fn a_file_of_version_1_becomes_one_of_version_3(rt: HostRuntime) {
     let mut conn = first(&rt);
     assert!(rt; version_of(&rt, &mut conn) == Ok(1));
-    assert!(rt; upgraded(&rt, &mut conn) == Ok(2));
-    assert!(rt; version_of(&rt, &mut conn) == Ok(2));
-    assert!(rt; upgraded(&rt, &mut conn) == Ok(2));
-    assert!(rt; version_of(&rt, &mut conn) == Ok(2));
+    assert!(rt; upgraded(&rt, &mut conn) == Ok(3));
+    assert!(rt; version_of(&rt, &mut conn) == Ok(3));
+    assert!(rt; upgraded(&rt, &mut conn) == Ok(3));
+    assert!(rt; version_of(&rt, &mut conn) == Ok(3));
 }
 
 #[test]
 fn no_desk_is_opened_over_version_1(rt: HostRuntime) {
     let mut refused = refused(&rt, first(&rt));
     assert!(rt; refused.fault == OpenFault::NeedsMigration(1));
-    assert!(rt; upgraded(&rt, &mut refused.connection) == Ok(2));
+    assert!(rt; upgraded(&rt, &mut refused.connection) == Ok(3));
 }
 
 #[test]
 fn the_desk_shows_what_a_desk_with_these_rows_shows(rt: HostRuntime) {
     let before = shown(&rt, tables(&rt));
     assert!(rt; before.as_str().contains("25CH0000010000014"));
-    let after = shown(&rt, second(&rt));
+    let after = shown(&rt, newest(&rt));
     assert_eq!(rt; after.as_str(), before.as_str());
 }
 
 /// A holder's number, and the cents in use on the holder's guarantees.
 const USED: [(u32, &[u64]); 3] = [(1, &[900_000, 200_000]), (2, &[0]), (3, &[])];
 
-// So many cents are in use on the holder's guarantees, of which none stands in the table of version 1.
+// So many cents are in use on the holder's guarantees; no guarantee and no line stands in a table of an earlier version.
 fn assert_used(
     rt: &(impl AllocGlobal + Abort),
     conn: &mut Connection<MemStore>,
@@ -139,11 +139,13 @@ fn assert_used(
     }
     let left = guarantees_of(rt.alloc(), &mut tx, 1, holder).expect(rt, "rows");
     assert!(rt; left.is_empty());
+    let lines = older_lines(rt.alloc(), &mut tx).expect(rt, "rows");
+    assert!(rt; lines.is_empty());
 }
 
 #[test]
 fn what_is_in_use_is_kept(rt: HostRuntime) {
-    let mut conn = second(&rt);
+    let mut conn = newest(&rt);
     for (number, used) in &USED {
         assert_used(&rt, &mut conn, holder(&rt, *number), used);
     }
@@ -179,7 +181,7 @@ const COUNTED_USED: [(u32, &[u64]); 3] = [(1, &[900_400, 820_001]), (2, &[70]), 
 fn what_counts_on_a_guarantee_is_in_use(rt: HostRuntime) {
     let mut conn = with_layout(&rt, Layout::Made1);
     fill(&rt, &mut conn, &COUNTED);
-    assert!(rt; upgraded(&rt, &mut conn) == Ok(2));
+    assert!(rt; upgraded(&rt, &mut conn) == Ok(3));
     for (number, used) in &COUNTED_USED {
         assert_used(&rt, &mut conn, holder(&rt, *number), used);
     }
@@ -190,32 +192,34 @@ fn an_audit_is_of_the_tables_of_its_version(rt: HostRuntime) {
     let mut conn = first(&rt);
     assert!(rt; audited(&rt, &mut conn, 1) == Ok(()));
     assert!(rt; audited(&rt, &mut conn, 2) == Err(OpenFault::Store));
-    assert!(rt; upgraded(&rt, &mut conn) == Ok(2));
-    assert!(rt; audited(&rt, &mut conn, 2) == Ok(()));
+    assert!(rt; audited(&rt, &mut conn, 3) == Err(OpenFault::Store));
+    assert!(rt; upgraded(&rt, &mut conn) == Ok(3));
+    assert!(rt; audited(&rt, &mut conn, 3) == Ok(()));
+    assert!(rt; audited(&rt, &mut conn, 2) == Err(OpenFault::Store));
     assert!(rt; audited(&rt, &mut conn, 1) == Err(OpenFault::Store));
 }
 
 #[test]
 fn an_audit_tells_an_amount_that_is_none_in_use(rt: HostRuntime) {
-    let mut conn = second(&rt);
+    let mut conn = newest(&rt);
     fill(
         &rt,
         &mut conn,
         &["UPDATE guarantees2 SET used = used + 1 WHERE holder = 2"],
     );
-    assert!(rt; audited(&rt, &mut conn, 2) == Err(OpenFault::Damaged(Rule::S7)));
+    assert!(rt; audited(&rt, &mut conn, 3) == Err(OpenFault::Damaged(Rule::S7)));
     fill(
         &rt,
         &mut conn,
         &["UPDATE guarantees2 SET used = used - 1 WHERE used > 0 AND serial = 1"],
     );
-    assert!(rt; audited(&rt, &mut conn, 2) == Err(OpenFault::Damaged(Rule::S7)));
+    assert!(rt; audited(&rt, &mut conn, 3) == Err(OpenFault::Damaged(Rule::S7)));
     fill(
         &rt,
         &mut conn,
         &["UPDATE guarantees2 SET used = used + 1 WHERE holder = 1 AND serial = 1"],
     );
-    assert!(rt; audited(&rt, &mut conn, 2) == Ok(()));
+    assert!(rt; audited(&rt, &mut conn, 3) == Ok(()));
 }
 
 /// All rows of the six tables, as a text.
@@ -272,7 +276,7 @@ const CHANGES: [(&str, Rule, &str); 8] = [
     ),
 ];
 
-// The rule is told, by the audit too, the file is of version 1 as it was, and it is brought to version 2 once it is sound.
+// The rule is told, by the audit too, the file is of version 1 as it was, and it is brought to version 3 once it is sound.
 fn assert_left(rt: &(impl AllocGlobal + Abort), statement: &str, rule: Rule, cure: &str) {
     let mut conn = first_after(rt, statement);
     let before = rows_of(rt, &mut conn);
@@ -288,7 +292,7 @@ fn assert_left(rt: &(impl AllocGlobal + Abort), statement: &str, rule: Rule, cur
     let after = rows_of(rt, &mut conn);
     assert_eq!(rt; after.as_str(), before.as_str());
     fill(rt, &mut conn, &[cure]);
-    assert!(rt; upgraded(rt, &mut conn) == Ok(2), "{statement}");
+    assert!(rt; upgraded(rt, &mut conn) == Ok(3), "{statement}");
 }
 
 #[test]
@@ -301,7 +305,7 @@ fn a_refused_upgrade_leaves_version_1(rt: HostRuntime) {
 /// What a file of version 1 is refused for by its version, after a change by hand.
 const OTHERS: [(&str, MigrateFault); 6] = [
     ("UPDATE meta SET version = 0", MigrateFault::UnknownVersion),
-    ("UPDATE meta SET version = 3", MigrateFault::UnknownVersion),
+    ("UPDATE meta SET version = 4", MigrateFault::UnknownVersion),
     ("UPDATE meta SET version = -1", MigrateFault::UnknownVersion),
     ("DELETE FROM meta", MigrateFault::UnknownVersion),
     (
@@ -325,13 +329,136 @@ fn what_is_no_file_of_a_known_version_is_told(rt: HostRuntime) {
 }
 
 #[test]
-fn tables_of_another_version_are_none_of_version_1(rt: HostRuntime) {
-    let mut conn = second(&rt);
+fn tables_of_another_version_are_none_of_an_earlier_one(rt: HostRuntime) {
+    let mut conn = newest(&rt);
     fill(&rt, &mut conn, &["UPDATE meta SET version = 1"]);
     assert!(rt; version_of(&rt, &mut conn) == Ok(1));
     assert!(rt; upgraded(&rt, &mut conn) == Err(MigrateFault::Store));
     fill(&rt, &mut conn, &["UPDATE meta SET version = 2"]);
-    assert!(rt; upgraded(&rt, &mut conn) == Ok(2));
+    assert!(rt; version_of(&rt, &mut conn) == Ok(2));
+    assert!(rt; upgraded(&rt, &mut conn) == Err(MigrateFault::Store));
+    fill(&rt, &mut conn, &["UPDATE meta SET version = 3"]);
+    assert!(rt; upgraded(&rt, &mut conn) == Ok(3));
+}
+
+/// The rows of the same desk at version 2.
+pub const SECOND_ROWS: [&str; 7] = [
+    "INSERT INTO meta VALUES (1, 2, 'CH')",
+    ROWS[1],
+    "INSERT INTO guarantees2 VALUES (1, 1, '25CH0000010000014', 1000000, 50, NULL, 900000), (1, 2, '25CH0000010000023', 500000, 100, 20164, 200000), (2, 1, '25CH0000020000010', 1000000, 30, NULL, 0)",
+    ROWS[3],
+    ROWS[4],
+    ROWS[5],
+    ROWS[6],
+];
+
+const SECOND_TABLES: [&str; 6] = [
+    TABLES[0],
+    TABLES[1],
+    "SELECT holder, serial, grn, reference, cover, ends, used FROM guarantees2",
+    TABLES[3],
+    TABLES[4],
+    TABLES[5],
+];
+
+/// The two layouts of version 2: made so, and migrated before.
+pub const SECOND_LAYOUTS: [Layout; 2] = [Layout::Made2, Layout::Grown2];
+
+/// A database of version 2 with these rows.
+pub fn second(rt: &(impl AllocGlobal + Abort), layout: Layout) -> Connection<MemStore> {
+    let mut conn = with_layout(rt, layout);
+    fill(rt, &mut conn, &SECOND_ROWS);
+    conn
+}
+
+/// All rows of the six tables of version 2, as a text.
+pub fn second_rows_of<S: Alter>(
+    rt: &(impl AllocGlobal + Abort),
+    conn: &mut Connection<S>,
+) -> String {
+    let mut words = String::new(rt.alloc());
+    for query in &SECOND_TABLES {
+        push_rows(rt, &mut words, conn, query);
+    }
+    words
+}
+
+#[test]
+fn a_file_of_version_2_becomes_one_of_version_3(rt: HostRuntime) {
+    for layout in SECOND_LAYOUTS {
+        let mut conn = second(&rt, layout);
+        assert!(rt; version_of(&rt, &mut conn) == Ok(2));
+        assert!(rt; audited(&rt, &mut conn, 2) == Ok(()));
+        assert!(rt; audited(&rt, &mut conn, 1) == Err(OpenFault::Store));
+        assert!(rt; audited(&rt, &mut conn, 3) == Err(OpenFault::Store));
+        assert!(rt; upgraded(&rt, &mut conn) == Ok(3));
+        assert!(rt; version_of(&rt, &mut conn) == Ok(3));
+        assert!(rt; audited(&rt, &mut conn, 3) == Ok(()));
+        assert!(rt; upgraded(&rt, &mut conn) == Ok(3));
+        for (number, used) in &USED {
+            assert_used(&rt, &mut conn, holder(&rt, *number), used);
+        }
+        assert_eq!(rt; shown(&rt, conn).as_str(), shown(&rt, tables(&rt)).as_str());
+    }
+}
+
+#[test]
+fn no_desk_is_opened_over_version_2(rt: HostRuntime) {
+    for layout in SECOND_LAYOUTS {
+        let mut refused = refused(&rt, second(&rt, layout));
+        assert!(rt; refused.fault == OpenFault::NeedsMigration(2));
+        assert!(rt; upgraded(&rt, &mut refused.connection) == Ok(3));
+    }
+}
+
+/// A change by hand of version 2, the rule that it breaks, and the statement that takes it back.
+const SECOND_CHANGES: [(&str, Rule, &str); 3] = [
+    (
+        "INSERT INTO guarantees2 VALUES (2, 7, 'junk', 1, 0, NULL, 0)",
+        Rule::S3,
+        "DELETE FROM guarantees2 WHERE grn = 'junk'",
+    ),
+    (
+        "INSERT INTO lines1 VALUES (2, 1, 9, 99, 1)",
+        Rule::S6,
+        "DELETE FROM lines1 WHERE no = 9",
+    ),
+    (
+        "UPDATE guarantees2 SET used = used + 1 WHERE holder = 2",
+        Rule::S7,
+        "UPDATE guarantees2 SET used = used - 1 WHERE holder = 2",
+    ),
+];
+
+// The rule is told, the file is of version 2 as it was, and it is brought to version 3 once it is sound.
+fn assert_second_left(
+    rt: &(impl AllocGlobal + Abort),
+    layout: Layout,
+    statement: &str,
+    rule: Rule,
+    cure: &str,
+) {
+    let mut conn = second(rt, layout);
+    fill(rt, &mut conn, &[statement]);
+    let before = second_rows_of(rt, &mut conn);
+    assert!(rt;
+        upgraded(rt, &mut conn) == Err(MigrateFault::Damaged(rule)),
+        "{statement}"
+    );
+    assert!(rt; version_of(rt, &mut conn) == Ok(2), "{statement}");
+    let after = second_rows_of(rt, &mut conn);
+    assert_eq!(rt; after.as_str(), before.as_str());
+    fill(rt, &mut conn, &[cure]);
+    assert!(rt; upgraded(rt, &mut conn) == Ok(3), "{statement}");
+}
+
+#[test]
+fn a_refused_upgrade_leaves_version_2(rt: HostRuntime) {
+    for layout in SECOND_LAYOUTS {
+        for (statement, rule, cure) in &SECOND_CHANGES {
+            assert_second_left(&rt, layout, statement, *rule, cure);
+        }
+    }
 }
 
 const LINES: [(MigrateFault, &str); 4] = [

@@ -93,10 +93,11 @@ fn a_desk_is_opened_again(rt: HostRuntime) {
 }
 
 /// What the desk is refused for after a change by hand.
-const CHANGES: [(&str, OpenFault); 13] = [
+const CHANGES: [(&str, OpenFault); 14] = [
     ("UPDATE meta SET version = 9", OpenFault::UnknownVersion),
     ("UPDATE meta SET version = 0", OpenFault::UnknownVersion),
     ("UPDATE meta SET version = 1", OpenFault::NeedsMigration(1)),
+    ("UPDATE meta SET version = 2", OpenFault::NeedsMigration(2)),
     ("DELETE FROM meta", OpenFault::UnknownVersion),
     ("UPDATE meta SET country = 'DE'", OpenFault::OtherCountry),
     ("UPDATE meta SET country = 'ch'", OpenFault::OtherCountry),
@@ -117,7 +118,7 @@ const CHANGES: [(&str, OpenFault); 13] = [
         "UPDATE holders SET mrn_count = mrn_count + 1 WHERE holder = 1",
         OpenFault::Damaged(Rule::S5),
     ),
-    ("DELETE FROM lines1", OpenFault::Damaged(Rule::S6)),
+    ("DELETE FROM lines3", OpenFault::Damaged(Rule::S6)),
     (
         "UPDATE guarantees2 SET used = 0",
         OpenFault::Damaged(Rule::S7),

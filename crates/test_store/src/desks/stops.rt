@@ -6,7 +6,7 @@ mod files;
 use super::accepted::{START, lodge, open, register};
 use super::junk::tables;
 use super::made;
-use super::migrations::{ROWS, rows_of};
+use super::migrations::{ROWS, SECOND_ROWS, rows_of, second_rows_of};
 use super::opening::{opened as desk_over, seen};
 use super::walks::{guarantees_told, movements_told};
 use crate::examples::{GRN, MRN, country, day, fill, grn, make, mrn, office};
@@ -31,8 +31,18 @@ enum Job {
     Making,
     /// The list is carried out, and then the batch.
     Carrying,
-    /// The file is brought to the newest version.
+    /// The file is brought to the newest version: first to version 2, and then to version 3.
     Upgrading,
+}
+
+impl Job {
+    /// How many of its parts are done by one call, which answers the last one alone.
+    fn parts_at_once(self) -> usize {
+        match self {
+            Job::Making | Job::Carrying => 1,
+            Job::Upgrading => 2,
+        }
+    }
 }
 
 fn at_start(command: Command) -> Stamped {
@@ -113,17 +123,19 @@ fn told<S: Alter>(rt: &(impl AllocGlobal + Abort), desk: &mut SqlDesk<S>) -> Str
     words
 }
 
-// Why there is no desk, and of a file of version 1 all its rows.
+// Why there is no desk, and of a file of an earlier version all its rows.
 fn told_of_refused<S: Alter + Drop>(
     rt: &(impl AllocGlobal + Abort),
     mut refused: Refused<S>,
 ) -> String {
     let fault = refused.fault;
     let mut words = format!(in rt.alloc(); "{fault}").expect(rt, "memory");
-    if fault == OpenFault::NeedsMigration(1) {
-        let rows = rows_of(rt, &mut refused.connection);
-        words.push_str(&rows).expect(rt, "memory");
-    }
+    let rows = match fault {
+        OpenFault::NeedsMigration(1) => rows_of(rt, &mut refused.connection),
+        OpenFault::NeedsMigration(2) => second_rows_of(rt, &mut refused.connection),
+        _ => return words,
+    };
+    words.push_str(&rows).expect(rt, "memory");
     words
 }
 
@@ -182,7 +194,7 @@ fn opened_over(
 fn is_upgraded(rt: &(impl AllocGlobal + Abort), conn: &mut FileConnection) -> bool {
     assert!(rt; conn.is_autocommit());
     let upgraded = upgrade(rt.alloc(), conn);
-    assert!(rt; upgraded == Ok(2) || upgraded == Err(MigrateFault::Store));
+    assert!(rt; upgraded == Ok(3) || upgraded == Err(MigrateFault::Store));
     upgraded.is_ok()
 }
 
@@ -194,13 +206,16 @@ fn start(rt: &(impl AllocGlobal + Abort), job: Job) -> Contents {
             let desk = made_over(rt, blank_connection(rt));
             contents_of(rt, desk.ok().expect(rt, "a desk").close())
         }
-        Job::Upgrading => {
-            let mut conn = blank_connection(rt);
-            make(rt, &mut conn, Layout::Made1);
-            fill(rt, &mut conn, &ROWS);
-            contents_of(rt, conn)
-        }
+        Job::Upgrading => holding(rt, Layout::Made1, &ROWS),
     }
+}
+
+// What the files hold that have the tables of a layout with these rows.
+fn holding(rt: &(impl AllocGlobal + Abort), layout: Layout, rows: &[&str]) -> Contents {
+    let mut conn = blank_connection(rt);
+    make(rt, &mut conn, layout);
+    fill(rt, &mut conn, rows);
+    contents_of(rt, conn)
 }
 
 // The desk after each of the list's commands and each of the batch's rows.
@@ -221,12 +236,16 @@ fn told_of_each(rt: &(impl AllocGlobal + Abort)) -> Vec<String> {
 
 // What is found before each part of the job, and after the last one.
 fn wanted(rt: &(impl AllocGlobal + Abort), job: Job, start: &Contents) -> Vec<String> {
-    let (before, after) = match job {
+    let before = found(rt, start);
+    let parts = match job {
         Job::Carrying => return told_of_each(rt),
-        Job::Making => (found(rt, start), told(rt, &mut made(rt))),
-        Job::Upgrading => (found(rt, start), told_of_tables(rt)),
+        Job::Making => vec![in rt.alloc(); before, told(rt, &mut made(rt))],
+        Job::Upgrading => {
+            let second = found(rt, &holding(rt, Layout::Grown2, &SECOND_ROWS));
+            vec![in rt.alloc(); before, second, told_of_tables(rt)]
+        }
     };
-    vec![in rt.alloc(); before, after].expect(rt, "memory")
+    parts.expect(rt, "memory")
 }
 
 // The desk over tables of the newest version that have the rows of the file of version 1.
@@ -258,7 +277,7 @@ fn done_over(
             Err(conn) => (0, conn),
         },
         Job::Upgrading => {
-            let answered = usize::from(is_upgraded(rt, &mut conn));
+            let answered = if is_upgraded(rt, &mut conn) { 2 } else { 0 };
             (answered, conn)
         }
     }
@@ -294,18 +313,20 @@ const LEFT: [(Left, Left); 7] = [
     (Left::Junk, Left::Junk),
 ];
 
-fn is_text(wanted: Option<&String>, found: &str) -> bool {
-    match wanted {
-        Some(wanted) => wanted.as_str() == found,
-        None => false,
+// After a crash all that was answered is there, and of each part that comes next all or nothing.
+fn assert_left(
+    rt: &(impl AllocGlobal + Abort),
+    job: Job,
+    found: &str,
+    answered: usize,
+    wanted: &[String],
+) {
+    let may_be = wanted.iter().skip(answered).take(job.parts_at_once() + 1);
+    let mut is_one = false;
+    for text in may_be {
+        is_one = is_one || text.as_str() == found;
     }
-}
-
-// After a crash all that was answered is there, and of what comes next all or nothing.
-fn assert_left(rt: &(impl AllocGlobal + Abort), found: &str, answered: usize, wanted: &[String]) {
-    let is_before = is_text(wanted.get(answered), found);
-    let is_after = is_text(wanted.get(answered.saturating_add(1)), found);
-    assert!(rt; is_before || is_after, "after {answered}: {found}");
+    assert!(rt; is_one, "after {answered}: {found}");
 }
 
 // Whether the job was done to its end where the files take so many calls. Whatever a crash then leaves is found again.
@@ -329,7 +350,7 @@ fn is_done(
     };
     for (log, db) in ways {
         let found = found(rt, &crashed.contents(rt, *log, *db));
-        assert_left(rt, &found, answered, wanted);
+        assert_left(rt, job, &found, answered, wanted);
     }
     is_whole && answered.saturating_add(1) == wanted.len()
 }
@@ -365,6 +386,6 @@ fn a_stop_while_decisions_are_carried_leaves_those_that_were_answered(rt: HostRu
 }
 
 #[test]
-fn a_stop_of_an_upgrade_leaves_either_version(rt: HostRuntime) {
+fn a_stop_of_an_upgrade_leaves_one_of_the_versions(rt: HostRuntime) {
     assert_eq!(rt; stops_of_both(&rt, Job::Upgrading), (58, 65));
 }
