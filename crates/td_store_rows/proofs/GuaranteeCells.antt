@@ -8,7 +8,7 @@ use Rattle.sqlite_typed.proofs.TestLemmas.{then_value}
 use Rattle.td_guarantee.specs.declared.guarantee.Guarantee.{Guarantee}
 use Rattle.td_schema.specs.Tables.{guarantees2}
 use Rattle.td_schema.specs.declared.layout.Layout.{Layout}
-use Rattle.td_schema.specs.declared.layout.Layout.TheVariants.{Made1, Made2, Grown2}
+use Rattle.td_schema.specs.declared.layout.Layout.TheVariants.{Made1, Made2, Grown2, Made3, Grown3From2, Grown3From1}
 use Rattle.td_store_rows.specs.Columns.{guarantee_cells, guarantee_from, guarantees_table, kept_cells, kept_from}
 use Rattle.td_store_rows.specs.StoreReads.{KeepsUse}
 use Rattle.typed_sql.proofs.Columns.{cast_number_if, number_back}
@@ -42,6 +42,9 @@ pub columns_at : (l : Layout) → KeepsUse l → (guarantees_table l).columns �
 columns_at Made1 keeps = absurd (omega (arith, keeps))
 columns_at Made2 keeps = refl
 columns_at Grown2 keeps = refl
+columns_at Made3 keeps = refl
+columns_at Grown3From2 keeps = refl
+columns_at Grown3From1 keeps = refl
 
 pub stored_at : (l : Layout) → KeepsUse l → (k : Keyed Kept) → cast_all (guarantees_table l).columns (kept_cells k) ≡ kept_cells k
 stored_at l keeps k = subst (λ columns. cast_all columns (kept_cells k) ≡ kept_cells k) (sym (columns_at l keeps)) (kept_stored k)
