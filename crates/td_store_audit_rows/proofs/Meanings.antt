@@ -1,4 +1,4 @@
--- What the statements of the audit mean, in a store's file of each layout: on guarantees by its version.
+-- What the statements of the audit mean, in a store's file of each layout: on guarantees and on lines by its version.
 use Rattle.std.proofs.Common.{refl, subst}
 use Rattle.std.specs.Prelude.{ℕ, List, [], ◌∷◌, codes}
 use Rattle.sqlite_tied.specs.Compute.{everything}
@@ -8,12 +8,12 @@ use Rattle.sqlite_value.specs.declared.keys.Key.{Key}
 use Rattle.sqlite_value.specs.Keys.{ascending}
 use Rattle.sqlite_sql.specs.Term.{Term, col}
 use Rattle.typed_sql.specs.Meanings.{MeansSelect}
-use Rattle.td_schema.specs.Layouts.{guarantees_tree, schema_of, version_of}
+use Rattle.td_schema.specs.Layouts.{guarantees_tree, lines_tree, schema_of, version_of}
 use Rattle.td_schema.specs.declared.layout.Layout.{Layout}
-use Rattle.td_schema.specs.declared.layout.Layout.TheVariants.{Grown2, Made1, Made2}
+use Rattle.td_schema.specs.declared.layout.Layout.TheVariants.{Made1, Made2, Grown2, Made3, Grown3From2, Grown3From1}
 use Rattle.td_store_rows.specs.StoreReads.{IsOfVersion}
-use Rattle.td_store_audit_rows.specs.Versions.{guarantees_text}
-use Rattle.td_store_audit_rows.specs.declared.texts.TheConstants.{CODES, HOLDERS, HOLDER_IDS, LINES, META_IDS, MOVEMENTS}
+use Rattle.td_store_audit_rows.specs.Versions.{guarantees_text, lines_text}
+use Rattle.td_store_audit_rows.specs.declared.texts.TheConstants.{CODES, HOLDERS, HOLDER_IDS, META_IDS, MOVEMENTS}
 
 -- by the rowid
 abbrev pub by_rowid : List (Term × Key)
@@ -44,12 +44,18 @@ unfolding understood everything
 meta_ids_mean Made1 = record { names = codes "one" ∷ []; command = refl; plain = (refl, refl); unlisted = refl }
 meta_ids_mean Made2 = record { names = codes "one" ∷ []; command = refl; plain = (refl, refl); unlisted = refl }
 meta_ids_mean Grown2 = record { names = codes "one" ∷ []; command = refl; plain = (refl, refl); unlisted = refl }
+meta_ids_mean Made3 = record { names = codes "one" ∷ []; command = refl; plain = (refl, refl); unlisted = refl }
+meta_ids_mean Grown3From2 = record { names = codes "one" ∷ []; command = refl; plain = (refl, refl); unlisted = refl }
+meta_ids_mean Grown3From1 = record { names = codes "one" ∷ []; command = refl; plain = (refl, refl); unlisted = refl }
 
 pub holder_ids_mean : (l : Layout) → MeansSelect (schema_of l) HOLDER_IDS.now 1 [] rowid_alone by_rowid
 unfolding understood everything
 holder_ids_mean Made1 = record { names = codes "holder" ∷ []; command = refl; plain = (refl, refl); unlisted = refl }
 holder_ids_mean Made2 = record { names = codes "holder" ∷ []; command = refl; plain = (refl, refl); unlisted = refl }
 holder_ids_mean Grown2 = record { names = codes "holder" ∷ []; command = refl; plain = (refl, refl); unlisted = refl }
+holder_ids_mean Made3 = record { names = codes "holder" ∷ []; command = refl; plain = (refl, refl); unlisted = refl }
+holder_ids_mean Grown3From2 = record { names = codes "holder" ∷ []; command = refl; plain = (refl, refl); unlisted = refl }
+holder_ids_mean Grown3From1 = record { names = codes "holder" ∷ []; command = refl; plain = (refl, refl); unlisted = refl }
 
 abbrev holder_names : List (List ℕ)
 holder_names = codes "holder" ∷ codes "eori" ∷ codes "last_at" ∷ codes "grn_count" ∷ codes "mrn_count" ∷ []
@@ -59,6 +65,9 @@ unfolding understood everything
 holders_mean Made1 = record { names = holder_names; command = refl; plain = (refl, refl); unlisted = refl }
 holders_mean Made2 = record { names = holder_names; command = refl; plain = (refl, refl); unlisted = refl }
 holders_mean Grown2 = record { names = holder_names; command = refl; plain = (refl, refl); unlisted = refl }
+holders_mean Made3 = record { names = holder_names; command = refl; plain = (refl, refl); unlisted = refl }
+holders_mean Grown3From2 = record { names = holder_names; command = refl; plain = (refl, refl); unlisted = refl }
+holders_mean Grown3From1 = record { names = holder_names; command = refl; plain = (refl, refl); unlisted = refl }
 
 abbrev guarantee_names : List (List ℕ)
 guarantee_names = codes "rowid" ∷ codes "holder" ∷ codes "serial" ∷ codes "grn" ∷ codes "reference" ∷ codes "cover" ∷ codes "ends" ∷ []
@@ -72,6 +81,9 @@ unfolding understood everything
 own_guarantees_mean Made1 = record { names = guarantee_names; command = refl; plain = (refl, refl); unlisted = refl }
 own_guarantees_mean Made2 = record { names = guarantee_names; command = refl; plain = (refl, refl); unlisted = refl }
 own_guarantees_mean Grown2 = record { names = guarantee_names; command = refl; plain = (refl, refl); unlisted = refl }
+own_guarantees_mean Made3 = record { names = guarantee_names; command = refl; plain = (refl, refl); unlisted = refl }
+own_guarantees_mean Grown3From2 = record { names = guarantee_names; command = refl; plain = (refl, refl); unlisted = refl }
+own_guarantees_mean Grown3From1 = record { names = guarantee_names; command = refl; plain = (refl, refl); unlisted = refl }
 
 pub guarantees_mean : (version : ℕ) (l : Layout) → IsOfVersion version l → ShowGuarantees l version
 guarantees_mean version l own = subst (ShowGuarantees l) own (own_guarantees_mean l)
@@ -84,6 +96,9 @@ unfolding understood everything
 codes_mean Made1 = record { names = code_names; command = refl; plain = (refl, refl); unlisted = refl }
 codes_mean Made2 = record { names = code_names; command = refl; plain = (refl, refl); unlisted = refl }
 codes_mean Grown2 = record { names = code_names; command = refl; plain = (refl, refl); unlisted = refl }
+codes_mean Made3 = record { names = code_names; command = refl; plain = (refl, refl); unlisted = refl }
+codes_mean Grown3From2 = record { names = code_names; command = refl; plain = (refl, refl); unlisted = refl }
+codes_mean Grown3From1 = record { names = code_names; command = refl; plain = (refl, refl); unlisted = refl }
 
 abbrev movement_names : List (List ℕ)
 movement_names =
@@ -95,12 +110,25 @@ unfolding understood everything
 movements_mean Made1 = record { names = movement_names; command = refl; plain = (refl, refl); unlisted = refl }
 movements_mean Made2 = record { names = movement_names; command = refl; plain = (refl, refl); unlisted = refl }
 movements_mean Grown2 = record { names = movement_names; command = refl; plain = (refl, refl); unlisted = refl }
+movements_mean Made3 = record { names = movement_names; command = refl; plain = (refl, refl); unlisted = refl }
+movements_mean Grown3From2 = record { names = movement_names; command = refl; plain = (refl, refl); unlisted = refl }
+movements_mean Grown3From1 = record { names = movement_names; command = refl; plain = (refl, refl); unlisted = refl }
 
 abbrev line_names : List (List ℕ)
 line_names = codes "rowid" ∷ codes "holder" ∷ codes "serial" ∷ codes "no" ∷ codes "guarantee" ∷ codes "cents" ∷ []
 
-pub lines_mean : (l : Layout) → MeansSelect (schema_of l) LINES.now 11 [] (col 1 0 ∷ line_terms) by_rowid
+-- what that of a layout's version means
+abbrev ShowLines : Layout → ℕ → Type 0
+ShowLines l version = MeansSelect (schema_of l) (lines_text version) (lines_tree l) [] (col 1 0 ∷ line_terms) by_rowid
+
+own_lines_mean : (l : Layout) → ShowLines l (version_of l)
 unfolding understood everything
-lines_mean Made1 = record { names = line_names; command = refl; plain = (refl, refl); unlisted = refl }
-lines_mean Made2 = record { names = line_names; command = refl; plain = (refl, refl); unlisted = refl }
-lines_mean Grown2 = record { names = line_names; command = refl; plain = (refl, refl); unlisted = refl }
+own_lines_mean Made1 = record { names = line_names; command = refl; plain = (refl, refl); unlisted = refl }
+own_lines_mean Made2 = record { names = line_names; command = refl; plain = (refl, refl); unlisted = refl }
+own_lines_mean Grown2 = record { names = line_names; command = refl; plain = (refl, refl); unlisted = refl }
+own_lines_mean Made3 = record { names = line_names; command = refl; plain = (refl, refl); unlisted = refl }
+own_lines_mean Grown3From2 = record { names = line_names; command = refl; plain = (refl, refl); unlisted = refl }
+own_lines_mean Grown3From1 = record { names = line_names; command = refl; plain = (refl, refl); unlisted = refl }
+
+pub lines_mean : (version : ℕ) (l : Layout) → IsOfVersion version l → ShowLines l version
+lines_mean version l own = subst (ShowLines l) own (own_lines_mean l)

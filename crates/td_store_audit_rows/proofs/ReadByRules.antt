@@ -205,7 +205,7 @@ movements_read layout trees owners owned apart keeps =
 pub lines_read : LinesAreRead
 lines_read layout trees owners owned apart guarantees movements keeps =
     let t = tables_in layout trees in
-    rows_read line_typing AreLineFields (trees line_typing.table.tree) keeps.0
+    rows_read (line_typing layout) AreLineFields (trees (line_typing layout).table.tree) keeps.0
     (parts_all t owners (λ row. (HasGuarantees t row × HasMovements t row) × HasLines t row) AreLineFields t.lines
     (all_both (λ row. HasGuarantees t row × HasMovements t row) (HasLines t) (λ row. (HasGuarantees t row × HasMovements t row) × HasLines t row) (λ row a b. (a, b)) t.holders
     (all_both (HasGuarantees t) (HasMovements t) (λ row. HasGuarantees t row × HasMovements t row) (λ row a b. (a, b)) t.holders guarantees movements) keeps.1)

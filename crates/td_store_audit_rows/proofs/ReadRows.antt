@@ -121,8 +121,8 @@ movement_read r = (
   },
 )
 
-pub line_read : (r : Row) → AreLineColumns (rowid r ∷ line_columns r) ↔ IsReadRow line_typing AreLineFields r
-line_read r = (
+pub line_read : (layout : Layout) (r : Row) → AreLineColumns (rowid r ∷ line_columns r) ↔ IsReadRow (line_typing layout) AreLineFields r
+line_read layout r = (
   λ h.
       let holder = (holder_field (column r 1)).0 h.key.holder in
       let serial = (serial_field (column r 2)).0 h.key.serial in

@@ -1,4 +1,4 @@
--- The rowids of a store's six tables.
+-- The rowids of the six tables in which a store's file has its rows.
 use Rattle.std.specs.Prelude.{ℕ, ℤ, ◌<ℤ◌, List, [], ◌∷◌, Option, Some, None}
 use Rattle.sqlite_value.specs.declared.keys.Key.{Key}
 use Rattle.sqlite_trees.specs.Tree.{Trees}
@@ -25,7 +25,7 @@ pub record HavePartIds (l : Layout) (trees : Trees) : Type 0 where
   pub guarantees : HaveIds (trees (guarantee_typing l).table.tree)
   pub codes : HaveIds (trees code_typing.table.tree)
   pub movements : HaveIds (trees movement_typing.table.tree)
-  pub lines : HaveIds (trees line_typing.table.tree)
+  pub lines : HaveIds (trees (line_typing l).table.tree)
 
 -- and of each table
 pub record HaveAllIds (l : Layout) (trees : Trees) : Type 0 where
@@ -34,4 +34,4 @@ pub record HaveAllIds (l : Layout) (trees : Trees) : Type 0 where
   pub guarantees : HaveIds (trees (guarantee_typing l).table.tree)
   pub codes : HaveIds (trees code_typing.table.tree)
   pub movements : HaveIds (trees movement_typing.table.tree)
-  pub lines : HaveIds (trees line_typing.table.tree)
+  pub lines : HaveIds (trees (line_typing l).table.tree)

@@ -44,7 +44,7 @@ pub record AreMovementsInPlace (country : List ℕ) (counted : ℕ) (rows : List
   pub most : counted ≤ greatest_older_mrn_serial
   pub each : AllByRecursion (IsMovementInPlace country) rows
 
--- the lines of a movement of a holder who has so many guarantees: 1 to 9, no two on one guarantee
+-- the lines of a movement of a holder who has so many guarantees: 1 to 99, no two on one guarantee
 pub record AreLinesInPlace (guarantees : ℕ) (rows : List (Keyed LineCells)) : Type 0 where
   pub numbers : IsNumbered no_of 0 rows
   pub some : 1 ≤ length rows

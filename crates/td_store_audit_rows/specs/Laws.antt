@@ -28,7 +28,7 @@ pub record AreKept (l : Layout) (trees : Trees) : Type 0 where
   pub amounts : KeepsUse l → AllRows (guarantee_typing l) (IsTypedRow (guarantee_typing l)) trees → AreAmountsKept l trees
   pub codes : AllRows code_typing (IsTypedRow code_typing) trees → AreCodesKept (tables_in l trees)
   pub movements : AllRows movement_typing (IsTypedRow movement_typing) trees → AreMovementsKept (tables_in l trees)
-  pub lines : AllRows line_typing (IsTypedRow line_typing) trees → AreLinesKept (tables_in l trees)
+  pub lines : AllRows (line_typing l) (IsTypedRow (line_typing l)) trees → AreLinesKept (tables_in l trees)
 
 -- tables that keep each rule as they stand hold sound content
 abbrev pub KeptRulesMeanContent : Type 0

@@ -82,4 +82,4 @@ pub record TellReadable (l : Layout) (readable : Readable) (trees : Trees) : Typ
   pub guarantees : TellsRead (guarantee_typing l) AreGuaranteeFields trees readable.guarantees
   pub codes : TellsRead code_typing AreCodeFields trees readable.codes
   pub movements : TellsRead movement_typing AreMovementFields trees readable.movements
-  pub lines : TellsRead line_typing AreLineFields trees readable.lines
+  pub lines : TellsRead (line_typing l) AreLineFields trees readable.lines

@@ -74,4 +74,4 @@ LinesAreRead =
     (l : Layout) (trees : Trees) → HaveOwners (tables_in l trees) → AreOfHolders (tables_in l trees).holders (tables_in l trees).lines
     → ((H n : ℕ) → IsApart no_of (of_key place n (part H (tables_in l trees).lines)))
     → Keeps (tables_in l trees) S3 → Keeps (tables_in l trees) S5 → KeepsUntyped l trees S6
-    → AllRows line_typing (IsReadRow line_typing AreLineFields) trees
+    → AllRows (line_typing l) (IsReadRow (line_typing l) AreLineFields) trees

@@ -48,7 +48,7 @@ HasColumnTypes l S2 trees = AllRows holder_typing HasIdentity trees
 HasColumnTypes l S3 trees = AllRows holder_typing HasGrnCount trees × AllRows (guarantee_typing l) (IsTypedRow (guarantee_typing l)) trees
 HasColumnTypes l S4 trees = AllRows code_typing (IsTypedRow code_typing) trees
 HasColumnTypes l S5 trees = AllRows holder_typing HasMrnCount trees × AllRows movement_typing (IsTypedRow movement_typing) trees
-HasColumnTypes l S6 trees = AllRows line_typing (IsTypedRow line_typing) trees
+HasColumnTypes l S6 trees = AllRows (line_typing l) (IsTypedRow (line_typing l)) trees
 HasColumnTypes l S7 trees = KeepsUse l → AllRows (kept_typing l) (IsTypedRow (kept_typing l)) trees
 HasColumnTypes l S8 trees = Unit {0}
 

@@ -10,7 +10,7 @@ ghost use Rattle.td_store_audit_rows.specs.Versions.{IsSchemaOf};
 
 use crate::ids::ids_rise;
 use crate::scanning::scan;
-use crate::texts::{CODES, HOLDER_IDS, LINES, META_IDS, MOVEMENTS, guarantees_at};
+use crate::texts::{CODES, HOLDER_IDS, META_IDS, MOVEMENTS, guarantees_at, lines_at};
 use sqlite::{Connection, Error};
 use sqlite_trees::store::Alter;
 use td_store_rows::{StoredCode, StoredGuarantee, StoredLine, StoredMovement};
@@ -41,7 +41,7 @@ fn scan_tables<S: Alter>(conn: &mut Connection<S>, version: u32) -> Result<Reada
     let guarantees = scan::<S, StoredGuarantee>(conn, guarantees_at(version))?;
     let codes = scan::<S, StoredCode>(conn, CODES)?;
     let movements = scan::<S, StoredMovement>(conn, MOVEMENTS)?;
-    let lines = scan::<S, StoredLine>(conn, LINES)?;
+    let lines = scan::<S, StoredLine>(conn, lines_at(version))?;
     Ok(Readable {
         guarantees,
         codes,
@@ -50,7 +50,7 @@ fn scan_tables<S: Alter>(conn: &mut Connection<S>, version: u32) -> Result<Reada
     })
 }
 
-/// Which tables of a store's file of that version, 1 or 2, can be read row by row. It walks along all rows outside a
+/// Which tables of a store's file of that version, 1 to 3, can be read row by row. It walks along all rows outside a
 /// transaction, each once, keeps none, and changes nothing. The amounts in use of a file that keeps them aren't looked at:
 /// the schema's own rules make each a number up to the reference amount. `DatabaseCorrupt`: the rowids of a table aren't
 /// integers, or two are the same; any other error is the database's own, or want of memory.

@@ -1,6 +1,6 @@
 //! The statements of the audit: each shows all rows of a table.
 ghost use Rattle.std.specs.Prelude.{◌≡◌};
-ghost use Rattle.td_store_audit_rows.specs.Versions.{guarantees_text};
+ghost use Rattle.td_store_audit_rows.specs.Versions.{guarantees_text, lines_text};
 
 /// The rowids of the office's table and of the holders', rising.
 pub const META_IDS: &str = "SELECT rowid FROM meta ORDER BY rowid";
@@ -11,7 +11,8 @@ pub const HOLDER_IDS: &str = "SELECT rowid FROM holders ORDER BY rowid";
 pub const HOLDERS: &str =
     "SELECT holder, eori, last_at, grn_count, mrn_count FROM holders ORDER BY holder";
 
-/// All rows of the other tables, with their rowids, which rise: of guarantees in a file of version 1, and in a later one.
+/// All rows of the other tables, with their rowids, which rise: of guarantees in a file of version 1, and in a later
+/// one; of lines in a file below version 3, and in a later one.
 pub const GUARANTEES1: &str =
     "SELECT rowid, holder, serial, grn, reference, cover, ends FROM guarantees1 ORDER BY rowid";
 
@@ -23,8 +24,11 @@ pub const CODES: &str = "SELECT rowid, holder, serial, code FROM codes ORDER BY 
 pub const MOVEMENTS: &str =
     "SELECT rowid, holder, serial, mrn, lrn, departure, destination, accepted, state, limit_day, arrival, actual FROM movements ORDER BY rowid";
 
-pub const LINES: &str =
+pub const LINES1: &str =
     "SELECT rowid, holder, serial, no, guarantee, cents FROM lines1 ORDER BY rowid";
+
+pub const LINES3: &str =
+    "SELECT rowid, holder, serial, no, guarantee, cents FROM lines3 ORDER BY rowid";
 
 /// All rows of guarantees in a file of that version.
 pub fn guarantees_at(version: u32) -> &'static str
@@ -34,4 +38,14 @@ pub fn guarantees_at(version: u32) -> &'static str
         return GUARANTEES1;
     }
     GUARANTEES2
+}
+
+/// All rows of lines in a file of that version.
+pub fn lines_at(version: u32) -> &'static str
+    ensures { result.now ≡ lines_text version }
+{
+    if version < 3 {
+        return LINES1;
+    }
+    LINES3
 }

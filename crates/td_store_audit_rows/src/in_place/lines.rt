@@ -9,8 +9,8 @@ use td_base::Cents;
 use td_movement::{MOST_LINE_CENTS, MOST_LINES};
 use td_store_rows::StoredLine;
 
-/// Whether these are the lines of a movement, by their numbers, of a holder who has so many guarantees: they are numbered from 1 to at
-/// most 9, each is on one of those guarantees, no two on one, and each has an amount in range.
+/// Whether these are the lines of a movement, by their numbers, of a holder who has so many guarantees: they are numbered
+/// from 1 to at most 99, each is on one of those guarantees, no two on one, and each has an amount in range.
 pub fn lines_are_in_place(guarantees: u32, rows: &[StoredLine]) -> bool
     ensures { IsTrue result ↔ AreLinesInPlace guarantees (map line_row_of rows.now) }
 {

@@ -4,12 +4,12 @@ use Rattle.sqlite.specs.Effect.{Database}
 use Rattle.sqlite.specs.Held.{state}
 use Rattle.sqlite.specs.State.{HasCleanDisk, State}
 use Rattle.typed_sql.specs.Writing.{HaveIds}
-use Rattle.td_schema.specs.Layouts.{guarantees_tree, schema_of}
+use Rattle.td_schema.specs.Layouts.{guarantees_tree, lines_tree, schema_of}
 use Rattle.td_store_rows.specs.Columns.{code_typing, guarantee_typing, line_typing, movement_typing}
 use Rattle.td_store_audit_rows.specs.Fields.{AreCodeFields, AreGuaranteeFields, AreLineFields, AreMovementFields}
 use Rattle.td_store_audit_rows.specs.Scans.{AreCodeColumns, AreGuaranteeColumns, AreLineColumns, AreMovementColumns, TellsRead}
-use Rattle.td_store_audit_rows.specs.Versions.{guarantees_text}
-use Rattle.td_store_audit_rows.specs.declared.texts.TheConstants.{CODES, LINES, MOVEMENTS}
+use Rattle.td_store_audit_rows.specs.Versions.{guarantees_text, lines_text}
+use Rattle.td_store_audit_rows.specs.declared.texts.TheConstants.{CODES, MOVEMENTS}
 use Rattle.td_store_audit_rows.proofs.Chained.{means_at, plain_here, still_schema, still_of, unchanged_on, was_so}
 use Rattle.td_store_audit_rows.proofs.Meanings.{by_rowid, code_terms, codes_mean, guarantee_terms, guarantees_mean, line_terms, lines_mean, movement_terms, movements_mean}
 use Rattle.td_store_audit_rows.proofs.ReadRows.{code_read, guarantee_read, line_read, movement_read}
@@ -49,9 +49,9 @@ scan-requires-4-clause-plain g c clean =
     let clean_d : HasCleanDisk d = omega (arith, clean, c.scan-3.ensures.survives.clean) in
     let clean_b : HasCleanDisk b = omega (arith, clean_d, c.scan-2.ensures.survives.clean) in
     let clean_a : HasCleanDisk a = omega (arith, clean_b, c.scan.ensures.survives.clean) in
-    plain_here c.args.version LINES.now e.now.schema (λ l own. (lines_mean l).plain)
+    rw c.lines_at.ensures (plain_here c.args.version (lines_text c.args.version) e.now.schema (λ l own. (lines_mean c.args.version l own).plain)
     (still_schema c.args.version d e (c.in_ok-movements.ensures.still clean) (still_schema c.args.version b d (c.in_ok-codes.ensures.still clean_d)
-    (still_schema c.args.version a b (c.in_ok-guarantees.ensures.still clean_b) (c.requires.tables clean_a))))
+    (still_schema c.args.version a b (c.in_ok-guarantees.ensures.still clean_b) (c.requires.tables clean_a)))))
 
 pub returns-clause-told : goal.returns-clause-told
 returns-clause-told g c clean l own at =
@@ -77,9 +77,9 @@ returns-clause-told g c clean l own at =
       movements = was_so (λ (db : Database). TellsRead movement_typing AreMovementFields db.trees c.in_ok-movements.movements) a d upto_d
           (tells movement_typing AreMovementFields AreMovementColumns MOVEMENTS.now (col 1 0 ∷ movement_terms) by_rowid (schema_of l) (movements_mean l) (λ r. refl)
           movement_read d.now at_d c.in_ok-movements.movements (c.in_ok-movements.ensures.told clean_e));
-      lines = was_so (λ (db : Database). TellsRead line_typing AreLineFields db.trees c.in_ok-lines.lines) a e upto_e
-          (tells line_typing AreLineFields AreLineColumns LINES.now (col 1 0 ∷ line_terms) by_rowid (schema_of l) (lines_mean l) (λ r. refl)
-          line_read e.now at_e c.in_ok-lines.lines (c.in_ok-lines.ensures.told clean));
+      lines = was_so (λ (db : Database). TellsRead (line_typing l) AreLineFields db.trees c.in_ok-lines.lines) a e upto_e
+          (tells (line_typing l) AreLineFields AreLineColumns (lines_text c.args.version) (col 1 0 ∷ line_terms) by_rowid (schema_of l) (lines_mean c.args.version l own) (λ r. refl)
+          (line_read l) e.now at_e c.in_ok-lines.lines (rw c.lines_at.ensures at (c.in_ok-lines.ensures.told clean)));
     }
 
 pub returns-clause-ids : goal.returns-clause-ids
@@ -104,6 +104,6 @@ returns-clause-ids g c clean l own at =
           (means_at CODES.now 2 (col 1 0 ∷ code_terms) by_rowid (schema_of l) b.now.schema at_b (codes_mean l)));
       movements = was_so (λ (db : Database). HaveIds (db.trees 4)) a d upto_d (c.in_ok-movements.ensures.ids clean_e 4 movement_terms by_rowid
           (means_at MOVEMENTS.now 4 (col 1 0 ∷ movement_terms) by_rowid (schema_of l) d.now.schema at_d (movements_mean l)));
-      lines = was_so (λ (db : Database). HaveIds (db.trees 11)) a e upto_e (c.in_ok-lines.ensures.ids clean 11 line_terms by_rowid
-          (means_at LINES.now 11 (col 1 0 ∷ line_terms) by_rowid (schema_of l) e.now.schema at_e (lines_mean l)));
+      lines = was_so (λ (db : Database). HaveIds (db.trees (lines_tree l))) a e upto_e ((rw c.lines_at.ensures at (c.in_ok-lines.ensures.ids clean)) (lines_tree l) line_terms by_rowid
+          (means_at (lines_text c.args.version) (lines_tree l) (col 1 0 ∷ line_terms) by_rowid (schema_of l) e.now.schema at_e (lines_mean c.args.version l own)));
     }
