@@ -23,7 +23,7 @@ use Rattle.sqlite_typed.proofs.TestLemmas.{at_and, at_ints, truth_or}
 use Rattle.td_schema.specs.Layouts.{guarantees_tree, schema_of}
 use Rattle.td_schema.specs.Tables.{between, guarantees2, is_cover, up_to}
 use Rattle.td_schema.specs.declared.layout.Layout.{Layout}
-use Rattle.td_schema.specs.declared.layout.Layout.TheVariants.{Grown2, Made1, Made2}
+use Rattle.td_schema.specs.declared.layout.Layout.TheVariants.{Made1, Made2, Grown2, Made3, Grown3From2, Grown3From1}
 use Rattle.td_store_rows.specs.StoreReads.{KeepsUse}
 use Rattle.typed_sql.specs.Values.{number_value}
 use Rattle.td_store_audit.proofs.Ruled.{both, never}
@@ -112,6 +112,12 @@ amounts_ruled Made2 trees obeys keep =
     rows_ruled (schema_of Made2) trees 8 (obeys.rules Datatype).1.1.1.1.0 (obeys.rules NotNull).1.1.1.1.0 (obeys.rules Check).1.1.1.1.0
 amounts_ruled Grown2 trees obeys keep =
     rows_ruled (schema_of Grown2) trees 14 (obeys.rules Datatype).1.1.1.1.1.1.0 (obeys.rules NotNull).1.1.1.1.1.1.0 (obeys.rules Check).1.1.1.1.1.1.0
+amounts_ruled Made3 trees obeys keep =
+    rows_ruled (schema_of Made3) trees 8 (obeys.rules Datatype).1.1.1.1.0 (obeys.rules NotNull).1.1.1.1.0 (obeys.rules Check).1.1.1.1.0
+amounts_ruled Grown3From2 trees obeys keep =
+    rows_ruled (schema_of Grown3From2) trees 8 (obeys.rules Datatype).1.1.1.1.0 (obeys.rules NotNull).1.1.1.1.0 (obeys.rules Check).1.1.1.1.0
+amounts_ruled Grown3From1 trees obeys keep =
+    rows_ruled (schema_of Grown3From1) trees 14 (obeys.rules Datatype).1.1.1.1.1.1.0 (obeys.rules NotNull).1.1.1.1.1.1.0 (obeys.rules Check).1.1.1.1.1.1.0
 
 -- the amount in a row whose reference amount is a number is a number up to it
 pub record IsUpTo (reference : ℕ) (row : Row) : Type 0 where

@@ -7,6 +7,8 @@ mod Checked
 mod HoldersKept
 mod Keyed
 mod Tables
+mod FewKeys
+mod FewLines
 mod Live
 mod Reading
 mod HoldersTold

@@ -1,5 +1,5 @@
--- What the statements on a holder's codes and lines mean, in a store's file of each layout.
-use Rattle.std.proofs.Common.{refl}
+-- What the statements on a holder's codes and lines mean, in a store's file of each layout: on lines by its version.
+use Rattle.std.proofs.Common.{refl, subst}
 use Rattle.std.specs.Prelude.{ℕ, List, [], ◌∷◌, codes}
 use Rattle.sqlite_tied.specs.Compute.{everything}
 use Rattle.sqlite.specs.Listing.{understood}
@@ -10,10 +10,12 @@ use Rattle.sqlite_sql.specs.Term.{Term, col, op2}
 use Rattle.sqlite_sql.specs.declared.ops.BinaryOp.TheVariants.{Compare}
 use Rattle.sqlite_sql.specs.declared.ops.CompareOp.TheVariants.{Eq}
 use Rattle.typed_sql.specs.Meanings.{MeansSelect}
-use Rattle.td_schema.specs.Layouts.{schema_of}
+use Rattle.td_schema.specs.Layouts.{lines_tree, schema_of, version_of}
 use Rattle.td_schema.specs.declared.layout.Layout.{Layout}
-use Rattle.td_schema.specs.declared.layout.Layout.TheVariants.{Grown2, Made1, Made2}
-use Rattle.td_store_audit.specs.declared.texts.TheConstants.{CODES_OF_HOLDER, LINES_OF_HOLDER}
+use Rattle.td_schema.specs.declared.layout.Layout.TheVariants.{Made1, Made2, Grown2, Made3, Grown3From2, Grown3From1}
+use Rattle.td_store_rows.specs.StoreReads.{IsOfVersion}
+use Rattle.td_store_audit.specs.LineTexts.{lines_of_holder_text}
+use Rattle.td_store_audit.specs.declared.texts.TheConstants.{CODES_OF_HOLDER}
 
 -- the holder is the one that was given
 abbrev pub holder_tests : List Term
@@ -35,6 +37,9 @@ unfolding understood everything
 codes_mean Made1 = record { names = code_names; command = refl; plain = (refl, refl); unlisted = refl }
 codes_mean Made2 = record { names = code_names; command = refl; plain = (refl, refl); unlisted = refl }
 codes_mean Grown2 = record { names = code_names; command = refl; plain = (refl, refl); unlisted = refl }
+codes_mean Made3 = record { names = code_names; command = refl; plain = (refl, refl); unlisted = refl }
+codes_mean Grown3From2 = record { names = code_names; command = refl; plain = (refl, refl); unlisted = refl }
+codes_mean Grown3From1 = record { names = code_names; command = refl; plain = (refl, refl); unlisted = refl }
 
 -- and of a line
 abbrev pub line_terms : List Term
@@ -43,8 +48,18 @@ line_terms = col 1 1 ∷ col 1 2 ∷ col 1 3 ∷ col 1 4 ∷ col 1 5 ∷ []
 abbrev line_names : List (List ℕ)
 line_names = codes "holder" ∷ codes "serial" ∷ codes "no" ∷ codes "guarantee" ∷ codes "cents" ∷ []
 
-pub lines_mean : (l : Layout) → MeansSelect (schema_of l) LINES_OF_HOLDER.now 11 holder_tests line_terms by_three
+-- what that of a layout's version means
+abbrev ShowLines : Layout → ℕ → Type 0
+ShowLines l version = MeansSelect (schema_of l) (lines_of_holder_text version) (lines_tree l) holder_tests line_terms by_three
+
+own_lines_mean : (l : Layout) → ShowLines l (version_of l)
 unfolding understood everything
-lines_mean Made1 = record { names = line_names; command = refl; plain = (refl, refl); unlisted = refl }
-lines_mean Made2 = record { names = line_names; command = refl; plain = (refl, refl); unlisted = refl }
-lines_mean Grown2 = record { names = line_names; command = refl; plain = (refl, refl); unlisted = refl }
+own_lines_mean Made1 = record { names = line_names; command = refl; plain = (refl, refl); unlisted = refl }
+own_lines_mean Made2 = record { names = line_names; command = refl; plain = (refl, refl); unlisted = refl }
+own_lines_mean Grown2 = record { names = line_names; command = refl; plain = (refl, refl); unlisted = refl }
+own_lines_mean Made3 = record { names = line_names; command = refl; plain = (refl, refl); unlisted = refl }
+own_lines_mean Grown3From2 = record { names = line_names; command = refl; plain = (refl, refl); unlisted = refl }
+own_lines_mean Grown3From1 = record { names = line_names; command = refl; plain = (refl, refl); unlisted = refl }
+
+pub lines_mean : (version : ℕ) (l : Layout) → IsOfVersion version l → ShowLines l version
+lines_mean version l own = subst (ShowLines l) own (own_lines_mean l)

@@ -23,7 +23,7 @@ use Rattle.typed_sql.specs.Writing.{passes}
 use Rattle.td_base.specs.Codes.{IsCountry}
 use Rattle.td_schema.specs.Layouts.{schema_of}
 use Rattle.td_schema.specs.declared.layout.Layout.{Layout}
-use Rattle.td_schema.specs.declared.layout.Layout.TheVariants.{Grown2, Made1, Made2}
+use Rattle.td_schema.specs.declared.layout.Layout.TheVariants.{Made1, Made2, Grown2, Made3, Grown3From2, Grown3From1}
 use Rattle.td_store_rows.specs.Columns.{meta_typing}
 use Rattle.td_store_rows.specs.StoreTables.{country_in, tables_in}
 use Rattle.td_store_audit.specs.Broken.{IsOffice, ShowsCountry, TellsCountry, TellsCountryIn}
@@ -38,6 +38,9 @@ unfolding understood everything
 office_means Made1 = record { names = codes "version" ∷ codes "country" ∷ []; command = refl; plain = (refl, refl); unlisted = refl }
 office_means Made2 = record { names = codes "version" ∷ codes "country" ∷ []; command = refl; plain = (refl, refl); unlisted = refl }
 office_means Grown2 = record { names = codes "version" ∷ codes "country" ∷ []; command = refl; plain = (refl, refl); unlisted = refl }
+office_means Made3 = record { names = codes "version" ∷ codes "country" ∷ []; command = refl; plain = (refl, refl); unlisted = refl }
+office_means Grown3From2 = record { names = codes "version" ∷ codes "country" ∷ []; command = refl; plain = (refl, refl); unlisted = refl }
+office_means Grown3From1 = record { names = codes "version" ∷ codes "country" ∷ []; command = refl; plain = (refl, refl); unlisted = refl }
 
 abbrev show : Row → Row
 show = shown_by office_terms []

@@ -13,6 +13,7 @@ use Rattle.typed_sql.specs.Reading.{row_order}
 use Rattle.typed_sql.specs.Typed.{IsTypedRow, row_of}
 use Rattle.typed_sql.specs.Values.{number_value}
 use Rattle.typed_sql.specs.Writing.{passes}
+use Rattle.td_schema.specs.declared.layout.Layout.{Layout}
 use Rattle.td_store_rows.specs.Columns.{code_typing, line_typing}
 use Rattle.td_table_model.specs.Gathering.{no_of, place}
 use Rattle.td_table_model.specs.Tables.{Keyed, LineCells}
@@ -44,16 +45,16 @@ codes_by_serial rows sorted =
     first_low (place a) (place b) (slice_cmp nat_cmp b.row a.row) (sorted k d (omega arith) within))
 
 -- a row of lines likewise
-pub line_passes : (H : ℕ) (r : Row) → IsTypedRow line_typing r
-    → passes (number_value H ∷ []) holder_tests r ≡ is_of_holder H (row_of line_typing r)
-line_passes H r is = last_term (number_is (column r 1) (row_of line_typing r).holder H (ap (λ l. column l 0) is))
+pub line_passes : (layout : Layout) (H : ℕ) (r : Row) → IsTypedRow (line_typing layout) r
+    → passes (number_value H ∷ []) holder_tests r ≡ is_of_holder H (row_of (line_typing layout) r)
+line_passes layout H r is = last_term (number_is (column r 1) (row_of (line_typing layout) r).holder H (ap (λ l. column l 0) is))
 
 -- lines of one holder are compared by their serials, and then by their numbers
-pub lines_compared : (H : ℕ) (a b : Row) → Passes line_typing (is_of_holder H) a → Passes line_typing (is_of_holder H) b
-    → row_order by_three (number_value H ∷ []) a b ≡ line_order (row_of line_typing a) (row_of line_typing b)
-lines_compared H a b is other =
-    let x = row_of line_typing a in
-    let y = row_of line_typing b in
+pub lines_compared : (layout : Layout) (H : ℕ) (a b : Row) → Passes (line_typing layout) (is_of_holder H) a → Passes (line_typing layout) (is_of_holder H) b
+    → row_order by_three (number_value H ∷ []) a b ≡ line_order (row_of (line_typing layout) a) (row_of (line_typing layout) b)
+lines_compared layout H a b is other =
+    let x = row_of (line_typing layout) a in
+    let y = row_of (line_typing layout) b in
     then_key (numbers_compared (column a 1) (column b 1) x.holder y.holder (ap (λ l. column l 0) is.0) (ap (λ l. column l 0) other.0) ∙ numbers_tie x.holder y.holder H is.1 other.1)
     (then_key (numbers_compared (column a 2) (column b 2) x.serial y.serial (ap (λ l. column l 1) is.0) (ap (λ l. column l 1) other.0))
     (last_key (numbers_compared (column a 3) (column b 3) (no_of x) (no_of y) (ap (λ l. column l 2) is.0) (ap (λ l. column l 2) other.0))))

@@ -127,7 +127,7 @@ module _ (layout : Layout) (trees : Trees) (found : List RawHolder) (all : AreHo
   -- the lines of each holder that was found are in their places exactly where those of each holder's row keep the rule
   pub lines_told : AllRows holder_typing HasGrnCount trees → AllByRecursion (HasGuarantees t) t.holders
       → AllRows holder_typing HasMrnCount trees → AllByRecursion (HasMovements t) t.holders
-      → AllByRecursion (HasLinesInPlace trees) found ↔ AllByRecursion (HasLines t) t.holders
+      → AllByRecursion (HasLinesInPlace layout trees) found ↔ AllByRecursion (HasLines t) t.holders
   lines_told grn_kinds guarantees mrn_kinds movements = told HasItsLines IsCounted (HasLines t) says counted
     where
       counted : AllByRecursion IsCounted rows

@@ -17,9 +17,9 @@ use Rattle.sqlite_schema.specs.declared.schema.Table.{Table}
 use Rattle.sqlite_schema.specs.Names.{same_name}
 use Rattle.sqlite_schema.specs.Rules.{Obeys, agree, clashes, has_null, passes}
 use Rattle.sqlite_schema.specs.declared.schema.Schema.{Schema}
-use Rattle.td_schema.specs.Layouts.{guarantees_tree, schema_of}
+use Rattle.td_schema.specs.Layouts.{guarantees_tree, lines_tree, schema_of}
 use Rattle.td_schema.specs.declared.layout.Layout.{Layout}
-use Rattle.td_schema.specs.declared.layout.Layout.TheVariants.{Grown2, Made1, Made2}
+use Rattle.td_schema.specs.declared.layout.Layout.TheVariants.{Made1, Made2, Grown2, Made3, Grown3From2, Grown3From1}
 use Rattle.td_store_rows.specs.Columns.{guarantees_table, holders_table, lines_table, movements_table, stored_table}
 use Rattle.td_store_audit.proofs.Unique.{HaveKey}
 
@@ -77,11 +77,11 @@ pub record AreRuled (l : Layout) (trees : Trees) : Type 0 where
   pub movement_keys : HaveKey (1 ∷ 2 ∷ []) (trees 4)
   pub lrn_keys : HaveKey (1 ∷ 4 ∷ []) (trees 4)
   pub guarantee_keys : HaveKey (1 ∷ 2 ∷ []) (trees (guarantees_tree l))
-  pub line_keys : HaveKey (1 ∷ 2 ∷ 3 ∷ []) (trees 11)
+  pub line_keys : HaveKey (1 ∷ 2 ∷ 3 ∷ []) (trees (lines_tree l))
   pub codes_named : AllByRecursion (HasParent trees (1 ∷ []) 1 (0 ∷ [])) (trees 2)
   pub movements_named : AllByRecursion (HasParent trees (1 ∷ []) 1 (0 ∷ [])) (trees 4)
   pub guarantees_named : AllByRecursion (HasParent trees (1 ∷ []) 1 (0 ∷ [])) (trees (guarantees_tree l))
-  pub lines_named : AllByRecursion (HasParent trees (1 ∷ 2 ∷ []) 4 (1 ∷ 2 ∷ [])) (trees 11)
+  pub lines_named : AllByRecursion (HasParent trees (1 ∷ 2 ∷ []) 4 (1 ∷ 2 ∷ [])) (trees (lines_tree l))
 
 -- the rules of a schema, of the rows in a tree, taken to mean what follows of each row
 module _ (s : Schema) (trees : Trees) where
@@ -107,11 +107,11 @@ ruled Made1 trees obeys = record {
   lrn_keys = keyed (schema_of Made1) trees movements_table (1 ∷ 4 ∷ []) (obeys.rules Unique).1.1.1.0 (third (trees 4) (3 ∷ []) (1 ∷ 2 ∷ []) (1 ∷ 4 ∷ []));
   guarantee_keys = keyed (schema_of Made1) trees (guarantees_table Made1) (1 ∷ 2 ∷ []) (obeys.rules Unique).1.1.1.1.0
       (second (trees (guarantees_tree Made1)) (3 ∷ []) (1 ∷ 2 ∷ []) []);
-  line_keys = keyed (schema_of Made1) trees lines_table (1 ∷ 2 ∷ 3 ∷ []) (obeys.rules Unique).1.1.1.1.1.0 (first (trees 11) (1 ∷ 2 ∷ 3 ∷ []) (1 ∷ 2 ∷ 4 ∷ []) []);
+  line_keys = keyed (schema_of Made1) trees (lines_table Made1) (1 ∷ 2 ∷ 3 ∷ []) (obeys.rules Unique).1.1.1.1.1.0 (first (trees (lines_tree Made1)) (1 ∷ 2 ∷ 3 ∷ []) (1 ∷ 2 ∷ 4 ∷ []) []);
   codes_named = child (schema_of Made1) trees stored_table (1 ∷ []) 1 (0 ∷ []) (obeys.rules ForeignKey).1.1.0 (there trees (1 ∷ []) 1 (0 ∷ []));
   movements_named = child (schema_of Made1) trees movements_table (1 ∷ []) 1 (0 ∷ []) (obeys.rules ForeignKey).1.1.1.0 (there trees (1 ∷ []) 1 (0 ∷ []));
   guarantees_named = child (schema_of Made1) trees (guarantees_table Made1) (1 ∷ []) 1 (0 ∷ []) (obeys.rules ForeignKey).1.1.1.1.0 (there trees (1 ∷ []) 1 (0 ∷ []));
-  lines_named = child (schema_of Made1) trees lines_table (1 ∷ 2 ∷ []) 4 (1 ∷ 2 ∷ []) (obeys.rules ForeignKey).1.1.1.1.1.0 (there trees (1 ∷ 2 ∷ []) 4 (1 ∷ 2 ∷ []));
+  lines_named = child (schema_of Made1) trees (lines_table Made1) (1 ∷ 2 ∷ []) 4 (1 ∷ 2 ∷ []) (obeys.rules ForeignKey).1.1.1.1.1.0 (there trees (1 ∷ 2 ∷ []) 4 (1 ∷ 2 ∷ []));
 }
 ruled Made2 trees obeys = record {
   holders_checked = checks (schema_of Made2) trees holders_table (obeys.rules Check).1.0 (λ row is. is);
@@ -120,11 +120,11 @@ ruled Made2 trees obeys = record {
   lrn_keys = keyed (schema_of Made2) trees movements_table (1 ∷ 4 ∷ []) (obeys.rules Unique).1.1.1.0 (third (trees 4) (3 ∷ []) (1 ∷ 2 ∷ []) (1 ∷ 4 ∷ []));
   guarantee_keys = keyed (schema_of Made2) trees (guarantees_table Made2) (1 ∷ 2 ∷ []) (obeys.rules Unique).1.1.1.1.0
       (second (trees (guarantees_tree Made2)) (3 ∷ []) (1 ∷ 2 ∷ []) []);
-  line_keys = keyed (schema_of Made2) trees lines_table (1 ∷ 2 ∷ 3 ∷ []) (obeys.rules Unique).1.1.1.1.1.0 (first (trees 11) (1 ∷ 2 ∷ 3 ∷ []) (1 ∷ 2 ∷ 4 ∷ []) []);
+  line_keys = keyed (schema_of Made2) trees (lines_table Made2) (1 ∷ 2 ∷ 3 ∷ []) (obeys.rules Unique).1.1.1.1.1.0 (first (trees (lines_tree Made2)) (1 ∷ 2 ∷ 3 ∷ []) (1 ∷ 2 ∷ 4 ∷ []) []);
   codes_named = child (schema_of Made2) trees stored_table (1 ∷ []) 1 (0 ∷ []) (obeys.rules ForeignKey).1.1.0 (there trees (1 ∷ []) 1 (0 ∷ []));
   movements_named = child (schema_of Made2) trees movements_table (1 ∷ []) 1 (0 ∷ []) (obeys.rules ForeignKey).1.1.1.0 (there trees (1 ∷ []) 1 (0 ∷ []));
   guarantees_named = child (schema_of Made2) trees (guarantees_table Made2) (1 ∷ []) 1 (0 ∷ []) (obeys.rules ForeignKey).1.1.1.1.0 (there trees (1 ∷ []) 1 (0 ∷ []));
-  lines_named = child (schema_of Made2) trees lines_table (1 ∷ 2 ∷ []) 4 (1 ∷ 2 ∷ []) (obeys.rules ForeignKey).1.1.1.1.1.0 (there trees (1 ∷ 2 ∷ []) 4 (1 ∷ 2 ∷ []));
+  lines_named = child (schema_of Made2) trees (lines_table Made2) (1 ∷ 2 ∷ []) 4 (1 ∷ 2 ∷ []) (obeys.rules ForeignKey).1.1.1.1.1.0 (there trees (1 ∷ 2 ∷ []) 4 (1 ∷ 2 ∷ []));
 }
 ruled Grown2 trees obeys = record {
   holders_checked = checks (schema_of Grown2) trees holders_table (obeys.rules Check).1.0 (λ row is. is);
@@ -133,9 +133,48 @@ ruled Grown2 trees obeys = record {
   lrn_keys = keyed (schema_of Grown2) trees movements_table (1 ∷ 4 ∷ []) (obeys.rules Unique).1.1.1.0 (third (trees 4) (3 ∷ []) (1 ∷ 2 ∷ []) (1 ∷ 4 ∷ []));
   guarantee_keys = keyed (schema_of Grown2) trees (guarantees_table Grown2) (1 ∷ 2 ∷ []) (obeys.rules Unique).1.1.1.1.1.1.0
       (second (trees (guarantees_tree Grown2)) (3 ∷ []) (1 ∷ 2 ∷ []) []);
-  line_keys = keyed (schema_of Grown2) trees lines_table (1 ∷ 2 ∷ 3 ∷ []) (obeys.rules Unique).1.1.1.1.1.0 (first (trees 11) (1 ∷ 2 ∷ 3 ∷ []) (1 ∷ 2 ∷ 4 ∷ []) []);
+  line_keys = keyed (schema_of Grown2) trees (lines_table Grown2) (1 ∷ 2 ∷ 3 ∷ []) (obeys.rules Unique).1.1.1.1.1.0 (first (trees (lines_tree Grown2)) (1 ∷ 2 ∷ 3 ∷ []) (1 ∷ 2 ∷ 4 ∷ []) []);
   codes_named = child (schema_of Grown2) trees stored_table (1 ∷ []) 1 (0 ∷ []) (obeys.rules ForeignKey).1.1.0 (there trees (1 ∷ []) 1 (0 ∷ []));
   movements_named = child (schema_of Grown2) trees movements_table (1 ∷ []) 1 (0 ∷ []) (obeys.rules ForeignKey).1.1.1.0 (there trees (1 ∷ []) 1 (0 ∷ []));
   guarantees_named = child (schema_of Grown2) trees (guarantees_table Grown2) (1 ∷ []) 1 (0 ∷ []) (obeys.rules ForeignKey).1.1.1.1.1.1.0 (there trees (1 ∷ []) 1 (0 ∷ []));
-  lines_named = child (schema_of Grown2) trees lines_table (1 ∷ 2 ∷ []) 4 (1 ∷ 2 ∷ []) (obeys.rules ForeignKey).1.1.1.1.1.0 (there trees (1 ∷ 2 ∷ []) 4 (1 ∷ 2 ∷ []));
+  lines_named = child (schema_of Grown2) trees (lines_table Grown2) (1 ∷ 2 ∷ []) 4 (1 ∷ 2 ∷ []) (obeys.rules ForeignKey).1.1.1.1.1.0 (there trees (1 ∷ 2 ∷ []) 4 (1 ∷ 2 ∷ []));
+}
+ruled Made3 trees obeys = record {
+  holders_checked = checks (schema_of Made3) trees holders_table (obeys.rules Check).1.0 (λ row is. is);
+  code_keys = keyed (schema_of Made3) trees stored_table (1 ∷ 2 ∷ 3 ∷ []) (obeys.rules Unique).1.1.0 (alone (trees 2) (1 ∷ 2 ∷ 3 ∷ []) [] []);
+  movement_keys = keyed (schema_of Made3) trees movements_table (1 ∷ 2 ∷ []) (obeys.rules Unique).1.1.1.0 (middle (trees 4) (3 ∷ []) (1 ∷ 2 ∷ []) (1 ∷ 4 ∷ []));
+  lrn_keys = keyed (schema_of Made3) trees movements_table (1 ∷ 4 ∷ []) (obeys.rules Unique).1.1.1.0 (third (trees 4) (3 ∷ []) (1 ∷ 2 ∷ []) (1 ∷ 4 ∷ []));
+  guarantee_keys = keyed (schema_of Made3) trees (guarantees_table Made3) (1 ∷ 2 ∷ []) (obeys.rules Unique).1.1.1.1.0
+      (second (trees (guarantees_tree Made3)) (3 ∷ []) (1 ∷ 2 ∷ []) []);
+  line_keys = keyed (schema_of Made3) trees (lines_table Made3) (1 ∷ 2 ∷ 3 ∷ []) (obeys.rules Unique).1.1.1.1.1.0 (first (trees (lines_tree Made3)) (1 ∷ 2 ∷ 3 ∷ []) (1 ∷ 2 ∷ 4 ∷ []) []);
+  codes_named = child (schema_of Made3) trees stored_table (1 ∷ []) 1 (0 ∷ []) (obeys.rules ForeignKey).1.1.0 (there trees (1 ∷ []) 1 (0 ∷ []));
+  movements_named = child (schema_of Made3) trees movements_table (1 ∷ []) 1 (0 ∷ []) (obeys.rules ForeignKey).1.1.1.0 (there trees (1 ∷ []) 1 (0 ∷ []));
+  guarantees_named = child (schema_of Made3) trees (guarantees_table Made3) (1 ∷ []) 1 (0 ∷ []) (obeys.rules ForeignKey).1.1.1.1.0 (there trees (1 ∷ []) 1 (0 ∷ []));
+  lines_named = child (schema_of Made3) trees (lines_table Made3) (1 ∷ 2 ∷ []) 4 (1 ∷ 2 ∷ []) (obeys.rules ForeignKey).1.1.1.1.1.0 (there trees (1 ∷ 2 ∷ []) 4 (1 ∷ 2 ∷ []));
+}
+ruled Grown3From2 trees obeys = record {
+  holders_checked = checks (schema_of Grown3From2) trees holders_table (obeys.rules Check).1.0 (λ row is. is);
+  code_keys = keyed (schema_of Grown3From2) trees stored_table (1 ∷ 2 ∷ 3 ∷ []) (obeys.rules Unique).1.1.0 (alone (trees 2) (1 ∷ 2 ∷ 3 ∷ []) [] []);
+  movement_keys = keyed (schema_of Grown3From2) trees movements_table (1 ∷ 2 ∷ []) (obeys.rules Unique).1.1.1.0 (middle (trees 4) (3 ∷ []) (1 ∷ 2 ∷ []) (1 ∷ 4 ∷ []));
+  lrn_keys = keyed (schema_of Grown3From2) trees movements_table (1 ∷ 4 ∷ []) (obeys.rules Unique).1.1.1.0 (third (trees 4) (3 ∷ []) (1 ∷ 2 ∷ []) (1 ∷ 4 ∷ []));
+  guarantee_keys = keyed (schema_of Grown3From2) trees (guarantees_table Grown3From2) (1 ∷ 2 ∷ []) (obeys.rules Unique).1.1.1.1.0
+      (second (trees (guarantees_tree Grown3From2)) (3 ∷ []) (1 ∷ 2 ∷ []) []);
+  line_keys = keyed (schema_of Grown3From2) trees (lines_table Grown3From2) (1 ∷ 2 ∷ 3 ∷ []) (obeys.rules Unique).1.1.1.1.1.1.0 (first (trees (lines_tree Grown3From2)) (1 ∷ 2 ∷ 3 ∷ []) (1 ∷ 2 ∷ 4 ∷ []) []);
+  codes_named = child (schema_of Grown3From2) trees stored_table (1 ∷ []) 1 (0 ∷ []) (obeys.rules ForeignKey).1.1.0 (there trees (1 ∷ []) 1 (0 ∷ []));
+  movements_named = child (schema_of Grown3From2) trees movements_table (1 ∷ []) 1 (0 ∷ []) (obeys.rules ForeignKey).1.1.1.0 (there trees (1 ∷ []) 1 (0 ∷ []));
+  guarantees_named = child (schema_of Grown3From2) trees (guarantees_table Grown3From2) (1 ∷ []) 1 (0 ∷ []) (obeys.rules ForeignKey).1.1.1.1.0 (there trees (1 ∷ []) 1 (0 ∷ []));
+  lines_named = child (schema_of Grown3From2) trees (lines_table Grown3From2) (1 ∷ 2 ∷ []) 4 (1 ∷ 2 ∷ []) (obeys.rules ForeignKey).1.1.1.1.1.1.0 (there trees (1 ∷ 2 ∷ []) 4 (1 ∷ 2 ∷ []));
+}
+ruled Grown3From1 trees obeys = record {
+  holders_checked = checks (schema_of Grown3From1) trees holders_table (obeys.rules Check).1.0 (λ row is. is);
+  code_keys = keyed (schema_of Grown3From1) trees stored_table (1 ∷ 2 ∷ 3 ∷ []) (obeys.rules Unique).1.1.0 (alone (trees 2) (1 ∷ 2 ∷ 3 ∷ []) [] []);
+  movement_keys = keyed (schema_of Grown3From1) trees movements_table (1 ∷ 2 ∷ []) (obeys.rules Unique).1.1.1.0 (middle (trees 4) (3 ∷ []) (1 ∷ 2 ∷ []) (1 ∷ 4 ∷ []));
+  lrn_keys = keyed (schema_of Grown3From1) trees movements_table (1 ∷ 4 ∷ []) (obeys.rules Unique).1.1.1.0 (third (trees 4) (3 ∷ []) (1 ∷ 2 ∷ []) (1 ∷ 4 ∷ []));
+  guarantee_keys = keyed (schema_of Grown3From1) trees (guarantees_table Grown3From1) (1 ∷ 2 ∷ []) (obeys.rules Unique).1.1.1.1.1.1.0
+      (second (trees (guarantees_tree Grown3From1)) (3 ∷ []) (1 ∷ 2 ∷ []) []);
+  line_keys = keyed (schema_of Grown3From1) trees (lines_table Grown3From1) (1 ∷ 2 ∷ 3 ∷ []) (obeys.rules Unique).1.1.1.1.1.1.1.0 (first (trees (lines_tree Grown3From1)) (1 ∷ 2 ∷ 3 ∷ []) (1 ∷ 2 ∷ 4 ∷ []) []);
+  codes_named = child (schema_of Grown3From1) trees stored_table (1 ∷ []) 1 (0 ∷ []) (obeys.rules ForeignKey).1.1.0 (there trees (1 ∷ []) 1 (0 ∷ []));
+  movements_named = child (schema_of Grown3From1) trees movements_table (1 ∷ []) 1 (0 ∷ []) (obeys.rules ForeignKey).1.1.1.0 (there trees (1 ∷ []) 1 (0 ∷ []));
+  guarantees_named = child (schema_of Grown3From1) trees (guarantees_table Grown3From1) (1 ∷ []) 1 (0 ∷ []) (obeys.rules ForeignKey).1.1.1.1.1.1.0 (there trees (1 ∷ []) 1 (0 ∷ []));
+  lines_named = child (schema_of Grown3From1) trees (lines_table Grown3From1) (1 ∷ 2 ∷ []) 4 (1 ∷ 2 ∷ []) (obeys.rules ForeignKey).1.1.1.1.1.1.1.0 (there trees (1 ∷ 2 ∷ []) 4 (1 ∷ 2 ∷ []));
 }

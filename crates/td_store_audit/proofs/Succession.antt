@@ -114,9 +114,9 @@ module _ (At : Layout → Type 0) (country : List ℕ) (holders : List RawHolder
         }) next.office.told.codes
 
     pub lines_next : (keeps : Bool)
-        → TellsLines readable.lines holders state keeps → TellsNext S6 keeps
+        → TellsLines At readable.lines holders state keeps → TellsNext S6 keeps
     lines_next keeps told layout own has next =
-        told layout (record {
+        told layout own (record {
           common = common S6 (omega arith) layout has next;
           ids = next.office.known.kept.ids.lines;
           owned = λ typed. (next.office.known.kept.lines typed).owned;

@@ -15,7 +15,7 @@ use Rattle.td_table_model.specs.Stored.{AreOfHolders}
 use Rattle.td_table_model.specs.Tables.{Keyed, Kept}
 use Rattle.typed_sql.specs.Typed.{IsTypedRow, Typing, row_of, typed_rows}
 use Rattle.typed_sql.specs.Values.{number_in, number_value}
-use Rattle.td_schema.specs.Layouts.{guarantees_tree, schema_of}
+use Rattle.td_schema.specs.Layouts.{guarantees_tree, lines_tree, schema_of}
 use Rattle.td_schema.specs.declared.layout.Layout.{Layout}
 use Rattle.td_store_rows.specs.Columns.{holder_typing, guarantee_typing, kept_typing, code_typing, movement_typing, line_typing}
 use Rattle.td_store_rows.specs.StoreReads.{KeepsUse}
@@ -137,24 +137,24 @@ module _ (layout : Layout) (trees : Trees) (obeys : Obeys (schema_of layout) tre
             (texts_equal (column a 4) (column b 4) x.row.lrn y.row.lrn k (ap (λ l. column l 3) is_a) (ap (λ l. column l 3) is_b) of_a.1 of_b.1, tt),
           )
 
-  pub lines_kept : AllRows line_typing (IsTypedRow line_typing) trees → AreLinesKept (tables_in layout trees)
+  pub lines_kept : AllRows (line_typing layout) (IsTypedRow (line_typing layout)) trees → AreLinesKept (tables_in layout trees)
   lines_kept typed = record {
-    apart = λ H n k. of_three (λ l. no_of l == k) (λ l. place l == n) (λ l. owner l == H) (typed_rows line_typing trees)
-        (one_typed line_typing trees (1 ∷ 2 ∷ 3 ∷ []) ids.lines rules.line_keys typed (λ l. (owner l == H) && ((place l == n) && (no_of l == k))) (same H n k));
-    owned = all-map (λ l. IsSome (row_at holder_no (owner l) (typed_rows holder_typing trees))) (row_of line_typing) (trees 11)
-        (all_both (IsTypedRow line_typing) (HasParent trees (1 ∷ 2 ∷ []) 4 (1 ∷ 2 ∷ []))
-        (λ r. IsSome (row_at holder_no (owner (row_of line_typing r)) (typed_rows holder_typing trees)))
-        (λ r is has. owned_through layout trees ids.holders obeys r (owner (row_of line_typing r)) (place (row_of line_typing r))
-        (ap (λ l. column l 0) is) (ap (λ l. column l 1) is) has) (trees 11) typed rules.lines_named);
+    apart = λ H n k. of_three (λ l. no_of l == k) (λ l. place l == n) (λ l. owner l == H) (typed_rows (line_typing layout) trees)
+        (one_typed (line_typing layout) trees (1 ∷ 2 ∷ 3 ∷ []) ids.lines rules.line_keys typed (λ l. (owner l == H) && ((place l == n) && (no_of l == k))) (same H n k));
+    owned = all-map (λ l. IsSome (row_at holder_no (owner l) (typed_rows holder_typing trees))) (row_of (line_typing layout)) (trees (lines_tree layout))
+        (all_both (IsTypedRow (line_typing layout)) (HasParent trees (1 ∷ 2 ∷ []) 4 (1 ∷ 2 ∷ []))
+        (λ r. IsSome (row_at holder_no (owner (row_of (line_typing layout) r)) (typed_rows holder_typing trees)))
+        (λ r is has. owned_through layout trees ids.holders obeys r (owner (row_of (line_typing layout) r)) (place (row_of (line_typing layout) r))
+        (ap (λ l. column l 0) is) (ap (λ l. column l 1) is) has) (trees (lines_tree layout)) typed rules.lines_named);
   }
     where
-      same : (H n k : ℕ) (a b : Row) → IsTypedRow line_typing a → IsTypedRow line_typing b
-          → ((owner (row_of line_typing a) == H) && ((place (row_of line_typing a) == n) && (no_of (row_of line_typing a) == k))) ≡ true
-          → ((owner (row_of line_typing b) == H) && ((place (row_of line_typing b) == n) && (no_of (row_of line_typing b) == k))) ≡ true
+      same : (H n k : ℕ) (a b : Row) → IsTypedRow (line_typing layout) a → IsTypedRow (line_typing layout) b
+          → ((owner (row_of (line_typing layout) a) == H) && ((place (row_of (line_typing layout) a) == n) && (no_of (row_of (line_typing layout) a) == k))) ≡ true
+          → ((owner (row_of (line_typing layout) b) == H) && ((place (row_of (line_typing layout) b) == n) && (no_of (row_of (line_typing layout) b) == k))) ≡ true
           → HaveSame (1 ∷ 2 ∷ 3 ∷ []) a b
       same H n k a b is_a is_b test_a test_b =
-          let x = row_of line_typing a in
-          let y = row_of line_typing b in
+          let x = row_of (line_typing layout) a in
+          let y = row_of (line_typing layout) b in
           let of_a = all_three (owner x == H) (place x == n) (no_of x == k) test_a in
           let of_b = all_three (owner y == H) (place y == n) (no_of y == k) test_b in (
             numbers_equal (column a 1) (column b 1) (owner x) (owner y) H (ap (λ l. column l 0) is_a) (ap (λ l. column l 0) is_b) of_a.first of_b.first,

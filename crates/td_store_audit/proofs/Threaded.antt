@@ -56,18 +56,18 @@ module _ (At : Layout → Type 0) (country : List ℕ) (holders : List RawHolder
     after_movements : IsSoWhere At Q (IsNextRule S6 country holders readable) a
     after_movements = kept_on At country holders readable Q a S5 first true (movements_told true told) refl S6 refl
 
-    lines_told : (keeps : Bool) → TellsLines readable.lines (map raw_of counting) b keeps → TellsWhere At Q (λ layout trees. KeepsUntyped layout trees S6) a keeps
+    lines_told : (keeps : Bool) → TellsLines At readable.lines (map raw_of counting) b keeps → TellsWhere At Q (λ layout trees. KeepsUntyped layout trees S6) a keeps
     lines_told keeps tells =
         told_before At country holders readable Q a S6 after_movements keeps b read
         (lines_next At country holders readable b keeps
-        (subst (λ hs. TellsLines readable.lines hs b keeps) of_holders tells))
+        (subst (λ hs. TellsLines At readable.lines hs b keeps) of_holders tells))
 
-    pub lines_broken : TellsLines readable.lines (map raw_of counting) b false → IsSoWhere At Q (λ layout trees. IsFirstBrokenUntyped layout trees S6) a
+    pub lines_broken : TellsLines At readable.lines (map raw_of counting) b false → IsSoWhere At Q (λ layout trees. IsFirstBrokenUntyped layout trees S6) a
     lines_broken tells = broken_here At country holders readable Q a S6 after_movements false (lines_told false tells) refl
 
     -- so is this one
-    module _ (handed : List HolderLines) (of_counting : map movements_in handed ≡ counting) (tells : TellsLines readable.lines (map raw_of counting) b true)
-        (counted : AreAllCounting a counting) (found : AreAllLines b handed) where
+    module _ (handed : List HolderLines) (of_counting : map movements_in handed ≡ counting) (tells : TellsLines At readable.lines (map raw_of counting) b true)
+        (counted : AreAllCounting a counting) (found : AreAllLines At b handed) where
       after_lines : IsSoWhere At Q (IsNextRule S7 country holders readable) a
       after_lines = kept_on At country holders readable Q a S6 after_movements true (lines_told true tells) refl S7 refl
 
@@ -83,8 +83,8 @@ module _ (At : Layout → Type 0) (country : List ℕ) (holders : List RawHolder
             known = subst (IsAuditable layout trees country) same_holders next.office.known;
             before = next.before;
             counting = all_from_map (AreCounting layout trees) movements_in handed (subst (AllByRecursion (AreCounting layout trees)) (sym of_counting) (counted layout tt has typed));
-            lines = so_before At (λ layout. AreTyped line_typing) (λ layout trees. AllByRecursion (AreItsLines layout trees) handed) a b read
-                (λ at is. found at tt) layout own has
+            lines = so_before At (λ layout. AreTyped (line_typing layout)) (λ layout trees. AllByRecursion (AreItsLines layout trees) handed) a b read
+                found layout own has
                 (lines_typed layout trees country holders next.office.known next.before);
           }
 

@@ -62,25 +62,25 @@ module _ (tell : HolderFieldsTell) (layout : Layout) (state : State) (found : Li
       )
 
   -- lines that keep their rule are read
-  pub lines_read : LinesAreRead → AreLinesAuditable layout state found → KeepsUntyped layout state.now.trees S6 → AllRows line_typing (IsReadRow line_typing AreLineFields) state.now.trees
+  pub lines_read : LinesAreRead → AreLinesAuditable layout state found → KeepsUntyped layout state.now.trees S6 → AllRows (line_typing layout) (IsReadRow (line_typing layout) AreLineFields) state.now.trees
   lines_read read auditable keeps =
       read layout state.now.trees (owners auditable.common) (auditable.owned keeps.0) (auditable.apart keeps.0) auditable.common.guarantees.1 auditable.movements.1 keeps
 
   -- lines that are read keep it exactly where those of each holder are in their places
-  pub lines_rule : AreLinesAuditable layout state found → AllRows line_typing (IsTypedRow line_typing) state.now.trees
-      → AllByRecursion (HasLinesInPlace state.now.trees) found ↔ KeepsUntyped layout state.now.trees S6
+  pub lines_rule : AreLinesAuditable layout state found → AllRows (line_typing layout) (IsTypedRow (line_typing layout)) state.now.trees
+      → AllByRecursion (HasLinesInPlace layout state.now.trees) found ↔ KeepsUntyped layout state.now.trees S6
   lines_rule auditable typed =
       let told = lines_told layout state.now.trees found auditable.common.holders tell auditable.common.guarantees.0.0 auditable.common.guarantees.1
       auditable.movements.0.0 auditable.movements.1 in
       (λ each. (typed, told.0 each), λ keeps. told.1 keeps.1)
 
 -- one holder's lines, found in order
-pub lines_of_told : (raw : RawHolder) (trees : Trees) (guarantees movements : ℕ) (rows : List (Keyed LineCells)) (b : Bool) → raw.grn_count ≡ Some guarantees
-    → raw.mrn_count ≡ Some movements → IsPermutation (part raw.holder (typed_rows line_typing trees)) rows → IsSorted line_order rows
-    → AreNumbersApart (part raw.holder (typed_rows line_typing trees))
-    → (IsBySerial rows → IsByNumber rows → AreNumbersApart rows → IsTrue b ↔ AreAllLinesInPlace guarantees movements rows) → IsTrue b ↔ HasLinesInPlace trees raw
-lines_of_told raw trees guarantees movements rows b grns mrns same sorted apart tells =
-    let mine : List (Keyed LineCells) = part raw.holder (typed_rows line_typing trees) in
+pub lines_of_told : (layout : Layout) (raw : RawHolder) (trees : Trees) (guarantees movements : ℕ) (rows : List (Keyed LineCells)) (b : Bool) → raw.grn_count ≡ Some guarantees
+    → raw.mrn_count ≡ Some movements → IsPermutation (part raw.holder (typed_rows (line_typing layout) trees)) rows → IsSorted line_order rows
+    → AreNumbersApart (part raw.holder (typed_rows (line_typing layout) trees))
+    → (IsBySerial rows → IsByNumber rows → AreNumbersApart rows → IsTrue b ↔ AreAllLinesInPlace guarantees movements rows) → IsTrue b ↔ HasLinesInPlace layout trees raw
+lines_of_told layout raw trees guarantees movements rows b grns mrns same sorted apart tells =
+    let mine : List (Keyed LineCells) = part raw.holder (typed_rows (line_typing layout) trees) in
     let still = apart_still mine rows same apart in
     let it = tells (lines_by_serial rows sorted) (lines_by_number rows sorted) still in (
       λ t. rw (grns, mrns) ((refl, refl), lines_permuted guarantees movements rows mine (IsPermutation-sym mine rows same) still (it.0 t)),

@@ -85,7 +85,7 @@ module _ (layout : Layout) (trees : Trees) (country : List ℕ) (holders : List 
     apart = (known.kept.movements movements_kept.0.1).apart;
   }
 
-  pub lines_typed : AreTyped line_typing trees
+  pub lines_typed : AreTyped (line_typing layout) trees
   lines_typed = record { ids = known.kept.ids.lines; cells = lines_kept.0 }
 
 module _ (law : FoundHoldersTell) (layout : Layout) (trees : Trees) (country : List ℕ) (holders : List RawHolder) (known : IsAuditable layout trees country holders)

@@ -12,12 +12,17 @@ use Rattle.td_schema.specs.declared.layout.Layout.{Layout}
 use Rattle.td_store_rows.specs.Columns.{code_typing, line_typing}
 use Rattle.td_store_rows.specs.CodeTable.{code_row_of as row_of_code}
 use Rattle.td_store_rows.specs.declared.codes.stored.StoredCode.{StoredCode}
-use Rattle.td_store_rows.specs.LineTable.{line_row_of as row_of_line}
+use Rattle.td_store_rows.specs.LineTable.{AreLinesIn, line_row_of as row_of_line}
+use Rattle.td_store_rows.specs.StoreReads.{IsOfVersion}
 use Rattle.td_store_rows.specs.declared.lines.stored.StoredLine.{StoredLine}
 
 -- the rows of a holder
 abbrev pub is_of_holder : {R : Type 0} → ℕ → Keyed R → Bool
 is_of_holder H r = owner r == H
+
+-- in a file of a version these are all lines of a holder
+abbrev pub AreLinesOf : ℕ → ℕ → State → List StoredLine → Type 0
+AreLinesOf version H = AreLinesIn (IsOfVersion version) (is_of_holder H)
 
 -- codes by their serials, and those of one serial as texts
 abbrev pub code_order : Keyed (List ℕ) → Keyed (List ℕ) → Ordering
@@ -27,12 +32,13 @@ code_order a b = ordering_then (nat_cmp (place a) (place b)) (slice_cmp nat_cmp 
 abbrev pub line_order : Keyed LineCells → Keyed LineCells → Ordering
 line_order a b = ordering_then (nat_cmp (place a) (place b)) (nat_cmp (no_of a) (no_of b))
 
--- where the rows of the table are typed, these are in that order
+-- where the rows of the table are typed, these are in that order: lines in a file of a version
 abbrev pub AreInCodeOrder : State → List StoredCode → Type 0
 AreInCodeOrder state found = (l : Layout) → AreInOrder code_typing (schema_of l) code_order state (map row_of_code found)
 
-abbrev pub AreInLineOrder : State → List StoredLine → Type 0
-AreInLineOrder state found = (l : Layout) → AreInOrder line_typing (schema_of l) line_order state (map row_of_line found)
+abbrev pub AreInLineOrder : ℕ → State → List StoredLine → Type 0
+AreInLineOrder version state found =
+    (l : Layout) → IsOfVersion version l → AreInOrder (line_typing l) (schema_of l) line_order state (map row_of_line found)
 
 -- the serial of the guarantee that a code is of, and of the movement that a line is of
 abbrev pub serial_of_code : StoredCode → ℕ

@@ -1,11 +1,14 @@
 -- What a database keeps of its tables, if they are a store's: its schema's rules, read of the rows.
-use Rattle.std.specs.Prelude.{◌≡◌, IsTrue}
+use Rattle.std.specs.Prelude.{◌≡◌, ◌≤◌, ℕ, length, IsTrue}
+use Rattle.std.specs.List.{AllByRecursion}
 use Rattle.sqlite_trees.specs.Tree.{Trees}
 use Rattle.sqlite.specs.Effect.{Database, IsDatabase}
 use Rattle.sqlite.specs.State.{State}
 use Rattle.typed_sql.specs.Typed.{IsTypedRow}
 use Rattle.typed_sql.specs.Writing.{HasSchema}
-use Rattle.td_schema.specs.Layouts.{schema_of}
+use Rattle.td_table_model.specs.Gathering.{no_of, of_key, part, place}
+use Rattle.td_table_model.specs.Tables.{Keyed, LineCells, Tables}
+use Rattle.td_schema.specs.Layouts.{HasFewLines, schema_of}
 use Rattle.td_schema.specs.declared.layout.Layout.{Layout}
 use Rattle.td_store_rows.specs.Columns.{holder_typing, guarantee_typing, code_typing, movement_typing, line_typing}
 use Rattle.td_store_rows.specs.StoreReads.{KeepsUse}
@@ -42,7 +45,7 @@ SchemaKeepsMovements =
     SchemaKeeps (λ layout trees. AllRows movement_typing (IsTypedRow movement_typing) trees → AreMovementsKept (tables_in layout trees))
 
 abbrev pub SchemaKeepsLines : Type 0
-SchemaKeepsLines = SchemaKeeps (λ layout trees. AllRows line_typing (IsTypedRow line_typing) trees → AreLinesKept (tables_in layout trees))
+SchemaKeepsLines = SchemaKeeps (λ layout trees. AllRows (line_typing layout) (IsTypedRow (line_typing layout)) trees → AreLinesKept (tables_in layout trees))
 
 -- all of it
 abbrev pub SchemaKeepsTables : Type 0
@@ -53,3 +56,17 @@ abbrev pub KeepsTables : State → Type 0
 KeepsTables state =
     (layout : Layout) → IsTrue state.is_open → HasSchema state (schema_of layout) → HaveAllIds layout state.now.trees
     → AreKept layout state.now.trees
+
+-- a line's number in its movement is from 1 to 9
+abbrev pub IsOneOfNine : Keyed LineCells → Type 0
+IsOneOfNine line = (1 ≤ no_of line) × (no_of line ≤ 9)
+
+-- so are those of all lines, and no movement has more than nine
+pub record HaveNineLines (t : Tables) : Type 0 where
+  pub numbers : AllByRecursion IsOneOfNine t.lines
+  pub movements : (H n : ℕ) → length (of_key place n (part H t.lines)) ≤ 9
+
+-- of a file below version 3, where its rows of lines are typed: the CHECK of their numbers
+abbrev pub OlderFilesHaveNineLines : Type 0
+OlderFilesHaveNineLines =
+    SchemaKeeps (λ layout trees. HasFewLines layout → AllRows (line_typing layout) (IsTypedRow (line_typing layout)) trees → HaveNineLines (tables_in layout trees))

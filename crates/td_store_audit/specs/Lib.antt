@@ -3,6 +3,7 @@ pub mod Auditable
 pub mod InFile
 pub mod InPlace
 pub mod Found
+pub mod LineTexts
 pub mod Premises
 pub mod Broken
 pub mod Totals

@@ -39,22 +39,23 @@ pub record AreCodesAuditable (layout : Layout) (state : State) (found : List Raw
 -- number; and the movements keep their rule
 pub record AreLinesAuditable (layout : Layout) (state : State) (found : List RawHolder) : Type 0 where
   pub common : AreHoldersAuditable layout state found
-  pub ids : HaveIds (state.now.trees line_typing.table.tree)
-  pub owned : AllRows line_typing (IsTypedRow line_typing) state.now.trees
+  pub ids : HaveIds (state.now.trees (line_typing layout).table.tree)
+  pub owned : AllRows (line_typing layout) (IsTypedRow (line_typing layout)) state.now.trees
       → AreOfHolders (tables_in layout state.now.trees).holders (tables_in layout state.now.trees).lines
-  pub apart : AllRows line_typing (IsTypedRow line_typing) state.now.trees
+  pub apart : AllRows (line_typing layout) (IsTypedRow (line_typing layout)) state.now.trees
       → (H : ℕ) → AreNumbersApart (part H (tables_in layout state.now.trees).lines)
   pub movements : KeepsUntyped layout state.now.trees S5
 
--- by that, and by whether each row is read, it is told whether the codes keep their rule; the lines
+-- by that, and by whether each row is read, it is told whether the codes keep their rule; the lines, in a file of one of
+-- these layouts
 abbrev pub TellsCodes : Bool → List RawHolder → State → Bool → Type 0
 TellsCodes are_read found state keeps =
     (layout : Layout) → AreCodesAuditable layout state found → TellsRead code_typing AreCodeFields state.now.trees are_read
     → IsTrue keeps ↔ KeepsUntyped layout state.now.trees S4
 
-abbrev pub TellsLines : Bool → List RawHolder → State → Bool → Type 0
-TellsLines are_read found state keeps =
-    (layout : Layout) → AreLinesAuditable layout state found → TellsRead line_typing AreLineFields state.now.trees are_read
+abbrev pub TellsLines : (Layout → Type 0) → Bool → List RawHolder → State → Bool → Type 0
+TellsLines At are_read found state keeps =
+    (layout : Layout) → At layout → AreLinesAuditable layout state found → TellsRead (line_typing layout) AreLineFields state.now.trees are_read
     → IsTrue keeps ↔ KeepsUntyped layout state.now.trees S6
 
 -- The holder's count of guarantees can be read, and the holder's codes are in their places by it.
@@ -63,7 +64,7 @@ HasCodesInPlace trees raw =
     IsSome raw.grn_count × AreCodesInPlace (unwrap_or raw.grn_count 0) (part raw.holder (typed_rows code_typing trees))
 
 -- Both counts can be read, and the holder's lines are in their places by them.
-abbrev pub HasLinesInPlace : Trees → RawHolder → Type 0
-HasLinesInPlace trees raw =
+abbrev pub HasLinesInPlace : Layout → Trees → RawHolder → Type 0
+HasLinesInPlace layout trees raw =
     (IsSome raw.grn_count × IsSome raw.mrn_count)
-    × AreAllLinesInPlace (unwrap_or raw.grn_count 0) (unwrap_or raw.mrn_count 0) (part raw.holder (typed_rows line_typing trees))
+    × AreAllLinesInPlace (unwrap_or raw.grn_count 0) (unwrap_or raw.mrn_count 0) (part raw.holder (typed_rows (line_typing layout) trees))

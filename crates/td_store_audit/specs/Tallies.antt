@@ -47,12 +47,12 @@ AreCounting layout trees h = map serial_of_stored h.serials.items ≡ map place 
 abbrev pub AreItsLines : Layout → Trees → HolderLines → Type 0
 AreItsLines layout trees h = IsPermutation (part h.movements.raw.holder (tables_in layout trees).lines) (map line_row_of h.lines.items)
 
--- so they are of each holder, where the tables that they are of are typed
+-- so they are of each holder, where the tables that they are of are typed: the lines in a file of one of these layouts
 abbrev pub AreAllCounting : State → List CountingSerials → Type 0
 AreAllCounting state handed = IsSoWhere IsAny (λ layout. AreTypedApart movement_typing) (λ layout trees. AllByRecursion (AreCounting layout trees) handed) state
 
-abbrev pub AreAllLines : State → List HolderLines → Type 0
-AreAllLines state handed = IsSoWhere IsAny (λ layout. AreTyped line_typing) (λ layout trees. AllByRecursion (AreItsLines layout trees) handed) state
+abbrev pub AreAllLines : (Layout → Type 0) → State → List HolderLines → Type 0
+AreAllLines At state handed = IsSoWhere At (λ layout. AreTyped (line_typing layout)) (λ layout trees. AllByRecursion (AreItsLines layout trees) handed) state
 
 -- what was handed on of a holder is so, and the holder's guarantees are typed, with the amounts in use where a file keeps
 -- them

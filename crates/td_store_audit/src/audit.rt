@@ -25,10 +25,10 @@ use td_base::Country;
 use td_store_audit_rows::{RawHolder, Readable, all_holders};
 use td_table_model::Rule;
 
-/// The first rule of sound tables that a store's file of that version, 1 or 2, breaks as it stands, or none. It is given
-/// which tables can be read row by row, and reads the rows of these, holder by holder. `DatabaseCorrupt`: the holders'
-/// numbers are none, or the office's own row is there twice or is no such row; `OutOfMemory`: want of memory; any other
-/// error is the database's own. It changes nothing.
+/// The first rule of sound tables that a store's file of that version, 1 to 3, breaks as it stands, or none. It is
+/// given which tables can be read row by row, and reads the rows of these, holder by holder. `DatabaseCorrupt`: the
+/// holders' numbers are none, or the office's own row is there twice or is no such row; `OutOfMemory`: want of memory;
+/// any other error is the database's own. It changes nothing.
 pub fn first_broken<S: Alter>(
     alloc: Global,
     tx: &mut Transaction<'_, S>,
@@ -103,7 +103,7 @@ fn first_of_movements<S: Alter>(
     else {
         return Ok(Some(Rule::S5));
     };
-    let Some(handed) = lines_keep_rule(alloc, tx, counting, readable.lines)? else {
+    let Some(handed) = lines_keep_rule(alloc, tx, version, counting, readable.lines)? else {
         return Ok(Some(Rule::S6));
     };
     if !amounts_keep_rule(alloc, tx, version, &handed)? {

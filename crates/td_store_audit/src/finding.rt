@@ -3,12 +3,11 @@
 ghost use Rattle.std.specs.Prelude.{◌≡◌, IsTrue, IfOk, OnOk};
 ghost use Rattle.sqlite.specs.Held.{state};
 ghost use Rattle.sqlite.specs.State.{HasCleanDisk, KeepsCommit, Survives};
-ghost use Rattle.td_store_rows.specs.StoreReads.{LeavesStore};
+ghost use Rattle.td_store_rows.specs.StoreReads.{LeavesStore, LeavesVersion};
 ghost use Rattle.td_store_rows.specs.CodeTable.{AreCodes};
-ghost use Rattle.td_store_rows.specs.LineTable.{AreLines};
-ghost use Rattle.td_store_audit.specs.Found.{AreInCodeOrder, AreInLineOrder, is_of_holder};
+ghost use Rattle.td_store_audit.specs.Found.{AreInCodeOrder, AreInLineOrder, AreLinesOf, is_of_holder};
 
-use crate::texts::{CODES_OF_HOLDER, LINES_OF_HOLDER};
+use crate::texts::{CODES_OF_HOLDER, lines_of_holder_at};
 use sqlite::{Error, Transaction};
 use sqlite_trees::store::Alter;
 use std::alloc::Global;
@@ -39,24 +38,26 @@ pub fn codes_of_holder<S: Alter>(
     fetch(alloc, tx, CODES_OF_HOLDER, &holder_key(holder))
 }
 
-/// All lines of a holder, by the serials of their movements, those of one movement by their numbers.
+/// All lines of a holder in a file of that version, by the serials of their movements, those of one movement by their
+/// numbers.
 pub fn lines_of_holder<S: Alter>(
     alloc: Global,
     tx: &mut Transaction<'_, S>,
+    version: u32,
     holder: HolderNo,
 ) -> Result<Vec<StoredLine>, Error>
     requires { HasCleanDisk (state S.Store tx.old.conn.now) → IsTrue (state S.Store tx.old.conn.now).in_transaction }
     ensures same_reference { tx.new.conn.ghost_name ≡ tx.old.conn.ghost_name }
     ensures found { HasCleanDisk (state S.Store tx.new.conn.now)
-        → IfOk result (λ found. AreLines (is_of_holder holder) (state S.Store tx.old.conn.now) found.items) }
+        → IfOk result (λ found. AreLinesOf version holder (state S.Store tx.old.conn.now) found.items) }
     ensures order { HasCleanDisk (state S.Store tx.new.conn.now)
-        → IfOk result (λ found. AreInLineOrder (state S.Store tx.old.conn.now) found.items) }
+        → IfOk result (λ found. AreInLineOrder version (state S.Store tx.old.conn.now) found.items) }
     ensures still { HasCleanDisk (state S.Store tx.new.conn.now)
-        → OnOk result (LeavesStore (state S.Store tx.old.conn.now) (state S.Store tx.new.conn.now)) }
+        → OnOk result (LeavesVersion version (state S.Store tx.old.conn.now) (state S.Store tx.new.conn.now)) }
     ensures inside { HasCleanDisk (state S.Store tx.new.conn.now) → OnOk result (IsTrue (state S.Store tx.new.conn.now).in_transaction) }
     ensures kept { HasCleanDisk (state S.Store tx.new.conn.now)
         → KeepsCommit (state S.Store tx.old.conn.now) (state S.Store tx.new.conn.now) }
     ensures survives { Survives (state S.Store tx.old.conn.now) (state S.Store tx.new.conn.now) (λ _. ⊥) }
 {
-    fetch(alloc, tx, LINES_OF_HOLDER, &holder_key(holder))
+    fetch(alloc, tx, lines_of_holder_at(version), &holder_key(holder))
 }

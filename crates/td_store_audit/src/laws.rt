@@ -1,6 +1,6 @@
 //! Laws of what a store's schema keeps of its tables, as contracts of functions that do nothing else.
 ghost use Rattle.td_store_audit.specs.Keeping.{SchemaKeepsAmounts, SchemaKeepsCodes, SchemaKeepsGuarantees, SchemaKeepsHolders};
-ghost use Rattle.td_store_audit.specs.Keeping.{SchemaKeepsLines, SchemaKeepsMovements, SchemaKeepsTables};
+ghost use Rattle.td_store_audit.specs.Keeping.{OlderFilesHaveNineLines, SchemaKeepsLines, SchemaKeepsMovements, SchemaKeepsTables};
 
 /// The holders' numbers are numbers in range, and no two are the same.
 pub fn schema_keeps_holders()
@@ -33,7 +33,13 @@ pub fn schema_keeps_lines()
     ensures { SchemaKeepsLines }
 {}
 
-/// All of this, of a store's six tables.
+/// All of this, of the six tables in which a file has its rows.
 pub fn schema_keeps_tables()
     ensures { SchemaKeepsTables }
+{}
+
+/// In a file below version 3, where the rows of lines are typed, each line's number in its movement is from 1 to 9. And no
+/// two lines of a movement have one number: so a movement in such a file has at most nine lines.
+pub fn older_files_have_nine_lines()
+    ensures { OlderFilesHaveNineLines }
 {}

@@ -29,7 +29,7 @@ pub use finding::{codes_of_holder, lines_of_holder};
 pub use guarantees::guarantees_keep_rule;
 pub use holders::holders_keep_rule;
 pub use laws::{
-    schema_keeps_amounts, schema_keeps_codes, schema_keeps_guarantees, schema_keeps_holders,
-    schema_keeps_lines, schema_keeps_movements, schema_keeps_tables,
+    older_files_have_nine_lines, schema_keeps_amounts, schema_keeps_codes, schema_keeps_guarantees,
+    schema_keeps_holders, schema_keeps_lines, schema_keeps_movements, schema_keeps_tables,
 };
 pub use totals::total_on;

@@ -31,16 +31,19 @@ returns-in_default-2-clause-told g c clean =
 
 pub returns-then-not-branch-clause-told : goal.returns-then-not-branch-clause-told
 returns-then-not-branch-clause-told g c clean =
-    amounts_broken At c.args.country c.args.holders.now c.args.readable (state g.S.Store c.args.tx.now.conn.now)
+    amounts_broken At c.args.country c.args.holders.now c.args.readable a
     c.in-Some.counting.items (rw c.in-Some.is at c.in_ok-counting.ensures.holders) (rw c.in-Some.is at (c.in_ok-counting.ensures.told clean_b))
     b (any_read At clean_b c.in_ok-counting.ensures.reads)
     c.in-Some-2.handed.items (rw c.in-Some-2.is at c.in_ok-handed.ensures.movements) (rw c.in-Some-2.is at (c.in_ok-handed.ensures.told clean_d))
     (rw c.in-Some.is at (c.in_ok-counting.ensures.handed clean_b)) (rw c.in-Some-2.is at (c.in_ok-handed.ensures.handed clean_d))
-    c.in_ok-amounts_keep_rule.field-0 d (any_read At clean_d (reads_on c.in_ok-counting.ensures.reads c.in_ok-handed.ensures.reads))
+    c.in_ok-amounts_keep_rule.field-0 d (more_read At a b d (any_read At clean_b c.in_ok-counting.ensures.reads) (c.in_ok-handed.ensures.reads.still clean_d refl))
     (rw c.deref.ensures.value at (c.in_ok-amounts_keep_rule.ensures.told clean c.args.country)) c.if-not-branch.true
   where
     At : Layout → Type 0
     At = IsOfVersion c.args.version
+
+    a : State
+    a = state g.S.Store c.args.tx.now.conn.now
 
     b : State
     b = state g.S.Store c.movements_keep_rule.new.tx.conn.now
@@ -90,7 +93,7 @@ returns-then-not-branch-2-clause-told g c clean =
     clean_b = omega (arith, clean_d, c.lines_keep_rule.ensures.reads.within.survives.clean)
 
     upto_d : OnlyReadIn At a d
-    upto_d = any_read At clean_d (reads_on c.in_ok-counting.ensures.reads c.in_ok-handed.ensures.reads)
+    upto_d = more_read At a b d (any_read At clean_b c.in_ok-counting.ensures.reads) (c.in_ok-handed.ensures.reads.still clean_d refl)
 
 pub returns-clause-told : goal.returns-clause-told
 returns-clause-told g c clean =
@@ -128,9 +131,14 @@ returns-clause-told g c clean =
     clean_b = omega (arith, clean_d, c.lines_keep_rule.ensures.reads.within.survives.clean)
 
     upto_d : OnlyReadIn At a d
-    upto_d = any_read At clean_d (reads_on c.in_ok-counting.ensures.reads c.in_ok-handed.ensures.reads)
+    upto_d = more_read At a b d (any_read At clean_b c.in_ok-counting.ensures.reads) (c.in_ok-handed.ensures.reads.still clean_d refl)
+
+pub returns-then-not-branch-2-clause-reads : goal.returns-then-not-branch-2-clause-reads
+returns-then-not-branch-2-clause-reads g c =
+    reads_on (reads_on (anywhere c.in_ok-counting.ensures.reads) c.in_ok-handed.ensures.reads)
+    (reads_on c.in_ok-amounts_keep_rule.ensures.reads c.in_ok-cover_keeps_rule.ensures.reads)
 
 pub returns-clause-reads : goal.returns-clause-reads
 returns-clause-reads g c =
-    reads_on (anywhere (reads_on c.in_ok-counting.ensures.reads c.in_ok-handed.ensures.reads))
+    reads_on (reads_on (anywhere c.in_ok-counting.ensures.reads) c.in_ok-handed.ensures.reads)
     (reads_on c.in_ok-amounts_keep_rule.ensures.reads c.in_ok-cover_keeps_rule.ensures.reads)

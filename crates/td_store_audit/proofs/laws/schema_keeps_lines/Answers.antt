@@ -9,4 +9,4 @@ use Rattle.td_store_audit.proofs.laws.schema_keeps_lines.Goals as goal
 
 pub returns : goal.returns
 returns c =
-    schema_keeps (λ layout trees. AllRows line_typing (IsTypedRow line_typing) trees → AreLinesKept (tables_in layout trees)) lines_kept
+    schema_keeps (λ layout trees. AllRows (line_typing layout) (IsTypedRow (line_typing layout)) trees → AreLinesKept (tables_in layout trees)) lines_kept

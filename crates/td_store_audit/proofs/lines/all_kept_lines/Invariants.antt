@@ -12,16 +12,16 @@ use Rattle.td_store_audit.specs.Tallies.{AreAllLines, movements_in, raw_of}
 use Rattle.td_store_audit.specs.InPlace.{AreNumbersApart}
 use Rattle.td_store_audit.specs.Premises.{HasLinesInPlace}
 use Rattle.td_store_audit.proofs.lines.all_kept_lines.Given as goal
-use Rattle.td_store_rows.specs.StoreReads.{IsAny, ReadsStore}
+use Rattle.td_store_rows.specs.StoreReads.{IsOfVersion, ReadsVersion}
 
 -- the holders before have theirs in place, and what was handed on of them is theirs
 abbrev pub invariant-holders : goal.invariant-holders
 invariant-holders g l =
     (l.tx.conn.ghost_name ≡ l.initial.tx.conn.ghost_name)
-    × ReadsStore true (state g.S.Store l.initial.tx.conn.now) (state g.S.Store l.tx.conn.now)
-    × (HasCleanDisk (state g.S.Store l.tx.conn.now) → (layout : Layout) → IsAny layout → HasSchema (state g.S.Store l.initial.tx.conn.now) (schema_of layout)
-    → AreTyped line_typing (state g.S.Store l.initial.tx.conn.now).now.trees
-    → ((H : ℕ) → AreNumbersApart (part H (typed_rows line_typing (state g.S.Store l.initial.tx.conn.now).now.trees)))
-    → AllByRecursion (λ h. HasLinesInPlace (state g.S.Store l.initial.tx.conn.now).now.trees (raw_of h)) (take (length l.yielded) l.fn.counting.items))
+    × ReadsVersion l.version true (state g.S.Store l.initial.tx.conn.now) (state g.S.Store l.tx.conn.now)
+    × (HasCleanDisk (state g.S.Store l.tx.conn.now) → (layout : Layout) → IsOfVersion l.version layout → HasSchema (state g.S.Store l.initial.tx.conn.now) (schema_of layout)
+    → AreTyped (line_typing layout) (state g.S.Store l.initial.tx.conn.now).now.trees
+    → ((H : ℕ) → AreNumbersApart (part H (typed_rows (line_typing layout) (state g.S.Store l.initial.tx.conn.now).now.trees)))
+    → AllByRecursion (λ h. HasLinesInPlace layout (state g.S.Store l.initial.tx.conn.now).now.trees (raw_of h)) (take (length l.yielded) l.fn.counting.items))
     × (map movements_in l.handed.items ≡ take (length l.yielded) l.fn.counting.items)
-    × (HasCleanDisk (state g.S.Store l.tx.conn.now) → AreAllLines (state g.S.Store l.initial.tx.conn.now) l.handed.items)
+    × (HasCleanDisk (state g.S.Store l.tx.conn.now) → AreAllLines (IsOfVersion l.version) (state g.S.Store l.initial.tx.conn.now) l.handed.items)

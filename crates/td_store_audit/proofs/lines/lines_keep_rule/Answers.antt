@@ -17,7 +17,7 @@ use Rattle.td_store_audit.proofs.lines.lines_keep_rule.Goals as goal
 
 -- a row can't be read, so the rule isn't kept
 pub returns-then-not-are_read-clause-told : goal.returns-then-not-are_read-clause-told
-returns-then-not-are_read-clause-told g c = λ clean layout auditable tells. (
+returns-then-not-are_read-clause-told g c = λ clean layout own auditable tells. (
   λ t. absurd (false≢true t),
   λ keeps. absurd (false≢true (sym c.if-not-are_read.true ∙ tells.1
       (lines_read c.holder_fields_tell.ensures.fields layout (state g.S.Store c.args.tx.now.conn.now) (map raw_of c.args.counting.items) c.kept_rules_are_read.ensures.lines auditable keeps))),
@@ -27,15 +27,15 @@ pub returns-clause-told : goal.returns-clause-told
 returns-clause-told g c clean =
     let a : State = state g.S.Store c.args.tx.now.conn.now in
     if_both c.all_kept_lines.result
-    (λ found told same layout auditable tells.
+    (λ found told same layout own auditable tells.
     let has = auditable.common.schema in
     let read = tells.0 c.if-not-are_read.false in
-    let typed : AreTyped line_typing a.now.trees = record {
+    let typed : AreTyped (line_typing layout) a.now.trees = record {
       ids = auditable.ids;
-      cells = all_weaker (IsReadRow line_typing AreLineFields) (IsTypedRow line_typing) (λ r is. is.0) (a.now.trees line_typing.table.tree) read;
+      cells = all_weaker (IsReadRow (line_typing layout) AreLineFields) (IsTypedRow (line_typing layout)) (λ r is. is.0) (a.now.trees (line_typing layout).table.tree) read;
     } in
-    let said : IsTrue (is_some found) ↔ AllByRecursion (HasLinesInPlace a.now.trees) (map raw_of c.args.counting.items) =
-    told layout tt has typed (auditable.apart typed.cells) in
+    let said : IsTrue (is_some found) ↔ AllByRecursion (HasLinesInPlace layout a.now.trees) (map raw_of c.args.counting.items) =
+    told layout own has typed (auditable.apart typed.cells) in
     let rule = lines_rule c.holder_fields_tell.ensures.fields layout a (map raw_of c.args.counting.items) auditable typed.cells in
     (λ t. rule.0 (said.0 t), λ k. said.1 (rule.1 k)))
     (c.all_kept_lines.ensures.told clean) (c.all_kept_lines.ensures.told clean)
