@@ -5,13 +5,16 @@ use Rattle.sqlite_schema.specs.declared.schema.Table.{Table}
 use Rattle.same_schema.specs.Halves.{HaveSameFirst}
 use Rattle.td_schema.specs.Layouts.{schema_of}
 use Rattle.td_schema.specs.declared.layout.Layout.{Layout}
-use Rattle.td_schema.specs.declared.layout.Layout.TheVariants.{Grown2, Made1, Made2}
+use Rattle.td_schema.specs.declared.layout.Layout.TheVariants.{Grown2, Made1, Made2, Made3, Grown3From2, Grown3From1}
 use Rattle.td_store_rows.specs.Columns.{MetaIsFirst, meta_table}
 
 begins : (l : Layout) → MetaIsFirst (schema_of l)
 begins Made1 = (_, refl)
 begins Made2 = (_, refl)
 begins Grown2 = (_, refl)
+begins Made3 = (_, refl)
+begins Grown3From2 = (_, refl)
+begins Grown3From1 = (_, refl)
 
 pub store_begins : (l : Layout) (s : Schema) → s ≡ schema_of l → MetaIsFirst s
 store_begins l s is = subst MetaIsFirst (sym is) (begins l)

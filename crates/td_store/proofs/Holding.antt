@@ -22,12 +22,12 @@ use Rattle.td_table_model.proofs.Gathered.{content_is}
 use Rattle.td_table_model.specs.Gathering.{content_of}
 use Rattle.td_schema.specs.Layouts.{newest_layout, schema_of}
 use Rattle.td_schema.specs.declared.layout.Layout.{Layout}
-use Rattle.td_schema.specs.declared.layout.Layout.TheVariants.{Grown2, Made1, Made2}
+use Rattle.td_schema.specs.declared.layout.Layout.TheVariants.{Grown2, Made1, Made2, Made3, Grown3From2, Grown3From1}
 use Rattle.td_store_rows.specs.StoreTables.{AreStoreTrees, AreTreesOf, HoldsContent, tables_in}
 use Rattle.td_store_rows.proofs.Holding.{holds_still}
 use Rattle.td_store_write.specs.Carried.{CarriesChange, IsDecidedOver}
 use Rattle.td_store_write.proofs.After.{after_country}
-use Rattle.td_store.specs.Kept.{HasNewestTables, IsDeskOf, content_in, layout_by, layout_in}
+use Rattle.td_store.specs.Kept.{HasNewestTables, IsDeskOf, content_in, layout_by, layout_in, list_table}
 
 -- a name is listed where a table has it
 listed_as : (name : List ℕ) (rows : List Row) (tables : List Table) → AllZip IsTableRow rows tables
@@ -38,18 +38,27 @@ listed_as name (r ∷ rows) [] zip = absurd zip
 listed_as name (r ∷ rows) (t ∷ tables) zip =
     ap₂ ◌||◌ (ap (λ v. bytes_eq (text_in v) name) zip.0.described.name_is) (listed_as name rows tables zip.1)
 
+-- a layout has a table of this name
+abbrev has_table : List ℕ → Layout → Bool
+has_table name l = list_any (λ (t : Table). bytes_eq t.name name) (schema_of l).tables
+
 -- so the layout of a store's tables is told by their names
-names_told : (l : Layout) → layout_by (list_any (λ (t : Table). bytes_eq t.name (codes "guarantees1")) (schema_of l).tables)
-    (list_any (λ (t : Table). bytes_eq t.name (codes "guarantees2")) (schema_of l).tables) ≡ l
+names_told : (l : Layout)
+    → layout_by (has_table (codes "guarantees1") l) (has_table (codes "guarantees2") l) (has_table (codes "lines1") l) (has_table (codes "lines3") l) ≡ l
 names_told Made1 = refl
 names_told Made2 = refl
 names_told Grown2 = refl
+names_told Made3 = refl
+names_told Grown3From2 = refl
+names_told Grown3From1 = refl
 
 pub layout_back : (l : Layout) (trees : Trees) → AreStoreTrees l trees → layout_in trees ≡ l
 layout_back l trees listed =
-    let rows = filter is_table_row (trees catalog_tree) in
-    ap₂ layout_by (listed_as (codes "guarantees1") rows (schema_of l).tables listed.lists.listed.tables)
-    (listed_as (codes "guarantees2") rows (schema_of l).tables listed.lists.listed.tables)
+    let told : (name : List ℕ) → list_table name trees ≡ has_table name l =
+    λ name. listed_as name (filter is_table_row (trees catalog_tree)) (schema_of l).tables listed.lists.listed.tables in
+    ap₂ (λ first kept. layout_by first kept (list_table (codes "lines1") trees) (list_table (codes "lines3") trees))
+    (told (codes "guarantees1")) (told (codes "guarantees2"))
+    ∙ ap₂ (layout_by (has_table (codes "guarantees1") l) (has_table (codes "guarantees2") l)) (told (codes "lines1")) (told (codes "lines3"))
     ∙ names_told l
 
 -- a desk's trees hold the content that they are of

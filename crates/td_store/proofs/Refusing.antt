@@ -12,7 +12,7 @@ use Rattle.td_table_model.specs.Gathering.{content_of}
 use Rattle.td_table_model.specs.declared.rule.Rule.{Rule}
 use Rattle.td_schema.specs.Layouts.{newest_version, schema_of}
 use Rattle.td_schema.specs.declared.layout.Layout.{Layout}
-use Rattle.td_schema.specs.declared.layout.Layout.TheVariants.{Grown2, Made1, Made2}
+use Rattle.td_schema.specs.declared.layout.Layout.TheVariants.{Grown2, Made1, Made2, Made3, Grown3From2, Grown3From1}
 use Rattle.typed_sql.specs.Typed.{row_of, typed_rows}
 use Rattle.td_store_rows.specs.Columns.{MetaRow, meta_row, meta_typing}
 use Rattle.td_store_rows.specs.StoreTables.{AreTreesOf, HasOfficeRow, HoldsContent, country_in, tables_in}
@@ -117,6 +117,9 @@ unfolding same_name
 meta_there Made1 = refl
 meta_there Made2 = refl
 meta_there Grown2 = refl
+meta_there Made3 = refl
+meta_there Grown3From2 = refl
+meta_there Grown3From1 = refl
 
 none_lacks : (l : Layout) (s : Schema) → s ≡ schema_of l → ¬ LacksMeta s
 none_lacks l s is lacks = let e = sym (meta_there l) ∙ ap (λ t. table_named t (codes "meta")) (sym is) ∙ lacks in absurd cc

@@ -21,14 +21,19 @@ pub(crate) fn lacks_meta<S: Alter>(conn: &Connection<S>) -> bool
     conn.schema().table_named(b"meta").is_none()
 }
 
-// The one layout that the tables may have, by which tables of guarantees there are.
+// The one layout that the tables may have, by which tables of guarantees and of lines there are.
 fn named_layout(schema: &Schema) -> Layout {
     let has_first = schema.table_named(b"guarantees1").is_some();
     let has_kept = schema.table_named(b"guarantees2").is_some();
-    match (has_first, has_kept) {
-        (true, true) => Layout::Grown2,
-        (true, false) => Layout::Made1,
-        (false, _) => Layout::Made2,
+    let has_few_lines = schema.table_named(b"lines1").is_some();
+    let has_more_lines = schema.table_named(b"lines3").is_some();
+    match (has_first, has_kept, has_few_lines, has_more_lines) {
+        (true, true, _, true) => Layout::Grown3From1,
+        (true, true, _, false) => Layout::Grown2,
+        (true, false, _, _) => Layout::Made1,
+        (false, _, true, true) => Layout::Grown3From2,
+        (false, _, true, false) => Layout::Made2,
+        (false, _, false, _) => Layout::Made3,
     }
 }
 
@@ -39,6 +44,7 @@ pub(crate) fn version_in(layout: Layout) -> u32
     match layout {
         Layout::Made1 => 1,
         Layout::Made2 | Layout::Grown2 => 2,
+        Layout::Made3 | Layout::Grown3From2 | Layout::Grown3From1 => 3,
     }
 }
 

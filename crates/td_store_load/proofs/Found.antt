@@ -28,7 +28,7 @@ use Rattle.td_store_rows.specs.declared.codes.stored.StoredCode.{StoredCode}
 use Rattle.td_store_rows.specs.GuaranteeTable.{IsTheGuarantee, has_grn, has_serial, guarantee_row_of as row_of_guarantee}
 use Rattle.td_store_rows.specs.KeptTable.{IsTheKept, has_kept_grn, kept_row_of}
 use Rattle.td_store_rows.specs.declared.guarantees.stored.KeptGuarantee.{KeptGuarantee}
-use Rattle.td_store_rows.proofs.StoreReads.{newest_keeps}
+use Rattle.td_store_rows.proofs.StoreReads.{newest_keeps, newest_more_lines}
 use Rattle.td_store_rows.proofs.Turned.{plain_rows}
 use Rattle.td_store_rows.specs.declared.guarantees.stored.StoredGuarantee.{StoredGuarantee}
 use Rattle.td_store_rows.specs.LineTable.{AreByNumber, line_row_of as row_of_line}
@@ -83,7 +83,9 @@ pub whole_movement : (a b : State) (stored : StoredMovement) (rows : List Stored
 whole_movement a b stored rows lines order still each content holds =
     let t : Tables = tables_in holds.trees.layout a.now.trees in
     let keep : KeepRules t = keep_rules t content holds.trees.sound holds.trees.tables in
-    let found : map row_of_line rows ≡ lines_by stored.holder stored.serial t = order holds.trees.layout holds.schema holds.trees.typed.lines (keep.stored.lines stored.holder stored.serial) in
+    let found : map row_of_line rows ≡ lines_by stored.holder stored.serial t =
+    order holds.trees.layout (newest_more_lines holds.trees.layout holds.trees.newest) holds.schema holds.trees.typed.lines
+    (keep.stored.lines stored.holder stored.serial) in
     ap (λ (l : List Line). record stored.movement { lines = l })
     (said_before (λ t. map (λ r. line_from t (row_of_line r)) rows) a b lines still each content holds
     ∙ sym (map-map (line_from t) row_of_line rows) ∙ ap (map (line_from t)) found)

@@ -15,7 +15,6 @@ use Rattle.td_acts.specs.declared.rows.NewTerms.{NewTerms}
 use Rattle.td_table_model.specs.Tables.{Keyed, Kept, Tables, code_row, guarantee_row, line_rows, movement_row, with_amount, without_amount}
 use Rattle.td_table_model.specs.Changes.{HaveSameRows, tables_after, with_row, with_use_after}
 use Rattle.td_table_model.specs.Looking.{amount_between, movement_no}
-use Rattle.typed_sql.specs.Reading.{OnlyRead}
 use Rattle.typed_sql.specs.Typed.{typed_rows}
 use Rattle.typed_sql.specs.Writing.{HasSchema}
 use Rattle.td_schema.specs.Layouts.{schema_of}
@@ -28,9 +27,10 @@ use Rattle.td_store_rows.specs.LineTable.{AreLines, is_line_of}
 use Rattle.td_store_rows.specs.declared.lines.stored.StoredLine.{StoredLine}
 use Rattle.td_store_rows.specs.CodeTable.{TurnsCodes}
 use Rattle.td_store_rows.specs.MovementTable.{TurnsMovements}
+use Rattle.td_store_rows.specs.StoreReads.{OnlyReadNewest}
 use Rattle.td_store_rows.specs.StoreTables.{AreAllTyped, AreStoreTrees, HasTables, TurnsTables, tables_in}
 use Rattle.td_store_rows.proofs.Chained.{RespectsRows, append_respects, codes_respect, cons_respects, filter_respects, has_as, has_then, kept_respect, lines_respect, map_respects, movements_respect, turned_then}
-use Rattle.td_store_rows.proofs.StoreReads.{newest_keeps}
+use Rattle.td_store_rows.proofs.StoreReads.{newest_keeps, newest_more_lines}
 use Rattle.td_store_rows.proofs.Turned.{codes_turned, holders_turned, kept_now, kept_turned, movements_turned}
 use Rattle.td_store_write.specs.InUse.{FitLines, FitsMovement, MayFollow, TurnsFitting, amount_on, change_at, changes_use, with_change, with_lines}
 use Rattle.td_store_write.specs.Written.{kept_terms_by_key, status_by_key, terms_by_key, with_move, with_status_set}
@@ -107,7 +107,7 @@ seen_before l f a b d is has = record {
 }
 
 pub moved_with_use : (country : List ℕ) (row : HolderRow) (status : NewStatus) (found : List StoredLine) (a b d e : State)
-    → ((l : Layout) → OnlyRead (schema_of l) a b) → AreLines (is_line_of row.holder (movement_no country status.mrn)) a found
+    → OnlyReadNewest a b → AreLines (is_line_of row.holder (movement_no country status.mrn)) a found
     → TurnsTables (with_status_set country row status) b d
     → TurnsFitting (FitLines row.holder status.state found) (set_kept (with_lines row.holder status.state found)) d e
     → TurnsFitting (FitsMovement row.holder (movement_no country status.mrn) status.state) (with_move country row status) a e
@@ -115,11 +115,11 @@ moved_with_use country row status found a b d e reads those set changed l newest
     let H = row.holder in
     let m = movement_no country status.mrn in
     let t = tables_in l a.now.trees in
-    let read = reads l has in
+    let read = reads l newest has in
     let has_b : HasSchema b (schema_of l) = λ is. ap (λ (db : Database). db.schema) read.now_is ∙ has (read.was_open is) in
     let typed_b : AreAllTyped l b.now.trees = subst (λ (db : Database). AreAllTyped l db.trees) (sym read.now_is) typed in
     let one = seen_before l (with_status_set country row status) a b d read.now_is (set l newest has_b typed_b) in
-    let amounts : (n : ℕ) → amount_on n found ≡ amount_between H m n t = λ n. read_amount H m n t found (those l has typed.lines) in
+    let amounts : (n : ℕ) → amount_on n found ≡ amount_between H m n t = λ n. read_amount H m n t found (those l (newest_more_lines l newest) has typed.lines) in
     let fit : FitLines H status.state found (tables_in l d.now.trees) =
     all-permutation (λ k. is_of H k ≡ true → MayFollow status.state (amount_on k.serial found) k.row.used) _ _ (one.same.kept (newest_keeps l newest))
     (all_weaker (λ k. is_of H k ≡ true → MayFollow status.state (amount_between H m k.serial t) k.row.used)

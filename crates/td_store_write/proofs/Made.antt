@@ -42,7 +42,7 @@ of_empty_desk country old new is was turns = record {
     kept = λ keeps. none_typed (kept_typing newest_layout) b guarantees;
     codes = none_typed code_typing b codes;
     movements = none_typed movement_typing b movements;
-    lines = none_typed line_typing b lines;
+    lines = none_typed (line_typing newest_layout) b lines;
   };
   sound = record { country = is; order = tt; holders = tt };
   tables = record {
@@ -52,7 +52,7 @@ of_empty_desk country old new is was turns = record {
     kept = λ keeps. none_there (kept_typing newest_layout) b guarantees;
     codes = none_there code_typing b codes;
     movements = none_there movement_typing b movements;
-    lines = none_there line_typing b lines;
+    lines = none_there (line_typing newest_layout) b lines;
   };
   office = meta;
 }

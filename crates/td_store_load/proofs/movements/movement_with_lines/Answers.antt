@@ -1,7 +1,7 @@
 use Rattle.std.proofs.Common.{List, arith, map, subst, sym, refl}
 use Rattle.sqlite.specs.Held.{state}
 use Rattle.sqlite.specs.State.{State, HasCleanDisk}
-use Rattle.td_store_rows.proofs.StoreReads.{anywhere, reads_on}
+use Rattle.td_store_rows.proofs.StoreReads.{newest_more_lines, reads_less, reads_on}
 use Rattle.td_store_rows.specs.LineTable.{line_row_of as row_of_line}
 use Rattle.td_store_rows.specs.declared.lines.stored.StoredLine.{StoredLine}
 use Rattle.td_movement.specs.declared.line.Line.{Line}
@@ -14,7 +14,7 @@ use Rattle.td_store_load.proofs.movements.movement_with_lines.Goals as goal
 pub returns-clause-whole : goal.returns-clause-whole
 returns-clause-whole g c clean =
     subst (λ (l : List Line). IsOfTables (λ t. with_lines t (movement_row_of c.args.stored)) a (record c.args.stored.movement { lines = l })) (sym c.new.ensures)
-    (whole_movement a b c.args.stored c.in_ok-rows.rows.items c.in_ok-lines.lines.items (c.in_ok-rows.ensures.order clean_b) ((anywhere c.in_ok-rows.ensures.reads).still clean_b refl)
+    (whole_movement a b c.args.stored c.in_ok-rows.rows.items c.in_ok-lines.lines.items (c.in_ok-rows.ensures.order clean_b) ((reads_less newest_more_lines c.in_ok-rows.ensures.reads).still clean_b refl)
     (subst (λ (rows : List StoredLine). IsOfTables (λ t. map (λ r. line_from t (row_of_line r)) rows) b c.in_ok-lines.lines.items) c.deref.ensures.value (c.in_ok-lines.ensures.lines clean)))
   where
     a : State
@@ -27,4 +27,4 @@ returns-clause-whole g c clean =
     clean_b = omega (arith, clean, c.lines_on.ensures.reads.within.survives.clean)
 
 pub returns-clause-reads : goal.returns-clause-reads
-returns-clause-reads g c = reads_on (anywhere c.in_ok-rows.ensures.reads) c.in_ok-lines.ensures.reads
+returns-clause-reads g c = reads_on (reads_less newest_more_lines c.in_ok-rows.ensures.reads) c.in_ok-lines.ensures.reads

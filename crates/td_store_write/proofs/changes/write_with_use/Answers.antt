@@ -2,13 +2,14 @@ use Rattle.std.proofs.Common.{arith, refl}
 use Rattle.sqlite.specs.Held.{state}
 use Rattle.sqlite.specs.State.{State, HasCleanDisk}
 use Rattle.typed_sql.proofs.Leaving.{on_ok}
+use Rattle.td_store_rows.proofs.StoreReads.{newest_more_lines, reads_less}
 use Rattle.td_store_write.proofs.Changed.{moved_with_use}
 use Rattle.td_store_write.proofs.changes.write_with_use.Goals as goal
 
 pub returns-clause-written : goal.returns-clause-written
 returns-clause-written g c clean =
     on_ok c.change_by_lines.result (moved_with_use c.args.country c.args.row.now c.args.status.now c.in_ok-lines.lines.items a b d e
-    (λ l. c.in_ok-lines.ensures.reads.still clean_b refl l tt) (rw (c.unwrap_or-serial.ensures, c.serial.ensures) at (c.in_ok-lines.ensures.found clean_b))
+    ((reads_less newest_more_lines c.in_ok-lines.ensures.reads).still clean_b refl) (rw (c.unwrap_or-serial.ensures, c.serial.ensures) at (c.in_ok-lines.ensures.found clean_b))
     (c.in_ok-write_status.ensures.written clean_d))
     (rw c.deref.ensures.value at (c.change_by_lines.ensures.changed clean))
   where

@@ -6,6 +6,7 @@ use Rattle.td_movement.specs.declared.line.Line.{Line}
 use Rattle.td_table_model.specs.Tables.{Tables, Keyed, LineCells, line_row, numbered}
 use Rattle.td_table_model.proofs.Numbered.{length-numbered}
 use Rattle.td_store_rows.proofs.Chained.{lines_respect, lines_same, cons_respects, same_rows}
+use Rattle.td_store_rows.proofs.StoreReads.{newest_more_lines}
 use Rattle.td_store_rows.proofs.Turned.{lines_turned}
 use Rattle.td_store_write.proofs.Written.{HasWritten, next_put, nothing_written, numbered_from_one, written_as, written_then}
 use Rattle.td_store_write.proofs.lists.insert_lines.Goals as goal
@@ -46,7 +47,7 @@ lines-preserved g c = (c.insert_line.ensures.same_reference ∙ c.lines.invarian
     inserted : HasWritten next b d
     inserted = record {
       within = c.in_ok-insert_line.ensures.within;
-      tables = λ clean l newest has typed. lines_turned l b d has typed (λ rows. row this ∷ rows) (rw (c.unwrap_or.ensures, c.serial.ensures, no) at (c.in_ok-insert_line.ensures.inserted clean l));
+      tables = λ clean l newest has typed. lines_turned l b d has typed (λ rows. row this ∷ rows) (rw (c.unwrap_or.ensures, c.serial.ensures, no) at (c.in_ok-insert_line.ensures.inserted clean l (newest_more_lines l newest)));
     }
 
     both : HasWritten (λ t. next (first t)) a d

@@ -1,5 +1,6 @@
-use Rattle.std.proofs.Common.{◌≡◌, arith}
+use Rattle.std.proofs.Common.{◌≡◌, ◌∙◌, ap, arith}
 use Rattle.std.specs.Prelude.{IsTrue}
+use Rattle.sqlite.specs.Effect.{Database}
 use Rattle.sqlite.specs.Held.{state}
 use Rattle.sqlite.specs.State.{State, HasCleanDisk, Survives}
 use Rattle.td_acts.specs.Deciding.{IsLoaded}
@@ -7,7 +8,7 @@ use Rattle.td_commands.specs.Commands.{need_said}
 use Rattle.td_desk.specs.Content.{Content}
 use Rattle.td_desk.specs.Weighing.{kept_for}
 use Rattle.td_store_rows.specs.StoreTables.{HoldsContent}
-use Rattle.td_store.specs.Kept.{IsDeskOf}
+use Rattle.td_store.specs.Kept.{IsDeskOf, content_in}
 use Rattle.td_store.proofs.Calls.{desk_then, then_asked}
 use Rattle.td_store.proofs.Holding.{loaded_there, tables_there}
 use Rattle.td_store.proofs.Leaving.{adds_none, counts_faults, leaves_shown}
@@ -27,6 +28,13 @@ returns-in-Ok-clause-loaded g c = λ clean is sound.
 
 pub read-requires-clause-tables : goal.read-requires-clause-tables
 read-requires-clause-tables g c = tables_there c.self.inside.country (state g.S.Store c.self.inside.conn) c.self.invariant.0
+
+pub returns-in-Ok-clause-same : goal.returns-in-Ok-clause-same
+returns-in-Ok-clause-same g c = λ clean is.
+    let a : State = state g.S.Store c.args.self.now in
+    let b : State = state g.S.Store c.read.new.conn in
+    let same : HasCleanDisk b → IsTrue b.is_open → b.now ≡ a.now = rw c.self.view_is at c.read.ensures.same in
+    ap (λ (d : Database). content_in d.trees) (same clean is)
 
 pub returns-in-Ok-clause-crash : goal.returns-in-Ok-clause-crash
 returns-in-Ok-clause-crash g c = λ clean.
@@ -60,6 +68,15 @@ invariant_of-self g c =
     let live : HasCleanDisk b → IsTrue b.is_open → IsTrue a.is_open = rw c.self.view_is at c.read.ensures.live in
     let same : HasCleanDisk b → IsTrue b.is_open → b.now ≡ a.now = rw c.self.view_is at c.read.ensures.same in
     (desk_then country a b (λ _. ⊥) desk survives live same, c.read.ensures.ended)
+
+pub returns-in-Err-clause-same : goal.returns-in-Err-clause-same
+returns-in-Err-clause-same g c = λ clean is.
+    let a : State = state g.S.Store c.args.self.now in
+    let b : State = state g.S.Store c.read.new.conn in
+    let same : HasCleanDisk b → IsTrue b.is_open → b.now ≡ a.now = rw c.self.view_is at c.read.ensures.same in
+    let asked = c.fault_of-fault.ensures in
+    ap (λ (d : Database). content_in d.trees)
+    (asked.same clean is ∙ same (omega (arith, clean, asked.crash.clean)) (asked.live clean is))
 
 pub returns-in-Err-clause-crash : goal.returns-in-Err-clause-crash
 returns-in-Err-clause-crash g c = λ clean.
