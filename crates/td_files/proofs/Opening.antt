@@ -1,6 +1,6 @@
 -- What the opening of a desk over a file says of what the file held.
 use Rattle.std.proofs.Common.{◌≡◌, ◌⊎◌, ◌∙◌, ℕ, ◌≤◌, List, Option, Some, ap, arith, inl, inr, refl, subst, sym}
-use Rattle.std.specs.Prelude.{IsTrue, OnErr, OnOk, Result}
+use Rattle.std.specs.Prelude.{IsTrue, IfErr, OnOk, Result}
 use Rattle.sqlite_disk.specs.declared.Disk as disk
 use Rattle.sqlite_store.specs.declared.store.FileStore.{FileStore}
 use Rattle.sqlite_trees.specs.View.{doubt}
@@ -22,7 +22,7 @@ use Rattle.td_store.specs.declared.refused.OpenFault.{OpenFault}
 use Rattle.td_store.specs.declared.refused.OpenFault.TheVariants.{UnknownVersion, NeedsMigration, OtherCountry, Damaged, Store, NoMemory}
 use Rattle.td_files.specs.declared.desks.DeskFault.{DeskFault}
 use Rattle.td_files.specs.declared.desks.DeskFault.TheVariants.{Refused}
-use Rattle.td_migrate.specs.Upgraded.{MayLeaveUpgraded, TellsUpgrade}
+use Rattle.td_migrate.specs.Upgraded.{LeavesWithFault, MayLeaveUpgraded, TellsUpgrade}
 use Rattle.td_migrate.specs.declared.fault.MigrateFault.{MigrateFault}
 use Rattle.td_files.specs.Upgraded.{ShowsUpgrade}
 use Rattle.td_files.specs.Found.{IsClean, IsFoundIn, IsLeftAsFound, IsRefusedFor, IsToldOf, IsUnmade}
@@ -129,15 +129,15 @@ pub shows_upgrade : {D : Type 0} {g : disk.Ghosts D} (image : Image) (found : St
     → IsFoundIn image found.now → IsTrue found.is_open → CrashLeavesShown found
     → (HasCleanDisk (file_state c) → OnOk result (IsTrue (file_state c).is_open))
     → (HasCleanDisk (file_state c) → TellsUpgrade found.now (file_state c) result)
-    → (HasCleanDisk (file_state c) → IsTrue (file_state c).is_open → OnErr result ((file_state c).now ≡ found.now))
+    → (HasCleanDisk (file_state c) → IsTrue (file_state c).is_open → IfErr result (LeavesWithFault found.now (file_state c).now))
     → Survives found (file_state c) (MayLeaveUpgraded found.now) → CrashLeavesShown (file_state c) → HasCleanDisk (file_state c)
     → ShowsUpgrade image c result
-shows_upgrade image found c result is is_open before shown told unchanged crash settled clean = record {
+shows_upgrade image found c result is is_open before shown told left crash settled clean = record {
   db = found.now;
   found = is;
   shown = shown clean;
   told = told clean;
-  unchanged = unchanged clean;
+  left = left clean;
   leaves = λ trees may. elim (crash.crash clean trees may) [ inl was ↦ inl ((before is_open trees).0 was) | inr grown ↦ inr grown ];
   settled = settled;
 }

@@ -36,7 +36,7 @@ impl<S: Start> OneFile<S, FileStore<FileFrom<S>>> {
     /// Brings the database in the file at the path, which has to be there and have a desk's tables of any version, to the newest
     /// version, and answers that. `File`: it isn't there, can't be opened, is no database, or this file was opened before; `Refused`:
     /// as `td_migrate::upgrade` says, there was no memory, or another program has the file open (`Store`). The connection is kept: with
-    /// a fault it shows what was found, unless the fault shut it.
+    /// a fault it shows what was found, or what the first of two steps made of that, unless the fault shut it.
     pub fn upgrade(&mut self, rt: &HostRuntime, path: &str) -> Result<u32, DeskFault>
         ensures { IsUpgraded (image_at S.Start) self.old.connection self.new.connection result }
     {

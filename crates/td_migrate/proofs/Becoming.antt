@@ -20,7 +20,7 @@ use Rattle.td_migrate.specs.Moved.{AreOthersSame, BecomesSecond, MovesTo2}
 use Rattle.td_migrate.proofs.Putting.{all_still, typed_still}
 
 -- a table without rows is typed
-none_typed : {R : Type 0} (ty : Typing R) (trees : Trees) → trees ty.table.tree ≡ [] → AreTyped ty trees
+pub none_typed : {R : Type 0} (ty : Typing R) (trees : Trees) → trees ty.table.tree ≡ [] → AreTyped ty trees
 none_typed ty trees none = record {
   ids = subst HaveIds (sym none) (record { ints = tt; apart = λ id. omega arith });
   cells = subst (AllByRecursion (IsTypedRow ty)) (sym none) tt;
@@ -87,7 +87,7 @@ moved rows a b d e makes fills empties has typed =
     let first = beside_made a.now.trees b.now.trees made.others in
     let put = fills made.schema (none_typed (kept_typing Grown2) b.now.trees none)
     (typed_still movement_typing a.now.trees b.now.trees first.rest.movements typed.movements)
-    (typed_still line_typing a.now.trees b.now.trees first.rest.lines typed.lines) in
+    (typed_still (line_typing Grown2) a.now.trees b.now.trees first.rest.lines typed.lines) in
     let second = beside_new b.now.trees d.now.trees put.others in
     let gone : IsEmptied (schema_of Grown2) first_guarantees d.now e.now = empties (λ is. put.schema) (subst HaveIds (sym (second.old ∙ first.old)) typed.guarantees.ids) in
     let third = beside_old d.now.trees e.now.trees gone.others in

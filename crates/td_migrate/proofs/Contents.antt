@@ -1,5 +1,5 @@
 -- The content of a file that became one of version 2 is the same.
-use Rattle.std.proofs.Common.{◌≡◌, ◌∙◌, ℕ, Bool, true, false, List, [], ◌∷◌, map, Option, Some, None, IsPermutation, refl, sym, ap, ap₂, arith, subst}
+use Rattle.std.proofs.Common.{◌≡◌, ◌∙◌, Bool, true, false, List, [], ◌∷◌, map, Option, Some, None, IsPermutation, refl, sym, ap, ap₂, arith, subst}
 use Rattle.std.specs.List.{AllByRecursion, sum_by}
 use Rattle.std.specs.Prelude.{◌==◌, ◌&&◌, find, if◌then◌else◌, option_map, unwrap_or, IsSome}
 use Rattle.std.specs.Str.{bytes_eq}
@@ -19,25 +19,25 @@ use Rattle.td_model.specs.Account.{guarantee_by_grn}
 use Rattle.td_table_model.specs.Gathering.{with_codes}
 use Rattle.td_table_model.specs.Laws.{IsAmountOf, TablesGrow}
 use Rattle.td_table_model.specs.Looking.{cents_of, lines_in_use}
-use Rattle.td_table_model.specs.Tables.{AreTablesOf, Keyed, Kept, Tables, guarantee_no, version_with_amounts, without_amount}
+use Rattle.td_table_model.specs.Tables.{AreTablesOf, Keyed, Kept, Tables, first_version, guarantee_no, version_with_amounts, without_amount}
 use Rattle.td_table_model.specs.Changes.{HaveSameRows}
 use Rattle.td_table_model.proofs.Following.{same_tables}
 use Rattle.td_table_model.proofs.Joining.{lines_are_use}
 use Rattle.td_table_model.proofs.Looked.{are_found}
 use Rattle.td_table_model.proofs.Told.{tell_keys}
-use Rattle.td_schema.specs.declared.layout.Layout.TheVariants.{Made1, Grown2}
+use Rattle.td_schema.specs.declared.layout.Layout.TheVariants.{Made1, Made2, Grown2, Made3, Grown3From2, Grown3From1}
 use Rattle.typed_sql.specs.Typed.{Typing, row_of, typed_rows}
 use Rattle.td_store_rows.specs.Columns.{code_typing, guarantee_typing, holder_typing, line_typing, meta_row, meta_typing, movement_typing}
 use Rattle.td_store_rows.specs.MetaTable.{with_version}
-use Rattle.td_store_rows.specs.StoreTables.{AreAllTyped, AreTreesOf, HasOfficeRow, country_in, tables_in}
+use Rattle.td_store_rows.specs.StoreTables.{AreAllTyped, HasOfficeRow, country_in, tables_in}
 use Rattle.td_store_rows.proofs.Turned.{listed_there, plain_rows, plain_typed}
 use Rattle.td_migrate.specs.Filled.{with_its_use}
-use Rattle.td_migrate.specs.Grown.{AreGrown, HoldsFirst, IsGrown}
-use Rattle.td_migrate.specs.Moved.{IsSecond}
+use Rattle.td_migrate.specs.Grown.{AreGrown, GrowsFrom, HaveContent, HoldsVersion}
+use Rattle.td_migrate.specs.Moved.{BecomesSecond, IsSecond}
 use Rattle.td_migrate.proofs.Putting.{typed_still}
 
 -- a table whose tree is as it was has the same rows
-rows_still : {R : Type 0} (ty : Typing R) (old new : Trees) → new ty.table.tree ≡ old ty.table.tree → IsPermutation (typed_rows ty old) (typed_rows ty new)
+pub rows_still : {R : Type 0} (ty : Typing R) (old new : Trees) → new ty.table.tree ≡ old ty.table.tree → IsPermutation (typed_rows ty old) (typed_rows ty new)
 rows_still ty old new is = IsPermutation-same _ _ (ap (map (row_of ty)) (sym is))
 
 -- a guarantee is of a holder and has a GRN
@@ -87,7 +87,7 @@ without_use : (a : Trees) (rows : List (Keyed Guarantee)) → AllByRecursion IsB
 without_use a [] all = refl
 without_use a (g ∷ rows) all = ap₂ ◌∷◌ (same_bare g all.0) (without_use a rows all.1)
 
-module _ (c : Content) (a : Database) (first : HoldsFirst c a) where
+module _ (c : Content) (a : Database) (first : HoldsVersion Made1 c a) where
   abbrev t : Tables
   t = tables_in Made1 a.trees
 
@@ -98,19 +98,19 @@ module _ (c : Content) (a : Database) (first : HoldsFirst c a) where
   IsThere g = IsSome (guarantee_by_grn g.row.grn (account_in g.holder c).guarantees)
 
   told : AllByRecursion IsTold t.guarantees
-  told = all_weaker _ IsTold (λ g both. both.1) t.guarantees (tell_keys t c first.sound first.tables).grns
+  told = all_weaker _ IsTold (λ g both. both.1) t.guarantees (tell_keys t c first.content.sound first.content.tables).grns
 
   there : AllByRecursion IsThere t.guarantees
   there =
       all_weaker (λ g. IsSome (find (is_it g) t.guarantees)) IsThere
-      (λ g some. subst IsSome (sym ((are_found t c first.sound first.tables g.holder).grns g.row.grn)) (some_mapped (with_codes t) (find (is_it g) t.guarantees) some))
+      (λ g some. subst IsSome (sym ((are_found t c first.content.sound first.content.tables g.holder).grns g.row.grn)) (some_mapped (with_codes t) (find (is_it g) t.guarantees) some))
       t.guarantees (each_found t.guarantees)
 
   -- what the lines on a guarantee add up to is in use on it
   amount : (g : Keyed Guarantee) → IsTold g → IsThere g → IsAmountOf c (with_its_use a.trees g)
   amount g tells some =
       ap (λ n. sum_by cents_of (lines_in_use g.holder n t)) (sym (ap (λ o. unwrap_or o 0) tells))
-      ∙ lines_are_use t c first.sound first.tables g.holder g.row.grn some (lines_in_use g.holder (guarantee_no t.country g.row.grn) t) (IsPermutation-refl _)
+      ∙ lines_are_use t c first.content.sound first.content.tables g.holder g.row.grn some (lines_in_use g.holder (guarantee_no t.country g.row.grn) t) (IsPermutation-refl _)
 
   amounts : AllByRecursion (λ g. IsAmountOf c (with_its_use a.trees g)) t.guarantees
   amounts = all_both IsTold IsThere (λ g. IsAmountOf c (with_its_use a.trees g)) (λ g tells some. amount g tells some) t.guarantees told there
@@ -134,56 +134,55 @@ module _ (c : Content) (a : Database) (first : HoldsFirst c a) where
     u = record t { version = version_with_amounts; kept = kept }
 
     pub are : AreTablesOf u c
-    are = grow t c kept first.sound first.tables same_guarantees (mapped now.rows (all-permutation _ _ _ now.all amounts))
+    are = grow t c kept first.content.sound first.content.tables same_guarantees (mapped now.rows (all-permutation _ _ _ now.all amounts))
 
     pub office : HasOfficeRow version_with_amounts c.country b.trees
     office =
         one_permutation (meta_row version_with_amounts c.country) (typed_rows meta_typing b.trees)
-        (subst (λ l. IsPermutation (map (with_version version_with_amounts) l) (typed_rows meta_typing b.trees)) first.office now.office)
+        (subst (λ l. IsPermutation (map (with_version version_with_amounts) l) (typed_rows meta_typing b.trees)) first.content.office now.office)
 
     pub same_rows : HaveSameRows u (tables_in Grown2 b.trees)
     same_rows = record {
       version = refl;
-      country = ap country_in office ∙ sym (ap country_in first.office);
+      country = ap country_in office ∙ sym (ap country_in first.content.office);
       holders = rows_still holder_typing a.trees b.trees now.others.holders;
       guarantees = IsPermutation-trans _ _ _ same_guarantees (subst (IsPermutation (map without_amount kept)) (sym (plain_rows Grown2 b.trees)) (IsPermutation-map without_amount _ _ now.kept));
       kept = λ keep. now.kept;
       codes = rows_still code_typing a.trees b.trees now.others.codes;
       movements = rows_still movement_typing a.trees b.trees now.others.movements;
-      lines = rows_still line_typing a.trees b.trees now.others.lines;
+      lines = rows_still (line_typing Grown2) a.trees b.trees now.others.lines;
     }
 
     pub typed : AreAllTyped Grown2 b.trees
     typed = record {
       meta = now.office_typed;
-      holders = typed_still holder_typing a.trees b.trees now.others.holders first.typed.holders;
+      holders = typed_still holder_typing a.trees b.trees now.others.holders first.content.typed.holders;
       guarantees = plain_typed Grown2 b.trees now.typed;
       kept = λ keep. now.typed;
-      codes = typed_still code_typing a.trees b.trees now.others.codes first.typed.codes;
-      movements = typed_still movement_typing a.trees b.trees now.others.movements first.typed.movements;
-      lines = typed_still line_typing a.trees b.trees now.others.lines first.typed.lines;
+      codes = typed_still code_typing a.trees b.trees now.others.codes first.content.typed.codes;
+      movements = typed_still movement_typing a.trees b.trees now.others.movements first.content.typed.movements;
+      lines = typed_still (line_typing Grown2) a.trees b.trees now.others.lines first.content.typed.lines;
     }
 
-    -- so its trees are a desk's of that content
-    abbrev pub desk_trees : AreTreesOf c b.trees
-    desk_trees = record {
-      layout = Grown2;
-      newest = refl;
-      listed = listed_there Grown2 b now.schema now.sound;
+    -- so its trees hold that content
+    pub content : HaveContent Grown2 c b.trees
+    content = record {
       typed = typed;
-      sound = first.sound;
+      sound = first.content.sound;
       tables = same_tables u (tables_in Grown2 b.trees) c are same_rows;
       office = office;
     }
 
-    pub grown_trees : AreGrown c b.trees
-    grown_trees = record { desk = desk_trees; layout = refl; emptied = now.emptied }
+    pub grown_trees : AreGrown Made1 c a.trees b.trees
+    grown_trees = record { listed = listed_there Grown2 b now.schema now.sound; content = content; left = now.emptied }
 
--- a connection that sees the file of version 2 is to that desk's file
-pub grown_seen : TablesGrow → (c : Content) (a b : Database) (e : State) → HoldsFirst c a → IsSecond a b → e.now ≡ b → IsGrown c e
-grown_seen grow c a b e first second is =
-    let now : IsSecond a e.now = subst (IsSecond a) (sym is) second in
-    record {
-      holds = record { trees = desk_trees c a first grow e.now now; schema = λ _. now.schema };
-      trees = grown_trees c a first grow e.now now;
-    }
+-- whatever content the file held
+pub second_grows : TablesGrow → (a b : State) → BecomesSecond a b → GrowsFrom first_version a.now b.now
+second_grows grow a b becomes Made1 is c first =
+    let second : IsSecond a.now b.now = becomes (λ _. first.schema) first.content.typed in
+    record { schema = second.schema; trees = grown_trees c a.now first grow b.now second }
+second_grows grow a b becomes Made2 is c first = absurd cc
+second_grows grow a b becomes Grown2 is c first = absurd cc
+second_grows grow a b becomes Made3 is c first = absurd cc
+second_grows grow a b becomes Grown3From2 is c first = absurd cc
+second_grows grow a b becomes Grown3From1 is c first = absurd cc

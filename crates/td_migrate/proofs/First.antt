@@ -33,7 +33,7 @@ all_means = record { names = names; command = refl; plain = (refl, refl); unlist
 pub first_means : (l : Layout) → IsFirst l → IsPlain (understood (schema_of l) ALL_FIRST.now)
 first_means l is = subst (λ x. IsPlain (understood (schema_of x) ALL_FIRST.now)) (sym is) all_means.plain
 
-all_kept : {X : Type 0} (xs : List X) → filter (λ x. true) xs ≡ xs
+pub all_kept : {X : Type 0} (xs : List X) → filter (λ x. true) xs ≡ xs
 all_kept [] = refl
 all_kept (x ∷ xs) = ap (λ l. x ∷ l) (all_kept xs)
 

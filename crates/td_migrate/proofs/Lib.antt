@@ -1,5 +1,10 @@
 mod First
 mod Putting
+mod PuttingLines
+mod Second
 mod Becoming
+mod BecomingThird
 mod Contents
+mod ContentsOfThird
 mod Reached
+mod Stepping

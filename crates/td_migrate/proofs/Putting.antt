@@ -36,28 +36,28 @@ used_in H n movements lines =
     sum_by cents_of (flat_map (λ m. filter (λ l. l.holder == m.holder && (l.serial == m.serial && l.row.guarantee == n)) lines)
     (filter (λ m. m.holder == H && is_counting m.row.state) movements))
 
-use_still : (H n : ℕ) (a b : Trees) → b movement_typing.table.tree ≡ a movement_typing.table.tree → b line_typing.table.tree ≡ a line_typing.table.tree
+use_still : (H n : ℕ) (a b : Trees) → b movement_typing.table.tree ≡ a movement_typing.table.tree → b (line_typing Grown2).table.tree ≡ a (line_typing Grown2).table.tree
     → in_use Grown2 H n b ≡ in_use Grown2 H n a
 use_still H n a b movements lines =
-    ap₂ (λ ms ls. used_in H n (map (row_of movement_typing) ms) (map (row_of line_typing) ls)) movements lines
+    ap₂ (λ ms ls. used_in H n (map (row_of movement_typing) ms) (map (row_of (line_typing Grown2)) ls)) movements lines
 
 -- so a guarantee has the same in use
-with_still : (a b : Trees) → b movement_typing.table.tree ≡ a movement_typing.table.tree → b line_typing.table.tree ≡ a line_typing.table.tree
+with_still : (a b : Trees) → b movement_typing.table.tree ≡ a movement_typing.table.tree → b (line_typing Grown2).table.tree ≡ a (line_typing Grown2).table.tree
     → (g : Keyed Guarantee) → with_its_use b g ≡ with_its_use a g
 with_still a b movements lines g =
     ap (λ used. with_amount used (record g { row = record g.row { codes = [] } })) (use_still g.holder g.serial a b movements lines)
 
-pub all_still : (a b : Trees) → b movement_typing.table.tree ≡ a movement_typing.table.tree → b line_typing.table.tree ≡ a line_typing.table.tree
+pub all_still : (a b : Trees) → b movement_typing.table.tree ≡ a movement_typing.table.tree → b (line_typing Grown2).table.tree ≡ a (line_typing Grown2).table.tree
     → (rows : List (Keyed Guarantee)) → map (with_its_use b) rows ≡ map (with_its_use a) rows
 all_still a b movements lines [] = refl
 all_still a b movements lines (g ∷ rows) = ap₂ ◌∷◌ (with_still a b movements lines g) (all_still a b movements lines rows)
 
-others_kept : (tables : List Table) (tree : ℕ) (a b d : Trees) → AllByRecursion (λ u. u.tree ≢ tree → b u.tree ≡ a u.tree) tables
+pub others_kept : (tables : List Table) (tree : ℕ) (a b d : Trees) → AllByRecursion (λ u. u.tree ≢ tree → b u.tree ≡ a u.tree) tables
     → AllByRecursion (λ u. u.tree ≢ tree → d u.tree ≡ b u.tree) tables → AllByRecursion (λ u. u.tree ≢ tree → d u.tree ≡ a u.tree) tables
 others_kept [] tree a b d one two = tt
 others_kept (u ∷ tables) tree a b d one two = (λ other. two.0 other ∙ one.0 other, others_kept tables tree a b d one.1 two.1)
 
-others_same : (tables : List Table) (tree : ℕ) (a : Trees) → AllByRecursion (λ u. u.tree ≢ tree → a u.tree ≡ a u.tree) tables
+pub others_same : (tables : List Table) (tree : ℕ) (a : Trees) → AllByRecursion (λ u. u.tree ≢ tree → a u.tree ≡ a u.tree) tables
 others_same [] tree a = tt
 others_same (u ∷ tables) tree a = (λ other. refl, others_same tables tree a)
 
@@ -81,7 +81,7 @@ nothing_filled a inside = record {
 movements_beside : (rows : List (Keyed Guarantee)) (a b : Database) → IsFilled rows a b → b.trees movement_typing.table.tree ≡ a.trees movement_typing.table.tree
 movements_beside rows a b filled = filled.others.1.1.1.0 (λ e. cc)
 
-lines_beside : (rows : List (Keyed Guarantee)) (a b : Database) → IsFilled rows a b → b.trees line_typing.table.tree ≡ a.trees line_typing.table.tree
+lines_beside : (rows : List (Keyed Guarantee)) (a b : Database) → IsFilled rows a b → b.trees (line_typing Grown2).table.tree ≡ a.trees (line_typing Grown2).table.tree
 lines_beside rows a b filled = filled.others.1.1.1.1.1.0 (λ e. cc)
 
 -- one more
@@ -113,7 +113,7 @@ fill_next rows g a b d first within fills = record {
       put_more rows g a.now b.now d.now one
       (fills clean one.schema one.typed
       (typed_still movement_typing a.now.trees b.now.trees (movements_beside rows a.now b.now one) movements)
-      (typed_still line_typing a.now.trees b.now.trees (lines_beside rows a.now b.now one) lines));
+      (typed_still (line_typing Grown2) a.now.trees b.now.trees (lines_beside rows a.now b.now one) lines));
 }
 
 -- one guarantee, by what its lines were found to add up to

@@ -1,5 +1,5 @@
 -- What is read of the guarantees of version 1, and what is put into the table of version 2.
-use Rattle.std.specs.Prelude.{◌≡◌, ℕ, List, [], ◌++◌, map}
+use Rattle.std.specs.Prelude.{◌≡◌, List, [], ◌++◌, map}
 use Rattle.std.specs.List.Sorted.{IsPermutation}
 use Rattle.sqlite_trees.specs.Tree.{Trees}
 use Rattle.sqlite.specs.Effect.{Database}

@@ -1,5 +1,5 @@
 -- The lines of a file of version 2, and the table of version 3 into which they are put.
-use Rattle.std.specs.Prelude.{◌≡◌, ℕ, List, [], ◌++◌, map}
+use Rattle.std.specs.Prelude.{◌≡◌, List, [], ◌++◌, map}
 use Rattle.std.specs.List.Sorted.{IsPermutation}
 use Rattle.sqlite_trees.specs.Tree.{Trees}
 use Rattle.sqlite.specs.Effect.{Database, IsDatabase}
@@ -38,7 +38,7 @@ pub record AreBesideLines (l : Layout) (a b : Trees) : Type 0 where
 -- the lines stand in the table of version 3, which is new, and the table that they were in has no row
 pub record AreLinesMoved (l : Layout) (lines : List (Keyed LineCells)) (a b : Database) : Type 0 where
   pub schema : b.schema ≡ schema_of (grown l)
-  pub lines : IsPermutation lines (typed_rows (line_typing (grown l)) b.trees)
+  pub rows : IsPermutation lines (typed_rows (line_typing (grown l)) b.trees)
   pub typed : AreTyped (line_typing (grown l)) b.trees
   pub emptied : b.trees (lines_tree l) ≡ []
   pub meta : b.trees meta_typing.table.tree ≡ a.trees meta_typing.table.tree

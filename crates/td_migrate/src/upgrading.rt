@@ -3,7 +3,8 @@ ghost use Rattle.std.specs.Prelude.{◌≡◌, false, IsTrue, IfErr, OnErr, OnOk
 ghost use Rattle.sqlite.specs.Held.{state};
 ghost use Rattle.sqlite.specs.State.{HasCleanDisk, Survives};
 ghost use Rattle.td_store.specs.Kept.{CrashLeavesShown};
-ghost use Rattle.td_store.specs.Opened.{IsEarlier, MaySay};
+ghost use Rattle.td_store.specs.Opened.{IsEarlier, IsOfEarlier, MaySay};
+ghost use Rattle.td_table_model.specs.Tables.{first_version, version_with_amounts};
 ghost use Rattle.td_migrate.specs.Upgraded.{LeavesWithFault, MayLeaveStep, MayLeaveUpgraded, TellsStep, TellsUpgrade, TellsVersion};
 
 use crate::fault::{MigrateFault, fault_of, fault_of_error};
@@ -13,6 +14,7 @@ use sqlite_trees::store::Alter;
 use std::alloc::Global;
 use td_schema::NEWEST_VERSION;
 use td_store::{audit, file_version};
+use td_store_audit_rows::content_keeps_rules;
 
 /// The version of the tables in a file, from 1 to the newest, as the office's own row says it. `UnknownVersion`: there is no table
 /// `meta`, or it is the first and has no such row; `Store`: the tables are none of a store, or the database answered an error other
@@ -58,15 +60,51 @@ fn step<S: Alter>(alloc: Global, conn: &mut Connection<S>, version: u32) -> Resu
     }
 }
 
-// From an earlier version, which the office's own row says, to the newest: by way of version 2 from version 1.
+// From version 2 to the newest.
+fn last_step<S: Alter>(alloc: Global, conn: &mut Connection<S>) -> Result<u32, MigrateFault>
+    requires outside { conn.old.in_transaction ≡ false }
+    requires says { HasCleanDisk (state S.Store conn.old) → MaySay version_with_amounts (state S.Store conn.old).now.trees }
+    ensures ended { conn.new.in_transaction ≡ false }
+    ensures live { HasCleanDisk (state S.Store conn.new) → IsTrue (state S.Store conn.new).is_open → IsTrue (state S.Store conn.old).is_open }
+    ensures shown { HasCleanDisk (state S.Store conn.new)
+        → OnOk result (IsTrue (state S.Store conn.old).is_open × IsTrue (state S.Store conn.new).is_open) }
+    ensures told { HasCleanDisk (state S.Store conn.new) → TellsUpgrade (state S.Store conn.old).now (state S.Store conn.new) result }
+    ensures left { HasCleanDisk (state S.Store conn.new) → IsTrue (state S.Store conn.new).is_open
+        → IfErr result (LeavesWithFault (state S.Store conn.old).now (state S.Store conn.new).now) }
+    ensures crash { Survives (state S.Store conn.old) (state S.Store conn.new) (MayLeaveUpgraded (state S.Store conn.old).now) }
+{
+    step(alloc, conn, 2)?;
+    Ok(NEWEST_VERSION)
+}
+
+// From version 1 to the newest, by way of version 2: the rows keep the rules then, so that the second step isn't refused
+// for damage.
+fn two_steps<S: Alter>(alloc: Global, conn: &mut Connection<S>) -> Result<u32, MigrateFault>
+    requires outside { conn.old.in_transaction ≡ false }
+    requires says { HasCleanDisk (state S.Store conn.old) → MaySay first_version (state S.Store conn.old).now.trees }
+    ensures ended { conn.new.in_transaction ≡ false }
+    ensures live { HasCleanDisk (state S.Store conn.new) → IsTrue (state S.Store conn.new).is_open → IsTrue (state S.Store conn.old).is_open }
+    ensures shown { HasCleanDisk (state S.Store conn.new)
+        → OnOk result (IsTrue (state S.Store conn.old).is_open × IsTrue (state S.Store conn.new).is_open) }
+    ensures told { HasCleanDisk (state S.Store conn.new) → TellsUpgrade (state S.Store conn.old).now (state S.Store conn.new) result }
+    ensures left { HasCleanDisk (state S.Store conn.new) → IsTrue (state S.Store conn.new).is_open
+        → IfErr result (LeavesWithFault (state S.Store conn.old).now (state S.Store conn.new).now) }
+    ensures crash { Survives (state S.Store conn.old) (state S.Store conn.new) (MayLeaveUpgraded (state S.Store conn.old).now) }
+{
+    content_keeps_rules();
+    step(alloc, conn, 1)?;
+    step(alloc, conn, 2)?;
+    Ok(NEWEST_VERSION)
+}
+
+// From an earlier version, which the office's own row says, to the newest.
 fn steps_from<S: Alter>(
     alloc: Global,
     conn: &mut Connection<S>,
     version: u32,
 ) -> Result<u32, MigrateFault>
     requires outside { conn.old.in_transaction ≡ false }
-    requires earlier { IsEarlier version }
-    requires says { HasCleanDisk (state S.Store conn.old) → MaySay version (state S.Store conn.old).now.trees }
+    requires says { HasCleanDisk (state S.Store conn.old) → IsOfEarlier version (state S.Store conn.old).now.trees }
     ensures ended { conn.new.in_transaction ≡ false }
     ensures live { HasCleanDisk (state S.Store conn.new) → IsTrue (state S.Store conn.new).is_open → IsTrue (state S.Store conn.old).is_open }
     ensures shown { HasCleanDisk (state S.Store conn.new)
@@ -77,10 +115,9 @@ fn steps_from<S: Alter>(
     ensures crash { Survives (state S.Store conn.old) (state S.Store conn.new) (MayLeaveUpgraded (state S.Store conn.old).now) }
 {
     if version < 2 {
-        step(alloc, conn, 1)?;
+        return two_steps(alloc, conn);
     }
-    step(alloc, conn, 2)?;
-    Ok(NEWEST_VERSION)
+    last_step(alloc, conn)
 }
 
 // Version by version to the newest, which it answers.

@@ -1,4 +1,5 @@
 mod Begins
+mod Named
 mod Acknowledged
 mod Calls
 mod Holding

@@ -4,6 +4,7 @@ ghost use Rattle.sqlite.specs.Held.{state};
 ghost use Rattle.sqlite.specs.State.{HasCleanDisk};
 ghost use Rattle.sqlite.specs.Steps.{over_memory};
 ghost use Rattle.td_schema.specs.Layouts.{schema_of, version_of};
+ghost use Rattle.td_schema.specs.declared.layout.Layout.{Layout};
 ghost use Rattle.td_schema.specs.Tables.{IsEmptyOf, no_schema};
 ghost use Rattle.td_store.specs.Opened.{AreTold, LacksMeta};
 
@@ -22,7 +23,9 @@ pub(crate) fn lacks_meta<S: Alter>(conn: &Connection<S>) -> bool
 }
 
 // The one layout that the tables may have, by which tables of guarantees and of lines there are.
-fn named_layout(schema: &Schema) -> Layout {
+fn named_layout(schema: &Schema) -> Layout
+    ensures { (layout : Layout) → schema.now ≡ schema_of layout → result ≡ layout }
+{
     let has_first = schema.table_named(b"guarantees1").is_some();
     let has_kept = schema.table_named(b"guarantees2").is_some();
     let has_few_lines = schema.table_named(b"lines1").is_some();

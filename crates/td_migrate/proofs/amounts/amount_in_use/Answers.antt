@@ -16,5 +16,5 @@ returns-clause-found g c clean = rw c.ok_or.ensures.value (by_found c.in_ok-amou
 
     by_found : (found : Option ℕ) → IsInUseIfInRange c.args.holder c.args.guarantee old found
         → IfOk (ok_or found (SqliteFailure DatabaseCorrupt)) (IsInUse c.args.holder c.args.guarantee old)
-    by_found (Some cents) is = λ l has movements lines. (is l has movements lines).1
+    by_found (Some cents) is = λ l few has movements lines. (is l few has movements lines).1
     by_found None is = tt

@@ -22,11 +22,11 @@ returns-clause-filled g c clean =
     let b : State = state g.S.Store c.amount_in_use.new.tx.conn.now in
     let d : State = state g.S.Store c.insert_guarantee.new.tx.conn.now in
     let clean_b : HasCleanDisk b = omega (arith, clean, c.insert_guarantee.ensures.within.survives.clean) in
-    let read : HasOnlyRead a b = c.in_ok-used.ensures.reads.still clean_b refl Grown2 tt (λ _. has) in
+    let read : HasOnlyRead a b = c.in_ok-used.ensures.reads.still clean_b refl Grown2 (omega (arith)) (λ _. has) in
     subst (λ (x : Database). IsFilled (guarantee_row_of c.args.row.now ∷ []) x d.now) read.now_is
     (one_filled (guarantee_row_of c.args.row.now) c.in_ok-used.used b.now d.now
     (subst (λ (x : Database). c.in_ok-used.used ≡ in_use Grown2 c.args.row.now.holder c.args.row.now.serial x.trees) (sym read.now_is)
-    (c.in_ok-used.ensures.found clean_b Grown2 (λ _. has) movements lines))
+    (c.in_ok-used.ensures.found clean_b Grown2 (omega (arith)) (λ _. has) movements lines))
     (turns Grown2 (omega (arith)) (still_has a b (λ _. has) read)
     (subst (λ (x : Database). AreTyped (kept_typing Grown2) x.trees) (sym read.now_is) typed))))
     (c.insert_guarantee.ensures.inserted clean)

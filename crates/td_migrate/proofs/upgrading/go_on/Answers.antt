@@ -6,14 +6,14 @@ use Rattle.sqlite.proofs.StateLemmas.{survives_then}
 use Rattle.td_migrate.specs.Upgraded.{MayLeaveUpgraded}
 use Rattle.td_migrate.proofs.upgrading.go_on.Goals as goal
 
-pub returns-in_ok-step_to_2-clause-crash : goal.returns-in_ok-step_to_2-clause-crash
-returns-in_ok-step_to_2-clause-crash g c =
+pub returns-then-found-lt-NEWEST_VERSION-clause-crash : goal.returns-then-found-lt-NEWEST_VERSION-clause-crash
+returns-then-found-lt-NEWEST_VERSION-clause-crash g c =
     let o : State = state g.S.Store c.args.conn.now in
     let b : State = state g.S.Store c.version.new.conn in
-    let d : State = state g.S.Store c.step_to_2.new.conn in
+    let d : State = state g.S.Store c.steps_from.new.conn in
     survives_then o b d (λ _. ⊥) (MayLeaveUpgraded b.now) (MayLeaveUpgraded o.now) (λ _ trees none. absurd none)
     (λ clean trees may.
-    let clean_b : HasCleanDisk b = omega (arith, clean, c.step_to_2.ensures.crash.clean) in
+    let clean_b : HasCleanDisk b = omega (arith, clean, c.steps_from.ensures.crash.clean) in
     let now_is : b.now ≡ o.now = c.in_ok-found.ensures.same clean_b (c.in_ok-found.ensures.shown clean_b).1 in
     subst (λ (db : Database). MayLeaveUpgraded db trees) now_is may)
-    c.version.ensures.crash c.step_to_2.ensures.crash
+    c.version.ensures.crash c.steps_from.ensures.crash

@@ -1,0 +1,72 @@
+use Rattle.std.proofs.Common.{arith, inr, refl, rules}
+use Rattle.sqlite.specs.Held.{state}
+use Rattle.sqlite.specs.State.{HasCleanDisk, State, Survives}
+use Rattle.sqlite.proofs.StateLemmas.{survives_then, survives_weaker}
+use Rattle.td_table_model.specs.Tables.{first_version, version_with_amounts}
+use Rattle.td_store.specs.Opened.{IsEarlier}
+use Rattle.td_migrate.specs.Upgraded.{MayLeaveStep, MayLeaveUpgraded, WasGrown}
+use Rattle.td_migrate.proofs.Reached.{step_leaves}
+use Rattle.td_migrate.proofs.Stepping.{first_was, says_second, second_fault, second_leaves, second_left, upgraded_from_first}
+use Rattle.td_migrate.proofs.upgrading.two_steps.Goals as goal
+
+earlier : IsEarlier first_version
+earlier = (omega arith, omega arith)
+
+-- the steps one after the other
+steps_leave : (o b d : State) → (HasCleanDisk b → WasGrown first_version o.now b.now) → Survives o b (MayLeaveStep first_version o.now)
+    → Survives b d (MayLeaveStep version_with_amounts b.now) → Survives o d (MayLeaveUpgraded o.now)
+steps_leave o b d was one two =
+    survives_then o b d (MayLeaveStep first_version o.now) (MayLeaveStep version_with_amounts b.now) (MayLeaveUpgraded o.now)
+    (λ clean trees may. step_leaves first_version earlier o.now trees may)
+    (λ clean trees may. second_leaves o.now b.now (first_was o.now b.now (was (omega (arith, clean, two.clean)))) trees may) one two
+
+pub returns-in_err-step-clause-crash : goal.returns-in_err-step-clause-crash
+returns-in_err-step-clause-crash g c =
+    let o : State = state g.S.Store c.args.conn.now in
+    let b : State = state g.S.Store c.step.new.conn in
+    survives_weaker o b (MayLeaveStep first_version o.now) (MayLeaveUpgraded o.now)
+    (λ clean trees may. step_leaves first_version earlier o.now trees may) c.step.ensures.crash
+
+pub step-requires-2-clause-says : goal.step-requires-2-clause-says
+step-requires-2-clause-says g c clean =
+    let o : State = state g.S.Store c.args.conn.now in
+    let b : State = state g.S.Store c.step.new.conn in
+    says_second o.now b.now (first_was o.now b.now (c.in_ok-step.ensures.told clean))
+
+pub returns-in_err-step-2-clause-told : goal.returns-in_err-step-2-clause-told
+returns-in_err-step-2-clause-told g c clean =
+    let o : State = state g.S.Store c.args.conn.now in
+    let b : State = state g.S.Store c.step.new.conn in
+    let d : State = state g.S.Store c.step-2.new.conn in
+    let clean_b : HasCleanDisk b = omega (arith, clean, c.step-2.ensures.crash.clean) in
+    let told = second_fault o.now b.now (first_was o.now b.now (c.in_ok-step.ensures.told clean_b)) c.content_keeps_rules.ensures d
+    c.in_err-step-2.field-0.0 (c.in_err-step-2.ensures.told clean) in
+    search (rules, told)
+
+pub returns-in_err-step-2-clause-crash : goal.returns-in_err-step-2-clause-crash
+returns-in_err-step-2-clause-crash g c =
+    steps_leave (state g.S.Store c.args.conn.now) (state g.S.Store c.step.new.conn) (state g.S.Store c.step-2.new.conn)
+    c.in_ok-step.ensures.told c.step.ensures.crash c.step-2.ensures.crash
+
+pub returns-clause-told : goal.returns-clause-told
+returns-clause-told g c clean =
+    let o : State = state g.S.Store c.args.conn.now in
+    let b : State = state g.S.Store c.step.new.conn in
+    let d : State = state g.S.Store c.step-2.new.conn in
+    let clean_b : HasCleanDisk b = omega (arith, clean, c.step-2.ensures.crash.clean) in
+    (refl, inr (upgraded_from_first o.now b.now (first_was o.now b.now (c.in_ok-step.ensures.told clean_b)) d (c.in_ok-step-2.ensures.told clean)))
+
+pub returns-clause-crash : goal.returns-clause-crash
+returns-clause-crash g c =
+    steps_leave (state g.S.Store c.args.conn.now) (state g.S.Store c.step.new.conn) (state g.S.Store c.step-2.new.conn)
+    c.in_ok-step.ensures.told c.step.ensures.crash c.step-2.ensures.crash
+
+pub returns-in_err-step-2-clause-left : goal.returns-in_err-step-2-clause-left
+returns-in_err-step-2-clause-left g c clean is_open =
+    let o : State = state g.S.Store c.args.conn.now in
+    let b : State = state g.S.Store c.step.new.conn in
+    let d : State = state g.S.Store c.step-2.new.conn in
+    let clean_b : HasCleanDisk b = omega (arith, clean, c.step-2.ensures.crash.clean) in
+    let told = second_left o.now b.now (c.in_ok-step.ensures.told clean_b) c.content_keeps_rules.ensures d c.in_err-step-2.field-0.0
+    (c.in_err-step-2.ensures.told clean) (c.in_err-step-2.ensures.err clean is_open) in
+    search (rules, told)
