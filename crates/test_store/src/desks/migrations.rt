@@ -12,27 +12,53 @@ use td_store::{OpenFault, audit, file_version};
 use td_store_rows::{guarantees_of, kept_of, older_lines};
 use td_table_model::Rule;
 
+const HOLDERS: &str =
+    "INSERT INTO holders VALUES (1, 'CH1234567', 1740992400, 2, 3), (2, 'DE7654321', 1740819600, 1, 1), (3, 'FR1', 1740819600, 0, 0)";
+
+const CODES: &str =
+    "INSERT INTO codes VALUES (1, 1, 'AB12'), (1, 1, 'CD34'), (1, 2, 'EF56'), (2, 1, 'AB12')";
+
+const MOVEMENTS: &str =
+    "INSERT INTO movements VALUES (1, 1, '25CH00000100000013', 'A1', 'CH001251', 'DE005600', 20148, 'released', 20155, NULL, NULL), (1, 2, '25CH00000100000021', 'A2', 'CH001251', 'DE005600', 20148, 'arrived', 20155, 20150, 'FR000100')";
+
+const LATER_MOVEMENTS: &str =
+    "INSERT INTO movements VALUES (1, 3, '25CH00000100000030', 'A3', 'CH001251', 'DE005600', 20148, 'accepted', NULL, NULL, NULL), (2, 1, '25CH00000200000019', 'A1', 'CH001251', 'DE005600', 20148, 'accepted', NULL, NULL, NULL)";
+
+const LINES_OF_ALL: &str =
+    "INSERT INTO lines1 VALUES (1, 1, 1, 1, 500000), (1, 1, 2, 2, 200000), (1, 2, 1, 1, 400000), (1, 3, 1, 1, 100001), (2, 1, 1, 1, 600000)";
+
 /// The rows of a desk of CH at version 1. Holder 1 has two guarantees and three movements: of the first one's 1000000 cents
 /// 500000 are in use by movement 1, which is released, and 400000 by movement 2, which has arrived; of the second one's
 /// 500000 cents 200000 by movement 1. Movement 3 and the one of holder 2 are accepted, and have nothing in use. Holder 3 has
 /// nothing. Day 20148 is 2025-03-01.
 pub const ROWS: [&str; 7] = [
     "INSERT INTO meta VALUES (1, 1, 'CH')",
-    "INSERT INTO holders VALUES (1, 'CH1234567', 1740992400, 2, 3), (2, 'DE7654321', 1740819600, 1, 1), (3, 'FR1', 1740819600, 0, 0)",
+    HOLDERS,
     "INSERT INTO guarantees1 VALUES (1, 1, '25CH0000010000014', 1000000, 50, NULL), (1, 2, '25CH0000010000023', 500000, 100, 20164), (2, 1, '25CH0000020000010', 1000000, 30, NULL)",
-    "INSERT INTO codes VALUES (1, 1, 'AB12'), (1, 1, 'CD34'), (1, 2, 'EF56'), (2, 1, 'AB12')",
-    "INSERT INTO movements VALUES (1, 1, '25CH00000100000013', 'A1', 'CH001251', 'DE005600', 20148, 'released', 20155, NULL, NULL), (1, 2, '25CH00000100000021', 'A2', 'CH001251', 'DE005600', 20148, 'arrived', 20155, 20150, 'FR000100')",
-    "INSERT INTO movements VALUES (1, 3, '25CH00000100000030', 'A3', 'CH001251', 'DE005600', 20148, 'accepted', NULL, NULL, NULL), (2, 1, '25CH00000200000019', 'A1', 'CH001251', 'DE005600', 20148, 'accepted', NULL, NULL, NULL)",
-    "INSERT INTO lines1 VALUES (1, 1, 1, 1, 500000), (1, 1, 2, 2, 200000), (1, 2, 1, 1, 400000), (1, 3, 1, 1, 100001), (2, 1, 1, 1, 600000)",
+    CODES,
+    MOVEMENTS,
+    LATER_MOVEMENTS,
+    LINES_OF_ALL,
 ];
 
+const SEE_META: &str = "SELECT one, version, country FROM meta";
+
+const SEE_HOLDERS: &str = "SELECT holder, eori, last_at, grn_count, mrn_count FROM holders";
+
+const SEE_CODES: &str = "SELECT holder, serial, code FROM codes";
+
+const SEE_MOVEMENTS: &str =
+    "SELECT holder, serial, mrn, lrn, departure, destination, accepted, state, limit_day, arrival, actual FROM movements";
+
+const SEE_LINES: &str = "SELECT holder, serial, no, guarantee, cents FROM lines1";
+
 const TABLES: [&str; 6] = [
-    "SELECT one, version, country FROM meta",
-    "SELECT holder, eori, last_at, grn_count, mrn_count FROM holders",
+    SEE_META,
+    SEE_HOLDERS,
     "SELECT holder, serial, grn, reference, cover, ends FROM guarantees1",
-    "SELECT holder, serial, code FROM codes",
-    "SELECT holder, serial, mrn, lrn, departure, destination, accepted, state, limit_day, arrival, actual FROM movements",
-    "SELECT holder, serial, no, guarantee, cents FROM lines1",
+    SEE_CODES,
+    SEE_MOVEMENTS,
+    SEE_LINES,
 ];
 
 /// A database of version 1 with these rows.
@@ -344,21 +370,21 @@ fn tables_of_another_version_are_none_of_an_earlier_one(rt: HostRuntime) {
 /// The rows of the same desk at version 2.
 pub const SECOND_ROWS: [&str; 7] = [
     "INSERT INTO meta VALUES (1, 2, 'CH')",
-    ROWS[1],
+    HOLDERS,
     "INSERT INTO guarantees2 VALUES (1, 1, '25CH0000010000014', 1000000, 50, NULL, 900000), (1, 2, '25CH0000010000023', 500000, 100, 20164, 200000), (2, 1, '25CH0000020000010', 1000000, 30, NULL, 0)",
-    ROWS[3],
-    ROWS[4],
-    ROWS[5],
-    ROWS[6],
+    CODES,
+    MOVEMENTS,
+    LATER_MOVEMENTS,
+    LINES_OF_ALL,
 ];
 
 const SECOND_TABLES: [&str; 6] = [
-    TABLES[0],
-    TABLES[1],
+    SEE_META,
+    SEE_HOLDERS,
     "SELECT holder, serial, grn, reference, cover, ends, used FROM guarantees2",
-    TABLES[3],
-    TABLES[4],
-    TABLES[5],
+    SEE_CODES,
+    SEE_MOVEMENTS,
+    SEE_LINES,
 ];
 
 /// The two layouts of version 2: made so, and migrated before.

@@ -237,15 +237,18 @@ fn told_of_each(rt: &(impl AllocGlobal + Abort)) -> Vec<String> {
 // What is found before each part of the job, and after the last one.
 fn wanted(rt: &(impl AllocGlobal + Abort), job: Job, start: &Contents) -> Vec<String> {
     let before = found(rt, start);
-    let parts = match job {
-        Job::Carrying => return told_of_each(rt),
-        Job::Making => vec![in rt.alloc(); before, told(rt, &mut made(rt))],
+    match job {
+        Job::Carrying => told_of_each(rt),
+        Job::Making => {
+            let after = told(rt, &mut made(rt));
+            vec![in rt.alloc(); before, after].expect(rt, "memory")
+        }
         Job::Upgrading => {
             let second = found(rt, &holding(rt, Layout::Grown2, &SECOND_ROWS));
-            vec![in rt.alloc(); before, second, told_of_tables(rt)]
+            let after = told_of_tables(rt);
+            vec![in rt.alloc(); before, second, after].expect(rt, "memory")
         }
-    };
-    parts.expect(rt, "memory")
+    }
 }
 
 // The desk over tables of the newest version that have the rows of the file of version 1.
