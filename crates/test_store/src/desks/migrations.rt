@@ -148,7 +148,7 @@ fn the_desk_shows_what_a_desk_with_these_rows_shows(rt: HostRuntime) {
 /// A holder's number, and the cents in use on the holder's guarantees.
 const USED: [(u32, &[u64]); 3] = [(1, &[900_000, 200_000]), (2, &[0]), (3, &[])];
 
-// So many cents are in use on the holder's guarantees; no guarantee and no line stands in a table of an earlier version.
+// So many cents are in use on the holder's guarantees.
 fn assert_used(
     rt: &(impl AllocGlobal + Abort),
     conn: &mut Connection<MemStore>,
@@ -163,18 +163,37 @@ fn assert_used(
         assert!(rt; at < kept.len());
         assert!(rt; kept[at].used.get() == *cents);
     }
-    let left = guarantees_of(rt.alloc(), &mut tx, 1, holder).expect(rt, "rows");
-    assert!(rt; left.is_empty());
+}
+
+// No line stands in the table of an earlier version.
+fn assert_lines_left(rt: &(impl AllocGlobal + Abort), conn: &mut Connection<MemStore>) {
+    assert!(rt; conn.is_autocommit());
+    let mut tx = conn.transaction();
     let lines = older_lines(rt.alloc(), &mut tx).expect(rt, "rows");
     assert!(rt; lines.is_empty());
+}
+
+// Nor a guarantee of the holder in that of version 1.
+fn assert_left_of(
+    rt: &(impl AllocGlobal + Abort),
+    conn: &mut Connection<MemStore>,
+    holder: HolderNo,
+) {
+    assert!(rt; conn.is_autocommit());
+    let mut tx = conn.transaction();
+    let guarantees = guarantees_of(rt.alloc(), &mut tx, 1, holder).expect(rt, "rows");
+    assert!(rt; guarantees.is_empty());
 }
 
 #[test]
 fn what_is_in_use_is_kept(rt: HostRuntime) {
     let mut conn = newest(&rt);
     for (number, used) in &USED {
-        assert_used(&rt, &mut conn, holder(&rt, *number), used);
+        let holder = holder(&rt, *number);
+        assert_used(&rt, &mut conn, holder, used);
+        assert_left_of(&rt, &mut conn, holder);
     }
+    assert_lines_left(&rt, &mut conn);
 }
 
 /// Other rows of version 1: holder 1 has two guarantees, four movements that count, one that doesn't yet and one that never
@@ -424,6 +443,7 @@ fn a_file_of_version_2_becomes_one_of_version_3(rt: HostRuntime) {
         for (number, used) in &USED {
             assert_used(&rt, &mut conn, holder(&rt, *number), used);
         }
+        assert_lines_left(&rt, &mut conn);
         assert_eq!(rt; shown(&rt, conn).as_str(), shown(&rt, tables(&rt)).as_str());
     }
 }

@@ -390,5 +390,5 @@ fn a_stop_while_decisions_are_carried_leaves_those_that_were_answered(rt: HostRu
 
 #[test]
 fn a_stop_of_an_upgrade_leaves_one_of_the_versions(rt: HostRuntime) {
-    assert_eq!(rt; stops_of_both(&rt, Job::Upgrading), (58, 65));
+    assert_eq!(rt; stops_of_both(&rt, Job::Upgrading), (75, 71));
 }
