@@ -324,7 +324,8 @@ fn assert_left(
     answered: usize,
     wanted: &[String],
 ) {
-    let may_be = wanted.iter().skip(answered).take(job.parts_at_once() + 1);
+    let most = job.parts_at_once().saturating_add(1);
+    let may_be = wanted.iter().skip(answered).take(most);
     let mut is_one = false;
     for text in may_be {
         is_one = is_one || text.as_str() == found;
