@@ -1,4 +1,3 @@
 pub mod Ascending
 pub mod Coded
-mod Changing
 mod Stepping

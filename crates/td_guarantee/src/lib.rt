@@ -11,7 +11,7 @@ mod usage;
 
 pub use codes::{Codes, MOST_CODES};
 pub use guarantee::Guarantee;
-pub use known::{known_amount, make_lines_known, put_on, take_off};
+pub use known::KnownAmounts;
 pub use laws::a_step_changes_the_use;
 pub use terms::{ended, fits, guaranteed};
 pub use usage::in_use;

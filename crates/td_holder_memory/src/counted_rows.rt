@@ -10,7 +10,7 @@ use std::alloc::{AllocError, Global};
 use std::marker::Model;
 use td_acts::NewStatus;
 use td_base::{Cents, Country, Grn, Lrn, Mrn};
-use td_guarantee::{in_use, known_amount, make_lines_known, put_on, take_off};
+use td_guarantee::{KnownAmounts, in_use};
 use td_movement::{Movement, counts};
 
 /// A holder's movements, by serial.
@@ -18,7 +18,7 @@ use td_movement::{Movement, counts};
 pub(crate) struct CountedRows {
     rows: MovementRows,
     // The amount in use on some guarantees. It is added up when a movement is released on one, and kept from then on.
-    known: Vec<(Grn, Cents)>,
+    known: KnownAmounts,
 }
 
 impl Model for CountedRows {
@@ -30,7 +30,7 @@ impl Model for CountedRows {
 
     ghost view = { λ r. r.rows };
 
-    ghost invariant = { λ r. AreInUse r.known.items r.rows };
+    ghost invariant = { λ r. AreInUse r.known r.rows };
 }
 
 impl CountedRows {
@@ -40,7 +40,7 @@ impl CountedRows {
     {
         CountedRows {
             rows: MovementRows::new(alloc, country),
-            known: Vec::new(alloc),
+            known: KnownAmounts::new(alloc),
         }
     }
 
@@ -57,7 +57,7 @@ impl CountedRows {
         ensures err { OnErr result (self.new ≡ self.old) }
     {
         if counts(movement.state) {
-            self.known.clear();
+            self.known.forget();
         }
         self.rows.push(movement)
     }
@@ -80,7 +80,7 @@ impl CountedRows {
     pub fn in_use(&self, grn: &Grn) -> Option<Cents>
         ensures { SomeIff result (IsCents (used_on grn.now self.now)) (used_on grn.now self.now) }
     {
-        match known_amount(&self.known, grn) {
+        match self.known.amount_on(grn) {
             Some(amount) => {
                 let _range = amount.get();
                 Some(amount)
@@ -94,16 +94,16 @@ impl CountedRows {
         ensures { self.new ≡ map (moved status.now) self.old }
     {
         let Some(at) = self.rows.only_place_of(&status.mrn) else {
-            self.known.clear();
+            self.known.forget();
             self.rows.put_status(status);
             return;
         };
         if counts(status.state) {
             let movements = self.rows.as_slice();
-            make_lines_known(&mut self.known, movements, movements[at].lines.as_slice());
+            self.known.add_up(movements, movements[at].lines.as_slice());
         }
-        take_off(&mut self.known, &self.rows.as_slice()[at..at + 1]);
+        self.known.take_off(&self.rows.as_slice()[at]);
         self.rows.put_status(status);
-        put_on(&mut self.known, &self.rows.as_slice()[at..at + 1]);
+        self.known.put_on(&self.rows.as_slice()[at]);
     }
 }
