@@ -1,3 +1,4 @@
+mod Alike
 mod OptionFacts
 mod RecordsFacts
 mod RowFacts

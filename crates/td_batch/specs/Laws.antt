@@ -1,5 +1,5 @@
--- What a batch of declarations does that is sent again.
-use Rattle.std.specs.Prelude.{◌≡◌, ℕ, ◌≤◌, ℤ, List, ◌∷◌, ◌++◌, length, Option, Some, None}
+-- What batches tell a holder, and what a batch of declarations does that is sent again.
+use Rattle.std.specs.Prelude.{◌≡◌, ℕ, ◌≤◌, ℤ, List, ◌∷◌, ◌++◌, length, map, Option, Some, None}
 use Rattle.std.specs.List.{AllByRecursion}
 use Rattle.td_base.specs.Days.{moment_of}
 use Rattle.td_commands.specs.Commands.{owner_of}
@@ -13,12 +13,12 @@ use Rattle.td_model.specs.Book.{Book}
 use Rattle.td_model.specs.Machine.{machine_book}
 use Rattle.td_desk.specs.declared.fault.Fault.{Fault}
 use Rattle.td_desk.specs.Content.{Content, account_in, IsSound}
-use Rattle.td_desk.specs.Runs.{IsTied}
+use Rattle.td_desk.specs.Runs.{Agree, failures, IsTied, told}
 use Rattle.td_desk.specs.View.{DeskView}
 use Rattle.td_batch.specs.declared.running.BatchRun.{BatchRun}
 use Rattle.td_batch.specs.Again.{IsDeclaration}
 use Rattle.td_batch.specs.Results.{declaration_result, declarations_header}
-use Rattle.td_batch.specs.Runs.{IsBatchDone, IsRunOf}
+use Rattle.td_batch.specs.Runs.{at_moment, IsBatchDone, IsRunOf, outcomes_of, tried}
 
 -- A batch of declarations that no fault stopped, done again at the same moment with no command between, changes nothing, whether
 -- a fault stops it then or not. (It may be answered otherwise: a row that was refused for its code, under an LRN that a later
@@ -29,6 +29,29 @@ AgainChangesNothing {D} view called = (at : ℤ) (rows : List Command) (first ag
     → IsRunOf view called declaration_result declarations_header at rows first old mid → first.stopped ≡ None
     → IsRunOf view called declaration_result declarations_header at rows again mid new
     → view.is_clean new → view.is_live new → IsSound (view.content old) → view.content new ≡ view.content mid
+
+-- The commands of the rows that were tried, at the moment of their batch.
+abbrev pub stamped_rows : ℤ → List Command → BatchRun → List Said → List Stamped
+stamped_rows at rows r said = map (at_moment at) (tried rows said r.stopped)
+
+-- The headline of batches. Two batches, of declarations or of acts, at desks of one country, whose contents are equal in H's rows
+-- and as different as one likes in all others': where the rows that were tried agree on H, moments included, and H's failed at the
+-- same places, H was told the same. (A row of the result file is made of its command and of what was said, by `result_rows`.)
+abbrev pub AgreeingBatchesTellTheSame : {D E : Type 0} → DeskView D → (D → Option Fault → D → Type 0) → DeskView E → (E → Option Fault → E → Type 0) → Type 0
+AgreeingBatchesTellTheSame {D} {E} view called other_view other_called = (line other_line : Command → Said → List ℕ)
+    (header other_header : List ℕ) (at other_at : ℤ) (rows other_rows : List Command) (r other : BatchRun) (old new : D) (other_old other_new : E)
+    (country : List ℕ) (H : ℕ)
+    → (one : IsBatchDone view called line header at rows r old new)
+    → (two : IsBatchDone other_view other_called other_line other_header other_at other_rows other other_old other_new)
+    → view.is_clean new → view.is_live old → IsSound (view.content old)
+    → other_view.is_clean other_new → other_view.is_live other_old → IsSound (other_view.content other_old)
+    → (view.content old).country ≡ country → (other_view.content other_old).country ≡ country
+    → account_in H (view.content old) ≡ account_in H (other_view.content other_old)
+    → Agree country H (stamped_rows at rows r one.said) (stamped_rows other_at other_rows other two.said)
+    → failures country H (stamped_rows at rows r one.said) (outcomes_of one.said r.stopped)
+    ≡ failures country H (stamped_rows other_at other_rows other two.said) (outcomes_of two.said other.stopped)
+    → told country H (stamped_rows at rows r one.said) (outcomes_of one.said r.stopped)
+    ≡ told country H (stamped_rows other_at other_rows other two.said) (outcomes_of two.said other.stopped)
 
 -- Where these rows were done, this was said to that one: at some place of the batch.
 abbrev pub IsSaidTo : Command → Said → List Command → List Said → Type 0

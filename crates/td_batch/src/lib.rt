@@ -13,6 +13,9 @@ mod running;
 pub use acts::ActRow;
 pub use declarations::DeclarationRow;
 pub use fault::BatchFault;
-pub use laws::{a_batch_done_again_changes_nothing, an_answered_declaration_is_answered_again};
+pub use laws::{
+    a_batch_done_again_changes_nothing, agreeing_batches_tell_the_same,
+    an_answered_declaration_is_answered_again,
+};
 pub use reading::{read_acts, read_declarations};
 pub use running::{BatchRun, run_acts, run_declarations};

@@ -42,7 +42,7 @@ static ROWS: [Numbered; 5] = [
 ];
 
 /// Paths, the numbers of the rows that they fit (0 where they fit none), and their parts.
-const PATHS: [(&str, u32, &str, &str); 17] = [
+static PATHS: [(&str, u32, &str, &str); 17] = [
     ("/books", 1, "", ""),
     ("/books/Emma", 2, "Emma", ""),
     ("/books/{title}", 2, "{title}", ""),
@@ -63,8 +63,8 @@ const PATHS: [(&str, u32, &str, &str); 17] = [
 ];
 
 // The path fits the row with this number, and has these parts.
-fn finds(rt: &impl Abort, table: &PathTable<'_, Numbered>, case: (&str, u32, &str, &str)) {
-    let (path, number, first, second) = case;
+fn finds(rt: &impl Abort, table: &PathTable<'_, Numbered>, case: &(&str, u32, &str, &str)) {
+    let (path, number, first, second) = *case;
     match table.find(path) {
         Some(found) => {
             assert!(rt; found.row.number == number);
@@ -78,7 +78,7 @@ fn finds(rt: &impl Abort, table: &PathTable<'_, Numbered>, case: (&str, u32, &st
 #[test]
 fn compares_segments(rt: HostRuntime) -> Result<(), Fail> {
     let table = PathTable::new(rt.alloc(), &ROWS)?;
-    for case in PATHS {
+    for case in &PATHS {
         finds(&rt, &table, case);
     }
     rows_are_found_as_by_matchit();
