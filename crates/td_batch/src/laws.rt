@@ -1,16 +1,13 @@
 //! Laws of batches, as contracts of functions that do nothing.
 ghost use Rattle.td_batch.specs.Laws.{AgainChangesNothing, AgreeingBatchesTellTheSame, AnsweredAgain};
 
-use td_desk::{Desk, agreeing_runs_tell_the_same, fresh_books_are_tied};
+use td_desk::Desk;
 
 /// The headline of batches: two that agree, moments included, on a holder's rows, of which the same failed, tell that
 /// holder the same, whatever they have of others; at desks whose rows of that holder are equal.
 pub fn agreeing_batches_tell_the_same<D: Desk, E: Desk>()
     ensures { AgreeingBatchesTellTheSame D.seen D.called E.seen E.called }
-{
-    fresh_books_are_tied();
-    agreeing_runs_tell_the_same();
-}
+{}
 
 /// A batch of declarations that no fault stopped changes nothing where it is done again at the same moment, with no
 /// command between.

@@ -9,3 +9,4 @@ mod LeftAtDesks
 mod KeptRows
 mod SentAgain
 mod Later
+mod BatchesAlike

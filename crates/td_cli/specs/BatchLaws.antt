@@ -1,4 +1,5 @@
 -- What a crash leaves of a batch, and what becomes of a batch of declarations that it cut short.
+use Rattle.std.proofs.Common.{inl, inr}
 use Rattle.std.specs.Prelude.{◌≡◌, ◌⊎◌, ℕ, ◌≤◌, ℤ, true, List, [], ◌∷◌, ◌++◌, map, Option, Some}
 use Rattle.std.specs.List.{FoldsTo}
 use Rattle.td_base.specs.Days.{moment_of}
@@ -15,14 +16,14 @@ use Rattle.td_desk.specs.declared.fault.Fault.{Fault}
 use Rattle.td_desk.specs.declared.running.Outcome.{Outcome}
 use Rattle.td_desk.specs.declared.running.Outcome.TheVariants as outcome
 use Rattle.td_desk.specs.Content.{Content, account_in, IsSound}
-use Rattle.td_desk.specs.Runs.{heard, is_failed}
+use Rattle.td_desk.specs.Runs.{Agree, failures, heard, is_failed, told}
 use Rattle.td_desk.specs.View.{DeskView}
 use Rattle.td_http.specs.Kept.{IsKeptIn}
 use Rattle.td_batch.specs.declared.running.BatchRun.{BatchRun}
 use Rattle.td_batch.specs.Again.{IsDeclaration}
-use Rattle.td_batch.specs.Laws.{IsLater, IsSaidTo}
+use Rattle.td_batch.specs.Laws.{IsLater, IsSaidTo, stamped_rows}
 use Rattle.td_batch.specs.Results.{declaration_result, declarations_header}
-use Rattle.td_batch.specs.Runs.{at_moment, IsBatchDone, IsRowDone}
+use Rattle.td_batch.specs.Runs.{at_moment, IsBatchDone, IsRowDone, IsRunOf, outcomes_of}
 
 -- a row that was tried, and how it ended
 abbrev pub TriedRow : Type 0
@@ -72,3 +73,20 @@ IsAnsweredAfterCrash {E = E} view other called first between =
     → IsDeclaration d → IsAnsweredAmong d a first → IsSaidTo d s rows more.said
     → owner_of (other.content middle).country d ≡ Some H → (account_in H (other.content middle)).holder ≡ Some row
     → moment_of later ≡ Some t → row.last_at ≤ t → s ≡ Answered a
+
+module _ {D : Type 0} {view : DeskView D} {called : D → Option Fault → D → Type 0} {line : Command → Said → List ℕ} {header : List ℕ} {old new : D} where
+  -- the commands of the rows that a batch tried, at its moment; where nothing was done there are none
+  abbrev pub commands_tried : (at : ℤ) (rows : List Command) (r : BatchRun) → IsRunOf view called line header at rows r old new → List Stamped
+  commands_tried at rows r (inl nothing) = []
+  commands_tried at rows r (inr done) = stamped_rows at rows r done.said
+
+  -- and how they ended
+  abbrev pub outcomes_tried : (at : ℤ) (rows : List Command) (r : BatchRun) → IsRunOf view called line header at rows r old new → List Outcome
+  outcomes_tried at rows r (inl nothing) = []
+  outcomes_tried at rows r (inr done) = outcomes_of done.said r.stopped
+
+-- Two batches whose tried rows agree on H, moments included, and of whose rows of H the same failed, tell H the same.
+abbrev pub TellAlikeByRows : List ℕ → ℕ → List Stamped → List Outcome → List Stamped → List Outcome → Type 0
+TellAlikeByRows country H list outcomes other_list other_outcomes =
+    Agree country H list other_list → failures country H list outcomes ≡ failures country H other_list other_outcomes
+    → told country H list outcomes ≡ told country H other_list other_outcomes

@@ -1,6 +1,6 @@
 //! Laws of batches over a file, of what a crash leaves on the way, and of a batch among other runs, as contracts of functions that
 //! do nothing.
-ghost use Rattle.std.specs.Prelude.{◌≡◌, ℕ, ℤ, List, ◌++◌, zip, IsTrue};
+ghost use Rattle.std.specs.Prelude.{◌≡◌, ℕ, ℤ, List, ◌++◌, zip, IsTrue, Option};
 ghost use Rattle.sqlite.specs.Files.{file_state};
 ghost use Rattle.sqlite_wal.specs.Recovery.{Image};
 ghost use Rattle.http_wire.specs.Stream.{Exchange};
@@ -11,12 +11,31 @@ ghost use Rattle.td_batch.specs.Laws.{IsLater};
 ghost use Rattle.td_batch.specs.Runs.{IsBatchDone, IsRunOf, outcomes_of, tried};
 ghost use Rattle.td_files.specs.Found.{FileSeen, IsClean, over_file};
 ghost use Rattle.td_words.specs.declared.words.BatchKind.{BatchKind};
-ghost use Rattle.td_cli.specs.BatchLaws.{IsAnsweredAfterCrash, IsKeptBetweenRows, TriedRow};
-ghost use Rattle.td_cli.specs.Batched.{header_of, line_of};
-ghost use Rattle.td_cli.specs.Desks.{BeginsKept, fresh_books};
+ghost use Rattle.td_cli.specs.BatchLaws.{IsAnsweredAfterCrash, IsKeptBetweenRows, TellAlikeByRows, TriedRow, commands_tried, outcomes_tried};
+ghost use Rattle.td_cli.specs.Batched.{HasDoneRows, header_of, line_of};
+ghost use Rattle.td_cli.specs.Desks.{BeginAlike, BeginsKept, IsMoment, fresh_books};
 ghost use Rattle.td_cli.specs.Runs.{GoesOnFrom, IsRun, OpensAfterCrash};
 
 use sqlite_disk::Disk;
+
+/// The headline of batches. Two files of rows that `perform` did at desks over files for one country, of declarations or of acts,
+/// whose desks began with the same of a holder: that holder is told the same by both, where the rows that were tried agree on the
+/// holder's commands, their moments included, and the same of these failed, and where the files' disks are clean in the end. What
+/// other holders' rows stand in the files of rows, or what else the desks' files held, makes no difference.
+///
+/// A row of the result file is made of its command and of what was said to it (`result_rows`).
+pub fn agreeing_batches_over_files_tell_the_same<F: Disk, OtherF: Disk>()
+    ensures { (country : List ℕ) (H : ℕ) (which other_which : BatchKind) (at other_at : Option ℤ)
+        (image other_image : Image) (file : FileSeen F.Disk) (other_file : FileSeen OtherF.Disk)
+        (rows other_rows : List Command) (r other_r : BatchRun)
+        → (one : HasDoneRows {C = Unit {0}} over_file (BeginsKept image country) (λ d. d ≡ file) (IsMoment at) which rows tt r)
+        → (other : HasDoneRows {C = Unit {0}} over_file (BeginsKept other_image country) (λ d. d ≡ other_file) (IsMoment other_at)
+        other_which other_rows tt other_r)
+        → IsClean file → IsClean other_file
+        → BeginAlike country H (over_file.content one.opened) (over_file.content other.opened)
+        → TellAlikeByRows country H (commands_tried one.moment rows r one.ran) (outcomes_tried one.moment rows r one.ran)
+        (commands_tried other.moment other_rows other_r other.ran) (outcomes_tried other.moment other_rows other_r other.ran) }
+{}
 
 /// What a batch over a file has done is kept. However the rows that were tried are split in two, there was a moment between them at
 /// which whatever a crash leaves is a desk's file, which the next opening takes: with the accepted changes of the first part, and at

@@ -19,7 +19,7 @@ mod telling;
 
 pub use batch_laws::{
     a_batch_cut_short_is_sent_again, acknowledged_rows_are_kept_in_the_file,
-    runs_over_one_file_lead_on,
+    agreeing_batches_over_files_tell_the_same, runs_over_one_file_lead_on,
 };
 pub use clock::{FixedClock, MachineClock};
 pub use jobs::perform;

@@ -5,7 +5,7 @@ mod Storing
 pub mod Carrying
 pub mod Weighed
 pub mod Calls
-mod Agreeing
+pub mod Agreeing
 pub mod Differing
 pub mod Leaving
 pub mod Releasing

@@ -13,9 +13,8 @@ use crate::lines::write_3;
 use sqlite::{Connection, Error, Transaction};
 use sqlite_trees::store::Alter;
 use std::alloc::Global;
-use td_schema::make_guarantees2;
+use td_schema::{VERSION_WITH_AMOUNTS, make_guarantees2};
 use td_store_rows::{StoredGuarantee, empty_guarantees1, set_version};
-use td_table_model::tables_grow;
 
 // Makes the table of guarantees of version 2 with these guarantees, each with the amount in use on it, and empties the one of version 1.
 fn move_guarantees<S: Alter>(
@@ -44,7 +43,7 @@ fn write_2<S: Alter>(alloc: Global, tx: &mut Transaction<'_, S>) -> Result<(), E
 {
     let rows = first_guarantees(alloc, tx)?;
     move_guarantees(alloc, tx, &rows)?;
-    set_version(tx, 2)
+    set_version(tx, VERSION_WITH_AMOUNTS)
 }
 
 // Writes what the version behind this one has that this one has not, from 1 on: a file of this version, whatever content it holds, is
@@ -61,8 +60,7 @@ fn write_next<S: Alter>(
         → OnOk result (GrowsFrom version (state S.Store tx.old.conn.now).now (state S.Store tx.new.conn.now).now) }
     ensures within { StaysInside (is_ok result) (state S.Store tx.old.conn.now) (state S.Store tx.new.conn.now) }
 {
-    tables_grow();
-    if version < 2 {
+    if version < VERSION_WITH_AMOUNTS {
         return write_2(alloc, tx);
     }
     write_3(alloc, tx)

@@ -9,7 +9,7 @@ ghost use Rattle.td_migrate.specs.LinesMoved.{BecomesThird, MovesLines, PutsLine
 use sqlite::{Error, Transaction};
 use sqlite_trees::store::Alter;
 use std::alloc::Global;
-use td_schema::make_lines3;
+use td_schema::{VERSION_WITH_MORE_LINES, make_lines3};
 use td_store_rows::{StoredLine, empty_lines1, insert_line, older_lines, set_version};
 
 // Puts lines into the table of version 3. An error is the database's own.
@@ -51,5 +51,5 @@ pub(crate) fn write_3<S: Alter>(alloc: Global, tx: &mut Transaction<'_, S>) -> R
 {
     let lines = older_lines(alloc, tx)?;
     move_lines(tx, &lines)?;
-    set_version(tx, 3)
+    set_version(tx, VERSION_WITH_MORE_LINES)
 }

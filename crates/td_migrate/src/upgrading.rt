@@ -12,9 +12,8 @@ use crate::growing::grow;
 use sqlite::Connection;
 use sqlite_trees::store::Alter;
 use std::alloc::Global;
-use td_schema::NEWEST_VERSION;
+use td_schema::{FIRST_VERSION, NEWEST_VERSION, VERSION_WITH_AMOUNTS};
 use td_store::{audit, file_version};
-use td_store_audit_rows::content_keeps_rules;
 
 /// The version of the tables in a file, from 1 to the newest, as the office's own row says it. `UnknownVersion`: there is no table
 /// `meta`, or it is the first and has no such row; `Store`: the tables are none of a store, or the database answered an error other
@@ -73,7 +72,7 @@ fn last_step<S: Alter>(alloc: Global, conn: &mut Connection<S>) -> Result<u32, M
         → IfErr result (LeavesWithFault (state S.Store conn.old).now (state S.Store conn.new).now) }
     ensures crash { Survives (state S.Store conn.old) (state S.Store conn.new) (MayLeaveUpgraded (state S.Store conn.old).now) }
 {
-    step(alloc, conn, 2)?;
+    step(alloc, conn, VERSION_WITH_AMOUNTS)?;
     Ok(NEWEST_VERSION)
 }
 
@@ -91,9 +90,8 @@ fn two_steps<S: Alter>(alloc: Global, conn: &mut Connection<S>) -> Result<u32, M
         → IfErr result (LeavesWithFault (state S.Store conn.old).now (state S.Store conn.new).now) }
     ensures crash { Survives (state S.Store conn.old) (state S.Store conn.new) (MayLeaveUpgraded (state S.Store conn.old).now) }
 {
-    content_keeps_rules();
-    step(alloc, conn, 1)?;
-    step(alloc, conn, 2)?;
+    step(alloc, conn, FIRST_VERSION)?;
+    step(alloc, conn, VERSION_WITH_AMOUNTS)?;
     Ok(NEWEST_VERSION)
 }
 
@@ -114,7 +112,7 @@ fn steps_from<S: Alter>(
         → IfErr result (LeavesWithFault (state S.Store conn.old).now (state S.Store conn.new).now) }
     ensures crash { Survives (state S.Store conn.old) (state S.Store conn.new) (MayLeaveUpgraded (state S.Store conn.old).now) }
 {
-    if version < 2 {
+    if version < VERSION_WITH_AMOUNTS {
         return two_steps(alloc, conn);
     }
     last_step(alloc, conn)

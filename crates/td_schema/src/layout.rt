@@ -1,7 +1,16 @@
 //! The layouts of a store's file: which tables stand in it, in which order they were made.
 
+/// The first version of the tables.
+pub const FIRST_VERSION: u32 = 1;
+
+/// The version from which on the row of a guarantee keeps the amount in use on it.
+pub const VERSION_WITH_AMOUNTS: u32 = 2;
+
+/// The version from which on a movement may have more than nine lines.
+pub const VERSION_WITH_MORE_LINES: u32 = 3;
+
 /// The newest version of the tables.
-pub const NEWEST_VERSION: u32 = 3;
+pub const NEWEST_VERSION: u32 = VERSION_WITH_MORE_LINES;
 
 /// The layout of a file that is made at the newest version.
 pub const NEWEST_LAYOUT: Layout = Layout::Made3;

@@ -13,5 +13,8 @@ pub use columns::{
     number_of, office_at, office_or_null, optional_day_at, optional_office_at, serial_at,
     serial_key, state_at,
 };
-pub use layout::{Layout, NEWEST_LAYOUT, NEWEST_VERSION};
+pub use layout::{
+    FIRST_VERSION, Layout, NEWEST_LAYOUT, NEWEST_VERSION, VERSION_WITH_AMOUNTS,
+    VERSION_WITH_MORE_LINES,
+};
 pub use making::{make_guarantees2, make_lines3, make_tables};

@@ -15,7 +15,6 @@ use crate::settling::see_settled;
 use sqlite::{Connection, Error};
 use sqlite_trees::store::Alter;
 use std::alloc::Global;
-use td_store_audit_rows::content_keeps_rules;
 
 // What the rows are refused for as those of that version; `Store` where the tables are none of a layout of it. An error is the
 // database's own, or want of memory.
@@ -65,7 +64,6 @@ pub fn audit<S: Alter>(
     ensures crash { Survives (state S.Store conn.old) (state S.Store conn.new) (λ _. ⊥) }
     ensures settled { CrashLeavesShown (state S.Store conn.new) }
 {
-    content_keeps_rules();
     let fault = match fault_at(alloc, conn, version) {
         Ok(fault) => fault,
         Err(error) => Some(open_fault_of(&error)),

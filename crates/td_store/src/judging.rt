@@ -17,7 +17,7 @@ use std::alloc::Global;
 use td_base::Country;
 use td_schema::{Layout, NEWEST_VERSION};
 use td_store_audit::{database_keeps, first_broken};
-use td_store_audit_rows::{Readable, kept_rules_mean_content, readable_tables};
+use td_store_audit_rows::{Readable, readable_tables};
 use td_table_model::Rule;
 use typed_sql::see_open;
 
@@ -71,7 +71,6 @@ pub(crate) fn fault_of_rows<S: Alter>(
         → (state S.Store conn.new).now ≡ (state S.Store conn.old).now }
     ensures crash { Survives (state S.Store conn.old) (state S.Store conn.new) (λ _. ⊥) }
 {
-    kept_rules_mean_content();
     let readable = readable_tables(conn, version_in(layout))?;
     let broken = broken_rule(alloc, conn, layout, readable)?;
     Ok(damage(broken))

@@ -11,11 +11,8 @@ use crate::settling::see_settled;
 use sqlite::{Connection, Error};
 use sqlite_trees::store::Alter;
 use td_base::Country;
-use td_schema::NEWEST_VERSION;
+use td_schema::{FIRST_VERSION, NEWEST_VERSION};
 use td_store_rows::{StoredMeta, find_meta};
-
-/// The first version of the tables.
-const FIRST_VERSION: u32 = 1;
 
 /// The office's own row, or none: its table has to be the first, whatever others there are. It is read in a transaction. An error is
 /// the database's own, or want of memory.

@@ -20,7 +20,6 @@ use sqlite::Connection;
 use sqlite_trees::store::Alter;
 use std::alloc::Global;
 use td_base::Country;
-use td_store_audit_rows::content_keeps_rules;
 
 impl<S: Alter> SqlDesk<S> {
     /// Opens the desk of an office of that country over a database that one was made in before. The first of these that holds is
@@ -70,7 +69,6 @@ impl<S: Alter> SqlDesk<S> {
             (λ refused. CrashLeavesShown (state S.Store refused.connection)) }
         ensures leaves { IfOk result (λ desk. HasCleanDisk (state S.Store desk) → IsSettled (sql_view S.Store) desk) }
     {
-        content_keeps_rules();
         match refusal(alloc, &mut conn, country) {
             None => {
                 see_settled(&conn);

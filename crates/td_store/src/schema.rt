@@ -13,7 +13,9 @@ use sqlite::{Connection, Error, MemStore};
 use sqlite_schema::schema::Schema;
 use sqlite_trees::store::Alter;
 use std::alloc::Global;
-use td_schema::{Layout, make_tables};
+use td_schema::{
+    FIRST_VERSION, Layout, VERSION_WITH_AMOUNTS, VERSION_WITH_MORE_LINES, make_tables,
+};
 
 /// Whether the database has no table `meta`.
 pub(crate) fn lacks_meta<S: Alter>(conn: &Connection<S>) -> bool
@@ -45,9 +47,9 @@ pub(crate) fn version_in(layout: Layout) -> u32
     ensures { result ≡ version_of layout }
 {
     match layout {
-        Layout::Made1 => 1,
-        Layout::Made2 | Layout::Grown2 => 2,
-        Layout::Made3 | Layout::Grown3From2 | Layout::Grown3From1 => 3,
+        Layout::Made1 => FIRST_VERSION,
+        Layout::Made2 | Layout::Grown2 => VERSION_WITH_AMOUNTS,
+        Layout::Made3 | Layout::Grown3From2 | Layout::Grown3From1 => VERSION_WITH_MORE_LINES,
     }
 }
 

@@ -15,7 +15,7 @@ use crate::totals::total_on;
 use sqlite::{Error, Transaction};
 use sqlite_trees::store::Alter;
 use std::alloc::Global;
-use td_store_audit_rows::found_holders_tell;
+use td_schema::VERSION_WITH_AMOUNTS;
 use td_store_rows::{KeptGuarantee, kept_of};
 
 /// Whether the tables keep S7 as they stand in a file of that version, at an office of whatever country: a file of
@@ -35,8 +35,7 @@ pub(crate) fn amounts_keep_rule<S: Alter>(
         (state S.Store tx.old.conn.now) keeps) }
     ensures reads { ReadsVersion version (is_ok result) (state S.Store tx.old.conn.now) (state S.Store tx.new.conn.now) }
 {
-    found_holders_tell();
-    if version < 2 {
+    if version < VERSION_WITH_AMOUNTS {
         return Ok(true);
     }
     all_holders_kept(alloc, tx, handed)

@@ -16,7 +16,7 @@ use crate::finding::codes_of_holder;
 use sqlite::{Error, Transaction};
 use sqlite_trees::store::Alter;
 use std::alloc::Global;
-use td_store_audit_rows::{RawHolder, holder_fields_tell, kept_rules_are_read};
+use td_store_audit_rows::RawHolder;
 
 // Whether a holder's count of guarantees can be read, and the holder's codes are in their places by it.
 fn has_codes<S: Alter>(
@@ -80,8 +80,6 @@ pub fn codes_keep_rule<S: Alter>(
         → KeepsCommit (state S.Store tx.old.conn.now) (state S.Store tx.new.conn.now) }
     ensures survives { Survives (state S.Store tx.old.conn.now) (state S.Store tx.new.conn.now) (λ _. ⊥) }
 {
-    holder_fields_tell();
-    kept_rules_are_read();
     if !are_read {
         return Ok(false);
     }

@@ -15,7 +15,6 @@ use crate::totals::total_on;
 use sqlite::{Error, Transaction};
 use sqlite_trees::store::Alter;
 use std::alloc::Global;
-use td_store_audit_rows::found_holders_tell;
 use td_store_rows::{StoredGuarantee, guarantees_of};
 
 /// Whether the tables keep S8 as they stand in a file of that version, at an office of whatever country. It is given what
@@ -35,7 +34,6 @@ pub(crate) fn cover_keeps_rule<S: Alter>(
         (state S.Store tx.old.conn.now) keeps) }
     ensures reads { ReadsVersion version (is_ok result) (state S.Store tx.old.conn.now) (state S.Store tx.new.conn.now) }
 {
-    found_holders_tell();
     all_holders_covered(alloc, tx, version, handed)
 }
 

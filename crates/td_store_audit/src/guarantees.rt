@@ -16,9 +16,7 @@ use sqlite::{Error, Transaction};
 use sqlite_trees::store::Alter;
 use std::alloc::Global;
 use td_base::Country;
-use td_store_audit_rows::{
-    RawHolder, found_holders_tell, guarantees_are_in_place, kept_rules_are_read,
-};
+use td_store_audit_rows::{RawHolder, guarantees_are_in_place};
 use td_store_rows::guarantees_of;
 
 /// Whether the tables keep S3 as they stand in a file of that version, at an office of that country. It is given all
@@ -45,8 +43,6 @@ pub fn guarantees_keep_rule<S: Alter>(
         → KeepsCommit (state S.Store tx.old.conn.now) (state S.Store tx.new.conn.now) }
     ensures survives { Survives (state S.Store tx.old.conn.now) (state S.Store tx.new.conn.now) (λ _. ⊥) }
 {
-    found_holders_tell();
-    kept_rules_are_read();
     if !are_read {
         return Ok(false);
     }

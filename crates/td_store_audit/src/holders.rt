@@ -4,13 +4,12 @@ ghost use Rattle.std.specs.List.{list_all};
 ghost use Rattle.std.specs.Option.{is_some};
 ghost use Rattle.td_store_audit.specs.Auditable.{TellsS2};
 
-use td_store_audit_rows::{RawHolder, found_holders_tell};
+use td_store_audit_rows::RawHolder;
 
 /// Whether the table of holders keeps S2. It is given all holders, as `td_store_audit_rows::all_holders` reads them.
 pub fn holders_keep_rule(holders: &[RawHolder]) -> bool
     ensures { TellsS2 holders.now result }
 {
-    found_holders_tell();
     have_identities(holders)
 }
 

@@ -21,7 +21,7 @@ use crate::tallies::{CountingSerials, HolderLines};
 use sqlite::{Error, Transaction};
 use sqlite_trees::store::Alter;
 use std::alloc::Global;
-use td_store_audit_rows::{RawHolder, holder_fields_tell, kept_rules_are_read};
+use td_store_audit_rows::RawHolder;
 use td_store_rows::StoredLine;
 
 // A holder's lines, where both counts of the holder can be read and the lines are in their places by them, if no two lines of one
@@ -104,8 +104,6 @@ pub(crate) fn lines_keep_rule<S: Alter>(
         → IfOk result (λ found. IfSome found (λ each. AreAllLines (IsOfVersion version) (state S.Store tx.old.conn.now) each.items)) }
     ensures reads { ReadsVersion version (is_ok result) (state S.Store tx.old.conn.now) (state S.Store tx.new.conn.now) }
 {
-    holder_fields_tell();
-    kept_rules_are_read();
     if !are_read {
         return Ok(None);
     }

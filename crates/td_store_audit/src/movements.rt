@@ -21,9 +21,7 @@ use sqlite_trees::store::Alter;
 use std::alloc::{AllocError, Global};
 use td_base::Country;
 use td_movement::counts;
-use td_store_audit_rows::{
-    RawHolder, found_holders_tell, kept_rules_are_read, movements_are_in_place,
-};
+use td_store_audit_rows::{RawHolder, movements_are_in_place};
 use td_store_rows::{MovementSerial, StoredMovement, movements_of};
 
 /// Whether the tables keep S5 as they stand in the file, at an office of that country: where they do, it hands on which movements
@@ -47,8 +45,6 @@ pub(crate) fn movements_keep_rule<S: Alter>(
         → IfOk result (λ found. IfSome found (λ each. AreAllCounting (state S.Store tx.old.conn.now) each.items)) }
     ensures reads { ReadsStore (is_ok result) (state S.Store tx.old.conn.now) (state S.Store tx.new.conn.now) }
 {
-    found_holders_tell();
-    kept_rules_are_read();
     if !are_read {
         return Ok(None);
     }

@@ -2,6 +2,8 @@
 ghost use Rattle.std.specs.Prelude.{◌≡◌};
 ghost use Rattle.td_store_audit.specs.LineTexts.{lines_of_holder_text};
 
+use td_schema::VERSION_WITH_MORE_LINES;
+
 /// The codes, by the serials of their guarantees.
 pub const CODES_OF_HOLDER: &str =
     "SELECT holder, serial, code FROM codes WHERE holder = ?1 ORDER BY holder, serial, code";
@@ -21,7 +23,7 @@ pub const OFFICE: &str = "SELECT version, country FROM meta";
 pub fn lines_of_holder_at(version: u32) -> &'static str
     ensures { result.now ≡ lines_of_holder_text version }
 {
-    if version < 3 {
+    if version < VERSION_WITH_MORE_LINES {
         return LINES1_OF_HOLDER;
     }
     LINES3_OF_HOLDER

@@ -1,4 +1,4 @@
-mod Raw
+pub mod Raw
 mod Meanings
 mod Shown
 mod Rising
@@ -7,9 +7,9 @@ mod Fields
 mod ReadRows
 mod Telling
 mod Chained
-mod Identities
-mod ReadByRules
-mod FoundHolders
+pub mod Identities
+pub mod ReadByRules
+pub mod FoundHolders
 mod Placed
 mod Named
 mod EitherForm

@@ -15,8 +15,5 @@ pub use holders::{RawHolder, all_holders};
 pub use in_place::{
     codes_belong, guarantees_are_in_place, lines_are_in_place, lines_belong, movements_are_in_place,
 };
-pub use laws::{
-    content_keeps_rules, found_holders_tell, holder_fields_tell, kept_rules_are_read,
-    kept_rules_mean_content,
-};
+pub use laws::{content_keeps_rules, kept_rules_mean_content};
 pub use tables::{Readable, readable_tables};

@@ -2,6 +2,8 @@
 ghost use Rattle.std.specs.Prelude.{◌≡◌};
 ghost use Rattle.td_store_audit_rows.specs.Versions.{guarantees_text, lines_text};
 
+use td_schema::{VERSION_WITH_AMOUNTS, VERSION_WITH_MORE_LINES};
+
 /// The rowids of the office's table and of the holders', rising.
 pub const META_IDS: &str = "SELECT rowid FROM meta ORDER BY rowid";
 
@@ -34,7 +36,7 @@ pub const LINES3: &str =
 pub fn guarantees_at(version: u32) -> &'static str
     ensures { result.now ≡ guarantees_text version }
 {
-    if version < 2 {
+    if version < VERSION_WITH_AMOUNTS {
         return GUARANTEES1;
     }
     GUARANTEES2
@@ -44,7 +46,7 @@ pub fn guarantees_at(version: u32) -> &'static str
 pub fn lines_at(version: u32) -> &'static str
     ensures { result.now ≡ lines_text version }
 {
-    if version < 3 {
+    if version < VERSION_WITH_MORE_LINES {
         return LINES1;
     }
     LINES3

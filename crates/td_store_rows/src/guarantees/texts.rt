@@ -2,6 +2,8 @@
 ghost use Rattle.std.specs.Prelude.{◌≡◌};
 ghost use Rattle.td_store_rows.specs.GuaranteeTexts.{of_holder_text};
 
+use td_schema::VERSION_WITH_AMOUNTS;
+
 /// A new row. The sixth column is NULL where there is no end day; the last is the amount in use.
 pub const INSERT: &str = "INSERT INTO guarantees2 VALUES (?1, ?2, ?3, ?4, ?5, ?6, ?7)";
 
@@ -56,7 +58,7 @@ pub const EMPTY_FIRST: &str = "DELETE FROM guarantees1";
 pub fn of_holder(version: u32) -> &'static str
     ensures { result.now ≡ of_holder_text version }
 {
-    if version < 2 {
+    if version < VERSION_WITH_AMOUNTS {
         return OF_HOLDER1;
     }
     OF_HOLDER2

@@ -2,10 +2,11 @@
 use crate::helpers::devices::{Drip, Moments, Narrow};
 use sqlite::{FileFrom, Unknown};
 use td_cli::{
-    FixedClock, acknowledged_connections_are_kept_in_the_file,
-    acknowledged_replies_are_kept_in_the_file, agreeing_jobs_over_files_tell_the_same,
+    FixedClock, a_batch_cut_short_is_sent_again, acknowledged_connections_are_kept_in_the_file,
+    acknowledged_replies_are_kept_in_the_file, acknowledged_rows_are_kept_in_the_file,
+    agreeing_batches_over_files_tell_the_same, agreeing_jobs_over_files_tell_the_same,
     agreeing_jobs_tell_the_same, agreeing_servings_over_files_tell_the_same,
-    agreeing_servings_tell_the_same, runs_over_one_file_are_one_run,
+    agreeing_servings_tell_the_same, runs_over_one_file_are_one_run, runs_over_one_file_lead_on,
 };
 use td_desk::PlainDesk;
 use td_http::{
@@ -45,4 +46,12 @@ fn laws_hold_at_concrete_types() {
     acknowledged_replies_are_kept::<&[u8], Vec<u8>, FixedClock, PlainDesk>();
     acknowledged_replies_are_kept_in_the_file::<&[u8], Vec<u8>, FileFrom<Unknown>>();
     acknowledged_connections_are_kept_in_the_file::<Vec<u8>, FileFrom<Unknown>>();
+}
+
+#[test]
+fn laws_of_batches_hold_at_concrete_types() {
+    agreeing_batches_over_files_tell_the_same::<FileFrom<Unknown>, FileFrom<Unknown>>();
+    acknowledged_rows_are_kept_in_the_file::<FileFrom<Unknown>>();
+    a_batch_cut_short_is_sent_again::<FileFrom<Unknown>, FileFrom<Unknown>>();
+    runs_over_one_file_lead_on::<FileFrom<Unknown>>();
 }

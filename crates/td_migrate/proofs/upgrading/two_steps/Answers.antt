@@ -4,6 +4,7 @@ use Rattle.sqlite.specs.State.{HasCleanDisk, State, Survives}
 use Rattle.sqlite.proofs.StateLemmas.{survives_then, survives_weaker}
 use Rattle.td_table_model.specs.Tables.{first_version, version_with_amounts}
 use Rattle.td_store.specs.Opened.{IsEarlier}
+use Rattle.td_store_audit_rows.proofs.Raw.{content_keeps}
 use Rattle.td_migrate.specs.Upgraded.{MayLeaveStep, MayLeaveUpgraded, WasGrown}
 use Rattle.td_migrate.proofs.Reached.{step_leaves}
 use Rattle.td_migrate.proofs.Stepping.{first_was, says_second, second_fault, second_leaves, second_left, upgraded_from_first}
@@ -39,7 +40,7 @@ returns-in_err-step-2-clause-told g c clean =
     let b : State = state g.S.Store c.step.new.conn in
     let d : State = state g.S.Store c.step-2.new.conn in
     let clean_b : HasCleanDisk b = omega (arith, clean, c.step-2.ensures.crash.clean) in
-    let told = second_fault o.now b.now (first_was o.now b.now (c.in_ok-step.ensures.told clean_b)) c.content_keeps_rules.ensures d
+    let told = second_fault o.now b.now (first_was o.now b.now (c.in_ok-step.ensures.told clean_b)) content_keeps d
     c.in_err-step-2.field-0.0 (c.in_err-step-2.ensures.told clean) in
     search (rules, told)
 
@@ -67,6 +68,6 @@ returns-in_err-step-2-clause-left g c clean is_open =
     let b : State = state g.S.Store c.step.new.conn in
     let d : State = state g.S.Store c.step-2.new.conn in
     let clean_b : HasCleanDisk b = omega (arith, clean, c.step-2.ensures.crash.clean) in
-    let told = second_left o.now b.now (c.in_ok-step.ensures.told clean_b) c.content_keeps_rules.ensures d c.in_err-step-2.field-0.0
+    let told = second_left o.now b.now (c.in_ok-step.ensures.told clean_b) content_keeps d c.in_err-step-2.field-0.0
     (c.in_err-step-2.ensures.told clean) (c.in_err-step-2.ensures.err clean is_open) in
     search (rules, told)

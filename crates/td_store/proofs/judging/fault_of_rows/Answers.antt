@@ -3,6 +3,7 @@ use Rattle.sqlite.specs.Effect.{Database}
 use Rattle.sqlite.specs.Held.{state}
 use Rattle.sqlite.specs.State.{HasCleanDisk, State}
 use Rattle.std.specs.Prelude.{IfSome, Option}
+use Rattle.td_store_audit_rows.proofs.Raw.{rules_mean_content}
 use Rattle.td_store.specs.declared.refused.OpenFault.{OpenFault}
 use Rattle.td_store.specs.Opened.{IsDamage, TellsRows, TellsRules}
 use Rattle.td_store.proofs.Judged.{damage_is, rows_told}
@@ -23,7 +24,7 @@ returns-clause-told g c clean =
     let told : TellsRules layout c.in_ok-readable.readable a.now.trees c.in_ok-broken.broken =
     subst (λ (d : Database). TellsRules layout c.in_ok-readable.readable d.trees c.in_ok-broken.broken) (c.in_ok-readable.ensures.still clean_b).0.now_is (c.in_ok-broken.ensures.told clean) in
     let both = told ids (c.in_ok-readable.ensures.told clean_b layout (sym c.version_in.ensures) at) in
-    subst (TellsRows layout a.now.trees) (sym c.damage.ensures) (rows_told layout a.now.trees c.kept_rules_mean_content.ensures both.0 c.in_ok-broken.broken both.1)
+    subst (TellsRows layout a.now.trees) (sym c.damage.ensures) (rows_told layout a.now.trees rules_mean_content both.0 c.in_ok-broken.broken both.1)
 
 pub returns-clause-kinds : goal.returns-clause-kinds
 returns-clause-kinds g c = subst (λ (told : Option OpenFault). IfSome told IsDamage) (sym c.damage.ensures) (damage_is c.in_ok-broken.broken)

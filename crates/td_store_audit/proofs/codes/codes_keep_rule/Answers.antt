@@ -10,6 +10,8 @@ use Rattle.typed_sql.specs.Typed.{AreTyped, IsTypedRow}
 use Rattle.td_store_rows.specs.Columns.{code_typing}
 use Rattle.td_store_audit_rows.specs.Fields.{AreCodeFields}
 use Rattle.td_store_audit_rows.specs.Scans.{IsReadRow}
+use Rattle.td_store_audit_rows.proofs.Identities.{fields_tell}
+use Rattle.td_store_audit_rows.proofs.ReadByRules as read
 use Rattle.td_store_audit.specs.Premises.{HasCodesInPlace}
 use Rattle.td_store_audit.proofs.Told.{codes_read, codes_rule}
 use Rattle.td_store_audit.proofs.Reading.{inside_ok, still_ok}
@@ -20,7 +22,7 @@ pub returns-then-not-are_read-clause-told : goal.returns-then-not-are_read-claus
 returns-then-not-are_read-clause-told g c = λ clean layout auditable tells. (
   λ t. absurd (false≢true t),
   λ keeps. absurd (false≢true (sym c.if-not-are_read.true ∙ tells.1
-      (codes_read c.holder_fields_tell.ensures.fields layout (state g.S.Store c.args.tx.now.conn.now) c.args.holders.now c.kept_rules_are_read.ensures.codes auditable keeps))),
+      (codes_read fields_tell layout (state g.S.Store c.args.tx.now.conn.now) c.args.holders.now read.codes_read auditable keeps))),
 )
 
 pub returns-clause-told : goal.returns-clause-told
@@ -36,7 +38,7 @@ returns-clause-told g c clean =
     } in
     let said : IsTrue keeps ↔ AllByRecursion (HasCodesInPlace a.now.trees) c.args.holders.now =
     told layout tt has typed in
-    let rule = codes_rule c.holder_fields_tell.ensures.fields layout a c.args.holders.now auditable read in
+    let rule = codes_rule fields_tell layout a c.args.holders.now auditable read in
     (λ t. rule.0 (said.0 t), λ k. said.1 (rule.1 k)))
     (c.all_have_codes.ensures.told clean) (c.all_have_codes.ensures.told clean)
 

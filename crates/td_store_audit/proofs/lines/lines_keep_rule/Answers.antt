@@ -10,6 +10,8 @@ use Rattle.typed_sql.specs.Typed.{AreTyped, IsTypedRow}
 use Rattle.td_store_rows.specs.Columns.{line_typing}
 use Rattle.td_store_audit_rows.specs.Fields.{AreLineFields}
 use Rattle.td_store_audit_rows.specs.Scans.{IsReadRow}
+use Rattle.td_store_audit_rows.proofs.Identities.{fields_tell}
+use Rattle.td_store_audit_rows.proofs.ReadByRules as read
 use Rattle.td_store_audit.specs.Tallies.{raw_of}
 use Rattle.td_store_audit.specs.Premises.{HasLinesInPlace}
 use Rattle.td_store_audit.proofs.Told.{lines_read, lines_rule}
@@ -20,7 +22,7 @@ pub returns-then-not-are_read-clause-told : goal.returns-then-not-are_read-claus
 returns-then-not-are_read-clause-told g c = λ clean layout own auditable tells. (
   λ t. absurd (false≢true t),
   λ keeps. absurd (false≢true (sym c.if-not-are_read.true ∙ tells.1
-      (lines_read c.holder_fields_tell.ensures.fields layout (state g.S.Store c.args.tx.now.conn.now) (map raw_of c.args.counting.items) c.kept_rules_are_read.ensures.lines auditable keeps))),
+      (lines_read fields_tell layout (state g.S.Store c.args.tx.now.conn.now) (map raw_of c.args.counting.items) read.lines_read auditable keeps))),
 )
 
 pub returns-clause-told : goal.returns-clause-told
@@ -36,6 +38,6 @@ returns-clause-told g c clean =
     } in
     let said : IsTrue (is_some found) ↔ AllByRecursion (HasLinesInPlace layout a.now.trees) (map raw_of c.args.counting.items) =
     told layout own has typed (auditable.apart typed.cells) in
-    let rule = lines_rule c.holder_fields_tell.ensures.fields layout a (map raw_of c.args.counting.items) auditable typed.cells in
+    let rule = lines_rule fields_tell layout a (map raw_of c.args.counting.items) auditable typed.cells in
     (λ t. rule.0 (said.0 t), λ k. said.1 (rule.1 k)))
     (c.all_kept_lines.ensures.told clean) (c.all_kept_lines.ensures.told clean)

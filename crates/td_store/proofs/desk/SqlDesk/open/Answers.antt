@@ -1,6 +1,7 @@
 use Rattle.std.proofs.Common.{refl}
 use Rattle.std.specs.Prelude.{IsTrue}
 use Rattle.sqlite.specs.Held.{state}
+use Rattle.td_store_audit_rows.proofs.Raw.{content_keeps}
 use Rattle.td_store.specs.Kept.{content_in}
 use Rattle.td_store.proofs.Leaving.{leaves_shown}
 use Rattle.td_store.proofs.Refusing.{another_there, broken_there, desk_there, earlier_there, sound_there, unknown_there}
@@ -59,5 +60,5 @@ returns-in-Some-clause-broken g c = λ clean rule is.
 
 pub returns-in-Some-clause-sound : goal.returns-in-Some-clause-sound
 returns-in-Some-clause-sound g c = λ clean is content holds at.
-    sound_there c.args.country (state g.S.Store c.args.conn) is content holds at c.content_keeps_rules.ensures
+    sound_there c.args.country (state g.S.Store c.args.conn) is content holds at content_keeps
     c.in-Some.fault (c.in-Some.ensures.told clean)
