@@ -60,10 +60,10 @@ module _ {R : Type 0} (f : HolderRows → List (Keyed R)) (owned : (h : HolderRo
       (λ x is. all_weaker (λ y. holder_key h + 1 ≤ owner y) (IsBefore x) (λ y above. inl (omega (arith, is, above))) (flat_map f hs)
       (all_from (holder_key h + 1) hs rises.1)) (f h) (owned h))
 
-movements_in_order : (c : Content) → IsSound c → IsAscending IsBefore (movement_rows c)
+pub movements_in_order : (c : Content) → IsSound c → IsAscending IsBefore (movement_rows c)
 movements_in_order c sound = all_in_order movements_in owned_movements (λ h. movements_rise h.row.holder 0 h.movements) 0 c.holders sound.order
 
-kept_in_order : (c : Content) → IsSound c → IsAscending IsBefore (kept_rows c)
+pub kept_in_order : (c : Content) → IsSound c → IsAscending IsBefore (kept_rows c)
 kept_in_order c sound =
     all_in_order kept_in owned_kept (λ h. rises-map (with_use h.movements) place 0 (guarantees_in h) (guarantees_rise h.row.holder 0 h.guarantees)) 0
     c.holders sound.order
@@ -150,14 +150,14 @@ module _ (t : Tables) (c : Content) (sound : IsSound c) (are : AreTablesOf t c) 
       (λ p is. ap (λ g. keyed h.row.holder (p.0, (g, used_on p.1.grn h.movements))) is) (numbered 0 h.guarantees)
       (each_same (λ p. with_codes t (guarantee_row h.row.holder p)) element (numbered 0 h.guarantees) back))
 
-  all_movements_at : map movement_of_row (movement_rows c) ≡ movements_placed c
+  pub all_movements_at : map movement_of_row (movement_rows c) ≡ movements_placed c
   all_movements_at =
       map-flat_map movement_of_row movements_in c.holders
       ∙ flat_same (λ h. map movement_of_row (movements_in h)) movements_at c.holders
       (all_both (AreHolderRows c.country) (HasParts c.country t) (λ h. map movement_of_row (movements_in h) ≡ movements_at h) own_movements c.holders
       sound.holders (have_parts t c sound are))
 
-  all_entries_at : map entry_of_row (kept_rows c) ≡ guarantees_placed c
+  pub all_entries_at : map entry_of_row (kept_rows c) ≡ guarantees_placed c
   all_entries_at =
       map-flat_map entry_of_row kept_in c.holders
       ∙ flat_same (λ h. map entry_of_row (kept_in h)) guarantees_at c.holders

@@ -13,14 +13,14 @@ use Rattle.td_guarantee.specs.Codes.{AreAscending, with_code}
 use Rattle.td_guarantee.specs.declared.guarantee.Guarantee.{Guarantee}
 use Rattle.td_movement.specs.declared.line.Line.{Line}
 use Rattle.td_movement.specs.declared.movement.Movement.{Movement}
-use Rattle.td_model.specs.Account.{Account, guarantee_by_grn, movement_by_lrn, movement_by_mrn}
+use Rattle.td_model.specs.Account.{guarantee_by_grn, movement_by_lrn, movement_by_mrn}
 use Rattle.td_desk.specs.Content.{Content, account_in}
 use Rattle.td_table_model.specs.Tables.{Keyed, Kept, Tables, guarantee_no, without_amount}
-use Rattle.td_table_model.specs.Gathering.{codes_by, line_from, lines_by, movements_by, with_codes, with_lines}
+use Rattle.td_table_model.specs.Gathering.{codes_by, line_from, lines_by, with_codes, with_lines}
 use Rattle.td_table_model.specs.Looking.{movement_no}
 use Rattle.td_table_model.specs.Rules.{KeepRules}
 use Rattle.td_table_model.proofs.KeepingRules.{keep_rules}
-use Rattle.td_table_model.proofs.Looked.{account_is, are_found}
+use Rattle.td_table_model.proofs.Looked.{are_found}
 use Rattle.td_table_model.proofs.Told.{references_tell}
 use Rattle.td_store_rows.specs.StoreReads.{OnlyReadNewest}
 use Rattle.td_store_rows.specs.CodeTable.{AreByCode, code_row_of as row_of_code}
@@ -33,7 +33,7 @@ use Rattle.td_store_rows.proofs.Turned.{plain_rows}
 use Rattle.td_store_rows.specs.declared.guarantees.stored.StoredGuarantee.{StoredGuarantee}
 use Rattle.td_store_rows.specs.LineTable.{AreByNumber, line_row_of as row_of_line}
 use Rattle.td_store_rows.specs.declared.lines.stored.StoredLine.{StoredLine}
-use Rattle.td_store_rows.specs.MovementTable.{AreBySerial, IsTheMovement, has_lrn, has_mrn, is_of, movement_row_of as row_of_movement}
+use Rattle.td_store_rows.specs.MovementTable.{IsTheMovement, has_lrn, has_mrn, movement_row_of as row_of_movement}
 use Rattle.td_store_rows.specs.declared.movements.stored.StoredMovement.{StoredMovement}
 use Rattle.td_store_rows.specs.StoreTables.{HoldsContent, tables_in}
 use Rattle.td_store_load.specs.Loaded.{IsOfTables, code_of}
@@ -89,17 +89,6 @@ whole_movement a b stored rows lines order still each content holds =
     ap (λ (l : List Line). record stored.movement { lines = l })
     (said_before (λ t. map (λ r. line_from t (row_of_line r)) rows) a b lines still each content holds
     ∙ sym (map-map (line_from t) row_of_line rows) ∙ ap (map (line_from t)) found)
-
--- all movements of a holder
-pub all_movements : (a b : State) (H : ℕ) (rows : List StoredMovement) (movements : List Movement) → AreBySerial (is_of H) a rows → OnlyReadNewest a b
-    → IsOfTables (λ t. map (λ r. with_lines t (row_of_movement r)) rows) b movements → (content : Content) → HoldsContent content a → movements ≡ (account_in H content).movements
-all_movements a b H rows movements order still each content holds =
-    let t : Tables = tables_in holds.trees.layout a.now.trees in
-    let keep : KeepRules t = keep_rules t content holds.trees.sound holds.trees.tables in
-    let found : map row_of_movement rows ≡ movements_by H t = order holds.trees.layout holds.schema holds.trees.typed.movements (keep.stored.movements H) in
-    said_before (λ t. map (λ r. with_lines t (row_of_movement r)) rows) a b movements still each content holds
-    ∙ sym (map-map (with_lines t) row_of_movement rows) ∙ ap (map (with_lines t)) found
-    ∙ ap (λ (account : Account). account.movements) (sym (account_is t content holds.trees.sound holds.trees.tables H))
 
 listed : {X Y : Type 0} (f : X → Y) (o : Option X) → map f (option_to_list o) ≡ option_to_list (option_map f o)
 listed f None = refl

@@ -6,3 +6,4 @@ mod Owner
 pub mod Places
 mod Behind
 pub mod Listing
+mod Onward

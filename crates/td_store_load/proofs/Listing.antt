@@ -25,10 +25,10 @@ module _ {X Y : Type 0} (of : HolderRows → List X) (made : HolderRows → X �
   abbrev one_at : HolderRows → ℕ × X → Keyed Y
   one_at h p = keyed h.row.holder (p.0, made h p.1)
 
-  abbrev at : HolderRows → List (Keyed Y)
+  abbrev pub at : HolderRows → List (Keyed Y)
   at h = map (one_at h) (numbered 0 (of h))
 
-  owned_at : (h : HolderRows) → AllByRecursion (λ x. owner x ≡ holder_key h) (at h)
+  pub owned_at : (h : HolderRows) → AllByRecursion (λ x. owner x ≡ holder_key h) (at h)
   owned_at h =
       all-map (λ x. owner x ≡ holder_key h) (one_at h) (numbered 0 (of h)) (all_of (λ p. holder_key h ≡ holder_key h) (λ p. refl) (numbered 0 (of h)))
 
@@ -66,13 +66,13 @@ module _ {X Y : Type 0} (of : HolderRows → List X) (made : HolderRows → X �
       filter_all (is_behind 0 0) (flat_map at hs)
       (all-flat_map (λ x. is_behind 0 0 x ≡ true) at hs (all_of (λ h. AllByRecursion (λ x. is_behind 0 0 x ≡ true) (at h)) own_behind hs))
 
-abbrev own_movements : HolderRows → List Movement
+abbrev pub own_movements : HolderRows → List Movement
 own_movements h = h.movements
 
-abbrev own_guarantees : HolderRows → List Guarantee
+abbrev pub own_guarantees : HolderRows → List Guarantee
 own_guarantees h = h.guarantees
 
-abbrev with_its_use : HolderRows → Guarantee → Guarantee × ℕ
+abbrev pub with_its_use : HolderRows → Guarantee → Guarantee × ℕ
 with_its_use h g = (g, used_on g.grn h.movements)
 
 module _ (c : Content) where

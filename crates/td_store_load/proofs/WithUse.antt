@@ -1,39 +1,27 @@
 -- A guarantee with the amount in use on it, as the tables say it.
-use Rattle.std.proofs.Common.{◌≡◌, ◌∙◌, ◌≤◌, ℕ, Bool, true, false, cond, List, [], ◌∷◌, length, map, Option, Some, None, refl, sym, ap, subst, arith, IsPermutation}
-use Rattle.std.specs.Prelude.{◌==◌, filter, filter_map, if◌then◌else◌, nat_lt, option_map}
+use Rattle.std.proofs.Common.{◌≡◌, ◌∙◌, ℕ, Bool, true, false, cond, List, [], ◌∷◌, map, Option, Some, None, refl, sym, ap, subst, arith, IsPermutation}
+use Rattle.std.specs.Prelude.{◌==◌, filter, filter_map, option_map}
 use Rattle.std.specs.List.{AllByRecursion, cons_option}
 use Rattle.std.proofs.lemmas.Bool.Decides.{nat_tests}
-use Rattle.std.proofs.lemmas.List.{length-map}
-use Rattle.sqlite_trees.proofs.ListLemmas.{all-filter, all-permutation, all_both, map-map}
+use Rattle.sqlite_trees.proofs.ListLemmas.{all-filter, all-permutation}
 use Rattle.sqlite.specs.State.{State}
-use Rattle.keyed_rows.specs.Rows.{put_row}
 use Rattle.td_guarantee.specs.declared.guarantee.Guarantee.{Guarantee}
 use Rattle.td_guarantee.specs.Usage.{used_on}
 use Rattle.td_movement.specs.declared.line.Line.{Line}
 use Rattle.td_model.specs.Account.{Account, entry_in, guarantee_by_grn}
 use Rattle.td_desk.specs.Content.{Content, account_in}
-use Rattle.td_table_model.specs.Tables.{Keyed, Kept, Tables, guarantee_no, without_amount}
-use Rattle.td_table_model.specs.Gathering.{IsApart, in_order, of_key, owner, part, place, with_codes}
+use Rattle.td_table_model.specs.Tables.{Tables, guarantee_no, without_amount}
+use Rattle.td_table_model.specs.Gathering.{with_codes}
 use Rattle.td_table_model.specs.Laws.{IsAmountOf}
-use Rattle.td_table_model.specs.Rules.{KeepRules}
-use Rattle.td_table_model.proofs.Grouped.{of_key_has}
-use Rattle.td_table_model.proofs.KeepingRules.{keep_rules}
 use Rattle.td_table_model.proofs.KeptAmounts.{amounts_are_use}
-use Rattle.td_table_model.proofs.Looked.{account_is}
-use Rattle.td_table_model.proofs.Numbered.{map_same}
-use Rattle.td_table_model.proofs.Rebuilt.{all_in_order}
 use Rattle.typed_sql.proofs.Ordered.{both_pass}
-use Rattle.td_store_rows.specs.StoreReads.{KeepsUse, OnlyReadNewest}
-use Rattle.td_store_rows.specs.GuaranteeTable.{is_of}
-use Rattle.td_store_rows.specs.KeptTable.{AreKeptBySerial, IsTheKept, has_kept_grn, kept_row_of}
+use Rattle.td_store_rows.specs.StoreReads.{KeepsUse}
+use Rattle.td_store_rows.specs.KeptTable.{IsTheKept, has_kept_grn, kept_row_of}
 use Rattle.td_store_rows.specs.declared.guarantees.stored.KeptGuarantee.{KeptGuarantee}
 use Rattle.td_store_rows.specs.StoreTables.{HoldsContent, tables_in}
 use Rattle.td_store_rows.proofs.StoreReads.{newest_keeps}
-use Rattle.td_store_rows.proofs.Turned.{plain_rows}
-use Rattle.td_store_load.specs.Loaded.{IsOfTables}
 use Rattle.td_store_load.specs.Needed.{entry_from, with_use}
-use Rattle.td_store_load.proofs.Found.{by_grn, filtered}
-use Rattle.td_store_load.proofs.Reading.{said_before}
+use Rattle.td_store_load.proofs.Found.{by_grn}
 
 -- the guarantees of entries are those that the lines name
 pub entries_of_lines : (account : Account) (lines : List (Line × List ℕ))
@@ -55,23 +43,6 @@ all_pass {X} p (x ∷ xs) = by_test (p x) refl (all_pass p xs)
     by_test : (b : Bool) → p x ≡ b → AllByRecursion (λ x. p x ≡ true) (filter p xs) → AllByRecursion (λ x. p x ≡ true) (cond b (x ∷ filter p xs) (filter p xs))
     by_test true is later = (is, later)
     by_test false is later = later
-
--- rows that keep amounts stand in the order of the guarantees
-put_kept : (k : Keyed Kept) (ks : List (Keyed Kept)) → put_row place (without_amount k) (map without_amount ks) ≡ map without_amount (put_row place k ks)
-put_kept k [] = refl
-put_kept k (x ∷ ks) = by_tests (nat_lt (place x) (place k)) (place x == place k) (put_kept k ks)
-  where
-    by_tests : (before same : Bool) → put_row place (without_amount k) (map without_amount ks) ≡ map without_amount (put_row place k ks)
-        → (if before then without_amount x ∷ put_row place (without_amount k) (map without_amount ks)
-        else (if same then without_amount k ∷ map without_amount ks else without_amount k ∷ without_amount x ∷ map without_amount ks))
-        ≡ map without_amount (if before then x ∷ put_row place k ks else (if same then k ∷ ks else k ∷ x ∷ ks))
-    by_tests true same later = ap (λ l. without_amount x ∷ l) later
-    by_tests false true later = refl
-    by_tests false false later = refl
-
-order_kept : (ks : List (Keyed Kept)) → in_order place (map without_amount ks) ≡ map without_amount (in_order place ks)
-order_kept [] = refl
-order_kept (k ∷ ks) = ap (put_row place (without_amount k)) (order_kept ks) ∙ put_kept k (in_order place ks)
 
 module _ (a : State) (H : ℕ) (content : Content) (holds : HoldsContent content a) where
   abbrev t : Tables
@@ -102,46 +73,3 @@ module _ (a : State) (H : ℕ) (content : Content) (holds : HoldsContent content
       let used : k.used ≡ used_on k.guarantee.grn account.movements = subst (λ n. k.used ≡ used_on k.guarantee.grn (account_in n content).movements) own amount in
       ap (λ n. Some (with_codes t (without_amount (kept_row_of k)), n)) used
       ∙ ap (option_map (with_use account)) (sym (by_grn a H content holds country grn at (Some k) found))
-
-  -- the holder's rows, in order
-  abbrev rows_in_order : List (Keyed Kept)
-  rows_in_order = in_order place (part H t.kept)
-
-  part_plain : part H t.guarantees ≡ map without_amount (part H t.kept)
-  part_plain = ap (part H) (plain_rows holds.trees.layout a.now.trees) ∙ filtered (λ g. owner g == H) t.kept
-
-  guarantees_are : account.guarantees ≡ map (with_codes t) (map without_amount rows_in_order)
-  guarantees_are =
-      ap (λ (k : Account). k.guarantees) (account_is t content holds.trees.sound holds.trees.tables H)
-      ∙ ap (λ rows. map (with_codes t) (in_order place rows)) part_plain ∙ ap (map (with_codes t)) (order_kept (part H t.kept))
-
-  apart : IsApart place (part H t.kept)
-  apart n =
-      let keep : KeepRules t = keep_rules t content holds.trees.sound holds.trees.tables in
-      let one : length (of_key place n (part H t.guarantees)) ≤ 1 = keep.stored.guarantees H n in
-      let same : of_key place n (part H t.guarantees) ≡ map without_amount (of_key place n (part H t.kept)) =
-      ap (of_key place n) part_plain ∙ filtered (λ g. place g == n) (part H t.kept) in
-      let many : length (of_key place n (part H t.guarantees)) ≡ length (of_key place n (part H t.kept)) = ap length same ∙ length-map (of_key place n (part H t.kept)) without_amount in
-      omega (arith, one, many)
-
-  abbrev IsUsed : Keyed Kept → Type 0
-  IsUsed k = entry_from t k ≡ with_use account (with_codes t (without_amount k))
-
-  rows_used : AllByRecursion IsUsed rows_in_order
-  rows_used =
-      all_both (λ k. owner k ≡ H) (IsAmountOf content) IsUsed
-      (λ k own is. ap (λ n. (with_codes t (without_amount k), n)) (subst (λ n. k.row.used ≡ used_on k.row.guarantee.grn (account_in n content).movements) own is)) rows_in_order
-      (all_in_order place (λ k. owner k ≡ H) (part H t.kept) (of_key_has owner H t.kept))
-      (all_in_order place (IsAmountOf content) (part H t.kept) (all-filter (IsAmountOf content) (λ k. owner k == H) t.kept uses))
-
-  -- all guarantees of the holder, and the amounts in use on them
-  pub all_entries : (b : State) (rows : List KeptGuarantee) (entries : List (Guarantee × ℕ)) → AreKeptBySerial (is_of H) a rows → OnlyReadNewest a b
-      → IsOfTables (λ t. map (λ r. entry_from t (kept_row_of r)) rows) b entries → entries ≡ map (with_use account) account.guarantees
-  all_entries b rows entries order still each =
-      let found : map kept_row_of rows ≡ rows_in_order = order holds.trees.layout keeps holds.schema (holds.trees.typed.kept keeps) apart in
-      said_before (λ t. map (λ r. entry_from t (kept_row_of r)) rows) a b entries still each content holds
-      ∙ sym (map-map (entry_from t) kept_row_of rows) ∙ ap (map (entry_from t)) found
-      ∙ map_same (entry_from t) (λ k. with_use account (with_codes t (without_amount k))) rows_in_order rows_used
-      ∙ sym (map-map (λ g. with_use account (with_codes t g)) without_amount rows_in_order)
-      ∙ sym (map-map (with_use account) (with_codes t) (map without_amount rows_in_order))
-      ∙ ap (map (with_use account)) (sym guarantees_are)

@@ -1,8 +1,8 @@
 -- What is read out of the tables of a store's file.
-use Rattle.std.specs.Prelude.{◌≡◌, ℕ, List}
+use Rattle.std.specs.Prelude.{◌≡◌, ℕ, List, Option, slice_get}
 use Rattle.sqlite.specs.State.{State}
 use Rattle.td_desk.specs.Content.{Content}
-use Rattle.td_table_model.specs.Tables.{Tables}
+use Rattle.td_table_model.specs.Tables.{Tables, numbered}
 use Rattle.td_store_rows.specs.declared.codes.stored.StoredCode.{StoredCode}
 use Rattle.td_store_rows.specs.StoreTables.{HoldsContent, tables_in}
 
@@ -17,3 +17,7 @@ IsOfTables f s x = (c : Content) (holds : HoldsContent c s) → x ≡ f (tables_
 -- where the store holds a content of that country, this is what f says of the content
 abbrev pub IsOfContent : {X : Type 0} → List ℕ → (Content → X) → State → X → Type 0
 IsOfContent country f s x = (c : Content) → HoldsContent c s → c.country ≡ country → x ≡ f c
+
+-- where the store holds a content, this stands behind the first n of what f says of the content, with its number; none: nothing does
+abbrev pub IsNextOf : {X : Type 0} → (Content → List X) → ℕ → State → Option (ℕ × X) → Type 0
+IsNextOf f n s found = (c : Content) → HoldsContent c s → found ≡ slice_get (numbered 0 (f c)) n

@@ -1,6 +1,7 @@
-//! Guarantees with their codes and the amounts in use on them. `DatabaseCorrupt`: a row is no such row, or there are
-//! several where there can be one; `OutOfMemory`: want of memory; any other error is the database's own.
-ghost use Rattle.std.specs.Prelude.{◌≡◌, filter_map, map, IfOk, is_ok};
+//! Guarantees with their codes and the amounts in use on them. `DatabaseCorrupt`: a row is no such row, there are several
+//! where there can be one, or one doesn't stand where it was asked for; `OutOfMemory`: want of memory; any other error is the
+//! database's own.
+ghost use Rattle.std.specs.Prelude.{◌≡◌, ◌<◌, filter_map, map, IfOk, IfSome, is_ok};
 ghost use Rattle.sqlite.specs.Held.{state};
 ghost use Rattle.sqlite.specs.State.{HasCleanDisk};
 ghost use Rattle.td_guarantee.specs.Codes.{AreAscending};
@@ -10,17 +11,17 @@ ghost use Rattle.typed_sql.specs.Reading.{IsInside};
 ghost use Rattle.td_store_rows.specs.StoreReads.{ReadsNewest};
 ghost use Rattle.td_store_rows.specs.KeptTable.{kept_row_of};
 ghost use Rattle.td_store_rows.specs.StoreTables.{HoldsContent};
-ghost use Rattle.td_store_load.specs.Loaded.{IsOfContent, IsOfTables, code_of};
+ghost use Rattle.td_store_load.specs.Loaded.{IsNextOf, IsOfContent, IsOfTables, code_of};
 ghost use Rattle.td_store_load.specs.Needed.{entry_from, with_use};
 
-use sqlite::{Error, Transaction};
+use sqlite::{Error, ErrorCode, Transaction};
 use sqlite_trees::store::Alter;
 use std::alloc::{AllocError, Global};
 use td_acts::Lines;
 use td_base::{Cents, Country, Grn, HolderNo};
 use td_guarantee::{Codes, Guarantee};
 use td_movement::Line;
-use td_store_rows::{KeptGuarantee, StoredCode, codes_of, find_kept, kept_of};
+use td_store_rows::{KeptGuarantee, StoredCode, codes_of, find_kept, next_kept_of};
 
 // The codes in rows, which are given in ascending order. `AllocError`: want of memory.
 fn gather_codes(alloc: Global, rows: &[StoredCode]) -> Result<Codes, AllocError>
@@ -122,28 +123,34 @@ pub fn load_declared_on<S: Alter>(
     Ok(found)
 }
 
-// The guarantees in rows with their codes, and the amounts in use that the rows keep, in their order.
-fn entries_in_rows<S: Alter>(
+// The holder's guarantee next behind a serial, if there is one, with its codes, the amount in use on it and its own serial. The
+// serial rises whatever the disk returns.
+fn entry_behind<S: Alter>(
     alloc: Global,
     tx: &mut Transaction<'_, S>,
-    rows: &[KeptGuarantee],
-) -> Result<Vec<(Guarantee, Cents)>, Error>
+    holder: HolderNo,
+    serial: u32,
+) -> Result<Option<(u32, (Guarantee, Cents))>, Error>
     requires { IsInside (state S.Store tx.old.conn.now) }
     ensures same_reference { tx.new.conn.ghost_name ≡ tx.old.conn.ghost_name }
-    ensures entries { HasCleanDisk (state S.Store tx.new.conn.now)
-        → IfOk result (λ entries. IsOfTables (λ t. map (λ r. entry_from t (kept_row_of r)) rows.now)
-        (state S.Store tx.old.conn.now) entries.items) }
+    ensures found { HasCleanDisk (state S.Store tx.new.conn.now)
+        → IfOk result (IsNextOf (λ c. map (with_use (account_in holder c)) (account_in holder c).guarantees) serial
+        (state S.Store tx.old.conn.now)) }
+    ensures rises { IfOk result (λ found. IfSome found (λ next. serial < next.0)) }
     ensures reads { ReadsNewest (is_ok result) (state S.Store tx.old.conn.now) (state S.Store tx.new.conn.now) }
 {
-    let mut entries = Vec::with_capacity(alloc, rows.len())?;
-    'rows: for row in rows {
-        let entry = entry_in_row(alloc, tx, row)?;
-        entries.push(entry)?;
+    let Some(row) = next_kept_of(alloc, tx, holder.number(), serial)? else {
+        return Ok(None);
+    };
+    if row.holder != holder || row.serial <= serial {
+        return Err(Error::SqliteFailure(ErrorCode::DatabaseCorrupt));
     }
-    Ok(entries)
+    let entry = entry_in_row(alloc, tx, &row)?;
+    Ok(Some((row.serial, entry)))
 }
 
-/// All guarantees of a holder by their serials, and the amounts in use on them.
+/// All guarantees of a holder by their serials, and the amounts in use on them. They are read one at a time, by their
+/// keys.
 pub fn load_all_entries<S: Alter>(
     alloc: Global,
     tx: &mut Transaction<'_, S>,
@@ -156,6 +163,11 @@ pub fn load_all_entries<S: Alter>(
         → found.items ≡ map (with_use (account_in holder c)) (account_in holder c).guarantees) }
     ensures reads { ReadsNewest (is_ok result) (state S.Store tx.old.conn.now) (state S.Store tx.new.conn.now) }
 {
-    let rows = kept_of(alloc, tx, holder)?;
-    entries_in_rows(alloc, tx, &rows)
+    let mut entries = Vec::new(alloc);
+    let mut serial = 0;
+    'rows: while let Some((next, entry)) = entry_behind(alloc, tx, holder, serial)? {
+        entries.push(entry)?;
+        serial = next;
+    }
+    Ok(entries)
 }

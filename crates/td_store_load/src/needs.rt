@@ -1,5 +1,6 @@
 //! What each shape of needs asks for. `DatabaseCorrupt`: a row is no such row, there are several where there can be
-//! one, or the guarantee of a line isn't there; `OutOfMemory`: want of memory; any other error is the database's own.
+//! one, one doesn't stand where it was asked for, or the guarantee of a line isn't there; `OutOfMemory`: want of memory; any
+//! other error is the database's own.
 ghost use Rattle.std.specs.Prelude.{◌≡◌, [], Some, option_to_list, IfOk, is_ok};
 ghost use Rattle.sqlite.specs.Held.{state};
 ghost use Rattle.sqlite.specs.State.{HasCleanDisk};

@@ -1,30 +1,41 @@
-use Rattle.std.proofs.Common.{List, arith, map, subst, refl}
+use Rattle.std.proofs.Common.{◌∙◌, arith, map, refl}
 use Rattle.sqlite.specs.Held.{state}
-use Rattle.sqlite.specs.State.{State, HasCleanDisk}
-use Rattle.td_store_rows.proofs.StoreReads.{newest_keeps, reads_less, reads_on}
-use Rattle.td_store_rows.specs.KeptTable.{kept_row_of}
-use Rattle.td_store_rows.specs.declared.guarantees.stored.KeptGuarantee.{KeptGuarantee}
-use Rattle.typed_sql.proofs.Leaving.{if_both}
-use Rattle.td_store_load.specs.Loaded.{IsOfTables}
-use Rattle.td_store_load.specs.Needed.{entry_from}
-use Rattle.td_store_load.proofs.WithUse.{all_entries}
+use Rattle.sqlite.specs.State.{HasCleanDisk, State}
+use Rattle.td_desk.specs.Content.{account_in}
+use Rattle.td_store_rows.proofs.StoreReads.{reads_on}
+use Rattle.td_store_load.specs.Needed.{with_use}
+use Rattle.td_store_load.proofs.Onward.{begins_all, begins_more}
 use Rattle.td_store_load.proofs.entries.load_all_entries.Goals as goal
 
-pub returns-clause-found : goal.returns-clause-found
-returns-clause-found g c clean =
-    if_both c.entries_in_rows.result
-    (λ found each same content holds. all_entries a c.args.holder content holds b c.in_ok-rows.rows.items found.items (c.in_ok-rows.ensures.order clean_b) ((reads_less newest_keeps c.in_ok-rows.ensures.reads).still clean_b refl)
-    (subst (λ (rows : List KeptGuarantee). IsOfTables (λ t. map (λ r. entry_from t (kept_row_of r)) rows) b found.items) c.deref.ensures.value each))
-    (c.entries_in_rows.ensures.entries clean) (c.entries_in_rows.ensures.entries clean)
+pub rows-preserved : goal.rows-preserved
+rows-preserved g c = (
+  c.entry_behind.ensures.same_reference ∙ c.rows.invariant.0,
+  reads_on c.rows.invariant.1 c.in_ok-next.ensures.reads,
+  λ clean content holds.
+      c.in_ok-push.ensures.items
+      ∙ begins_more (λ k. map (with_use (account_in c.args.holder k)) (account_in c.args.holder k).guarantees) c.rows.serial a b (c.rows.invariant.1.still (clean_b clean) refl) c.rows.entries.items (c.rows.invariant.2 (clean_b clean)) c.in_ok-next.field-0 c.in-Some.next c.in-Some.entry c.in-Some.is
+      (c.in_ok-next.ensures.found clean) content holds,
+)
   where
     a : State
     a = state g.S.Store c.args.tx.now.conn.now
 
     b : State
-    b = state g.S.Store c.kept_of.new.tx.conn.now
+    b = state g.S.Store c.rows.tx.conn.now
+
+    clean_b : HasCleanDisk (state g.S.Store c.entry_behind.new.tx.conn.now) → HasCleanDisk b
+    clean_b clean = omega (arith, clean, c.entry_behind.ensures.reads.within.survives.clean)
+
+pub returns-clause-found : goal.returns-clause-found
+returns-clause-found g c clean =
+    begins_all (λ k. map (with_use (account_in c.args.holder k)) (account_in c.args.holder k).guarantees) c.rows.serial a b (c.rows.invariant.1.still clean_b refl) c.rows.entries.items (c.rows.invariant.2 clean_b) c.in_ok-next.field-0 c.in_default.is
+    (c.in_ok-next.ensures.found clean)
+  where
+    a : State
+    a = state g.S.Store c.args.tx.now.conn.now
+
+    b : State
+    b = state g.S.Store c.rows.tx.conn.now
 
     clean_b : HasCleanDisk b
-    clean_b = omega (arith, clean, c.entries_in_rows.ensures.reads.within.survives.clean)
-
-pub returns-clause-reads : goal.returns-clause-reads
-returns-clause-reads g c = reads_on (reads_less newest_keeps c.in_ok-rows.ensures.reads) c.entries_in_rows.ensures.reads
+    clean_b = omega (arith, clean, c.entry_behind.ensures.reads.within.survives.clean)
