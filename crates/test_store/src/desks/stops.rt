@@ -10,10 +10,8 @@ use super::migrations::{ROWS, SECOND_ROWS, rows_of, second_rows_of};
 use super::opening::{opened as desk_over, seen};
 use super::walks::{guarantees_told, movements_told};
 use crate::examples::{GRN, MRN, country, day, fill, grn, make, mrn, office};
-use files::{
-    Calls, Contents, Crashed, File, FileConnection, FusedFiles, Left, blank, closed, opened,
-};
-use sqlite::{Alter, FileStore};
+use files::{Calls, Contents, Crashed, File, FusedFiles, Left, blank, closed, opened};
+use sqlite::{Alter, Connection};
 use std::process::Abort;
 use td_batch::{DeclarationRow, read_declarations, run_declarations};
 use td_desk::{Command, Fault, Outcome, Said, Stamped, do_one};
@@ -21,8 +19,6 @@ use td_migrate::{MigrateFault, upgrade};
 use td_movement::{Control, Ground};
 use td_schema::Layout;
 use td_store::{OpenFault, Refused, SqlDesk};
-
-type FileDesk = SqlDesk<FileStore<files::Fused>>;
 
 /// What is done to the files until they stop.
 #[derive(Clone, Copy, Debug)]
@@ -124,64 +120,42 @@ fn told<S: Alter>(rt: &(impl AllocGlobal + Abort), desk: &mut SqlDesk<S>) -> Str
 }
 
 // Why there is no desk, and of a file of an earlier version all its rows.
-fn told_of_refused<S: Alter + Drop>(
+fn told_of_refused<S: Alter>(
     rt: &(impl AllocGlobal + Abort),
-    mut refused: Refused<S>,
+    fault: OpenFault,
+    conn: &mut Connection<S>,
 ) -> String {
-    let fault = refused.fault;
     let mut words = format!(in rt.alloc(); "{fault}").expect(rt, "memory");
     let rows = match fault {
-        OpenFault::NeedsMigration(1) => rows_of(rt, &mut refused.connection),
-        OpenFault::NeedsMigration(2) => second_rows_of(rt, &mut refused.connection),
+        OpenFault::NeedsMigration(1) => rows_of(rt, conn),
+        OpenFault::NeedsMigration(2) => second_rows_of(rt, conn),
         _ => return words,
     };
     words.push_str(&rows).expect(rt, "memory");
     words
 }
 
-// What is found where the files are opened that hold this: they can be opened.
-fn found(rt: &(impl AllocGlobal + Abort), contents: &Contents) -> String {
-    let conn = opened(rt, contents, Calls::ALL);
-    let conn = conn.ok().expect(rt, "a database");
+// What a desk over a connection tells, or why there is none, and the connection after it.
+fn looked_over<S: Alter>(
+    rt: &(impl AllocGlobal + Abort),
+    conn: Connection<S>,
+) -> (String, Connection<S>) {
     assert!(rt; conn.is_autocommit());
     match SqlDesk::open(rt.alloc(), conn, country(rt)) {
-        Ok(mut desk) => told(rt, &mut desk),
-        Err(refused) => told_of_refused(rt, refused),
-    }
-}
-
-// What the files hold once the connection is closed.
-fn contents_of(rt: &(impl AllocGlobal + Abort), conn: FileConnection) -> Contents {
-    let (files, is_whole) = closed(conn);
-    assert!(rt; is_whole);
-    Crashed::new(rt, files).contents(rt, Left::All, Left::All)
-}
-
-fn blank_connection(rt: &(impl AllocGlobal + Abort)) -> FileConnection {
-    let conn = opened(rt, &blank(rt), Calls::ALL);
-    conn.ok().expect(rt, "a database")
-}
-
-fn made_over(
-    rt: &(impl AllocGlobal + Abort),
-    conn: FileConnection,
-) -> Result<FileDesk, FileConnection> {
-    assert!(rt; conn.is_autocommit());
-    match SqlDesk::create(conn, country(rt)) {
-        Ok(desk) => Ok(desk),
-        Err(refused) => {
-            assert!(rt; refused.fault == OpenFault::Store);
-            Err(refused.connection)
+        Ok(mut desk) => (told(rt, &mut desk), desk.close()),
+        Err(mut refused) => {
+            let words = told_of_refused(rt, refused.fault, &mut refused.connection);
+            (words, refused.connection)
         }
     }
 }
 
-fn opened_over(
-    rt: &(impl AllocGlobal + Abort),
-    conn: FileConnection,
-) -> Result<FileDesk, FileConnection> {
-    assert!(rt; conn.is_autocommit());
-    match SqlDesk::open(rt.alloc(), conn, country(rt)) {
+// The desk that was made or opened, or the connection, where the file has stopped.
+fn desk_or_back<S: Alter + Drop>(
+    rt: &impl Abort,
+    found: Result<SqlDesk<S>, Refused<S>>,
+) -> Result<SqlDesk<S>, Connection<S>> {
+    match found {
         Ok(desk) => Ok(desk),
         Err(refused) => {
             assert!(rt; refused.fault == OpenFault::Store);
@@ -191,31 +165,154 @@ fn opened_over(
 }
 
 // Whether the file was brought to the newest version; else it has stopped.
-fn is_upgraded(rt: &(impl AllocGlobal + Abort), conn: &mut FileConnection) -> bool {
+fn is_upgraded<S: Alter>(rt: &(impl AllocGlobal + Abort), conn: &mut Connection<S>) -> bool {
     assert!(rt; conn.is_autocommit());
     let upgraded = upgrade(rt.alloc(), conn);
     assert!(rt; upgraded == Ok(3) || upgraded == Err(MigrateFault::Store));
     upgraded.is_ok()
 }
 
-// What the files hold before the job.
-fn start(rt: &(impl AllocGlobal + Abort), job: Job) -> Contents {
+// The parts of a job that were answered, and the connection after them.
+fn job_over<S: Alter + Drop>(
+    rt: &(impl AllocGlobal + Abort),
+    job: Job,
+    mut conn: Connection<S>,
+) -> (usize, Connection<S>) {
+    assert!(rt; conn.is_autocommit());
     match job {
-        Job::Making => blank(rt),
-        Job::Carrying => {
-            let desk = made_over(rt, blank_connection(rt));
-            contents_of(rt, desk.ok().expect(rt, "a desk").close())
+        Job::Making => match desk_or_back(rt, SqlDesk::create(conn, country(rt))) {
+            Ok(desk) => (1, desk.close()),
+            Err(conn) => (0, conn),
+        },
+        Job::Carrying => match desk_or_back(rt, SqlDesk::open(rt.alloc(), conn, country(rt))) {
+            Ok(mut desk) => (carried(rt, &mut desk), desk.close()),
+            Err(conn) => (0, conn),
+        },
+        Job::Upgrading => {
+            let answered = if is_upgraded(rt, &mut conn) { 2 } else { 0 };
+            (answered, conn)
         }
-        Job::Upgrading => holding(rt, Layout::Made1, &ROWS),
     }
+}
+
+/// What is done over files: it is told what is found there, the tables of a layout are made and get these rows, or a job is
+/// done.
+#[derive(Clone, Copy)]
+enum Work<'a> {
+    Looking,
+    Filling(Layout, &'a [&'a str]),
+    Doing(Job),
+}
+
+// What came of it: the parts that were answered, what was told, and the connection after it.
+struct Over<S: Alter> {
+    answered: usize,
+    told: String,
+    conn: Connection<S>,
+}
+
+// It is written over any store, since each call over the files themselves would be proved anew at their type, which takes
+// half a minute.
+fn done_over<S: Alter + Drop>(
+    rt: &(impl AllocGlobal + Abort),
+    work: Work<'_>,
+    mut conn: Connection<S>,
+) -> Over<S> {
+    let none = String::new(rt.alloc());
+    let (answered, told, conn) = match work {
+        Work::Looking => {
+            let (told, conn) = looked_over(rt, conn);
+            (1, told, conn)
+        }
+        Work::Filling(layout, rows) => {
+            make(rt, &mut conn, layout);
+            fill(rt, &mut conn, rows);
+            (1, none, conn)
+        }
+        Work::Doing(job) => {
+            let (answered, conn) = job_over(rt, job, conn);
+            (answered, none, conn)
+        }
+    };
+    Over {
+        answered,
+        told,
+        conn,
+    }
+}
+
+// How many parts were answered until the files stopped, what was told, the files, and whether none stopped.
+struct Ended {
+    answered: usize,
+    told: String,
+    files: FusedFiles,
+    is_whole: bool,
+}
+
+fn done(rt: &(impl AllocGlobal + Abort), work: Work<'_>, before: &Contents, calls: Calls) -> Ended {
+    match opened(rt, before, calls) {
+        Ok(conn) => {
+            let Over {
+                answered,
+                told,
+                conn,
+            } = done_over(rt, work, conn);
+            let (files, is_whole) = closed(conn);
+            Ended {
+                answered,
+                told,
+                files,
+                is_whole,
+            }
+        }
+        Err(files) => Ended {
+            answered: 0,
+            told: String::new(rt.alloc()),
+            files,
+            is_whole: false,
+        },
+    }
+}
+
+// The same where no file stops.
+fn done_whole(
+    rt: &(impl AllocGlobal + Abort),
+    work: Work<'_>,
+    before: &Contents,
+) -> (String, FusedFiles) {
+    let Ended {
+        answered,
+        told,
+        files,
+        is_whole,
+    } = done(rt, work, before, Calls::ALL);
+    assert!(rt; is_whole && answered == 1);
+    (told, files)
+}
+
+// What is found where the files are opened that hold this: they can be opened.
+fn found(rt: &(impl AllocGlobal + Abort), contents: &Contents) -> String {
+    done_whole(rt, Work::Looking, contents).0
+}
+
+// What the files hold after it.
+fn contents_after(rt: &(impl AllocGlobal + Abort), work: Work<'_>, before: &Contents) -> Contents {
+    let (_told, files) = done_whole(rt, work, before);
+    Crashed::new(rt, files).contents(rt, Left::All, Left::All)
 }
 
 // What the files hold that have the tables of a layout with these rows.
 fn holding(rt: &(impl AllocGlobal + Abort), layout: Layout, rows: &[&str]) -> Contents {
-    let mut conn = blank_connection(rt);
-    make(rt, &mut conn, layout);
-    fill(rt, &mut conn, rows);
-    contents_of(rt, conn)
+    contents_after(rt, Work::Filling(layout, rows), &blank(rt))
+}
+
+// What the files hold before the job.
+fn start(rt: &(impl AllocGlobal + Abort), job: Job) -> Contents {
+    match job {
+        Job::Making => blank(rt),
+        Job::Carrying => contents_after(rt, Work::Doing(Job::Making), &blank(rt)),
+        Job::Upgrading => holding(rt, Layout::Made1, &ROWS),
+    }
 }
 
 // The desk after each of the list's commands and each of the batch's rows.
@@ -257,54 +354,6 @@ fn told_of_tables(rt: &(impl AllocGlobal + Abort)) -> String {
     told(rt, &mut desk)
 }
 
-// What a job did of its parts until the files stopped, the files, and whether none stopped.
-struct Ended {
-    answered: usize,
-    files: FusedFiles,
-    is_whole: bool,
-}
-
-// The parts that were answered, and the connection after them.
-fn done_over(
-    rt: &(impl AllocGlobal + Abort),
-    job: Job,
-    mut conn: FileConnection,
-) -> (usize, FileConnection) {
-    match job {
-        Job::Making => match made_over(rt, conn) {
-            Ok(desk) => (1, desk.close()),
-            Err(conn) => (0, conn),
-        },
-        Job::Carrying => match opened_over(rt, conn) {
-            Ok(mut desk) => (carried(rt, &mut desk), desk.close()),
-            Err(conn) => (0, conn),
-        },
-        Job::Upgrading => {
-            let answered = if is_upgraded(rt, &mut conn) { 2 } else { 0 };
-            (answered, conn)
-        }
-    }
-}
-
-fn done(rt: &(impl AllocGlobal + Abort), job: Job, start: &Contents, calls: Calls) -> Ended {
-    match opened(rt, start, calls) {
-        Ok(conn) => {
-            let (answered, conn) = done_over(rt, job, conn);
-            let (files, is_whole) = closed(conn);
-            Ended {
-                answered,
-                files,
-                is_whole,
-            }
-        }
-        Err(files) => Ended {
-            answered: 0,
-            files,
-            is_whole: false,
-        },
-    }
-}
-
 /// What a crash leaves of the log and of the database file.
 const LEFT: [(Left, Left); 7] = [
     (Left::Nothing, Left::Nothing),
@@ -343,9 +392,10 @@ fn is_done(
 ) -> bool {
     let Ended {
         answered,
+        told: _,
         files,
         is_whole,
-    } = done(rt, job, start, calls);
+    } = done(rt, Work::Doing(job), start, calls);
     let crashed = Crashed::new(rt, files);
     let ways = if crashed.is_synced() {
         &LEFT[..1]
