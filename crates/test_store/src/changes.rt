@@ -1,15 +1,19 @@
 //! The tables are made, and each kind of change is carried into them, in a store in memory.
 use crate::examples::{
-    GRN, MRN, SECOND_GRN, cents, code, country, day, grn, guarantee, line, movement, mrn, row,
+    GRN, MRN, SECOND_GRN, cents, code, country, day, grn, guarantee, holder, line, movement, mrn,
+    row,
 };
 use sqlite::{Connection, Error, ErrorCode, MemStore};
 use std::alloc::Global;
 use std::process::Abort;
 use td_acts::{Change, HolderRow, NewStatus, NewTerms};
-use td_base::{AccessCode, Country, Day, Grn, Mrn};
+use td_base::{AccessCode, Country, Day, Grn, HolderNo, Mrn};
 use td_guarantee::Guarantee;
 use td_movement::{Line, Movement, State};
-use td_store_rows::{codes_of, find_by_mrn, find_holder, find_kept, find_meta, kept_of, lines_of};
+use td_store_rows::{
+    KeptGuarantee, StoredCode, StoredLine, StoredMovement, codes_of, find_by_mrn, find_holder,
+    find_kept, find_meta, kept_of, lines_of,
+};
 use td_store_write::{carry_change, create_tables};
 
 /// Carries a change where no transaction is begun.
@@ -59,6 +63,46 @@ fn is_released(movement: &Movement, limit: Day) -> bool {
     movement.state == State::Released && movement.limit == Some(limit)
 }
 
+// The holder's first movement, if it has that MRN.
+fn movement_found(
+    rt: &(impl AllocGlobal + Abort),
+    conn: &mut Connection<MemStore>,
+    holder: HolderNo,
+    mrn: &Mrn,
+) -> Option<StoredMovement> {
+    assert!(rt; conn.is_autocommit());
+    let mut tx = conn.transaction();
+    find_by_mrn(rt.alloc(), &mut tx, holder, 1, mrn).expect(rt, "a row")
+}
+
+// Its lines.
+fn lines_found(
+    rt: &(impl AllocGlobal + Abort),
+    conn: &mut Connection<MemStore>,
+    holder: HolderNo,
+) -> Vec<StoredLine> {
+    assert!(rt; conn.is_autocommit());
+    let mut tx = conn.transaction();
+    lines_of(rt.alloc(), &mut tx, holder, 1).expect(rt, "lines")
+}
+
+fn row_found(
+    rt: &(impl AllocGlobal + Abort),
+    conn: &mut Connection<MemStore>,
+    holder: HolderNo,
+) -> Option<HolderRow> {
+    assert!(rt; conn.is_autocommit());
+    let mut tx = conn.transaction();
+    find_holder(rt.alloc(), &mut tx, holder).expect(rt, "a row")
+}
+
+fn is_first_on_first(lines: &[StoredLine]) -> bool {
+    match lines {
+        [line] => line.no == 1 && line.guarantee == 1,
+        _ => false,
+    }
+}
+
 // The movement is released until that day, and has its line, and the holder's row is this one.
 fn assert_moved(
     rt: &(impl AllocGlobal + Abort),
@@ -67,15 +111,10 @@ fn assert_moved(
     mrn: &Mrn,
     limit: Day,
 ) {
-    let alloc = rt.alloc();
-    assert!(rt; conn.is_autocommit());
-    let mut tx = conn.transaction();
-    let found = find_by_mrn(alloc, &mut tx, row.holder, 1, mrn).expect(rt, "a row");
-    assert!(rt; is_released(&found.expect(rt, "the movement").movement, limit));
-    let lines = lines_of(alloc, &mut tx, row.holder, 1).expect(rt, "lines");
-    assert!(rt; lines.len() == 1);
-    assert!(rt; lines[0].no == 1 && lines[0].guarantee == 1);
-    assert!(rt; find_holder(alloc, &mut tx, row.holder) == Ok(Some(*row)));
+    let found = movement_found(rt, conn, row.holder, mrn).expect(rt, "the movement");
+    assert!(rt; is_released(&found.movement, limit));
+    assert!(rt; is_first_on_first(&lines_found(rt, conn, row.holder)));
+    assert!(rt; row_found(rt, conn, row.holder) == Some(*row));
 }
 
 #[test]
@@ -175,6 +214,36 @@ fn is_ended(guarantee: &Guarantee, end: Day) -> bool {
     guarantee.ends == Some(end) && guarantee.reference.get() == 1_000_000
 }
 
+// The holder's first guarantee, if it has that GRN.
+fn guarantee_found(
+    rt: &(impl AllocGlobal + Abort),
+    conn: &mut Connection<MemStore>,
+    holder: HolderNo,
+    grn: &Grn,
+) -> Option<KeptGuarantee> {
+    assert!(rt; conn.is_autocommit());
+    let mut tx = conn.transaction();
+    find_kept(rt.alloc(), &mut tx, holder, 1, grn).expect(rt, "a row")
+}
+
+// Its codes.
+fn codes_found(
+    rt: &(impl AllocGlobal + Abort),
+    conn: &mut Connection<MemStore>,
+    holder: HolderNo,
+) -> Vec<StoredCode> {
+    assert!(rt; conn.is_autocommit());
+    let mut tx = conn.transaction();
+    codes_of(rt.alloc(), &mut tx, holder, 1).expect(rt, "codes")
+}
+
+fn is_code_alone(codes: &[StoredCode], code: AccessCode) -> bool {
+    match codes {
+        [stored] => stored.code == code,
+        _ => false,
+    }
+}
+
 // The guarantee ends on that day, and has this code alone.
 fn assert_set(
     rt: &(impl AllocGlobal + Abort),
@@ -183,15 +252,10 @@ fn assert_set(
     grn: &Grn,
     left: (Day, AccessCode),
 ) {
-    let alloc = rt.alloc();
     let (end, code) = left;
-    assert!(rt; conn.is_autocommit());
-    let mut tx = conn.transaction();
-    let found = find_kept(alloc, &mut tx, row.holder, 1, grn).expect(rt, "a row");
-    assert!(rt; is_ended(&found.expect(rt, "the guarantee").guarantee, end));
-    let codes = codes_of(alloc, &mut tx, row.holder, 1).expect(rt, "codes");
-    assert!(rt; codes.len() == 1);
-    assert!(rt; codes[0].code == code);
+    let found = guarantee_found(rt, conn, row.holder, grn).expect(rt, "the guarantee");
+    assert!(rt; is_ended(&found.guarantee, end));
+    assert!(rt; is_code_alone(&codes_found(rt, conn, row.holder), code));
 }
 
 #[test]
@@ -217,13 +281,9 @@ fn bare(rt: &(impl AllocGlobal + Abort)) -> Change {
 
 // The movement that was lodged first is there, with its line.
 fn assert_lodged(rt: &(impl AllocGlobal + Abort), conn: &mut Connection<MemStore>) {
-    let (alloc, mrn, row) = (rt.alloc(), mrn(rt, MRN), row(rt, 1, 1, 1));
-    assert!(rt; conn.is_autocommit());
-    let mut tx = conn.transaction();
-    let found = find_by_mrn(alloc, &mut tx, row.holder, 1, &mrn).expect(rt, "a row");
-    assert!(rt; found.is_some());
-    let lines = lines_of(alloc, &mut tx, row.holder, 1).expect(rt, "lines");
-    assert!(rt; lines.len() == 1);
+    let (mrn, holder) = (mrn(rt, MRN), holder(rt, 1));
+    assert!(rt; movement_found(rt, conn, holder, &mrn).is_some());
+    assert!(rt; lines_found(rt, conn, holder).len() == 1);
 }
 
 #[test]

@@ -3,37 +3,33 @@ use super::commands::{Dice, drawn};
 use super::made;
 use super::words::{end_name, words_of};
 use crate::examples::country;
-use sqlite::MemStore;
 use std::process::Abort;
 use td_base::Country;
-use td_desk::{Outcome, PlainDesk, Stamped, do_one};
-use td_store::SqlDesk;
+use td_desk::{Desk, PlainDesk, Stamped, do_one};
 
-/// The outcome at the plain desk is this one, in words, after so many commands.
-fn assert_alike(
+// What a command ends in at a desk, in words, and its name.
+fn end_at<D: Desk>(
     rt: &(impl AllocGlobal + Abort),
-    plain: &mut PlainDesk,
+    desk: &mut D,
     stamped: &Stamped,
-    outcome: &Outcome,
-    before: u32,
-) {
-    let stored = words_of(rt.alloc(), outcome).expect(rt, "memory");
-    let plain = do_one(rt.alloc(), plain, stamped);
-    let plain = words_of(rt.alloc(), &plain).expect(rt, "memory");
-    assert_eq!(rt; stored.as_str(), plain.as_str(), "at {before}");
+) -> (String, &'static str) {
+    let outcome = do_one(rt.alloc(), desk, stamped);
+    let words = words_of(rt.alloc(), &outcome).expect(rt, "memory");
+    (words, end_name(&stamped.command, &outcome))
 }
 
 /// A command ends alike at both desks after so many, and its end is called so.
-fn end_at_both(
+fn end_at_both<P: Desk, S: Desk>(
     rt: &(impl AllocGlobal + Abort),
-    plain: &mut PlainDesk,
-    stored: &mut SqlDesk<MemStore>,
+    plain: &mut P,
+    stored: &mut S,
     stamped: &Stamped,
     before: u32,
 ) -> &'static str {
-    let outcome = do_one(rt.alloc(), stored, stamped);
-    assert_alike(rt, plain, stamped, &outcome, before);
-    end_name(&stamped.command, &outcome)
+    let (found, name) = end_at(rt, stored, stamped);
+    let (due, _) = end_at(rt, plain, stamped);
+    assert_eq!(rt; found.as_str(), due.as_str(), "at {before}");
+    name
 }
 
 /// The names of the ends that were met.
@@ -95,10 +91,10 @@ fn next(
 }
 
 /// The names of the ends that 600 commands meet, alike at both desks.
-fn ends_met(
+fn ends_met<P: Desk, S: Desk>(
     rt: &(impl AllocGlobal + Abort),
-    plain: &mut PlainDesk,
-    stored: &mut SqlDesk<MemStore>,
+    plain: &mut P,
+    stored: &mut S,
 ) -> String {
     let mut dice = Dice::new(12);
     let mut met = String::new(rt.alloc());
