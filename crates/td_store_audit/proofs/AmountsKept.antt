@@ -1,13 +1,12 @@
 -- Where the rules before S7 are kept, S7 is kept exactly where the amount in each row is what the lines on its guarantee
 -- add up to, in a file that keeps amounts; in another it is always kept.
-use Rattle.std.proofs.Common.{◌∙◌, ◌<◌, ◌≤◌, ℕ, Bool, List, map, Ok, Err, Result, true, refl, sym, subst, arith}
+use Rattle.std.proofs.Common.{◌≡◌, ◌∙◌, ℕ, Bool, List, [], ◌∷◌, map, nat_lt, true, false, refl, sym, subst, arith}
+use Rattle.std.proofs.lemmas.Bool.Decides.{nat_tests}
 use Rattle.std.proofs.lemmas.List.Sorted.{IsPermutation-sym}
-use Rattle.std.specs.Prelude.{◌↔◌, IfOk}
+use Rattle.std.specs.Prelude.{◌↔◌}
 use Rattle.std.specs.List.{AllByRecursion}
 use Rattle.sqlite_trees.specs.Tree.{Trees}
-use Rattle.sqlite_trees.proofs.ListLemmas.{all-map, all-permutation, all_both, all_from_map, all_of}
-use Rattle.sqlite.specs.State.{State}
-use Rattle.sqlite.specs.declared.error.Error.{Error}
+use Rattle.sqlite_trees.proofs.ListLemmas.{all-permutation, all_both, all_from_map, all_of, all_weaker}
 use Rattle.td_movement.specs.declared.movement.Movement.{Movement}
 use Rattle.td_model.specs.declared.holder_row.HolderRow.{HolderRow}
 use Rattle.td_table_model.specs.declared.rule.Rule.TheVariants.{S3, S7}
@@ -15,18 +14,18 @@ use Rattle.td_table_model.specs.Gathering.{guarantees_by, holder_no, movements_b
 use Rattle.td_table_model.specs.Rules.{HasAmounts, IsInUse}
 use Rattle.td_table_model.specs.Tables.{Tables, version_with_amounts, without_amount}
 use Rattle.td_table_model.proofs.Orders.{in_order_permutes}
+use Rattle.td_schema.specs.Layouts.{version_of}
 use Rattle.td_schema.specs.declared.layout.Layout.{Layout}
-use Rattle.td_store_rows.specs.StoreReads.{IsOfVersion, KeepsUse}
+use Rattle.td_store_rows.specs.StoreReads.{KeepsUse}
 use Rattle.td_store_rows.specs.StoreTables.{tables_in}
 use Rattle.td_store_audit_rows.specs.Found.{FoundHoldersTell}
 use Rattle.td_store_audit_rows.specs.Untyped.{KeepsUntyped}
 use Rattle.td_store_audit_rows.specs.declared.holders.RawHolder.{RawHolder}
 use Rattle.td_store_audit.specs.Auditable.{IsAuditable, KeepsBefore}
-use Rattle.td_store_audit.specs.Tallies.{IsHandedOn, IsUseAuditable, raw_holder_of}
-use Rattle.td_store_audit.specs.InFile.{IsHolderKeptInFile, IsRowKept, TellsWhere}
-use Rattle.td_store_audit.specs.declared.tallies.HolderLines.{HolderLines}
+use Rattle.td_store_audit.specs.InFile.{IsHolderKeptInFile, IsRowKept}
 use Rattle.td_store_audit.proofs.HoldersTold.{holders_tell, of_pairs}
-use Rattle.td_store_audit.proofs.UseKept.{IsKnown, IsUse, all_handed_on, all_known, all_same, guarantees_typed, part_without}
+use Rattle.td_store_audit.proofs.TypedFor.{part_without}
+use Rattle.td_store_audit.proofs.UseKept.{IsKnown, IsUse, all_known, all_same, guarantees_typed}
 
 module _ (law : FoundHoldersTell) (layout : Layout) (trees : Trees) (country : List ℕ) (holders : List RawHolder) (known : IsAuditable layout trees country holders)
     (before : KeepsBefore layout trees S7) (keep : KeepsUse layout) where
@@ -64,7 +63,7 @@ module _ (law : FoundHoldersTell) (layout : Layout) (trees : Trees) (country : L
   abbrev AreSums : ℕ → Type 0
   AreSums H = AllByRecursion (IsRowKept layout trees) (part H t.kept)
 
-  pub kept_each : KeepsUntyped layout trees S7 ↔ AllByRecursion (IsHolderKeptInFile layout trees) holders
+  kept_each : KeepsUntyped layout trees S7 ↔ AllByRecursion (IsHolderKeptInFile layout trees) holders
   kept_each =
       let pairs = of_pairs holder_no (λ (h : RawHolder). h.holder) AreSums t.holders holders (holders_tell law layout trees country holders known).same in
       let all = all_known law layout trees country holders known before in (
@@ -75,24 +74,31 @@ module _ (law : FoundHoldersTell) (layout : Layout) (trees : Trees) (country : L
         ),
       )
 
--- so it is told in a file that keeps amounts
-pub told_amounts : (version : ℕ) (a : State) (handed : List HolderLines) → FoundHoldersTell → version_with_amounts ≤ version → (result : Result Bool Error)
-    → IfOk result (TellsWhere KeepsUse (λ layout trees. AllByRecursion (IsHandedOn layout trees) handed) (λ layout trees. AllByRecursion (λ h. IsHolderKeptInFile layout trees (raw_holder_of h)) handed) a)
-    → IfOk result (λ keeps. (country : List ℕ) → TellsWhere (IsOfVersion version) (IsUseAuditable country handed) (λ layout trees. KeepsUntyped layout trees S7) a keeps)
-told_amounts version a handed law late (Err e) each = each
-told_amounts version a handed law late (Ok told) each = λ country layout own has is.
-    let trees = a.now.trees in
-    let keep : KeepsUse layout = subst (λ v. version_with_amounts ≤ v) (sym own) late in
-    let whole = each layout keep has (all_handed_on layout trees country handed is) in
-    let rule = kept_each law layout trees country (map raw_holder_of handed) is.known is.before keep in (
-      λ t. rule.1 (all-map (IsHolderKeptInFile layout trees) raw_holder_of handed (whole.0 t)),
-      λ keeps. whole.1 (all_from_map (IsHolderKeptInFile layout trees) raw_holder_of handed (rule.0 keeps)),
-    )
+-- so it is whether the file keeps amounts or not
+module _ (law : FoundHoldersTell) (layout : Layout) (trees : Trees) (country : List ℕ) (holders : List RawHolder) (known : IsAuditable layout trees country holders)
+    (before : KeepsBefore layout trees S7) where
+  abbrev KeepsAmounts : RawHolder → Type 0
+  KeepsAmounts raw = KeepsUse layout → IsHolderKeptInFile layout trees raw
 
--- and in one that keeps none
-pub told_none : (version : ℕ) (a : State) (handed : List HolderLines) → version < version_with_amounts
-    → (country : List ℕ) → TellsWhere (IsOfVersion version) (IsUseAuditable country handed) (λ layout trees. KeepsUntyped layout trees S7) a true
-told_none version a handed early country layout own has is =
-    let none : KeepsUse layout → ⊥ = λ keep. omega (arith, keep, early, own) in
-    let t = tables_in layout a.now.trees in
-    (λ kept. (λ keep. absurd (none keep), all_of (HasAmounts t) (λ row keep. absurd (none keep)) t.holders), λ keeps. refl)
+  -- what holds of each on a condition
+  all_where : {A : Type 0} (P : RawHolder → Type 0) (rows : List RawHolder) → (A → AllByRecursion P rows) → AllByRecursion (λ raw. A → P raw) rows
+  all_where P [] all = tt
+  all_where P (raw ∷ rows) all = (λ a. (all a).0, all_where P rows (λ a. (all a).1))
+
+  none_kept : ¬ KeepsUse layout → KeepsUntyped layout trees S7
+  none_kept none = (
+    λ keep. absurd (none keep),
+    all_of (HasAmounts (tables_in layout trees)) (λ row keep. absurd (none keep)) (tables_in layout trees).holders,
+  )
+
+  pub amounts_each : KeepsUntyped layout trees S7 ↔ AllByRecursion KeepsAmounts holders
+  amounts_each = (
+    λ keeps. all_where (IsHolderKeptInFile layout trees) holders (λ keep. (kept_each law layout trees country holders known before keep).0 keeps),
+    λ each. by_test each (nat_lt (version_of layout) version_with_amounts) refl,
+  )
+    where
+      by_test : AllByRecursion KeepsAmounts holders → (b : Bool) → nat_lt (version_of layout) version_with_amounts ≡ b → KeepsUntyped layout trees S7
+      by_test each true early = none_kept (λ keep. absurd (grind (arith, nat_tests, early, keep)))
+      by_test each false late =
+          let keep : KeepsUse layout = grind (arith, nat_tests, late) in
+          (kept_each law layout trees country holders known before keep).1 (all_weaker KeepsAmounts (IsHolderKeptInFile layout trees) (λ raw kept. kept keep) holders each)

@@ -3,7 +3,7 @@ use Rattle.std.proofs.Common.{sum_by, ◌≡◌, ◌∙◌, ◌+◌, ◌<◌, �
 use Rattle.std.specs.Prelude.{◌==◌, ◌&&◌, filter, is_some, if◌then◌else◌}
 use Rattle.std.specs.List.{AllByRecursion}
 use Rattle.std.proofs.lemmas.Bool.Decides.{nat_tests}
-use Rattle.std.proofs.lemmas.List.Sorted.{sum_by-IsPermutation}
+use Rattle.std.proofs.lemmas.List.Sorted.{IsPermutation-refl, sum_by-IsPermutation}
 use Rattle.std.proofs.lemmas.List.Sums.{sum_by-append, sum_by-cons}
 use Rattle.sqlite_trees.proofs.ListLemmas.{IsPermutation-filter}
 use Rattle.keyed_rows.specs.Rows.{Rises, row_at}
@@ -18,7 +18,8 @@ use Rattle.td_store_rows.specs.MovementTable.{counts_for, serial_of_stored}
 use Rattle.td_store_rows.specs.declared.movements.stored.MovementSerial.{MovementSerial}
 use Rattle.td_store_rows.specs.LineTable.{is_line_on, line_row_of}
 use Rattle.td_store_rows.specs.declared.lines.stored.StoredLine.{StoredLine}
-use Rattle.td_store_audit.specs.Totals.{counted, total_on}
+use Rattle.td_store_audit.specs.Totals.{counted, sum_on, total_on}
+use Rattle.td_store_audit.proofs.Totalled.{total_of_rows}
 use Rattle.td_store_audit.proofs.Sums.{sum_by-both, sum_by-nothing, sum_by-passing}
 
 -- Of serials that rise one at most is k.
@@ -50,16 +51,6 @@ module _ (k x : ℕ) where
           let same : serial_of_stored s ≡ k = grind (arith, nat_tests, is) in
           omega (arith, none_above (serial_of_stored s + 1) serials rises.1 (omega (arith, same)))
       by_test false is rest = omega arith ∙ rest
-
--- what passes of what is made of elements is made of those that pass
-filter_map : {X Y : Type 0} (f : X → Y) (p : Y → Bool) (xs : List X) → filter p (map f xs) ≡ map f (filter (λ x. p (f x)) xs)
-filter_map f p [] = refl
-filter_map {X} f p (x ∷ xs) = by_test (p (f x)) (filter_map f p xs)
-  where
-    by_test : (b : Bool) → filter p (map f xs) ≡ map f (filter (λ x. p (f x)) xs)
-        → cond b (f x ∷ filter p (map f xs)) (filter p (map f xs)) ≡ map f (cond b (x ∷ filter (λ x. p (f x)) xs) (filter (λ x. p (f x)) xs))
-    by_test true later = ap (λ l. f x ∷ l) later
-    by_test false later = later
 
 -- what passes passes again
 filter_again : {X : Type 0} (p : X → Bool) (xs : List X) → filter p (filter p xs) ≡ filter p xs
@@ -147,45 +138,40 @@ module _ (H n : ℕ) (t : Tables) where
   module _ (serials : List MovementSerial) (rises : Rises serial_of_stored 0 serials)
       (those : IsPermutation (map place (counting_rows H t)) (map serial_of_stored serials)) where
     -- a line takes up its cents where its serial is one of those that count
-    part_is : (l : StoredLine) → part_of (counting_rows H t) (line_row_of l) ≡ counted serials l
+    part_is : (l : Keyed LineCells) → part_of (counting_rows H t) l ≡ counted serials l
     part_is l =
-        let take : ℕ → ℕ = λ k. if k == l.serial then l.cents else 0 in
+        let take : ℕ → ℕ = λ k. if k == l.serial then l.row.cents else 0 in
         sym (sum_by-map take place (counting_rows H t)) ∙ sym (sum_by-IsPermutation take _ _ those)
-        ∙ sum_by-map take serial_of_stored serials ∙ once l.serial l.cents 0 serials rises
+        ∙ sum_by-map take serial_of_stored serials ∙ once l.serial l.row.cents 0 serials rises
 
-    in_use_is : (lines : List StoredLine) → IsPermutation (filter is_on t.lines) (map line_row_of lines)
+    in_use_is : (lines : List (Keyed LineCells)) → IsPermutation (filter is_on t.lines) lines
         → sum_by (counted serials) lines ≡ sum_by cents_of (lines_in_use H n t)
     in_use_is lines found =
         sym (λ i. sum_by (λ l. part_is l i) lines)
-        ∙ sym (sum_by-map (part_of (counting_rows H t)) line_row_of lines)
         ∙ sum_by-IsPermutation (part_of (counting_rows H t)) _ _ found
         ∙ sum_by-passing (part_of (counting_rows H t)) is_on t.lines
         ∙ sym (by_all (counting_rows H t) (all_own t.movements))
-
-    abbrev is_here : StoredLine → Bool
-    is_here l = l.guarantee == n
 
     abbrev names_it : Keyed LineCells → Bool
     names_it l = l.row.guarantee == n
 
     -- of lines on any guarantee those on this one
-    of_any : (rows : List (Keyed LineCells)) (lines : List StoredLine) → filter is_on t.lines ≡ filter names_it rows → IsPermutation rows (map line_row_of lines)
-        → total_on n serials lines ≡ sum_by cents_of (lines_in_use H n t)
+    of_any : (rows lines : List (Keyed LineCells)) → filter is_on t.lines ≡ filter names_it rows → IsPermutation rows lines
+        → sum_on n serials lines ≡ sum_by cents_of (lines_in_use H n t)
     of_any rows lines same found =
-        sym (sum_by-passing (counted serials) is_here lines)
-        ∙ in_use_is (filter is_here lines)
-        (subst (λ xs. IsPermutation xs (map line_row_of (filter is_here lines))) (sym same)
-        (subst (IsPermutation (filter names_it rows)) (filter_map line_row_of names_it lines) (IsPermutation-filter names_it rows (map line_row_of lines) found)))
+        sym (sum_by-passing (counted serials) names_it lines)
+        ∙ in_use_is (filter names_it lines)
+        (subst (λ xs. IsPermutation xs (filter names_it lines)) (sym same) (IsPermutation-filter names_it rows lines found))
 
     -- of all lines of the holder
-    pub of_holder : (lines : List StoredLine) → IsPermutation (part H t.lines) (map line_row_of lines)
-        → total_on n serials lines ≡ sum_by cents_of (lines_in_use H n t)
-    of_holder lines found = of_any (part H t.lines) lines (filter_both names_it (λ l. owner l == H) t.lines) found
+    pub of_holder : sum_on n serials (part H t.lines) ≡ sum_by cents_of (lines_in_use H n t)
+    of_holder = of_any (part H t.lines) (part H t.lines) (filter_both names_it (λ l. owner l == H) t.lines) (IsPermutation-refl (part H t.lines))
 
     -- of those on the guarantee
     pub of_guarantee : (lines : List StoredLine) → IsPermutation (filter is_on t.lines) (map line_row_of lines)
         → total_on n serials lines ≡ sum_by cents_of (lines_in_use H n t)
     of_guarantee lines found =
-        of_any (filter is_on t.lines) lines
+        total_of_rows n serials lines
+        ∙ of_any (filter is_on t.lines) (map line_row_of lines)
         (filter_both names_it (λ l. owner l == H) t.lines ∙ sym (filter_again names_it (part H t.lines))
         ∙ sym (ap (filter names_it) (filter_both names_it (λ l. owner l == H) t.lines))) found

@@ -1,12 +1,10 @@
 -- Where the rules before S7 are kept, S8 is kept exactly where the lines on each guarantee add up to its reference amount
 -- at most.
-use Rattle.std.proofs.Common.{ℕ, Bool, List, map, Ok, Err, Result, arith}
-use Rattle.std.specs.Prelude.{◌↔◌, IfOk}
+use Rattle.std.proofs.Common.{ℕ, List, map, arith}
+use Rattle.std.specs.Prelude.{◌↔◌}
 use Rattle.std.specs.List.{AllByRecursion}
 use Rattle.sqlite_trees.specs.Tree.{Trees}
 use Rattle.sqlite_trees.proofs.ListLemmas.{all-map, all_both, all_from_map}
-use Rattle.sqlite.specs.State.{State}
-use Rattle.sqlite.specs.declared.error.Error.{Error}
 use Rattle.td_movement.specs.declared.movement.Movement.{Movement}
 use Rattle.td_model.specs.Sound.{IsCovered}
 use Rattle.td_model.specs.declared.holder_row.HolderRow.{HolderRow}
@@ -15,17 +13,14 @@ use Rattle.td_table_model.specs.Gathering.{guarantees_by, holder_no, movements_b
 use Rattle.td_table_model.specs.Rules.{IsHolderCovered}
 use Rattle.td_table_model.specs.Tables.{Tables}
 use Rattle.td_schema.specs.declared.layout.Layout.{Layout}
-use Rattle.td_store_rows.specs.StoreReads.{IsOfVersion}
 use Rattle.td_store_rows.specs.StoreTables.{tables_in}
 use Rattle.td_store_audit_rows.specs.Found.{FoundHoldersTell}
 use Rattle.td_store_audit_rows.specs.Untyped.{KeepsUntyped}
 use Rattle.td_store_audit_rows.specs.declared.holders.RawHolder.{RawHolder}
 use Rattle.td_store_audit.specs.Auditable.{IsAuditable, KeepsBefore}
-use Rattle.td_store_audit.specs.Tallies.{IsHandedOn, IsUseAuditable, raw_holder_of}
-use Rattle.td_store_audit.specs.InFile.{IsHolderCoveredInFile, IsRowCovered, TellsWhere}
-use Rattle.td_store_audit.specs.declared.tallies.HolderLines.{HolderLines}
+use Rattle.td_store_audit.specs.InFile.{IsHolderCoveredInFile, IsRowCovered}
 use Rattle.td_store_audit.proofs.HoldersTold.{holders_tell, of_pairs}
-use Rattle.td_store_audit.proofs.UseKept.{IsKnown, IsUse, all_handed_on, all_known, all_same}
+use Rattle.td_store_audit.proofs.UseKept.{IsKnown, IsUse, all_known, all_same}
 
 module _ (law : FoundHoldersTell) (layout : Layout) (trees : Trees) (country : List ℕ) (holders : List RawHolder) (known : IsAuditable layout trees country holders)
     (before : KeepsBefore layout trees S7) where
@@ -64,16 +59,3 @@ module _ (law : FoundHoldersTell) (layout : Layout) (trees : Trees) (country : L
         λ keeps. pairs.0 (all_both (IsKnown t) (IsHolderCovered t) (λ row. AreCovered (holder_no row)) covered t.holders all keeps.1),
         λ each. (tt, all_both (IsKnown t) (λ row. AreCovered (holder_no row)) (IsHolderCovered t) kept t.holders all (pairs.1 each)),
       )
-
--- so it is told
-pub told_cover : (version : ℕ) (a : State) (handed : List HolderLines) → FoundHoldersTell → (result : Result Bool Error)
-    → IfOk result (TellsWhere (IsOfVersion version) (λ layout trees. AllByRecursion (IsHandedOn layout trees) handed) (λ layout trees. AllByRecursion (λ h. IsHolderCoveredInFile layout trees (raw_holder_of h)) handed) a)
-    → IfOk result (λ keeps. (country : List ℕ) → TellsWhere (IsOfVersion version) (IsUseAuditable country handed) (λ layout trees. KeepsUntyped layout trees S8) a keeps)
-told_cover version a handed law (Err e) each = each
-told_cover version a handed law (Ok told) each = λ country layout own has is.
-    let trees = a.now.trees in
-    let whole = each layout own has (all_handed_on layout trees country handed is) in
-    let rule = kept_each law layout trees country (map raw_holder_of handed) is.known is.before in (
-      λ t. rule.1 (all-map (IsHolderCoveredInFile layout trees) raw_holder_of handed (whole.0 t)),
-      λ keeps. whole.1 (all_from_map (IsHolderCoveredInFile layout trees) raw_holder_of handed (rule.0 keeps)),
-    )

@@ -6,20 +6,16 @@ use Rattle.sqlite.specs.Listing.{understood}
 use Rattle.sqlite_value.specs.declared.keys.Collation.TheVariants.{Binary}
 use Rattle.sqlite_value.specs.declared.keys.Key.{Key}
 use Rattle.sqlite_value.specs.Keys.{ascending}
-use Rattle.sqlite_sql.specs.Term.{Term, col, op2}
-use Rattle.sqlite_sql.specs.declared.ops.BinaryOp.TheVariants.{Compare}
-use Rattle.sqlite_sql.specs.declared.ops.CompareOp.TheVariants.{Eq}
+use Rattle.sqlite_sql.specs.Term.{Term, col}
 use Rattle.typed_sql.specs.Meanings.{MeansSelect}
 use Rattle.td_schema.specs.Layouts.{lines_tree, schema_of, version_of}
 use Rattle.td_schema.specs.declared.layout.Layout.{Layout}
 use Rattle.td_schema.specs.declared.layout.Layout.TheVariants.{Made1, Made2, Grown2, Made3, Grown3From2, Grown3From1}
 use Rattle.td_store_rows.specs.StoreReads.{IsOfVersion}
-use Rattle.td_store_audit.specs.LineTexts.{lines_of_holder_text}
-use Rattle.td_store_audit.specs.declared.texts.TheConstants.{CODES_OF_HOLDER}
-
--- the holder is the one that was given
-abbrev pub holder_tests : List Term
-holder_tests = op2 (Compare Eq Binary) (col 1 1) (col 0 0) ∷ []
+use Rattle.td_store_rows.proofs.MovementMeanings.{after_tests}
+use Rattle.td_store_rows.proofs.RangeTests.{within_tests}
+use Rattle.td_store_audit.specs.LineTexts.{lines_behind_text, lines_within_text}
+use Rattle.td_store_audit.specs.declared.texts.TheConstants.{CODES_BEHIND, CODES_WITHIN}
 
 -- the columns that are shown of a code
 abbrev pub code_terms : List Term
@@ -32,14 +28,23 @@ by_three = (col 1 1, ascending Binary) ∷ (col 1 2, ascending Binary) ∷ (col 
 abbrev code_names : List (List ℕ)
 code_names = codes "holder" ∷ codes "serial" ∷ codes "code" ∷ []
 
-pub codes_mean : (l : Layout) → MeansSelect (schema_of l) CODES_OF_HOLDER.now 2 holder_tests code_terms by_three
+pub codes_within_mean : (l : Layout) → MeansSelect (schema_of l) CODES_WITHIN.now 2 within_tests code_terms by_three
 unfolding understood everything
-codes_mean Made1 = record { names = code_names; command = refl; plain = (refl, refl); unlisted = refl }
-codes_mean Made2 = record { names = code_names; command = refl; plain = (refl, refl); unlisted = refl }
-codes_mean Grown2 = record { names = code_names; command = refl; plain = (refl, refl); unlisted = refl }
-codes_mean Made3 = record { names = code_names; command = refl; plain = (refl, refl); unlisted = refl }
-codes_mean Grown3From2 = record { names = code_names; command = refl; plain = (refl, refl); unlisted = refl }
-codes_mean Grown3From1 = record { names = code_names; command = refl; plain = (refl, refl); unlisted = refl }
+codes_within_mean Made1 = record { names = code_names; command = refl; plain = (refl, refl); unlisted = refl }
+codes_within_mean Made2 = record { names = code_names; command = refl; plain = (refl, refl); unlisted = refl }
+codes_within_mean Grown2 = record { names = code_names; command = refl; plain = (refl, refl); unlisted = refl }
+codes_within_mean Made3 = record { names = code_names; command = refl; plain = (refl, refl); unlisted = refl }
+codes_within_mean Grown3From2 = record { names = code_names; command = refl; plain = (refl, refl); unlisted = refl }
+codes_within_mean Grown3From1 = record { names = code_names; command = refl; plain = (refl, refl); unlisted = refl }
+
+pub codes_behind_mean : (l : Layout) → MeansSelect (schema_of l) CODES_BEHIND.now 2 after_tests code_terms by_three
+unfolding understood everything
+codes_behind_mean Made1 = record { names = code_names; command = refl; plain = (refl, refl); unlisted = refl }
+codes_behind_mean Made2 = record { names = code_names; command = refl; plain = (refl, refl); unlisted = refl }
+codes_behind_mean Grown2 = record { names = code_names; command = refl; plain = (refl, refl); unlisted = refl }
+codes_behind_mean Made3 = record { names = code_names; command = refl; plain = (refl, refl); unlisted = refl }
+codes_behind_mean Grown3From2 = record { names = code_names; command = refl; plain = (refl, refl); unlisted = refl }
+codes_behind_mean Grown3From1 = record { names = code_names; command = refl; plain = (refl, refl); unlisted = refl }
 
 -- and of a line
 abbrev pub line_terms : List Term
@@ -48,18 +53,33 @@ line_terms = col 1 1 ∷ col 1 2 ∷ col 1 3 ∷ col 1 4 ∷ col 1 5 ∷ []
 abbrev line_names : List (List ℕ)
 line_names = codes "holder" ∷ codes "serial" ∷ codes "no" ∷ codes "guarantee" ∷ codes "cents" ∷ []
 
--- what that of a layout's version means
-abbrev ShowLines : Layout → ℕ → Type 0
-ShowLines l version = MeansSelect (schema_of l) (lines_of_holder_text version) (lines_tree l) holder_tests line_terms by_three
+-- what those of a layout's version mean
+abbrev ShowWithin : Layout → ℕ → Type 0
+ShowWithin l version = MeansSelect (schema_of l) (lines_within_text version) (lines_tree l) within_tests line_terms by_three
 
-own_lines_mean : (l : Layout) → ShowLines l (version_of l)
+own_within_mean : (l : Layout) → ShowWithin l (version_of l)
 unfolding understood everything
-own_lines_mean Made1 = record { names = line_names; command = refl; plain = (refl, refl); unlisted = refl }
-own_lines_mean Made2 = record { names = line_names; command = refl; plain = (refl, refl); unlisted = refl }
-own_lines_mean Grown2 = record { names = line_names; command = refl; plain = (refl, refl); unlisted = refl }
-own_lines_mean Made3 = record { names = line_names; command = refl; plain = (refl, refl); unlisted = refl }
-own_lines_mean Grown3From2 = record { names = line_names; command = refl; plain = (refl, refl); unlisted = refl }
-own_lines_mean Grown3From1 = record { names = line_names; command = refl; plain = (refl, refl); unlisted = refl }
+own_within_mean Made1 = record { names = line_names; command = refl; plain = (refl, refl); unlisted = refl }
+own_within_mean Made2 = record { names = line_names; command = refl; plain = (refl, refl); unlisted = refl }
+own_within_mean Grown2 = record { names = line_names; command = refl; plain = (refl, refl); unlisted = refl }
+own_within_mean Made3 = record { names = line_names; command = refl; plain = (refl, refl); unlisted = refl }
+own_within_mean Grown3From2 = record { names = line_names; command = refl; plain = (refl, refl); unlisted = refl }
+own_within_mean Grown3From1 = record { names = line_names; command = refl; plain = (refl, refl); unlisted = refl }
 
-pub lines_mean : (version : ℕ) (l : Layout) → IsOfVersion version l → ShowLines l version
-lines_mean version l own = subst (ShowLines l) own (own_lines_mean l)
+pub within_mean : (version : ℕ) (l : Layout) → IsOfVersion version l → ShowWithin l version
+within_mean version l own = subst (ShowWithin l) own (own_within_mean l)
+
+abbrev ShowBehind : Layout → ℕ → Type 0
+ShowBehind l version = MeansSelect (schema_of l) (lines_behind_text version) (lines_tree l) after_tests line_terms by_three
+
+own_behind_mean : (l : Layout) → ShowBehind l (version_of l)
+unfolding understood everything
+own_behind_mean Made1 = record { names = line_names; command = refl; plain = (refl, refl); unlisted = refl }
+own_behind_mean Made2 = record { names = line_names; command = refl; plain = (refl, refl); unlisted = refl }
+own_behind_mean Grown2 = record { names = line_names; command = refl; plain = (refl, refl); unlisted = refl }
+own_behind_mean Made3 = record { names = line_names; command = refl; plain = (refl, refl); unlisted = refl }
+own_behind_mean Grown3From2 = record { names = line_names; command = refl; plain = (refl, refl); unlisted = refl }
+own_behind_mean Grown3From1 = record { names = line_names; command = refl; plain = (refl, refl); unlisted = refl }
+
+pub behind_mean : (version : ℕ) (l : Layout) → IsOfVersion version l → ShowBehind l version
+behind_mean version l own = subst (ShowBehind l) own (own_behind_mean l)

@@ -1,33 +1,43 @@
 -- S5 is kept exactly where each row of movements is read, and each holder's are in their places.
-use Rattle.std.proofs.Common.{◌≡◌, ◌∙◌, ◌<◌, ◌^◌, ℕ, Bool, false, List, Option, Ok, Err, Result, subst, sym, arith, Some, map, refl}
+use Rattle.std.proofs.Common.{◌≡◌, ◌∙◌, ◌+◌, ◌-◌, ◌<◌, ◌≤◌, ◌^◌, ℕ, Bool, true, false, not, List, [], ◌++◌, Option, subst, sym, arith, None, Some, ap₂, map, nat_lt, refl, subst₂}
 use Rattle.std.proofs.lemmas.Bool.{false≢true}
-use Rattle.std.specs.Prelude.{◌↔◌, ◌==◌, IfOk, IsTrue, is_some}
+use Rattle.std.specs.Prelude.{◌↔◌, ◌==◌, IsTrue, is_some}
 use Rattle.std.specs.List.{AllByRecursion}
 use Rattle.sqlite_trees.specs.Tree.{Trees}
 use Rattle.sqlite_trees.proofs.ListLemmas.{all-filter, all-map, all_both, all_from_map, all_weaker}
 use Rattle.sqlite.specs.State.{State}
-use Rattle.sqlite.specs.declared.error.Error.{Error}
 use Rattle.td_model.specs.declared.holder_row.HolderRow.{HolderRow}
 use Rattle.td_table_model.specs.declared.rule.Rule.TheVariants.{S1, S5}
 use Rattle.td_table_model.specs.Gathering.{movements_by, owner, part, place}
 use Rattle.td_table_model.specs.Rules.{HasMovements, IsMovementInRange}
-use Rattle.td_table_model.specs.Tables.{Tables}
+use Rattle.td_table_model.specs.Tables.{Keyed, Tables}
 use Rattle.td_table_model.proofs.Rebuilt.{all_in_order}
-use Rattle.typed_sql.specs.Typed.{IsTypedRow, row_of}
+use Rattle.std.specs.Option.{option_map}
+use Rattle.typed_sql.specs.Reading.{OnlyRead}
+use Rattle.typed_sql.specs.Typed.{AreTyped, ComesFirst, IsTypedRow, row_of, typed_rows}
+use Rattle.td_schema.specs.Layouts.{schema_of}
 use Rattle.td_schema.specs.declared.layout.Layout.{Layout}
-use Rattle.td_store_rows.specs.MovementTable.{AreBySerial, is_of, movement_row_of}
+use Rattle.td_store_rows.specs.MovementTable.{AreBySerial, IsFirstMovement, movement_row_of}
+use Rattle.td_store_rows.specs.Places.{by_place, is_after, is_within}
+use Rattle.td_store_rows.specs.declared.movements.stored.MovementSerial.{MovementSerial}
 use Rattle.td_store_rows.specs.declared.movements.stored.StoredMovement.{StoredMovement}
 use Rattle.td_store_rows.specs.Columns.{holder_typing, movement_typing}
 use Rattle.td_store_rows.specs.StoreTables.{tables_in}
-use Rattle.td_store_audit_rows.specs.InPlace.{AreMovementsInPlace, IsMovementInPlace}
+use Rattle.td_store_audit_rows.specs.InPlace.{AreMovementsInPlace, AreNextMovements, IsMovementInPlace}
 use Rattle.td_store_audit_rows.specs.Fields.{AreMovementFields}
 use Rattle.td_store_audit_rows.specs.Found.{FoundHoldersTell, HasMrns, mrn_pair, raw_mrn_pair}
 use Rattle.td_store_audit_rows.specs.Untyped.{AllRows, HasMrnCount, KeepsUntyped}
-use Rattle.td_store_audit_rows.specs.Scans.{IsReadRow, TellsRead}
+use Rattle.td_store_audit_rows.specs.Scans.{IsReadRow}
 use Rattle.td_store_audit_rows.specs.Told.{MovementsAreRead}
 use Rattle.td_store_audit_rows.specs.declared.holders.RawHolder.{RawHolder}
-use Rattle.td_store_audit.specs.Auditable.{IsAuditable, TellsRule}
-use Rattle.td_store_audit.specs.InFile.{AreTypedApart, HasMovementsInPlace, TellsWhere}
+use Rattle.td_store_audit.specs.Auditable.{IsAuditable}
+use Rattle.td_base.specs.References.{greatest_older_mrn_serial}
+use Rattle.td_movement.specs.declared.movement.Movement.{Movement}
+use Rattle.td_store_audit.specs.InFile.{AreTypedApart, HasMovementsInPlace, IsSoWhere, TellsWhere}
+use Rattle.td_store_audit.specs.Ranges.{AreSerialsIn, movements_below, rows_below, rows_between}
+use Rattle.td_store_audit.proofs.RowRanges.{all_below, between_below, joined, mine_rise, none_below, none_is_behind, none_left, own_range, some_is_behind, upto, within_apart, within_is}
+use Rattle.td_store_audit.proofs.Reading.{so_before}
+use Rattle.td_store_audit.proofs.Serials.{rises-filter}
 use Rattle.td_store_audit.proofs.HoldersTold.{holders_tell, of_pairs, owners}
 use Rattle.td_store_rows.specs.StoreReads.{IsAny}
 
@@ -48,9 +58,6 @@ module _ (law : FoundHoldersTell) (layout : Layout) (trees : Trees) (country : L
     cells : AllRows movement_typing (IsTypedRow movement_typing) trees
     cells = all_weaker (IsReadRow movement_typing AreMovementFields) (IsTypedRow movement_typing) (λ r is. is.0) (trees movement_typing.table.tree) read
 
-    pub typed_apart : AreTypedApart movement_typing trees
-    typed_apart = record { typed = record { ids = known.kept.ids.movements; cells = cells }; apart = (known.kept.movements cells).apart }
-
     fields : (H : ℕ) → AllByRecursion AreMovementFields (movements_by H t)
     fields H =
         all_in_order place AreMovementFields (part H t.movements)
@@ -65,7 +72,7 @@ module _ (law : FoundHoldersTell) (layout : Layout) (trees : Trees) (country : L
     placed : (row : HolderRow) → HasMovements t row → IsInPlace (mrn_pair row)
     placed row has = record {
       serials = has.serials;
-      count = has.count;
+      count = has.count ∙ omega arith;
       most = has.most;
       each = all_weaker (IsMovementInRange t.country) (IsMovementInPlace t.country)
           (λ g is. record { mrn = is.mrn; days = is.status.days }) (movements_by row.holder t) has.columns;
@@ -74,7 +81,7 @@ module _ (law : FoundHoldersTell) (layout : Layout) (trees : Trees) (country : L
     ranged : (row : HolderRow) → IsInPlace (mrn_pair row) → HasMovements t row
     ranged row is = record {
       serials = is.serials;
-      count = is.count;
+      count = is.count ∙ omega arith;
       most = is.most;
       columns = all_both (IsMovementInPlace t.country) AreMovementFields (IsMovementInRange t.country)
           (λ g place_is field. record {
@@ -125,34 +132,109 @@ module _ (law : FoundHoldersTell) (layout : Layout) (trees : Trees) (country : L
               ),
         )
 
--- what is told by the scan of the table, where a row isn't read
-pub told_unread : (scanned : Bool) (a : State) (country : List ℕ) (holders : List RawHolder) → FoundHoldersTell → MovementsAreRead
-    → scanned ≡ false → TellsRule IsAny (λ layout trees. TellsRead movement_typing AreMovementFields trees scanned) S5 country holders a false
-told_unread scanned a country holders law read unread layout own has tells known before = (
+-- the movements of a holder below a serial, and those of a range
+abbrev pub AreRowsBelow : State → ℕ → ℕ → List (Keyed Movement) → Type 0
+AreRowsBelow a H first rows = IsSoWhere IsAny (λ layout. AreTypedApart movement_typing) (λ layout trees. rows ≡ movements_below layout trees H first) a
+
+abbrev pub AreRowsOfRange : State → ℕ → ℕ → ℕ → List (Keyed Movement) → Type 0
+AreRowsOfRange a H first next rows =
+    IsSoWhere IsAny (λ layout. AreTypedApart movement_typing)
+    (λ layout trees. rows ≡ rows_between first next (movements_by H (tables_in layout trees))) a
+
+-- none are below the first serial
+pub rows_none : (a : State) (H : ℕ) → AreRowsBelow a H 0 []
+rows_none a H layout own has apart =
+    sym (none_below 0 0 (movements_by H (tables_in layout a.now.trees)) (mine_rise H (tables_in layout a.now.trees).movements (apart.apart H)) (omega arith))
+
+-- those that a statement shows of a range are those of the range
+pub rows_of_range : (a : State) (H first next : ℕ) (found : List StoredMovement) → AreBySerial (is_within H first next) a found
+    → AreRowsOfRange a H first next (map movement_row_of found)
+rows_of_range a H first next found order layout own has apart =
+    let rows = (tables_in layout a.now.trees).movements in
+    order layout has apart.typed (within_apart H rows (apart.apart H) first next) ∙ within_is H rows (apart.apart H) first next
+
+-- and stand behind those below it
+pub rows_more : (a : State) (H first next : ℕ) → first ≤ next → (before found : List (Keyed Movement)) → AreRowsBelow a H first before
+    → AreRowsOfRange a H first next found → AreRowsBelow a H next (before ++ found)
+rows_more a H first next up before found those here layout own has apart =
+    let mine = movements_by H (tables_in layout a.now.trees) in
+    ap₂ (λ x y. x ++ y) (those layout own has apart) (here layout own has apart)
+    ∙ sym (joined first next 0 mine (mine_rise H (tables_in layout a.now.trees).movements (apart.apart H)) up)
+
+-- the movements of a range are in their places where all are that come before the end
+pub range_tells : (country : List ℕ) (a : State) (H end first next : ℕ) → first < next → next ≤ end → (found : List (Keyed Movement))
+    → AreRowsOfRange a H first next found → (b : Bool) → b ≡ false → IsTrue b ↔ AreNextMovements country (first - 1) (next - 1) found
+    → TellsWhere IsAny (λ layout. AreTypedApart movement_typing) (λ layout trees. AreMovementsInPlace country (end - 1) (movements_below layout trees H end)) a false
+range_tells country a H end first next less within found here b off tells layout own has apart = (
   λ t. absurd (false≢true t),
-  λ keeps. absurd (false≢true (sym unread ∙ tells.1 (kept_read law layout a.now.trees country holders known read (before S1 (omega arith)) keeps))),
+  λ all.
+      let mine = movements_by H (tables_in layout a.now.trees) in
+      let rise = mine_rise H (tables_in layout a.now.trees).movements (apart.apart H) in
+      let range = own_range (IsMovementInPlace country) greatest_older_mrn_serial (rows_below end mine)
+      (rises-filter place (λ r. nat_lt (place r) end) 0 mine rise) (end - 1) all first next less (omega (arith, less, within)) in
+      let same : rows_between first next (rows_below end mine) ≡ found = between_below first next end mine within ∙ sym (here layout own has apart) in
+      absurd (false≢true (sym off ∙ tells.1 (subst (AreNextMovements country (first - 1) (next - 1)) same range))),
 )
 
--- and by the holders' own, where each row is
-pub told_each : (scanned : Bool) (a : State) (country : List ℕ) (holders : List RawHolder) → FoundHoldersTell
-    → IsTrue scanned → {X : Type 0} (result : Result (Option X) Error)
-    → IfOk result (λ found. TellsWhere IsAny (λ layout. AreTypedApart movement_typing) (λ layout trees. AllByRecursion (HasMovementsInPlace layout country trees) holders) a (is_some found))
-    → IfOk result (λ found. TellsRule IsAny (λ layout trees. TellsRead movement_typing AreMovementFields trees scanned) S5 country holders a (is_some found))
-told_each scanned a country holders law is (Err e) each = each
-told_each scanned a country holders law is (Ok found) each = λ layout own has tells known before.
-    let trees = a.now.trees in
-    let read = tells.0 is in
-    let whole = each layout own has (typed_apart law layout trees country holders known read) in
-    let rule = kept_each law layout trees country holders known read in
-    (λ t. rule.1 (whole.0 t), λ keeps. whole.1 (rule.0 keeps))
+-- what was found first is so before calls that only read
+pub first_before : (a b : State) → ((l : Layout) → IsAny l → OnlyRead (schema_of l) a b) → (H count : ℕ) (next : Option StoredMovement)
+    → IsFirstMovement (is_after H count) b next → IsFirstMovement (is_after H count) a next
+first_before a b read H count next first l has typed =
+    so_before IsAny (λ layout. AreTyped movement_typing)
+    (λ layout trees. ComesFirst (is_after H count) by_place (typed_rows movement_typing trees) (option_map movement_row_of next)) a b read
+    (λ layout own. first layout) l tt has typed
 
--- of one holder, by the rows that were found
-pub told_one : (country : List ℕ) (a : State) (raw : RawHolder) (count : ℕ) (rows : List StoredMovement) (b : Bool) → raw.mrn_count ≡ Some count
-    → AreBySerial (is_of raw.holder) a rows → (IsTrue b ↔ AreMovementsInPlace country count (map movement_row_of rows))
-    → TellsWhere IsAny (λ layout. AreTypedApart movement_typing) (λ layout trees. HasMovementsInPlace layout country trees raw) a b
-told_one country a raw count rows b is order tells layout own has apart =
-    let same : map movement_row_of rows ≡ movements_by raw.holder (tables_in layout a.now.trees) =
-    order layout has apart.typed (apart.apart raw.holder) in (
-      λ t. rw is (refl, subst (AreMovementsInPlace country count) same (tells.0 t)),
-      λ placed. tells.1 (subst (AreMovementsInPlace country count) (sym same) (rw is at placed.1)),
-    )
+-- a holder's are where those below the serial behind the count are, and none stands behind the count
+module _ (country : List ℕ) (a : State) (raw : RawHolder) (count end : ℕ) (is : raw.mrn_count ≡ Some count) (behind : end ≡ count + 1) where
+  abbrev TellsBelow : Bool → Type 0
+  TellsBelow =
+      TellsWhere IsAny (λ layout. AreTypedApart movement_typing)
+      (λ layout trees. AreMovementsInPlace country (end - 1) (movements_below layout trees raw.holder end)) a
+
+  abbrev Tells : Bool → Type 0
+  Tells = TellsWhere IsAny (λ layout. AreTypedApart movement_typing) (λ layout trees. HasMovementsInPlace layout country trees raw) a
+
+  pub not_below : TellsBelow false → Tells false
+  not_below told layout own has apart = (
+    λ t. absurd (false≢true t),
+    λ placed.
+        let mine = movements_by raw.holder (tables_in layout a.now.trees) in
+        let rise = mine_rise raw.holder (tables_in layout a.now.trees).movements (apart.apart raw.holder) in
+        absurd (false≢true ((told layout own has apart).1
+        (upto (IsMovementInPlace country) greatest_older_mrn_serial mine rise count (rw is at placed.1) end (omega (arith, behind))))),
+  )
+
+  pub none_further : TellsBelow true → IsFirstMovement (is_after raw.holder count) a None → Tells true
+  none_further told first layout own has apart =
+      let rows = (tables_in layout a.now.trees).movements in
+      let mine = movements_by raw.holder (tables_in layout a.now.trees) in
+      let same : rows_below end mine ≡ mine = rw behind (all_below (count + 1) mine (none_is_behind raw.holder count rows (first layout has apart.typed))) in
+      let last : end - 1 ≡ count = omega (arith, behind) in (
+        λ t. rw is (refl, subst₂ (AreMovementsInPlace country) last same ((told layout own has apart).0 refl)),
+        λ placed. refl,
+      )
+
+  pub some_further : (next : StoredMovement) → IsFirstMovement (is_after raw.holder count) a (Some next) → Tells false
+  some_further next first layout own has apart = (
+    λ t. absurd (false≢true t),
+    λ placed.
+        let rows = (tables_in layout a.now.trees).movements in
+        let mine = movements_by raw.holder (tables_in layout a.now.trees) in
+        absurd (some_is_behind raw.holder count rows (movement_row_of next) (apart.apart raw.holder) (first layout has apart.typed)
+        (none_left (IsMovementInPlace country) greatest_older_mrn_serial mine (mine_rise raw.holder rows (apart.apart raw.holder)) count (rw is at placed.1))),
+  )
+
+  pub by_next : (next : Option StoredMovement) → TellsBelow true → IsFirstMovement (is_after raw.holder count) a next → Tells (not (is_some next))
+  by_next None told first = none_further told first
+  by_next (Some next) told first = some_further next first
+
+  -- and then those that count are those that count of the holder's
+  pub counting_all : (next : Option StoredMovement) → is_some next ≡ false → IsFirstMovement (is_after raw.holder count) a next → (serials : List MovementSerial)
+      → IsSoWhere IsAny (λ layout. AreTypedApart movement_typing) (λ layout trees. AreSerialsIn (movements_below layout trees raw.holder end) serials) a
+      → IsSoWhere IsAny (λ layout. AreTypedApart movement_typing) (λ layout trees. AreSerialsIn (movements_by raw.holder (tables_in layout trees)) serials) a
+  counting_all (Some next) none first serials those layout own has apart = absurd (false≢true (sym none))
+  counting_all None none first serials those layout own has apart =
+      let rows = (tables_in layout a.now.trees).movements in
+      let mine = movements_by raw.holder (tables_in layout a.now.trees) in
+      let same : rows_below end mine ≡ mine = rw behind (all_below (count + 1) mine (none_is_behind raw.holder count rows (first layout has apart.typed))) in
+      subst (λ l. AreSerialsIn l serials) same (those layout own has apart)

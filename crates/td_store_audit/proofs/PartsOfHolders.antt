@@ -4,9 +4,9 @@ use Rattle.std.specs.Prelude.{◌↔◌, IfSome, IsSome, unwrap_or}
 use Rattle.std.specs.List.{AllByRecursion}
 use Rattle.std.proofs.lemmas.List.Sorted.{IsPermutation-sym}
 use Rattle.sqlite_trees.specs.Tree.{Trees}
-use Rattle.sqlite_trees.proofs.ListLemmas.{all-map, all-permutation, all_both, all_from_map, all_of, all_weaker}
+use Rattle.sqlite_trees.proofs.ListLemmas.{all-map, all-permutation, all_both, all_from_map, all_of}
 use Rattle.sqlite_value.specs.Order.{Row}
-use Rattle.td_base.specs.Codes.{IsAccessCode, IsHolderNumber}
+use Rattle.td_base.specs.Codes.{IsAccessCode}
 use Rattle.td_model.specs.declared.holder_row.HolderRow.{HolderRow}
 use Rattle.td_table_model.specs.Gathering.{part}
 use Rattle.td_table_model.specs.Rules.{HasCodes, HasGuarantees, HasLines, HasMovements}
@@ -45,11 +45,6 @@ module _ (layout : Layout) (trees : Trees) (found : List RawHolder) (all : AreHo
   -- each row has a holder's number
   numbered : AllByRecursion (λ r. IsSome (fields_of r).holder) rows
   numbered = to_rows (λ f. IsSome f.holder) (all_of (λ (h : RawHolder). IsSome (fields_of_raw h).holder) (λ h. refl) found)
-
-  pub numbers : AllByRecursion (λ (row : HolderRow). IsHolderNumber row.holder) (typed_rows holder_typing trees)
-  numbers =
-      all-map (λ (row : HolderRow). IsHolderNumber row.holder) (row_of holder_typing) rows
-      (all_weaker (λ r. IsSome (fields_of r).holder) (λ r. IsHolderNumber (row_of holder_typing r).holder) (λ r some. ((tell r).0.holder.0 some).1) rows numbered)
 
   number_is : (r : Row) → IsSome (fields_of r).holder → unwrap_or (fields_of r).holder 0 ≡ (row_of holder_typing r).holder
   number_is r some = value_is (fields_of r).holder (row_of holder_typing r).holder 0 some (tell r).1.holder

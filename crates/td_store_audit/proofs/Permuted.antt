@@ -1,40 +1,21 @@
 -- Rows in another order are in their places, too.
-use Rattle.std.proofs.Common.{◌≡◌, ◌∙◌, ℕ, ◌+◌, ◌<◌, ◌≤◌, List, get_or, length, nat_cmp, subst, sym, arith, IsPermutation}
+use Rattle.std.proofs.Common.{◌≡◌, ◌∙◌, ℕ, ◌+◌, ◌<◌, ◌≤◌, List, get_or, length, nat_cmp, sym, arith, IsPermutation}
 use Rattle.std.specs.Prelude.{◌==◌}
 use Rattle.std.specs.List.Sorted.{IsSortedByKey}
 use Rattle.std.proofs.lemmas.Bool.Decides.{nat_tests}
-use Rattle.std.proofs.lemmas.List.Sorted.{IsPermutation-refl, length_permutation}
+use Rattle.std.proofs.lemmas.List.Sorted.{IsPermutation-refl}
 use Rattle.sqlite_trees.specs.Tree.{IsAscending}
-use Rattle.sqlite_trees.proofs.ListLemmas.{IsPermutation-filter, all-get_or, all-permutation, ascending-filter, ascending-get_or}
-use Rattle.td_store_audit_rows.specs.InPlace.{AreLinesInPlace}
+use Rattle.sqlite_trees.proofs.ListLemmas.{IsPermutation-filter, all-get_or, ascending-filter, ascending-get_or}
 use Rattle.td_table_model.specs.Gathering.{in_order, no_of, of_key, place}
 use Rattle.td_table_model.specs.Tables.{Keyed, LineCells}
 use Rattle.td_table_model.proofs.Grouped.{of_key_has}
-use Rattle.td_table_model.proofs.Orders.{apart_permuted, in_order_permuted, sorted_is_order}
-use Rattle.td_store_audit.specs.InPlace.{AreAllLinesInPlace, AreCodesInPlace, AreNumbersApart, IsByNumber}
-
-pub codes_permuted : (count : ℕ) (xs ys : List (Keyed (List ℕ))) → IsPermutation xs ys → AreCodesInPlace count xs → AreCodesInPlace count ys
-codes_permuted count xs ys same are =
-    record {
-      belong = all-permutation (λ c. (1 ≤ place c) × (place c ≤ count)) xs ys same are.belong;
-      each = λ n low high. let as_many = length_permutation (of_key place n xs) (of_key place n ys) (IsPermutation-filter (λ c. place c == n) xs ys same) in
-          let is = are.each n low high in
-          record { some = omega (arith, as_many, is.some); most = omega (arith, as_many, is.most) };
-    }
+use Rattle.td_table_model.proofs.Orders.{apart_permuted, sorted_is_order}
+use Rattle.td_store_audit.specs.InPlace.{AreNumbersApart, IsByNumber}
 
 -- lines of which no two of one serial have one number
 pub apart_still : (xs ys : List (Keyed LineCells)) → IsPermutation xs ys → AreNumbersApart xs → AreNumbersApart ys
 apart_still xs ys same apart n =
     apart_permuted no_of (of_key place n xs) (of_key place n ys) (IsPermutation-filter (λ l. place l == n) xs ys same) (apart n)
-
-pub lines_permuted : (guarantees movements : ℕ) (xs ys : List (Keyed LineCells)) → IsPermutation xs ys → AreNumbersApart xs
-    → AreAllLinesInPlace guarantees movements xs → AreAllLinesInPlace guarantees movements ys
-lines_permuted guarantees movements xs ys same apart are =
-    record {
-      belong = all-permutation (λ l. (1 ≤ place l) × (place l ≤ movements)) xs ys same are.belong;
-      each = λ n low high. subst (AreLinesInPlace guarantees)
-          (in_order_permuted no_of (of_key place n xs) (of_key place n ys) (IsPermutation-filter (λ l. place l == n) xs ys same) (apart n)) (are.each n low high);
-    }
 
 -- lines by their numbers are in order already
 pub ordered : (n : ℕ) (rows : List (Keyed LineCells)) → IsByNumber rows → AreNumbersApart rows → of_key place n rows ≡ in_order no_of (of_key place n rows)

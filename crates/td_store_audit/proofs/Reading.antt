@@ -4,8 +4,8 @@ use Rattle.std.specs.Prelude.{Bool, is_ok, IsTrue, true}
 use Rattle.sqlite_trees.specs.Tree.{Trees}
 use Rattle.sqlite.specs.Effect.{Database}
 use Rattle.sqlite.specs.State.{State, HasCleanDisk}
-use Rattle.typed_sql.specs.Reading.{StaysInside}
-use Rattle.typed_sql.proofs.OnlyRead.{none_read, read_more, still_has}
+use Rattle.typed_sql.specs.Reading.{IsInside, StaysInside}
+use Rattle.typed_sql.proofs.OnlyRead.{none_read, read_more, stays_nothing, still_has}
 use Rattle.td_table_model.specs.Tables.{version_with_amounts}
 use Rattle.td_schema.specs.declared.layout.Layout.{Layout}
 use Rattle.td_store_rows.specs.StoreReads.{ReadsIn, ReadsKept, ReadsStore, ReadsVersion}
@@ -24,6 +24,9 @@ none_read_in At a layout own = none_read a
 
 pub more_read : (At : Layout → Type 0) (a b d : State) → OnlyReadIn At a b → OnlyReadIn At b d → OnlyReadIn At a d
 more_read At a b d first second layout own = read_more a b d (first layout own) (second layout own)
+
+pub reads_none : {At : Layout → Type 0} {w : Bool} {a : State} → IsInside a → ReadsIn At w a a
+reads_none {At} {w} {a} inside = record { still = λ clean well layout own. none_read a; within = stays_nothing inside }
 
 -- what only reads in a file of any layout
 pub any_read : (At : Layout → Type 0) {a b : State} → HasCleanDisk b → ReadsStore true a b → OnlyReadIn At a b

@@ -28,12 +28,12 @@ serials_more rows i row within is =
 
 module _ {R : Type 0} (key : R → ℕ) where
   -- numbered rows rise
-  numbered_rise : (n : ℕ) (rows : List R) → IsNumbered key n rows → Rises key (n + 1) rows
+  pub numbered_rise : (n : ℕ) (rows : List R) → IsNumbered key n rows → Rises key (n + 1) rows
   numbered_rise n [] is = tt
   numbered_rise n (r ∷ rows) is = (omega (arith, is.0), subst (λ k. Rises key (k + 1) rows) (sym is.0) (numbered_rise (n + 1) rows is.1))
 
   -- so do those of rising rows that pass
-  rises-filter : (p : R → Bool) (low : ℕ) (rows : List R) → Rises key low rows → Rises key low (filter p rows)
+  pub rises-filter : (p : R → Bool) (low : ℕ) (rows : List R) → Rises key low rows → Rises key low (filter p rows)
   rises-filter p low [] rise = tt
   rises-filter p low (r ∷ rows) rise = by_test (p r) (rises-filter p (key r + 1) rows rise.1)
     where

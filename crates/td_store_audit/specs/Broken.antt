@@ -11,22 +11,15 @@ use Rattle.td_schema.specs.Layouts.{schema_of}
 use Rattle.td_schema.specs.declared.layout.Layout.{Layout}
 use Rattle.typed_sql.specs.Writing.{HasSchema}
 use Rattle.td_store_rows.specs.StoreTables.{tables_in}
-use Rattle.td_store_audit_rows.specs.Ids.{HaveAllIds}
 use Rattle.td_store_audit_rows.specs.Untyped.{IsFirstBrokenUntyped, KeepsUntyped}
 use Rattle.td_store_audit_rows.specs.Laws.{AreKept}
 use Rattle.td_store_audit_rows.specs.Scans.{TellReadable}
-use Rattle.td_store_audit_rows.specs.declared.holders.RawHolder.{RawHolder}
 use Rattle.td_store_audit_rows.specs.declared.tables.Readable.{Readable}
-use Rattle.td_store_audit.specs.Auditable.{IsAuditable, KeepsBefore}
 
 -- the first rule that the tables break as they stand, or none
 abbrev pub TellsBroken : Layout → Trees → Option Rule → Type 0
 TellsBroken layout trees None = (rule : Rule) → KeepsUntyped layout trees rule
 TellsBroken layout trees (Some rule) = IsFirstBrokenUntyped layout trees rule
-
--- where the rowids of the tables are integers, no two the same, a database keeps of them what it does
-abbrev pub KeepsItsTables : Layout → State → Type 0
-KeepsItsTables layout state = HaveAllIds layout state.now.trees → AreKept layout state.now.trees
 
 -- the office's own row is the only one that is shown: a version, and this text
 pub record IsOffice (rows : List Row) (text : List ℕ) : Type 0 where
@@ -46,16 +39,12 @@ abbrev pub TellsCountry : Layout → Trees → Option (List ℕ) → Type 0
 TellsCountry layout trees None = ¬ KeepsUntyped layout trees S1
 TellsCountry layout trees (Some country) = KeepsUntyped layout trees S1 × ((tables_in layout trees).country ≡ country)
 
--- what the rules after S1 are asked by, and which tables can be read row by row
-pub record HasOffice (country : List ℕ) (holders : List RawHolder) (readable : Readable) (layout : Layout) (trees : Trees) : Type 0 where
-  pub known : IsAuditable layout trees country holders
+-- what the rules after S1 are asked by: S1 is kept, the country, and which tables can be read row by row
+pub record HasOffice (country : List ℕ) (readable : Readable) (layout : Layout) (trees : Trees) : Type 0 where
+  pub kept : AreKept layout trees
+  pub country_is : (tables_in layout trees).country ≡ country
   pub keeps : KeepsUntyped layout trees S1
   pub told : TellReadable layout readable trees
-
--- and one of them, where the rules before it are kept
-pub record IsNextRule (rule : Rule) (country : List ℕ) (holders : List RawHolder) (readable : Readable) (layout : Layout) (trees : Trees) : Type 0 where
-  pub office : HasOffice country holders readable layout trees
-  pub before : KeepsBefore layout trees rule
 
 -- so it is in a file with the tables of a layout
 abbrev pub TellsCountryIn : State → Option (List ℕ) → Type 0

@@ -1,5 +1,6 @@
 -- One holder's codes and lines that keep the rules of sound tables: those of each guarantee, and of each movement.
 use Rattle.std.specs.Prelude.{◌≡◌, ◌≢◌, ℕ, ◌≤◌, ◌<◌, List, get_or, length}
+use Rattle.std.specs.List.{AllByRecursion}
 use Rattle.sqlite_trees.specs.Tree.{IsAscending}
 use Rattle.td_table_model.specs.Gathering.{IsApart, in_order, no_of, of_key, place}
 use Rattle.td_table_model.specs.Tables.{Keyed, LineCells}
@@ -32,6 +33,22 @@ pub record AreCodesInPlace (guarantees : ℕ) (rows : List (Keyed (List ℕ))) :
 pub record AreAllLinesInPlace (guarantees movements : ℕ) (rows : List (Keyed LineCells)) : Type 0 where
   pub belong : BelongTo movements rows
   pub each : (n : ℕ) → 1 ≤ n → n ≤ movements → AreLinesInPlace guarantees (in_order no_of (of_key place n rows))
+
+-- the serials of rows are from one on and below another
+abbrev pub AreSerialsWithin : {R : Type 0} → ℕ → ℕ → List (Keyed R) → Type 0
+AreSerialsWithin first end rows = AllByRecursion (λ r. (first ≤ place r) × (place r < end)) rows
+
+-- those codes of a holder whose serials are from one on and below another: none has the serial 0, which is no guarantee's, and each
+-- guarantee with such a serial has 1 to 20
+pub record AreCodesInPlaceWithin (first end : ℕ) (rows : List (Keyed (List ℕ))) : Type 0 where
+  pub serials : AllByRecursion (λ r. first ≤ place r → place r < end → 1 ≤ place r) rows
+  pub each : (n : ℕ) → 1 ≤ n → first ≤ n → n < end → AreOneToTwenty (of_key place n rows)
+
+-- those lines of a holder who has so many guarantees whose serials are from one on and below another: none has the serial 0, which
+-- is no movement's, and the lines of each movement with such a serial are, by their numbers, in their places
+pub record AreLinesInPlaceWithin (guarantees first end : ℕ) (rows : List (Keyed LineCells)) : Type 0 where
+  pub serials : AllByRecursion (λ r. first ≤ place r → place r < end → 1 ≤ place r) rows
+  pub each : (n : ℕ) → 1 ≤ n → first ≤ n → n < end → AreLinesInPlace guarantees (in_order no_of (of_key place n rows))
 
 -- From one place on, up to another, rows have a key; and the row at the other, if there is one, hasn't.
 pub record IsEndOfRun {X : Type 0} (key : X → ℕ) (n start : ℕ) (rows : List X) (end : ℕ) : Type 0 where

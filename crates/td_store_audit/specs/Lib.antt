@@ -8,3 +8,6 @@ pub mod Premises
 pub mod Broken
 pub mod Totals
 pub mod Tallies
+pub mod Ranges
+pub mod FirstRule
+pub mod HolderRules

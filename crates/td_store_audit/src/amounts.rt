@@ -1,73 +1,28 @@
 //! S7: the rows of guarantees keep the amounts in use, from version 2 on, and each is what is in use on its guarantee.
-ghost use Rattle.std.specs.Prelude.{◌≡◌, ◌↔◌, ℕ, List, IsTrue, IfOk, is_ok};
+ghost use Rattle.std.specs.Prelude.{◌≡◌, ◌↔◌, ℕ, IsTrue, IfOk, is_ok};
 ghost use Rattle.std.specs.List.{AllByRecursion};
 ghost use Rattle.sqlite.specs.Held.{state};
 ghost use Rattle.sqlite.specs.State.{HasCleanDisk};
-ghost use Rattle.td_table_model.specs.declared.rule.Rule.TheVariants.{S7};
-ghost use Rattle.td_store_rows.specs.StoreReads.{IsOfVersion, KeepsUse, ReadsKept, ReadsVersion};
-ghost use Rattle.td_store_audit_rows.specs.Untyped.{KeepsUntyped};
-ghost use Rattle.td_store_audit.specs.Tallies.{IsHandedOn, IsKeptBy, IsUseAuditable, raw_holder_of};
+ghost use Rattle.td_store_rows.specs.StoreReads.{KeepsUse, ReadsKept};
+ghost use Rattle.td_store_audit.specs.Tallies.{IsHandedOn, IsKeptBy, raw_holder_of};
+ghost use Rattle.td_store_audit.specs.Totals.{AreTotals};
 ghost use Rattle.td_store_audit.specs.InFile.{IsHolderKeptInFile, TellsWhere};
 ghost use Rattle.typed_sql.specs.Reading.{IsInside};
 
-use crate::tallies::HolderLines;
-use crate::totals::total_on;
+use crate::ranges::range_end;
+use crate::tallies::HolderTotals;
 use sqlite::{Error, Transaction};
 use sqlite_trees::store::Alter;
 use std::alloc::Global;
-use td_schema::VERSION_WITH_AMOUNTS;
-use td_store_rows::{KeptGuarantee, kept_of};
+use td_store_rows::{KeptGuarantee, kept_within};
 
-/// Whether the tables keep S7 as they stand in a file of that version, at an office of whatever country: a file of
-/// version 1 keeps no amounts. It is given what the rules of movements and of lines handed on of each holder, and reads the
-/// guarantees alone. `OutOfMemory`: want of memory; any other error is the database's own.
-pub(crate) fn amounts_keep_rule<S: Alter>(
+/// Whether the amounts on a holder's guarantees are what is in use on them, in a file that keeps them. It is given what the
+/// rules of movements and of lines hand on of the holder, and reads the guarantees alone. `OutOfMemory`: want of memory;
+/// any other error is the database's own.
+pub(crate) fn is_holder_kept<S: Alter>(
     alloc: Global,
     tx: &mut Transaction<'_, S>,
-    version: u32,
-    handed: &[HolderLines],
-) -> Result<bool, Error>
-    requires { IsInside (state S.Store tx.old.conn.now) }
-    ensures same_reference { tx.new.conn.ghost_name ≡ tx.old.conn.ghost_name }
-    ensures told { HasCleanDisk (state S.Store tx.new.conn.now)
-        → IfOk result (λ keeps. (country : List ℕ)
-        → TellsWhere (IsOfVersion version) (IsUseAuditable country handed.now) (λ layout trees. KeepsUntyped layout trees S7)
-        (state S.Store tx.old.conn.now) keeps) }
-    ensures reads { ReadsVersion version (is_ok result) (state S.Store tx.old.conn.now) (state S.Store tx.new.conn.now) }
-{
-    if version < VERSION_WITH_AMOUNTS {
-        return Ok(true);
-    }
-    all_holders_kept(alloc, tx, handed)
-}
-
-// Whether the amounts on each of the holders' guarantees are, in a file that keeps them.
-fn all_holders_kept<S: Alter>(
-    alloc: Global,
-    tx: &mut Transaction<'_, S>,
-    handed: &[HolderLines],
-) -> Result<bool, Error>
-    requires { IsInside (state S.Store tx.old.conn.now) }
-    ensures same_reference { tx.new.conn.ghost_name ≡ tx.old.conn.ghost_name }
-    ensures told { HasCleanDisk (state S.Store tx.new.conn.now)
-        → IfOk result (TellsWhere KeepsUse (λ layout trees. AllByRecursion (IsHandedOn layout trees) handed.now)
-        (λ layout trees. AllByRecursion (λ h. IsHolderKeptInFile layout trees (raw_holder_of h)) handed.now)
-        (state S.Store tx.old.conn.now)) }
-    ensures reads { ReadsKept (is_ok result) (state S.Store tx.old.conn.now) (state S.Store tx.new.conn.now) }
-{
-    'holders: for parts in handed {
-        if !is_holder_kept(alloc, tx, parts)? {
-            return Ok(false);
-        }
-    }
-    Ok(true)
-}
-
-// Whether those on a holder's guarantees are.
-fn is_holder_kept<S: Alter>(
-    alloc: Global,
-    tx: &mut Transaction<'_, S>,
-    parts: &HolderLines,
+    parts: &HolderTotals,
 ) -> Result<bool, Error>
     requires { IsInside (state S.Store tx.old.conn.now) }
     ensures same_reference { tx.new.conn.ghost_name ≡ tx.old.conn.ghost_name }
@@ -76,13 +31,28 @@ fn is_holder_kept<S: Alter>(
         (λ layout trees. IsHolderKeptInFile layout trees (raw_holder_of parts.now)) (state S.Store tx.old.conn.now)) }
     ensures reads { ReadsKept (is_ok result) (state S.Store tx.old.conn.now) (state S.Store tx.new.conn.now) }
 {
-    let rows = kept_of(alloc, tx, parts.movements.raw.holder)?;
-    Ok(all_rows_kept(parts, &rows))
+    let raw = &parts.movements.raw;
+    let Some(count) = raw.grn_count else {
+        return Ok(false);
+    };
+    let Some(end) = count.checked_add(1) else {
+        return Ok(false);
+    };
+    let mut first = 0;
+    'parts: while first < end {
+        let next = range_end(first, end);
+        let rows = kept_within(alloc, tx, raw.holder, first, next)?;
+        if !all_rows_kept(parts, &rows) {
+            return Ok(false);
+        }
+        first = next;
+    }
+    Ok(true)
 }
 
-// Whether those in rows are, by the holder's lines and the movements that count.
-fn all_rows_kept(parts: &HolderLines, rows: &[KeptGuarantee]) -> bool
-    ensures { IsTrue result ↔ AllByRecursion (IsKeptBy parts.now) rows.now }
+// Whether those in rows are, by what the holder's lines add up to.
+fn all_rows_kept(parts: &HolderTotals, rows: &[KeptGuarantee]) -> bool
+    ensures { (sums : ℕ → ℕ) → AreTotals sums parts.now.totals → IsTrue result ↔ AllByRecursion (IsKeptBy sums) rows.now }
 {
     'rows: for row in rows {
         if !is_row_kept(parts, row) {
@@ -93,11 +63,11 @@ fn all_rows_kept(parts: &HolderLines, rows: &[KeptGuarantee]) -> bool
 }
 
 // Whether the amount in a row is.
-fn is_row_kept(parts: &HolderLines, row: &KeptGuarantee) -> bool
-    ensures { IsTrue result ↔ IsKeptBy parts.now row.now }
+fn is_row_kept(parts: &HolderTotals, row: &KeptGuarantee) -> bool
+    ensures { (sums : ℕ → ℕ) → AreTotals sums parts.now.totals → IsTrue result ↔ IsKeptBy sums row.now }
 {
     let kept = row.used.get();
-    let Some(used) = total_on(row.serial, &parts.lines, &parts.movements.serials) else {
+    let Some(used) = parts.totals.on(row.serial) else {
         return false;
     };
     used.get() == kept

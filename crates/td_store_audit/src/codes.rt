@@ -1,25 +1,28 @@
-//! Whether the codes of guarantees keep their rule as they stand in a store's file.
-ghost use Rattle.std.specs.Prelude.{◌≡◌, ◌↔◌, IsTrue, IfOk, OnOk, is_ok};
-ghost use Rattle.std.specs.List.{AllByRecursion};
+//! S4: each code is of a guarantee of its holder's, and each guarantee has 1 to 20.
+ghost use Rattle.std.specs.Prelude.{◌≡◌, IfOk, is_ok};
 ghost use Rattle.sqlite.specs.Held.{state};
-ghost use Rattle.sqlite.specs.State.{HasCleanDisk, KeepsCommit, Survives};
+ghost use Rattle.sqlite.specs.State.{HasCleanDisk};
 ghost use Rattle.typed_sql.specs.Reading.{IsInside};
 ghost use Rattle.typed_sql.specs.Typed.{AreTyped};
 ghost use Rattle.td_store_rows.specs.StoreReads.{IsAny, ReadsStore};
-ghost use Rattle.td_store_audit.specs.InFile.{OnlyReadIn, TellsWhere};
+ghost use Rattle.td_store_audit.specs.InFile.{TellsWhere};
 ghost use Rattle.td_store_rows.specs.Columns.{code_typing};
-ghost use Rattle.td_table_model.specs.declared.rule.Rule.TheVariants.{S4};
-ghost use Rattle.td_store_audit.specs.Premises.{HasCodesInPlace, TellsCodes};
+ghost use Rattle.td_store_audit.specs.Premises.{HasCodesInPlace, TellsCodesWithin};
 
-use crate::codes_in_place::codes_are_in_place;
-use crate::finding::codes_of_holder;
-use sqlite::{Error, Transaction};
+use crate::codes_in_place::codes_within_are_in_place;
+use crate::finding::{codes_within, has_code_behind};
+use crate::ranges::range_end;
+use sqlite::{Error, ErrorCode, Transaction};
 use sqlite_trees::store::Alter;
 use std::alloc::Global;
+use td_base::HolderNo;
 use td_store_audit_rows::RawHolder;
 
-// Whether a holder's count of guarantees can be read, and the holder's codes are in their places by it.
-fn has_codes<S: Alter>(
+/// Whether a holder's count of guarantees can be read, and the holder's codes are in their places by it: each is of a
+/// guarantee of the holder's, and each guarantee has 1 to 20. The codes of few guarantees are read at once.
+/// `DatabaseCorrupt`: the count is 2^32 - 1, which no sound table has; `OutOfMemory`: want of memory; any other error is
+/// the database's own.
+pub(crate) fn has_codes<S: Alter>(
     alloc: Global,
     tx: &mut Transaction<'_, S>,
     raw: &RawHolder,
@@ -31,57 +34,39 @@ fn has_codes<S: Alter>(
         (state S.Store tx.old.conn.now)) }
     ensures reads { ReadsStore (is_ok result) (state S.Store tx.old.conn.now) (state S.Store tx.new.conn.now) }
 {
-    let codes = codes_of_holder(alloc, tx, raw.holder)?;
-    let Some(guarantees) = raw.grn_count else {
+    let Some(count) = raw.grn_count else {
         return Ok(false);
     };
-    Ok(codes_are_in_place(guarantees, &codes))
+    let Some(end) = count.checked_add(1) else {
+        return Err(Error::SqliteFailure(ErrorCode::DatabaseCorrupt));
+    };
+    if !has_codes_below(alloc, tx, raw.holder, end)? {
+        return Ok(false);
+    }
+    Ok(!has_code_behind(alloc, tx, raw.holder, count)?)
 }
 
-// Whether each holder's are.
-fn all_have_codes<S: Alter>(
+// Whether a holder's codes of the guarantees with serials below `end` are in their places, read range by range.
+fn has_codes_below<S: Alter>(
     alloc: Global,
     tx: &mut Transaction<'_, S>,
-    holders: &[RawHolder],
+    holder: HolderNo,
+    end: u32,
 ) -> Result<bool, Error>
     requires { IsInside (state S.Store tx.old.conn.now) }
     ensures same_reference { tx.new.conn.ghost_name ≡ tx.old.conn.ghost_name }
     ensures told { HasCleanDisk (state S.Store tx.new.conn.now)
-        → IfOk result (TellsWhere IsAny (λ layout. AreTyped code_typing)
-        (λ layout trees. AllByRecursion (HasCodesInPlace trees) holders.now) (state S.Store tx.old.conn.now)) }
+        → IfOk result (TellsCodesWithin holder 0 end (state S.Store tx.old.conn.now)) }
     ensures reads { ReadsStore (is_ok result) (state S.Store tx.old.conn.now) (state S.Store tx.new.conn.now) }
 {
-    'holders: for raw in holders {
-        if !has_codes(alloc, tx, raw)? {
+    let mut first = 0;
+    'parts: while first < end {
+        let next = range_end(first, end);
+        let rows = codes_within(alloc, tx, holder, first, next)?;
+        if !codes_within_are_in_place(first, next, &rows) {
             return Ok(false);
         }
+        first = next;
     }
     Ok(true)
-}
-
-/// Whether the codes keep their rule as they stand in the file: each can be read and is of a guarantee of its holder's, and each
-/// guarantee has 1 to 20. The holders are all that the file has, and it is given whether each
-/// row of the table can be read. `OutOfMemory`: want of memory; any other error is the database's
-/// own. It changes nothing.
-pub fn codes_keep_rule<S: Alter>(
-    alloc: Global,
-    tx: &mut Transaction<'_, S>,
-    holders: &[RawHolder],
-    are_read: bool,
-) -> Result<bool, Error>
-    requires { HasCleanDisk (state S.Store tx.old.conn.now) → IsTrue (state S.Store tx.old.conn.now).in_transaction }
-    ensures same_reference { tx.new.conn.ghost_name ≡ tx.old.conn.ghost_name }
-    ensures told { HasCleanDisk (state S.Store tx.new.conn.now)
-        → IfOk result (TellsCodes are_read holders.now (state S.Store tx.old.conn.now)) }
-    ensures still { HasCleanDisk (state S.Store tx.new.conn.now)
-        → OnOk result (OnlyReadIn IsAny (state S.Store tx.old.conn.now) (state S.Store tx.new.conn.now)) }
-    ensures inside { HasCleanDisk (state S.Store tx.new.conn.now) → OnOk result (IsTrue (state S.Store tx.new.conn.now).in_transaction) }
-    ensures kept { HasCleanDisk (state S.Store tx.new.conn.now)
-        → KeepsCommit (state S.Store tx.old.conn.now) (state S.Store tx.new.conn.now) }
-    ensures survives { Survives (state S.Store tx.old.conn.now) (state S.Store tx.new.conn.now) (λ _. ⊥) }
-{
-    if !are_read {
-        return Ok(false);
-    }
-    all_have_codes(alloc, tx, holders)
 }

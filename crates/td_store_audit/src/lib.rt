@@ -1,7 +1,7 @@
 //! Whether a store's file keeps the rules of sound tables, rule by rule, whatever stands in its tables, which of them it breaks
 //! first, and what the database itself keeps of them: each CHECK, UNIQUE and FOREIGN KEY of the schema, read of the rows. A table
-//! is scanned whole first, and then asked holder by holder. Each function that is given a transaction runs inside it and changes
-//! nothing.
+//! is scanned whole first, and then the holders are asked one after another. Each function that is given a transaction runs inside
+//! it and changes nothing.
 #![tactic(auto)]
 
 mod amounts;
@@ -18,16 +18,15 @@ mod lines;
 mod lines_in_place;
 mod movements;
 mod office;
+mod order;
+mod ranges;
 mod tallies;
 mod texts;
 mod totals;
 
 pub use audit::first_broken;
-pub use codes::codes_keep_rule;
 pub use connection::database_keeps;
-pub use finding::{codes_of_holder, lines_of_holder};
-pub use guarantees::guarantees_keep_rule;
-pub use holders::holders_keep_rule;
+pub use finding::{codes_within, has_code_behind, has_line_behind, lines_within};
 pub use laws::{
     older_files_have_nine_lines, schema_keeps_amounts, schema_keeps_codes, schema_keeps_guarantees,
     schema_keeps_holders, schema_keeps_lines, schema_keeps_movements, schema_keeps_tables,

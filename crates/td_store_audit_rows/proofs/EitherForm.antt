@@ -1,5 +1,5 @@
 -- An MRN that is compared with those that are made of its parts, in either form.
-use Rattle.std.proofs.Common.{◌≡◌, ◌≤◌, ◌%◌, ◌∙◌, ◌↔◌, ◌⊎◌, ℕ, List, Option, Some, None, SomeIff, true, false, arith, ap, sym, inl, inr}
+use Rattle.std.proofs.Common.{◌≡◌, ◌≤◌, ◌%◌, ◌∙◌, ◌↔◌, ℕ, List, Option, Some, None, SomeIff, true, false, arith, ap, sym, inl, inr}
 use Rattle.std.proofs.lemmas.Bool.{false≢true}
 use Rattle.std.proofs.lemmas.Slice.Eq.{bytes_eq-Decides}
 use Rattle.std.specs.Option.{option_eq}

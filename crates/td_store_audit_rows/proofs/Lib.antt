@@ -6,6 +6,7 @@ mod Forms
 mod Fields
 mod ReadRows
 mod Telling
+mod NextHolder
 mod Chained
 pub mod Identities
 pub mod ReadByRules

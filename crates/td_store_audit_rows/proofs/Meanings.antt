@@ -6,14 +6,16 @@ use Rattle.sqlite.specs.Listing.{understood}
 use Rattle.sqlite_value.specs.declared.keys.Collation.TheVariants.{Binary}
 use Rattle.sqlite_value.specs.declared.keys.Key.{Key}
 use Rattle.sqlite_value.specs.Keys.{ascending}
-use Rattle.sqlite_sql.specs.Term.{Term, col}
+use Rattle.sqlite_sql.specs.Term.{Term, col, op2}
+use Rattle.sqlite_sql.specs.declared.ops.BinaryOp.TheVariants.{Compare}
+use Rattle.sqlite_sql.specs.declared.ops.CompareOp.TheVariants.{Gt}
 use Rattle.typed_sql.specs.Meanings.{MeansSelect}
 use Rattle.td_schema.specs.Layouts.{guarantees_tree, lines_tree, schema_of, version_of}
 use Rattle.td_schema.specs.declared.layout.Layout.{Layout}
 use Rattle.td_schema.specs.declared.layout.Layout.TheVariants.{Made1, Made2, Grown2, Made3, Grown3From2, Grown3From1}
 use Rattle.td_store_rows.specs.StoreReads.{IsOfVersion}
 use Rattle.td_store_audit_rows.specs.Versions.{guarantees_text, lines_text}
-use Rattle.td_store_audit_rows.specs.declared.texts.TheConstants.{CODES, HOLDERS, HOLDER_IDS, META_IDS, MOVEMENTS}
+use Rattle.td_store_audit_rows.specs.declared.texts.TheConstants.{CODES, HOLDERS_ABOVE, HOLDER_IDS, META_IDS, MOVEMENTS}
 
 -- by the rowid
 abbrev pub by_rowid : List (Term × Key)
@@ -57,17 +59,21 @@ holder_ids_mean Made3 = record { names = codes "holder" ∷ []; command = refl; 
 holder_ids_mean Grown3From2 = record { names = codes "holder" ∷ []; command = refl; plain = (refl, refl); unlisted = refl }
 holder_ids_mean Grown3From1 = record { names = codes "holder" ∷ []; command = refl; plain = (refl, refl); unlisted = refl }
 
+-- the holder's number is above the value that was given
+abbrev pub above_tests : List Term
+above_tests = op2 (Compare Gt Binary) (col 1 0) (col 0 0) ∷ []
+
 abbrev holder_names : List (List ℕ)
 holder_names = codes "holder" ∷ codes "eori" ∷ codes "last_at" ∷ codes "grn_count" ∷ codes "mrn_count" ∷ []
 
-pub holders_mean : (l : Layout) → MeansSelect (schema_of l) HOLDERS.now 1 [] holder_terms by_rowid
+pub holders_above_mean : (l : Layout) → MeansSelect (schema_of l) HOLDERS_ABOVE.now 1 above_tests holder_terms by_rowid
 unfolding understood everything
-holders_mean Made1 = record { names = holder_names; command = refl; plain = (refl, refl); unlisted = refl }
-holders_mean Made2 = record { names = holder_names; command = refl; plain = (refl, refl); unlisted = refl }
-holders_mean Grown2 = record { names = holder_names; command = refl; plain = (refl, refl); unlisted = refl }
-holders_mean Made3 = record { names = holder_names; command = refl; plain = (refl, refl); unlisted = refl }
-holders_mean Grown3From2 = record { names = holder_names; command = refl; plain = (refl, refl); unlisted = refl }
-holders_mean Grown3From1 = record { names = holder_names; command = refl; plain = (refl, refl); unlisted = refl }
+holders_above_mean Made1 = record { names = holder_names; command = refl; plain = (refl, refl); unlisted = refl }
+holders_above_mean Made2 = record { names = holder_names; command = refl; plain = (refl, refl); unlisted = refl }
+holders_above_mean Grown2 = record { names = holder_names; command = refl; plain = (refl, refl); unlisted = refl }
+holders_above_mean Made3 = record { names = holder_names; command = refl; plain = (refl, refl); unlisted = refl }
+holders_above_mean Grown3From2 = record { names = holder_names; command = refl; plain = (refl, refl); unlisted = refl }
+holders_above_mean Grown3From1 = record { names = holder_names; command = refl; plain = (refl, refl); unlisted = refl }
 
 abbrev guarantee_names : List (List ℕ)
 guarantee_names = codes "rowid" ∷ codes "holder" ∷ codes "serial" ∷ codes "grn" ∷ codes "reference" ∷ codes "cover" ∷ codes "ends" ∷ []

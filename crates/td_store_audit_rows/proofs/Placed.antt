@@ -34,8 +34,8 @@ module _ {S R : Type 0} (row : S → R) (key : R → ℕ) (P : R → Type 0) whe
       let later = each_placed (n + 1) xs numbers.1 keeps.1 j d (omega (arith, within)) in (later.0 ∙ omega arith, later.1)
 
   -- one more is in its place
-  pub one_more : (xs : List S) (i : ℕ) (x : S) → ((j : ℕ) (d : S) → j < i → IsPlaced 0 xs j d) → i < length xs → x ≡ get_or xs i x → (key (row x) ≡ i + 1) → P (row x)
-      → (j : ℕ) (d : S) → j < i + 1 → IsPlaced 0 xs j d
-  one_more xs i x before there is serial keeps j d =
-      up_to (λ k. IsPlaced 0 xs k d) i (λ k less. before k d less)
-      (subst (λ (y : S). (key (row y) ≡ 0 + (i + 1)) × P (row y)) (is ∙ get_or_default xs i x d there) (serial ∙ omega arith, keeps)) j
+  pub one_more : (n : ℕ) (xs : List S) (i : ℕ) (x : S) → ((j : ℕ) (d : S) → j < i → IsPlaced n xs j d) → i < length xs → x ≡ get_or xs i x → (key (row x) ≡ n + (i + 1)) → P (row x)
+      → (j : ℕ) (d : S) → j < i + 1 → IsPlaced n xs j d
+  one_more n xs i x before there is serial keeps j d =
+      up_to (λ k. IsPlaced n xs k d) i (λ k less. before k d less)
+      (subst (λ (y : S). (key (row y) ≡ n + (i + 1)) × P (row y)) (is ∙ get_or_default xs i x d there) (serial, keeps)) j

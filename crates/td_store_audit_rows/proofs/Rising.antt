@@ -1,33 +1,21 @@
 -- Rows that are seen to rise, one after another.
-use Rattle.std.proofs.Common.{◌≡◌, ◌∙◌, ℕ, ◌+◌, ◌≤◌, ◌<◌, Bool, true, false, cond, List, [], ◌∷◌, ◌++◌, length, take, get_or, Option, Some, None, refl, sym, subst, ap, arith}
+use Rattle.std.proofs.Common.{◌≡◌, ◌∙◌, ◌+◌, ◌≤◌, Bool, true, false, cond, List, [], ◌∷◌, ◌++◌, length, Option, Some, None, refl, sym, subst, ap, arith}
 use Rattle.std.specs.Prelude.{ℤ, ◌<ℤ◌, ◌≤ℤ◌, IfSome, IsSome, filter}
 use Rattle.std.specs.List.{AllByRecursion}
 use Rattle.std.specs.Ordering.{int_cmp, is_eq}
 use Rattle.std.proofs.lemmas.Int.{ints}
-use Rattle.std.proofs.lemmas.List.{take_more}
 use Rattle.sqlite_value.specs.declared.value.Value.TheVariants.{Int}
 use Rattle.sqlite_value.specs.Order.{Row, column, value_cmp}
 use Rattle.sqlite_value.proofs.OrderLemmas.{value_cmp-Int}
-use Rattle.sqlite_trees.specs.Tree.{IsAscending, has_rowid, rowid}
+use Rattle.sqlite_trees.specs.Tree.{has_rowid, rowid}
 use Rattle.sqlite_trees.proofs.ListLemmas.{all_weaker}
 use Rattle.sqlite_rules.specs.Edit.{id_in}
 use Rattle.td_store_audit_rows.specs.Ids.{IsAbove}
 use Rattle.td_store_audit_rows.specs.Rising.{AreUpTo, HaveRisen}
 
--- what holds of the elements up to a place, and the one there
-pub take_next : {X : Type 0} (P : List X → Type 0) (xs : List X) (i : ℕ) (x : X) → i < length xs → x ≡ get_or xs i x
-    → P (take i xs ++ x ∷ []) → P (take (i + 1) xs)
-take_next P xs i x within is holds = subst P (ap (λ y. take i xs ++ y ∷ []) is ∙ sym (take_more xs i x within)) holds
-
-pub all_push : {X : Type 0} (P : X → Type 0) (xs : List X) (y : X) → AllByRecursion P xs → P y → AllByRecursion P (xs ++ y ∷ [])
+all_push : {X : Type 0} (P : X → Type 0) (xs : List X) (y : X) → AllByRecursion P xs → P y → AllByRecursion P (xs ++ y ∷ [])
 all_push P [] y all last = (last, tt)
 all_push P (x ∷ xs) y all last = (all.0, all_push P xs y all.1 last)
-
--- one element more, above all before it
-pub ascending_push : {X : Type 0} (R : X → X → Type 0) (xs : List X) (y : X) → IsAscending R xs → AllByRecursion (λ x. R x y) xs
-    → IsAscending R (xs ++ y ∷ [])
-ascending_push R [] y rise below = (tt, tt)
-ascending_push R (x ∷ xs) y rise below = (all_push (R x) xs y rise.0 below.0, ascending_push R xs y rise.1 below.1)
 
 count_push : (p : Row → Bool) (xs : List Row) (y : Row) → length (filter p (xs ++ y ∷ [])) ≡ length (filter p xs) + length (filter p (y ∷ []))
 count_push p [] y = omega arith

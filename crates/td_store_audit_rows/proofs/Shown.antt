@@ -21,7 +21,7 @@ all_pass values (r ∷ rows) = ap (λ l. r ∷ l) (all_pass values rows)
 module _ (rows answer : List Row) (values : Row) (show : Row → Row) (order : Row → Row → Ordering)
     (a : IsAnswerOf rows (passes values []) show order answer) where
   -- the rows that were found are those of the table
-  pub found_all : IsPermutation rows a.found
+  found_all : IsPermutation rows a.found
   found_all = subst (λ l. IsPermutation l a.found) (all_pass values rows) a.all
 
   pub told_of_rows : (P : Row → Type 0) (b : Bool) → IsTrue b ↔ AllByRecursion P answer → IsTrue b ↔ AllByRecursion (λ r. P (show r)) rows

@@ -3,11 +3,7 @@ use Rattle.std.specs.Prelude.{ℕ, ◌<◌, List, map, Option, Some}
 use Rattle.std.specs.List.Sorted.{IsPermutation}
 use Rattle.sqlite_value.specs.Order.{Row, column}
 use Rattle.sqlite_trees.specs.Tree.{IsAscending, Trees}
-use Rattle.sqlite.specs.State.{State}
-use Rattle.typed_sql.specs.Writing.{HasSchema}
 use Rattle.td_schema.specs.Fields.{eori_in, holder_in, moment_in, serial_in}
-use Rattle.td_schema.specs.Layouts.{schema_of}
-use Rattle.td_schema.specs.declared.layout.Layout.{Layout}
 use Rattle.td_store_rows.specs.Columns.{holder_columns, holder_typing}
 use Rattle.td_store_audit_rows.specs.declared.holders.RawHolder.{RawHolder}
 
@@ -45,10 +41,6 @@ fields_of_raw h = record {
 -- these are all holders, each once: the fields of each row
 abbrev pub AreHoldersIn : Trees → List RawHolder → Type 0
 AreHoldersIn trees found = IsPermutation (map fields_of (trees holder_typing.table.tree)) (map fields_of_raw found)
-
--- so they are where the file has the tables of a layout
-abbrev pub AreAllHolders : State → List RawHolder → Type 0
-AreAllHolders state found = (l : Layout) → HasSchema state (schema_of l) → AreHoldersIn state.now.trees found
 
 -- their numbers rise
 abbrev pub NumbersRise : List RawHolder → Type 0

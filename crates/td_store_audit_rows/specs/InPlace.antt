@@ -1,6 +1,6 @@
 -- One holder's rows that keep the rules of sound tables, given by their serials or numbers. What stands in each column is
 -- what its field's type says; these are the rules beyond that.
-use Rattle.std.specs.Prelude.{◌≡◌, ℕ, ◌≤◌, List, length}
+use Rattle.std.specs.Prelude.{◌≡◌, ℕ, ◌+◌, ◌≤◌, List, length}
 use Rattle.std.specs.List.{AllByRecursion}
 use Rattle.td_base.specs.References.{greatest_grn_serial, greatest_older_mrn_serial}
 use Rattle.td_guarantee.specs.declared.guarantee.Guarantee.{Guarantee}
@@ -30,19 +30,26 @@ pub record IsLineInPlace (guarantees : ℕ) (l : Keyed LineCells) : Type 0 where
   pub last : named_by l ≤ guarantees
   pub amount : IsLineAmount l.row.cents
 
--- a holder's guarantees, of which the holder's row counts so many: none is left out, and each is in its place
-pub record AreGuaranteesInPlace (country : List ℕ) (counted : ℕ) (rows : List (Keyed Guarantee)) : Type 0 where
-  pub serials : IsNumbered place 0 rows
-  pub count : counted ≡ length rows
-  pub most : counted ≤ greatest_grn_serial
-  pub each : AllByRecursion (IsGuaranteeInPlace country) rows
+-- rows of a holder from the one after a serial on up to another, which is at most the greatest that may stand: none is left out, and
+-- each is in its place
+pub record AreNext {R : Type 0} (IsPlaced : Keyed R → Type 0) (greatest before last : ℕ) (rows : List (Keyed R)) : Type 0 where
+  pub serials : IsNumbered place before rows
+  pub count : last ≡ before + length rows
+  pub most : last ≤ greatest
+  pub each : AllByRecursion IsPlaced rows
 
--- a holder's movements, likewise
-pub record AreMovementsInPlace (country : List ℕ) (counted : ℕ) (rows : List (Keyed Movement)) : Type 0 where
-  pub serials : IsNumbered place 0 rows
-  pub count : counted ≡ length rows
-  pub most : counted ≤ greatest_older_mrn_serial
-  pub each : AllByRecursion (IsMovementInPlace country) rows
+abbrev pub AreNextGuarantees : List ℕ → ℕ → ℕ → List (Keyed Guarantee) → Type 0
+AreNextGuarantees country = AreNext (IsGuaranteeInPlace country) greatest_grn_serial
+
+abbrev pub AreNextMovements : List ℕ → ℕ → ℕ → List (Keyed Movement) → Type 0
+AreNextMovements country = AreNext (IsMovementInPlace country) greatest_older_mrn_serial
+
+-- all guarantees of a holder, of which the holder's row counts so many; all movements
+abbrev pub AreGuaranteesInPlace : List ℕ → ℕ → List (Keyed Guarantee) → Type 0
+AreGuaranteesInPlace country = AreNextGuarantees country 0
+
+abbrev pub AreMovementsInPlace : List ℕ → ℕ → List (Keyed Movement) → Type 0
+AreMovementsInPlace country = AreNextMovements country 0
 
 -- the lines of a movement of a holder who has so many guarantees: 1 to 99, no two on one guarantee
 pub record AreLinesInPlace (guarantees : ℕ) (rows : List (Keyed LineCells)) : Type 0 where

@@ -5,6 +5,7 @@ pub mod Versions
 pub mod Laws
 pub mod Rising
 pub mod Holders
+pub mod NextHolder
 pub mod Fields
 pub mod Scans
 pub mod Told

@@ -1,18 +1,21 @@
 //! The holders, whatever stands in their columns.
-ghost use Rattle.std.specs.Prelude.{◌≡◌, ◌<◌, IsTrue, IfOk, is_ok};
+ghost use Rattle.std.specs.Prelude.{◌≡◌, ◌<◌, [], ◌∷◌, IfOk, IfSome, is_ok};
 ghost use Rattle.sqlite.specs.Held.{state};
 ghost use Rattle.sqlite.specs.State.{HasCleanDisk};
+ghost use Rattle.sqlite.specs.Values.{bound};
 ghost use Rattle.typed_sql.specs.Reading.{IsInside};
+ghost use Rattle.typed_sql.specs.Values.{number_value};
 ghost use Rattle.td_store_rows.specs.StoreReads.{ReadsStore};
-ghost use Rattle.td_store_audit_rows.specs.Holders.{AreAllHolders, NumbersRise};
+ghost use Rattle.td_store_audit_rows.specs.NextHolder.{IsNextHolder};
 
-use crate::texts::HOLDERS;
+use crate::texts::HOLDERS_ABOVE;
 use sqlite::{Error, ErrorCode, Row, Transaction};
 use sqlite_trees::store::Alter;
+use sqlite_value::value::ValueRef;
 use std::alloc::Global;
 use td_base::{Eori, HolderNo, Moment};
-use td_schema::{eori_at, holder_at, moment_at, serial_at};
-use typed_sql::FromRow;
+use td_schema::{eori_at, holder_at, moment_at, number_of, serial_at};
+use typed_sql::{FromRow, fetch_first};
 
 /// A holder as the row has it: each field is `None` where the column holds no such field.
 #[derive(Clone, Copy, Debug, PartialEq, Eq)]
@@ -45,37 +48,34 @@ impl FromRow for RawHolder {
     }
 }
 
-// Whether the numbers of holders rise.
-fn numbers_rise(holders: &[RawHolder]) -> bool
-    ensures { IsTrue result → NumbersRise holders.now }
+// What the holders above a number are asked for by.
+fn above_key(number: u32) -> [ValueRef<'static>; 1]
+    ensures { bound result ≡ number_value number ∷ [] }
 {
-    let mut last = 0;
-    for raw in holders {
-        let number = raw.holder.number();
-        if number <= last {
-            return false;
-        }
-        last = number;
-    }
-    true
+    [number_of(number)]
 }
 
-/// All holders, by their numbers. `DatabaseCorrupt`: a row's number is no holder's, or isn't above the one before it;
-/// `OutOfMemory`: want of memory; any other error is the database's own. It changes nothing.
-pub fn all_holders<S: Alter>(
+/// The holder with the least number above that one, if there is one: no other row is fetched. The number found is above
+/// that one whatever the disk returns. `DatabaseCorrupt`: the row's number is no holder's, or isn't above; `OutOfMemory`:
+/// want of memory; any other error is the database's own. It changes nothing.
+pub fn holder_above<S: Alter>(
     alloc: Global,
     tx: &mut Transaction<'_, S>,
-) -> Result<Vec<RawHolder>, Error>
+    number: u32,
+) -> Result<Option<RawHolder>, Error>
     requires { IsInside (state S.Store tx.old.conn.now) }
     ensures same_reference { tx.new.conn.ghost_name ≡ tx.old.conn.ghost_name }
     ensures found { HasCleanDisk (state S.Store tx.new.conn.now)
-        → IfOk result (λ found. AreAllHolders (state S.Store tx.old.conn.now) found.items) }
-    ensures order { IfOk result (λ found. NumbersRise found.items) }
+        → IfOk result (IsNextHolder number (state S.Store tx.old.conn.now)) }
+    ensures above { IfOk result (λ found. IfSome found (λ raw. number < raw.holder)) }
     ensures reads { ReadsStore (is_ok result) (state S.Store tx.old.conn.now) (state S.Store tx.new.conn.now) }
 {
-    let found: Vec<RawHolder> = typed_sql::fetch(alloc, tx, HOLDERS, &[])?;
-    if !numbers_rise(&found) {
+    let Some(raw) = fetch_first::<S, RawHolder>(alloc, tx, HOLDERS_ABOVE, &above_key(number))?
+    else {
+        return Ok(None);
+    };
+    if raw.holder.number() <= number {
         return Err(Error::SqliteFailure(ErrorCode::DatabaseCorrupt));
     }
-    Ok(found)
+    Ok(Some(raw))
 }

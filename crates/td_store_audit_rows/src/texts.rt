@@ -1,4 +1,4 @@
-//! The statements of the audit: each shows all rows of a table.
+//! The statements of the audit: each but that on holders shows all rows of a table.
 ghost use Rattle.std.specs.Prelude.{◌≡◌};
 ghost use Rattle.td_store_audit_rows.specs.Versions.{guarantees_text, lines_text};
 
@@ -9,9 +9,9 @@ pub const META_IDS: &str = "SELECT rowid FROM meta ORDER BY rowid";
 
 pub const HOLDER_IDS: &str = "SELECT rowid FROM holders ORDER BY rowid";
 
-/// All holders, by their numbers.
-pub const HOLDERS: &str =
-    "SELECT holder, eori, last_at, grn_count, mrn_count FROM holders ORDER BY holder";
+/// The holders above a number, by their numbers.
+pub const HOLDERS_ABOVE: &str =
+    "SELECT holder, eori, last_at, grn_count, mrn_count FROM holders WHERE holder > ?1 ORDER BY holder";
 
 /// All rows of the other tables, with their rowids, which rise: of guarantees in a file of version 1, and in a later
 /// one; of lines in a file below version 3, and in a later one.

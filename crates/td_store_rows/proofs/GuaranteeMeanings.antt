@@ -18,10 +18,11 @@ use Rattle.td_schema.specs.declared.layout.Layout.{Layout}
 use Rattle.td_schema.specs.declared.layout.Layout.TheVariants.{Made1, Made2, Grown2, Made3, Grown3From2, Grown3From1}
 use Rattle.typed_sql.specs.Meanings.{HasTable, MeansDelete, MeansInsert, MeansUpdate, MeansSelect}
 use Rattle.td_store_rows.specs.Columns.{guarantees_table}
-use Rattle.td_store_rows.specs.GuaranteeTexts.{of_holder_text}
+use Rattle.td_store_rows.specs.GuaranteeTexts.{next_of_holder_text, within_text}
 use Rattle.td_store_rows.specs.KeptTable.{first_guarantees}
+use Rattle.td_store_rows.proofs.RangeTests.{within_tests}
 use Rattle.td_store_rows.specs.StoreReads.{IsOfVersion, KeepsUse}
-use Rattle.td_store_rows.specs.declared.guarantees.texts.TheConstants.{INSERT, SET_TERMS, ADD_USED, TAKE_USED, BY_GRN, BY_SERIAL, KEPT_OF_HOLDER, NEXT_KEPT_OF_HOLDER, KEPT_OF_HOLDERS_ABOVE, KEPT_ALL, EMPTY_FIRST}
+use Rattle.td_store_rows.specs.declared.guarantees.texts.TheConstants.{INSERT, SET_TERMS, ADD_USED, TAKE_USED, BY_GRN, BY_SERIAL, KEPT_WITHIN, NEXT_KEPT_OF_HOLDER, KEPT_OF_HOLDERS_ABOVE, KEPT_ALL, EMPTY_FIRST}
 
 guarantees_there : (l : Layout) → HasTable (schema_of l) (guarantees_place l) (guarantees_table l)
 guarantees_there Made1 = record { there = refl; free = none_acts Made1 (guarantees_tree Made1) }
@@ -40,9 +41,6 @@ grn_tests = equals 1 0 ∷ equals 2 1 ∷ equals 3 2 ∷ []
 
 abbrev pub serial_tests : List Term
 serial_tests = equals 1 0 ∷ equals 2 1 ∷ []
-
-abbrev pub holder_tests : List Term
-holder_tests = equals 1 0 ∷ []
 
 -- a column is above the value that was given at a place
 abbrev pub exceeds : ℕ → ℕ → Term
@@ -137,14 +135,14 @@ by_serial_means Made3 keeps = record { names = six; command = refl; plain = (ref
 by_serial_means Grown3From2 keeps = record { names = six; command = refl; plain = (refl, refl); unlisted = refl }
 by_serial_means Grown3From1 keeps = record { names = six; command = refl; plain = (refl, refl); unlisted = refl }
 
-pub kept_of_holder_means : (l : Layout) → KeepsUse l → MeansSelect (schema_of l) KEPT_OF_HOLDER.now (guarantees_tree l) holder_tests all_columns by_serial
+pub kept_within_means : (l : Layout) → KeepsUse l → MeansSelect (schema_of l) KEPT_WITHIN.now (guarantees_tree l) within_tests all_columns by_serial
 unfolding understood everything
-kept_of_holder_means Made1 keeps = absurd (omega (arith, keeps))
-kept_of_holder_means Made2 keeps = record { names = seven; command = refl; plain = (refl, refl); unlisted = refl }
-kept_of_holder_means Grown2 keeps = record { names = seven; command = refl; plain = (refl, refl); unlisted = refl }
-kept_of_holder_means Made3 keeps = record { names = seven; command = refl; plain = (refl, refl); unlisted = refl }
-kept_of_holder_means Grown3From2 keeps = record { names = seven; command = refl; plain = (refl, refl); unlisted = refl }
-kept_of_holder_means Grown3From1 keeps = record { names = seven; command = refl; plain = (refl, refl); unlisted = refl }
+kept_within_means Made1 keeps = absurd (omega (arith, keeps))
+kept_within_means Made2 keeps = record { names = seven; command = refl; plain = (refl, refl); unlisted = refl }
+kept_within_means Grown2 keeps = record { names = seven; command = refl; plain = (refl, refl); unlisted = refl }
+kept_within_means Made3 keeps = record { names = seven; command = refl; plain = (refl, refl); unlisted = refl }
+kept_within_means Grown3From2 keeps = record { names = seven; command = refl; plain = (refl, refl); unlisted = refl }
+kept_within_means Grown3From1 keeps = record { names = seven; command = refl; plain = (refl, refl); unlisted = refl }
 
 pub next_kept_of_holder_means : (l : Layout) → KeepsUse l → MeansSelect (schema_of l) NEXT_KEPT_OF_HOLDER.now (guarantees_tree l) after_tests all_columns by_serial
 unfolding understood everything
@@ -173,19 +171,33 @@ kept_all_means Made3 keeps = record { names = seven; command = refl; plain = (re
 kept_all_means Grown3From2 keeps = record { names = seven; command = refl; plain = (refl, refl); unlisted = refl }
 kept_all_means Grown3From1 keeps = record { names = seven; command = refl; plain = (refl, refl); unlisted = refl }
 
-of_holder_at : (l : Layout) → MeansSelect (schema_of l) (of_holder_text (version_of l)) (guarantees_tree l) holder_tests six_columns by_serial
+within_at : (l : Layout) → MeansSelect (schema_of l) (within_text (version_of l)) (guarantees_tree l) within_tests six_columns by_serial
 unfolding understood everything
-of_holder_at Made1 = record { names = six; command = refl; plain = (refl, refl); unlisted = refl }
-of_holder_at Made2 = record { names = six; command = refl; plain = (refl, refl); unlisted = refl }
-of_holder_at Grown2 = record { names = six; command = refl; plain = (refl, refl); unlisted = refl }
-of_holder_at Made3 = record { names = six; command = refl; plain = (refl, refl); unlisted = refl }
-of_holder_at Grown3From2 = record { names = six; command = refl; plain = (refl, refl); unlisted = refl }
-of_holder_at Grown3From1 = record { names = six; command = refl; plain = (refl, refl); unlisted = refl }
+within_at Made1 = record { names = six; command = refl; plain = (refl, refl); unlisted = refl }
+within_at Made2 = record { names = six; command = refl; plain = (refl, refl); unlisted = refl }
+within_at Grown2 = record { names = six; command = refl; plain = (refl, refl); unlisted = refl }
+within_at Made3 = record { names = six; command = refl; plain = (refl, refl); unlisted = refl }
+within_at Grown3From2 = record { names = six; command = refl; plain = (refl, refl); unlisted = refl }
+within_at Grown3From1 = record { names = six; command = refl; plain = (refl, refl); unlisted = refl }
 
-pub of_holder_means : (version : ℕ) (l : Layout) → IsOfVersion version l
-    → MeansSelect (schema_of l) (of_holder_text version) (guarantees_tree l) holder_tests six_columns by_serial
-of_holder_means version l is =
-    subst (λ v. MeansSelect (schema_of l) (of_holder_text v) (guarantees_tree l) holder_tests six_columns by_serial) is (of_holder_at l)
+pub within_means : (version : ℕ) (l : Layout) → IsOfVersion version l
+    → MeansSelect (schema_of l) (within_text version) (guarantees_tree l) within_tests six_columns by_serial
+within_means version l is =
+    subst (λ v. MeansSelect (schema_of l) (within_text v) (guarantees_tree l) within_tests six_columns by_serial) is (within_at l)
+
+next_of_holder_at : (l : Layout) → MeansSelect (schema_of l) (next_of_holder_text (version_of l)) (guarantees_tree l) after_tests six_columns by_serial
+unfolding understood everything
+next_of_holder_at Made1 = record { names = six; command = refl; plain = (refl, refl); unlisted = refl }
+next_of_holder_at Made2 = record { names = six; command = refl; plain = (refl, refl); unlisted = refl }
+next_of_holder_at Grown2 = record { names = six; command = refl; plain = (refl, refl); unlisted = refl }
+next_of_holder_at Made3 = record { names = six; command = refl; plain = (refl, refl); unlisted = refl }
+next_of_holder_at Grown3From2 = record { names = six; command = refl; plain = (refl, refl); unlisted = refl }
+next_of_holder_at Grown3From1 = record { names = six; command = refl; plain = (refl, refl); unlisted = refl }
+
+pub next_of_holder_means : (version : ℕ) (l : Layout) → IsOfVersion version l
+    → MeansSelect (schema_of l) (next_of_holder_text version) (guarantees_tree l) after_tests six_columns by_serial
+next_of_holder_means version l is =
+    subst (λ v. MeansSelect (schema_of l) (next_of_holder_text v) (guarantees_tree l) after_tests six_columns by_serial) is (next_of_holder_at l)
 
 pub empty_means : MeansDelete (schema_of Grown2) EMPTY_FIRST.now first_guarantees []
 unfolding understood everything

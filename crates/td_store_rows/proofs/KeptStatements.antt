@@ -20,11 +20,12 @@ use Rattle.td_schema.specs.Tables.{guarantees2}
 use Rattle.td_schema.specs.Layouts.{schema_of}
 use Rattle.td_schema.specs.declared.layout.Layout.{Layout}
 use Rattle.td_store_rows.proofs.GuaranteeCells.{bare_kept, columns_at, given_else, kept_back, kept_stored, stored_at}
-use Rattle.td_store_rows.proofs.GuaranteeMeanings.{above_tests, add_means, after_tests, amount_columns, by_serial, grn_tests, holder_tests, insert_means, new_row, serial_tests, set_columns, set_means, take_means}
+use Rattle.td_store_rows.proofs.GuaranteeMeanings.{above_tests, add_means, after_tests, amount_columns, by_serial, grn_tests, insert_means, new_row, serial_tests, set_columns, set_means, take_means}
 use Rattle.td_store_rows.specs.Columns.{guarantees_table, kept_cells, kept_columns, kept_typing}
-use Rattle.td_store_rows.specs.GuaranteeTable.{has_serial, is_of}
+use Rattle.td_store_rows.specs.GuaranteeTable.{has_serial}
 use Rattle.td_store_rows.specs.KeptTable.{AreKept, AreKeptBySerial, HasInUse, HasRoom, TurnsKept, TurnsWhere, has_kept_grn, kept_row_of, terms_values, with_less, with_more, with_new_kept_terms}
-use Rattle.td_store_rows.specs.Places.{by_place, is_above, is_after}
+use Rattle.td_store_rows.specs.Places.{by_place, is_above, is_after, is_within}
+use Rattle.td_store_rows.proofs.RangeTests.{is_owned, within_passes, within_tests}
 use Rattle.td_store_rows.specs.StoreReads.{KeepsUse}
 use Rattle.td_store_rows.specs.declared.guarantees.stored.KeptGuarantee.{KeptGuarantee}
 use Rattle.td_store_rows.specs.declared.guarantees.texts.TheConstants.{ADD_USED, INSERT, SET_TERMS, TAKE_USED}
@@ -79,8 +80,8 @@ module _ (layout : Layout) (r : Row) (is : IsTypedRow (kept_typing layout) r) wh
   pub serial_passes : (H n : ℕ) (more : Row) → passes (number_value H ∷ number_value n ∷ more) serial_tests r ≡ has_serial H n k
   serial_passes H n more = then_term (holder_is H) (last_term (serial_is n))
 
-  pub holder_passes : (H : ℕ) → passes (number_value H ∷ []) holder_tests r ≡ is_of H k
-  holder_passes H = last_term (holder_is H)
+  pub range_passes : (H first end : ℕ) → passes (number_value H ∷ number_value first ∷ number_value end ∷ []) within_tests r ≡ is_within H first end k
+  range_passes H first end = within_passes k r (ap (λ l. column l 0) is) (ap (λ l. column l 1) is) H first end
 
   pub after_passes : (H n : ℕ) → passes (number_value H ∷ number_value n ∷ []) after_tests r ≡ is_after H n k
   after_passes H n = then_term (holder_is H) (last_term (number_above (column r 2) k.serial n (ap (λ l. column l 1) is)))
@@ -186,12 +187,12 @@ taken H n cents values is old new h l keeps has typed may =
     (λ r. kept_back (with_less cents (row_of (kept_typing l) r))) old.now new.now done typed may
 
 -- guarantees of one holder are compared by their serials
-pub compared : (l : Layout) (H : ℕ) (a b : Row) → Passes (kept_typing l) (is_of H) a → Passes (kept_typing l) (is_of H) b
-    → row_order by_serial (number_value H ∷ []) a b
-    ≡ nat_cmp (place (row_of (kept_typing l) a)) (place (row_of (kept_typing l) b))
-compared l H =
-    by_second (kept_typing l) (is_of H) (λ k. k.holder) H (λ r is. ap (λ l. column l 0) is) (λ k own. own)
-    (number_value H ∷ []) place (λ r is. ap (λ l. column l 1) is)
+pub compared : (l : Layout) (H first end : ℕ) (values a b : Row) → Passes (kept_typing l) (is_within H first end) a
+    → Passes (kept_typing l) (is_within H first end) b
+    → row_order by_serial values a b ≡ nat_cmp (place (row_of (kept_typing l) a)) (place (row_of (kept_typing l) b))
+compared l H first end values =
+    by_second (kept_typing l) (is_within H first end) (λ k. k.holder) H (λ r is. ap (λ l. column l 0) is) (is_owned H first end)
+    values place (λ r is. ap (λ l. column l 1) is)
 
 -- and those of several by holder and then by serial
 pub placed : (l : Layout) (p : Keyed Kept → Bool) (values : Row) (a b : Row) → Passes (kept_typing l) p a → Passes (kept_typing l) p b

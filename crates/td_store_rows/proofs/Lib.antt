@@ -13,6 +13,7 @@ mod CodeStatements
 pub mod MovementMeanings
 mod MovementCells
 pub mod MovementStatements
+pub mod RangeTests
 pub mod MovementSerials
 mod LineMeanings
 mod LineStatements

@@ -16,7 +16,8 @@ use Rattle.td_schema.specs.declared.layout.Layout.{Layout}
 use Rattle.td_schema.specs.declared.layout.Layout.TheVariants.{Made1, Made2, Grown2, Made3, Grown3From2, Grown3From1}
 use Rattle.typed_sql.specs.Meanings.{HasTable, MeansInsert, MeansUpdate, MeansSelect}
 use Rattle.td_store_rows.specs.Columns.{movements_table}
-use Rattle.td_store_rows.specs.declared.movements.texts.TheConstants.{INSERT, SET_STATUS, BY_MRN, BY_LRN, OF_HOLDER, NEXT_OF_HOLDER, OF_HOLDERS_ABOVE, ALL, COUNTING_SERIALS}
+use Rattle.td_store_rows.proofs.RangeTests.{within_tests}
+use Rattle.td_store_rows.specs.declared.movements.texts.TheConstants.{INSERT, SET_STATUS, BY_MRN, BY_LRN, WITHIN, NEXT_OF_HOLDER, OF_HOLDERS_ABOVE, ALL, COUNTING_SERIALS}
 
 movements_there : (l : Layout) → HasTable (schema_of l) 3 movements_table
 movements_there Made1 = record { there = refl; free = none_acts Made1 4 }
@@ -35,9 +36,6 @@ key_tests = equals 1 0 ∷ equals 2 1 ∷ equals 3 2 ∷ []
 
 abbrev pub lrn_tests : List Term
 lrn_tests = equals 1 0 ∷ equals 4 1 ∷ []
-
-abbrev pub holder_tests : List Term
-holder_tests = equals 1 0 ∷ []
 
 -- a column is above the value that was given at a place
 abbrev pub exceeds : ℕ → ℕ → Term
@@ -121,14 +119,14 @@ by_lrn_means Made3 = record { names = names; command = refl; plain = (refl, refl
 by_lrn_means Grown3From2 = record { names = names; command = refl; plain = (refl, refl); unlisted = refl }
 by_lrn_means Grown3From1 = record { names = names; command = refl; plain = (refl, refl); unlisted = refl }
 
-pub of_holder_means : (l : Layout) → MeansSelect (schema_of l) OF_HOLDER.now 4 holder_tests all_columns by_serial
+pub within_means : (l : Layout) → MeansSelect (schema_of l) WITHIN.now 4 within_tests all_columns by_serial
 unfolding understood everything
-of_holder_means Made1 = record { names = names; command = refl; plain = (refl, refl); unlisted = refl }
-of_holder_means Made2 = record { names = names; command = refl; plain = (refl, refl); unlisted = refl }
-of_holder_means Grown2 = record { names = names; command = refl; plain = (refl, refl); unlisted = refl }
-of_holder_means Made3 = record { names = names; command = refl; plain = (refl, refl); unlisted = refl }
-of_holder_means Grown3From2 = record { names = names; command = refl; plain = (refl, refl); unlisted = refl }
-of_holder_means Grown3From1 = record { names = names; command = refl; plain = (refl, refl); unlisted = refl }
+within_means Made1 = record { names = names; command = refl; plain = (refl, refl); unlisted = refl }
+within_means Made2 = record { names = names; command = refl; plain = (refl, refl); unlisted = refl }
+within_means Grown2 = record { names = names; command = refl; plain = (refl, refl); unlisted = refl }
+within_means Made3 = record { names = names; command = refl; plain = (refl, refl); unlisted = refl }
+within_means Grown3From2 = record { names = names; command = refl; plain = (refl, refl); unlisted = refl }
+within_means Grown3From1 = record { names = names; command = refl; plain = (refl, refl); unlisted = refl }
 
 pub next_of_holder_means : (l : Layout) → MeansSelect (schema_of l) NEXT_OF_HOLDER.now 4 after_tests all_columns by_serial
 unfolding understood everything

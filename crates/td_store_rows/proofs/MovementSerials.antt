@@ -74,7 +74,7 @@ module _ (H : ℕ) where
         (IsSorted-map nat_cmp place (map movement_from (map movement_columns a.found))
         (selected_sorted movement_typing (counts_for H) (passes values counting_tests) movement_columns (row_order by_serial values)
         (λ x y. nat_cmp (place x) (place y)) old.now.trees (map movement_columns a.found) (λ r is. counting_passes r is H) (λ r. refl)
-        (compared H (counts_for H) (λ m passing. (both_pass (m.holder == H) (is_counting m.row.state) passing).0)) (whole (old.now.trees 4) h.0 a) typed))
+        (compared H (counts_for H) (λ m passing. (both_pass (m.holder == H) (is_counting m.row.state) passing).0) (number_value H ∷ [])) (whole (old.now.trees 4) h.0 a) typed))
 
     pub serials_fetched : (r : Result (Vec MovementSerial Global) Error) → IfOk r (λ found. Read found.items)
         → IfOk r (λ found. AreSerialsOf (counts_for H) old found.items)

@@ -7,10 +7,11 @@ use Rattle.typed_sql.specs.Reading.{row_order}
 use Rattle.typed_sql.specs.Typed.{AreInOrder, typed_rows, IsTypedRow, row_of}
 use Rattle.td_table_model.proofs.Orders.{sorted_is_order}
 use Rattle.td_table_model.specs.Gathering.{owner, place}
-use Rattle.td_store_rows.proofs.MovementMeanings.{above_tests, after_tests, by_serial, counting_tests, holder_tests, insert_means, key_tests, lrn_tests, new_row, set_columns, set_means}
-use Rattle.td_store_rows.specs.MovementTable.{AreBySerial, AreMovements, movement_row_of, TurnsMovements, counts_for, has_lrn, has_mrn, is_of, status_values, with_new_status}
-use Rattle.td_store_rows.specs.Places.{by_place, is_above, is_after}
+use Rattle.td_store_rows.proofs.MovementMeanings.{above_tests, after_tests, by_serial, counting_tests, insert_means, key_tests, lrn_tests, new_row, set_columns, set_means}
+use Rattle.td_store_rows.specs.MovementTable.{AreBySerial, AreMovements, movement_row_of, TurnsMovements, counts_for, has_lrn, has_mrn, status_values, with_new_status}
+use Rattle.td_store_rows.specs.Places.{by_place, is_above, is_after, is_within}
 use Rattle.td_store_rows.specs.declared.movements.stored.StoredMovement.{StoredMovement}
+use Rattle.td_store_rows.proofs.RangeTests.{within_passes, within_tests}
 use Rattle.sqlite.specs.State.{State}
 use Rattle.td_store_rows.proofs.MovementCells.{counting_names, back, bare, cells_stored}
 use Rattle.sqlite_rules.specs.Cast.{cast_all}
@@ -64,8 +65,8 @@ module _ (r : Row) (is : IsTypedRow movement_typing r) where
   lrn_passes H lrn =
       then_term (holder_is H) (last_term (text_is (column r 4) m.row.lrn lrn (ap (λ l. column l 3) is)))
 
-  pub holder_passes : (H : ℕ) → passes (number_value H ∷ []) holder_tests r ≡ is_of H m
-  holder_passes H = last_term (holder_is H)
+  pub range_passes : (H first end : ℕ) → passes (number_value H ∷ number_value first ∷ number_value end ∷ []) within_tests r ≡ is_within H first end m
+  range_passes H first end = within_passes m r (ap (λ l. column l 0) is) (ap (λ l. column l 1) is) H first end
 
   pub after_passes : (H n : ℕ) → passes (number_value H ∷ number_value n ∷ []) after_tests r ≡ is_after H n m
   after_passes H n = then_term (holder_is H) (last_term (number_above (column r 2) m.serial n (ap (λ l. column l 1) is)))
@@ -122,11 +123,11 @@ status_turned H n status values is old new h layout has typed =
 -- movements of one holder are compared by their serials
 module _ (H : ℕ) (p : Keyed Movement → Bool)
     (own : (m : Keyed Movement) → p m ≡ true → (m.holder == H) ≡ true) where
-  pub compared : (a b : Row) → Passes movement_typing p a → Passes movement_typing p b
-      → row_order by_serial (number_value H ∷ []) a b
+  pub compared : (values : Row) (a b : Row) → Passes movement_typing p a → Passes movement_typing p b
+      → row_order by_serial values a b
       ≡ nat_cmp (place (row_of movement_typing a)) (place (row_of movement_typing b))
-  compared =
-      by_second movement_typing p (λ m. m.holder) H (λ r is. ap (λ l. column l 0) is) own (number_value H ∷ []) place
+  compared values =
+      by_second movement_typing p (λ m. m.holder) H (λ r is. ap (λ l. column l 0) is) own values place
       (λ r is. ap (λ l. column l 1) is)
 
 -- and those of several by holder and then by serial

@@ -27,16 +27,12 @@ use Rattle.td_store_rows.specs.declared.movements.stored.StoredMovement.{StoredM
 abbrev pub movement_row_of : StoredMovement → Keyed Movement
 movement_row_of m = record { holder = m.holder; serial = m.serial; row = m.movement }
 
--- the movement of a holder with a serial and an MRN; with an LRN; each of the holder; each of the holder that
--- counts
+-- the movement of a holder with a serial and an MRN; with an LRN; each of the holder that counts
 abbrev pub has_mrn : ℕ → ℕ → List ℕ → Keyed Movement → Bool
 has_mrn H n mrn m = m.holder == H && (m.serial == n && bytes_eq m.row.mrn mrn)
 
 abbrev pub has_lrn : ℕ → List ℕ → Keyed Movement → Bool
 has_lrn H lrn m = m.holder == H && bytes_eq m.row.lrn lrn
-
-abbrev pub is_of : ℕ → Keyed Movement → Bool
-is_of H m = m.holder == H
 
 abbrev pub counts_for : ℕ → Keyed Movement → Bool
 counts_for H m = m.holder == H && is_counting m.row.state

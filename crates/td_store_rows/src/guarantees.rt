@@ -7,7 +7,8 @@ mod visiting;
 mod writing;
 
 pub use finding::{
-    find_by_serial, find_kept, first_kept_above, guarantees_of, kept_of, next_kept_of,
+    find_by_serial, find_kept, first_kept_above, guarantees_within, kept_within, next_guarantee_of,
+    next_kept_of,
 };
 pub use stored::{KeptGuarantee, StoredGuarantee};
 pub use visiting::visit_kept;

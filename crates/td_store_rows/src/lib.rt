@@ -14,14 +14,15 @@ mod places;
 pub use codes::{StoredCode, codes_of, delete_code, insert_code};
 pub use guarantees::{
     KeptGuarantee, StoredGuarantee, add_used, empty_guarantees1, find_by_serial, find_kept,
-    first_kept_above, guarantees_of, insert_guarantee, kept_of, next_kept_of, set_terms, take_used,
-    visit_kept,
+    first_kept_above, guarantees_within, insert_guarantee, kept_within, next_guarantee_of,
+    next_kept_of, set_terms, take_used, visit_kept,
 };
 pub use holders::{find_holder, insert_holder, set_holder};
 pub use lines::{StoredLine, empty_lines1, insert_line, lines_of, lines_on, older_lines};
 pub use meta::{StoredMeta, find_meta, insert_meta, set_version};
 pub use movements::{
     MovementSerial, StoredMovement, counting_serials, find_by_lrn, find_by_mrn,
-    first_movement_above, insert_movement, movements_of, next_movement_of, set_status,
+    first_movement_above, insert_movement, movements_within, next_movement_of, set_status,
     visit_movements,
 };
+pub use places::range_key;

@@ -7,7 +7,7 @@ mod visiting;
 mod writing;
 
 pub use finding::{
-    counting_serials, find_by_lrn, find_by_mrn, first_movement_above, movements_of,
+    counting_serials, find_by_lrn, find_by_mrn, first_movement_above, movements_within,
     next_movement_of,
 };
 pub use stored::{MovementSerial, StoredMovement};

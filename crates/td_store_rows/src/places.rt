@@ -4,6 +4,7 @@ ghost use Rattle.sqlite.specs.Values.{bound};
 ghost use Rattle.typed_sql.specs.Values.{number_value};
 
 use sqlite_value::value::ValueRef;
+use td_base::HolderNo;
 use td_schema::number_of;
 
 /// A holder's number, whether it is one or not, and a serial.
@@ -18,4 +19,11 @@ pub(crate) fn above_key(holder: u32) -> [ValueRef<'static>; 1]
     ensures { bound result ≡ number_value holder ∷ [] }
 {
     [number_of(holder)]
+}
+
+/// What the rows of a holder with serials from one on and below another are asked for by.
+pub fn range_key(holder: HolderNo, first: u32, end: u32) -> [ValueRef<'static>; 3]
+    ensures { bound result ≡ number_value holder ∷ number_value first ∷ number_value end ∷ [] }
+{
+    [number_of(holder.number()), number_of(first), number_of(end)]
 }

@@ -21,7 +21,7 @@ use Rattle.td_schema.specs.Layouts.{schema_of}
 use Rattle.td_schema.specs.declared.layout.Layout.{Layout}
 use Rattle.td_store_rows.specs.Columns.{meta_typing}
 use Rattle.td_store_rows.specs.HolderTable.{TurnsHolders}
-use Rattle.td_store_rows.specs.GuaranteeTable.{has_serial, is_of}
+use Rattle.td_store_rows.specs.GuaranteeTable.{has_serial}
 use Rattle.td_store_rows.specs.KeptTable.{HasInUse, HasRoom, MayChange, TurnsKept, TurnsWhere, has_kept_grn, with_less, with_more, with_new_kept_terms, with_new_terms}
 use Rattle.td_store_rows.specs.LineTable.{AreLines, is_line_of}
 use Rattle.td_store_rows.specs.declared.lines.stored.StoredLine.{StoredLine}
@@ -32,7 +32,7 @@ use Rattle.td_store_rows.specs.StoreTables.{AreAllTyped, AreStoreTrees, HasTable
 use Rattle.td_store_rows.proofs.Chained.{RespectsRows, append_respects, codes_respect, cons_respects, filter_respects, has_as, has_then, kept_respect, lines_respect, map_respects, movements_respect, turned_then}
 use Rattle.td_store_rows.proofs.StoreReads.{newest_keeps, newest_more_lines}
 use Rattle.td_store_rows.proofs.Turned.{codes_turned, holders_turned, kept_now, kept_turned, movements_turned}
-use Rattle.td_store_write.specs.InUse.{FitLines, FitsMovement, MayFollow, TurnsFitting, amount_on, change_at, changes_use, with_change, with_lines}
+use Rattle.td_store_write.specs.InUse.{FitLines, FitsMovement, MayFollow, TurnsFitting, amount_on, change_at, changes_use, with_change, with_lines, is_of}
 use Rattle.td_store_write.specs.Written.{kept_terms_by_key, status_by_key, terms_by_key, with_move, with_status_set}
 use Rattle.td_store_write.proofs.Following.{left_as_was, lines_as_between, read_amount, same_as, set_kept, set_none, set_same}
 

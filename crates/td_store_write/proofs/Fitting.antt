@@ -35,9 +35,8 @@ use Rattle.td_table_model.proofs.Gathered.{HasParts, have_parts}
 use Rattle.td_table_model.proofs.Joining.{amount_of}
 use Rattle.td_table_model.proofs.Numbered.{all_numbered, all_with_numbers}
 use Rattle.td_table_model.proofs.Told.{grns_placed}
-use Rattle.td_store_rows.specs.GuaranteeTable.{is_of}
 use Rattle.td_store_rows.proofs.Chained.{same_rows}
-use Rattle.td_store_write.specs.InUse.{FitsChange, FitsMovement, MayFollow}
+use Rattle.td_store_write.specs.InUse.{FitsChange, FitsMovement, MayFollow, is_of}
 
 -- what is decided on over sound content leaves sound content
 pub sound_after : (c : Content) (v : Verdict) → IsSound c → IsDecision c v → IsSound (content_after v.change c)

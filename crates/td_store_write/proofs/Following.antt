@@ -17,14 +17,14 @@ use Rattle.td_table_model.proofs.Joining.{sum_by-passing, sum_by-same}
 use Rattle.typed_sql.specs.Reading.{IsInside, StaysInside}
 use Rattle.typed_sql.proofs.OnlyRead.{stays_nothing, stays_on}
 use Rattle.typed_sql.proofs.Ordered.{both_pass}
-use Rattle.td_store_rows.specs.GuaranteeTable.{has_serial, is_of}
+use Rattle.td_store_rows.specs.GuaranteeTable.{has_serial}
 use Rattle.td_store_rows.specs.KeptTable.{MayChange}
 use Rattle.td_store_rows.specs.LineTable.{is_line_of, line_row_of}
 use Rattle.td_store_rows.specs.StoreTables.{tables_in}
 use Rattle.td_store_rows.specs.declared.lines.stored.StoredLine.{StoredLine}
 use Rattle.td_store_rows.proofs.Chained.{has_as, has_then, kept_respect, map_respects, same_rows}
 use Rattle.td_store_rows.proofs.StoreReads.{newest_keeps}
-use Rattle.td_store_write.specs.InUse.{FitLines, MayFollow, TurnsFitting, amount_on, cents_at, change_at, changes_use, with_change, with_lines}
+use Rattle.td_store_write.specs.InUse.{FitLines, MayFollow, TurnsFitting, amount_on, cents_at, change_at, changes_use, with_change, with_lines, is_of}
 
 -- the kept rows alone are made others by f
 abbrev pub set_kept : (Keyed Kept → Keyed Kept) → Tables → Tables

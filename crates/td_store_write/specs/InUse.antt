@@ -12,7 +12,7 @@ use Rattle.td_table_model.specs.Looking.{amount_between, movement_no}
 use Rattle.typed_sql.specs.Writing.{HasSchema}
 use Rattle.td_schema.specs.Layouts.{IsNewest, schema_of}
 use Rattle.td_schema.specs.declared.layout.Layout.{Layout}
-use Rattle.td_store_rows.specs.GuaranteeTable.{has_serial, is_of}
+use Rattle.td_store_rows.specs.GuaranteeTable.{has_serial}
 use Rattle.td_store_rows.specs.KeptTable.{MayChange}
 use Rattle.td_store_rows.specs.StoreTables.{AreAllTyped, HasTables, tables_in}
 use Rattle.td_store_rows.specs.declared.lines.stored.StoredLine.{StoredLine}
@@ -48,6 +48,10 @@ amount_on n lines = sum_by (cents_at n) lines
 -- the row of a holder's guarantee after these are the lines of a movement that came into the state
 abbrev pub with_lines : ℕ → State → List StoredLine → Keyed Kept → Keyed Kept
 with_lines H state lines k = if k.holder == H then with_change state (amount_on k.serial lines) k else k
+
+-- a row of the holder
+abbrev pub is_of : {R : Type 0} → ℕ → Keyed R → Bool
+is_of H r = r.holder == H
 
 -- each of the holder's guarantees may follow: these lines, and movement m
 abbrev pub FitLines : ℕ → State → List StoredLine → Tables → Type 0

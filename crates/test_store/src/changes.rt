@@ -12,7 +12,7 @@ use td_guarantee::Guarantee;
 use td_movement::{Line, Movement, State};
 use td_store_rows::{
     KeptGuarantee, StoredCode, StoredLine, StoredMovement, codes_of, find_by_mrn, find_holder,
-    find_kept, find_meta, kept_of, lines_of,
+    find_kept, find_meta, kept_within, lines_of,
 };
 use td_store_write::{carry_change, create_tables};
 
@@ -139,7 +139,7 @@ fn assert_used(
 ) {
     assert!(rt; conn.is_autocommit());
     let mut tx = conn.transaction();
-    let kept = kept_of(rt.alloc(), &mut tx, row.holder).expect(rt, "rows");
+    let kept = kept_within(rt.alloc(), &mut tx, row.holder, 0, 100).expect(rt, "rows");
     assert!(rt; kept.len() == 2);
     assert!(rt; kept[0].used.get() == used[0] && kept[1].used.get() == used[1]);
 }

@@ -9,8 +9,9 @@ use td_base::{Country, Day, HolderNo};
 use td_guarantee::Guarantee;
 use td_schema::Layout;
 use td_store_rows::{
-    StoredMeta, add_used, empty_guarantees1, find_by_serial, find_kept, find_meta, guarantees_of,
-    insert_guarantee, insert_meta, kept_of, set_terms, set_version, take_used,
+    StoredMeta, add_used, empty_guarantees1, find_by_serial, find_kept, find_meta,
+    guarantees_within, insert_guarantee, insert_meta, kept_within, next_guarantee_of, set_terms,
+    set_version, take_used,
 };
 
 const CORRUPT: Error = Error::SqliteFailure(ErrorCode::DatabaseCorrupt);
@@ -91,11 +92,11 @@ fn assert_terms(
 ) {
     assert!(rt; conn.is_autocommit());
     let mut tx = conn.transaction();
-    let all = guarantees_of(rt.alloc(), &mut tx, 2, holder).expect(rt, "rows");
+    let all = guarantees_within(rt.alloc(), &mut tx, 2, holder, 0, 100).expect(rt, "rows");
     assert!(rt; all.len() == 2);
     assert!(rt; terms_of(&all[0].guarantee) == terms[0]);
     assert!(rt; terms_of(&all[1].guarantee) == terms[1]);
-    let kept = kept_of(rt.alloc(), &mut tx, holder).expect(rt, "rows");
+    let kept = kept_within(rt.alloc(), &mut tx, holder, 0, 100).expect(rt, "rows");
     assert!(rt; kept.len() == 2);
     assert!(rt; terms_of(&kept[0].guarantee) == terms[0] && kept[0].used.get() == 300_000);
     assert!(rt; terms_of(&kept[1].guarantee) == terms[1] && kept[1].used.get() == 0);
@@ -166,7 +167,7 @@ fn assert_used(
 ) {
     assert!(rt; conn.is_autocommit());
     let mut tx = conn.transaction();
-    let kept = kept_of(rt.alloc(), &mut tx, holder).expect(rt, "rows");
+    let kept = kept_within(rt.alloc(), &mut tx, holder, 0, 100).expect(rt, "rows");
     assert!(rt; kept.len() == 2);
     assert!(rt; kept[0].used.get() == used[0] && kept[1].used.get() == used[1]);
 }
@@ -213,12 +214,25 @@ fn assert_serials(
     let holder = holder(rt, 1);
     assert!(rt; conn.is_autocommit());
     let mut tx = conn.transaction();
-    let all = guarantees_of(rt.alloc(), &mut tx, version, holder).expect(rt, "rows");
+    let all = guarantees_within(rt.alloc(), &mut tx, version, holder, 0, 100).expect(rt, "rows");
     assert!(rt; all.len() == serials.len());
     for (at, serial) in serials.iter().enumerate() {
         assert!(rt; at < all.len());
         assert!(rt; all[at].serial == *serial);
     }
+}
+
+// The serial of the guarantee that the holder has next behind one, in a file of that version.
+fn serial_behind(
+    rt: &(impl AllocGlobal + Abort),
+    conn: &mut Connection<MemStore>,
+    version: u32,
+    serial: u32,
+) -> Option<u32> {
+    assert!(rt; conn.is_autocommit());
+    let mut tx = conn.transaction();
+    let next = next_guarantee_of(rt.alloc(), &mut tx, version, 1, serial).expect(rt, "rows");
+    next.map(|row| row.serial)
 }
 
 fn empty_first(rt: &impl Abort, conn: &mut Connection<MemStore>) {
@@ -234,6 +248,9 @@ fn each_version_has_guarantees_of_its_own(rt: HostRuntime) {
     fill(&rt, &mut conn, &BOTH);
     assert_serials(&rt, &mut conn, 1, &[1]);
     assert_serials(&rt, &mut conn, 2, &[2]);
+    assert!(rt; serial_behind(&rt, &mut conn, 1, 0) == Some(1));
+    assert!(rt; serial_behind(&rt, &mut conn, 1, 1).is_none());
+    assert!(rt; serial_behind(&rt, &mut conn, 2, 0) == Some(2));
     empty_first(&rt, &mut conn);
     assert_serials(&rt, &mut conn, 1, &[]);
     assert_serials(&rt, &mut conn, 2, &[2]);

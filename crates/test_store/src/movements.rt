@@ -6,7 +6,7 @@ use td_acts::NewStatus;
 use td_base::{Day, HolderNo};
 use td_movement::{Movement, State};
 use td_store_rows::{
-    counting_serials, find_by_lrn, find_by_mrn, insert_movement, movements_of, set_status,
+    counting_serials, find_by_lrn, find_by_mrn, insert_movement, movements_within, set_status,
 };
 
 /// Writes a movement that was accepted for the holder, under serial 1.
@@ -66,9 +66,13 @@ fn a_movement_that_is_released_counts(rt: HostRuntime) {
     let counting = counting_serials(alloc, &mut tx, holder).expect(&rt, "rows");
     assert!(rt; counting.len() == 1);
     assert!(rt; counting[0].serial == 1);
-    let all = movements_of(alloc, &mut tx, holder).expect(&rt, "rows");
+    let all = movements_within(alloc, &mut tx, holder, 0, 2).expect(&rt, "rows");
     assert!(rt; all.len() == 1);
     assert!(rt; is_released(&all[0].movement));
+    let before = movements_within(alloc, &mut tx, holder, 0, 1).expect(&rt, "rows");
+    assert!(rt; before.is_empty());
+    let behind = movements_within(alloc, &mut tx, holder, 2, 100).expect(&rt, "rows");
+    assert!(rt; behind.is_empty());
 }
 
 #[test]

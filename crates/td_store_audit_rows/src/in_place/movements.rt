@@ -3,23 +3,28 @@ ghost use Rattle.std.specs.Prelude.{◌↔◌, map, IsTrue};
 ghost use Rattle.td_movement.specs.Status.{HasDaysOf};
 ghost use Rattle.td_model.specs.Sound.{IsMrnOf};
 ghost use Rattle.td_store_rows.specs.MovementTable.{movement_row_of};
-ghost use Rattle.td_store_audit_rows.specs.InPlace.{AreMovementsInPlace, IsMovementInPlace};
+ghost use Rattle.td_store_audit_rows.specs.InPlace.{AreNextMovements, IsMovementInPlace};
 
 use td_base::{Country, GREATEST_OLDER_MRN_SERIAL, Mrn};
 use td_movement::{Movement, State};
 use td_store_rows::StoredMovement;
 
-/// Whether these are all of a holder's movements, by their serials, of which the holder's row counts so many: none is left out, and
-/// each has the MRN of the year of its acceptance, the country, the holder and its serial, in either form, and the days and
-/// the office of its state.
-pub fn movements_are_in_place(country: Country, count: u32, rows: &[StoredMovement]) -> bool
-    ensures { IsTrue result ↔ AreMovementsInPlace country count (map movement_row_of rows.now) }
+/// Whether these are a holder's movements from the one after the serial `before` on up to `last`, by their serials: none is left
+/// out, and each has the MRN of the year of its acceptance, the country, the holder and its serial, in either form, and the days
+/// and the office of its state.
+pub fn movements_are_in_place(
+    country: Country,
+    before: u32,
+    last: u32,
+    rows: &[StoredMovement],
+) -> bool
+    ensures { IsTrue result ↔ AreNextMovements country before last (map movement_row_of rows.now) }
 {
-    if count as usize != rows.len() || count > GREATEST_OLDER_MRN_SERIAL {
+    if before > last || last > GREATEST_OLDER_MRN_SERIAL || rows.len() != (last - before) as usize {
         return false;
     }
     for i in 0..rows.len() {
-        if rows[i].serial as usize != i + 1 || !is_in_place(country, &rows[i]) {
+        if rows[i].serial as usize != before as usize + i + 1 || !is_in_place(country, &rows[i]) {
             return false;
         }
     }

@@ -8,21 +8,22 @@ ghost use Rattle.sqlite_value.specs.declared.value.Value.TheVariants.{Text};
 ghost use Rattle.typed_sql.specs.Reading.{IsInside};
 ghost use Rattle.typed_sql.specs.Values.{number_value};
 ghost use Rattle.td_store_rows.specs.StoreReads.{ReadsKept, ReadsNewest, ReadsVersion};
-ghost use Rattle.td_store_rows.specs.GuaranteeTable.{AreBySerial, AreGuarantees, IsTheGuarantee, has_serial, is_of};
+ghost use Rattle.td_store_rows.specs.GuaranteeTable.{AreBySerial, AreGuarantees, IsFirstGuarantee, IsTheGuarantee, has_serial};
 ghost use Rattle.td_store_rows.specs.KeptTable.{AreKept, AreKeptBySerial, IsFirstKept, IsTheKept, has_kept_grn};
-ghost use Rattle.td_store_rows.specs.Places.{is_above, is_after};
+ghost use Rattle.td_store_rows.specs.Places.{is_above, is_after, is_within};
 
 use crate::guarantees::stored::{KeptGuarantee, StoredGuarantee};
 use crate::guarantees::texts::{
-    BY_GRN, BY_SERIAL, KEPT_OF_HOLDER, KEPT_OF_HOLDERS_ABOVE, NEXT_KEPT_OF_HOLDER, of_holder,
+    BY_GRN, BY_SERIAL, KEPT_OF_HOLDERS_ABOVE, KEPT_WITHIN, NEXT_KEPT_OF_HOLDER, next_of_holder,
+    within,
 };
-use crate::places::{above_key, place_key};
+use crate::places::{above_key, place_key, range_key};
 use sqlite::{Error, Transaction};
 use sqlite_trees::store::Alter;
 use sqlite_value::value::ValueRef;
 use std::alloc::Global;
 use td_base::{Grn, HolderNo};
-use td_schema::{holder_key, number_of, serial_key};
+use td_schema::{number_of, serial_key};
 use typed_sql::{fetch, fetch_first, fetch_one};
 
 fn grn_values(holder: HolderNo, serial: u32, grn: &Grn) -> [ValueRef<'_>; 3]
@@ -68,40 +69,68 @@ pub fn find_by_serial<S: Alter>(
     fetch_one(alloc, tx, BY_SERIAL, &serial_key(holder, serial))
 }
 
-/// All guarantees of a holder, by their serials, in a file of that version of the tables.
-pub fn guarantees_of<S: Alter>(
+/// A holder's guarantees with serials from `first` on and below `end`, by their serials, in a file of that version of the
+/// tables.
+pub fn guarantees_within<S: Alter>(
     alloc: Global,
     tx: &mut Transaction<'_, S>,
     version: u32,
     holder: HolderNo,
+    first: u32,
+    end: u32,
 ) -> Result<Vec<StoredGuarantee>, Error>
     requires { IsInside (state S.Store tx.old.conn.now) }
     ensures same_reference { tx.new.conn.ghost_name ≡ tx.old.conn.ghost_name }
     ensures found { HasCleanDisk (state S.Store tx.new.conn.now)
-        → IfOk result (λ found. AreGuarantees version (is_of holder) (state S.Store tx.old.conn.now) found.items) }
+        → IfOk result (λ found. AreGuarantees version (is_within holder first end) (state S.Store tx.old.conn.now) found.items) }
     ensures order { HasCleanDisk (state S.Store tx.new.conn.now)
-        → IfOk result (λ found. AreBySerial version (is_of holder) (state S.Store tx.old.conn.now) found.items) }
+        → IfOk result (λ found. AreBySerial version (is_within holder first end) (state S.Store tx.old.conn.now) found.items) }
     ensures reads { ReadsVersion version (is_ok result) (state S.Store tx.old.conn.now) (state S.Store tx.new.conn.now) }
 {
-    fetch(alloc, tx, of_holder(version), &holder_key(holder))
+    fetch(alloc, tx, within(version), &range_key(holder, first, end))
 }
 
-/// All guarantees of a holder with the amounts in use on them, by their serials, in a file that keeps the amounts: one
-/// of version 2 or later.
-pub fn kept_of<S: Alter>(
+/// The guarantee with the least serial above that one among those of the holder with a number, if there is one, in a file of
+/// that version of the tables: no other row is fetched.
+pub fn next_guarantee_of<S: Alter>(
+    alloc: Global,
+    tx: &mut Transaction<'_, S>,
+    version: u32,
+    holder: u32,
+    serial: u32,
+) -> Result<Option<StoredGuarantee>, Error>
+    requires { IsInside (state S.Store tx.old.conn.now) }
+    ensures same_reference { tx.new.conn.ghost_name ≡ tx.old.conn.ghost_name }
+    ensures found { HasCleanDisk (state S.Store tx.new.conn.now)
+        → IfOk result (IsFirstGuarantee version (is_after holder serial) (state S.Store tx.old.conn.now)) }
+    ensures reads { ReadsVersion version (is_ok result) (state S.Store tx.old.conn.now) (state S.Store tx.new.conn.now) }
+{
+    fetch_first(
+        alloc,
+        tx,
+        next_of_holder(version),
+        &place_key(holder, serial),
+    )
+}
+
+/// A holder's guarantees with serials from `first` on and below `end`, by their serials, with the amounts in use on them, in a
+/// file that keeps the amounts: one of version 2 or later.
+pub fn kept_within<S: Alter>(
     alloc: Global,
     tx: &mut Transaction<'_, S>,
     holder: HolderNo,
+    first: u32,
+    end: u32,
 ) -> Result<Vec<KeptGuarantee>, Error>
     requires { IsInside (state S.Store tx.old.conn.now) }
     ensures same_reference { tx.new.conn.ghost_name ≡ tx.old.conn.ghost_name }
     ensures found { HasCleanDisk (state S.Store tx.new.conn.now)
-        → IfOk result (λ found. AreKept (is_of holder) (state S.Store tx.old.conn.now) found.items) }
+        → IfOk result (λ found. AreKept (is_within holder first end) (state S.Store tx.old.conn.now) found.items) }
     ensures order { HasCleanDisk (state S.Store tx.new.conn.now)
-        → IfOk result (λ found. AreKeptBySerial (is_of holder) (state S.Store tx.old.conn.now) found.items) }
+        → IfOk result (λ found. AreKeptBySerial (is_within holder first end) (state S.Store tx.old.conn.now) found.items) }
     ensures reads { ReadsKept (is_ok result) (state S.Store tx.old.conn.now) (state S.Store tx.new.conn.now) }
 {
-    fetch(alloc, tx, KEPT_OF_HOLDER, &holder_key(holder))
+    fetch(alloc, tx, KEPT_WITHIN, &range_key(holder, first, end))
 }
 
 /// The guarantee with the least serial above that one among those of the holder with a number, if there is one, and the amount in use

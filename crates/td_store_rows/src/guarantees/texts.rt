@@ -1,6 +1,6 @@
 //! The statements on the tables of guarantees.
 ghost use Rattle.std.specs.Prelude.{◌≡◌};
-ghost use Rattle.td_store_rows.specs.GuaranteeTexts.{of_holder_text};
+ghost use Rattle.td_store_rows.specs.GuaranteeTexts.{next_of_holder_text, within_text};
 
 use td_schema::VERSION_WITH_AMOUNTS;
 
@@ -27,9 +27,9 @@ pub const BY_GRN: &str =
 pub const BY_SERIAL: &str =
     "SELECT holder, serial, grn, reference, cover, ends FROM guarantees2 WHERE holder = ?1 AND serial = ?2";
 
-/// The rows of a holder, with the amounts in use.
-pub const KEPT_OF_HOLDER: &str =
-    "SELECT holder, serial, grn, reference, cover, ends, used FROM guarantees2 WHERE holder = ?1 ORDER BY holder, serial";
+/// The rows of a holder with serials from one on and below another, with the amounts in use.
+pub const KEPT_WITHIN: &str =
+    "SELECT holder, serial, grn, reference, cover, ends, used FROM guarantees2 WHERE holder = ?1 AND serial >= ?2 AND serial < ?3 ORDER BY holder, serial";
 
 /// The rows of a holder behind a serial, with the amounts in use.
 pub const NEXT_KEPT_OF_HOLDER: &str =
@@ -43,23 +43,41 @@ pub const KEPT_OF_HOLDERS_ABOVE: &str =
 pub const KEPT_ALL: &str =
     "SELECT holder, serial, grn, reference, cover, ends, used FROM guarantees2 ORDER BY holder, serial";
 
-/// The rows of a holder, in a file of version 1.
-pub const OF_HOLDER1: &str =
-    "SELECT holder, serial, grn, reference, cover, ends FROM guarantees1 WHERE holder = ?1 ORDER BY holder, serial";
+/// The rows of a holder with serials from one on and below another, in a file of version 1.
+pub const WITHIN1: &str =
+    "SELECT holder, serial, grn, reference, cover, ends FROM guarantees1 WHERE holder = ?1 AND serial >= ?2 AND serial < ?3 ORDER BY holder, serial";
 
-/// The rows of a holder, in a file of a later version.
-pub const OF_HOLDER2: &str =
-    "SELECT holder, serial, grn, reference, cover, ends FROM guarantees2 WHERE holder = ?1 ORDER BY holder, serial";
+/// The same in a file of a later version.
+pub const WITHIN2: &str =
+    "SELECT holder, serial, grn, reference, cover, ends FROM guarantees2 WHERE holder = ?1 AND serial >= ?2 AND serial < ?3 ORDER BY holder, serial";
+
+/// The rows of a holder behind a serial, in a file of version 1.
+pub const NEXT_OF_HOLDER1: &str =
+    "SELECT holder, serial, grn, reference, cover, ends FROM guarantees1 WHERE holder = ?1 AND serial > ?2 ORDER BY holder, serial";
+
+/// The same in a file of a later version.
+pub const NEXT_OF_HOLDER2: &str =
+    "SELECT holder, serial, grn, reference, cover, ends FROM guarantees2 WHERE holder = ?1 AND serial > ?2 ORDER BY holder, serial";
 
 /// All rows of the table of version 1 go.
 pub const EMPTY_FIRST: &str = "DELETE FROM guarantees1";
 
-/// The rows of a holder, in a file of that version.
-pub fn of_holder(version: u32) -> &'static str
-    ensures { result.now ≡ of_holder_text version }
+/// The rows of a holder with serials in a range, in a file of that version.
+pub fn within(version: u32) -> &'static str
+    ensures { result.now ≡ within_text version }
 {
     if version < VERSION_WITH_AMOUNTS {
-        return OF_HOLDER1;
+        return WITHIN1;
     }
-    OF_HOLDER2
+    WITHIN2
+}
+
+/// The rows of a holder behind a serial, in a file of that version.
+pub fn next_of_holder(version: u32) -> &'static str
+    ensures { result.now ≡ next_of_holder_text version }
+{
+    if version < VERSION_WITH_AMOUNTS {
+        return NEXT_OF_HOLDER1;
+    }
+    NEXT_OF_HOLDER2
 }

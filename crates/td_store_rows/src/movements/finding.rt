@@ -8,14 +8,14 @@ ghost use Rattle.sqlite_value.specs.declared.value.Value.TheVariants.{Text};
 ghost use Rattle.typed_sql.specs.Values.{number_value};
 ghost use Rattle.typed_sql.specs.Reading.{IsInside};
 ghost use Rattle.td_store_rows.specs.StoreReads.{ReadsStore};
-ghost use Rattle.td_store_rows.specs.MovementTable.{AreBySerial, AreMovements, AreSerialsInOrder, AreSerialsOf, IsFirstMovement, IsTheMovement, has_lrn, has_mrn, is_of, counts_for};
-ghost use Rattle.td_store_rows.specs.Places.{is_above, is_after};
+ghost use Rattle.td_store_rows.specs.MovementTable.{AreBySerial, AreMovements, AreSerialsInOrder, AreSerialsOf, IsFirstMovement, IsTheMovement, has_lrn, has_mrn, counts_for};
+ghost use Rattle.td_store_rows.specs.Places.{is_above, is_after, is_within};
 
 use crate::movements::stored::{MovementSerial, StoredMovement};
 use crate::movements::texts::{
-    BY_LRN, BY_MRN, COUNTING_SERIALS, NEXT_OF_HOLDER, OF_HOLDER, OF_HOLDERS_ABOVE,
+    BY_LRN, BY_MRN, COUNTING_SERIALS, NEXT_OF_HOLDER, OF_HOLDERS_ABOVE, WITHIN,
 };
-use crate::places::{above_key, place_key};
+use crate::places::{above_key, place_key, range_key};
 use sqlite::{Error, Transaction};
 use sqlite_trees::store::Alter;
 use sqlite_value::value::ValueRef;
@@ -72,21 +72,23 @@ pub fn find_by_lrn<S: Alter>(
     typed_sql::fetch_one(alloc, tx, BY_LRN, &lrn_values(holder, lrn))
 }
 
-/// All movements of a holder, by their serials.
-pub fn movements_of<S: Alter>(
+/// A holder's movements with serials from `first` on and below `end`, by their serials.
+pub fn movements_within<S: Alter>(
     alloc: Global,
     tx: &mut Transaction<'_, S>,
     holder: HolderNo,
+    first: u32,
+    end: u32,
 ) -> Result<Vec<StoredMovement>, Error>
     requires { IsInside (state S.Store tx.old.conn.now) }
     ensures same_reference { tx.new.conn.ghost_name ≡ tx.old.conn.ghost_name }
     ensures found { HasCleanDisk (state S.Store tx.new.conn.now)
-        → IfOk result (λ found. AreMovements (is_of holder) (state S.Store tx.old.conn.now) found.items) }
+        → IfOk result (λ found. AreMovements (is_within holder first end) (state S.Store tx.old.conn.now) found.items) }
     ensures order { HasCleanDisk (state S.Store tx.new.conn.now)
-        → IfOk result (λ found. AreBySerial (is_of holder) (state S.Store tx.old.conn.now) found.items) }
+        → IfOk result (λ found. AreBySerial (is_within holder first end) (state S.Store tx.old.conn.now) found.items) }
     ensures reads { ReadsStore (is_ok result) (state S.Store tx.old.conn.now) (state S.Store tx.new.conn.now) }
 {
-    typed_sql::fetch(alloc, tx, OF_HOLDER, &holder_key(holder))
+    typed_sql::fetch(alloc, tx, WITHIN, &range_key(holder, first, end))
 }
 
 /// The movement with the least serial above that one among those of the holder with a number, if there is one: no other row is

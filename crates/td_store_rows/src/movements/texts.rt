@@ -16,9 +16,9 @@ pub const BY_MRN: &str =
 pub const BY_LRN: &str =
     "SELECT holder, serial, mrn, lrn, departure, destination, accepted, state, limit_day, arrival, actual FROM movements WHERE holder = ?1 AND lrn = ?2";
 
-/// The rows of a holder.
-pub const OF_HOLDER: &str =
-    "SELECT holder, serial, mrn, lrn, departure, destination, accepted, state, limit_day, arrival, actual FROM movements WHERE holder = ?1 ORDER BY holder, serial";
+/// The rows of a holder with serials from one on and below another.
+pub const WITHIN: &str =
+    "SELECT holder, serial, mrn, lrn, departure, destination, accepted, state, limit_day, arrival, actual FROM movements WHERE holder = ?1 AND serial >= ?2 AND serial < ?3 ORDER BY holder, serial";
 
 /// The rows of a holder behind a serial.
 pub const NEXT_OF_HOLDER: &str =

@@ -9,7 +9,7 @@ use td_base::HolderNo;
 use td_migrate::{MigrateFault, upgrade, version};
 use td_schema::Layout;
 use td_store::{OpenFault, audit, file_version};
-use td_store_rows::{guarantees_of, kept_of, older_lines};
+use td_store_rows::{guarantees_within, kept_within, older_lines};
 use td_table_model::Rule;
 
 const HOLDERS: &str =
@@ -157,7 +157,7 @@ fn assert_used(
 ) {
     assert!(rt; conn.is_autocommit());
     let mut tx = conn.transaction();
-    let kept = kept_of(rt.alloc(), &mut tx, holder).expect(rt, "rows");
+    let kept = kept_within(rt.alloc(), &mut tx, holder, 0, 100).expect(rt, "rows");
     assert!(rt; kept.len() == used.len());
     for (at, cents) in used.iter().enumerate() {
         assert!(rt; at < kept.len());
@@ -181,7 +181,7 @@ fn assert_left_of(
 ) {
     assert!(rt; conn.is_autocommit());
     let mut tx = conn.transaction();
-    let guarantees = guarantees_of(rt.alloc(), &mut tx, 1, holder).expect(rt, "rows");
+    let guarantees = guarantees_within(rt.alloc(), &mut tx, 1, holder, 0, 100).expect(rt, "rows");
     assert!(rt; guarantees.is_empty());
 }
 

@@ -7,21 +7,21 @@ use Rattle.td_store_audit.proofs.Walking.{one_more, one_of_all}
 use Rattle.td_store_audit.proofs.cover.all_rows_covered.Goals as goal
 
 pub rows-preserved : goal.rows-preserved
-rows-preserved c =
-    one_more (IsCoveredBy c.args.parts.now) c.args.rows.now c.rows.row-index c.row-item.result c.rows-test.true c.row-item.is
-    c.rows.invariant (c.is_row_covered.ensures.0 c.if-not-is_row_covered.false)
+rows-preserved c sums are =
+    one_more (IsCoveredBy sums) c.args.rows.now c.rows.row-index c.row-item.result c.rows-test.true c.row-item.is
+    (c.rows.invariant sums are) ((c.is_row_covered.ensures sums are).0 c.if-not-is_row_covered.false)
 
 -- one of them isn't
 pub returns-then-not-is_row_covered : goal.returns-then-not-is_row_covered
-returns-then-not-is_row_covered c = (
+returns-then-not-is_row_covered c sums are = (
   λ t. absurd (false≢true t),
   λ all.
-      let here = one_of_all (IsCoveredBy c.args.parts.now) c.args.rows.now c.rows.row-index c.row-item.result c.rows-test.true c.row-item.is all in
-      absurd (false≢true (sym c.if-not-is_row_covered.true ∙ c.is_row_covered.ensures.1 here)),
+      let here = one_of_all (IsCoveredBy sums) c.args.rows.now c.rows.row-index c.row-item.result c.rows-test.true c.row-item.is all in
+      absurd (false≢true (sym c.if-not-is_row_covered.true ∙ (c.is_row_covered.ensures sums are).1 here)),
 )
 
 pub returns : goal.returns
-returns c = (
-  λ t. subst (AllByRecursion (IsCoveredBy c.args.parts.now)) (take_all c.rows.row-index c.args.rows.now c.rows-test.false) c.rows.invariant,
+returns c sums are = (
+  λ t. subst (AllByRecursion (IsCoveredBy sums)) (take_all c.rows.row-index c.args.rows.now c.rows-test.false) (c.rows.invariant sums are),
   λ all. refl,
 )

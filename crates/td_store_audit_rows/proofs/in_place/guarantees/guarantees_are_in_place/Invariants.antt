@@ -8,4 +8,4 @@ use Rattle.td_store_audit_rows.proofs.in_place.guarantees.guarantees_are_in_plac
 
 -- those before are in place
 abbrev pub invariant-loop-i : goal.invariant-loop-i
-invariant-loop-i l = (j : ℕ) (d : StoredGuarantee) → j < l.i → IsPlaced guarantee_row_of place (IsGuaranteeInPlace l.country) 0 l.rows j d
+invariant-loop-i l = (j : ℕ) (d : StoredGuarantee) → j < l.i → IsPlaced guarantee_row_of place (IsGuaranteeInPlace l.country) l.before l.rows j d

@@ -48,7 +48,7 @@ loop-i-preserved c =
       amount = c.is_amount.ensures.0 c.if-not-is_amount.false;
     } in
     record {
-      placed = one_more line_row_of no_of (IsLineInPlace c.args.guarantees) rows i row c.loop-i.invariant.placed c.loop-i-test.true c.index-rows-i.is c.if-row-i.false in_place;
+      placed = one_more line_row_of no_of (IsLineInPlace c.args.guarantees) 0 rows i row c.loop-i.invariant.placed c.loop-i-test.true c.index-rows-i.is (c.if-row-i.false ∙ omega arith) in_place;
       apart = λ j k d before within. up_to (λ m. j < m → (get_or rows j d).guarantee ≢ (get_or rows m d).guarantee) i (λ m less h. c.loop-i.invariant.apart j m d h less)
           (λ less. rw (there d) (none_before (λ (s : StoredLine). s.guarantee) row.guarantee rows i j d (sym c.is_named.ensures ∙ c.if-is_named.false) less (omega (arith, c.loop-i-test.true)))) k within before;
     }

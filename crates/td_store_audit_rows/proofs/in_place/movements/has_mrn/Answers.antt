@@ -1,4 +1,4 @@
-use Rattle.std.proofs.Common.{◌≡◌, ◌∙◌, sym}
+use Rattle.std.proofs.Common.{◌∙◌, sym}
 use Rattle.td_store_audit_rows.proofs.EitherForm.{in_the_older_form}
 use Rattle.td_store_audit_rows.proofs.in_place.movements.has_mrn.Goals as goal
 

@@ -8,4 +8,4 @@ use Rattle.td_store_audit_rows.proofs.in_place.movements.movements_are_in_place.
 
 -- those before are in place
 abbrev pub invariant-loop-i : goal.invariant-loop-i
-invariant-loop-i l = (j : ℕ) (d : StoredMovement) → j < l.i → IsPlaced movement_row_of place (IsMovementInPlace l.country) 0 l.rows j d
+invariant-loop-i l = (j : ℕ) (d : StoredMovement) → j < l.i → IsPlaced movement_row_of place (IsMovementInPlace l.country) l.before l.rows j d

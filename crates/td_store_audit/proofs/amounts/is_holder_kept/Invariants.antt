@@ -1,0 +1,25 @@
+use Rattle.std.proofs.Common.{◌≡◌, ◌≤◌, ◌-◌, true}
+use Rattle.std.specs.List.{AllByRecursion}
+use Rattle.sqlite.specs.Held.{state}
+use Rattle.sqlite.specs.State.{HasCleanDisk}
+use Rattle.td_table_model.specs.Gathering.{in_order, part, place}
+use Rattle.td_store_rows.specs.StoreReads.{KeepsUse, ReadsKept}
+use Rattle.td_store_rows.specs.StoreTables.{tables_in}
+use Rattle.td_store_audit.specs.InFile.{IsRowKept, IsSoWhere}
+use Rattle.td_store_audit.specs.Ranges.{rows_below}
+use Rattle.td_store_audit.specs.Tallies.{IsHandedOn}
+use Rattle.td_store_audit.proofs.amounts.is_holder_kept.Given as goal
+
+-- nothing is changed, and each guarantee below the first that wasn't read is kept right
+abbrev pub invariant-parts : goal.invariant-parts
+invariant-parts g l =
+    (l.tx.conn.ghost_name ≡ l.initial.tx.conn.ghost_name)
+    × ReadsKept true (state g.S.Store l.initial.tx.conn.now) (state g.S.Store l.tx.conn.now)
+    × (l.first ≤ l.end)
+    × (HasCleanDisk (state g.S.Store l.tx.conn.now)
+    → IsSoWhere KeepsUse (λ layout trees. IsHandedOn layout trees l.parts)
+    (λ layout trees. AllByRecursion (IsRowKept layout trees) (rows_below l.first (in_order place (part l.parts.movements.raw.holder (tables_in layout trees).kept))))
+    (state g.S.Store l.initial.tx.conn.now))
+
+abbrev pub decreases-parts : goal.decreases-parts
+decreases-parts g l = l.end - l.first
