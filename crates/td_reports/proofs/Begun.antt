@@ -38,7 +38,7 @@ module _ {T R W : Type 0} (contents : W → Option (List ℕ)) (line : R → T �
       }
 
 -- of rows by what they say
-filter_map-map : {T X Y : Type 0} (f : X → Option Y) (says : T → X) (rows : List T) → filter_map (λ (t : T). f (says t)) rows ≡ filter_map f (map says rows)
+pub filter_map-map : {T X Y : Type 0} (f : X → Option Y) (says : T → X) (rows : List T) → filter_map (λ (t : T). f (says t)) rows ≡ filter_map f (map says rows)
 filter_map-map f says [] = refl
 filter_map-map f says (row ∷ rows) = ap (λ (l : List _). cons_option (f (says row)) l) (filter_map-map f says rows)
 

@@ -6,10 +6,12 @@ use Rattle.td_base.specs.Days.{day_text}
 use Rattle.td_base.specs.Money.{cents_text, share_of}
 use Rattle.td_guarantee.specs.declared.guarantee.Guarantee.{Guarantee}
 use Rattle.td_movement.specs.declared.movement.Movement.{Movement}
+use Rattle.td_movement.specs.declared.state.State.{State}
 use Rattle.td_movement.specs.declared.times.Overdue.{Overdue}
 use Rattle.td_movement.specs.declared.times.Overdue.TheVariants.{Arrival, Control}
 use Rattle.td_movement.specs.States.{state_name}
 use Rattle.td_movement.specs.Status.{overdue}
+use Rattle.td_store_rows.specs.declared.movements.stored.MovementDeadlines.{MovementDeadlines}
 
 -- spaces, where a text is short of so many places
 abbrev pub padding : ℕ → List ℕ → List ℕ
@@ -43,16 +45,21 @@ abbrev pub due_day : Overdue → ℕ
 due_day (Arrival due) = due
 due_day (Control due) = due
 
--- the fields of a holder's movement that is overdue for this on the day of the report
-abbrev pub overdue_fields : ℕ → ℕ × Movement → Overdue → List (List ℕ)
-overdue_fields day (holder, m) what =
-    m.mrn ∷ holder_text holder ∷ kind_of what ∷ left_in 8 (state_name m.state) ∷ day_text (due_day what)
+-- the fields of a holder's movement, by its MRN and state, that is overdue for this on the day of the report
+abbrev pub overdue_fields : ℕ → ℕ → List ℕ → State → Overdue → List (List ℕ)
+overdue_fields day holder mrn state what =
+    mrn ∷ holder_text holder ∷ kind_of what ∷ left_in 8 (state_name state) ∷ day_text (due_day what)
     ∷ right_in 5 (decimal (day - due_day what)) ∷ []
 
 -- the line of a movement, if it is overdue
 abbrev pub overdue_line : ℕ → ℕ × Movement → Option (List ℕ)
 overdue_line day (holder, m) =
-    option_map (λ what. line_of (overdue_fields day (holder, m) what)) (overdue m.state m.limit m.arrival day)
+    option_map (λ what. line_of (overdue_fields day holder m.mrn m.state what)) (overdue m.state m.limit m.arrival day)
+
+-- the same line, by the movement's deadlines alone
+abbrev pub deadlines_line : ℕ → MovementDeadlines → Option (List ℕ)
+deadlines_line day m =
+    option_map (λ what. line_of (overdue_fields day m.holder m.mrn m.state what)) (overdue m.state m.limit m.arrival day)
 
 abbrev pub overdue_header : ℕ → List ℕ
 overdue_header day = line_of (codes "OVERDUE" ∷ day_text day ∷ [])

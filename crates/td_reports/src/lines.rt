@@ -1,11 +1,12 @@
 //! Lines of reports.
 ghost use Rattle.std.specs.Prelude.{◌≡◌, ◌-◌, [], ◌∷◌, ◌++◌, IfOk, IsSome, OnErr, OnOk, option_map, string_bytes};
-ghost use Rattle.td_reports.specs.Texts.{amount_text, end_text, guarantee_line, line_of, overdue_fields, overdue_line};
+ghost use Rattle.td_reports.specs.Texts.{amount_text, deadlines_line, end_text, guarantee_line, line_of, overdue_fields};
 
 use std::alloc::{AllocError, Global};
 use td_base::{Cents, Day, HolderNo};
 use td_guarantee::{Guarantee, guaranteed};
-use td_movement::{Movement, Overdue, is_overdue};
+use td_movement::{Overdue, is_overdue};
+use td_store_rows::MovementDeadlines;
 
 // How many days a day lies behind another one, or 0.
 fn days_past(due: Day, day: Day) -> u64
@@ -18,37 +19,37 @@ fn days_past(due: Day, day: Day) -> u64
 fn line_of_overdue(
     alloc: Global,
     day: Day,
-    holder: HolderNo,
-    movement: &Movement,
+    movement: &MovementDeadlines,
     what: Overdue,
 ) -> Result<String, AllocError>
-    ensures { IfOk result (λ line. string_bytes line ≡ line_of (overdue_fields day (holder, movement.now) what)) }
+    ensures { IfOk result (λ line. string_bytes line
+        ≡ line_of (overdue_fields day movement.now.holder movement.now.mrn movement.now.state what)) }
 {
     let (kind, due) = match what {
         Overdue::Arrival(due) => ("arrival", due),
         Overdue::Control(due) => ("control", due),
     };
     format!(in alloc;
-        "{} {holder} {kind} {:<8} {due} {:>5}\n",
+        "{} {} {kind} {:<8} {due} {:>5}\n",
         movement.mrn,
+        movement.holder,
         movement.state.name(),
         days_past(due, day)
     )
 }
 
-/// The line of a holder's movement in the report of that day, if the movement is overdue then: only for a line memory is taken.
+/// The line of a movement with these deadlines in the report of that day, if it is overdue then: only for a line memory is taken.
 /// `AllocError`: want of memory.
 pub(crate) fn overdue_line(
     alloc: Global,
     day: Day,
-    holder: HolderNo,
-    movement: &Movement,
+    movement: &MovementDeadlines,
 ) -> Result<Option<String>, AllocError>
-    ensures line { IfOk result (λ line. option_map string_bytes line ≡ overdue_line day (holder, movement.now)) }
-    ensures none { OnErr result (IsSome (overdue_line day (holder, movement.now))) }
+    ensures line { IfOk result (λ line. option_map string_bytes line ≡ deadlines_line day movement.now) }
+    ensures none { OnErr result (IsSome (deadlines_line day movement.now)) }
 {
     match is_overdue(movement.state, movement.limit, movement.arrival, day) {
-        Some(what) => Ok(Some(line_of_overdue(alloc, day, holder, movement, what)?)),
+        Some(what) => Ok(Some(line_of_overdue(alloc, day, movement, what)?)),
         None => Ok(None),
     }
 }

@@ -45,7 +45,7 @@ pub fn overdue<S: Alter, W: Write>(
 {
     let header = format!(in alloc; "OVERDUE {day}\n");
     let mut report = Pieces::begin(alloc, OverdueOn { day }, header);
-    let visited = desk.visit_movements(alloc, &mut report, writer);
+    let visited = desk.visit_deadlines(alloc, &mut report, writer);
     report.end(visited, writer)
 }
 

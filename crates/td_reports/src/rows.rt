@@ -3,7 +3,7 @@ use crate::lines::{guarantee_line, overdue_line};
 use crate::pieces::Report;
 use std::alloc::{AllocError, Global};
 use td_base::Day;
-use td_store_rows::{KeptGuarantee, StoredMovement};
+use td_store_rows::{KeptGuarantee, MovementDeadlines};
 
 /// The movements that are overdue on a day.
 #[derive(Drop)]
@@ -11,13 +11,13 @@ pub(crate) struct OverdueOn {
     pub(crate) day: Day,
 }
 
-impl Report<StoredMovement> for OverdueOn {
-    ghost use Rattle.td_reports.specs.Texts.{overdue_line};
+impl Report<MovementDeadlines> for OverdueOn {
+    ghost use Rattle.td_reports.specs.Texts.{deadlines_line};
 
-    ghost line = { λ report row. overdue_line report.day (row.holder, row.movement) };
+    ghost line = { λ report row. deadlines_line report.day row };
 
-    fn line(&self, alloc: Global, row: &StoredMovement) -> Result<Option<String>, AllocError> {
-        overdue_line(alloc, self.day, row.holder, &row.movement)
+    fn line(&self, alloc: Global, row: &MovementDeadlines) -> Result<Option<String>, AllocError> {
+        overdue_line(alloc, self.day, row)
     }
 }
 

@@ -17,9 +17,12 @@ use Rattle.td_model.specs.Sound.{AreHolderRows}
 use Rattle.td_table_model.proofs.Orders.{in_order_same, rises-map, rises_apart, rises_lower, sorted_is_order}
 use Rattle.td_table_model.proofs.Owned.{guarantees_rise, movements_rise, owned_kept, owned_movements}
 use Rattle.td_table_model.specs.Gathering.{owner, place}
-use Rattle.td_table_model.specs.Listed.{guarantees_listed, guarantees_of, movements_listed, movements_of, without_codes, without_lines}
+use Rattle.td_table_model.specs.Listed.{guarantees_listed, guarantees_of, movements_listed, movements_of, without_codes}
 use Rattle.td_table_model.specs.Tables.{AreTablesOf, KeepAmounts, Keyed, Kept, Tables, guarantee_row, guarantees_in, kept_in, movement_row, movements_in, numbered, with_use}
+use Rattle.td_store_rows.specs.MovementTable.{deadlines_of}
 use Rattle.td_store_rows.specs.Places.{by_place}
+use Rattle.td_store_rows.specs.declared.movements.stored.MovementDeadlines.{MovementDeadlines}
+use Rattle.td_store.specs.Visits.{shown_of_movement}
 use Rattle.typed_sql.proofs.Ordered.{sorted_alike}
 
 -- No holder has so many movements or guarantees: so a holder's number and a serial are one number.
@@ -102,9 +105,9 @@ map-flat_map : {X Y Z : Type 0} (g : Y → Z) (f : X → List Y) (k : X → List
 map-flat_map g f k is [] = refl
 map-flat_map g f k is (x ∷ xs) = map-append g (f x) (flat_map f xs) ∙ ap₂ ◌++◌ (is x) (map-flat_map g f k is xs)
 
--- what a movement's row says, and what a guarantee's does
-abbrev pub said_movement : Keyed Movement → ℕ × Movement
-said_movement r = (r.holder, r.row)
+-- what a movement's row says of its deadlines, and what a guarantee's says
+abbrev pub said_movement : Keyed Movement → MovementDeadlines
+said_movement r = deadlines_of r.holder r.row
 
 abbrev pub said_guarantee : Keyed Kept → ℕ × (Guarantee × ℕ)
 said_guarantee r = (r.holder, (r.row.guarantee, r.row.used))
@@ -128,22 +131,22 @@ module _ (t : Tables) (c : Content) (sound : IsSound c) (are : AreTablesOf t c) 
         (numbers_most 0 999999 h.guarantees (omega (arith, is.grn_count, is.grn_most)))));
   }
 
-  -- all movements by their keys say what the content lists without their lines
-  movements_said : (h : HolderRows) → map said_movement (movements_in h) ≡ map without_lines (movements_of h)
+  -- all movements by their keys say of their deadlines what the content lists
+  movements_said : (h : HolderRows) → map said_movement (movements_in h) ≡ map shown_of_movement (movements_of h)
   movements_said h =
       map-map said_movement (movement_row h.row.holder) (numbered 0 h.movements)
       ∙ bare 0 h.movements
     where
-      bare : (n : ℕ) (ms : List Movement) → map (λ p. said_movement (movement_row h.row.holder p)) (numbered n ms) ≡ map without_lines (map (λ m. (h.row.holder, m)) ms)
+      bare : (n : ℕ) (ms : List Movement) → map (λ p. said_movement (movement_row h.row.holder p)) (numbered n ms) ≡ map shown_of_movement (map (λ m. (h.row.holder, m)) ms)
       bare n [] = refl
-      bare n (m ∷ ms) = ap (λ l. (h.row.holder, record m { lines = [] }) ∷ l) (bare (n + 1) ms)
+      bare n (m ∷ ms) = ap (λ l. deadlines_of h.row.holder m ∷ l) (bare (n + 1) ms)
 
   pub listed_movements : (rows : List (Keyed Movement)) → IsPermutation t.movements rows → IsSorted by_place rows
-      → map said_movement rows ≡ map without_lines (movements_listed c)
+      → map said_movement rows ≡ map shown_of_movement (movements_listed c)
   listed_movements rows same sorted =
       ap (map said_movement) (ordered_are movements_in c.holders sound.order (all_weaker (AreHolderRows c.country) (AreOwn movements_in) movements_own c.holders sound.holders) t.movements rows are.movements same sorted)
-      ∙ map-flat_map said_movement movements_in (λ h. map without_lines (movements_of h)) movements_said c.holders
-      ∙ sym (map-flat_map without_lines movements_of (λ h. map without_lines (movements_of h)) (λ h. refl) c.holders)
+      ∙ map-flat_map said_movement movements_in (λ h. map shown_of_movement (movements_of h)) movements_said c.holders
+      ∙ sym (map-flat_map shown_of_movement movements_of (λ h. map shown_of_movement (movements_of h)) (λ h. refl) c.holders)
 
   -- and so all guarantees that keep amounts, without their codes
   kept_said : (h : HolderRows) → map said_guarantee (kept_in h) ≡ map without_codes (guarantees_of h)

@@ -6,11 +6,13 @@ use Rattle.td_desk.specs.declared.fault.Fault.{Fault}
 use Rattle.td_guarantee.specs.declared.guarantee.Guarantee.{Guarantee}
 use Rattle.td_movement.specs.declared.movement.Movement.{Movement}
 use Rattle.td_store_rows.specs.declared.guarantees.stored.KeptGuarantee.{KeptGuarantee}
-use Rattle.td_store_rows.specs.declared.movements.stored.StoredMovement.{StoredMovement}
+use Rattle.td_store_rows.specs.MovementTable.{deadlines_of}
+use Rattle.td_store_rows.specs.declared.movements.stored.MovementDeadlines.{MovementDeadlines}
 
--- what the row of a movement says, and that of a guarantee with the amount in use on it, each with the holder's number
-abbrev pub said_of_movement : StoredMovement → ℕ × Movement
-said_of_movement r = (r.holder, r.movement)
+-- what is shown of a movement with its holder's number; and what the row of a guarantee says with the amount in use on it and the
+-- holder's number
+abbrev pub shown_of_movement : ℕ × Movement → MovementDeadlines
+shown_of_movement m = deadlines_of m.0 m.1
 
 abbrev pub said_of_guarantee : KeptGuarantee → ℕ × (Guarantee × ℕ)
 said_of_guarantee r = (r.holder, (r.guarantee, r.used))

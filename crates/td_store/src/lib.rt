@@ -1,6 +1,6 @@
 //! The desk over a store's file: it is made in an empty database, or opened where one was made before, loads and writes
-//! by transactions, shows all its movements and guarantees one after another, and gives its connection back; and its rows audited
-//! as those of a version of the tables.
+//! by transactions, shows the deadlines of its movements and its guarantees one after another, and gives its connection back;
+//! and its rows audited as those of a version of the tables.
 #![tactic(auto)]
 
 mod auditing;
@@ -27,7 +27,7 @@ pub use laws::{
 };
 pub use refused::{OpenFault, Refused};
 pub use rows::{GuaranteeRows, MovementRows};
-pub use td_store_rows::{KeptGuarantee, StoredMovement};
+pub use td_store_rows::{KeptGuarantee, MovementDeadlines};
 pub use td_table_model::Rule;
 pub use typed_sql::Visitor;
 pub use versions::file_version;

@@ -1,9 +1,9 @@
-//! All movements and all guarantees of a desk over a file, shown to a visitor one after another.
+//! The deadlines of all movements of a desk over a file, and all its guarantees, shown to a visitor one after another.
 ghost use Rattle.std.specs.Prelude.{◌≡◌, false, IsTrue, Ok, OnOk};
 ghost use Rattle.sqlite.specs.Held.{state};
 ghost use Rattle.sqlite.specs.State.{HasCleanDisk, Survives};
 ghost use Rattle.typed_sql.specs.Visited.{HasSeen, is_whole};
-ghost use Rattle.td_store_rows.specs.Visited.{VisitsKept, VisitsMovements};
+ghost use Rattle.td_store_rows.specs.Visited.{VisitsDeadlines, VisitsKept};
 ghost use Rattle.td_store.specs.Kept.{HasNewestTables};
 
 use crate::desk::SqlDesk;
@@ -12,12 +12,12 @@ use sqlite::{Connection, Error};
 use sqlite_trees::store::Alter;
 use std::alloc::Global;
 use td_desk::Fault;
-use td_store_rows::{KeptGuarantee, StoredMovement, visit_kept, visit_movements};
+use td_store_rows::{KeptGuarantee, MovementDeadlines, visit_deadlines, visit_kept};
 use typed_sql::Visitor;
 
-// Shows a visitor each movement of a desk's file, once the connection was seen to answer. An error is the database's own, or that of
-// the visit.
-fn show_movements<S: Alter, O, V: Visitor<StoredMovement, O>>(
+// Shows a visitor the deadlines of each movement of a desk's file, once the connection was seen to answer. An error is the
+// database's own, or that of the visit.
+fn show_deadlines<S: Alter, O, V: Visitor<MovementDeadlines, O>>(
     alloc: Global,
     conn: &mut Connection<S>,
     visitor: &mut V,
@@ -30,7 +30,7 @@ fn show_movements<S: Alter, O, V: Visitor<StoredMovement, O>>(
     ensures shown { HasCleanDisk (state S.Store conn.new)
         → OnOk result (IsTrue (state S.Store conn.old).is_open × IsTrue (state S.Store conn.new).is_open) }
     ensures seen { HasSeen V.Visitor.sees (visitor.old, beside.old) (visitor.new, beside.new) }
-    ensures visited { HasCleanDisk (state S.Store conn.new) → VisitsMovements V.Visitor.sees (state S.Store conn.old)
+    ensures visited { HasCleanDisk (state S.Store conn.new) → VisitsDeadlines V.Visitor.sees (state S.Store conn.old)
         (is_whole result) (visitor.old, beside.old) (visitor.new, beside.new) }
     ensures stopped { result ≡ Ok false → V.Visitor.stops visitor.new beside.new }
     ensures same { HasCleanDisk (state S.Store conn.new) → IsTrue (state S.Store conn.new).is_open
@@ -38,7 +38,7 @@ fn show_movements<S: Alter, O, V: Visitor<StoredMovement, O>>(
     ensures crash { Survives (state S.Store conn.old) (state S.Store conn.new) (λ _. ⊥) }
 {
     ask(conn)?;
-    visit_movements(alloc, conn, visitor, beside)
+    visit_deadlines(alloc, conn, visitor, beside)
 }
 
 // Shows a visitor each guarantee of a desk's file, once the connection was seen to answer. An error is the database's own, or that of
@@ -71,13 +71,14 @@ impl<S: Alter> SqlDesk<S> {
     ghost use Rattle.std.specs.Prelude.{Err, is_ok, map};
     ghost use Rattle.td_store.specs.Kept.{CountsFaults, content_in, sql_view};
     ghost use Rattle.td_store.specs.Looked.{HasLooked};
-    ghost use Rattle.td_store.specs.Visits.{IsVisit, said_of_guarantee, said_of_movement};
-    ghost use Rattle.td_table_model.specs.Listed.{guarantees_listed, movements_listed, without_codes, without_lines};
+    ghost use Rattle.td_store.specs.Visits.{IsVisit, said_of_guarantee, shown_of_movement};
+    ghost use Rattle.td_table_model.specs.Listed.{guarantees_listed, movements_listed, without_codes};
 
-    /// Shows a visitor each movement, by holder and then by serial, without its lines, and what stands beside it, until it wants no
-    /// more: `true` where all were shown, `false` where it wanted no more. No row is changed, and none is kept. `NoMemory`: want of
-    /// memory; `Store`: any other fault of the store. What was shown before a fault comes first among the rows.
-    pub fn visit_movements<O, V: Visitor<StoredMovement, O>>(
+    /// Shows a visitor the deadlines of each movement, by holder and then by serial, and what stands beside it, until it wants no more:
+    /// `true` where all were shown, `false` where it wanted no more. Of a row only the columns of the holder, the MRN, the state, the
+    /// limit and the arrival are read. No row is changed, and none is kept. `NoMemory`: want of memory; `Store`: any other fault of the
+    /// store, also one of these columns that is no movement's. What was shown before a fault comes first among the rows.
+    pub fn visit_deadlines<O, V: Visitor<MovementDeadlines, O>>(
         &mut self,
         alloc: Global,
         visitor: &mut V,
@@ -89,11 +90,11 @@ impl<S: Alter> SqlDesk<S> {
         // also where the disk returned other than what was written
         ensures seen { HasSeen V.Visitor.sees (visitor.old, beside.old) (visitor.new, beside.new) }
         ensures visited { HasCleanDisk (state S.Store self.new) → IsTrue (state S.Store self.old).is_open
-            → IsVisit V.Visitor.sees said_of_movement (map without_lines (movements_listed (content_in (state S.Store self.old).now.trees)))
+            → IsVisit V.Visitor.sees (λ row. row) (map shown_of_movement (movements_listed (content_in (state S.Store self.old).now.trees)))
             (visitor.old, beside.old) result (visitor.new, beside.new) }
         ensures stopped { result ≡ Ok false → V.Visitor.stops visitor.new beside.new }
     {
-        let shown = show_movements(alloc, &mut self.conn, visitor, beside);
+        let shown = show_deadlines(alloc, &mut self.conn, visitor, beside);
         told(&mut self.conn, shown)
     }
 

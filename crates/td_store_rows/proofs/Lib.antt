@@ -15,6 +15,7 @@ mod MovementCells
 pub mod MovementStatements
 pub mod RangeTests
 pub mod MovementSerials
+mod Deadlines
 mod LineMeanings
 mod LineStatements
 pub mod Turned

@@ -17,7 +17,7 @@ use Rattle.td_schema.specs.declared.layout.Layout.TheVariants.{Made1, Made2, Gro
 use Rattle.typed_sql.specs.Meanings.{HasTable, MeansInsert, MeansUpdate, MeansSelect}
 use Rattle.td_store_rows.specs.Columns.{movements_table}
 use Rattle.td_store_rows.proofs.RangeTests.{within_tests}
-use Rattle.td_store_rows.specs.declared.movements.texts.TheConstants.{INSERT, SET_STATUS, BY_MRN, BY_LRN, WITHIN, NEXT_OF_HOLDER, OF_HOLDERS_ABOVE, ALL, COUNTING_SERIALS}
+use Rattle.td_store_rows.specs.declared.movements.texts.TheConstants.{INSERT, SET_STATUS, BY_MRN, BY_LRN, WITHIN, NEXT_OF_HOLDER, OF_HOLDERS_ABOVE, DEADLINES, COUNTING_SERIALS}
 
 movements_there : (l : Layout) → HasTable (schema_of l) 3 movements_table
 movements_there Made1 = record { there = refl; free = none_acts Made1 4 }
@@ -146,14 +146,21 @@ of_holders_above_means Made3 = record { names = names; command = refl; plain = (
 of_holders_above_means Grown3From2 = record { names = names; command = refl; plain = (refl, refl); unlisted = refl }
 of_holders_above_means Grown3From1 = record { names = names; command = refl; plain = (refl, refl); unlisted = refl }
 
-pub all_means : (l : Layout) → MeansSelect (schema_of l) ALL.now 4 [] all_columns by_serial
+-- the columns of deadlines
+abbrev pub deadline_columns : List Term
+deadline_columns = col 1 1 ∷ col 1 3 ∷ col 1 8 ∷ col 1 9 ∷ col 1 10 ∷ []
+
+abbrev deadline_names : List (List ℕ)
+deadline_names = codes "holder" ∷ codes "mrn" ∷ codes "state" ∷ codes "limit_day" ∷ codes "arrival" ∷ []
+
+pub deadlines_mean : (l : Layout) → MeansSelect (schema_of l) DEADLINES.now 4 [] deadline_columns by_serial
 unfolding understood everything
-all_means Made1 = record { names = names; command = refl; plain = (refl, refl); unlisted = refl }
-all_means Made2 = record { names = names; command = refl; plain = (refl, refl); unlisted = refl }
-all_means Grown2 = record { names = names; command = refl; plain = (refl, refl); unlisted = refl }
-all_means Made3 = record { names = names; command = refl; plain = (refl, refl); unlisted = refl }
-all_means Grown3From2 = record { names = names; command = refl; plain = (refl, refl); unlisted = refl }
-all_means Grown3From1 = record { names = names; command = refl; plain = (refl, refl); unlisted = refl }
+deadlines_mean Made1 = record { names = deadline_names; command = refl; plain = (refl, refl); unlisted = refl }
+deadlines_mean Made2 = record { names = deadline_names; command = refl; plain = (refl, refl); unlisted = refl }
+deadlines_mean Grown2 = record { names = deadline_names; command = refl; plain = (refl, refl); unlisted = refl }
+deadlines_mean Made3 = record { names = deadline_names; command = refl; plain = (refl, refl); unlisted = refl }
+deadlines_mean Grown3From2 = record { names = deadline_names; command = refl; plain = (refl, refl); unlisted = refl }
+deadlines_mean Grown3From1 = record { names = deadline_names; command = refl; plain = (refl, refl); unlisted = refl }
 
 -- the serial alone
 abbrev pub serial_column : List Term

@@ -14,12 +14,13 @@ use Rattle.td_schema.specs.declared.layout.Layout.{Layout}
 use Rattle.typed_sql.specs.Typed.{AreThose, AreTyped, IsFirst, Turns, typed_rows}
 use Rattle.typed_sql.specs.Writing.{HasSchema}
 use Rattle.td_table_model.specs.Gathering.{IsApart, in_order, place}
-use Rattle.typed_sql.specs.Values.{number_value, number_or_null, text_or_null}
+use Rattle.typed_sql.specs.Values.{number_if, number_in, number_value, number_or_null, text_in, text_or_null}
 use Rattle.sqlite_value.specs.declared.value.Value.TheVariants.{Text}
-use Rattle.sqlite_value.specs.Order.{Row}
+use Rattle.sqlite_value.specs.Order.{Row, column}
 use Rattle.sqlite.specs.State.{State}
-use Rattle.td_store_rows.specs.Columns.{movement_typing}
+use Rattle.td_store_rows.specs.Columns.{movement_typing, state_in}
 use Rattle.td_store_rows.specs.Places.{by_place}
+use Rattle.td_store_rows.specs.declared.movements.stored.MovementDeadlines.{MovementDeadlines}
 use Rattle.td_store_rows.specs.declared.movements.stored.MovementSerial.{MovementSerial}
 use Rattle.td_store_rows.specs.declared.movements.stored.StoredMovement.{StoredMovement}
 
@@ -59,6 +60,19 @@ AreBySerial p state found =
 -- this is the first of the movements that pass the test, by holder and then by serial; none: none of them passes
 abbrev pub IsFirstMovement : (Keyed Movement → Bool) → State → Option StoredMovement → Type 0
 IsFirstMovement p state found = (l : Layout) → IsFirst movement_typing (schema_of l) p by_place state (option_map movement_row_of found)
+
+-- what a holder's movement says of its deadlines, and what five columns are read as
+abbrev pub deadlines_of : ℕ → Movement → MovementDeadlines
+deadlines_of H m = record { holder = H; mrn = m.mrn; state = m.state; limit = m.limit; arrival = m.arrival }
+
+abbrev pub deadlines_from : Row → MovementDeadlines
+deadlines_from cells = record {
+  holder = number_in (column cells 0);
+  mrn = text_in (column cells 1);
+  state = state_in (text_in (column cells 2));
+  limit = number_if (column cells 3);
+  arrival = number_if (column cells 4);
+}
 
 -- a serial that was found
 abbrev pub serial_of_stored : MovementSerial → ℕ

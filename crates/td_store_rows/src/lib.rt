@@ -21,8 +21,8 @@ pub use holders::{find_holder, insert_holder, set_holder};
 pub use lines::{StoredLine, empty_lines1, insert_line, lines_of, lines_on, older_lines};
 pub use meta::{StoredMeta, find_meta, insert_meta, set_version};
 pub use movements::{
-    MovementSerial, StoredMovement, counting_serials, find_by_lrn, find_by_mrn,
+    MovementDeadlines, MovementSerial, StoredMovement, counting_serials, find_by_lrn, find_by_mrn,
     first_movement_above, insert_movement, movements_within, next_movement_of, set_status,
-    visit_movements,
+    visit_deadlines,
 };
 pub use places::range_key;

@@ -10,6 +10,6 @@ pub use finding::{
     counting_serials, find_by_lrn, find_by_mrn, first_movement_above, movements_within,
     next_movement_of,
 };
-pub use stored::{MovementSerial, StoredMovement};
-pub use visiting::visit_movements;
+pub use stored::{MovementDeadlines, MovementSerial, StoredMovement};
+pub use visiting::visit_deadlines;
 pub use writing::{insert_movement, set_status};

@@ -2,8 +2,8 @@
 use keyed_rows::Keyed;
 use sqlite::Row;
 use std::alloc::Global;
-use td_base::HolderNo;
-use td_movement::{Movement, MovementLines};
+use td_base::{Day, HolderNo, Mrn};
+use td_movement::{Movement, MovementLines, State};
 use td_schema::{
     day_at, holder_at, lrn_at, mrn_at, office_at, optional_day_at, optional_office_at, serial_at,
     state_at,
@@ -48,6 +48,39 @@ impl FromRow for StoredMovement {
             holder: holder_at(row, 0)?,
             serial: serial_at(row, 1)?,
             movement,
+        })
+    }
+}
+
+/// What the row of a movement says of its deadlines, read alone: whose movement it is and which, its state, the day by which it has
+/// to arrive and the day on which it arrived, as far as there are any.
+#[derive(Clone, Copy, Debug)]
+pub struct MovementDeadlines {
+    pub holder: HolderNo,
+    pub mrn: Mrn,
+    pub state: State,
+    pub limit: Option<Day>,
+    pub arrival: Option<Day>,
+}
+
+impl FromRow for MovementDeadlines {
+    ghost use Rattle.td_store_rows.specs.MovementTable.{deadlines_from};
+    ghost use Rattle.td_store_rows.specs.declared.movements.stored.MovementDeadlines.{MovementDeadlines};
+
+    ghost Typed = { MovementDeadlines };
+
+    ghost typed = { λ row. row };
+
+    ghost from = { deadlines_from };
+
+    // A row of five columns.
+    fn from_row(_alloc: Global, row: &Row) -> Option<Self> {
+        Some(MovementDeadlines {
+            holder: holder_at(row, 0)?,
+            mrn: mrn_at(row, 1)?,
+            state: state_at(row, 2)?,
+            limit: optional_day_at(row, 3)?,
+            arrival: optional_day_at(row, 4)?,
         })
     }
 }

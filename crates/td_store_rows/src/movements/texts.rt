@@ -28,9 +28,9 @@ pub const NEXT_OF_HOLDER: &str =
 pub const OF_HOLDERS_ABOVE: &str =
     "SELECT holder, serial, mrn, lrn, departure, destination, accepted, state, limit_day, arrival, actual FROM movements WHERE holder > ?1 ORDER BY holder, serial";
 
-/// All rows.
-pub const ALL: &str =
-    "SELECT holder, serial, mrn, lrn, departure, destination, accepted, state, limit_day, arrival, actual FROM movements ORDER BY holder, serial";
+/// Of all rows what is read of deadlines.
+pub const DEADLINES: &str =
+    "SELECT holder, mrn, state, limit_day, arrival FROM movements ORDER BY holder, serial";
 
 /// The serials of a holder's movements that count against their guarantees.
 pub const COUNTING_SERIALS: &str =

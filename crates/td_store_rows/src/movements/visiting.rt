@@ -1,23 +1,24 @@
-//! A visit of all movements, outside a transaction. It changes nothing, and keeps no row.
+//! A visit of the deadlines of all movements, outside a transaction. It changes nothing, and keeps no row.
 ghost use Rattle.std.specs.Prelude.{◌≡◌, false, Ok, OnOk};
 ghost use Rattle.sqlite.specs.Held.{state};
 ghost use Rattle.sqlite.specs.State.{HasCleanDisk, IsUnchanged, Survives};
 ghost use Rattle.typed_sql.specs.Visited.{HasSeen, is_whole};
 ghost use Rattle.typed_sql.specs.Walked.{IsLeftAlone};
 ghost use Rattle.td_store_rows.specs.StoreReads.{IsAny};
-ghost use Rattle.td_store_rows.specs.Visited.{IsOfLayout, VisitsMovements};
+ghost use Rattle.td_store_rows.specs.Visited.{IsOfLayout, VisitsDeadlines};
 
-use crate::movements::stored::StoredMovement;
-use crate::movements::texts::ALL;
+use crate::movements::stored::MovementDeadlines;
+use crate::movements::texts::DEADLINES;
 use sqlite::{Connection, Error};
 use sqlite_trees::store::Alter;
 use std::alloc::Global;
 use typed_sql::Visitor;
 
-/// Shows a visitor each movement, by holder and then by serial, until it wants no more: `true` where all were shown, `false` where
-/// it wanted no more. `DatabaseCorrupt`: a row is no movement's; `OutOfMemory`: want of memory; any other error is the
-/// database's own. What was shown before an error comes first among the rows.
-pub fn visit_movements<S: Alter, O, V: Visitor<StoredMovement, O>>(
+/// Shows a visitor the deadlines of each movement, by holder and then by serial, until it wants no more: `true` where all were shown,
+/// `false` where it wanted no more. Of a row only the holder, the MRN, the state, the limit and the arrival are read.
+/// `DatabaseCorrupt`: one of these is no movement's; `OutOfMemory`: want of memory; any other error is the database's own. What was
+/// shown before an error comes first among the rows.
+pub fn visit_deadlines<S: Alter, O, V: Visitor<MovementDeadlines, O>>(
     alloc: Global,
     conn: &mut Connection<S>,
     visitor: &mut V,
@@ -27,7 +28,7 @@ pub fn visit_movements<S: Alter, O, V: Visitor<StoredMovement, O>>(
     requires tables { HasCleanDisk (state S.Store conn.old) → IsOfLayout IsAny (state S.Store conn.old) }
     ensures ended { conn.new.in_transaction ≡ false }
     ensures seen { HasSeen V.Visitor.sees (visitor.old, beside.old) (visitor.new, beside.new) }
-    ensures visited { HasCleanDisk (state S.Store conn.new) → VisitsMovements V.Visitor.sees (state S.Store conn.old)
+    ensures visited { HasCleanDisk (state S.Store conn.new) → VisitsDeadlines V.Visitor.sees (state S.Store conn.old)
         (is_whole result) (visitor.old, beside.old) (visitor.new, beside.new) }
     ensures stopped { result ≡ Ok false → V.Visitor.stops visitor.new beside.new }
     ensures still { HasCleanDisk (state S.Store conn.new)
@@ -35,5 +36,5 @@ pub fn visit_movements<S: Alter, O, V: Visitor<StoredMovement, O>>(
     ensures left { HasCleanDisk (state S.Store conn.new) → IsLeftAlone (state S.Store conn.old) (state S.Store conn.new) }
     ensures survives { Survives (state S.Store conn.old) (state S.Store conn.new) (λ _. ⊥) }
 {
-    typed_sql::visit(alloc, conn, ALL, visitor, beside)
+    typed_sql::visit(alloc, conn, DEADLINES, visitor, beside)
 }

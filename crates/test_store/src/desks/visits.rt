@@ -1,5 +1,5 @@
-//! All movements and all guarantees of a desk are shown one after another, by holder and then by serial, as long as more are
-//! wanted.
+//! The deadlines of all movements and all guarantees of a desk are shown one after another, by holder and then by serial, as long
+//! as more are wanted.
 use super::made;
 use super::opening::seen;
 use crate::examples::{
@@ -9,10 +9,10 @@ use sqlite::MemStore;
 use std::alloc::AllocError;
 use std::process::Abort;
 use td_acts::Lines;
-use td_base::{Grn, Reference};
+use td_base::{Day, Grn, Reference};
 use td_desk::{Command, Outcome, Said, Stamped, do_one};
 use td_movement::Line;
-use td_store::{KeptGuarantee, SqlDesk, StoredMovement, Visitor};
+use td_store::{KeptGuarantee, MovementDeadlines, SqlDesk, Visitor};
 
 const START: i64 = 1_740_819_600;
 
@@ -29,11 +29,19 @@ impl Clerk {
     }
 }
 
-fn push_movement(told: &mut String, row: &StoredMovement) -> Result<(), AllocError> {
-    let (holder, serial, lrn) = (row.holder, row.serial, row.movement.lrn);
-    let state = row.movement.state.name();
-    let lines = row.movement.lines.as_slice().len();
-    writeln!(told, "{holder}/{serial} {lrn} {state} {lines}")
+fn push_day(told: &mut String, day: Option<Day>) -> Result<(), AllocError> {
+    match day {
+        Some(day) => write!(told, " {day}"),
+        None => told.push_str(" -"),
+    }
+}
+
+fn push_movement(told: &mut String, row: &MovementDeadlines) -> Result<(), AllocError> {
+    let (holder, mrn, state) = (row.holder, row.mrn, row.state.name());
+    write!(told, "{holder} {mrn} {state}")?;
+    push_day(told, row.limit)?;
+    push_day(told, row.arrival)?;
+    told.push_str("\n")
 }
 
 fn push_guarantee(told: &mut String, row: &KeptGuarantee) -> Result<(), AllocError> {
@@ -43,10 +51,10 @@ fn push_guarantee(told: &mut String, row: &KeptGuarantee) -> Result<(), AllocErr
     writeln!(told, "{holder}/{serial} {reference} {used} {codes}")
 }
 
-impl Visitor<StoredMovement, String> for Clerk {
+impl Visitor<MovementDeadlines, String> for Clerk {
     ghost sees = { λ _ _ _ _ _. Unit {0} };
 
-    fn see(&mut self, row: StoredMovement, beside: &mut String) -> bool {
+    fn see(&mut self, row: MovementDeadlines, beside: &mut String) -> bool {
         push_movement(beside, &row).is_ok() && self.wants_more()
     }
 }
@@ -66,7 +74,7 @@ fn movements_told(
     wanted: u32,
 ) -> (String, bool) {
     let (mut clerk, mut told) = (Clerk { wanted }, String::new(rt.alloc()));
-    let all = desk.visit_movements(rt.alloc(), &mut clerk, &mut told);
+    let all = desk.visit_deadlines(rt.alloc(), &mut clerk, &mut told);
     (told, all.ok().expect(rt, "no fault"))
 }
 
@@ -150,7 +158,9 @@ fn busy(rt: &(impl AllocGlobal + Abort)) -> SqlDesk<MemStore> {
     desk
 }
 
-const MOVEMENTS: &str = "000001/1 A1 released 0\n000001/2 A2 accepted 0\n000002/1 B1 accepted 0\n";
+const MOVEMENTS: &str = "000001 25CH000001000001J8 released 2025-03-09 -\n\
+    000001 25CH000001000002J7 accepted - -\n\
+    000002 25CH000002000001J3 accepted - -\n";
 
 /// Only the first movement is released, so 5,000.00 are in use on the first guarantee.
 const GUARANTEES: &str =
@@ -174,7 +184,10 @@ fn all_guarantees_are_shown_with_what_is_in_use(rt: HostRuntime) {
 fn a_desk_goes_on_after_visits_that_stopped(rt: HostRuntime) {
     let mut desk = busy(&rt);
     let (told, all) = movements_told(&rt, &mut desk, 1);
-    assert_eq!(rt; told.as_str(), "000001/1 A1 released 0\n");
+    assert_eq!(rt;
+        told.as_str(),
+        "000001 25CH000001000001J8 released 2025-03-09 -\n"
+    );
     assert!(rt; !all);
     let (told, all) = guarantees_told(&rt, &mut desk, 2);
     assert_eq!(rt;
