@@ -21,9 +21,6 @@ movements_listed c = flat_map movements_of c.holders
 abbrev pub guarantees_listed : Content → List (ℕ × (Guarantee × ℕ))
 guarantees_listed c = flat_map guarantees_of c.holders
 
--- what the row of a movement says of it, and what the row of a guarantee does, with the amount in use
-abbrev pub without_lines : ℕ × Movement → ℕ × Movement
-without_lines p = (p.0, record p.1 { lines = [] })
-
+-- what the row of a guarantee says of it, with the amount in use
 abbrev pub without_codes : ℕ × (Guarantee × ℕ) → ℕ × (Guarantee × ℕ)
 without_codes p = (p.0, (record p.1.0 { codes = [] }, p.1.1))
