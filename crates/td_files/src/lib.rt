@@ -2,6 +2,7 @@
 //! brought to the newest version of its tables, and closed.
 #![tactic(auto)]
 
+mod cache;
 mod desks;
 mod files;
 mod upgrades;
