@@ -27,6 +27,10 @@ use Rattle.td_words.specs.declared.words.Task.TheVariants.{Serve, Pipe, Batch, R
 abbrev pub option_rule : Text → Rule
 option_rule name = record (new_rule name) { long = Some name; action = Some Set; value_names = 1 }
 
+-- the same, without which the words are wrong
+abbrev pub required_rule : Text → Rule
+required_rule name = record (option_rule name) { required = true }
+
 -- the flag `--new`, which has no value
 abbrev pub new_file_rule : Rule
 new_file_rule =
@@ -34,7 +38,7 @@ new_file_rule =
 
 -- the option that every command at a desk has: the country of the office
 abbrev pub with_country : App → App
-with_country app = with_rule app (record (option_rule (codes "country")) { required = true })
+with_country app = with_rule app (required_rule (codes "country"))
 
 -- and those of the commands that serve requests: where the records stand, and perhaps the moment of all requests
 abbrev pub with_office : App → App
@@ -47,8 +51,8 @@ abbrev pub serve_app : App
 serve_app =
     with_rule
     (with_rule
-    (with_rule (with_office (new_app (codes "serve"))) (record (option_rule (codes "port")) { required = true }))
-    (record (option_rule (codes "connections")) { required = true }))
+    (with_rule (with_office (new_app (codes "serve"))) (required_rule (codes "port")))
+    (required_rule (codes "connections")))
     (option_rule (codes "idle"))
 
 abbrev pub pipe_app : App
@@ -59,8 +63,8 @@ abbrev pub batch_app : Text → App
 batch_app name =
     with_rule
     (with_rule
-    (with_rule (with_country (new_app name)) (record (option_rule (codes "db")) { required = true }))
-    (record (option_rule (codes "file")) { required = true }))
+    (with_rule (with_country (new_app name)) (required_rule (codes "db")))
+    (required_rule (codes "file")))
     (option_rule (codes "at"))
 
 abbrev pub batch_name : BatchKind → Text
@@ -76,15 +80,15 @@ report_app =
     with_rule
     (with_rule
     (with_rule (with_country (new_app (codes "report"))) kind_rule)
-    (record (option_rule (codes "db")) { required = true }))
+    (required_rule (codes "db")))
     (option_rule (codes "day"))
 
 abbrev pub check_app : App
-check_app = with_rule (with_country (new_app (codes "check"))) (record (option_rule (codes "db")) { required = true })
+check_app = with_rule (with_country (new_app (codes "check"))) (required_rule (codes "db"))
 
 -- the one that isn't done at a desk, and so has no office's options
 abbrev pub migrate_app : App
-migrate_app = with_rule (new_app (codes "migrate")) (record (option_rule (codes "db")) { required = true })
+migrate_app = with_rule (new_app (codes "migrate")) (required_rule (codes "db"))
 
 -- the program, which has a version, before its jobs are added
 abbrev pub bare_app : App

@@ -1,8 +1,9 @@
 //! The commands and their options, and what help tells of them.
-ghost use Rattle.std.specs.Prelude.{◌≡◌, codes, false, IfOk};
-ghost use Rattle.clap.specs.Words.{App, app_of, new_app, rule_of, with_subcommand};
+ghost use Rattle.std.specs.Prelude.{◌≡◌, codes, false, IfOk, true};
+ghost use Rattle.clap.specs.Words.{App, Rule, app_of, new_app, rule_of, with_rule, with_subcommand};
 ghost use Rattle.clap.specs.declared.Command.TheViews.{out-Command};
-ghost use Rattle.td_words.specs.Words.{bare_app, batch_app, check_app, kind_rule, migrate_app, new_file_rule, option_rule, pipe_app, program_app, report_app, serve_app, with_country, with_office};
+ghost use Rattle.td_words.specs.Commands.{IsCommand};
+ghost use Rattle.td_words.specs.Words.{bare_app, batch_app, check_app, kind_rule, migrate_app, new_file_rule, option_rule, pipe_app, program_app, report_app, required_rule, serve_app, with_country, with_office};
 
 use clap::{Arg, ArgAction, Command};
 use std::alloc::{AllocError, Global};
@@ -43,6 +44,9 @@ const MIGRATE: &str = "migrate";
 
 /// What `--version` tells.
 const VERSION: &str = "0.1";
+
+/// The file of a job that has to have one.
+const RECORDS: &str = "The file with the records, an SQLite database";
 
 /// How the jobs are asked for, each alone and all.
 const SERVE_USAGE: &str =
@@ -108,6 +112,14 @@ fn option<'a>(alloc: Global, name: &'a str, value: &'a str, help: &'a str) -> Ar
         .action(ArgAction::Set)
 }
 
+// An option without which the words are wrong.
+fn required_option<'a>(alloc: Global, name: &'a str, value: &'a str, help: &'a str) -> Arg<'a>
+    ensures rule { rule_of result ≡ required_rule name.entry.now }
+    ensures local { result.global ≡ false }
+{
+    option(alloc, name, value, help).required(true)
+}
+
 // The flag that has the tables made first. That it needs a file is seen where its value is read.
 fn new_option<'a>(alloc: Global) -> Arg<'a>
     ensures rule { rule_of result ≡ new_file_rule }
@@ -142,6 +154,17 @@ fn bare_command<'a>(alloc: Global, name: &'a str, about: &'a str, usage: &'a str
         .after_help(NOTES)
 }
 
+// A command with one option more, where there was memory for what it has.
+fn with_arg<'a>(
+    command: Result<Command<'a>, AllocError>,
+    arg: Arg<'a>,
+) -> Result<Command<'a>, AllocError>
+    ensures { (app : App) (rule : Rule) → IsCommand app command.entry → rule_of arg.entry ≡ rule → arg.entry.global ≡ false
+        → IsCommand (with_rule app rule) result }
+{
+    command?.arg(arg)
+}
+
 // A command of that name, with the option that every command at a desk has.
 fn country_command<'a>(
     alloc: Global,
@@ -149,15 +172,27 @@ fn country_command<'a>(
     about: &'a str,
     usage: &'a str,
 ) -> Result<Command<'a>, AllocError>
-    ensures { IfOk result (λ c. (app_of c ≡ with_country (new_app name.now)) × ((out-Command c).has_globals ≡ false)) }
+    ensures { IsCommand (with_country (new_app name.now)) result }
 {
-    bare_command(alloc, name, about, usage).arg(option(
+    bare_command(alloc, name, about, usage).arg(required_option(
         alloc,
         COUNTRY,
         "CC",
         "The country of the office, two capital letters",
+    ))
+}
+
+// The moment of all requests.
+fn moment_option<'a>(alloc: Global) -> Arg<'a>
+    ensures rule { rule_of result ≡ option_rule (codes "at") }
+    ensures local { result.global ≡ false }
+{
+    option(
+        alloc,
+        AT,
+        "SECONDS",
+        "The moment of all requests, in seconds since 1970; else the clock is asked",
     )
-    .required(true))
 }
 
 // A command of that name that serves requests, with the options that each of those has.
@@ -167,57 +202,48 @@ fn job_command<'a>(
     about: &'a str,
     usage: &'a str,
 ) -> Result<Command<'a>, AllocError>
-    ensures { IfOk result (λ c. (app_of c ≡ with_office (new_app name.now)) × ((out-Command c).has_globals ≡ false)) }
+    ensures { IsCommand (with_office (new_app name.now)) result }
 {
-    country_command(alloc, name, about, usage)?
-        .arg(option(
-            alloc,
-            DB,
-            "FILE",
-            "The file with the records, an SQLite database; else they are in memory",
-        ))?
-        .arg(new_option(alloc))?
-        .arg(option(
-            alloc,
-            AT,
-            "SECONDS",
-            "The moment of all requests, in seconds since 1970; else the clock is asked",
-        ))
+    let records = option(
+        alloc,
+        DB,
+        "FILE",
+        "The file with the records, an SQLite database; else they are in memory",
+    );
+    let command = with_arg(country_command(alloc, name, about, usage), records);
+    let command = with_arg(command, new_option(alloc));
+    with_arg(command, moment_option(alloc))
 }
 
 fn serve_command<'a>(alloc: Global) -> Result<Command<'a>, AllocError>
-    ensures { IfOk result (λ c. (app_of c ≡ serve_app) × ((out-Command c).has_globals ≡ false)) }
+    ensures { IsCommand serve_app result }
 {
-    job_command(
-        alloc,
-        SERVE,
-        "Serves connections to a port of this machine, one after another",
-        SERVE_USAGE,
-    )?
-    .arg(option(
+    let about = "Serves connections to a port of this machine, one after another";
+    let port = required_option(
         alloc,
         PORT,
         "N",
         "The port of 127.0.0.1 that is listened on, from 1 to 65535",
-    )
-    .required(true))?
-    .arg(option(
+    );
+    let connections = required_option(
         alloc,
         CONNECTIONS,
         "K",
         "How many connections are served, from 1 to 1000000",
-    )
-    .required(true))?
-    .arg(option(
+    );
+    let idle = option(
         alloc,
         IDLE,
         "SECONDS",
         "The most seconds that a connection is waited for, from 1 to 3600; else 2",
-    ))
+    );
+    let command = job_command(alloc, SERVE, about, SERVE_USAGE);
+    let command = with_arg(command, port);
+    with_arg(with_arg(command, connections), idle)
 }
 
 fn pipe_command<'a>(alloc: Global) -> Result<Command<'a>, AllocError>
-    ensures { IfOk result (λ c. (app_of c ≡ pipe_app) × ((out-Command c).has_globals ≡ false)) }
+    ensures { IsCommand pipe_app result }
 {
     job_command(
         alloc,
@@ -234,27 +260,16 @@ fn batch_command<'a>(
     about: &'a str,
     usage: &'a str,
 ) -> Result<Command<'a>, AllocError>
-    ensures { IfOk result (λ c. (app_of c ≡ batch_app name.now) × ((out-Command c).has_globals ≡ false)) }
+    ensures { IsCommand (batch_app name.now) result }
 {
-    country_command(alloc, name, about, usage)?
-        .arg(option(
-            alloc,
-            DB,
-            "FILE",
-            "The file with the records, an SQLite database",
-        )
-        .required(true))?
-        .arg(option(alloc, FILE, "CSV", "The file with the rows, as CSV").required(true))?
-        .arg(option(
-            alloc,
-            AT,
-            "SECONDS",
-            "The moment of all requests, in seconds since 1970; else the clock is asked",
-        ))
+    let records = required_option(alloc, DB, "FILE", RECORDS);
+    let rows = required_option(alloc, FILE, "CSV", "The file with the rows, as CSV");
+    let command = with_arg(country_command(alloc, name, about, usage), records);
+    with_arg(with_arg(command, rows), moment_option(alloc))
 }
 
 fn declarations_command<'a>(alloc: Global) -> Result<Command<'a>, AllocError>
-    ensures { IfOk result (λ c. (app_of c ≡ batch_app (codes "batch")) × ((out-Command c).has_globals ≡ false)) }
+    ensures { IsCommand (batch_app (codes "batch")) result }
 {
     batch_command(
         alloc,
@@ -265,7 +280,7 @@ fn declarations_command<'a>(alloc: Global) -> Result<Command<'a>, AllocError>
 }
 
 fn acts_command<'a>(alloc: Global) -> Result<Command<'a>, AllocError>
-    ensures { IfOk result (λ c. (app_of c ≡ batch_app (codes "acts")) × ((out-Command c).has_globals ≡ false)) }
+    ensures { IsCommand (batch_app (codes "acts")) result }
 {
     batch_command(
         alloc,
@@ -276,52 +291,34 @@ fn acts_command<'a>(alloc: Global) -> Result<Command<'a>, AllocError>
 }
 
 fn report_command<'a>(alloc: Global) -> Result<Command<'a>, AllocError>
-    ensures { IfOk result (λ c. (app_of c ≡ report_app) × ((out-Command c).has_globals ≡ false)) }
+    ensures { IsCommand report_app result }
 {
-    country_command(
-        alloc,
-        REPORT,
-        "Prints what is overdue on a day, or all guarantees",
-        REPORT_USAGE,
-    )?
-    .arg(kind_word(alloc))?
-    .arg(option(
-        alloc,
-        DB,
-        "FILE",
-        "The file with the records, an SQLite database",
-    )
-    .required(true))?
-    .arg(option(
+    let about = "Prints what is overdue on a day, or all guarantees";
+    let records = required_option(alloc, DB, "FILE", RECORDS);
+    let day = option(
         alloc,
         DAY,
         "D",
         "The day of the report, as 2025-03-01; overdue has to have it",
-    ))
+    );
+    let command = country_command(alloc, REPORT, about, REPORT_USAGE);
+    with_arg(with_arg(with_arg(command, kind_word(alloc)), records), day)
 }
 
 fn check_command<'a>(alloc: Global) -> Result<Command<'a>, AllocError>
-    ensures { IfOk result (λ c. (app_of c ≡ check_app) × ((out-Command c).has_globals ≡ false)) }
+    ensures { IsCommand check_app result }
 {
-    country_command(
-        alloc,
-        CHECK,
-        "Tests whether a desk of the country can be opened over a file",
-        CHECK_USAGE,
-    )?
-    .arg(option(alloc, DB, "FILE", "The file that is tested").required(true))
+    let about = "Tests whether a desk of the country can be opened over a file";
+    let tested = required_option(alloc, DB, "FILE", "The file that is tested");
+    with_arg(country_command(alloc, CHECK, about, CHECK_USAGE), tested)
 }
 
 fn migrate_command<'a>(alloc: Global) -> Result<Command<'a>, AllocError>
-    ensures { IfOk result (λ c. (app_of c ≡ migrate_app) × ((out-Command c).has_globals ≡ false)) }
+    ensures { IsCommand migrate_app result }
 {
-    bare_command(
-        alloc,
-        MIGRATE,
-        "Brings the tables of a file to the newest version",
-        MIGRATE_USAGE,
-    )
-    .arg(option(alloc, DB, "FILE", "The file whose tables are brought to it").required(true))
+    let about = "Brings the tables of a file to the newest version";
+    let help = "The file whose tables are brought to it";
+    bare_command(alloc, MIGRATE, about, MIGRATE_USAGE).arg(required_option(alloc, DB, "FILE", help))
 }
 
 // The program before its jobs are added.
@@ -339,26 +336,26 @@ fn bare_program<'a>(alloc: Global) -> Result<Command<'a>, AllocError>
     )
 }
 
-// A program with one job more.
+// A program with one job more, where there was memory for both.
 fn with_job<'a>(
-    program: Command<'a>,
+    program: Result<Command<'a>, AllocError>,
     job: Result<Command<'a>, AllocError>,
 ) -> Result<Command<'a>, AllocError>
-    ensures { (app : App) → IfOk job.entry (λ j. (app_of j ≡ app) × ((out-Command j).has_globals ≡ false))
-        → IfOk result (λ c. app_of c ≡ with_subcommand (app_of program.entry) app.top) }
+    ensures { (whole app : App) → IfOk program.entry (λ p. app_of p ≡ whole) → IsCommand app job.entry
+        → IfOk result (λ c. app_of c ≡ with_subcommand whole app.top) }
 {
-    program.subcommand(job?)
+    program?.subcommand(job?)
 }
 
 /// The program with its commands, as `clap` reads the words.
 pub(crate) fn program<'a>(alloc: Global) -> Result<Command<'a>, AllocError>
     ensures { IfOk result (λ c. app_of c ≡ program_app) }
 {
-    let program = with_job(bare_program(alloc)?, serve_command(alloc))?;
-    let program = with_job(program, pipe_command(alloc))?;
-    let program = with_job(program, declarations_command(alloc))?;
-    let program = with_job(program, acts_command(alloc))?;
-    let program = with_job(program, report_command(alloc))?;
-    let program = with_job(program, check_command(alloc))?;
+    let program = with_job(bare_program(alloc), serve_command(alloc));
+    let program = with_job(program, pipe_command(alloc));
+    let program = with_job(program, declarations_command(alloc));
+    let program = with_job(program, acts_command(alloc));
+    let program = with_job(program, report_command(alloc));
+    let program = with_job(program, check_command(alloc));
     with_job(program, migrate_command(alloc))
 }

@@ -1,0 +1,12 @@
+use Rattle.std.proofs.Common.{codes}
+use Rattle.clap.specs.Words.{new_app, with_rule}
+use Rattle.td_words.specs.Words.{new_file_rule, option_rule, with_country}
+use Rattle.td_words.proofs.options.job_command.Goals as goal
+
+pub returns : goal.returns
+returns c =
+    let bare = with_country (new_app c.args.name.now) in
+    let records = option_rule (codes "db") in
+    let first = c.with_arg-command.ensures bare records c.country_command.ensures c.option-records.ensures.rule c.option-records.ensures.local in
+    let second = c.with_arg-command-2.ensures (with_rule bare records) new_file_rule first c.new_option.ensures.rule c.new_option.ensures.local in
+    c.with_arg.ensures (with_rule (with_rule bare records) new_file_rule) (option_rule (codes "at")) second c.moment_option.ensures.rule c.moment_option.ensures.local
