@@ -5,17 +5,18 @@ ghost use Rattle.td_words.specs.declared.words.Records.TheVariants.{File};
 ghost use Rattle.td_cli.specs.AtDesk.{AtDesk};
 ghost use Rattle.td_cli.specs.Reported.{HasReported, IsReportDone, IsReportTold, message_of_report, report_text};
 ghost use Rattle.counted_io.specs.Counted.{has_failed};
-ghost use Rattle.td_files.specs.Found.{IsClean, over_file};
 ghost use Rattle.td_reports.specs.Written.{IsReported};
+ghost use Rattle.td_store.specs.Kept.{sql_view};
 ghost use Rattle.td_store.specs.Looked.{HasLooked};
 
 use crate::telling::{DONE, NO_MEMORY, fault, tell_desk_fault};
-use sqlite::Start;
+use sqlite::{Alter, Start};
 use std::alloc::Global;
 use std::io::Write;
 use td_base::{Counted, Country};
-use td_files::{DeskFault, DeskFile, FileDesk};
+use td_files::{DeskFault, DeskFile};
 use td_reports::{ReportFault, guarantees, overdue};
+use td_store::SqlDesk;
 use td_words::ReportKind;
 
 /// Writes a report on the records of a desk of that country, which stand in the file at the path, tells the fault that ended it, if
@@ -55,16 +56,16 @@ fn report_on<S: Start, W: Write>(
     Ok(end)
 }
 
-// A report of that kind on the desk.
-fn write_report<S: Start, W: Write>(
+// A report of that kind on a desk over any store.
+fn write_report<T: Alter, W: Write>(
     alloc: Global,
-    desk: &mut FileDesk<S>,
+    desk: &mut SqlDesk<T>,
     kind: ReportKind,
     out: &mut Counted<W>,
 ) -> Result<(), ReportFault>
-    ensures looked { HasLooked over_file (is_ok result) desk.old desk.new }
-    ensures written { IsClean desk.new → over_file.is_live desk.old
-        → IsReported W.contents out.old out.new (report_text kind (over_file.content desk.old)) result }
+    ensures looked { HasLooked (sql_view T.Store) (is_ok result) desk.old desk.new }
+    ensures written { (sql_view T.Store).is_clean desk.new → (sql_view T.Store).is_live desk.old
+        → IsReported W.contents out.old out.new (report_text kind ((sql_view T.Store).content desk.old)) result }
     ensures cause { result ≡ Err ReportFault.Write → has_failed out.new ≡ true }
 {
     match kind {
