@@ -155,6 +155,107 @@ $ report guarantees --country CH --db FILE
 - GUARANTEES
 - 25CH0000010000014 000001  50          10000.00           5000.00              2.00           9998.00 -
 - TOTAL 1
+
+== an enquired movement is overdue since its limit
+$ pipe --country CH --at 1740819600 --db FILE --new
+> PUT /office/holders/000001 {"eori":"CH1234567"}
+< 200 {"eori":"CH1234567","guarantees":0,"holder":"000001","movements":0}
+> POST /office/holders/000001/guarantees {"reference":1000000,"cover":50,"code":"AB12"}
+< 200 {"grn":"25CH0000010000014"}
+> POST /holders/000001/movements {"lrn":"A1","departure":"CH001251","destination":"DE005600","lines":[{"cents":500000,"code":"AB12","grn":"25CH0000010000014"}]}
+< 200 {"lrn":"A1","message":"IE028","mrn":"25CH000001000001J8"}
+> POST /office/movements/25CH000001000001J8/ie029 {"limit":"2025-03-08"}
+< 200 {"limit":"2025-03-08","message":"IE029","mrn":"25CH000001000001J8","state":"released"}
+$ pipe --country CH --at 1742029200 --db FILE
+> POST /office/movements/25CH000001000001J8/ie140
+< 200 {"message":"IE140","mrn":"25CH000001000001J8","state":"enquired"}
+$ report overdue --country CH --db FILE --day 2025-03-20
+- OVERDUE 2025-03-20
+- 25CH000001000001J8 000001 arrival enquired 2025-03-08    12
+- TOTAL 1
+
+== what was found satisfactory, and is written off, is overdue for nothing
+$ pipe --country CH --at 1740819600 --db FILE --new
+> PUT /office/holders/000001 {"eori":"CH1234567"}
+< 200 {"eori":"CH1234567","guarantees":0,"holder":"000001","movements":0}
+> POST /office/holders/000001/guarantees {"reference":1000000,"cover":50,"code":"AB12"}
+< 200 {"grn":"25CH0000010000014"}
+> POST /holders/000001/movements {"lrn":"A1","departure":"CH001251","destination":"DE005600","lines":[{"cents":500000,"code":"AB12","grn":"25CH0000010000014"}]}
+< 200 {"lrn":"A1","message":"IE028","mrn":"25CH000001000001J8"}
+> POST /office/movements/25CH000001000001J8/ie029 {"limit":"2025-03-08"}
+< 200 {"limit":"2025-03-08","message":"IE029","mrn":"25CH000001000001J8","state":"released"}
+$ pipe --country CH --at 1741424400 --db FILE
+> POST /office/movements/25CH000001000001J8/ie007 {"office":"DE005600"}
+< 200 {"late":false,"message":"IE006","mrn":"25CH000001000001J8"}
+> POST /office/movements/25CH000001000001J8/ie018 {"result":"A2"}
+< 200 {"message":"IE018","mrn":"25CH000001000001J8","state":"cleared"}
+$ report overdue --country CH --db FILE --day 2025-06-01
+- OVERDUE 2025-06-01
+- TOTAL 0
+$ pipe --country CH --at 1741510800 --db FILE
+> POST /office/movements/25CH000001000001J8/ie045 {"ground":"results"}
+< 200 {"message":"IE045","mrn":"25CH000001000001J8","state":"written-off"}
+$ report overdue --country CH --db FILE --day 2025-06-01
+- OVERDUE 2025-06-01
+- TOTAL 0
+
+== a holder who came later is listed first, by number
+$ pipe --country CH --at 1740819600 --db FILE --new
+> PUT /office/holders/000002 {"eori":"CH1234567"}
+< 200 {"eori":"CH1234567","guarantees":0,"holder":"000002","movements":0}
+> POST /office/holders/000002/guarantees {"reference":2000000,"cover":30,"code":"AB12"}
+< 200 {"grn":"25CH0000020000010"}
+> POST /holders/000002/movements {"lrn":"A1","departure":"CH001251","destination":"DE005600","lines":[{"cents":500000,"code":"AB12","grn":"25CH0000020000010"}]}
+< 200 {"lrn":"A1","message":"IE028","mrn":"25CH000002000001J3"}
+> PUT /office/holders/000001 {"eori":"CH1234567"}
+< 200 {"eori":"CH1234567","guarantees":0,"holder":"000001","movements":0}
+> POST /office/holders/000001/guarantees {"reference":2000000,"cover":30,"code":"AB12"}
+< 200 {"grn":"25CH0000010000014"}
+> POST /holders/000001/movements {"lrn":"A1","departure":"CH001251","destination":"DE005600","lines":[{"cents":500000,"code":"AB12","grn":"25CH0000010000014"}]}
+< 200 {"lrn":"A1","message":"IE028","mrn":"25CH000001000001J8"}
+> POST /holders/000001/movements {"lrn":"A2","departure":"CH001251","destination":"DE005600","lines":[{"cents":1,"code":"AB12","grn":"25CH0000010000014"}]}
+< 200 {"lrn":"A2","message":"IE028","mrn":"25CH000001000002J7"}
+> POST /holders/000001/movements {"lrn":"A3","departure":"CH001251","destination":"DE005600","lines":[{"cents":2,"code":"AB12","grn":"25CH0000010000014"}]}
+< 200 {"lrn":"A3","message":"IE028","mrn":"25CH000001000003J6"}
+> POST /office/movements/25CH000001000003J6/ie029 {"limit":"2025-03-08"}
+< 200 {"limit":"2025-03-08","message":"IE029","mrn":"25CH000001000003J6","state":"released"}
+> POST /office/movements/25CH000002000001J3/ie029 {"limit":"2025-03-08"}
+< 200 {"limit":"2025-03-08","message":"IE029","mrn":"25CH000002000001J3","state":"released"}
+> POST /office/movements/25CH000001000001J8/ie029 {"limit":"2025-03-08"}
+< 200 {"limit":"2025-03-08","message":"IE029","mrn":"25CH000001000001J8","state":"released"}
+$ report overdue --country CH --db FILE --day 2025-03-20
+- OVERDUE 2025-03-20
+- 25CH000001000001J8 000001 arrival released 2025-03-08    12
+- 25CH000001000003J6 000001 arrival released 2025-03-08    12
+- 25CH000002000001J3 000002 arrival released 2025-03-08    12
+- TOTAL 3
+$ report guarantees --country CH --db FILE
+- GUARANTEES
+- 25CH0000010000014 000001  30          20000.00           6000.00           5000.02          14999.98 -
+- 25CH0000020000010 000002  30          20000.00           6000.00           5000.00          15000.00 -
+- TOTAL 2
+
+== a cent at thirty percent, a cent at none, the greatest amount at all of it, and a guarantee that ends
+$ pipe --country CH --at 1740819600 --db FILE --new
+> PUT /office/holders/000001 {"eori":"CH1234567"}
+< 200 {"eori":"CH1234567","guarantees":0,"holder":"000001","movements":0}
+> POST /office/holders/000001/guarantees {"reference":1,"cover":30,"code":"AB12"}
+< 200 {"grn":"25CH0000010000014"}
+> POST /office/holders/000001/guarantees {"reference":1,"cover":0,"code":"AB12"}
+< 200 {"grn":"25CH0000010000023"}
+> POST /office/holders/000001/guarantees {"reference":1000000000000000,"cover":100,"code":"AB12"}
+< 200 {"grn":"25CH0000010000032"}
+> POST /office/holders/000001/guarantees {"reference":100000,"cover":50,"code":"AB12"}
+< 200 {"grn":"25CH0000010000041"}
+> POST /office/guarantees/25CH0000010000041/revoke
+< 200 {"ends":"2025-03-17","grn":"25CH0000010000041"}
+$ report guarantees --country CH --db FILE
+- GUARANTEES
+- 25CH0000010000014 000001  30              0.01              0.01              0.00              0.01 -
+- 25CH0000010000023 000001   0              0.01              0.00              0.00              0.01 -
+- 25CH0000010000032 000001 100 10000000000000.00 10000000000000.00              0.00 10000000000000.00 -
+- 25CH0000010000041 000001  50           1000.00            500.00              0.00           1000.00 2025-03-17
+- TOTAL 4
 "#;
 
 #[test]

@@ -50,19 +50,8 @@ pub fn lodge(
     }
 }
 
-/// Has the desk do, so many days after the start, what it has to accept.
-pub fn accept_after(
-    rt: &(impl AllocGlobal + Abort),
-    desk: &mut SqlDesk<MemStore>,
-    days: u32,
-    command: Command,
-) {
-    let at = START + 86_400 * i64::from(days);
-    let outcome = do_one(rt.alloc(), desk, &Stamped { at, command });
-    assert!(rt; matches!(outcome, Outcome::Said(Said::Answered(_))));
-}
-
-/// The same at the start.
+/// Has the desk do at the start what it has to accept.
 pub fn accept(rt: &(impl AllocGlobal + Abort), desk: &mut SqlDesk<MemStore>, command: Command) {
-    accept_after(rt, desk, 0, command);
+    let outcome = do_one(rt.alloc(), desk, &Stamped { at: START, command });
+    assert!(rt; matches!(outcome, Outcome::Said(Said::Answered(_))));
 }

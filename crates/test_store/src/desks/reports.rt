@@ -1,7 +1,8 @@
-//! Reports on a desk: what is overdue, and guarantees with the amounts in use on them.
-use super::accepted::{accept, accept_after, lodge, open, register};
+//! Reports into a writer that fails, and how many writes a long one takes. (The rows of reports stand in the transcripts
+//! of test_program.)
+use super::accepted::{accept, lodge, open, register};
 use super::made;
-use crate::examples::{GRN, MRN, country, day, grn, holder, mrn, office};
+use crate::examples::{GRN, MRN, country, day, grn, holder, mrn};
 use sqlite::MemStore;
 use std::alloc::Global;
 use std::io;
@@ -9,8 +10,7 @@ use std::io::{ErrorKind, Write};
 use std::process::Abort;
 use td_base::{Counted, Grn, Mrn};
 use td_desk::Command;
-use td_movement::{Control, Ground};
-use td_reports::{ReportFault, guarantees, overdue};
+use td_reports::{ReportFault, guarantees};
 use td_store::SqlDesk;
 
 /// Takes so many bytes, and then fails.
@@ -48,20 +48,6 @@ fn blank_paper(alloc: Global, left: usize) -> Counted<Paper> {
 /// More than any report has here.
 const ENOUGH: usize = 1_000_000;
 
-/// The report of what is overdue on a day is this text.
-fn assert_overdue(
-    rt: &(impl AllocGlobal + Abort),
-    desk: &mut SqlDesk<MemStore>,
-    on: &[u8],
-    text: &str,
-) {
-    let mut writer = blank_paper(rt.alloc(), ENOUGH);
-    let end = overdue(rt.alloc(), desk, day(rt, on), &mut writer);
-    assert!(rt; end.is_ok());
-    let taken = writer.into_inner().taken;
-    assert_eq!(rt; taken.as_slice(), text.as_bytes());
-}
-
 /// The report of guarantees is this text.
 fn assert_guarantees(rt: &(impl AllocGlobal + Abort), desk: &mut SqlDesk<MemStore>, text: &str) {
     let mut writer = blank_paper(rt.alloc(), ENOUGH);
@@ -87,88 +73,6 @@ fn released(rt: &(impl AllocGlobal + Abort)) -> SqlDesk<MemStore> {
     desk
 }
 
-/// The same with the movement arrived, on the last day.
-fn arrived(rt: &(impl AllocGlobal + Abort)) -> SqlDesk<MemStore> {
-    let mut desk = released(rt);
-    let arrival = Command::Ie007 {
-        mrn: mrn(rt, MRN),
-        office: office(rt, b"DE005600"),
-    };
-    accept_after(rt, &mut desk, 7, arrival);
-    desk
-}
-
-/// And controlled on that day.
-fn controlled(rt: &(impl AllocGlobal + Abort), found: Control) -> SqlDesk<MemStore> {
-    let mut desk = arrived(rt);
-    let control = Command::Ie018 {
-        mrn: mrn(rt, MRN),
-        result: found,
-    };
-    accept_after(rt, &mut desk, 7, control);
-    desk
-}
-
-const NOTHING: &str = "OVERDUE 2025-06-01\nTOTAL 0\n";
-
-#[test]
-fn a_released_movement_is_overdue_after_its_limit(rt: HostRuntime) {
-    let mut desk = released(&rt);
-    let text = "OVERDUE 2025-03-20\n\
-        25CH000001000001J8 000001 arrival released 2025-03-08    12\nTOTAL 1\n";
-    assert_overdue(&rt, &mut desk, b"2025-03-20", text);
-    let text = "OVERDUE 2025-03-09\n\
-        25CH000001000001J8 000001 arrival released 2025-03-08     1\nTOTAL 1\n";
-    assert_overdue(&rt, &mut desk, b"2025-03-09", text);
-    assert_overdue(
-        &rt,
-        &mut desk,
-        b"2025-03-08",
-        "OVERDUE 2025-03-08\nTOTAL 0\n",
-    );
-    let text = "OVERDUE 2100-12-31\n\
-        25CH000001000001J8 000001 arrival released 2025-03-08 27691\nTOTAL 1\n";
-    assert_overdue(&rt, &mut desk, b"2100-12-31", text);
-}
-
-#[test]
-fn an_enquired_one_is_too(rt: HostRuntime) {
-    let mut desk = released(&rt);
-    accept_after(&rt, &mut desk, 14, Command::Ie140 { mrn: mrn(&rt, MRN) });
-    let text = "OVERDUE 2025-03-20\n\
-        25CH000001000001J8 000001 arrival enquired 2025-03-08    12\nTOTAL 1\n";
-    assert_overdue(&rt, &mut desk, b"2025-03-20", text);
-}
-
-#[test]
-fn control_is_overdue_after_the_sixth_day(rt: HostRuntime) {
-    let mut desk = arrived(&rt);
-    let text = "OVERDUE 2025-03-15\n\
-        25CH000001000001J8 000001 control arrived  2025-03-14     1\nTOTAL 1\n";
-    assert_overdue(&rt, &mut desk, b"2025-03-15", text);
-    assert_overdue(
-        &rt,
-        &mut desk,
-        b"2025-03-14",
-        "OVERDUE 2025-03-14\nTOTAL 0\n",
-    );
-}
-
-#[test]
-fn nothing_else_is_ever_overdue(rt: HostRuntime) {
-    assert_overdue(&rt, &mut made(&rt), b"2025-06-01", NOTHING);
-    for found in [Control::B1, Control::A1] {
-        assert_overdue(&rt, &mut controlled(&rt, found), b"2025-06-01", NOTHING);
-    }
-    let mut desk = controlled(&rt, Control::A2);
-    let end = Command::Ie045 {
-        mrn: mrn(&rt, MRN),
-        ground: Ground::Results,
-    };
-    accept_after(&rt, &mut desk, 8, end);
-    assert_overdue(&rt, &mut desk, b"2025-06-01", NOTHING);
-}
-
 /// A desk of holders 1 and 2, of which the second came first: each has a movement that is released, and the first one more, and
 /// between these one that isn't.
 pub fn busy(rt: &(impl AllocGlobal + Abort)) -> SqlDesk<MemStore> {
@@ -186,52 +90,6 @@ pub fn busy(rt: &(impl AllocGlobal + Abort)) -> SqlDesk<MemStore> {
         release(rt, &mut desk, mrn);
     }
     desk
-}
-
-#[test]
-fn rows_come_by_holder_and_serial(rt: HostRuntime) {
-    let mut desk = busy(&rt);
-    let text = "OVERDUE 2025-03-20\n\
-        25CH000001000001J8 000001 arrival released 2025-03-08    12\n\
-        25CH000001000003J6 000001 arrival released 2025-03-08    12\n\
-        25CH000002000001J3 000002 arrival released 2025-03-08    12\n\
-        TOTAL 3\n";
-    assert_overdue(&rt, &mut desk, b"2025-03-20", text);
-    let text = "GUARANTEES\n\
-        25CH0000010000014 000001  30          20000.00           6000.00           5000.02          14999.98 -\n\
-        25CH0000020000010 000002  30          20000.00           6000.00           5000.00          15000.00 -\n\
-        TOTAL 2\n";
-    assert_guarantees(&rt, &mut desk, text);
-}
-
-#[test]
-fn guarantees_are_told_with_what_is_in_use(rt: HostRuntime) {
-    assert_guarantees(&rt, &mut made(&rt), "GUARANTEES\nTOTAL 0\n");
-    let text = "GUARANTEES\n\
-        25CH0000010000014 000001  50          10000.00           5000.00           5000.00           5000.00 -\n\
-        TOTAL 1\n";
-    assert_guarantees(&rt, &mut released(&rt), text);
-}
-
-/// A cent at 30 percent, a cent at none, the greatest amount at 100 percent, and one that ends.
-const TERMS: &str = "GUARANTEES\n\
-    25CH0000010000014 000001  30              0.01              0.01              0.00              0.01 -\n\
-    25CH0000010000023 000001   0              0.01              0.00              0.00              0.01 -\n\
-    25CH0000010000032 000001 100 10000000000000.00 10000000000000.00              0.00 10000000000000.00 -\n\
-    25CH0000010000041 000001  50           1000.00            500.00              0.00           1000.00 2025-03-17\n\
-    TOTAL 4\n";
-
-#[test]
-fn guarantees_are_told_with_their_terms(rt: HostRuntime) {
-    let mut desk = made(&rt);
-    accept(&rt, &mut desk, register(&rt, 1));
-    let terms = [(1, 30), (1, 0), (1_000_000_000_000_000, 100), (100_000, 50)];
-    for (reference, percent) in terms {
-        accept(&rt, &mut desk, open(&rt, 1, reference, percent));
-    }
-    let grn = grn(&rt, b"25CH0000010000041");
-    accept(&rt, &mut desk, Command::Revoke { grn });
-    assert_guarantees(&rt, &mut desk, TERMS);
 }
 
 #[test]
