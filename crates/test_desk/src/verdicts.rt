@@ -1,7 +1,8 @@
-//! Verdicts, with ample memory: what is said, and whether something is written. (The rows of acts on movements, of terms
-//! and of codes stand in the transcripts of test_program.)
+//! Verdicts, with ample memory: what is said to each command, and whether something is written.
+mod moves;
 mod serials;
 mod shown;
+mod terms;
 
 use crate::examples;
 use crate::examples::{
@@ -94,8 +95,14 @@ fn words(alloc: Global, said: &Said) -> Result<String, AllocError> {
 fn words_of(alloc: Global, message: &Answer) -> Result<String, AllocError> {
     match message {
         Answer::Opened { grn } => format!(in alloc; "opened {grn}"),
+        Answer::Revoked { ends, grn } => format!(in alloc; "revoked {ends} {grn}"),
         Answer::Ie028 { lrn, mrn } => format!(in alloc; "IE028 {lrn} {mrn}"),
         Answer::Ie014 { mrn } => format!(in alloc; "IE014 {mrn}"),
+        Answer::Ie029 { limit, mrn } => format!(in alloc; "IE029 {limit} {mrn}"),
+        Answer::Ie006 { late, mrn } => format!(in alloc; "IE006 {late} {mrn}"),
+        Answer::Ie018 { mrn, state } => format!(in alloc; "IE018 {mrn} {}", state.name()),
+        Answer::Ie045 { mrn } => format!(in alloc; "IE045 {mrn}"),
+        Answer::Ie140 { mrn } => format!(in alloc; "IE140 {mrn}"),
         _ => String::from_str(alloc, "no message"),
     }
 }
