@@ -1,6 +1,6 @@
 """A second reading of the rules of a desk of CH, written from the requirements and not from the definitions of this repository: the
 account of each holder, the order of refusals, the amounts, the days, how requests and rows are read, and the texts of answers, results and
-reports. `tests/rules` compares the program that was built with it."""
+reports. `tests/rules` compares the program that was built with it, and `tests/fuzz` what it says to streams of changed bytes."""
 import collections
 import datetime
 import json
@@ -11,8 +11,10 @@ import sys
 sys.path.insert(0, os.path.join(os.path.dirname(os.path.realpath(__file__)), "..", "bench"))
 from references import with_check_digit  # noqa: E402
 
-PHRASES = {200: "OK", 400: "Bad Request", 403: "Forbidden", 404: "Not Found", 405: "Method Not Allowed", 409: "Conflict",
-           503: "Service Unavailable"}
+PHRASES = {
+    200: "OK", 400: "Bad Request", 403: "Forbidden", 404: "Not Found", 405: "Method Not Allowed", 409: "Conflict",
+    413: "Payload Too Large", 431: "Request Header Fields Too Large", 501: "Not Implemented", 503: "Service Unavailable",
+}
 STATUS = collections.defaultdict(lambda: 409, {
     "clock-range": 503, "no-holder": 404, "no-movement": 404, "no-guarantee": 404, "bad-code": 403, "no-code": 404})
 EPOCH = datetime.date(1970, 1, 1).toordinal()
@@ -392,19 +394,25 @@ def fields_in(names, body):
     return values
 
 
-def command_in(method, target, body):
-    """The name of the command that a request is, and what it is given."""
+def route_of(target):
+    """The methods of a target's path, and the parts that stand for a number or a reference, by their letters; nothing without a path."""
     parts = target.split("?")[0].split("/")
     for path, methods in ROUTES.items():
         names = path.split("/")
-        if len(names) == len(parts) and all(part if name in "HGM" and name else name == part for name, part in zip(names, parts)):
-            break
-    else:
+        if len(names) == len(parts) and all(part if name in ("H", "G", "M") else name == part for name, part in zip(names, parts)):
+            return methods, [(name, part) for name, part in zip(names, parts) if name in ("H", "G", "M")]
+    return None, []
+
+
+def command_in(method, target, body):
+    """The name of the command that a request is, and what it is given."""
+    methods, parts = route_of(target)
+    if methods is None:
         raise unread(404, "no-route")
     if method not in methods:
         raise Unread(405, {"error": "no-method"}, ", ".join(sorted(methods)))
     command, fields = methods[method]
-    given = [part_in(name, part) for name, part in zip(names, parts) if name in ("H", "G", "M")]
+    given = [part_in(name, part) for name, part in parts]
     return command, given + fields_in(fields, body)
 
 
