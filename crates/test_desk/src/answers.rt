@@ -24,10 +24,10 @@ fn is_reply(rt: &(impl AllocGlobal + Abort), said: &Said, reply: &str) -> bool {
     told.as_slice() == reply.as_bytes()
 }
 
-// This is the whole reply to what is said.
-fn says(rt: &(impl AllocGlobal + Abort), said: &Said, reply: &str) {
-    is_told_in(said);
-    assert!(rt; is_reply(rt, said, reply));
+// This is the whole reply to what is said. (It is dropped here alone, for the time that the proof of it takes.)
+fn says(rt: &(impl AllocGlobal + Abort), said: Said, reply: &str) {
+    is_told_in(&said);
+    assert!(rt; is_reply(rt, &said, reply));
 }
 
 // This is the whole reply to the fault.

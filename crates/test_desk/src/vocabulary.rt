@@ -234,27 +234,40 @@ fn references_have_parts(rt: HostRuntime) {
 
 #[test]
 fn names_are_printed(rt: HostRuntime) {
-    let holder = HolderNo::read(b"000001").expect(&rt, "a holder");
+    let (holder, office) = (holder(&rt, 1), office(&rt, b"CH001251"));
     let (eori, code, lrn) = (
         eori(&rt, b"CH1234567"),
         code(&rt, b"AB12"),
         lrn(&rt, b"aZ-0/9."),
     );
-    let office = office(&rt, b"CH001251");
     let text = format!(in rt.alloc(); "{holder} {eori} {code} {lrn} {office}");
     let text = text.expect(&rt, "memory");
     assert_eq!(rt; text.as_str(), "000001 CH1234567 AB12 aZ-0/9. CH001251");
+}
+
+#[test]
+fn names_have_their_bytes(rt: HostRuntime) {
+    assert!(rt; code(&rt, b"AB12").as_bytes() == b"AB12".as_slice());
+    assert!(rt; lrn(&rt, b"aZ-0/9.").as_bytes() == b"aZ-0/9.".as_slice());
+    assert!(rt; office(&rt, b"CH001251").as_bytes() == b"CH001251".as_slice());
+}
+
+#[test]
+fn holders_are_read_and_printed(rt: HostRuntime) {
+    let holder = HolderNo::read(b"000001").expect(&rt, "a holder");
     assert!(rt; holder.as_bytes() == *b"000001");
     holder_reads_back(holder);
     read_texts_are_printed(b"000001");
-    assert!(rt; code.as_bytes() == b"AB12".as_slice() && lrn.as_bytes() == b"aZ-0/9.".as_slice());
-    assert!(rt; office.as_bytes() == b"CH001251".as_slice());
+}
+
+#[test]
+fn texts_that_are_printed_are_read_back(rt: HostRuntime) {
     texts_read_back(
         country(&rt),
-        eori,
-        code,
-        lrn,
-        office,
+        eori(&rt, b"CH1234567"),
+        code(&rt, b"AB12"),
+        lrn(&rt, b"aZ-0/9."),
+        office(&rt, b"CH001251"),
         grn(&rt, GRN),
         mrn(&rt, MRN),
     );

@@ -10,6 +10,6 @@ pub mod texts;
 pub use comparing::{assert_equal, assert_text, assert_that};
 pub use exchanges::served_at;
 pub use jobs::{
-    Done, Due, WORDS, assert_due, assert_ended, assert_job, done_over, is_closed, perform_over,
-    words_of,
+    Done, Due, Ran, WORDS, assert_due, assert_ended, assert_job, done_narrow, done_over, is_closed,
+    perform_over, run_over, words_of,
 };

@@ -8,8 +8,6 @@ mod help;
 mod laws;
 mod lost_replies;
 mod machine_clock;
-mod many_declarations;
-mod many_releases;
 mod memory;
 mod prefixes;
 mod serving;

@@ -1,18 +1,13 @@
-//! Desks are made, opened, refused and closed, over a store in memory, say what a plain desk says, and stand want of
-//! memory and stops of their files.
+//! Desks are made, opened, refused and closed, over a store in memory, and stand want of memory and stops of their files.
 mod accepted;
-mod alike;
-mod commands;
-mod junk;
-mod long_tables;
 mod memory;
 mod migrations;
 mod opening;
 mod reports;
+mod rows;
 mod stops;
 mod visits;
 mod walks;
-mod words;
 
 use crate::examples::country;
 use sqlite::{Connection, MemStore};

@@ -45,6 +45,6 @@ fn a_control_is_answered(rt: HostRuntime) {
     let mrn = mrn(&rt, MRN);
     for (state, reply) in &CONTROLLED {
         let state = *state;
-        says(&rt, &Said::Answered(Answer::Ie018 { mrn, state }), reply);
+        says(&rt, Said::Answered(Answer::Ie018 { mrn, state }), reply);
     }
 }

@@ -53,5 +53,5 @@ fn lists_many_movements(rt: HostRuntime) {
     let reply = long_reply(&rt);
     assert!(rt; reply.len() > 2_000);
     let said = Said::Answered(Answer::Movements(many_movements(&rt)));
-    says(&rt, &said, &reply);
+    says(&rt, said, &reply);
 }

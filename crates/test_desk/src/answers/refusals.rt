@@ -18,8 +18,8 @@ const NO_REFERENCE: &str =
 #[test]
 fn writes_refusals(rt: HostRuntime) {
     let used = cents(&rt, 1);
-    says(&rt, &Said::Refused(Refusal::SerialsSpent), SERIALS_SPENT);
-    says(&rt, &Said::Refused(Refusal::BelowUse { used }), ONE_IN_USE);
+    says(&rt, Said::Refused(Refusal::SerialsSpent), SERIALS_SPENT);
+    says(&rt, Said::Refused(Refusal::BelowUse { used }), ONE_IN_USE);
 }
 
 #[test]

@@ -50,5 +50,5 @@ fn shows_a_movement_of_many_lines(rt: HostRuntime) {
     let reply = long_reply(&rt);
     assert!(rt; reply.len() > 1_500);
     let movement = movement(&rt, MRN, b"A1", many_lines(&rt));
-    says(&rt, &Said::Answered(Answer::Movement(movement)), &reply);
+    says(&rt, Said::Answered(Answer::Movement(movement)), &reply);
 }

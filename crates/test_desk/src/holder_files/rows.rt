@@ -114,16 +114,22 @@ pub fn put(rt: &(impl AllocGlobal + Abort), file: &mut HolderFile, text: &[u8], 
     write(rt, file, Change::Moved(row(rt), status));
 }
 
+// The holder's row as it is loaded.
+fn row_shown(rt: &(impl AllocGlobal + Abort), file: &HolderFile) -> Option<HolderRow> {
+    loaded(rt, file, GRN).holder
+}
+
 #[test]
 fn files_stand_under_their_holders(rt: HostRuntime) {
     let mut file = empty(&rt);
     assert!(rt; file.holder() == holder(&rt, 1) && file.key() == 1);
     write(&rt, &mut file, Change::Nothing);
-    let mut again = row(&rt);
-    again.eori = eori(&rt, b"DE9");
+    let again = HolderRow {
+        eori: eori(&rt, b"DE9"),
+        ..row(&rt)
+    };
     write(&rt, &mut file, Change::Registered(again));
-    let shown = loaded(&rt, &file, GRN).holder.expect(&rt, "a row");
-    assert_eq!(rt; shown.eori, again.eori);
+    assert!(rt; row_shown(&rt, &file) == Some(again));
 }
 
 #[test]

@@ -6,7 +6,7 @@ use std::alloc::{AllocError, Global};
 use std::test::Fail;
 use td_base::{Counted, Country};
 use td_desk::PlainDesk;
-use td_http::{Clock, Service, StreamEnd, serve_stream};
+use td_http::{Service, StreamEnd, serve_stream};
 
 /// A request, and the reply that is due to it.
 pub type Exchange = (&'static [u8], &'static [u8]);
@@ -63,26 +63,14 @@ pub fn service_of_ch(alloc: Global) -> Result<Service<PlainDesk>, Fail> {
     Ok(Service::new(PlainDesk::new(alloc, country)?))
 }
 
-/// What is written for a stream that is served to its end.
-pub fn served<C: Clock>(
-    alloc: Global,
-    service: &mut Service<PlainDesk>,
-    mut clock: C,
-    input: &[u8],
-) -> Result<Vec<u8>, Fail>
-where
-    C: Drop,
-{
-    let mut reader = Counted::new(input);
-    let mut writer = Counted::new(Vec::new(alloc));
-    match serve_stream(alloc, &mut reader, &mut writer, &mut clock, service) {
-        StreamEnd::Closed => Ok(writer.into_inner()),
-        end => Err(Fail::new(format_args!("the stream ends as {end:?}"))),
-    }
-}
-
 /// What is written for this stream at an empty desk of CH, where the requests come at these moments.
 pub fn served_at(alloc: Global, moments: &[i64], input: &[u8]) -> Result<Vec<u8>, Fail> {
     let mut service = service_of_ch(alloc)?;
-    served(alloc, &mut service, Moments { left: moments }, input)
+    let mut reader = Counted::new(input);
+    let mut writer = Counted::new(Vec::new(alloc));
+    let mut clock = Moments { left: moments };
+    match serve_stream(alloc, &mut reader, &mut writer, &mut clock, &mut service) {
+        StreamEnd::Closed => Ok(writer.into_inner()),
+        end => Err(Fail::new(format_args!("the stream ends as {end:?}"))),
+    }
 }

@@ -1,8 +1,10 @@
 //! The program's jobs over any reader and over writers in memory: what they leave, and what they have to leave.
 use super::comparing::{assert_equal, assert_text};
+use super::devices::Narrow;
 use sqlite::{Connection, FileFrom, FileStore, Start, Unknown};
 use std::alloc::{AllocError, Global};
-use std::io::Read;
+use std::io;
+use std::io::{Read, Write};
 use std::test::Fail;
 use td_base::Counted;
 use td_cli::{DeskFile, run_program};
@@ -56,23 +58,84 @@ where
     Ok(done_over(rt, words, reader))
 }
 
-/// What the program leaves on these words, which were read, and closes the file that they name. It is the call that
-/// `main` makes.
+/// A run of the program: its status, its reader with what wasn't read, its writer, and its messages.
+pub struct Ran<R, W> {
+    pub status: u8,
+    pub input: R,
+    pub out: W,
+    pub errors: Vec<u8>,
+}
+
+/// Runs the program on these words, or on the cause why they couldn't be read, and closes the file that they name. It is
+/// the call that `main` makes. (It stands for any reader and writer: the proof of each call over a file of the machine is
+/// dear.)
+pub fn run_over<R: Read, W: Write>(
+    rt: &HostRuntime,
+    words: io::Result<Vec<String>>,
+    reader: R,
+    writer: W,
+) -> Ran<R, W>
+where
+    R: Drop,
+    W: Drop,
+{
+    let mut file = DeskFile::new(Unknown);
+    let mut input = Counted::new(reader);
+    let mut out = Counted::new(writer);
+    let mut errors = Counted::new(Vec::new(rt.alloc()));
+    let status = run_program(rt, words, &mut file, &mut input, &mut out, &mut errors);
+    file.close();
+    Ran {
+        status,
+        input: input.into_inner(),
+        out: out.into_inner(),
+        errors: errors.into_inner(),
+    }
+}
+
+/// What the program leaves on these words, which were read.
 pub fn done_over<R: Read>(rt: &HostRuntime, words: Vec<String>, reader: R) -> Done
 where
     R: Drop,
 {
-    let mut file = DeskFile::new(Unknown);
-    let mut input = Counted::new(reader);
-    let mut out = Counted::new(Vec::new(rt.alloc()));
-    let mut errors = Counted::new(Vec::new(rt.alloc()));
-    let status = run_program(rt, Ok(words), &mut file, &mut input, &mut out, &mut errors);
-    file.close();
+    let Ran {
+        status,
+        input: _,
+        out,
+        errors,
+    } = run_over(rt, Ok(words), reader, Vec::new(rt.alloc()));
     Done {
         status,
-        out: out.into_inner(),
-        errors: errors.into_inner(),
+        out,
+        errors,
     }
+}
+
+/// What the program leaves where its output takes so many bytes, one a write, and then fails or takes nothing.
+pub fn done_narrow(
+    rt: &HostRuntime,
+    words: &[&str],
+    input: &[u8],
+    left: usize,
+    fails: bool,
+) -> Result<Done, AllocError> {
+    let words = words_of(rt.alloc(), words)?;
+    let writer = Narrow {
+        taken: Vec::new(rt.alloc()),
+        left,
+        fails,
+    };
+    let Ran {
+        status,
+        input: _,
+        out,
+        errors,
+    } = run_over(rt, Ok(words), input, writer);
+    Ok(Done {
+        status,
+        out: out.taken,
+        errors,
+    })
 }
 
 /// Closes another program's connection, and whether that went well. (It stands for any file: the proof of each function

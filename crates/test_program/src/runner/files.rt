@@ -49,11 +49,21 @@ fn name_of(constraint: Constraint) -> &'static str {
     }
 }
 
-/// What became of a statement.
+/// What is asked of the database in a file.
+#[derive(Clone, Copy)]
+enum Asked<'a> {
+    Change(&'a str),
+    /// A query for a number.
+    Query(&'a str),
+}
+
+/// What became of it.
 #[derive(Clone, Copy)]
 enum Outcome {
     /// So many rows are changed.
     Changed(usize),
+    /// The query finds this number.
+    Found(i64),
     /// It breaks a constraint of this kind.
     Refused(&'static str),
     Failed,
@@ -73,8 +83,25 @@ fn outcome_of(rows: Result<usize, Error>) -> Outcome {
 /// with a certain one is dear.
 type File<S> = Connection<FileStore<FileFrom<S>>>;
 
-fn executed<S: Start>(mut conn: File<S>, statement: &str) -> Outcome {
-    let outcome = outcome_of(conn.execute(statement, &[]));
+fn number_of(row: Row) -> Outcome {
+    match row.get(0) {
+        Ok(number) => Outcome::Found(number),
+        Err(_) => Outcome::Failed,
+    }
+}
+
+fn number_in<S: Alter>(conn: &mut Connection<S>, query: &str) -> Outcome {
+    match conn.query_row(query, &[]) {
+        Ok(row) => number_of(row),
+        Err(_) => Outcome::Failed,
+    }
+}
+
+fn answered<S: Start>(mut conn: File<S>, what: Asked<'_>) -> Outcome {
+    let outcome = match what {
+        Asked::Change(statement) => outcome_of(conn.execute(statement, &[])),
+        Asked::Query(query) => number_in(&mut conn, query),
+    };
     if is_closed(conn) {
         outcome
     } else {
@@ -82,16 +109,17 @@ fn executed<S: Start>(mut conn: File<S>, statement: &str) -> Outcome {
     }
 }
 
-fn changed(rt: &HostRuntime, path: &str, statement: &str) -> Outcome {
+// What another program is told that asks this of the file.
+fn ask(rt: &HostRuntime, path: &str, what: Asked<'_>) -> Outcome {
     match Connection::open(rt, path) {
-        Ok(conn) => executed(conn, statement),
+        Ok(conn) => answered(conn, what),
         Err(_) => Outcome::Failed,
     }
 }
 
 /// Another program changes the file.
 pub fn change(rt: &HostRuntime, place: Place<'_>, statement: &str) -> Result<(), Fail> {
-    match changed(rt, FILE, statement) {
+    match ask(rt, FILE, Asked::Change(statement)) {
         Outcome::Changed(_) => Ok(()),
         _ => Err(place.wrong("this change fails")),
     }
@@ -105,7 +133,7 @@ fn copy(rt: &HostRuntime) -> Result<(), Fail> {
 /// Another program changes a copy of the file, in at least one row.
 pub fn change_copy(rt: &HostRuntime, place: Place<'_>, statement: &str) -> Result<(), Fail> {
     copy(rt)?;
-    match changed(rt, COPY, statement) {
+    match ask(rt, COPY, Asked::Change(statement)) {
         Outcome::Changed(0) => Err(place.wrong("no row is meant")),
         Outcome::Changed(_) => Ok(()),
         _ => Err(place.wrong("this change fails")),
@@ -115,41 +143,18 @@ pub fn change_copy(rt: &HostRuntime, place: Place<'_>, statement: &str) -> Resul
 /// `WHY STATEMENT`: the database doesn't take the statement.
 pub fn assert_refused(rt: &HostRuntime, place: Place<'_>, text: &str) -> Result<(), Fail> {
     let (why, statement) = text.split_once(' ').unwrap_or((text, ""));
-    match changed(rt, FILE, statement) {
+    match ask(rt, FILE, Asked::Change(statement)) {
         Outcome::Refused(name) if name == why => Ok(()),
         _ => Err(place.wrong("this change isn't refused so")),
-    }
-}
-
-fn number_of(row: Row) -> Option<i64> {
-    row.get(0).ok()
-}
-
-fn number_in<S: Alter>(conn: &mut Connection<S>, query: &str) -> Option<i64> {
-    match conn.query_row(query, &[]) {
-        Ok(row) => number_of(row),
-        Err(_) => None,
-    }
-}
-
-fn queried<S: Start>(mut conn: File<S>, query: &str) -> Option<i64> {
-    let number = number_in(&mut conn, query);
-    if is_closed(conn) { number } else { None }
-}
-
-fn found(rt: &HostRuntime, query: &str) -> Option<i64> {
-    match Connection::open(rt, FILE) {
-        Ok(conn) => queried(conn, query),
-        Err(_) => None,
     }
 }
 
 /// `NUMBER QUERY`: the query finds this number in the file.
 pub fn assert_found(rt: &HostRuntime, place: Place<'_>, text: &str) -> Result<(), Fail> {
     let (number, query) = text.split_once(' ').unwrap_or((text, ""));
-    if found(rt, query) == Some(number.parse::<i64>()?) {
-        Ok(())
-    } else {
-        Err(place.wrong("the query finds another number"))
+    let number = number.parse::<i64>()?;
+    match ask(rt, FILE, Asked::Query(query)) {
+        Outcome::Found(found) if found == number => Ok(()),
+        _ => Err(place.wrong("the query finds another number")),
     }
 }

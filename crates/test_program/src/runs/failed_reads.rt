@@ -1,14 +1,12 @@
 //! A life whose stream ends, or whose reads fail, after each of its bytes, at a desk in memory and at one over tables: the
 //! requests that came whole have their replies, nothing is done for one that didn't, and the rest is served as the next
 //! stream.
-use super::faults::{LIFE, assert_served, input_of, office, paper, whole_in};
+use super::faults::{LIFE, assert_served, input_of, office, paper, serve, whole_in};
 use crate::helpers::devices::Drip;
 use sqlite::Connection;
 use std::process::Abort;
-use td_base::Counted;
-use td_cli::FixedClock;
 use td_desk::{Desk, PlainDesk};
-use td_http::{Service, StreamEnd, serve_stream};
+use td_http::{Service, StreamEnd};
 use td_store::SqlDesk;
 
 // How many of the requests stand whole in so many bytes, and how many bytes stand behind them.
@@ -37,20 +35,13 @@ fn end_behind(bytes: usize, fails: bool) -> StreamEnd {
 // At an empty desk: these bytes come, one a read, and then the end or a failure; and the rest as the next stream.
 fn assert_cut<D: Desk + Drop>(rt: &(impl AllocGlobal + Abort), desk: D, bytes: &[u8], fails: bool) {
     let mut service = Service::new(desk);
-    let mut reader = Counted::new(if fails {
+    let input = if fails {
         Drip::failing(bytes)
     } else {
         Drip::ending(bytes)
-    });
+    };
     let mut writer = paper(rt);
-    let mut clock = FixedClock { at: 1_740_819_600 };
-    let end = serve_stream(
-        rt.alloc(),
-        &mut reader,
-        &mut writer,
-        &mut clock,
-        &mut service,
-    );
+    let end = serve(rt, &mut service, input, &mut writer);
     let (whole, behind) = whole_by(bytes.len());
     assert!(rt; end == end_behind(behind, fails));
     let told = writer.into_inner();

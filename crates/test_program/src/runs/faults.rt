@@ -66,14 +66,14 @@ pub fn input_of(rt: &(impl AllocGlobal + Abort), exchanges: &[Exchange]) -> Vec<
     requests_of(rt.alloc(), exchanges).expect(rt, "memory")
 }
 
-// The requests come one byte a read.
-fn serve<D: Desk + Drop>(
+// Serves a stream, whose requests come one byte a read.
+pub fn serve<D: Desk + Drop>(
     rt: &impl AllocGlobal,
     service: &mut Service<D>,
-    input: &[u8],
+    input: Drip<'_>,
     writer: &mut Counted<Vec<u8>>,
 ) -> StreamEnd {
-    let mut reader = Counted::new(Drip::ending(input));
+    let mut reader = Counted::new(input);
     let mut clock = FixedClock { at: 1_740_819_600 };
     serve_stream(rt.alloc(), &mut reader, writer, &mut clock, service)
 }
@@ -108,7 +108,7 @@ pub fn assert_served<D: Desk + Drop>(
     exchanges: &[Exchange],
 ) {
     let (input, mut writer) = (input_of(rt, exchanges), paper(rt));
-    let end = serve(rt, service, &input, &mut writer);
+    let end = serve(rt, service, Drip::ending(&input), &mut writer);
     assert!(rt; end == StreamEnd::Closed);
     let told = writer.into_inner();
     let (whole, left) = whole_in(&told, exchanges);
@@ -120,7 +120,7 @@ fn assert_served_after_a_fault<D: Desk + Drop>(rt: &(impl AllocGlobal + Abort), 
     let mut service = Service::new(desk);
     let (input, mut writer) = (input_of(rt, &LIFE), paper(rt));
     begin_refusals(rt);
-    let end = serve(rt, &mut service, &input, &mut writer);
+    let end = serve(rt, &mut service, Drip::ending(&input), &mut writer);
     end_refusals(rt);
     let answered = assert_told(rt, end, &writer.into_inner());
     let (_, rest) = LIFE.split_at(answered.min(LIFE.len()));

@@ -1,12 +1,11 @@
 //! HEAD requests, two streams after one another at one service: what the first one looked up is there for the second.
+use super::lost_replies::told;
 use crate::helpers::exchanges::service_of_ch;
 use crate::helpers::{assert_equal, assert_text};
 use std::alloc::Global;
 use std::test::Fail;
-use td_base::Counted;
-use td_cli::FixedClock;
 use td_desk::PlainDesk;
-use td_http::{Service, StreamEnd, serve_stream};
+use td_http::{Service, StreamEnd};
 
 // A target's HEAD, and the reply.
 const HEADS: [(&[u8], &[u8]); 6] = [
@@ -36,20 +35,22 @@ const HEADS: [(&[u8], &[u8]); 6] = [
     ),
 ];
 
-// What is written for a stream that is refused.
-fn told(alloc: Global, service: &mut Service<PlainDesk>, input: &[u8]) -> Result<Vec<u8>, Fail> {
-    let mut reader = Counted::new(input);
-    let mut writer = Counted::new(Vec::new(alloc));
-    let mut clock = FixedClock { at: 1_740_819_600 };
-    let end = serve_stream(alloc, &mut reader, &mut writer, &mut clock, service);
+// The stream is refused, with this reply.
+fn assert_told(
+    alloc: Global,
+    service: &mut Service<PlainDesk>,
+    input: &[u8],
+    reply: &[u8],
+) -> Result<(), Fail> {
+    let (told, end) = told(alloc, service, input, 1_000, true);
     assert_equal(&end, &StreamEnd::Refused)?;
-    Ok(writer.into_inner())
+    assert_text(&told, reply)
 }
 
 fn assert_each_told(alloc: Global, service: &mut Service<PlainDesk>) -> Result<(), Fail> {
     for (input, reply) in &HEADS {
-        assert_text(&told(alloc, service, input)?, reply)?;
-        assert_text(&told(alloc, service, input)?, reply)?;
+        assert_told(alloc, service, input, reply)?;
+        assert_told(alloc, service, input, reply)?;
     }
     Ok(())
 }

@@ -22,8 +22,8 @@ const LIST: &[u8] = b"GET /holders/000001/movements HTTP/1.1\r\n\r\n";
 // The declaration is shown, and comes again: it has its answer again.
 const REQUESTS: [&[u8]; 7] = [REGISTER, OPEN, LODGE, LIST, LODGE, SEE, REGISTER];
 
-// What is written for a stream to a writer that takes so many bytes, and how it ends.
-fn told(
+/// What is written for a stream to a writer that takes so many bytes, and how it ends.
+pub fn told(
     alloc: Global,
     service: &mut Service<PlainDesk>,
     input: &[u8],

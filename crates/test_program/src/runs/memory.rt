@@ -2,28 +2,26 @@
 //! another request for memory in each run.
 use crate::helpers::exchanges::{REGISTER, SHOWN};
 use crate::helpers::refusals::{begin_refusals, end_refusals};
-use crate::helpers::{Done, Due, WORDS, assert_due, assert_that, words_of};
+use crate::helpers::{Done, Due, Ran, WORDS, assert_due, assert_that, run_over, words_of};
 use sqlite::Unknown;
 use std::alloc::{AllocError, Global};
-use std::io;
 use std::io::ErrorKind;
 use std::test::Fail;
 use td_base::Counted;
-use td_cli::{DeskFile, perform, run_program};
+use td_cli::{DeskFile, perform};
 
 // What the program leaves where its words couldn't be read for this cause.
 fn done_unread(rt: &HostRuntime, kind: ErrorKind) -> Done {
-    let mut file = DeskFile::new(Unknown);
-    let mut input = Counted::new(REGISTER);
-    let mut out = Counted::new(Vec::new(rt.alloc()));
-    let mut errors = Counted::new(Vec::new(rt.alloc()));
-    let words: io::Result<Vec<String>> = Err(kind.into());
-    let status = run_program(rt, words, &mut file, &mut input, &mut out, &mut errors);
-    file.close();
+    let Ran {
+        status,
+        input: _,
+        out,
+        errors,
+    } = run_over(rt, Err(kind.into()), REGISTER, Vec::new(rt.alloc()));
     Done {
         status,
-        out: out.into_inner(),
-        errors: errors.into_inner(),
+        out,
+        errors,
     }
 }
 

@@ -1,15 +1,10 @@
 //! The job `serve` where it comes to no connection: a port that is in use, and a first line that can't be written,
 //! which shows that the port is listened on at 127.0.0.1 alone. (One process can't both wait in it and connect to it:
 //! what it does with connections is shown by test_desk.)
-use crate::helpers::devices::Narrow;
-use crate::helpers::{Due, assert_equal, assert_job, assert_text, words_of};
-use sqlite::Unknown;
-use std::alloc::{AllocError, Global};
+use crate::helpers::{Due, assert_due, assert_job, done_narrow};
 use std::io;
 use std::net::{Ipv4Addr, Net, SocketAddr, TcpListener, TcpStream};
 use std::test::Fail;
-use td_base::Counted;
-use td_cli::{DeskFile, perform};
 
 /// A listener at a port that the machine chooses.
 pub fn listener<N: Net<Listener = TcpListener, Stream = TcpStream>>(
@@ -55,27 +50,15 @@ fn neighbour<N: Net<Listener = TcpListener, Stream = TcpStream>>(
     TcpListener::bind(rt, SocketAddr::from((Ipv4Addr::new(127, 0, 0, 2), port)))
 }
 
-/// A writer that takes ten bytes, and then fails.
-fn narrow(alloc: Global) -> Counted<Narrow> {
-    Counted::new(Narrow {
-        taken: Vec::new(alloc),
-        left: 10,
-        fails: true,
-    })
-}
-
+// The output takes ten bytes, and then fails.
 #[test]
 fn a_first_line_that_cannot_be_written_is_a_fault(rt: HostRuntime) -> Result<(), Fail> {
     let neighbour = neighbour(&rt)?;
     let port = format!(in rt.alloc(); "{}", neighbour.local_addr()?.port())?;
-    let words = words_of(rt.alloc(), &serve_words(&port))?;
-    let mut file = DeskFile::new(Unknown);
-    let mut input = Counted::new(b"".as_slice());
-    let mut out = narrow(rt.alloc());
-    let mut errors = Counted::new(Vec::new(rt.alloc()));
-    let status = perform(&rt, &words, &mut file, &mut input, &mut out, &mut errors);
-    file.close();
-    assert_equal(&status, &1)?;
-    assert_text(&out.into_inner().taken, b"listening ")?;
-    assert_text(&errors.into_inner(), b"transit-desk: write\n")
+    let due = Due {
+        status: 1,
+        out: b"listening ",
+        errors: b"transit-desk: write\n",
+    };
+    assert_due(&done_narrow(&rt, &serve_words(&port), b"", 10, true)?, due)
 }

@@ -1,11 +1,8 @@
 //! Streams whose reads are spent, and whose writer fails.
-use crate::helpers::devices::{Endless, Narrow};
+use crate::helpers::devices::Endless;
 use crate::helpers::texts::many;
-use crate::helpers::{Done, Due, WORDS, assert_due, assert_equal, assert_job, words_of};
-use sqlite::Unknown;
+use crate::helpers::{Due, WORDS, assert_due, assert_equal, assert_job, done_narrow};
 use std::test::Fail;
-use td_base::Counted;
-use td_cli::{DeskFile, perform};
 
 const SEE: &[u8] = b"GET /holders/000002 HTTP/1.1\r\n\r\n";
 
@@ -34,37 +31,11 @@ fn reads_are_spent(rt: HostRuntime) -> Result<(), Fail> {
     assert_reads_spent(&rt, &request, &replies)
 }
 
-// What is left where the replies go to this writer.
-fn done_narrow(rt: &HostRuntime, words: &[String], input: &[u8], writer: Narrow) -> Done {
-    let mut file = DeskFile::new(Unknown);
-    let mut reader = Counted::new(input);
-    let mut writer = Counted::new(writer);
-    let mut errors = Counted::new(Vec::new(rt.alloc()));
-    let status = perform(rt, words, &mut file, &mut reader, &mut writer, &mut errors);
-    file.close();
-    Done {
-        status,
-        out: writer.into_inner().taken,
-        errors: errors.into_inner(),
-    }
-}
-
 const WRITE_FAULT: &[u8] = b"transit-desk: stream write-fault\n";
 
 // A writer that fails or takes nothing after these replies.
-fn assert_narrow(
-    rt: &HostRuntime,
-    words: &[String],
-    input: &[u8],
-    replies: &[u8],
-    fails: bool,
-) -> Result<(), Fail> {
-    let writer = Narrow {
-        taken: Vec::new(rt.alloc()),
-        left: replies.len(),
-        fails,
-    };
-    let done = done_narrow(rt, words, input, writer);
+fn assert_narrow(rt: &HostRuntime, input: &[u8], replies: &[u8], fails: bool) -> Result<(), Fail> {
+    let done = done_narrow(rt, &WORDS, input, replies.len(), fails)?;
     let due = Due {
         status: 1,
         out: replies,
@@ -73,28 +44,18 @@ fn assert_narrow(
     assert_due(&done, due)
 }
 
-fn assert_narrow_at_each_byte(
-    rt: &HostRuntime,
-    words: &[String],
-    input: &[u8],
-    replies: &[u8],
-) -> Result<(), Fail> {
+fn assert_narrow_at_each_byte(rt: &HostRuntime, input: &[u8], replies: &[u8]) -> Result<(), Fail> {
     for end in 0..replies.len() {
-        assert_narrow(rt, words, input, &replies[..end], false)?;
-        assert_narrow(rt, words, input, &replies[..end], true)?;
+        assert_narrow(rt, input, &replies[..end], false)?;
+        assert_narrow(rt, input, &replies[..end], true)?;
     }
     Ok(())
-}
-
-fn assert_narrow_writers(rt: &HostRuntime, words: &[String]) -> Result<(), Fail> {
-    let input = many(rt.alloc(), b"", SEE, 2, b"")?;
-    let replies = many(rt.alloc(), b"", NO_HOLDER, 2, b"")?;
-    assert_narrow_at_each_byte(rt, words, &input, &replies)
 }
 
 // A writer that fails, and one that takes nothing, after each number of bytes of two replies.
 #[test]
 fn writers_fail_at_each_byte(rt: HostRuntime) -> Result<(), Fail> {
-    let words = words_of(rt.alloc(), &WORDS)?;
-    assert_narrow_writers(&rt, &words)
+    let input = many(rt.alloc(), b"", SEE, 2, b"")?;
+    let replies = many(rt.alloc(), b"", NO_HOLDER, 2, b"")?;
+    assert_narrow_at_each_byte(&rt, &input, &replies)
 }

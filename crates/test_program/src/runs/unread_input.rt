@@ -1,10 +1,7 @@
 //! What a run leaves of its input: wrong words read none of it, and a stream that is cut reads all. (What is told is in
 //! the transcripts.)
-use crate::helpers::{WORDS, assert_text, words_of};
-use sqlite::Unknown;
+use crate::helpers::{Ran, WORDS, assert_text, run_over, words_of};
 use std::test::Fail;
-use td_base::Counted;
-use td_cli::{DeskFile, run_program};
 
 const SEE: &[u8] = b"GET /holders/000001 HTTP/1.1\r\n\r\n";
 
@@ -20,13 +17,13 @@ const CALLS: [(&[&str], &[u8], &[u8]); 2] = [
 
 // What the program doesn't read of this input.
 fn unread<'a>(rt: &HostRuntime, words: Vec<String>, input: &'a [u8]) -> &'a [u8] {
-    let mut file = DeskFile::new(Unknown);
-    let mut input = Counted::new(input);
-    let mut out = Counted::new(Vec::new(rt.alloc()));
-    let mut errors = Counted::new(Vec::new(rt.alloc()));
-    let _status = run_program(rt, Ok(words), &mut file, &mut input, &mut out, &mut errors);
-    file.close();
-    input.into_inner()
+    let Ran {
+        status: _,
+        input,
+        out: _,
+        errors: _,
+    } = run_over(rt, Ok(words), input, Vec::new(rt.alloc()));
+    input
 }
 
 #[test]

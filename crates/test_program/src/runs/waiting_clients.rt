@@ -1,14 +1,11 @@
 //! A client that waits for the replies to what it sent before it sends more.
 use crate::helpers::exchanges::{REGISTER, SEE, SHOWN};
-use crate::helpers::{Done, Due, WORDS, assert_due, words_of};
-use sqlite::Unknown;
+use crate::helpers::{Done, Due, Ran, WORDS, assert_due, run_over, words_of};
 use std::alloc::{AllocError, Global};
 use std::cell::Cell;
 use std::io;
 use std::io::{Read, Write};
 use std::test::Fail;
-use td_base::Counted;
-use td_cli::{DeskFile, perform};
 
 /// What the client sends at once, and the replies that it then waits for.
 type Turn = (&'static [u8], &'static [u8]);
@@ -81,24 +78,26 @@ fn replies_to(alloc: Global, turns: &[Turn]) -> Result<Vec<u8>, AllocError> {
 }
 
 // What the program leaves for a client with these turns.
-fn done_for(rt: &HostRuntime, words: &[String], turns: &[Turn]) -> Done {
+fn done_for(rt: &HostRuntime, words: Vec<String>, turns: &[Turn]) -> Done {
     let waited_for = Cell::new(0);
-    let mut file = DeskFile::new(Unknown);
-    let mut input = Counted::new(Asking {
+    let asking = Asking {
         left: turns,
         waited_for: &waited_for,
-    });
-    let mut out = Counted::new(Listening {
+    };
+    let listening = Listening {
         told: Vec::new(rt.alloc()),
         waited_for: &waited_for,
-    });
-    let mut errors = Counted::new(Vec::new(rt.alloc()));
-    let status = perform(rt, words, &mut file, &mut input, &mut out, &mut errors);
-    file.close();
+    };
+    let Ran {
+        status,
+        input: _,
+        out,
+        errors,
+    } = run_over(rt, Ok(words), asking, listening);
     Done {
         status,
-        out: out.into_inner().told,
-        errors: errors.into_inner(),
+        out: out.told,
+        errors,
     }
 }
 
@@ -106,7 +105,7 @@ fn done_for(rt: &HostRuntime, words: &[String], turns: &[Turn]) -> Done {
 #[test]
 fn no_reply_waits_for_a_read(rt: HostRuntime) -> Result<(), Fail> {
     let words = words_of(rt.alloc(), &WORDS)?;
-    let done = done_for(&rt, &words, &TURNS);
+    let done = done_for(&rt, words, &TURNS);
     let replies = replies_to(rt.alloc(), &TURNS)?;
     assert_due(&done, Due::replies(&replies))
 }

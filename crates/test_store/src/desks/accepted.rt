@@ -1,9 +1,9 @@
 //! Commands that a desk accepts.
-use crate::examples::{cents, code, cover, eori, holder, lrn, office};
+use crate::examples::{cents, code, cover, day, eori, holder, lrn, office};
 use sqlite::MemStore;
 use std::process::Abort;
 use td_acts::Lines;
-use td_base::{Grn, Reference};
+use td_base::{Grn, Mrn, Reference};
 use td_desk::{Command, Outcome, Said, Stamped, do_one};
 use td_movement::Line;
 use td_store::SqlDesk;
@@ -48,6 +48,12 @@ pub fn lodge(
         destination: office(rt, b"DE005600"),
         lines: Lines::new(items).expect(rt, "lines"),
     }
+}
+
+/// The release of a movement that has to arrive by this day.
+pub fn release(rt: &impl Abort, mrn: Mrn, limit: &[u8]) -> Command {
+    let limit = day(rt, limit);
+    Command::Ie029 { mrn, limit }
 }
 
 /// Has the desk do at the start what it has to accept.

@@ -2,14 +2,13 @@
 //! again. tests/memory runs these tests again and again, and refuses another request for memory in each run; with
 //! ample memory they show that the calls succeed.
 use super::accepted::START;
-use super::junk::{rows_of, shown, tables};
 use super::migrations::{
     first, rows_of as first_rows_of, second, second_rows_of, upgraded, version_of,
 };
 use super::opening::{opened, seen};
 use super::reports::busy;
+use super::rows::{rows_of, shown, tables};
 use super::stops::{batch, list};
-use super::words::push_words;
 use super::{database, made};
 use crate::examples::{country, day};
 use sqlite::{Connection, MemStore};
@@ -174,8 +173,7 @@ fn reporting_guarantees(rt: HostRuntime) {
 }
 
 fn push_outcome(rt: &impl Abort, words: &mut String, outcome: &Outcome) {
-    push_words(words, outcome).expect(rt, "memory");
-    words.push_str("\n").expect(rt, "memory");
+    writeln!(words, "{outcome:?}").expect(rt, "memory");
 }
 
 // What is said to the list at that desk, without the commands that failed in these outcomes.

@@ -1,25 +1,13 @@
-//! A desk is closed and opened again, and refused over what is none of its own.
-use super::commands::{Dice, drawn};
-use super::words::push_words;
+//! A desk is closed and opened again, and refused over what is none. (What it is refused for after changes by hand stands in the
+//! transcripts of test_program.)
+use super::rows::tables;
 use super::{database, made};
-use crate::examples::{country, fill, holder};
+use crate::examples::{country, holder};
 use sqlite::{Alter, Connection, MemStore};
 use std::process::Abort;
 use td_base::HolderNo;
 use td_desk::{Command, Stamped, Store, do_one};
 use td_store::{OpenFault, Refused, SqlDesk};
-use td_table_model::Rule;
-
-/// A desk of a Swiss office, after some commands.
-fn filled(rt: &(impl AllocGlobal + Abort)) -> SqlDesk<MemStore> {
-    let mut desk = made(rt);
-    let mut dice = Dice::new(12);
-    for before in 0..120 {
-        let stamped = drawn(rt.alloc(), &mut dice, country(rt), before);
-        let _outcome = do_one(rt.alloc(), &mut desk, &stamped.expect(rt, "a command"));
-    }
-    desk
-}
 
 /// Adds what the desk answers to a view.
 fn push_view<S: Alter>(
@@ -33,8 +21,7 @@ fn push_view<S: Alter>(
         command,
     };
     let outcome = do_one(rt.alloc(), desk, &stamped);
-    push_words(words, &outcome).expect(rt, "memory");
-    words.push_str("\n").expect(rt, "memory");
+    writeln!(words, "{outcome:?}").expect(rt, "memory");
 }
 
 fn push_holder<S: Alter>(
@@ -71,80 +58,15 @@ pub fn refused(rt: &(impl AllocGlobal + Abort), conn: Connection<MemStore>) -> R
     opened.err().expect(rt, "a refusal")
 }
 
-/// Why no desk of a Swiss office is opened over that database, after that statement.
-pub fn refused_after(
-    rt: &(impl AllocGlobal + Abort),
-    mut conn: Connection<MemStore>,
-    statement: &str,
-) -> OpenFault {
-    fill(rt, &mut conn, &[statement]);
-    refused(rt, conn).fault
-}
-
 #[test]
 fn a_desk_is_opened_again(rt: HostRuntime) {
-    let mut desk = filled(&rt);
+    let mut desk = opened(&rt, tables(&rt));
     let before = seen(&rt, &mut desk);
-    assert!(rt; before.as_str().contains("25CH0000010000014"));
+    assert!(rt; before.as_str() != seen(&rt, &mut made(&rt)).as_str());
     let mut again = opened(&rt, desk.close());
     assert!(rt; again.office() == country(&rt));
     let after = seen(&rt, &mut again);
     assert_eq!(rt; after.as_str(), before.as_str());
-}
-
-/// What the desk is refused for after a change by hand.
-const CHANGES: [(&str, OpenFault); 14] = [
-    ("UPDATE meta SET version = 9", OpenFault::UnknownVersion),
-    ("UPDATE meta SET version = 0", OpenFault::UnknownVersion),
-    ("UPDATE meta SET version = 1", OpenFault::NeedsMigration(1)),
-    ("UPDATE meta SET version = 2", OpenFault::NeedsMigration(2)),
-    ("DELETE FROM meta", OpenFault::UnknownVersion),
-    ("UPDATE meta SET country = 'DE'", OpenFault::OtherCountry),
-    ("UPDATE meta SET country = 'ch'", OpenFault::OtherCountry),
-    (
-        "CREATE TABLE notes (note TEXT NOT NULL) STRICT",
-        OpenFault::Store,
-    ),
-    (
-        "UPDATE holders SET eori = 'none' WHERE holder = 1",
-        OpenFault::Damaged(Rule::S2),
-    ),
-    (
-        "UPDATE holders SET grn_count = grn_count + 1 WHERE holder = 1",
-        OpenFault::Damaged(Rule::S3),
-    ),
-    ("DELETE FROM codes", OpenFault::Damaged(Rule::S4)),
-    (
-        "UPDATE holders SET mrn_count = mrn_count + 1 WHERE holder = 1",
-        OpenFault::Damaged(Rule::S5),
-    ),
-    ("DELETE FROM lines3", OpenFault::Damaged(Rule::S6)),
-    (
-        "UPDATE guarantees2 SET used = 0",
-        OpenFault::Damaged(Rule::S7),
-    ),
-];
-
-#[test]
-fn no_desk_is_opened_after_a_change_by_hand(rt: HostRuntime) {
-    for (statement, fault) in &CHANGES {
-        let found = refused_after(&rt, filled(&rt).close(), statement);
-        assert!(rt; found == *fault, "{statement}");
-    }
-}
-
-#[test]
-fn a_later_version_is_told_whatever_its_tables_are(rt: HostRuntime) {
-    let mut conn = filled(&rt).close();
-    fill(
-        &rt,
-        &mut conn,
-        &[
-            "UPDATE meta SET version = 9",
-            "CREATE TABLE notes (note TEXT NOT NULL) STRICT",
-        ],
-    );
-    assert!(rt; refused(&rt, conn).fault == OpenFault::UnknownVersion);
 }
 
 #[test]

@@ -1,15 +1,14 @@
 //! Reports into a writer that fails, and how many writes a long one takes. (The rows of reports stand in the transcripts
 //! of test_program.)
-use super::accepted::{accept, lodge, open, register};
+use super::accepted::{accept, lodge, open, register, release};
 use super::made;
-use crate::examples::{GRN, MRN, country, day, grn, holder, mrn};
+use crate::examples::{GRN, MRN, country, grn, holder, mrn};
 use sqlite::MemStore;
 use std::alloc::Global;
 use std::io;
 use std::io::{ErrorKind, Write};
 use std::process::Abort;
 use td_base::{Counted, Grn, Mrn};
-use td_desk::Command;
 use td_reports::{ReportFault, guarantees};
 use td_store::SqlDesk;
 
@@ -57,19 +56,14 @@ fn assert_guarantees(rt: &(impl AllocGlobal + Abort), desk: &mut SqlDesk<MemStor
     assert_eq!(rt; taken.as_slice(), text.as_bytes());
 }
 
-/// Releases a movement, which has to arrive by 2025-03-08.
-fn release(rt: &(impl AllocGlobal + Abort), desk: &mut SqlDesk<MemStore>, mrn: Mrn) {
-    let limit = day(rt, b"2025-03-08");
-    accept(rt, desk, Command::Ie029 { mrn, limit });
-}
-
 /// A desk of one holder with a guarantee of 10,000.00, of which 5,000.00 are in use for a movement that is released.
 fn released(rt: &(impl AllocGlobal + Abort)) -> SqlDesk<MemStore> {
     let mut desk = made(rt);
     accept(rt, &mut desk, register(rt, 1));
     accept(rt, &mut desk, open(rt, 1, 1_000_000, 50));
     accept(rt, &mut desk, lodge(rt, 1, b"A1", grn(rt, GRN), 500_000));
-    release(rt, &mut desk, mrn(rt, MRN));
+    let released = release(rt, mrn(rt, MRN), b"2025-03-08");
+    accept(rt, &mut desk, released);
     desk
 }
 
@@ -87,7 +81,7 @@ pub fn busy(rt: &(impl AllocGlobal + Abort)) -> SqlDesk<MemStore> {
     accept(rt, &mut desk, lodge(rt, 1, b"A3", grn(rt, GRN), 2));
     for (number, serial) in [(1, 3), (2, 1), (1, 1)] {
         let mrn = Mrn::make(25, country(rt), holder(rt, number), serial).expect(rt, "an MRN");
-        release(rt, &mut desk, mrn);
+        accept(rt, &mut desk, release(rt, mrn, b"2025-03-08"));
     }
     desk
 }

@@ -3,13 +3,13 @@
 //! is a read too, a look at the length, or a sync.
 mod files;
 
-use super::accepted::{START, lodge, open, register};
-use super::junk::tables;
+use super::accepted::{START, lodge, open, register, release};
 use super::made;
 use super::migrations::{ROWS, SECOND_ROWS, rows_of, second_rows_of};
 use super::opening::{opened as desk_over, seen};
+use super::rows::tables;
 use super::walks::{guarantees_told, movements_told};
-use crate::examples::{GRN, MRN, country, day, fill, grn, make, mrn, office};
+use crate::examples::{GRN, MRN, country, fill, grn, make, mrn, office};
 use files::{Calls, Contents, Crashed, File, FusedFiles, Left, blank, closed, opened};
 use sqlite::{Alter, Connection};
 use std::process::Abort;
@@ -48,14 +48,13 @@ fn at_start(command: Command) -> Stamped {
 /// A holder's way from the registration to the write-off of a movement.
 pub fn list(rt: &(impl AllocGlobal + Abort)) -> [Stamped; 7] {
     let mrn = mrn(rt, MRN);
-    let limit = day(rt, b"2025-03-08");
     let office = office(rt, b"DE005600");
     let (result, ground) = (Control::A1, Ground::Results);
     [
         at_start(register(rt, 1)),
         at_start(open(rt, 1, 1_000_000, 50)),
         at_start(lodge(rt, 1, b"A1", grn(rt, GRN), 500_000)),
-        at_start(Command::Ie029 { mrn, limit }),
+        at_start(release(rt, mrn, b"2025-03-08")),
         at_start(Command::Ie007 { mrn, office }),
         at_start(Command::Ie018 { mrn, result }),
         at_start(Command::Ie045 { mrn, ground }),

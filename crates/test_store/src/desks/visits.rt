@@ -1,20 +1,14 @@
 //! The deadlines of all movements and all guarantees of a desk are shown one after another, by holder and then by serial, as long
 //! as more are wanted.
+use super::accepted::{accept, lodge, open, register, release};
 use super::made;
 use super::opening::seen;
-use crate::examples::{
-    GRN, MRN, SECOND_GRN, cents, code, country, cover, day, eori, grn, holder, lrn, mrn, office,
-};
+use crate::examples::{GRN, MRN, SECOND_GRN, country, grn, holder, mrn};
 use sqlite::MemStore;
 use std::alloc::AllocError;
 use std::process::Abort;
-use td_acts::Lines;
-use td_base::{Day, Grn, Reference};
-use td_desk::{Command, Outcome, Said, Stamped, do_one};
-use td_movement::Line;
+use td_base::{Day, Grn};
 use td_store::{KeptGuarantee, MovementDeadlines, SqlDesk, Visitor};
-
-const START: i64 = 1_740_819_600;
 
 /// Writes a line for each row that it is shown, as long as it wants more.
 #[derive(Drop)]
@@ -89,52 +83,6 @@ fn guarantees_told(
     (told, all.ok().expect(rt, "no fault"))
 }
 
-fn register(rt: &impl Abort, number: u32) -> Command {
-    Command::Register {
-        holder: holder(rt, number),
-        eori: eori(rt, b"CH1234567"),
-    }
-}
-
-/// A guarantee of so many cents.
-fn open(rt: &impl Abort, number: u32, reference: u64) -> Command {
-    Command::OpenGuarantee {
-        holder: holder(rt, number),
-        reference: Reference::new(reference).expect(rt, "an amount"),
-        cover: cover(rt, 50),
-        code: code(rt, b"AB12"),
-    }
-}
-
-/// A declaration with one line of so many cents.
-fn lodge(
-    rt: &(impl AllocGlobal + Abort),
-    number: u32,
-    name: &[u8],
-    grn: Grn,
-    amount: u64,
-) -> Command {
-    let line = Line {
-        grn,
-        cents: cents(rt, amount),
-    };
-    let items = vec![in rt.alloc(); (line, code(rt, b"AB12"))].expect(rt, "memory");
-    Command::Ie015 {
-        holder: holder(rt, number),
-        lrn: lrn(rt, name),
-        departure: office(rt, b"CH001251"),
-        destination: office(rt, b"DE005600"),
-        lines: Lines::new(items).expect(rt, "lines"),
-    }
-}
-
-/// Has the desk do what it has to accept.
-fn accept(rt: &(impl AllocGlobal + Abort), desk: &mut SqlDesk<MemStore>, command: Command) {
-    let stamped = Stamped { at: START, command };
-    let outcome = do_one(rt.alloc(), desk, &stamped);
-    assert!(rt; matches!(outcome, Outcome::Said(Said::Answered(_))));
-}
-
 /// A desk of holders 1, 2 and 3, of which the second came first: 1 has two guarantees and two movements, of which the first is
 /// released, 2 has one of each, and 3 has none.
 fn busy(rt: &(impl AllocGlobal + Abort)) -> SqlDesk<MemStore> {
@@ -145,16 +93,13 @@ fn busy(rt: &(impl AllocGlobal + Abort)) -> SqlDesk<MemStore> {
         accept(rt, &mut desk, register(rt, number));
     }
     for (number, reference) in [(2, 700_000), (1, 1_000_000), (1, 800_000)] {
-        accept(rt, &mut desk, open(rt, number, reference));
+        accept(rt, &mut desk, open(rt, number, reference, 50));
     }
     accept(rt, &mut desk, lodge(rt, 2, b"B1", others, 300_000));
     accept(rt, &mut desk, lodge(rt, 1, b"A1", first, 500_000));
     accept(rt, &mut desk, lodge(rt, 1, b"A2", second, 100_000));
-    let release = Command::Ie029 {
-        mrn: mrn(rt, MRN),
-        limit: day(rt, b"2025-03-09"),
-    };
-    accept(rt, &mut desk, release);
+    let released = release(rt, mrn(rt, MRN), b"2025-03-09");
+    accept(rt, &mut desk, released);
     desk
 }
 

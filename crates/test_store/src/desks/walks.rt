@@ -4,16 +4,17 @@ ghost use Rattle.td_store_load.specs.Placed.{guarantees_placed, movements_placed
 ghost use Rattle.td_store.specs.Kept.{sql_view};
 ghost use Rattle.td_store.specs.Pulled.{IsNext, guarantee_walk, guarantees_given, movement_walk};
 
+use super::accepted::{accept, register, release};
 use super::made;
 use super::opening::seen;
-use crate::examples::{cents, code, cover, day, eori, grn, holder, lrn, mrn, office};
+use crate::examples::{cents, code, cover, grn, holder, lrn, mrn, office};
 use sqlite::MemStore;
 use sqlite_trees::store::Alter;
 use std::alloc::{AllocError, Global};
 use std::process::Abort;
 use td_acts::Lines;
 use td_base::{Cents, HolderNo, Reference};
-use td_desk::{Command, Fault, Stamped, do_one};
+use td_desk::{Command, Fault};
 use td_guarantee::Guarantee;
 use td_movement::{Line, Movement};
 use td_store::{GuaranteeRows, MovementRows, SqlDesk};
@@ -40,27 +41,14 @@ fn next_guarantee<S: Alter>(
     rows.next(alloc)
 }
 
-const START: i64 = 1_740_819_600;
-
-fn carry_out(rt: &(impl AllocGlobal + Abort), desk: &mut SqlDesk<MemStore>, command: Command) {
-    let stamped = Stamped { at: START, command };
-    let _outcome = do_one(rt.alloc(), desk, &stamped);
-}
-
-fn register(rt: &(impl AllocGlobal + Abort), desk: &mut SqlDesk<MemStore>, number: u32) {
-    let (holder, eori) = (holder(rt, number), eori(rt, b"CH1234567"));
-    carry_out(rt, desk, Command::Register { holder, eori });
-}
-
-// A guarantee of 10,000.00 at half cover.
-fn open(rt: &(impl AllocGlobal + Abort), desk: &mut SqlDesk<MemStore>, number: u32, text: &[u8]) {
-    let command = Command::OpenGuarantee {
+// A guarantee of 10,000.00 at half cover, with this code.
+fn open(rt: &impl Abort, number: u32, text: &[u8]) -> Command {
+    Command::OpenGuarantee {
         holder: holder(rt, number),
         reference: Reference::new(1_000_000).expect(rt, "an amount"),
         cover: cover(rt, 50),
         code: code(rt, text),
-    };
-    carry_out(rt, desk, command);
+    }
 }
 
 // A declaration: the GRN, the amount in cents and the code of each line.
@@ -86,12 +74,7 @@ fn declare(
         destination: office(rt, b"DE005600"),
         lines: Lines::new(items).expect(rt, "lines"),
     };
-    carry_out(rt, desk, command);
-}
-
-fn release(rt: &(impl AllocGlobal + Abort), desk: &mut SqlDesk<MemStore>, text: &[u8]) {
-    let (mrn, limit) = (mrn(rt, text), day(rt, b"2025-03-09"));
-    carry_out(rt, desk, Command::Ie029 { mrn, limit });
+    accept(rt, desk, command);
 }
 
 const FIRST: &[u8] = b"25CH0000010000014";
@@ -105,21 +88,22 @@ const OF_THREE: &[u8] = b"25CH0000030000015";
 fn filled(rt: &(impl AllocGlobal + Abort)) -> SqlDesk<MemStore> {
     let mut desk = made(rt);
     for (number, text) in [(3, b"EF56"), (1, b"CD34"), (2, b"AB12"), (1, b"GH78")] {
-        register(rt, &mut desk, number);
-        open(rt, &mut desk, number, text);
+        accept(rt, &mut desk, register(rt, number));
+        accept(rt, &mut desk, open(rt, number, text));
     }
     let add = Command::AddCode {
         holder: holder(rt, 1),
         grn: grn(rt, FIRST),
         code: code(rt, b"AB12"),
     };
-    carry_out(rt, &mut desk, add);
+    accept(rt, &mut desk, add);
     declare(rt, &mut desk, 3, b"C1", &[(OF_THREE, 70, b"EF56")]);
     let lines: [(&[u8], u64, &[u8]); 2] = [(SECOND, 20_000, b"GH78"), (FIRST, 100, b"CD34")];
     declare(rt, &mut desk, 1, b"A1", &lines);
     declare(rt, &mut desk, 1, b"A2", &[(FIRST, 300, b"AB12")]);
-    release(rt, &mut desk, b"25CH000003000001J9");
-    release(rt, &mut desk, b"25CH000001000001J8");
+    for text in [b"25CH000003000001J9", b"25CH000001000001J8"] {
+        accept(rt, &mut desk, release(rt, mrn(rt, text), b"2025-03-09"));
+    }
     desk
 }
 

@@ -3,14 +3,11 @@
 use super::{
     CHECK, IS_SOUND, PIPE, PIPE_NEW, Run, STORE, assert_each, assert_run, remove, words_over,
 };
-use crate::helpers::devices::Narrow;
 use crate::helpers::exchanges::{REGISTER, SEE, SHOWN};
-use crate::helpers::{Done, Due, assert_due, assert_job, assert_that, is_closed, words_of};
+use crate::helpers::{Due, assert_due, assert_job, assert_that, done_narrow, is_closed};
 use crate::runs::serving::{listener, serve_words};
-use sqlite::{Connection, Unknown};
+use sqlite::Connection;
 use std::test::Fail;
-use td_base::Counted;
-use td_cli::{DeskFile, perform};
 
 const MADE: Run = Run {
     words: PIPE_NEW,
@@ -84,27 +81,9 @@ fn a_desk_is_made_though_the_port_is_in_use(rt: HostRuntime) -> Result<(), Fail>
 }
 
 /// What `check` leaves where the output takes four bytes, and then fails.
-fn done_narrow(rt: &HostRuntime, words: &[String]) -> Done {
-    let mut file = DeskFile::new(Unknown);
-    let mut input = Counted::new(b"".as_slice());
-    let mut out = Counted::new(Narrow {
-        taken: Vec::new(rt.alloc()),
-        left: 4,
-        fails: true,
-    });
-    let mut errors = Counted::new(Vec::new(rt.alloc()));
-    let status = perform(rt, words, &mut file, &mut input, &mut out, &mut errors);
-    file.close();
-    Done {
-        status,
-        out: out.into_inner().taken,
-        errors: errors.into_inner(),
-    }
-}
-
 fn assert_narrow(rt: &HostRuntime, path: &str) -> Result<(), Fail> {
     let words = words_over(rt.alloc(), CHECK, path)?;
-    let done = done_narrow(rt, &words_of(rt.alloc(), &words)?);
+    let done = done_narrow(rt, &words, b"", 4, true)?;
     let due = Due {
         status: 1,
         out: b"soun",

@@ -1,0 +1,30 @@
+"""Sockets of this machine, for the programs that measure and test what `serve` tells."""
+import contextlib
+import socket
+import threading
+
+SECONDS = 60
+
+
+def free_port():
+    with socket.socket() as it:
+        it.bind(("127.0.0.1", 0))
+        return it.getsockname()[1]
+
+
+def told_over(port, sent):
+    """All that a peer is told which sends this and then no more."""
+    with socket.create_connection(("127.0.0.1", port), timeout=SECONDS) as peer:
+
+        def send():
+            with contextlib.suppress(OSError):
+                peer.sendall(sent)
+                peer.shutdown(socket.SHUT_WR)
+
+        sender = threading.Thread(target=send)
+        sender.start()
+        told = b""
+        while more := peer.recv(65536):
+            told += more
+        sender.join()
+    return told
