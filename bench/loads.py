@@ -14,7 +14,7 @@ from sockets import SECONDS, free_port, told_over  # noqa: E402
 AT, LIMIT, CENTS = "1740819600", "2025-03-08", 500_000
 # The most requests of a stream.
 STREAM = 1000
-ACTS = ("lodge", "release", "arrive")
+ACTS, STATES = ("lodge", "release", "arrive"), ("accepted", "released", "arrived")
 
 
 def exchange(method, target, sent, told):
@@ -63,21 +63,28 @@ def see(holder, movements):
     return exchange("GET", f"/holders/{holder:06}", "", shown(holder, 1, movements))
 
 
+def list_movements(holder, movements, state):
+    shown = ",".join(f'{{"lrn":"{holder:06}-{serial}","mrn":"{lettered(holder, serial)}","state":"{state}"}}' for serial in range(1, movements + 1))
+    return exchange("GET", f"/holders/{holder:06}/movements", "", f'{{"movements":[{shown}]}}')
+
+
 def streams_of(exchanges):
     """The exchanges, as many at once as a stream takes."""
     exchanges = list(exchanges)
     return [exchanges[at : at + STREAM] for at in range(0, len(exchanges), STREAM)]
 
 
-def load(holders, each, acts):
+def load(holders, each, acts, lists=False):
     """The streams of a load: so many holders with a guarantee each bring so many movements each to the first so many acts, each act done by
-    turns, a movement of each holder a turn; in the end each holder is seen."""
+    turns, a movement of each holder a turn; in the end each holder is seen, and the list of each one's movements if that is asked for."""
     numbers, does = range(1, holders + 1), {"lodge": lodge, "release": release, "arrive": arrive}
     yield from streams_of(register(it) for it in numbers)
     yield from streams_of(open_guarantee(it) for it in numbers)
     for act in ACTS[:acts]:
         yield from streams_of(does[act](it, serial) for serial in range(1, each + 1) for it in numbers)
     yield from streams_of(see(it, each if acts else 0) for it in numbers)
+    if lists:
+        yield from streams_of(list_movements(it, each, STATES[acts - 1]) for it in numbers)
 
 
 def served(program, streams, more=()):

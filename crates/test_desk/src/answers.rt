@@ -1,10 +1,7 @@
 //! Replies that no transcript has, byte for byte, with ample memory.
 mod controls;
-mod lists;
 mod refusals;
-mod views;
 
-use std::alloc::{AllocError, Global};
 use std::process::Abort;
 use td_answers::{
     answer_is_told_in, fault_bytes, fault_is_told_in, refusal_is_told_in, reply_bytes,
@@ -35,12 +32,4 @@ fn turns_away(rt: &(impl AllocGlobal + Abort), fault: WebFault, reply: &str) {
     fault_is_told_in(fault);
     let told = fault_bytes(rt.alloc(), &fault, false).expect(rt, "memory");
     assert!(rt; told.as_slice() == reply.as_bytes());
-}
-
-// The whole reply that answers with this body.
-fn reply_with(alloc: Global, body: &str) -> Result<String, AllocError> {
-    let size = body.len();
-    format!(in alloc;
-        "HTTP/1.1 200 OK\r\nContent-Type: application/json\r\nContent-Length: {size}\r\n\r\n{body}"
-    )
 }
