@@ -1,6 +1,6 @@
 """Loads of many holders and movements, as exchanges: each request with the reply that is due to it, which is written out here by the rule
 of references. A desk that `serve` has in memory takes them in several streams, a connection each, since a stream has 1,000 requests at
-most."""
+most, and is closed with the last of these."""
 import os
 import resource
 import subprocess
@@ -12,8 +12,8 @@ from references import grn_of, lettered  # noqa: E402
 from sockets import SECONDS, free_port, told_over  # noqa: E402
 
 AT, LIMIT, CENTS = "1740819600", "2025-03-08", 500_000
-# The most requests of a stream.
-STREAM = 1000
+# How many requests a stream has; the desk closes one at its thousandth.
+STREAM = 900
 ACTS, STATES = ("lodge", "release", "arrive"), ("accepted", "released", "arrived")
 
 

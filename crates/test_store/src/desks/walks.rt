@@ -87,8 +87,10 @@ const OF_THREE: &[u8] = b"25CH0000030000015";
 // the second a guarantee alone, and the third one of each. Of each of the two the first movement was released.
 fn filled(rt: &(impl AllocGlobal + Abort)) -> SqlDesk<MemStore> {
     let mut desk = made(rt);
-    for (number, text) in [(3, b"EF56"), (1, b"CD34"), (2, b"AB12"), (1, b"GH78")] {
+    for number in [3, 1, 2] {
         accept(rt, &mut desk, register(rt, number));
+    }
+    for (number, text) in [(3, b"EF56"), (1, b"CD34"), (2, b"AB12"), (1, b"GH78")] {
         accept(rt, &mut desk, open(rt, number, text));
     }
     let add = Command::AddCode {
