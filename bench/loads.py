@@ -87,17 +87,24 @@ def load(holders, each, acts, lists=False):
         yield from streams_of(list_movements(it, each, STATES[acts - 1]) for it in numbers)
 
 
+def sent(stream):
+    return b"".join(request for request, _ in stream)
+
+
 def served(program, streams, more=()):
-    """Has a run of `serve` take the streams, one after another, and returns what was told over each, and the processor's seconds of the run."""
+    """Has a run of `serve` take the streams, one after another, and returns what was told over each, and the processor's seconds of the run.
+    An OSError or a TimeoutExpired says why it didn't do so to its end."""
     port, before = free_port(), resource.getrusage(resource.RUSAGE_CHILDREN)
     words = [program, "serve", "--country", "CH", "--port", str(port), "--connections", str(len(streams)), "--at", AT, *more]
     with subprocess.Popen(words, stdout=subprocess.PIPE) as run:
-        if run.stdout.readline() != f"listening 127.0.0.1:{port}\n".encode():
+        try:
+            if run.stdout.readline() != f"listening 127.0.0.1:{port}\n".encode():
+                raise OSError("the program doesn't listen")
+            told = [told_over(port, sent(stream)) for stream in streams]
+            if run.wait(timeout=SECONDS):
+                raise OSError(f"the program ended with the status {run.returncode}")
+        finally:
             run.kill()
-            raise OSError("the program doesn't listen")
-        told = [told_over(port, b"".join(request for request, _ in stream)) for stream in streams]
-        if run.wait(timeout=SECONDS):
-            raise OSError(f"the program ended with the status {run.returncode}")
     after = resource.getrusage(resource.RUSAGE_CHILDREN)
     return told, after.ru_utime + after.ru_stime - before.ru_utime - before.ru_stime
 
