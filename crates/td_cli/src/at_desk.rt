@@ -29,7 +29,7 @@ pub(crate) trait DeskJob {
     ghost seen: { IsSeen Self Self.End does };
 
     /// Does it at a desk, which is handed back, by a clock.
-    fn on<D: Desk + Drop, C: Clock + Drop, R: Read, W: Write>(
+    fn on<D: Desk, C: Clock + Drop, R: Read, W: Write>(
         &self,
         rt: &HostRuntime,
         desk: D,
@@ -111,7 +111,7 @@ fn over_file<S: Start, R: Read, W: Write, J: DeskJob>(
 }
 
 // At any desk, which is handed back, at this moment or by the machine's clock.
-fn at_moment<R: Read, W: Write, D: Desk + Drop, J: DeskJob>(
+fn at_moment<R: Read, W: Write, D: Desk, J: DeskJob>(
     rt: &HostRuntime,
     desk: D,
     at: Option<i64>,

@@ -64,7 +64,7 @@ impl DeskJob for Rows {
     ghost seen = { λ D D' R W C C' view see begins ends begins' ends' remaining contents ticks moments look job reader reader_left writer writer_left clock run begin close shows does.
         (does.0, rows_seen view see begins ends begins' ends' ticks moments look (kind_of job) (commands_of job) clock run begin close shows does.1) };
 
-    fn on<D: Desk + Drop, C: Clock + Drop, R: Read, W: Write>(
+    fn on<D: Desk, C: Clock + Drop, R: Read, W: Write>(
         &self,
         rt: &HostRuntime,
         mut desk: D,

@@ -29,7 +29,7 @@ impl DeskJob for Checking {
     ghost seen = { λ D D' R W C C' view see begins ends begins' ends' remaining contents ticks moments look job reader reader_left writer writer_left clock opened begin close shows does.
         (does.0, unserved_seen see begins ends begins' ends' begin close does.1) };
 
-    fn on<D: Desk + Drop, C: Clock + Drop, R: Read, W: Write>(
+    fn on<D: Desk, C: Clock + Drop, R: Read, W: Write>(
         &self,
         _rt: &HostRuntime,
         desk: D,

@@ -20,7 +20,7 @@ impl DeskJob for Piping {
     ghost seen = { λ D D' R W C C' view see begins ends begins' ends' remaining contents ticks moments look job.
         piped_seen view see begins ends begins' ends' remaining contents ticks moments look };
 
-    fn on<D: Desk + Drop, C: Clock + Drop, R: Read, W: Write>(
+    fn on<D: Desk, C: Clock + Drop, R: Read, W: Write>(
         &self,
         rt: &HostRuntime,
         desk: D,

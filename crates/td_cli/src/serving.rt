@@ -59,7 +59,7 @@ impl DeskJob for Listening {
     ghost seen = { λ D D' R W C C' view see begins ends begins' ends' remaining contents ticks moments look job reader reader_left writer writer_left clock end begin close shows serves.
         (serves.0, serving_seen view see begins ends begins' ends' contents ticks moments look job.port job.connections writer writer_left clock begin close shows end serves.1) };
 
-    fn on<D: Desk + Drop, C: Clock + Drop, R: Read, W: Write>(
+    fn on<D: Desk, C: Clock + Drop, R: Read, W: Write>(
         &self,
         rt: &HostRuntime,
         desk: D,
@@ -74,7 +74,7 @@ impl DeskJob for Listening {
 }
 
 // Serves them at a service.
-fn serve_printing<W: Write, D: Desk + Drop, C: Clock>(
+fn serve_printing<W: Write, D: Desk, C: Clock>(
     rt: &HostRuntime,
     listening: Listening,
     clock: &mut C,
@@ -93,7 +93,7 @@ fn serve_printing<W: Write, D: Desk + Drop, C: Clock>(
 }
 
 // Listens on the port, and serves the connections at a service.
-fn listen<W: Write, D: Desk + Drop, C: Clock>(
+fn listen<W: Write, D: Desk, C: Clock>(
     rt: &HostRuntime,
     listening: Listening,
     lines: &PrintedLines,
@@ -115,7 +115,7 @@ fn listen<W: Write, D: Desk + Drop, C: Clock>(
 }
 
 // Serves the connections that come to the listening socket.
-fn serve_here<W: Write, D: Desk + Drop, C: Clock>(
+fn serve_here<W: Write, D: Desk, C: Clock>(
     alloc: Global,
     listener: &TcpListener,
     listening: Listening,

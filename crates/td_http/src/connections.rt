@@ -42,7 +42,7 @@ pub trait Connections {
 }
 
 // Serves the next connection. An `Err`: the source had none, and why.
-fn serve_next<L: Connections, C: Clock, D: Desk + Drop>(
+fn serve_next<L: Connections, C: Clock, D: Desk>(
     alloc: Global,
     connections: &mut L,
     clock: &mut C,
@@ -68,7 +68,7 @@ fn serve_next<L: Connections, C: Clock, D: Desk + Drop>(
 /// `served`: each connection is one stream at the desk that the earlier ones left, in order. `private`: to
 /// each holder at once, the bytes of the replies over all connections are those of the holder's own machine
 /// on the holder's requests in the order of the connections.
-pub fn serve_connections<L: Connections, C: Clock, D: Desk + Drop>(
+pub fn serve_connections<L: Connections, C: Clock, D: Desk>(
     alloc: Global,
     connections: &mut L,
     count: u32,

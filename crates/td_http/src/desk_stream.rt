@@ -10,7 +10,7 @@ use std::io::{Read, Write};
 use td_base::Counted;
 use td_desk::Desk;
 
-impl<D: Desk + Drop> Handler for Service<D> {
+impl<D: Desk> Handler for Service<D> {
     ghost use Rattle.td_http.specs.Serving.{IsHandledBy, IsHeadHandledBy};
 
     ghost handles = { IsHandledBy D.seen };
@@ -33,7 +33,7 @@ impl<D: Desk + Drop> Handler for Service<D> {
 /// `served`: the bytes consumed are whole requests and a rest, what is written is the replies to them and
 /// what parts with the rest, and each way to end says its cause. `private`: to each holder at once, the bytes
 /// of the replies to the holder's requests are those of the holder's own machine over these requests alone.
-pub fn serve_stream<R: Read, W: Write, C: Clock, D: Desk + Drop>(
+pub fn serve_stream<R: Read, W: Write, C: Clock, D: Desk>(
     alloc: Global,
     reader: &mut Counted<R>,
     writer: &mut Counted<W>,

@@ -21,7 +21,7 @@ use td_routes::{Allowed, Routes, WebFault, path, read_command_by};
 
 /// A desk that answers HTTP requests.
 #[derive(Drop)]
-pub struct Service<D: Desk + Drop> {
+pub struct Service<D: Desk> {
     desk: D,
     routes: Routes,
 }
@@ -122,7 +122,7 @@ fn reply_to_unread(alloc: Global, fault: &WebFault, close: bool) -> Reply
     }
 }
 
-impl<D: Desk + Drop> Service<D> {
+impl<D: Desk> Service<D> {
     ghost use Rattle.td_http.specs.Serving.{desk_of, IsHandledBy, IsHeadHandledBy, IsPrivateAlone};
 
     /// A service of the desk. It takes no memory.

@@ -95,7 +95,7 @@ impl<'a> Connections for Incoming<'a> {
 /// where another connection waits, so that a peer that wrote more than was asked of it is not reset. The listener is
 /// one that blocks. An `Err`: the socket gave no further connection, or none that can be read and written; those
 /// before it were served.
-pub fn serve_on<C: Clock, D: Desk + Drop>(
+pub fn serve_on<C: Clock, D: Desk>(
     alloc: Global,
     listener: &TcpListener,
     connections: u32,

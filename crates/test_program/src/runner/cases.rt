@@ -248,7 +248,8 @@ fn assert_case(rt: &HostRuntime, place: Place<'_>, case: &str) -> Result<(), Fai
 }
 
 /// Each run of each case leaves what is due, and there is a case.
-pub fn assert_transcript(rt: &HostRuntime, text: &str) -> Result<(), Fail> {
+pub fn assert_transcript(rt: &HostRuntime, text: &[u8]) -> Result<(), Fail> {
+    let text = str::from_utf8(text)?;
     let mut line: usize = 5;
     for (number, case) in text.split("\n== ").enumerate() {
         let place = Place {

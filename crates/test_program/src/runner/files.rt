@@ -97,11 +97,15 @@ fn number_in<S: Alter>(conn: &mut Connection<S>, query: &str) -> Outcome {
     }
 }
 
-fn answered<S: Start>(mut conn: File<S>, what: Asked<'_>) -> Outcome {
-    let outcome = match what {
+fn outcome_on<S: Alter>(conn: &mut Connection<S>, what: Asked<'_>) -> Outcome {
+    match what {
         Asked::Change(statement) => outcome_of(conn.execute(statement, &[])),
-        Asked::Query(query) => number_in(&mut conn, query),
-    };
+        Asked::Query(query) => number_in(conn, query),
+    }
+}
+
+fn answered<S: Start>(mut conn: File<S>, what: Asked<'_>) -> Outcome {
+    let outcome = outcome_on(&mut conn, what);
     if is_closed(conn) {
         outcome
     } else {

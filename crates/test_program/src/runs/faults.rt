@@ -67,7 +67,7 @@ pub fn input_of(rt: &(impl AllocGlobal + Abort), exchanges: &[Exchange]) -> Vec<
 }
 
 // Serves a stream, whose requests come one byte a read.
-pub fn serve<D: Desk + Drop>(
+pub fn serve<D: Desk>(
     rt: &impl AllocGlobal,
     service: &mut Service<D>,
     input: Drip<'_>,
@@ -102,7 +102,7 @@ fn assert_told(rt: &impl Abort, end: StreamEnd, told: &[u8]) -> usize {
 }
 
 // These are served as they are due.
-pub fn assert_served<D: Desk + Drop>(
+pub fn assert_served<D: Desk>(
     rt: &(impl AllocGlobal + Abort),
     service: &mut Service<D>,
     exchanges: &[Exchange],

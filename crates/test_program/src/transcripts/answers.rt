@@ -2,7 +2,7 @@
 use crate::runner::assert_transcript;
 use std::test::Fail;
 
-const CASES: &str = r#"
+const CASES: &[u8] = br#"
 == a movement that has arrived elsewhere is shown
 @ 1740819600 2025-03-01T09:00:00Z
 > PUT /office/holders/000001 {"eori":"CH1234567"}

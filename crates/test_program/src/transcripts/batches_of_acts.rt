@@ -2,7 +2,7 @@
 use crate::runner::assert_transcript;
 use std::test::Fail;
 
-const CASES: &str = r#"
+const CASES: &[u8] = br#"
 == an act that comes too early is told, and one that was done is the wrong state
 $ pipe --country CH --at 1740819600 --db FILE --new
 > PUT /office/holders/000001 {"eori":"CH1234567"}

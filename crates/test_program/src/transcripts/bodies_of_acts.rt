@@ -2,7 +2,7 @@
 use crate::runner::assert_transcript;
 use std::test::Fail;
 
-const CASES: &str = r#"
+const CASES: &[u8] = br#"
 == amendments that can't be read
 $ pipe --country CH --at 1740819600
 > POST /office/guarantees/25CH0000010000014/amend {"reference":0,"cover":30}

@@ -2,7 +2,7 @@
 use crate::runner::assert_transcript;
 use std::test::Fail;
 
-const CASES: &str = r#"
+const CASES: &[u8] = br#"
 == declarations of which the first field that is missing or ill-formed is told
 $ pipe --country CH --at 1740819600
 > POST /holders/000001/movements

@@ -2,7 +2,7 @@
 use crate::runner::assert_transcript;
 use std::test::Fail;
 
-const CASES: &str = r#"
+const CASES: &[u8] = br#"
 == a declaration is cancelled
 $ pipe --country CH --at 1740819600
 > POST /holders/000001/movements/25CH000001000001J8/ie014

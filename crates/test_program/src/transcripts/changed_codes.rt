@@ -2,7 +2,7 @@
 use crate::runner::assert_transcript;
 use std::test::Fail;
 
-const CASES: &str = r#"
+const CASES: &[u8] = br#"
 == changes of codes
 # Holder 1 has two guarantees and three movements: of the first one's 1000000 cents 500000 are in use by movement 1,
 # which is released, and 400000 by movement 2, which has arrived; of the second one's 500000 cents 200000 by movement 1.

@@ -2,7 +2,7 @@
 use crate::runner::assert_transcript;
 use std::test::Fail;
 
-const CASES: &str = r#"
+const CASES: &[u8] = br#"
 # A run that would make a desk only finds that there are tables. The row is as the change left it.
 
 == a reference amount below use is told

@@ -2,7 +2,7 @@
 use crate::runner::assert_transcript;
 use std::test::Fail;
 
-const CASES: &str = r#"
+const CASES: &[u8] = br#"
 == the first requests
 # Those of examples/first.http.
 $ pipe --country CH --at 1740819600

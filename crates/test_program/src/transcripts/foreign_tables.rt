@@ -2,7 +2,7 @@
 use crate::runner::assert_transcript;
 use std::test::Fail;
 
-const CASES: &str = r#"
+const CASES: &[u8] = br#"
 == no desk is made over a table of another program
 $ sql CREATE TABLE notes (note TEXT NOT NULL) STRICT
 $ sql INSERT INTO notes VALUES ('mine')

@@ -2,7 +2,7 @@
 use crate::runner::assert_transcript;
 use std::test::Fail;
 
-const CASES: &str = r#"
+const CASES: &[u8] = br#"
 == each command with fields: 200 brackets, one byte FF, and an object without its fields
 $ pipe --country CH --at 1740819600
 >| PUT /office/holders/000002 HTTP/1.1\r\nContent-Length: 200\r\n\r\n
@@ -555,7 +555,7 @@ $ pipe --country CH --at 1740819600
 < 400 {"error":"bad-body"}
 >| PUT /office/holders/000003 HTTP/1.1\r\nContent-Length: 21\r\n\r\n{"eori":"CH1","a":1L}
 < 400 {"error":"bad-body"}
->| PUT /office/holders/000003 HTTP/1.1\r\nContent-Length: 21\r\n\r\n{"eori":"CH1","a":½}
+>| PUT /office/holders/000003 HTTP/1.1\r\nContent-Length: 21\r\n\r\n{"eori":"CH1","a":\xc2\xbd}
 < 400 {"error":"bad-body"}
 >| PUT /office/holders/000003 HTTP/1.1\r\nContent-Length: 145\r\n\r\n{"eori":"CH1","a":[1e308,-1e308,1e-400,1e-99999,0e99999,-0,0.0,1.7976931348623157e308,18446744073709551616,123456789012345678901234567890.5e-10]}
 < 200 {"eori":"CH1","guarantees":0,"holder":"000003","movements":0}

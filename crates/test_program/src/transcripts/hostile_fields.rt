@@ -2,7 +2,7 @@
 use crate::runner::assert_transcript;
 use std::test::Fail;
 
-const CASES: &str = r#"
+const CASES: &[u8] = br#"
 == names of fields that are no tokens
 $ pipe --country CH --at 1740819600
 >| GET /holders/000002 HTTP/1.1\r\n: a\r\n\r\n

@@ -2,7 +2,7 @@
 use crate::runner::assert_transcript;
 use std::test::Fail;
 
-const CASES: &str = r#"
+const CASES: &[u8] = br#"
 == a line that goes on in the next one, and spaces and tabs where none belong
 $ pipe --country CH --at 1740819600
 >| GET /holders/000002 HTTP/1.1\r\nX: a\r\n b\r\n\r\n

@@ -2,7 +2,7 @@
 use crate::runner::assert_transcript;
 use std::test::Fail;
 
-const CASES: &str = r#"
+const CASES: &[u8] = br#"
 == a body of two lengths, of a length and of chunks, and of neither
 # What stands behind the head is never served as a request of its own.
 $ pipe --country CH --at 1740819600

@@ -2,7 +2,7 @@
 use crate::runner::assert_transcript;
 use std::test::Fail;
 
-const CASES: &str = r#"
+const CASES: &[u8] = br#"
 == targets of the other forms are no paths of the desk
 $ pipe --country CH --at 1740819600
 > GET http://desk/holders/000002
@@ -193,7 +193,7 @@ $ pipe --country CH --at 1740819600
 < 404 {"error":"no-holder"}
 > GET /holders/000002?\
 < 404 {"error":"no-holder"}
-> GET /holders/000002?é
+>| GET /holders/000002?\xc3\xa9 HTTP/1.1\r\n\r\n
 < 404 {"error":"no-holder"}
 > GET /holders/000002?http://desk/
 < 404 {"error":"no-holder"}
@@ -238,15 +238,15 @@ $ pipe --country CH --at 1740819600
 < 400 {"error":"bad-holder"}
 > GET /holders/0000.2
 < 400 {"error":"bad-holder"}
-> GET /holders/00000２
+>| GET /holders/00000\xef\xbc\x92 HTTP/1.1\r\n\r\n
 < 400 {"error":"bad-holder"}
-> GET /holders/٠٠٠٠٠٢
+>| GET /holders/\xd9\xa0\xd9\xa0\xd9\xa0\xd9\xa0\xd9\xa0\xd9\xa2 HTTP/1.1\r\n\r\n
 < 400 {"error":"bad-holder"}
-> GET /holders/００００００２
+>| GET /holders/\xef\xbc\x90\xef\xbc\x90\xef\xbc\x90\xef\xbc\x90\xef\xbc\x90\xef\xbc\x90\xef\xbc\x92 HTTP/1.1\r\n\r\n
 < 400 {"error":"bad-holder"}
-> GET /holders/0000②
+>| GET /holders/0000\xe2\x91\xa1 HTTP/1.1\r\n\r\n
 < 400 {"error":"bad-holder"}
-> GET /holders/²²²²²²
+>| GET /holders/\xc2\xb2\xc2\xb2\xc2\xb2\xc2\xb2\xc2\xb2\xc2\xb2 HTTP/1.1\r\n\r\n
 < 400 {"error":"bad-holder"}
 > GET /holders/000002a
 < 400 {"error":"bad-holder"}
@@ -312,17 +312,17 @@ $ pipe --country CH --at 1740819600
 < 404 {"error":"no-route"}
 > GET /holders/000002/movements/{mrn}
 < 400 {"error":"bad-mrn","reason":"length"}
-> GET /holders/000002/movements/25CH0000010000001é
+>| GET /holders/000002/movements/25CH0000010000001\xc3\xa9 HTTP/1.1\r\n\r\n
 < 400 {"error":"bad-mrn","reason":"length"}
-> GET /holders/000002/movements/25CH000001000000é
+>| GET /holders/000002/movements/25CH000001000000\xc3\xa9 HTTP/1.1\r\n\r\n
 < 400 {"error":"bad-mrn","reason":"form"}
-> GET /holders/000002/movements/25CH000001000000１3
+>| GET /holders/000002/movements/25CH000001000000\xef\xbc\x913 HTTP/1.1\r\n\r\n
 < 400 {"error":"bad-mrn","reason":"length"}
-> GET /holders/000002/guarantees/25CH00000100000é4
+>| GET /holders/000002/guarantees/25CH00000100000\xc3\xa94 HTTP/1.1\r\n\r\n
 < 400 {"error":"bad-grn","reason":"length"}
-> GET /holders/000002/guarantees/25CH000001000014é
+>| GET /holders/000002/guarantees/25CH000001000014\xc3\xa9 HTTP/1.1\r\n\r\n
 < 400 {"error":"bad-grn","reason":"length"}
-> GET /holders/000002/guarantees/25CH00000100001é
+>| GET /holders/000002/guarantees/25CH00000100001\xc3\xa9 HTTP/1.1\r\n\r\n
 < 400 {"error":"bad-grn","reason":"form"}
 
 == long targets

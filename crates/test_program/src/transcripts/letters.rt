@@ -2,7 +2,7 @@
 use crate::runner::assert_transcript;
 use std::test::Fail;
 
-const CASES: &str = r#"
+const CASES: &[u8] = br#"
 == older references stay, and the next has the letter
 $ pipe --country CH --at 1740819600 --db FILE --new
 $ sql INSERT INTO holders VALUES (1, 'CH1234567', 1740819600, 1, 3)

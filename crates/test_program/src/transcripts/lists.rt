@@ -2,7 +2,7 @@
 use crate::runner::assert_transcript;
 use std::test::Fail;
 
-const CASES: &str = r#"
+const CASES: &[u8] = br#"
 == all movements and guarantees are listed
 $ pipe --country CH --at 1740819600
 > GET /holders/000001/movements

@@ -2,7 +2,7 @@
 use crate::runner::assert_transcript;
 use std::test::Fail;
 
-const CASES: &str = r#"
+const CASES: &[u8] = br#"
 == a movement is in use until it is written off
 # What is in use falls at the write-off, and at nothing before.
 @ 1740819600 2025-03-01T09:00:00Z

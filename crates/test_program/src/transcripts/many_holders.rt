@@ -2,7 +2,7 @@
 use crate::runner::assert_transcript;
 use std::test::Fail;
 
-const CASES: &str = r#"
+const CASES: &[u8] = br#"
 == each of many holders has first references
 # All register, then all open, then all lodge under one LRN, then all are shown.
 $ pipe --country CH --at 1740819600

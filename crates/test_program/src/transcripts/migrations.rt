@@ -2,7 +2,7 @@
 use crate::runner::assert_transcript;
 use std::test::Fail;
 
-const CASES: &str = r#"
+const CASES: &[u8] = br#"
 == a file of version 1 is migrated, and is then as it was
 # The guarantee's 1000000 cents are half in use, by the one movement, which is released.
 $ sql CREATE TABLE meta (one INTEGER PRIMARY KEY CHECK (one = 1), version INTEGER NOT NULL, country TEXT NOT NULL) STRICT

@@ -2,7 +2,7 @@
 use crate::runner::assert_transcript;
 use std::test::Fail;
 
-const CASES: &str = r#"
+const CASES: &[u8] = br#"
 == a repeat before the last change is refused
 @ 1740819000 2025-03-01T08:50:00Z
 > PUT /office/holders/000001 {"eori":"CH1234567"}

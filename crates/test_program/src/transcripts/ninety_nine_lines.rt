@@ -2,7 +2,7 @@
 use crate::runner::assert_transcript;
 use std::test::Fail;
 
-const CASES: &str = r#"
+const CASES: &[u8] = br#"
 == ten lines are lodged, and a declaration of none, of a hundred or of one guarantee twice is refused
 # Up to ninety-nine lines, each on another guarantee.
 $ pipe --country CH --at 1740819600

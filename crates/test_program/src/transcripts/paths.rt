@@ -2,7 +2,7 @@
 use crate::runner::assert_transcript;
 use std::test::Fail;
 
-const CASES: &str = r#"
+const CASES: &[u8] = br#"
 == paths that there are not
 $ pipe --country CH --at 1740819600
 > GET /holders/000001/
@@ -128,7 +128,7 @@ $ pipe --country CH --at 1740819600
 < 400 {"error":"bad-holder"}
 > GET /holders/%30%30%30%30%30%31
 < 400 {"error":"bad-holder"}
-> GET /holders/é
+>| GET /holders/\xc3\xa9 HTTP/1.1\r\n\r\n
 < 400 {"error":"bad-holder"}
 > GET /holders/zzz/movements/x
 < 400 {"error":"bad-holder"}
@@ -160,7 +160,7 @@ $ pipe --country CH --at 1740819600
 < 400 {"error":"bad-mrn","reason":"form"}
 > GET /holders/000001/movements/25CH0000010000001A not JSON
 < 400 {"error":"bad-mrn","reason":"form"}
-> GET /holders/000001/movements/25CH000001000000é?25CH000001000001J8 not JSON
+>| GET /holders/000001/movements/25CH000001000000\xc3\xa9?25CH000001000001J8 HTTP/1.1\r\nContent-Length: 8\r\n\r\nnot JSON
 < 400 {"error":"bad-mrn","reason":"form"}
 > GET /holders/000001/movements/x not JSON
 < 400 {"error":"bad-mrn","reason":"length"}

@@ -2,7 +2,7 @@
 use crate::runner::assert_transcript;
 use std::test::Fail;
 
-const CASES: &str = r#"
+const CASES: &[u8] = br#"
 == a strangers guarantee is as an unknown one
 $ pipe --country CH --at 1740819600
 > PUT /office/holders/000001 {"eori":"CH1234567"}

@@ -2,7 +2,7 @@
 use crate::runner::assert_transcript;
 use std::test::Fail;
 
-const CASES: &str = r#"
+const CASES: &[u8] = br#"
 == a repeat is told the same
 # The codes aside, the same is told the same; anything else under the LRN is refused, and neither is a movement.
 $ pipe --country CH --at 1740819600

@@ -2,7 +2,7 @@
 use crate::runner::assert_transcript;
 use std::test::Fail;
 
-const CASES: &str = r#"
+const CASES: &[u8] = br#"
 == a file that was made at version 2 is migrated, and is then as it was
 # Holder 1 has ten guarantees; nine are half in use by movement 1, which has a line on each. Movement 2 is accepted, and
 # movement 3 was cancelled. Day 20148 is 2025-03-01.

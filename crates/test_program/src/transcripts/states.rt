@@ -2,7 +2,7 @@
 use crate::runner::assert_transcript;
 use std::test::Fail;
 
-const CASES: &str = r#"
+const CASES: &[u8] = br#"
 == an accepted movement is released or cancelled alone
 # Moves that are refused change nothing; then come moves that are allowed.
 @ 1740819600 2025-03-01T09:00:00Z

@@ -2,7 +2,7 @@
 use crate::runner::assert_transcript;
 use std::test::Fail;
 
-const CASES: &str = r#"
+const CASES: &[u8] = br#"
 == heads at their limits of bytes and of fields, and past them
 $ pipe --country CH --at 1740819600
 >| GET /

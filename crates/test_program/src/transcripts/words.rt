@@ -2,7 +2,7 @@
 use crate::runner::assert_transcript;
 use std::test::Fail;
 
-const CASES: &str = r#"
+const CASES: &[u8] = br#"
 == what was wrong is told
 $
 ! 2 error: 'transit-desk' requires a subcommand but one was not provided [subcommands: serve, pipe, batch, acts, report, check, migrate, help]
