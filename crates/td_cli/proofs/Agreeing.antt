@@ -9,7 +9,7 @@ use Rattle.td_http.proofs.Alike.{tell_alike}
 use Rattle.td_http.specs.ConnectionLaws.{TellAlikeOver}
 use Rattle.td_http.specs.Private.{IsServedOver}
 use Rattle.td_http.proofs.ConnectionsAlike.{tell_alike_over}
-use Rattle.td_cli.specs.Desks.{BeginAlike, fresh_books}
+use Rattle.td_jobs.specs.Desks.{BeginAlike, fresh_books}
 
 -- two streams from contents of one country that have the same of H
 pub streams_alike : (country : List ℕ) (H : ℕ) (one other : Content) (es others : List Exchange) (end other_end : Content) → BeginAlike country H one other

@@ -12,7 +12,8 @@ use Rattle.td_batch.specs.Laws.{stamped_rows}
 use Rattle.td_batch.specs.Runs.{IsRunOf, outcomes_of}
 use Rattle.td_files.specs.Found.{FileSeen, IsClean, over_file}
 use Rattle.td_cli.specs.BatchLaws.{commands_tried, outcomes_tried}
-use Rattle.td_cli.specs.Desks.{BeginsKept, fresh_books}
+use Rattle.td_jobs.specs.Desks.{fresh_books}
+use Rattle.td_cli.specs.Desks.{BeginsKept}
 use Rattle.td_cli.proofs.Desks.{fresh_tied}
 use Rattle.td_cli.proofs.Later.{batch_clean}
 use Rattle.td_cli.proofs.Runs.{begun_country, begun_live, begun_sound}

@@ -6,14 +6,8 @@ use Rattle.sqlite_disk.specs.declared.Disk.{Ghosts}
 use Rattle.td_files.specs.Found.{FileSeen, over_file}
 use Rattle.td_desk.specs.Runs.{IsTied}
 use Rattle.td_desk.proofs.Fresh.{account_fresh}
-use Rattle.http_wire.specs.declared.reply.Reply.{Reply}
-use Rattle.td_http.specs.Serving.{desk_of, IsHeadHandledBy}
-use Rattle.td_http.specs.declared.service.Service.{Service}
-use Rattle.td_cli.specs.Desks.{BeginsKept, BeginsMade, IsHeadHandledAt, IsReady, fresh_books}
-
-pub head_served : {D : Type 0} (old : Service D) (target : List ℕ) (reply : Reply) (new : Service D) → IsHeadHandledBy old target reply new
-    → IsHeadHandledAt (desk_of old) target reply (desk_of new)
-head_served old target reply new is = record { stays = is.stays; told = is.told }
+use Rattle.td_jobs.specs.Desks.{IsReady, fresh_books}
+use Rattle.td_cli.specs.Desks.{BeginsKept, BeginsMade}
 
 -- a content is tied to fresh books
 pub fresh_tied : (c : Content) → IsTied c (fresh_books c)

@@ -25,7 +25,7 @@ use Rattle.td_batch.proofs.AgainAtDesk.{clean_back}
 use Rattle.td_batch.proofs.Told.{machine_book-parts}
 use Rattle.td_files.specs.Found.{FileSeen, IsClean, over_file}
 use Rattle.td_cli.specs.BatchLaws.{HasFailedAmong, TriedRow}
-use Rattle.td_cli.specs.Desks.{fresh_books}
+use Rattle.td_jobs.specs.Desks.{fresh_books}
 use Rattle.td_cli.specs.Runs.{IsRun, OpensAfterCrash}
 use Rattle.td_cli.proofs.Desks.{fresh_tied}
 use Rattle.td_cli.proofs.KeptRows.{keeps_rows}

@@ -14,7 +14,8 @@ use Rattle.td_http.specs.Serving.{IsServed}
 use Rattle.td_http.proofs.Kept.{Keeps, keeps_first}
 use Rattle.td_http.proofs.Private.{served_both, served_nothing, served_over}
 use Rattle.td_files.specs.Found.{FileSeen, IsClean, content_in, over_file}
-use Rattle.td_cli.specs.Desks.{BeginsIn, IsHeadHandledAt}
+use Rattle.td_jobs.specs.Desks.{IsHeadHandledAt}
+use Rattle.td_cli.specs.Desks.{BeginsIn}
 use Rattle.td_cli.specs.Runs.{GoesOnFrom, IsRun}
 
 -- what parts with the rest of a stream leaves the desk as it is

@@ -1,4 +1,4 @@
--- A file of rows, done at a desk.
+-- A file of rows, done at a desk, and what was told of it.
 use Rattle.std.specs.Prelude.{◌≡◌, ◌⊎◌, ℕ, ℤ, Bool, List, ◌++◌, codes, Option, Some, None, Result, Ok, Err, if◌then◌else◌}
 use Rattle.std.specs.Fmt.{decimal}
 use Rattle.std.specs.Io.KnownBytes.{Appends}
@@ -8,50 +8,21 @@ use Rattle.counted_io.specs.Counted.{known_bytes}
 use Rattle.counted_io.specs.Chains.{IsCutShort}
 use Rattle.sqlite_disk.specs.declared.Disk.{Ghosts}
 use Rattle.td_commands.specs.declared.command.Command.{Command}
-use Rattle.td_commands.specs.declared.said.Said.{Said}
 use Rattle.td_desk.specs.declared.fault.Fault.{Fault}
 use Rattle.td_desk.specs.declared.fault.Fault.TheVariants as fault
-use Rattle.td_desk.specs.View.{DeskView}
 use Rattle.td_files.specs.Found.{FileSeen}
 use Rattle.td_files.specs.declared.desks.DeskFault.{DeskFault}
 use Rattle.td_batch.specs.declared.fault.BatchFault.{BatchFault}
 use Rattle.td_batch.specs.declared.fault.BatchFault.TheVariants as batch
 use Rattle.td_batch.specs.declared.running.BatchRun.{BatchRun}
-use Rattle.td_batch.specs.Acts.{acts_in}
-use Rattle.td_batch.specs.Declarations.{declarations_in}
-use Rattle.td_batch.specs.Results.{act_result, acts_header, declaration_result, declarations_header}
-use Rattle.td_batch.specs.Rows.{Place, Tells}
-use Rattle.td_batch.specs.Runs.{IsRunOf, has_refusal}
+use Rattle.td_batch.specs.Rows.{Tells}
+use Rattle.td_batch.specs.Runs.{has_refusal}
 use Rattle.td_words.specs.declared.words.BatchKind.{BatchKind}
-use Rattle.td_words.specs.declared.words.BatchKind.TheVariants as kind
 use Rattle.td_words.specs.declared.words.Records.{Records}
+use Rattle.td_jobs.specs.Batched.{HasDoneRows, rows_in}
+use Rattle.td_jobs.specs.Desks.{IsMoment}
 use Rattle.td_cli.specs.AtDesk.{AtDesk}
-use Rattle.td_cli.specs.declared.batching.Rows.{Rows}
-use Rattle.td_cli.specs.declared.batching.Rows.TheVariants as rows
-use Rattle.td_cli.specs.Desks.{IsMoment}
 use Rattle.td_cli.specs.Statuses.{IsFaultTold, IsTold}
-
--- the rows that bytes are, or the first bad row and column
-abbrev pub rows_in : BatchKind → List ℕ → Result (List Command) Place
-rows_in kind.Declarations bytes = declarations_in bytes
-rows_in kind.Acts bytes = acts_in bytes
-
--- a result row, and the header above it
-abbrev pub line_of : BatchKind → Command → Said → List ℕ
-line_of kind.Declarations = declaration_result
-line_of kind.Acts = act_result
-
-abbrev pub header_of : BatchKind → List ℕ
-header_of kind.Declarations = declarations_header
-header_of kind.Acts = acts_header
-
-abbrev pub kind_of : Rows → BatchKind
-kind_of (rows.Declarations all) = kind.Declarations
-kind_of (rows.Acts all) = kind.Acts
-
-abbrev pub commands_of : Rows → List Command
-commands_of (rows.Declarations all) = all.items
-commands_of (rows.Acts all) = all.items
 
 -- the message where no rows were read
 abbrev pub message_of_batch_fault : BatchFault → List ℕ
@@ -85,18 +56,6 @@ abbrev pub IsRunTold : {W E : Type 0} → (W → Option (List ℕ)) → (E → O
     → Counted E → Counted E → ℕ → Type 0
 IsRunTold contents said r out out_left errors errors_left status =
     IsTextTold contents said r.text.items (has_refusal r) r.stopped out out_left errors errors_left status
-
--- Rows were done, all at one moment, which the clock showed as it was asked once, at a desk that is seen so, and began and ended so.
-pub record HasDoneRows {D C : Type 0} (view : DeskView D) (begins ends : D → Type 0) (ticks : C → ℤ → C → Type 0)
-    (which : BatchKind) (commands : List Command) (clock : C) (r : BatchRun) : Type 0 where
-  pub opened : D
-  pub left : D
-  pub clock_left : C
-  pub moment : ℤ
-  pub begun : begins opened
-  pub ended : ends left
-  pub asked : ticks clock moment clock_left
-  pub ran : IsRunOf view (λ _ _ _. Unit {0}) (line_of which) (header_of which) moment commands r opened left
 
 -- what a run left was told; or there was no desk for it, for this fault, which was told, and nothing was printed
 abbrev pub IsBatchTold : {W E : Type 0} → (W → Option (List ℕ)) → (E → Option (List ℕ)) → Result BatchRun DeskFault

@@ -1,12 +1,7 @@
 pub mod Statuses
 pub mod Desks
 pub mod AtDesk
-pub mod Piped
-pub mod Listening
-pub mod StreamsSeen
-pub mod ConnectionsSeen
 pub mod Batched
-pub mod RowsSeen
 pub mod Migrated
 pub mod Reported
 pub mod Performed

@@ -17,15 +17,36 @@ use Rattle.td_words.specs.declared.words.Records.TheVariants.{File}
 use Rattle.td_words.specs.declared.words.Task.{Task}
 use Rattle.td_words.specs.declared.words.Task.TheVariants.{Serve, Pipe, Batch, Report, Check}
 use Rattle.td_words.specs.Words.{AsksFor, IsNoJob}
-use Rattle.td_cli.specs.declared.serving.ServingEnd.{ServingEnd}
+use Rattle.td_jobs.specs.declared.serving.ServingEnd.{ServingEnd}
+use Rattle.td_jobs.specs.Desks.{IsUnserved}
+use Rattle.td_jobs.specs.Jobs.{IsUntouched}
+use Rattle.td_jobs.specs.Listening.{ServesAt}
+use Rattle.td_jobs.specs.Piped.{IsPipedAt}
 use Rattle.td_cli.specs.AtDesk as desks
 use Rattle.td_cli.specs.Batched.{IsBatched}
-use Rattle.td_cli.specs.Desks.{IsUnserved}
 use Rattle.td_cli.specs.Migrated.{IsMigrated}
-use Rattle.td_cli.specs.Piped.{PipesAs}
-use Rattle.td_cli.specs.Listening.{IsServing}
 use Rattle.td_cli.specs.Reported.{IsReportDone}
 use Rattle.td_cli.specs.Statuses.{IsAnswered, IsEndTold, IsFaultTold, IsPrinted, IsServingTold, IsTold}
+
+-- What a job leaves that serves one stream at a desk whose records stand there, in this country and at this moment or by
+-- the machine's clock: where there was a desk, the stream was served.
+abbrev pub PipesAs : {R W S : Type 0} {disk : Ghosts S} → (R → Option (List ℕ)) → (W → Option (List ℕ)) → Image → List ℕ → Option ℤ
+    → Records → Counted R → Counted R → Counted W → Counted W → Option (FileSeen disk) → Option (FileSeen disk)
+    → Result StreamEnd DeskFault → Type 0
+PipesAs remaining contents image country at records reader reader_left writer writer_left before file end =
+    desks.AtDesk image country records
+    (λ D view begins ends end. IsPipedAt view begins ends remaining contents at reader reader_left writer writer_left end)
+    (IsUntouched reader reader_left writer writer_left) before file end
+
+-- What a serving leaves at a desk whose records stand there, in this country and at this moment or by the machine's clock:
+-- the input isn't read, and where there was a desk, this is said of how the serving ended.
+abbrev pub IsServing : {R W S : Type 0} {disk : Ghosts S} → (W → Option (List ℕ)) → Image → List ℕ → Option ℤ → Records → ℕ → ℕ
+    → Counted R → Counted R → Counted W → Counted W → Option (FileSeen disk) → Option (FileSeen disk)
+    → Result ServingEnd DeskFault → Type 0
+IsServing contents image country at records port connections reader reader_left writer writer_left before file end =
+    desks.AtDesk image country records
+    (λ D view begins ends end. (reader_left ≡ reader) × ServesAt view begins ends contents at port connections writer writer_left end)
+    (IsUntouched reader reader_left writer writer_left) before file end
 
 -- what was found was told: sound where a desk was opened, or why there was none
 abbrev pub IsCheckTold : {W E : Type 0} → (W → Option (List ℕ)) → (E → Option (List ℕ)) → Result (Unit {0}) DeskFault

@@ -8,8 +8,8 @@ use Rattle.counted_io.specs.Chains.{IsCutShort}
 use Rattle.td_files.specs.Faults as refused
 use Rattle.td_files.specs.declared.desks.DeskFault.{DeskFault}
 use Rattle.td_files.specs.declared.desks.DeskFault.TheVariants as desk
-use Rattle.td_cli.specs.declared.serving.ServingEnd.{ServingEnd}
-use Rattle.td_cli.specs.declared.serving.ServingEnd.TheVariants as serving
+use Rattle.td_jobs.specs.declared.serving.ServingEnd.{ServingEnd}
+use Rattle.td_jobs.specs.declared.serving.ServingEnd.TheVariants as serving
 use Rattle.td_words.specs.declared.words.NoJob.{NoJob}
 use Rattle.td_words.specs.declared.words.NoJob.TheVariants.{Help, Wrong, NoMemory}
 use Rattle.http_wire.specs.declared.stream.StreamEnd.{StreamEnd}

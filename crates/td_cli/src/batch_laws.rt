@@ -12,8 +12,9 @@ ghost use Rattle.td_batch.specs.Runs.{IsBatchDone, IsRunOf, outcomes_of, tried};
 ghost use Rattle.td_files.specs.Found.{FileSeen, IsClean, over_file};
 ghost use Rattle.td_words.specs.declared.words.BatchKind.{BatchKind};
 ghost use Rattle.td_cli.specs.BatchLaws.{IsAnsweredAfterCrash, IsKeptBetweenRows, TellAlikeByRows, TriedRow, commands_tried, outcomes_tried};
-ghost use Rattle.td_cli.specs.Batched.{HasDoneRows, header_of, line_of};
-ghost use Rattle.td_cli.specs.Desks.{BeginAlike, BeginsKept, IsMoment, fresh_books};
+ghost use Rattle.td_jobs.specs.Batched.{HasDoneRows, header_of, line_of};
+ghost use Rattle.td_jobs.specs.Desks.{BeginAlike, IsMoment, fresh_books};
+ghost use Rattle.td_cli.specs.Desks.{BeginsKept};
 ghost use Rattle.td_cli.specs.Runs.{GoesOnFrom, IsRun, OpensAfterCrash};
 
 use sqlite_disk::Disk;

@@ -1,81 +1,21 @@
 //! Batches: a file of rows, done at a desk.
-ghost use Rattle.std.specs.Prelude.{◌≡◌, ◌⊎◌, Ok, IfErr, IfOk, codes, string_bytes};
+ghost use Rattle.std.specs.Prelude.{◌≡◌, ◌⊎◌, IfOk, codes, string_bytes};
 ghost use Rattle.sqlite.specs.WalFiles.{image_at};
-ghost use Rattle.td_batch.specs.Rows.{Tells};
-ghost use Rattle.td_batch.specs.Runs.{IsRunOf};
-ghost use Rattle.td_cli.specs.AtDesk.{IsUntouched};
-ghost use Rattle.td_cli.specs.Batched.{HasDoneRows, IsBatchAtDesk, IsBatchFaultTold, IsBatchTold, IsBatched, IsRunTold, commands_of, header_of, kind_of, line_of, message_of_batch_fault, message_of_stop, rows_in};
-ghost use Rattle.td_cli.specs.RowsSeen.{rows_seen};
+ghost use Rattle.td_jobs.specs.Batched.{commands_of, kind_of};
+ghost use Rattle.td_cli.specs.Batched.{IsBatchAtDesk, IsBatchFaultTold, IsBatchTold, IsBatched, IsRunTold, message_of_batch_fault, message_of_stop};
 
-use crate::at_desk::{DeskJob, at_desk};
+use crate::at_desk::at_desk;
 use crate::telling::{DONE, FAULT, NO_MEMORY, fault, tell_desk_fault};
 use sqlite::Start;
 use std::alloc::{AllocError, Global};
 use std::io::{ErrorKind, Read, Write};
 use std::{fs, io};
 use td_base::{Counted, write_whole};
-use td_batch::{
-    ActRow, BatchFault, BatchRun, DeclarationRow, read_acts, read_declarations, run_acts,
-    run_declarations,
-};
-use td_desk::{Desk, Fault};
+use td_batch::{BatchFault, BatchRun};
+use td_desk::Fault;
 use td_files::{DeskFault, DeskFile};
-use td_http::Clock;
+use td_jobs::Rows;
 use td_words::{BatchKind, Office, Records};
-
-/// The rows of a file.
-#[derive(Drop)]
-enum Rows {
-    Declarations(Vec<DeclarationRow>),
-    Acts(Vec<ActRow>),
-}
-
-impl Rows {
-    fn read(alloc: Global, kind: BatchKind, bytes: &[u8]) -> Result<Rows, BatchFault>
-        ensures rows { IfOk result (λ rows. (kind_of rows ≡ kind) × (rows_in kind bytes.now ≡ Ok (commands_of rows))) }
-        ensures bad { IfErr result (Tells (rows_in kind bytes.now)) }
-    {
-        match kind {
-            BatchKind::Declarations => Ok(Rows::Declarations(read_declarations(alloc, bytes)?)),
-            BatchKind::Acts => Ok(Rows::Acts(read_acts(alloc, bytes)?)),
-        }
-    }
-
-    fn run<D: Desk>(&self, alloc: Global, desk: &mut D, at: i64) -> BatchRun
-        ensures { IsRunOf D.seen D.called (line_of (kind_of self.now)) (header_of (kind_of self.now)) at (commands_of self.now)
-            result desk.old desk.new }
-    {
-        match self {
-            Rows::Declarations(rows) => run_declarations(alloc, desk, at, rows),
-            Rows::Acts(rows) => run_acts(alloc, desk, at, rows),
-        }
-    }
-}
-
-/// The job that does rows at one moment, for which the clock is asked once, and answers what became of them. It reads and
-/// prints nothing: what is printed of them is in its answer.
-impl DeskJob for Rows {
-    type End = BatchRun;
-
-    ghost does = { λ D R W C view begins ends remaining contents ticks job reader reader_left writer writer_left clock run.
-        IsUntouched reader reader_left writer writer_left
-        × HasDoneRows view begins ends ticks (kind_of job) (commands_of job) clock run };
-
-    ghost seen = { λ D D' R W C C' view see begins ends begins' ends' remaining contents ticks moments look job reader reader_left writer writer_left clock run begin close shows does.
-        (does.0, rows_seen view see begins ends begins' ends' ticks moments look (kind_of job) (commands_of job) clock run begin close shows does.1) };
-
-    fn on<D: Desk, C: Clock + Drop, R: Read, W: Write>(
-        &self,
-        rt: &HostRuntime,
-        mut desk: D,
-        mut clock: C,
-        _input: &mut Counted<R>,
-        _out: &mut Counted<W>,
-    ) -> (BatchRun, D) {
-        let run = self.run(rt.alloc(), &mut desk, clock.seconds());
-        (run, desk)
-    }
-}
 
 /// Does the rows of the file at the path `csv` at a desk of the office whose records stand there, prints what became of
 /// each, and gives the status. The desk's file isn't opened where the rows can't be read. The input isn't read.

@@ -1,45 +1,17 @@
 //! Whether there is a desk where records stand.
 ghost use Rattle.std.specs.Prelude.{◌≡◌};
 ghost use Rattle.sqlite.specs.WalFiles.{image_at};
-ghost use Rattle.td_cli.specs.AtDesk.{IsUntouched};
-ghost use Rattle.td_cli.specs.ConnectionsSeen.{unserved_seen};
-ghost use Rattle.td_cli.specs.Desks.{IsUnserved};
 ghost use Rattle.td_cli.specs.Performed.{IsCheckTold, IsChecked};
 
-use crate::at_desk::{DeskJob, at_desk};
+use crate::at_desk::at_desk;
 use crate::telling::{print, tell_desk_fault};
 use sqlite::Start;
 use std::alloc::Global;
 use std::io::{Read, Write};
 use td_base::Counted;
-use td_desk::Desk;
 use td_files::{DeskFault, DeskFile};
-use td_http::Clock;
+use td_jobs::Checking;
 use td_words::{Office, Records};
-
-/// The job that leaves a desk as it was opened. It reads and prints nothing, and asks no clock.
-struct Checking;
-
-impl DeskJob for Checking {
-    type End = ();
-
-    ghost does = { λ D R W C view begins ends remaining contents ticks job reader reader_left writer writer_left clock opened.
-        IsUntouched reader reader_left writer writer_left × IsUnserved begins ends };
-
-    ghost seen = { λ D D' R W C C' view see begins ends begins' ends' remaining contents ticks moments look job reader reader_left writer writer_left clock opened begin close shows does.
-        (does.0, unserved_seen see begins ends begins' ends' begin close does.1) };
-
-    fn on<D: Desk, C: Clock + Drop, R: Read, W: Write>(
-        &self,
-        _rt: &HostRuntime,
-        desk: D,
-        _clock: C,
-        _input: &mut Counted<R>,
-        _out: &mut Counted<W>,
-    ) -> ((), D) {
-        ((), desk)
-    }
-}
 
 /// Tells whether a desk of the office can be opened where the records stand, and gives the status. The input isn't read.
 pub(crate) fn check<S: Start, R: Read, W: Write, E: Write>(

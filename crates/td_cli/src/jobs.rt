@@ -8,13 +8,13 @@ use crate::at_desk::at_desk;
 use crate::batching::batch;
 use crate::checking::check;
 use crate::migrating::migrate;
-use crate::piping::Piping;
 use crate::reporting::report;
 use crate::telling::{WRONG_WORDS, fault, print, tell_end, tell_serving};
 use sqlite::Start;
 use std::io::{Read, Write};
 use td_base::{Counted, write_whole};
 use td_files::DeskFile;
+use td_jobs::Piping;
 use td_words::{Job, NoJob, Office, Records, Task, read_words};
 
 /// Does what the words ask for, and gives the program's status. The first word is the program's name; replies

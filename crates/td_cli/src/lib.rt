@@ -6,22 +6,18 @@ mod at_desk;
 mod batch_laws;
 mod batching;
 mod checking;
-mod clock;
 mod jobs;
 mod laws;
 mod migrating;
-mod piping;
 mod program;
 mod reporting;
 mod run_laws;
-mod serving;
 mod telling;
 
 pub use batch_laws::{
     a_batch_cut_short_is_sent_again, acknowledged_rows_are_kept_in_the_file,
     agreeing_batches_over_files_tell_the_same, runs_over_one_file_lead_on,
 };
-pub use clock::{FixedClock, MachineClock};
 pub use jobs::perform;
 pub use laws::{
     agreeing_jobs_over_files_tell_the_same, agreeing_jobs_tell_the_same,
@@ -33,3 +29,4 @@ pub use run_laws::{
     runs_over_one_file_are_one_run,
 };
 pub use td_files::DeskFile;
+pub use td_jobs::{FixedClock, MachineClock};

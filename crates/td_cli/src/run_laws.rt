@@ -11,9 +11,10 @@ ghost use Rattle.td_http.specs.ConnectionLaws.{TellAlikeOver};
 ghost use Rattle.td_http.specs.Connections.{SocketConnection, beside};
 ghost use Rattle.td_http.specs.Kept.{IsKeptBetween};
 ghost use Rattle.td_http.specs.KeptOver.{IsKeptWithin};
-ghost use Rattle.td_cli.specs.Desks.{BeginAlike, BeginsIn, IsHeadHandledAt, IsMoment, fresh_books};
-ghost use Rattle.td_cli.specs.Listening.{HasServed};
-ghost use Rattle.td_cli.specs.Piped.{IsPipedAt};
+ghost use Rattle.td_jobs.specs.Desks.{BeginAlike, IsHeadHandledAt, IsMoment, fresh_books};
+ghost use Rattle.td_cli.specs.Desks.{BeginsIn};
+ghost use Rattle.td_jobs.specs.Listening.{HasServed};
+ghost use Rattle.td_jobs.specs.Piped.{IsPipedAt};
 ghost use Rattle.td_cli.specs.Runs.{GoesOnFrom, IsRun};
 
 use sqlite_disk::Disk;

@@ -4,13 +4,13 @@ ghost use Rattle.td_files.specs.declared.desks.DeskFault.TheVariants as desk_fau
 ghost use Rattle.td_cli.specs.Performed.{IsUnread};
 ghost use Rattle.td_cli.specs.Statuses.{message_of_end, message_of_fault, message_of_serving, status_of_end, status_of_serving, IsEndTold, IsFaultTold, IsPrinted, IsServingTold, IsTold};
 
-use crate::serving::ServingEnd;
 use std::alloc::{AllocError, Global};
 use std::io;
 use std::io::{ErrorKind, Write};
 use td_base::{Counted, write_whole};
 use td_files::{DeskFault, OpenFault};
 use td_http::StreamEnd;
+use td_jobs::ServingEnd;
 
 /// The status of a job that is done.
 pub(crate) const DONE: u8 = 0;

@@ -2,7 +2,7 @@ use Rattle.std.proofs.Common.{◌≡◌, subst, sym}
 use Rattle.sqlite.specs.WalFiles.{image_at}
 use Rattle.td_files.specs.Found.{over_file}
 use Rattle.td_cli.specs.Desks.{BeginsKept, BeginsMade}
-use Rattle.td_cli.proofs.Clocks.{shows_itself}
+use Rattle.td_jobs.proofs.Clocks.{shows_itself}
 use Rattle.td_cli.proofs.Desks.{kept_ready, made_ready}
 use Rattle.td_cli.proofs.at_desk.at_desk.Goals as goal
 

@@ -1,7 +1,7 @@
 use Rattle.std.proofs.Common.{false}
 use Rattle.td_files.specs.Found.{over_file}
 use Rattle.td_batch.proofs.AgainAtDesk.{clean_back}
-use Rattle.td_cli.specs.Desks.{fresh_books}
+use Rattle.td_jobs.specs.Desks.{fresh_books}
 use Rattle.td_cli.proofs.Desks.{fresh_tied}
 use Rattle.td_cli.proofs.Runs.{begun_country, begun_sound}
 use Rattle.td_cli.proofs.SentAgain.{answered_after_crash}

@@ -1,10 +1,10 @@
-use Rattle.std.proofs.Common.{ap, false, subst, sym}
+use Rattle.std.proofs.Common.{ap, subst, sym}
 use Rattle.td_model.specs.Book.{fresh_book}
 use Rattle.td_desk.proofs.Agreeing.{heard_alike, told_alike}
 use Rattle.td_files.specs.Found.{IsClean, over_file}
-use Rattle.td_cli.specs.Batched.{header_of, line_of}
+use Rattle.td_jobs.specs.Batched.{header_of, line_of}
 use Rattle.td_cli.specs.BatchLaws.{commands_tried, outcomes_tried}
-use Rattle.td_cli.specs.Desks.{fresh_books}
+use Rattle.td_jobs.specs.Desks.{fresh_books}
 use Rattle.td_cli.proofs.BatchesAlike.{from_opened}
 use Rattle.td_cli.proofs.batch_laws.agreeing_batches_over_files_tell_the_same.Goals as goal
 

@@ -2,7 +2,7 @@ use Rattle.std.proofs.Common.{false, subst}
 use Rattle.td_files.specs.Found.{over_file}
 use Rattle.td_batch.specs.Laws.{IsLater}
 use Rattle.td_batch.proofs.AgainAtDesk.{clean_back}
-use Rattle.td_cli.specs.Batched.{header_of, line_of}
+use Rattle.td_jobs.specs.Batched.{header_of, line_of}
 use Rattle.td_cli.proofs.Later.{as_late, batch_clean, later_by_batch, later_by_crash, later_by_streams, later_still, opened_after_crash}
 use Rattle.td_cli.proofs.Runs.{begun_country, begun_keeps, begun_live, begun_sound, found_left}
 use Rattle.td_cli.proofs.batch_laws.runs_over_one_file_lead_on.Goals as goal

@@ -1,5 +1,5 @@
 use Rattle.std.proofs.Common.{inr}
-use Rattle.td_cli.specs.Batched.{commands_of}
+use Rattle.td_jobs.specs.Batched.{commands_of}
 use Rattle.td_cli.proofs.batching.batch.Goals as goal
 
 pub returns-in-Ok-read-clause-done : goal.returns-in-Ok-read-clause-done

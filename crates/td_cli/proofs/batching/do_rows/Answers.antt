@@ -1,7 +1,7 @@
 use Rattle.sqlite.specs.WalFiles.{image_at}
-use Rattle.td_cli.specs.AtDesk.{IsUntouched}
-use Rattle.td_cli.specs.Batched.{HasDoneRows, commands_of, kind_of}
-use Rattle.td_cli.specs.Desks.{IsMoment}
+use Rattle.td_jobs.specs.Jobs.{IsUntouched}
+use Rattle.td_jobs.specs.Batched.{HasDoneRows, commands_of, kind_of}
+use Rattle.td_jobs.specs.Desks.{IsMoment}
 use Rattle.td_cli.proofs.LeftAtDesks.{left_alone}
 use Rattle.td_cli.proofs.batching.do_rows.Goals as goal
 

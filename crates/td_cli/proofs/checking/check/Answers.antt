@@ -1,6 +1,6 @@
 use Rattle.sqlite.specs.WalFiles.{image_at}
-use Rattle.td_cli.specs.AtDesk.{IsUntouched}
-use Rattle.td_cli.specs.Desks.{IsUnserved}
+use Rattle.td_jobs.specs.Jobs.{IsUntouched}
+use Rattle.td_jobs.specs.Desks.{IsUnserved}
 use Rattle.td_cli.proofs.LeftAtDesks.{left_alone}
 use Rattle.td_cli.proofs.checking.check.Goals as goal
 

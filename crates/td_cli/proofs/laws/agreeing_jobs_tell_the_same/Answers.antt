@@ -1,4 +1,4 @@
-use Rattle.td_cli.specs.Desks.{fresh_books}
+use Rattle.td_jobs.specs.Desks.{fresh_books}
 use Rattle.td_cli.proofs.Desks.{fresh_tied}
 use Rattle.td_cli.proofs.Agreeing.{empty_alike, streams_alike}
 use Rattle.td_cli.proofs.laws.agreeing_jobs_tell_the_same.Goals as goal

@@ -1,6 +1,6 @@
 use Rattle.std.proofs.Common.{map, subst, sym}
 use Rattle.td_files.specs.Found.{IsClean, over_file}
-use Rattle.td_cli.specs.Desks.{fresh_books}
+use Rattle.td_jobs.specs.Desks.{fresh_books}
 use Rattle.td_cli.proofs.Desks.{fresh_tied}
 use Rattle.td_cli.proofs.Agreeing.{lists_alike}
 use Rattle.td_cli.proofs.laws.agreeing_servings_over_files_tell_the_same.Goals as goal

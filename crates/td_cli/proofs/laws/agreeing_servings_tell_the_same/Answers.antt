@@ -1,5 +1,5 @@
 use Rattle.std.proofs.Common.{map}
-use Rattle.td_cli.specs.Desks.{fresh_books}
+use Rattle.td_jobs.specs.Desks.{fresh_books}
 use Rattle.td_cli.proofs.Desks.{fresh_tied}
 use Rattle.td_cli.proofs.Agreeing.{empty_alike, lists_alike}
 use Rattle.td_cli.proofs.laws.agreeing_servings_tell_the_same.Goals as goal

@@ -2,7 +2,7 @@ use Rattle.std.proofs.Common.{None, length, subst, sym}
 use Rattle.td_files.specs.Found.{IsClean, over_file}
 use Rattle.td_http.specs.Connections.{beside}
 use Rattle.td_http.proofs.KeptOver.{kept_within, last_is}
-use Rattle.td_cli.specs.Desks.{IsHeadHandledAt, IsMoment, fresh_books}
+use Rattle.td_jobs.specs.Desks.{IsHeadHandledAt, IsMoment, fresh_books}
 use Rattle.td_cli.proofs.Desks.{fresh_tied}
 use Rattle.td_cli.proofs.Runs.{begun_keeps}
 use Rattle.td_cli.proofs.run_laws.acknowledged_connections_are_kept_in_the_file.Goals as goal

@@ -1,7 +1,7 @@
 use Rattle.std.proofs.Common.{subst, sym}
 use Rattle.td_files.specs.Found.{IsClean, over_file}
 use Rattle.td_http.proofs.Kept.{kept_between}
-use Rattle.td_cli.specs.Desks.{IsMoment, fresh_books}
+use Rattle.td_jobs.specs.Desks.{IsMoment, fresh_books}
 use Rattle.td_cli.proofs.Desks.{fresh_tied}
 use Rattle.td_cli.proofs.Runs.{begun_keeps, ending_same}
 use Rattle.td_cli.proofs.run_laws.acknowledged_replies_are_kept_in_the_file.Goals as goal

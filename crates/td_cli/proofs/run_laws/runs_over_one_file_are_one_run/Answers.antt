@@ -3,7 +3,7 @@ use Rattle.std.specs.Prelude.{IsTrue}
 use Rattle.sqlite.specs.Files.{file_state}
 use Rattle.td_files.specs.Found.{IsClean, over_file}
 use Rattle.td_http.specs.Private.{IsServedOver}
-use Rattle.td_cli.specs.Desks.{fresh_books}
+use Rattle.td_jobs.specs.Desks.{fresh_books}
 use Rattle.td_cli.proofs.Agreeing.{lists_alike}
 use Rattle.td_cli.proofs.Desks.{fresh_tied}
 use Rattle.td_cli.proofs.Runs.{one_stream, run_of, runs_joined}

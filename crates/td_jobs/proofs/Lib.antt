@@ -1,0 +1,4 @@
+pub mod Clocks
+mod Desks
+mod Pipes
+mod ServedConnections

@@ -1,0 +1,49 @@
+-- The rows of a file, done at a desk.
+use Rattle.std.specs.Prelude.{ℕ, ℤ, List, Result}
+use Rattle.td_commands.specs.declared.command.Command.{Command}
+use Rattle.td_commands.specs.declared.said.Said.{Said}
+use Rattle.td_desk.specs.View.{DeskView}
+use Rattle.td_batch.specs.declared.running.BatchRun.{BatchRun}
+use Rattle.td_batch.specs.Acts.{acts_in}
+use Rattle.td_batch.specs.Declarations.{declarations_in}
+use Rattle.td_batch.specs.Results.{act_result, acts_header, declaration_result, declarations_header}
+use Rattle.td_batch.specs.Rows.{Place}
+use Rattle.td_batch.specs.Runs.{IsRunOf}
+use Rattle.td_words.specs.declared.words.BatchKind.{BatchKind}
+use Rattle.td_words.specs.declared.words.BatchKind.TheVariants as kind
+use Rattle.td_jobs.specs.declared.rows.Rows.{Rows}
+use Rattle.td_jobs.specs.declared.rows.Rows.TheVariants as rows
+
+-- the rows that bytes are, or the first bad row and column
+abbrev pub rows_in : BatchKind → List ℕ → Result (List Command) Place
+rows_in kind.Declarations bytes = declarations_in bytes
+rows_in kind.Acts bytes = acts_in bytes
+
+-- a result row, and the header above it
+abbrev pub line_of : BatchKind → Command → Said → List ℕ
+line_of kind.Declarations = declaration_result
+line_of kind.Acts = act_result
+
+abbrev pub header_of : BatchKind → List ℕ
+header_of kind.Declarations = declarations_header
+header_of kind.Acts = acts_header
+
+abbrev pub kind_of : Rows → BatchKind
+kind_of (rows.Declarations all) = kind.Declarations
+kind_of (rows.Acts all) = kind.Acts
+
+abbrev pub commands_of : Rows → List Command
+commands_of (rows.Declarations all) = all.items
+commands_of (rows.Acts all) = all.items
+
+-- Rows were done, all at one moment, which the clock showed as it was asked once, at a desk that is seen so, and began and ended so.
+pub record HasDoneRows {D C : Type 0} (view : DeskView D) (begins ends : D → Type 0) (ticks : C → ℤ → C → Type 0)
+    (which : BatchKind) (commands : List Command) (clock : C) (r : BatchRun) : Type 0 where
+  pub opened : D
+  pub left : D
+  pub clock_left : C
+  pub moment : ℤ
+  pub begun : begins opened
+  pub ended : ends left
+  pub asked : ticks clock moment clock_left
+  pub ran : IsRunOf view (λ _ _ _. Unit {0}) (line_of which) (header_of which) moment commands r opened left

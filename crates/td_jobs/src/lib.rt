@@ -1,0 +1,17 @@
+//! The jobs that are done at any desk: one stream, connections to a port, the rows of a batch, or nothing at all; at one
+//! moment or by the machine's clock. It knows no file.
+#![tactic(auto)]
+
+mod checking;
+mod clock;
+mod job;
+mod piping;
+mod rows;
+mod serving;
+
+pub use checking::Checking;
+pub use clock::{FixedClock, MachineClock};
+pub use job::{DeskJob, at_moment, in_memory};
+pub use piping::Piping;
+pub use rows::Rows;
+pub use serving::ServingEnd;
