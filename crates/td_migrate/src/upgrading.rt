@@ -1,8 +1,8 @@
 //! A file's version, and a file brought to the newest.
-ghost use Rattle.std.specs.Prelude.{◌≡◌, false, IsTrue, IfErr, OnErr, OnOk};
+ghost use Rattle.std.specs.Prelude.{◌≡◌, false, IsTrue, IfErr, OnErr, OnOk, is_ok};
 ghost use Rattle.sqlite.specs.Held.{state};
 ghost use Rattle.sqlite.specs.State.{HasCleanDisk, Survives};
-ghost use Rattle.td_store.specs.Kept.{CrashLeavesShown};
+ghost use Rattle.typed_sql.specs.Outside.{CrashLeavesShown, Looks};
 ghost use Rattle.td_store.specs.Opened.{IsEarlier, IsOfEarlier, MaySay};
 ghost use Rattle.td_table_model.specs.Tables.{first_version, version_with_amounts};
 ghost use Rattle.td_migrate.specs.Upgraded.{LeavesWithFault, MayLeaveStep, MayLeaveUpgraded, TellsStep, TellsUpgrade, TellsVersion};
@@ -21,13 +21,8 @@ use td_store::{audit, file_version};
 pub fn version<S: Alter>(alloc: Global, conn: &mut Connection<S>) -> Result<u32, MigrateFault>
     requires { conn.old.in_transaction ≡ false }
     ensures ended { conn.new.in_transaction ≡ false }
-    ensures live { HasCleanDisk (state S.Store conn.new) → IsTrue (state S.Store conn.new).is_open → IsTrue (state S.Store conn.old).is_open }
-    ensures shown { HasCleanDisk (state S.Store conn.new)
-        → OnOk result (IsTrue (state S.Store conn.old).is_open × IsTrue (state S.Store conn.new).is_open) }
+    ensures looks { Looks (is_ok result) (state S.Store conn.old) (state S.Store conn.new) }
     ensures told { HasCleanDisk (state S.Store conn.new) → TellsVersion (state S.Store conn.old).now result }
-    ensures same { HasCleanDisk (state S.Store conn.new) → IsTrue (state S.Store conn.new).is_open
-        → (state S.Store conn.new).now ≡ (state S.Store conn.old).now }
-    ensures crash { Survives (state S.Store conn.old) (state S.Store conn.new) (λ _. ⊥) }
 {
     match file_version(alloc, conn) {
         Ok(version) => Ok(version),

@@ -1,5 +1,5 @@
 -- What the calls of a desk over a store's file do to its connection.
-use Rattle.std.proofs.Common.{◌≡◌, ℕ, List, ap, arith}
+use Rattle.std.proofs.Common.{◌≡◌, ℕ, Bool, List, ap, arith}
 use Rattle.std.specs.Prelude.{IsTrue}
 use Rattle.sqlite_trees.specs.declared.store.Store.{Ghosts}
 use Rattle.sqlite_trees.specs.Tree.{Trees}
@@ -13,6 +13,7 @@ use Rattle.td_desk.specs.View.{AddsAtMost}
 use Rattle.td_desk.specs.Weighing.{IsDecision}
 use Rattle.td_store.specs.Kept.{content_in}
 use Rattle.td_store_write.specs.Carried.{CarriesChange, MayLeave}
+use Rattle.typed_sql.specs.Outside.{Looks}
 use Rattle.td_store.specs.Kept.{IsDeskOf, sql_view}
 use Rattle.td_store.proofs.Holding.{decided_there, desk_after, desk_still, there_is, written}
 use Rattle.td_store.proofs.Leaving.{adds}
@@ -22,11 +23,15 @@ pub then_asked : (a b e : State) (P : Trees → Type 0) → Survives a b P → S
 then_asked a b e P failed asked =
     survives_then a b e P (λ _. ⊥) P (λ _ trees may. may) (λ _ trees none. absurd none) failed asked
 
--- a desk's connection is one still after calls that left its database as it was
-pub desk_then : (country : List ℕ) (a b : State) (P : Trees → Type 0) → IsDeskOf country a → Survives a b P
+-- a desk's connection is one still after a call that left its database as it was
+pub desk_left : (country : List ℕ) (a b : State) (P : Trees → Type 0) → IsDeskOf country a → Survives a b P
     → (HasCleanDisk b → IsTrue b.is_open → IsTrue a.is_open) → (HasCleanDisk b → IsTrue b.is_open → b.now ≡ a.now) → IsDeskOf country b
-desk_then country a b P desk survives live same =
+desk_left country a b P desk survives live same =
     desk_still country a b desk (λ clean. omega (arith, clean, survives.clean)) live same
+
+-- and after one that only looked
+pub desk_then : {w : Bool} (country : List ℕ) (a b : State) → IsDeskOf country a → Looks w a b → IsDeskOf country b
+desk_then country a b desk looks = desk_left country a b (λ _. ⊥) desk looks.crash looks.live looks.same
 
 -- a call that carried a change that was decided on
 module _ {S : Type 0} (g : Ghosts S) (country : List ℕ) (change : Change) (old new : Held S) (desk : IsDeskOf country (state g old))

@@ -1,17 +1,16 @@
--- What a visitor was shown of a desk over a file, and what a visit leaves.
+-- What a visitor was shown of a desk over a file.
 use Rattle.std.proofs.Common.{◌≡◌, ℕ, Bool, true, false, List, [], ◌∷◌, ◌++◌, Err, Ok, Result, ap, append-nil, arith, length, map, refl, subst, sym, ◌∙◌, IsPermutation}
 use Rattle.std.proofs.lemmas.Bool.{false≢true}
 use Rattle.std.proofs.lemmas.List.{map-append, map-id}
-use Rattle.std.specs.Prelude.{IfOk, IsTrue, OnOk, is_ok}
+use Rattle.std.specs.Prelude.{IfOk, IsTrue}
 use Rattle.sqlite.specs.declared.error.Error.{Error}
 use Rattle.std.specs.List.{FoldsTo}
 use Rattle.std.specs.List.Sorted.{IsSorted}
 use Rattle.std.specs.declared.cmp.Ordering.{Ordering}
 use Rattle.sqlite_trees.proofs.ListLemmas.{map-map}
 use Rattle.sqlite.specs.Effect.{Database}
-use Rattle.sqlite.specs.Held.{Held, state}
-use Rattle.sqlite.specs.State.{State, HasCleanDisk, Survives}
-use Rattle.sqlite_trees.specs.declared.store.Store.{Ghosts}
+use Rattle.sqlite.specs.Held.{Held}
+use Rattle.sqlite.specs.State.{State, HasCleanDisk}
 use Rattle.td_desk.specs.Content.{Content}
 use Rattle.td_desk.specs.declared.fault.Fault.{Fault}
 use Rattle.td_table_model.specs.Listed.{guarantees_listed, movements_listed, without_codes}
@@ -24,12 +23,9 @@ use Rattle.td_store_rows.specs.KeptTable.{kept_row_of}
 use Rattle.td_store_rows.specs.Visited.{VisitsDeadlines, VisitsKept}
 use Rattle.td_store_rows.specs.declared.guarantees.stored.KeptGuarantee.{KeptGuarantee}
 use Rattle.td_store_rows.specs.declared.movements.stored.MovementDeadlines.{MovementDeadlines}
-use Rattle.td_store.proofs.Calls.{desk_then, then_asked}
 use Rattle.td_store.proofs.Holding.{content_held}
-use Rattle.td_store.proofs.Leaving.{adds_none, counts_faults, leaves_shown}
 use Rattle.td_store.proofs.Listed.{listed_guarantees, listed_movements, said_guarantee, said_movement}
-use Rattle.td_store.specs.Kept.{CountsFaults, CrashLeavesShown, IsDeskOf, content_in, sql_view}
-use Rattle.td_store.specs.Looked.{HasLooked}
+use Rattle.td_store.specs.Kept.{IsDeskOf, content_in}
 use Rattle.td_store.specs.Visits.{IsVisit, said_of_guarantee, shown_of_movement}
 use Rattle.typed_sql.specs.Typed.{AreTyped, typed_rows}
 use Rattle.typed_sql.specs.Visited.{HasVisitedRows, is_whole, step_of}
@@ -135,62 +131,8 @@ module _ {V O : Type 0} (whole : Bool) (old new : V × O) where
         (listed_guarantees (tables_in trees.layout s.now.trees) was.0 trees.sound trees.tables keeps) whole old new result is
         (visits trees.layout keeps was.1.schema (trees.typed.kept keeps)))
 
--- a call that has only looked, and then the question what its error is told as
-module _ {S : Type 0} (g : Ghosts S) (country : List ℕ) (old mid new : Held S) (well : Bool) (desk : IsDeskOf country (state g old))
-    (survives : Survives (state g old) (state g mid) (λ _. ⊥)) (asked : Survives (state g mid) (state g new) (λ _. ⊥))
-    (live : HasCleanDisk (state g mid) → IsTrue (state g mid).is_open → IsTrue (state g old).is_open)
-    (alive : HasCleanDisk (state g new) → IsTrue (state g new).is_open → IsTrue (state g mid).is_open)
-    (same : HasCleanDisk (state g mid) → IsTrue (state g mid).is_open → (state g mid).now ≡ (state g old).now)
-    (still : HasCleanDisk (state g new) → IsTrue (state g new).is_open → (state g new).now ≡ (state g mid).now) where
-  abbrev a : State
-  a = state g old
-
-  abbrev b : State
-  b = state g mid
-
-  abbrev e : State
-  e = state g new
-
-  all_survives : Survives a e (λ _. ⊥)
-  all_survives = then_asked a b e (λ _. ⊥) survives asked
-
-  clean_mid : HasCleanDisk e → HasCleanDisk b
-  clean_mid clean = omega (arith, clean, asked.clean)
-
-  pub was_live : HasCleanDisk e → IsTrue e.is_open → IsTrue a.is_open
-  was_live clean is = live (clean_mid clean) (alive clean is)
-
-  is_same : HasCleanDisk e → IsTrue e.is_open → e.now ≡ a.now
-  is_same clean is = still clean is ∙ same (clean_mid clean) (alive clean is)
-
-  pub desk_looked : IsDeskOf country e
-  desk_looked = desk_then country a e (λ _. ⊥) desk all_survives was_live is_same
-
-  pub faults_counted : CountsFaults a e
-  faults_counted = counts_faults a e (λ _. ⊥) all_survives
-
-  pub has_looked : CrashLeavesShown e → (HasCleanDisk e → IsTrue well → IsTrue a.is_open × IsTrue e.is_open)
-      → HasLooked (sql_view g) well old new
-  has_looked settled shown = record {
-    clean = λ clean. omega (arith, clean, all_survives.clean);
-    live = was_live;
-    shown = shown;
-    same = λ clean is. ap (λ (d : Database). content_in d.trees) (is_same clean is);
-    crash = λ clean. adds_none g old new all_survives clean;
-    settled = λ clean. leaves_shown g new settled (λ is. let it = desk_looked clean is in (it.0, it.1));
-  }
-
--- what was answered well was answered by an open connection, which is as it was; and all was shown that is told to be
-module _ {S : Type 0} (g : Ghosts S) (mid new : Held S) (answer : Result Bool Error) where
-  pub shown_well : (old : State) (r : Result Bool Fault) → IfOk r (λ x. (answer ≡ Ok x) × (new ≡ mid))
-      → (HasCleanDisk (state g mid) → OnOk answer (IsTrue old.is_open × IsTrue (state g mid).is_open))
-      → HasCleanDisk (state g new) → IsTrue (is_ok r) → IsTrue old.is_open × IsTrue (state g new).is_open
-  shown_well old (Ok x) told shown clean well =
-      let clean_mid : HasCleanDisk (state g mid) = subst (λ h. HasCleanDisk (state g h)) told.1 clean in
-      let both : IsTrue old.is_open × IsTrue (state g mid).is_open = subst (λ r. OnOk r (IsTrue old.is_open × IsTrue (state g mid).is_open)) told.0 (shown clean_mid) in
-      (both.0, subst (λ h. IsTrue (state g h).is_open) (sym told.1) both.1)
-  shown_well old (Err e) told shown clean well = absurd (false≢true well)
-
-  pub told_whole : (r : Result Bool Fault) → IfOk r (λ x. (answer ≡ Ok x) × (new ≡ mid)) → r ≡ Ok true → IsTrue (is_whole answer)
-  told_whole (Ok x) told whole = let is : x ≡ true = cc in ap is_whole told.0 ∙ is
-  told_whole (Err e) told whole = cc
+-- all was shown that is told to be
+pub told_whole : {S : Type 0} (mid new : Held S) (answer : Result Bool Error) (result : Result Bool Fault)
+    → IfOk result (λ x. (answer ≡ Ok x) × (new ≡ mid)) → result ≡ Ok true → IsTrue (is_whole answer)
+told_whole mid new answer (Ok x) told whole = let is : x ≡ true = cc in ap is_whole told.0 ∙ is
+told_whole mid new answer (Err e) told whole = cc

@@ -1,5 +1,5 @@
 -- What a desk over a store's file keeps, and what contracts see of it.
-use Rattle.std.specs.Prelude.{◌≡◌, ◌↔◌, ℕ, Bool, true, false, List, IsTrue, codes, filter}
+use Rattle.std.specs.Prelude.{◌≡◌, ℕ, Bool, true, false, List, IsTrue, codes, filter}
 use Rattle.std.specs.List.{list_any}
 use Rattle.std.specs.Str.{bytes_eq}
 use Rattle.sqlite_catalog.specs.Listing.{is_table_row}
@@ -12,11 +12,9 @@ use Rattle.sqlite.specs.State.{State, HasCleanDisk, Survives}
 use Rattle.td_desk.specs.Content.{Content}
 use Rattle.td_desk.specs.View.{DeskView}
 use Rattle.td_table_model.specs.Gathering.{content_of}
-use Rattle.td_schema.specs.Layouts.{IsNewest, schema_of}
 use Rattle.td_schema.specs.declared.layout.Layout.{Layout}
 use Rattle.td_schema.specs.declared.layout.Layout.TheVariants.{Grown2, Grown3From1, Grown3From2, Made1, Made2, Made3}
 use Rattle.typed_sql.specs.Values.{text_in}
-use Rattle.typed_sql.specs.Writing.{HasSchema}
 use Rattle.td_store_rows.specs.StoreTables.{AreTreesOf, HoldsContent, tables_in}
 
 -- the trees list a table of this name
@@ -42,19 +40,10 @@ layout_in trees =
 abbrev pub content_in : Trees → Content
 content_in trees = content_of (tables_in (layout_in trees) trees)
 
--- as far as the connection is open, it is to a file whose tables are those of a layout of the newest version
-abbrev pub HasNewestTables : State → Type 0
-HasNewestTables s = (l : Layout) × IsNewest l × HasSchema s (schema_of l)
-
 -- as far as the disk is clean and the connection open, it is to a desk's file of that country
 abbrev pub IsDeskOf : List ℕ → State → Type 0
 IsDeskOf country s =
     HasCleanDisk s → IsTrue s.is_open → (c : Content) × HoldsContent c s × (c.country ≡ country)
-
--- While no fault has shut the connection, a crash leaves exactly the trees that it shows. (Where its disk isn't clean, it shows
--- as shut.)
-abbrev pub CrashLeavesShown : State → Type 0
-CrashLeavesShown s = IsTrue s.is_open → (trees : Trees) → s.may_leave trees ↔ (trees ≡ s.now.trees)
 
 -- A desk over a file, by its connection: its content is that of the tables, and it is live while no fault has shut the
 -- connection. What a crash leaves is a desk's where its trees are, with everything that the next opening asks of them.

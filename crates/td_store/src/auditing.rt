@@ -1,20 +1,20 @@
 //! The rows of a store's file, audited as those of a version.
-ghost use Rattle.std.specs.Prelude.{◌≡◌, ◌⊎◌, false, None, IsTrue, IfErr, IfOk, IfSome, OnOk};
+ghost use Rattle.std.specs.Prelude.{◌≡◌, ◌⊎◌, false, None, IsTrue, IfErr, IfOk, IfSome, is_ok};
 ghost use Rattle.sqlite.specs.Held.{state};
-ghost use Rattle.sqlite.specs.State.{HasCleanDisk, Survives};
+ghost use Rattle.sqlite.specs.State.{HasCleanDisk};
+ghost use Rattle.typed_sql.specs.Outside.{CrashLeavesShown, Looks};
 ghost use Rattle.td_desk.specs.Content.{Content};
 ghost use Rattle.td_store.specs.declared.refused.OpenFault.TheVariants as fault;
-ghost use Rattle.td_store.specs.Kept.{CrashLeavesShown};
 ghost use Rattle.td_store.specs.Opened.{HoldsAtVersion, IsDamage, TellsAudit, fault_in};
 
 use crate::faults::open_fault_of;
 use crate::judging::fault_of_rows;
 use crate::refused::OpenFault;
 use crate::schema::{Tables, tables_of, version_in};
-use crate::settling::see_settled;
 use sqlite::{Connection, Error};
 use sqlite_trees::store::Alter;
 use std::alloc::Global;
+use typed_sql::see_settled;
 
 // What the rows are refused for as those of that version; `Store` where the tables are none of a layout of it. An error is the
 // database's own, or want of memory.
@@ -25,14 +25,11 @@ fn fault_at<S: Alter>(
 ) -> Result<Option<OpenFault>, Error>
     requires { conn.old.in_transaction ≡ false }
     ensures ended { conn.new.in_transaction ≡ false }
-    ensures live { HasCleanDisk (state S.Store conn.new) → IsTrue (state S.Store conn.new).is_open → IsTrue (state S.Store conn.old).is_open }
+    ensures looks { Looks false (state S.Store conn.old) (state S.Store conn.new) }
     ensures shown { HasCleanDisk (state S.Store conn.new) → IfOk result (λ fault. fault ≡ None
         → IsTrue (state S.Store conn.old).is_open × IsTrue (state S.Store conn.new).is_open) }
     ensures told { HasCleanDisk (state S.Store conn.new) → IfOk result (TellsAudit version (state S.Store conn.old).now) }
     ensures kinds { IfOk result (λ told. IfSome told (λ why. (why ≡ fault.Store) ⊎ IsDamage why)) }
-    ensures same { HasCleanDisk (state S.Store conn.new) → IsTrue (state S.Store conn.new).is_open
-        → (state S.Store conn.new).now ≡ (state S.Store conn.old).now }
-    ensures crash { Survives (state S.Store conn.old) (state S.Store conn.new) (λ _. ⊥) }
 {
     match tables_of(alloc, conn)? {
         Tables::Store(layout) if version_in(layout) == version => fault_of_rows(
@@ -52,16 +49,11 @@ pub fn audit<S: Alter>(
 ) -> Result<(), OpenFault>
     requires { conn.old.in_transaction ≡ false }
     ensures ended { conn.new.in_transaction ≡ false }
-    ensures live { HasCleanDisk (state S.Store conn.new) → IsTrue (state S.Store conn.new).is_open → IsTrue (state S.Store conn.old).is_open }
-    ensures shown { HasCleanDisk (state S.Store conn.new)
-        → OnOk result (IsTrue (state S.Store conn.old).is_open × IsTrue (state S.Store conn.new).is_open) }
+    ensures looks { Looks (is_ok result) (state S.Store conn.old) (state S.Store conn.new) }
     ensures told { HasCleanDisk (state S.Store conn.new) → TellsAudit version (state S.Store conn.old).now (fault_in result) }
     ensures kinds { IfErr result (λ why. ((why ≡ fault.Store) ⊎ (why ≡ fault.NoMemory)) ⊎ IsDamage why) }
     ensures sound { HasCleanDisk (state S.Store conn.new) → (c : Content) → HoldsAtVersion version c (state S.Store conn.old).now
         → IfErr result (λ why. (why ≡ fault.Store) ⊎ (why ≡ fault.NoMemory)) }
-    ensures same { HasCleanDisk (state S.Store conn.new) → IsTrue (state S.Store conn.new).is_open
-        → (state S.Store conn.new).now ≡ (state S.Store conn.old).now }
-    ensures crash { Survives (state S.Store conn.old) (state S.Store conn.new) (λ _. ⊥) }
     ensures settled { CrashLeavesShown (state S.Store conn.new) }
 {
     let fault = match fault_at(alloc, conn, version) {

@@ -9,16 +9,17 @@ ghost use Rattle.td_schema.specs.Tables.{no_schema};
 ghost use Rattle.td_store_rows.specs.StoreTables.{HoldsContent};
 ghost use Rattle.td_store_write.specs.Created.{MayLeaveEmpty};
 ghost use Rattle.td_store.specs.declared.refused.OpenFault.TheVariants as fault;
-ghost use Rattle.td_store.specs.Kept.{CrashLeavesShown, content_in, sql_view};
+ghost use Rattle.typed_sql.specs.Outside.{CrashLeavesShown};
+ghost use Rattle.td_store.specs.Kept.{content_in, sql_view};
 
 use crate::desk::SqlDesk;
 use crate::faults::open_fault_of;
 use crate::refused::{OpenFault, Refused};
-use crate::settling::see_settled;
 use sqlite::Connection;
 use sqlite_trees::store::Alter;
 use td_base::Country;
 use td_store_write::create_tables;
+use typed_sql::see_settled;
 
 // Whether the database has no table.
 fn is_blank<S: Alter>(conn: &Connection<S>) -> bool

@@ -1,8 +1,5 @@
 //! The desk over a store's file.
 use crate::faults::{fault_of, told};
-use crate::following::{read_guarantee, read_movement};
-use crate::reading::read;
-use crate::settling::see_settled;
 use sqlite::Connection;
 use sqlite_trees::store::Alter;
 use std::alloc::Global;
@@ -12,7 +9,9 @@ use td_base::{Cents, Country, HolderNo};
 use td_desk::{Fault, Store};
 use td_guarantee::Guarantee;
 use td_movement::Movement;
+use td_store_load::{read_following_guarantee, read_following_movement, read_needs};
 use td_store_write::carry_change;
+use typed_sql::see_settled;
 
 /// A desk whose rows stand in the tables of a store. It holds the store's connection, outside a transaction, and the country
 /// of its office. What contracts see of it is the connection.
@@ -44,7 +43,8 @@ impl<S: Alter> SqlDesk<S> {
     ghost use Rattle.td_store_rows.specs.StoreTables.{HoldsContent};
     ghost use Rattle.td_store_load.specs.Placed.{ComesNext, found_at, guarantees_placed, movements_placed};
     ghost use Rattle.td_desk.specs.View.{IsSettled};
-    ghost use Rattle.td_store.specs.Kept.{CountsFaults, IsDeskOf, CrashLeavesShown, content_in, sql_view};
+    ghost use Rattle.typed_sql.specs.Outside.{CrashLeavesShown};
+    ghost use Rattle.td_store.specs.Kept.{CountsFaults, IsDeskOf, content_in, sql_view};
     ghost use Rattle.td_store.specs.Looked.{HasLooked};
 
     // The desk over a connection that holds a content of that country.
@@ -78,7 +78,7 @@ impl<S: Alter> SqlDesk<S> {
             → IfOk result (λ found. ComesNext holder serial (movements_placed (content_in (state S.Store self.old).now.trees))
             (option_map found_at found)) }
     {
-        let found = read_movement(alloc, &mut self.conn, holder, serial);
+        let found = read_following_movement(alloc, &mut self.conn, holder, serial);
         told(&mut self.conn, found)
     }
 
@@ -97,7 +97,7 @@ impl<S: Alter> SqlDesk<S> {
             → IfOk result (λ found. ComesNext holder serial (guarantees_placed (content_in (state S.Store self.old).now.trees))
             (option_map found_at found)) }
     {
-        let found = read_guarantee(alloc, &mut self.conn, holder, serial);
+        let found = read_following_guarantee(alloc, &mut self.conn, holder, serial);
         told(&mut self.conn, found)
     }
 
@@ -136,17 +136,8 @@ impl<S: Alter> Store for SqlDesk<S> {
         owner: Option<HolderNo>,
         needs: &Needs<'_>,
     ) -> Result<Loaded, Fault> {
-        match read(alloc, &mut self.conn, self.country, owner, needs) {
-            Ok(loaded) => {
-                see_settled(&self.conn);
-                Ok(loaded)
-            }
-            Err(error) => {
-                let fault = fault_of(&mut self.conn, &error);
-                see_settled(&self.conn);
-                Err(fault)
-            }
-        }
+        let loaded = read_needs(alloc, &mut self.conn, self.country, owner, needs);
+        told(&mut self.conn, loaded)
     }
 
     fn write(&mut self, alloc: Global, change: Change) -> Result<(), Fault> {

@@ -1,46 +1,25 @@
 //! Which fault an error of the database is told as.
-ghost use Rattle.std.specs.Prelude.{◌≡◌, ◌≢◌, ◌⊎◌, false, Err, IfErr, IfOk, IsErr, IsTrue, Ok, OnOk};
+ghost use Rattle.std.specs.Prelude.{◌≡◌, ◌≢◌, ◌⊎◌, false, Err, IfErr, IfOk, IsErr, IsTrue, Ok};
 ghost use Rattle.sqlite.specs.Held.{state};
-ghost use Rattle.sqlite.specs.State.{HasCleanDisk, Survives};
+ghost use Rattle.sqlite.specs.State.{HasCleanDisk};
+ghost use Rattle.typed_sql.specs.Outside.{CrashLeavesShown, Looks};
 ghost use Rattle.td_desk.specs.declared.fault.Fault.TheVariants as fault;
-ghost use Rattle.td_store.specs.Kept.{CrashLeavesShown};
 ghost use Rattle.td_store.specs.declared.refused.OpenFault.TheVariants as open_fault;
 
 use crate::refused::OpenFault;
-use crate::settling::see_settled;
 use sqlite::{Connection, Error, ErrorCode};
 use sqlite_trees::store::Alter;
 use td_desk::Fault;
-use typed_sql::see_open;
-
-/// Asks the connection whether it still answers. No memory is taken for it, once it was asked before. An error is the database's
-/// own.
-pub(crate) fn ask<S: Alter>(conn: &mut Connection<S>) -> Result<(), Error>
-    requires { conn.old.in_transaction ≡ false }
-    ensures ended { conn.new.in_transaction ≡ false }
-    ensures live { HasCleanDisk (state S.Store conn.new) → IsTrue (state S.Store conn.new).is_open → IsTrue (state S.Store conn.old).is_open }
-    ensures shown { HasCleanDisk (state S.Store conn.new) → OnOk result (IsTrue (state S.Store conn.new).is_open) }
-    ensures same { HasCleanDisk (state S.Store conn.new) → IsTrue (state S.Store conn.new).is_open
-        → (state S.Store conn.new).now ≡ (state S.Store conn.old).now }
-    ensures crash { Survives (state S.Store conn.old) (state S.Store conn.new) (λ _. ⊥) }
-{
-    see_settled(conn);
-    let mut tx = conn.transaction();
-    see_open(&mut tx)?;
-    tx.commit()
-}
+use typed_sql::{ask, see_settled};
 
 /// The fault that an error of a call of the database is told as: want of memory where the error says so and the connection
 /// still answers; else the store's. Nothing is changed, and a crash leaves what it could before.
 pub(crate) fn fault_of<S: Alter>(conn: &mut Connection<S>, error: &Error) -> Fault
     requires { conn.old.in_transaction ≡ false }
     ensures ended { conn.new.in_transaction ≡ false }
-    ensures live { HasCleanDisk (state S.Store conn.new) → IsTrue (state S.Store conn.new).is_open → IsTrue (state S.Store conn.old).is_open }
+    ensures looks { Looks false (state S.Store conn.old) (state S.Store conn.new) }
     ensures told { error.now ≢ Error.SqliteFailure ErrorCode.OutOfMemory → result ≡ Fault.Store }
     ensures memory { HasCleanDisk (state S.Store conn.new) → result ≡ Fault.NoMemory → IsTrue (state S.Store conn.new).is_open }
-    ensures same { HasCleanDisk (state S.Store conn.new) → IsTrue (state S.Store conn.new).is_open
-        → (state S.Store conn.new).now ≡ (state S.Store conn.old).now }
-    ensures crash { Survives (state S.Store conn.old) (state S.Store conn.new) (λ _. ⊥) }
 {
     if matches!(error, Error::SqliteFailure(ErrorCode::OutOfMemory)) && ask(conn).is_ok() {
         return Fault::NoMemory;
@@ -60,11 +39,8 @@ pub(crate) fn told<S: Alter, T>(
     ensures err { IsErr answer → IsErr result }
     ensures well { IfOk result (λ x. (answer ≡ Ok x) × (conn.new ≡ conn.old)) }
     ensures ill { IfErr result (λ _. IsErr answer) }
-    ensures live { HasCleanDisk (state S.Store conn.new) → IsTrue (state S.Store conn.new).is_open → IsTrue (state S.Store conn.old).is_open }
+    ensures looks { Looks false (state S.Store conn.old) (state S.Store conn.new) }
     ensures memory { HasCleanDisk (state S.Store conn.new) → result ≡ Err Fault.NoMemory → IsTrue (state S.Store conn.new).is_open }
-    ensures same { HasCleanDisk (state S.Store conn.new) → IsTrue (state S.Store conn.new).is_open
-        → (state S.Store conn.new).now ≡ (state S.Store conn.old).now }
-    ensures crash { Survives (state S.Store conn.old) (state S.Store conn.new) (λ _. ⊥) }
     ensures settled { CrashLeavesShown (state S.Store conn.new) }
 {
     let told = match answer {

@@ -1,7 +1,8 @@
 //! Whether a database is one that a desk was made in, and what it is refused for.
-ghost use Rattle.std.specs.Prelude.{◌≡◌, false, Some, None, option_map, IsTrue, IfOk, IfSome, OnOk};
+ghost use Rattle.std.specs.Prelude.{◌≡◌, false, Some, None, option_map, IsTrue, IfOk, IfSome, is_ok};
 ghost use Rattle.sqlite.specs.Held.{state};
-ghost use Rattle.sqlite.specs.State.{HasCleanDisk, Survives};
+ghost use Rattle.sqlite.specs.State.{HasCleanDisk};
+ghost use Rattle.typed_sql.specs.Outside.{Looks};
 ghost use Rattle.td_schema.specs.Layouts.{schema_of};
 ghost use Rattle.td_store.specs.declared.refused.OpenFault.TheVariants as fault;
 ghost use Rattle.td_store.specs.Opened.{IsDamage, LacksMeta, TellsDatabase, TellsRows, TellsRules, TellsTables};
@@ -9,17 +10,17 @@ ghost use Rattle.td_store.specs.Opened.{IsDamage, LacksMeta, TellsDatabase, Tell
 use crate::faults::open_fault_of;
 use crate::office::{fault_of_version, office_fault, read_office};
 use crate::refused::OpenFault;
+use crate::rules::first_broken;
 use crate::schema::{Tables, lacks_meta, tables_of, version_in};
-use crate::settling::see_settled;
 use sqlite::{Connection, Error};
 use sqlite_trees::store::Alter;
 use std::alloc::Global;
 use td_base::Country;
 use td_schema::{Layout, NEWEST_VERSION};
-use td_store_audit::{database_keeps, first_broken};
+use td_store_audit::database_keeps;
 use td_store_audit_rows::{Readable, readable_tables};
 use td_table_model::Rule;
-use typed_sql::see_open;
+use typed_sql::{see_open, see_settled};
 
 // The first rule that the tables of a store of that layout break, of which these can be read, or none. Their rows are read in one
 // transaction. An error is the database's own, or want of memory.
@@ -32,14 +33,9 @@ fn broken_rule<S: Alter>(
     requires outside { conn.old.in_transaction ≡ false }
     requires tables { HasCleanDisk (state S.Store conn.old) → (state S.Store conn.old).now.schema ≡ schema_of layout }
     ensures ended { conn.new.in_transaction ≡ false }
-    ensures live { HasCleanDisk (state S.Store conn.new) → IsTrue (state S.Store conn.new).is_open → IsTrue (state S.Store conn.old).is_open }
-    ensures shown { HasCleanDisk (state S.Store conn.new)
-        → OnOk result (IsTrue (state S.Store conn.old).is_open × IsTrue (state S.Store conn.new).is_open) }
+    ensures looks { Looks (is_ok result) (state S.Store conn.old) (state S.Store conn.new) }
     ensures told { HasCleanDisk (state S.Store conn.new)
         → IfOk result (TellsRules layout readable (state S.Store conn.old).now.trees) }
-    ensures same { HasCleanDisk (state S.Store conn.new) → IsTrue (state S.Store conn.new).is_open
-        → (state S.Store conn.new).now ≡ (state S.Store conn.old).now }
-    ensures crash { Survives (state S.Store conn.old) (state S.Store conn.new) (λ _. ⊥) }
 {
     see_settled(conn);
     database_keeps(conn);
@@ -61,15 +57,10 @@ pub(crate) fn fault_of_rows<S: Alter>(
     requires outside { conn.old.in_transaction ≡ false }
     requires tables { HasCleanDisk (state S.Store conn.old) → (state S.Store conn.old).now.schema ≡ schema_of layout }
     ensures ended { conn.new.in_transaction ≡ false }
-    ensures live { HasCleanDisk (state S.Store conn.new) → IsTrue (state S.Store conn.new).is_open → IsTrue (state S.Store conn.old).is_open }
-    ensures shown { HasCleanDisk (state S.Store conn.new)
-        → OnOk result (IsTrue (state S.Store conn.old).is_open × IsTrue (state S.Store conn.new).is_open) }
+    ensures looks { Looks (is_ok result) (state S.Store conn.old) (state S.Store conn.new) }
     ensures told { HasCleanDisk (state S.Store conn.new)
         → IfOk result (TellsRows layout (state S.Store conn.old).now.trees) }
     ensures kinds { IfOk result (λ told. IfSome told IsDamage) }
-    ensures same { HasCleanDisk (state S.Store conn.new) → IsTrue (state S.Store conn.new).is_open
-        → (state S.Store conn.new).now ≡ (state S.Store conn.old).now }
-    ensures crash { Survives (state S.Store conn.old) (state S.Store conn.new) (λ _. ⊥) }
 {
     let readable = readable_tables(conn, version_in(layout))?;
     let broken = broken_rule(alloc, conn, layout, readable)?;
@@ -87,14 +78,9 @@ fn fault_in<S: Alter>(
     requires outside { conn.old.in_transaction ≡ false }
     requires tables { HasCleanDisk (state S.Store conn.old) → (state S.Store conn.old).now.schema ≡ schema_of layout }
     ensures ended { conn.new.in_transaction ≡ false }
-    ensures live { HasCleanDisk (state S.Store conn.new) → IsTrue (state S.Store conn.new).is_open → IsTrue (state S.Store conn.old).is_open }
-    ensures shown { HasCleanDisk (state S.Store conn.new)
-        → OnOk result (IsTrue (state S.Store conn.old).is_open × IsTrue (state S.Store conn.new).is_open) }
+    ensures looks { Looks (is_ok result) (state S.Store conn.old) (state S.Store conn.new) }
     ensures told { HasCleanDisk (state S.Store conn.new)
         → IfOk result (TellsTables country layout (state S.Store conn.old).now.trees) }
-    ensures same { HasCleanDisk (state S.Store conn.new) → IsTrue (state S.Store conn.new).is_open
-        → (state S.Store conn.new).now ≡ (state S.Store conn.old).now }
-    ensures crash { Survives (state S.Store conn.old) (state S.Store conn.new) (λ _. ⊥) }
 {
     let _letters = country.as_bytes();
     let fault = office_fault(read_office(conn)?, country);
@@ -122,13 +108,10 @@ fn fault_of_database<S: Alter>(
 ) -> Result<Option<OpenFault>, Error>
     requires { conn.old.in_transaction ≡ false }
     ensures ended { conn.new.in_transaction ≡ false }
-    ensures live { HasCleanDisk (state S.Store conn.new) → IsTrue (state S.Store conn.new).is_open → IsTrue (state S.Store conn.old).is_open }
+    ensures looks { Looks false (state S.Store conn.old) (state S.Store conn.new) }
     ensures shown { HasCleanDisk (state S.Store conn.new) → IfOk result (λ fault. fault ≡ None
         → IsTrue (state S.Store conn.old).is_open × IsTrue (state S.Store conn.new).is_open) }
     ensures told { HasCleanDisk (state S.Store conn.new) → IfOk result (TellsDatabase country (state S.Store conn.old).now) }
-    ensures same { HasCleanDisk (state S.Store conn.new) → IsTrue (state S.Store conn.new).is_open
-        → (state S.Store conn.new).now ≡ (state S.Store conn.old).now }
-    ensures crash { Survives (state S.Store conn.old) (state S.Store conn.new) (λ _. ⊥) }
 {
     match tables_of(alloc, conn)? {
         Tables::Store(layout) => fault_in(alloc, conn, layout, country),
@@ -149,15 +132,12 @@ pub(crate) fn refusal<S: Alter>(
 ) -> Option<OpenFault>
     requires { conn.old.in_transaction ≡ false }
     ensures ended { conn.new.in_transaction ≡ false }
-    ensures live { HasCleanDisk (state S.Store conn.new) → IsTrue (state S.Store conn.new).is_open → IsTrue (state S.Store conn.old).is_open }
+    ensures looks { Looks false (state S.Store conn.old) (state S.Store conn.new) }
     ensures shown { HasCleanDisk (state S.Store conn.new) → result ≡ None
         → IsTrue (state S.Store conn.old).is_open × IsTrue (state S.Store conn.new).is_open }
     ensures told { HasCleanDisk (state S.Store conn.new) → TellsDatabase country (state S.Store conn.old).now result }
     ensures absent { LacksMeta (state S.Store conn.old).now.schema
         → (result ≡ Some fault.UnknownVersion) × (conn.new ≡ conn.old) }
-    ensures same { HasCleanDisk (state S.Store conn.new) → IsTrue (state S.Store conn.new).is_open
-        → (state S.Store conn.new).now ≡ (state S.Store conn.old).now }
-    ensures crash { Survives (state S.Store conn.old) (state S.Store conn.new) (λ _. ⊥) }
 {
     if lacks_meta(conn) {
         return Some(OpenFault::UnknownVersion);

@@ -1,22 +1,20 @@
 //! The desk over a store's file: it is made in an empty database, or opened where one was made before, loads and writes
 //! by transactions, shows the deadlines of its movements and its guarantees one after another, and gives its connection back;
-//! and its rows audited as those of a version of the tables.
+//! and its rows audited as those of a version of the tables, rule by rule.
 #![tactic(auto)]
 
 mod auditing;
 mod creating;
 mod desk;
 mod faults;
-mod following;
 mod judging;
 mod laws;
 mod office;
 mod opening;
-mod reading;
 mod refused;
 mod rows;
+mod rules;
 mod schema;
-mod settling;
 mod versions;
 mod visits;
 

@@ -1,18 +1,19 @@
 //! The office's own row: the version that it says, and what it is refused for.
-ghost use Rattle.std.specs.Prelude.{◌≡◌, ◌⊎◌, false, None, pos, IsTrue, IfOk, MatchOption, OnOk};
+ghost use Rattle.std.specs.Prelude.{◌≡◌, ◌⊎◌, false, None, pos, IfOk, MatchOption, is_ok};
 ghost use Rattle.sqlite.specs.Held.{state};
-ghost use Rattle.sqlite.specs.State.{HasCleanDisk, Survives};
+ghost use Rattle.sqlite.specs.State.{HasCleanDisk};
+ghost use Rattle.typed_sql.specs.Outside.{Looks};
 ghost use Rattle.td_store_rows.specs.Columns.{MetaIsFirst};
 ghost use Rattle.td_store.specs.declared.refused.OpenFault.TheVariants as fault;
 ghost use Rattle.td_store.specs.Opened.{IsKnown, IsKnownNumber, IsOfficeIn, TellsKnown, TellsOffice};
 
 use crate::refused::OpenFault;
-use crate::settling::see_settled;
 use sqlite::{Connection, Error};
 use sqlite_trees::store::Alter;
 use td_base::Country;
 use td_schema::{FIRST_VERSION, NEWEST_VERSION};
 use td_store_rows::{StoredMeta, find_meta};
+use typed_sql::see_settled;
 
 /// The office's own row, or none: its table has to be the first, whatever others there are. It is read in a transaction. An error is
 /// the database's own, or want of memory.
@@ -20,13 +21,8 @@ pub(crate) fn read_office<S: Alter>(conn: &mut Connection<S>) -> Result<Option<S
     requires outside { conn.old.in_transaction ≡ false }
     requires first { HasCleanDisk (state S.Store conn.old) → MetaIsFirst (state S.Store conn.old).now.schema }
     ensures ended { conn.new.in_transaction ≡ false }
-    ensures live { HasCleanDisk (state S.Store conn.new) → IsTrue (state S.Store conn.new).is_open → IsTrue (state S.Store conn.old).is_open }
-    ensures shown { HasCleanDisk (state S.Store conn.new)
-        → OnOk result (IsTrue (state S.Store conn.old).is_open × IsTrue (state S.Store conn.new).is_open) }
+    ensures looks { Looks (is_ok result) (state S.Store conn.old) (state S.Store conn.new) }
     ensures found { HasCleanDisk (state S.Store conn.new) → IfOk result (IsOfficeIn (state S.Store conn.old).now.trees) }
-    ensures same { HasCleanDisk (state S.Store conn.new) → IsTrue (state S.Store conn.new).is_open
-        → (state S.Store conn.new).now ≡ (state S.Store conn.old).now }
-    ensures crash { Survives (state S.Store conn.old) (state S.Store conn.new) (λ _. ⊥) }
 {
     see_settled(conn);
     let mut tx = conn.transaction();

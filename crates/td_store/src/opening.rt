@@ -9,17 +9,18 @@ ghost use Rattle.td_schema.specs.Layouts.{newest_version, schema_of};
 ghost use Rattle.td_schema.specs.declared.layout.Layout.{Layout};
 ghost use Rattle.td_store_rows.specs.StoreTables.{HasOfficeRow, HoldsContent};
 ghost use Rattle.td_store.specs.declared.refused.OpenFault.TheVariants as fault;
-ghost use Rattle.td_store.specs.Kept.{CrashLeavesShown, content_in, sql_view};
+ghost use Rattle.typed_sql.specs.Outside.{CrashLeavesShown};
+ghost use Rattle.td_store.specs.Kept.{content_in, sql_view};
 ghost use Rattle.td_store.specs.Opened.{AreDamaged, IsOfAnother, IsOfEarlier, IsOfUnknownVersion, IsStoreSchema, LacksMeta};
 
 use crate::desk::SqlDesk;
 use crate::judging::refusal;
 use crate::refused::Refused;
-use crate::settling::see_settled;
 use sqlite::Connection;
 use sqlite_trees::store::Alter;
 use std::alloc::Global;
 use td_base::Country;
+use typed_sql::see_settled;
 
 impl<S: Alter> SqlDesk<S> {
     /// Opens the desk of an office of that country over a database that one was made in before. The first of these that holds is

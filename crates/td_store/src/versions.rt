@@ -1,18 +1,18 @@
 //! The version of the tables in a store's file.
-ghost use Rattle.std.specs.Prelude.{◌≡◌, false, IsTrue, IfOk, OnOk};
+ghost use Rattle.std.specs.Prelude.{◌≡◌, false, IsTrue, IfOk, OnOk, is_ok};
 ghost use Rattle.sqlite.specs.Held.{state};
-ghost use Rattle.sqlite.specs.State.{HasCleanDisk, Survives};
-ghost use Rattle.td_store.specs.Kept.{CrashLeavesShown};
+ghost use Rattle.sqlite.specs.State.{HasCleanDisk};
+ghost use Rattle.typed_sql.specs.Outside.{CrashLeavesShown, Looks};
 ghost use Rattle.td_store.specs.Opened.{TellsFileVersion};
 
 use crate::faults::open_fault_of;
 use crate::office::{fault_of_version, read_office, version_said};
 use crate::refused::OpenFault;
 use crate::schema::{Tables, lacks_meta, tables_of};
-use crate::settling::see_settled;
 use sqlite::{Connection, Error};
 use sqlite_trees::store::Alter;
 use std::alloc::Global;
+use typed_sql::see_settled;
 
 // The version, or why none is told. An error is the database's own, or want of memory.
 fn told_version<S: Alter>(
@@ -21,13 +21,10 @@ fn told_version<S: Alter>(
 ) -> Result<Result<u32, OpenFault>, Error>
     requires { conn.old.in_transaction ≡ false }
     ensures ended { conn.new.in_transaction ≡ false }
-    ensures live { HasCleanDisk (state S.Store conn.new) → IsTrue (state S.Store conn.new).is_open → IsTrue (state S.Store conn.old).is_open }
+    ensures looks { Looks false (state S.Store conn.old) (state S.Store conn.new) }
     ensures shown { HasCleanDisk (state S.Store conn.new) → IfOk result (λ told. OnOk told
         (IsTrue (state S.Store conn.old).is_open × IsTrue (state S.Store conn.new).is_open)) }
     ensures told { HasCleanDisk (state S.Store conn.new) → IfOk result (TellsFileVersion (state S.Store conn.old).now) }
-    ensures same { HasCleanDisk (state S.Store conn.new) → IsTrue (state S.Store conn.new).is_open
-        → (state S.Store conn.new).now ≡ (state S.Store conn.old).now }
-    ensures crash { Survives (state S.Store conn.old) (state S.Store conn.new) (λ _. ⊥) }
 {
     match tables_of(alloc, conn)? {
         Tables::Store(_) => Ok(version_said(read_office(conn)?).ok_or(OpenFault::UnknownVersion)),
@@ -43,13 +40,8 @@ fn told_version<S: Alter>(
 pub fn file_version<S: Alter>(alloc: Global, conn: &mut Connection<S>) -> Result<u32, OpenFault>
     requires { conn.old.in_transaction ≡ false }
     ensures ended { conn.new.in_transaction ≡ false }
-    ensures live { HasCleanDisk (state S.Store conn.new) → IsTrue (state S.Store conn.new).is_open → IsTrue (state S.Store conn.old).is_open }
-    ensures shown { HasCleanDisk (state S.Store conn.new)
-        → OnOk result (IsTrue (state S.Store conn.old).is_open × IsTrue (state S.Store conn.new).is_open) }
+    ensures looks { Looks (is_ok result) (state S.Store conn.old) (state S.Store conn.new) }
     ensures told { HasCleanDisk (state S.Store conn.new) → TellsFileVersion (state S.Store conn.old).now result }
-    ensures same { HasCleanDisk (state S.Store conn.new) → IsTrue (state S.Store conn.new).is_open
-        → (state S.Store conn.new).now ≡ (state S.Store conn.old).now }
-    ensures crash { Survives (state S.Store conn.old) (state S.Store conn.new) (λ _. ⊥) }
     ensures settled { CrashLeavesShown (state S.Store conn.new) }
 {
     if lacks_meta(conn) {

@@ -1,19 +1,20 @@
 //! The deadlines of all movements of a desk over a file, and all its guarantees, shown to a visitor one after another.
-ghost use Rattle.std.specs.Prelude.{◌≡◌, false, IsTrue, Ok, OnOk};
+ghost use Rattle.std.specs.Prelude.{◌≡◌, false, IsTrue, Ok, is_ok};
 ghost use Rattle.sqlite.specs.Held.{state};
-ghost use Rattle.sqlite.specs.State.{HasCleanDisk, Survives};
+ghost use Rattle.sqlite.specs.State.{HasCleanDisk};
+ghost use Rattle.typed_sql.specs.Outside.{Looks};
 ghost use Rattle.typed_sql.specs.Visited.{HasSeen, is_whole};
+ghost use Rattle.td_store_rows.specs.StoreReads.{HasNewestTables};
 ghost use Rattle.td_store_rows.specs.Visited.{VisitsDeadlines, VisitsKept};
-ghost use Rattle.td_store.specs.Kept.{HasNewestTables};
 
 use crate::desk::SqlDesk;
-use crate::faults::{ask, told};
+use crate::faults::told;
 use sqlite::{Connection, Error};
 use sqlite_trees::store::Alter;
 use std::alloc::Global;
 use td_desk::Fault;
 use td_store_rows::{KeptGuarantee, MovementDeadlines, visit_deadlines, visit_kept};
-use typed_sql::Visitor;
+use typed_sql::{Visitor, ask};
 
 // Shows a visitor the deadlines of each movement of a desk's file, once the connection was seen to answer. An error is the
 // database's own, or that of the visit.
@@ -26,16 +27,11 @@ fn show_deadlines<S: Alter, O, V: Visitor<MovementDeadlines, O>>(
     requires outside { conn.old.in_transaction ≡ false }
     requires tables { HasCleanDisk (state S.Store conn.old) → HasNewestTables (state S.Store conn.old) }
     ensures ended { conn.new.in_transaction ≡ false }
-    ensures live { HasCleanDisk (state S.Store conn.new) → IsTrue (state S.Store conn.new).is_open → IsTrue (state S.Store conn.old).is_open }
-    ensures shown { HasCleanDisk (state S.Store conn.new)
-        → OnOk result (IsTrue (state S.Store conn.old).is_open × IsTrue (state S.Store conn.new).is_open) }
+    ensures looks { Looks (is_ok result) (state S.Store conn.old) (state S.Store conn.new) }
     ensures seen { HasSeen V.Visitor.sees (visitor.old, beside.old) (visitor.new, beside.new) }
     ensures visited { HasCleanDisk (state S.Store conn.new) → VisitsDeadlines V.Visitor.sees (state S.Store conn.old)
         (is_whole result) (visitor.old, beside.old) (visitor.new, beside.new) }
     ensures stopped { result ≡ Ok false → V.Visitor.stops visitor.new beside.new }
-    ensures same { HasCleanDisk (state S.Store conn.new) → IsTrue (state S.Store conn.new).is_open
-        → (state S.Store conn.new).now ≡ (state S.Store conn.old).now }
-    ensures crash { Survives (state S.Store conn.old) (state S.Store conn.new) (λ _. ⊥) }
 {
     ask(conn)?;
     visit_deadlines(alloc, conn, visitor, beside)
@@ -52,23 +48,18 @@ fn show_guarantees<S: Alter, O, V: Visitor<KeptGuarantee, O>>(
     requires outside { conn.old.in_transaction ≡ false }
     requires tables { HasCleanDisk (state S.Store conn.old) → HasNewestTables (state S.Store conn.old) }
     ensures ended { conn.new.in_transaction ≡ false }
-    ensures live { HasCleanDisk (state S.Store conn.new) → IsTrue (state S.Store conn.new).is_open → IsTrue (state S.Store conn.old).is_open }
-    ensures shown { HasCleanDisk (state S.Store conn.new)
-        → OnOk result (IsTrue (state S.Store conn.old).is_open × IsTrue (state S.Store conn.new).is_open) }
+    ensures looks { Looks (is_ok result) (state S.Store conn.old) (state S.Store conn.new) }
     ensures seen { HasSeen V.Visitor.sees (visitor.old, beside.old) (visitor.new, beside.new) }
     ensures visited { HasCleanDisk (state S.Store conn.new) → VisitsKept V.Visitor.sees (state S.Store conn.old)
         (is_whole result) (visitor.old, beside.old) (visitor.new, beside.new) }
     ensures stopped { result ≡ Ok false → V.Visitor.stops visitor.new beside.new }
-    ensures same { HasCleanDisk (state S.Store conn.new) → IsTrue (state S.Store conn.new).is_open
-        → (state S.Store conn.new).now ≡ (state S.Store conn.old).now }
-    ensures crash { Survives (state S.Store conn.old) (state S.Store conn.new) (λ _. ⊥) }
 {
     ask(conn)?;
     visit_kept(alloc, conn, visitor, beside)
 }
 
 impl<S: Alter> SqlDesk<S> {
-    ghost use Rattle.std.specs.Prelude.{Err, is_ok, map};
+    ghost use Rattle.std.specs.Prelude.{Err, map};
     ghost use Rattle.td_store.specs.Kept.{CountsFaults, content_in, sql_view};
     ghost use Rattle.td_store.specs.Looked.{HasLooked};
     ghost use Rattle.td_store.specs.Visits.{IsVisit, said_of_guarantee, shown_of_movement};

@@ -10,7 +10,7 @@ mod Tables
 mod FewKeys
 mod FewLines
 mod Live
-mod Reading
+pub mod Reading
 mod HoldersTold
 mod GuaranteesKept
 mod MovementsKept
@@ -40,7 +40,7 @@ mod OfficeRow
 mod FirstRule
 mod TypedFor
 mod AskedRules
-mod AskedHolder
-mod AskedParts
-mod Walked
+pub mod AskedHolder
+pub mod AskedParts
+pub mod Walked
 mod KeptByHolders

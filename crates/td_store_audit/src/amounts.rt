@@ -19,7 +19,7 @@ use td_store_rows::{KeptGuarantee, kept_within};
 /// Whether the amounts on a holder's guarantees are what is in use on them, in a file that keeps them. It is given what the
 /// rules of movements and of lines hand on of the holder, and reads the guarantees alone. `OutOfMemory`: want of memory;
 /// any other error is the database's own.
-pub(crate) fn is_holder_kept<S: Alter>(
+pub fn is_holder_kept<S: Alter>(
     alloc: Global,
     tx: &mut Transaction<'_, S>,
     parts: &HolderTotals,

@@ -22,7 +22,7 @@ use td_store_audit_rows::RawHolder;
 /// guarantee of the holder's, and each guarantee has 1 to 20. The codes of few guarantees are read at once.
 /// `DatabaseCorrupt`: the count is 2^32 - 1, which no sound table has; `OutOfMemory`: want of memory; any other error is
 /// the database's own.
-pub(crate) fn has_codes<S: Alter>(
+pub fn has_codes<S: Alter>(
     alloc: Global,
     tx: &mut Transaction<'_, S>,
     raw: &RawHolder,

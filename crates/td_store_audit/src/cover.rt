@@ -19,7 +19,7 @@ use td_store_rows::{StoredGuarantee, guarantees_within};
 /// Whether each of a holder's guarantees is covered, in a file of that version. It is given what the rules of movements and
 /// of lines hand on of the holder, and reads the guarantees alone. `OutOfMemory`: want of memory; any other error is the
 /// database's own.
-pub(crate) fn is_holder_covered<S: Alter>(
+pub fn is_holder_covered<S: Alter>(
     alloc: Global,
     tx: &mut Transaction<'_, S>,
     version: u32,

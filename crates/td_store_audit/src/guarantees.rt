@@ -19,7 +19,7 @@ use td_store_rows::{guarantees_within, next_guarantee_of};
 
 /// Whether a holder's guarantees are counted, and in their places, at an office of that country, in a file of that version.
 /// `OutOfMemory`: want of memory; any other error is the database's own.
-pub(crate) fn has_guarantees<S: Alter>(
+pub fn has_guarantees<S: Alter>(
     alloc: Global,
     tx: &mut Transaction<'_, S>,
     version: u32,

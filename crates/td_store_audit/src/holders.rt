@@ -5,7 +5,7 @@ ghost use Rattle.td_store_audit_rows.specs.Found.{HasFieldsOfS2};
 use td_store_audit_rows::RawHolder;
 
 /// Whether a holder has an EORI that is well formed, and a moment of its last change that is in range.
-pub(crate) fn has_identity(raw: &RawHolder) -> bool
+pub fn has_identity(raw: &RawHolder) -> bool
     ensures { IsTrue result ↔ HasFieldsOfS2 raw.now }
 {
     raw.eori.is_some() && raw.last_at.is_some()

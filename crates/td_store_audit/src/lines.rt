@@ -88,7 +88,7 @@ fn totals_below<S: Alter>(
 /// have one number: each is of a movement of the holder's, and each movement has 1 to 99 lines, numbered from 1, each on a
 /// guarantee of the holder's, no two on one, with amounts in range. The lines of few movements are read at once. `OutOfMemory`: want
 /// of memory; any other error is the database's own.
-pub(crate) fn kept_lines<S: Alter>(
+pub fn kept_lines<S: Alter>(
     alloc: Global,
     tx: &mut Transaction<'_, S>,
     version: u32,

@@ -25,7 +25,7 @@ use td_store_rows::{MovementSerial, StoredMovement, movements_within, next_movem
 
 /// Which movements of a holder count, where the holder's movements are counted and in their places, at an office of that
 /// country. `OutOfMemory`: want of memory; any other error is the database's own.
-pub(crate) fn kept_movements<S: Alter>(
+pub fn kept_movements<S: Alter>(
     alloc: Global,
     tx: &mut Transaction<'_, S>,
     country: Country,

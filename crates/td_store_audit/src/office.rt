@@ -15,9 +15,7 @@ use typed_sql::{integer_at, select, text_at};
 /// The country of the office as the file has it, or `None` where there is no such row, or its text isn't two capital letters.
 /// `DatabaseCorrupt`: there are several rows, or the version is no integer or the country no text; any other error is the
 /// database's own. It changes nothing.
-pub(crate) fn office_country<S: Alter>(
-    tx: &mut Transaction<'_, S>,
-) -> Result<Option<Country>, Error>
+pub fn office_country<S: Alter>(tx: &mut Transaction<'_, S>) -> Result<Option<Country>, Error>
     requires { IsInside (state S.Store tx.old.conn.now) }
     ensures same_reference { tx.new.conn.ghost_name ≡ tx.old.conn.ghost_name }
     ensures told { HasCleanDisk (state S.Store tx.new.conn.now)

@@ -24,7 +24,7 @@ fn place_of(rule: Rule) -> u8
 }
 
 /// Whether a rule comes before another; each does where there is none.
-pub(crate) fn comes_before(rule: Rule, end: Option<Rule>) -> bool
+pub fn comes_before(rule: Rule, end: Option<Rule>) -> bool
     ensures { IsTrue result ↔ IsBefore rule end }
 {
     match end {
@@ -34,7 +34,7 @@ pub(crate) fn comes_before(rule: Rule, end: Option<Rule>) -> bool
 }
 
 /// The first rule whose own table can't be read row by row, or none.
-pub(crate) fn first_unread(readable: Readable) -> Option<Rule>
+pub fn first_unread(readable: Readable) -> Option<Rule>
     ensures { IsFirstNot (IsReadFor readable) None result }
 {
     if !readable.guarantees {

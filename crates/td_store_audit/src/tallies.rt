@@ -11,8 +11,10 @@ use td_store_rows::MovementSerial;
 /// A holder, and the serials of the holder's movements that count against their guarantees, in ascending order. The holder's count of
 /// movements has a number behind it.
 #[derive(Drop)]
-pub(crate) struct CountingSerials {
+pub struct CountingSerials {
+    /// The holder's row, as it stands.
     pub raw: RawHolder,
+    /// The serials, in ascending order.
     pub serials: Vec<MovementSerial>,
     ghost order: { Rises serial_of_stored 0 serials.items } by { Rises-prop serial_of_stored 0 serials.items },
     ghost behind: { unwrap_or raw.mrn_count 0 + 1 ≤ 2 ^ 32 - 1 } by { le_prop },
@@ -20,7 +22,9 @@ pub(crate) struct CountingSerials {
 
 /// That, and what the lines of these movements add up to on each of the holder's guarantees.
 #[derive(Drop)]
-pub(crate) struct HolderTotals {
+pub struct HolderTotals {
+    /// The holder, and the movements that count.
     pub movements: CountingSerials,
+    /// What their lines add up to.
     pub totals: Totals,
 }

@@ -13,7 +13,7 @@ use td_store_rows::{MovementSerial, StoredLine};
 
 /// What lines on a holder's guarantees add up to, guarantee for guarantee.
 #[derive(Drop)]
-pub(crate) struct Totals {
+pub struct Totals {
     // By the guarantees' serials, and at 0, which is none's, nothing: none where it is above 10^15 cents.
     each: Vec<Option<Cents>>,
 }

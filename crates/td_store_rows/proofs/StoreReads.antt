@@ -1,15 +1,17 @@
 -- Calls that read one after another in a store's file.
-use Rattle.std.proofs.Common.{arith, refl, subst, sym, Result, List, ℕ}
-use Rattle.std.specs.Prelude.{Bool, OnOk, is_ok, true}
+use Rattle.std.proofs.Common.{◌≡◌, ◌∙◌, arith, refl, subst, sym, Result, List, ℕ}
+use Rattle.std.specs.Prelude.{Bool, IsTrue, OnOk, is_ok, true}
+use Rattle.sqlite_trees.specs.declared.store.Store.{Ghosts}
 use Rattle.sqlite.specs.Given.{IsPlain}
 use Rattle.sqlite.specs.Listing.{understood}
-use Rattle.sqlite.specs.State.{State, HasCleanDisk}
+use Rattle.sqlite.specs.Held.{Held, state}
+use Rattle.sqlite.specs.State.{State, HasCleanDisk, IsUnchanged}
 use Rattle.td_schema.specs.declared.layout.Layout.{Layout}
 use Rattle.td_schema.specs.Layouts.{HasMoreLines, IsNewest, schema_of}
 use Rattle.typed_sql.proofs.Leaving.{reads_by}
 use Rattle.typed_sql.proofs.OnlyRead.{none_read, read_more, stays_on, stays_well}
 use Rattle.typed_sql.specs.Reading.{OnlyReads, StaysInside}
-use Rattle.td_store_rows.specs.StoreReads.{KeepsUse, OnlyReadNewest, ReadsIn, ReadsNewest, ReadsStore}
+use Rattle.td_store_rows.specs.StoreReads.{HasTablesOf, KeepsUse, OnlyReadNewest, ReadsIn, ReadsNewest, ReadsStore}
 use Rattle.td_store_rows.specs.Visited.{IsOfLayout}
 
 -- a statement that doesn't write, whatever came of it
@@ -60,3 +62,16 @@ none_newest a l newest = none_read a
 
 pub newest_more : (a b d : State) → OnlyReadNewest a b → OnlyReadNewest b d → OnlyReadNewest a d
 newest_more a b d first second l newest = read_more a b d (first l newest) (second l newest)
+
+-- What was read in a transaction, in a file of one of these layouts, was read of a connection that was open, where that is seen after
+-- it; and its database is as it was.
+module _ {S : Type 0} (g : Ghosts S) (P : Layout → Type 0) (old : Held S) (read seen : State) where
+  pub seen_still : (HasCleanDisk (state g old) → HasTablesOf P (state g old)) → ReadsIn P true (state g (record old { in_transaction = true })) read
+      → StaysInside true read seen → (HasCleanDisk seen → IsUnchanged read seen) → HasCleanDisk seen
+      → IsTrue (state g old).is_open × (seen.now ≡ (state g old).now)
+  seen_still tables reads within still clean =
+      let clean_read : HasCleanDisk read = omega (arith, clean, within.survives.clean) in
+      let same = still clean in
+      let there = tables (omega (arith, clean_read, reads.within.survives.clean)) in
+      let only = reads.still clean_read refl there.0 there.1 there.2 in
+      (only.was_open same.0.was_open, same.0.now_is ∙ only.now_is)

@@ -7,6 +7,7 @@ use Rattle.td_schema.specs.declared.layout.Layout.{Layout}
 use Rattle.td_schema.specs.Layouts.{HasFewLines, HasMoreLines, IsNewest, newest_version, schema_of, version_of}
 use Rattle.td_table_model.specs.Tables.{version_with_amounts}
 use Rattle.typed_sql.specs.Reading.{LeavesAll, OnlyRead, StaysInside}
+use Rattle.typed_sql.specs.Writing.{HasSchema}
 
 -- where it ended well, all is as it was, if the file is of one of these layouts
 pub record ReadsIn (P : Layout → Type 0) (well : Bool) (old new : State) : Type 0 where
@@ -67,3 +68,10 @@ InVersion version P db = (l : Layout) → IsOfVersion version l → db.schema �
 
 abbrev pub InNewest : (Layout → Trees → Type 0) → Database → Type 0
 InNewest = InVersion newest_version
+
+-- as far as the connection is open, it is to a file of one of these layouts; of the newest version
+abbrev pub HasTablesOf : (Layout → Type 0) → State → Type 0
+HasTablesOf P s = (l : Layout) × P l × HasSchema s (schema_of l)
+
+abbrev pub HasNewestTables : State → Type 0
+HasNewestTables = HasTablesOf IsNewest

@@ -19,3 +19,4 @@ pub mod TypedWhere
 mod First
 mod Shown
 pub mod VisitedTyped
+pub mod Outside

@@ -5,3 +5,4 @@ pub mod Typed
 pub mod Values
 pub mod Walked
 pub mod Visited
+pub mod Outside

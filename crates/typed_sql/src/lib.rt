@@ -12,7 +12,7 @@ mod statements;
 mod visiting;
 mod walking;
 
-pub use asking::see_open;
+pub use asking::{ask, see_open, see_settled};
 pub use cells::{integer_at, is_null_at, number_at, text_at};
 pub use fetching::{fetch, fetch_first, fetch_one};
 pub use rows::{FromRow, only, read_rows};

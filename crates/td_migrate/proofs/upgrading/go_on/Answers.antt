@@ -1,4 +1,4 @@
-use Rattle.std.proofs.Common.{◌≡◌, arith, subst}
+use Rattle.std.proofs.Common.{◌≡◌, arith, refl, subst}
 use Rattle.sqlite.specs.Effect.{Database}
 use Rattle.sqlite.specs.Held.{state}
 use Rattle.sqlite.specs.State.{HasCleanDisk, State}
@@ -14,6 +14,6 @@ returns-then-found-lt-NEWEST_VERSION-clause-crash g c =
     survives_then o b d (λ _. ⊥) (MayLeaveUpgraded b.now) (MayLeaveUpgraded o.now) (λ _ trees none. absurd none)
     (λ clean trees may.
     let clean_b : HasCleanDisk b = omega (arith, clean, c.steps_from.ensures.crash.clean) in
-    let now_is : b.now ≡ o.now = c.in_ok-found.ensures.same clean_b (c.in_ok-found.ensures.shown clean_b).1 in
+    let now_is : b.now ≡ o.now = c.in_ok-found.ensures.looks.same clean_b (c.in_ok-found.ensures.looks.shown clean_b refl).1 in
     subst (λ (db : Database). MayLeaveUpgraded db trees) now_is may)
-    c.version.ensures.crash c.steps_from.ensures.crash
+    c.version.ensures.looks.crash c.steps_from.ensures.crash

@@ -1,4 +1,4 @@
-use Rattle.std.proofs.Common.{None, arith, rules, subst, sym, true, ◌∙◌, ◌≡◌}
+use Rattle.std.proofs.Common.{None, arith, refl, rules, subst, sym, true, ◌∙◌, ◌≡◌}
 use Rattle.std.specs.Prelude.{IfOk, is_some}
 use Rattle.sqlite.specs.Effect.{Database}
 use Rattle.sqlite.specs.Held.{state}
@@ -24,11 +24,11 @@ pub returns-clause-told : goal.returns-clause-told
 returns-clause-told g c clean =
     let a : State = state g.S.Store c.args.conn.now in
     let b : State = state g.S.Store c.read_office.new.conn in
-    let clean_b : HasCleanDisk b = omega (arith, clean, c.fault_of_rows.ensures.crash.clean) in
+    let clean_b : HasCleanDisk b = omega (arith, clean, c.fault_of_rows.ensures.looks.crash.clean) in
     let found = c.in_ok-read_office.ensures.found clean_b in
     let none : c.office_fault-fault.result ≡ None = search rules in
     let office : TellsOffice c.args.country c.in_ok-read_office.field-0 None = subst (TellsOffice c.args.country c.in_ok-read_office.field-0) none c.office_fault-fault.ensures in
-    let now_is : b.now ≡ a.now = c.in_ok-read_office.ensures.same clean_b (c.in_ok-read_office.ensures.shown clean_b).1 in
+    let now_is : b.now ≡ a.now = c.in_ok-read_office.ensures.looks.same clean_b (c.in_ok-read_office.ensures.looks.shown clean_b refl).1 in
     let newest : IsNewest c.args.layout = sym c.version_in.ensures ∙ c.if-version_in-ne-NEWEST_VERSION.false in
     rows_judged c.args.country c.args.layout a.now.trees c.in_ok-read_office.field-0 found newest office c.fault_of_rows.result
     (subst (λ (d : Database). IfOk c.fault_of_rows.result (TellsRows c.args.layout d.trees)) now_is (c.fault_of_rows.ensures.told clean))

@@ -10,7 +10,7 @@ use Rattle.td_store.proofs.desk.SqlDesk.open.Goals as goal
 pub over-requires-clause-desk : goal.over-requires-clause-desk
 over-requires-clause-desk g c = λ clean is.
     let it = desk_there c.args.country (state g.S.Store c.args.conn).now (state g.S.Store c.refusal.new.conn)
-    (c.in-None.ensures.told clean) (c.refusal.ensures.same clean is) c.see_settled.ensures.sound is in
+    (c.in-None.ensures.told clean) (c.refusal.ensures.looks.same clean is) c.see_settled.ensures.sound is in
     (content_in (state g.S.Store c.refusal.new.conn).now.trees, it.0, it.1)
 
 pub returns-in-None-clause-opened : goal.returns-in-None-clause-opened
@@ -18,28 +18,28 @@ returns-in-None-clause-opened g c =
     rw c.over.ensures (λ clean.
     let is : IsTrue (state g.S.Store c.refusal.new.conn).is_open = (c.in-None.ensures.shown clean refl).1 in
     (desk_there c.args.country (state g.S.Store c.args.conn).now (state g.S.Store c.refusal.new.conn)
-    (c.in-None.ensures.told clean) (c.refusal.ensures.same clean is) c.see_settled.ensures.sound is).0)
+    (c.in-None.ensures.told clean) (c.refusal.ensures.looks.same clean is) c.see_settled.ensures.sound is).0)
 
 pub returns-in-None-clause-country : goal.returns-in-None-clause-country
 returns-in-None-clause-country g c =
     rw c.over.ensures (λ clean.
     let is : IsTrue (state g.S.Store c.refusal.new.conn).is_open = (c.in-None.ensures.shown clean refl).1 in
     (desk_there c.args.country (state g.S.Store c.args.conn).now (state g.S.Store c.refusal.new.conn)
-    (c.in-None.ensures.told clean) (c.refusal.ensures.same clean is) c.see_settled.ensures.sound is).1)
+    (c.in-None.ensures.told clean) (c.refusal.ensures.looks.same clean is) c.see_settled.ensures.sound is).1)
 
 pub returns-in-None-clause-version : goal.returns-in-None-clause-version
 returns-in-None-clause-version g c =
     rw c.over.ensures (λ clean.
     let is : IsTrue (state g.S.Store c.refusal.new.conn).is_open = (c.in-None.ensures.shown clean refl).1 in
     (desk_there c.args.country (state g.S.Store c.args.conn).now (state g.S.Store c.refusal.new.conn)
-    (c.in-None.ensures.told clean) (c.refusal.ensures.same clean is) c.see_settled.ensures.sound is).2)
+    (c.in-None.ensures.told clean) (c.refusal.ensures.looks.same clean is) c.see_settled.ensures.sound is).2)
 
 pub returns-in-None-clause-leaves : goal.returns-in-None-clause-leaves
 returns-in-None-clause-leaves g c =
     rw c.over.ensures (λ clean. leaves_shown g.S.Store c.refusal.new.conn c.see_settled.ensures.settled
     (λ is.
     let it = desk_there c.args.country (state g.S.Store c.args.conn).now (state g.S.Store c.refusal.new.conn)
-    (c.in-None.ensures.told clean) (c.refusal.ensures.same clean is) c.see_settled.ensures.sound is in
+    (c.in-None.ensures.told clean) (c.refusal.ensures.looks.same clean is) c.see_settled.ensures.sound is in
     (content_in (state g.S.Store c.refusal.new.conn).now.trees, it.0)))
 
 pub returns-in-Some-clause-unknown : goal.returns-in-Some-clause-unknown

@@ -5,7 +5,7 @@ use Rattle.sqlite.specs.Held.{state}
 use Rattle.sqlite.specs.State.{State, HasCleanDisk, Survives}
 use Rattle.td_store_write.specs.Carried.{CarriesChange, MayLeave}
 use Rattle.td_store.specs.Kept.{IsDeskOf, content_in}
-use Rattle.td_store.proofs.Calls.{adds_change, content_carried, desk_carried, desk_then, then_asked}
+use Rattle.td_store.proofs.Calls.{adds_change, content_carried, desk_carried, desk_left, desk_then, then_asked}
 use Rattle.td_store.proofs.Leaving.{counts_faults, leaves_shown}
 use Rattle.td_store.proofs.desk.SqlDeskStore.write.Goals as goal
 
@@ -19,7 +19,7 @@ returns-in-Err-clause-crash g c = λ clean.
     let e : State = state g.S.Store c.fault_of-fault.new.conn in
     let asked = c.fault_of-fault.ensures in
     adds_change g.S.Store country c.args.change c.args.self.now c.fault_of-fault.new.conn desk c.requires.decided
-    (then_asked a b e (MayLeave country c.args.change a) survives asked.crash) clean
+    (then_asked a b e (MayLeave country c.args.change a) survives asked.looks.crash) clean
 
 pub returns-in-Err-clause-err : goal.returns-in-Err-clause-err
 returns-in-Err-clause-err g c = λ clean is.
@@ -27,8 +27,8 @@ returns-in-Err-clause-err g c = λ clean is.
     let b : State = state g.S.Store c.carry_change.new.conn in
     let asked = c.fault_of-fault.ensures in
     let same : HasCleanDisk b → IsTrue b.is_open → b.now ≡ a.now = rw c.self.view_is at c.in-Err.ensures.err in
-    let clean_b : HasCleanDisk b = omega (arith, clean, asked.crash.clean) in
-    ap (λ (d : Database). content_in d.trees) (asked.same clean is ∙ same clean_b (asked.live clean is))
+    let clean_b : HasCleanDisk b = omega (arith, clean, asked.looks.crash.clean) in
+    ap (λ (d : Database). content_in d.trees) (asked.looks.same clean is ∙ same clean_b (asked.looks.live clean is))
 
 pub returns-in-Err-clause-settled : goal.returns-in-Err-clause-settled
 returns-in-Err-clause-settled g c = λ clean.
@@ -41,9 +41,9 @@ returns-in-Err-clause-settled g c = λ clean.
     let same : HasCleanDisk b → IsTrue b.is_open → b.now ≡ a.now = rw c.self.view_is at c.in-Err.ensures.err in
     let e : State = state g.S.Store c.fault_of-fault.new.conn in
     let asked = c.fault_of-fault.ensures in
-    let desk_b = desk_then country a b (MayLeave country c.args.change a) desk survives live same in
+    let desk_b = desk_left country a b (MayLeave country c.args.change a) desk survives live same in
     leaves_shown g.S.Store c.fault_of-fault.new.conn c.see_settled.ensures.settled
-    (λ is. let it = desk_then country b e (λ _. ⊥) desk_b asked.crash asked.live asked.same clean is in (it.0, it.1))
+    (λ is. let it = desk_then country b e desk_b asked.looks clean is in (it.0, it.1))
 
 pub returns-in-Err-clause-call : goal.returns-in-Err-clause-call
 returns-in-Err-clause-call g c =
@@ -54,7 +54,7 @@ returns-in-Err-clause-call g c =
     let survives : Survives a b (MayLeave country c.args.change a) = rw c.self.view_is at c.carry_change.ensures.crash in
     let e : State = state g.S.Store c.fault_of-fault.new.conn in
     let asked = c.fault_of-fault.ensures in
-    counts_faults a e (MayLeave country c.args.change a) (then_asked a b e (MayLeave country c.args.change a) survives asked.crash)
+    counts_faults a e (MayLeave country c.args.change a) (then_asked a b e (MayLeave country c.args.change a) survives asked.looks.crash)
 
 pub invariant_of-self : goal.invariant_of-self
 invariant_of-self g c =
@@ -67,8 +67,8 @@ invariant_of-self g c =
     let same : HasCleanDisk b → IsTrue b.is_open → b.now ≡ a.now = rw c.self.view_is at c.in-Err.ensures.err in
     let e : State = state g.S.Store c.fault_of-fault.new.conn in
     let asked = c.fault_of-fault.ensures in
-    let desk_b = desk_then country a b (MayLeave country c.args.change a) desk survives live same in
-    (desk_then country b e (λ _. ⊥) desk_b asked.crash asked.live asked.same, asked.ended)
+    let desk_b = desk_left country a b (MayLeave country c.args.change a) desk survives live same in
+    (desk_then country b e desk_b asked.looks, asked.ended)
 
 pub returns-clause-written : goal.returns-clause-written
 returns-clause-written g c =
