@@ -1,3 +1,4 @@
 pub mod NameFacts
+mod BodyFacts
 mod LineFacts
 mod MemberFacts

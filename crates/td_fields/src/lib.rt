@@ -1,10 +1,15 @@
-//! The fields of requests' bodies, and why a request can't be read.
+//! Bodies of requests as commands, their fields, and why a request can't be read.
 #![tactic(auto)]
 
+mod bodies;
 mod body_fields;
 mod body_lines;
 mod fault;
 
+pub use bodies::{
+    read_addition, read_amendment, read_arrival, read_control, read_declaration, read_opening,
+    read_registration, read_release, read_removal, read_write_off,
+};
 pub use body_fields::{
     code_in, cover_in, eori_in, ground_in, limit_in, lrn_in, office_in, reference_in, result_in,
 };

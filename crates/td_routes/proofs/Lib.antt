@@ -1,3 +1,2 @@
 mod PartFacts
 mod RouteFacts
-mod BodyFacts

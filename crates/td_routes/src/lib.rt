@@ -1,4 +1,4 @@
-//! Requests as commands: the desk's paths and bodies. It hands on why a request can't be read.
+//! Requests as commands: the desk's paths, and the body that each takes. It hands on why a request can't be read.
 #![tactic(auto)]
 
 mod bodies;

@@ -1,7 +1,7 @@
 use Rattle.std.proofs.Common.{◌≡◌, ◌∙◌, sym, ap, inl, inr, refl, rules, true, false, Err}
-use Rattle.td_routes.proofs.BodyFacts.{object_read, object_unread}
-use Rattle.td_routes.proofs.bodies.read_object.Goals as goal
-use Rattle.td_routes.proofs.bodies.read_object.Goals.{then-is_memory, else-is_memory}
+use Rattle.td_fields.proofs.BodyFacts.{object_read, object_unread}
+use Rattle.td_fields.proofs.bodies.read_object.Goals as goal
+use Rattle.td_fields.proofs.bodies.read_object.Goals.{then-is_memory, else-is_memory}
 
 pub returns-in-Err : goal.returns-in-Err
 returns-in-Err c =

@@ -4,7 +4,7 @@ use Rattle.std.proofs.lemmas.Str.{IsUtf8-from_is_utf8, is_utf8-from_IsUtf8}
 use Rattle.std.specs.Str.{IsUtf8, is_utf8}
 use Rattle.serde_json.specs.Data.{Data}
 use Rattle.serde_json.specs.Read.{read}
-use Rattle.td_routes.specs.Bodies.{object_in, object_of}
+use Rattle.td_fields.specs.Bodies.{object_in, object_of}
 use Rattle.td_fields.specs.declared.fault.WebFault.TheVariants.{BadBody}
 
 -- a text that is read is the object in what is read
