@@ -16,7 +16,7 @@ use Rattle.td_table_model.specs.declared.rule.Rule.{Rule}
 use Rattle.td_schema.specs.Layouts.{schema_of}
 use Rattle.td_schema.specs.declared.layout.Layout.{Layout}
 use Rattle.td_store_rows.specs.StoreTables.{AreTreesOf, HoldsContent}
-use Rattle.td_store.specs.Kept.{CrashLeavesShown}
+use Rattle.typed_sql.specs.Outside.{CrashLeavesShown}
 use Rattle.td_store.specs.Opened.{AreDamaged, IsOfAnother, IsOfEarlier, IsOfUnknownVersion, IsStoreSchema, TellsDatabase}
 use Rattle.td_store.specs.declared.refused.OpenFault.{OpenFault}
 use Rattle.td_store.specs.declared.refused.OpenFault.TheVariants.{UnknownVersion, NeedsMigration, OtherCountry, Damaged, Store, NoMemory}

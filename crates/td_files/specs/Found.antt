@@ -14,7 +14,8 @@ use Rattle.td_desk.specs.View.{DeskView, LeavesOnly}
 use Rattle.td_schema.specs.Tables.{IsEmptyOf, no_schema}
 use Rattle.td_store_rows.specs.StoreTables.{AreTreesOf, HoldsContent}
 pub use Rattle.td_store.specs.Kept.{content_in}
-use Rattle.td_store.specs.Kept.{CrashLeavesShown, sql_view}
+use Rattle.typed_sql.specs.Outside.{CrashLeavesShown}
+use Rattle.td_store.specs.Kept.{sql_view}
 use Rattle.td_store.specs.Opened.{TellsDatabase}
 use Rattle.td_store.specs.declared.refused.OpenFault.{OpenFault}
 use Rattle.td_store.specs.declared.refused.OpenFault.TheVariants.{UnknownVersion, NeedsMigration, OtherCountry, Damaged, Store, NoMemory}

@@ -5,7 +5,7 @@ use Rattle.sqlite_wal.specs.Recovery.{Image}
 use Rattle.sqlite_trees.specs.Tree.{Trees}
 use Rattle.sqlite.specs.Effect.{Database}
 use Rattle.sqlite.specs.Files.{file_state}
-use Rattle.td_store.specs.Kept.{CrashLeavesShown}
+use Rattle.typed_sql.specs.Outside.{CrashLeavesShown}
 use Rattle.td_store.specs.declared.refused.OpenFault.{OpenFault}
 use Rattle.td_store.specs.declared.refused.OpenFault.TheVariants as open_fault
 use Rattle.td_migrate.specs.Upgraded.{LeavesWithFault, MayLeaveUpgraded, TellsUpgrade}

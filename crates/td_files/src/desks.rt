@@ -42,7 +42,7 @@ impl<S: Start> OneFile<S, FileStore<FileFrom<S>>> {
         ensures handed { self.new.connection ≡ Some refused.connection }
     {
         let Refused { fault, connection } = refused;
-        self.connection = Some(connection);
+        self.hold(connection);
         DeskFault::Refused(fault)
     }
 
@@ -108,6 +108,6 @@ impl<S: Start> OneFile<S, FileStore<FileFrom<S>>> {
         ensures there { self.new.connection ≡ Some desk }
         ensures kept { IsKeptDesk desk }
     {
-        self.connection = Some(desk.close());
+        self.hold(desk.close());
     }
 }

@@ -1,5 +1,5 @@
 //! The file of the machine that a program opens, by its path.
-ghost use Rattle.std.specs.Prelude.{◌≡◌, false, None, IfOk, IfSome, MatchOption};
+ghost use Rattle.std.specs.Prelude.{◌≡◌, false, None, Some, IfOk, IfSome, MatchOption};
 ghost use Rattle.sqlite.specs.Files.{IsOpened, file_state};
 ghost use Rattle.sqlite.specs.Start.{FindsIn};
 ghost use Rattle.sqlite.specs.State.{HasCleanDisk};
@@ -40,6 +40,14 @@ impl<S: Start> OneFile<S, FileStore<FileFrom<S>>> {
             start: Some(start),
             connection: None,
         }
+    }
+
+    // Keeps a connection that is handed back. It lets go of the one before, if there was one, which no other function does: the proof
+    // of that is long at the type of a file of the machine.
+    pub(crate) fn hold(&mut self, connection: FileConnection<S>)
+        ensures { self.new.connection ≡ Some connection }
+    {
+        self.connection = Some(connection);
     }
 
     /// Closes the file, if it is open: what its log holds is copied into it. Whatever was committed is kept, also where that

@@ -2,7 +2,7 @@
 ghost use Rattle.std.specs.Prelude.{◌≡◌, false};
 ghost use Rattle.sqlite.specs.Held.{state};
 ghost use Rattle.sqlite.specs.WalFiles.{image_at};
-ghost use Rattle.td_store.specs.Kept.{CrashLeavesShown};
+ghost use Rattle.typed_sql.specs.Outside.{CrashLeavesShown};
 ghost use Rattle.td_files.specs.declared.desks.DeskFault.TheVariants as fault;
 ghost use Rattle.td_files.specs.Upgraded.{IsUpgraded, refused_as};
 
@@ -49,7 +49,7 @@ impl<S: Start> OneFile<S, FileStore<FileFrom<S>>> {
         };
         see_settled(&conn);
         let result = upgrade(rt.alloc(), &mut conn);
-        self.connection = Some(conn);
+        self.hold(conn);
         match result {
             Ok(version) => Ok(version),
             Err(why) => Err(refused(why)),

@@ -1,4 +1,4 @@
-use Rattle.std.proofs.Common.{inr, refl}
+use Rattle.std.proofs.Common.{inr}
 use Rattle.sqlite.specs.Files.{file_state}
 use Rattle.sqlite.specs.WalFiles.{image_at}
 use Rattle.td_files.proofs.Opening.{clean_before, found_there, shows_upgrade}
@@ -7,7 +7,7 @@ use Rattle.td_files.proofs.upgrades.OneFile+S+FileStore+FileFrom+S.upgrade.Goals
 pub returns-in-Ok-result : goal.returns-in-Ok-result
 returns-in-Ok-result g c = (
   c.upgrade-result.new.conn,
-  refl,
+  c.hold.ensures,
   λ clean.
       let found = file_state c.in-Ok.conn in
       let after = c.in-Ok-result.ensures in
@@ -23,7 +23,7 @@ returns-in-Err-result g c = inr (
   c.refused.ensures,
   (
     c.upgrade-result.new.conn,
-    refl,
+    c.hold.ensures,
     λ clean.
         let found = file_state c.in-Ok.conn in
         let after = c.in-Err-result.ensures in
