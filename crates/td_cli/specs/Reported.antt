@@ -8,10 +8,10 @@ use Rattle.td_desk.specs.Content.{Content}
 use Rattle.td_desk.specs.View.{DeskView}
 use Rattle.td_files.specs.Found.{FileSeen}
 use Rattle.td_files.specs.declared.desks.DeskFault.{DeskFault}
-use Rattle.td_reports.specs.Written.{IsReported}
+use Rattle.td_report_pieces.specs.Written.{IsReported}
 use Rattle.td_reports.specs.Texts.{guarantees_text, overdue_text}
-use Rattle.td_reports.specs.declared.fault.ReportFault.{ReportFault}
-use Rattle.td_reports.specs.declared.fault.ReportFault.TheVariants as report
+use Rattle.td_report_pieces.specs.declared.fault.ReportFault.{ReportFault}
+use Rattle.td_report_pieces.specs.declared.fault.ReportFault.TheVariants as report
 use Rattle.td_store.specs.Looked.{HasLooked}
 use Rattle.td_table_model.specs.Listed.{guarantees_listed, movements_listed}
 use Rattle.td_words.specs.declared.words.Records.{Records}

@@ -5,7 +5,7 @@ ghost use Rattle.td_words.specs.declared.words.Records.TheVariants.{File};
 ghost use Rattle.td_cli.specs.AtDesk.{AtDesk};
 ghost use Rattle.td_cli.specs.Reported.{HasReported, IsReportDone, IsReportTold, message_of_report, report_text};
 ghost use Rattle.counted_io.specs.Counted.{has_failed};
-ghost use Rattle.td_reports.specs.Written.{IsReported};
+ghost use Rattle.td_report_pieces.specs.Written.{IsReported};
 ghost use Rattle.td_store.specs.Kept.{sql_view};
 ghost use Rattle.td_store.specs.Looked.{HasLooked};
 

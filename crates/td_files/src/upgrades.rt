@@ -1,16 +1,15 @@
 //! Files brought to the newest version of the tables.
-ghost use Rattle.std.specs.Prelude.{◌≡◌, false};
-ghost use Rattle.sqlite.specs.Held.{state};
+ghost use Rattle.std.specs.Prelude.{◌≡◌};
 ghost use Rattle.sqlite.specs.WalFiles.{image_at};
-ghost use Rattle.typed_sql.specs.Outside.{CrashLeavesShown};
 ghost use Rattle.td_files.specs.declared.desks.DeskFault.TheVariants as fault;
 ghost use Rattle.td_files.specs.Upgraded.{IsUpgraded, refused_as};
 
 use crate::desks::{DeskFault, file_fault};
 use crate::files::{OneFile, open_file};
-use sqlite::{Alter, Connection, FileFrom, FileStore, Start};
+use sqlite::{FileFrom, FileStore, Start};
 use td_migrate::{MigrateFault, upgrade};
 use td_store::OpenFault;
+use typed_sql::see_settled;
 
 // What a file is refused for that isn't brought to the newest version.
 fn refused(why: MigrateFault) -> DeskFault
@@ -22,14 +21,6 @@ fn refused(why: MigrateFault) -> DeskFault
         MigrateFault::Store => OpenFault::Store,
         MigrateFault::NoMemory => OpenFault::NoMemory,
     })
-}
-
-// Sees that a crash leaves what the connection shows: nothing is waiting to be committed. It does nothing.
-fn see_settled<S: Alter>(conn: &Connection<S>)
-    requires { conn.now.in_transaction ≡ false }
-    ensures { CrashLeavesShown (state S.Store conn.now) }
-{
-    let _settled = conn.is_autocommit();
 }
 
 impl<S: Start> OneFile<S, FileStore<FileFrom<S>>> {

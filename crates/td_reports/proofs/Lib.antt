@@ -1,8 +1,3 @@
 mod Padding
 mod Texts
-mod Taking
-mod Chains
-mod Ending
-mod Folding
-mod Begun
-mod Reporting
+mod Shown

@@ -1,6 +1,6 @@
--- The texts of reports: a header, lines of fields, and how many lines these are.
+-- The texts of the two reports: their headers, and the fields of their lines.
 use Rattle.std.specs.Prelude.{ℕ, ◌-◌, List, [], ◌∷◌, ◌++◌, length, map, replicate, codes, decimal, Option, Some, None, option_map}
-use Rattle.std.specs.List.{concat, filter_map, join_with_byte}
+use Rattle.std.specs.List.{filter_map}
 use Rattle.td_base.specs.Codes.{holder_text}
 use Rattle.td_base.specs.Days.{day_text}
 use Rattle.td_base.specs.Money.{cents_text, share_of}
@@ -11,6 +11,7 @@ use Rattle.td_movement.specs.declared.times.Overdue.{Overdue}
 use Rattle.td_movement.specs.declared.times.Overdue.TheVariants.{Arrival, Control}
 use Rattle.td_movement.specs.States.{state_name}
 use Rattle.td_movement.specs.Status.{overdue}
+use Rattle.td_report_pieces.specs.Layout.{line_of, report_text}
 use Rattle.td_store_rows.specs.declared.movements.stored.MovementDeadlines.{MovementDeadlines}
 
 -- spaces, where a text is short of so many places
@@ -23,18 +24,6 @@ left_in places text = text ++ padding places text
 
 abbrev pub right_in : ℕ → List ℕ → List ℕ
 right_in places text = padding places text ++ text
-
--- fields, joined by one space, and the end of the line
-abbrev pub line_of : List (List ℕ) → List ℕ
-line_of fields = join_with_byte 32 fields ++ codes "\n"
-
--- how many lines there are
-abbrev pub total_line : ℕ → List ℕ
-total_line lines = line_of (codes "TOTAL" ∷ decimal lines ∷ [])
-
--- a report: its header, its lines, and how many these are
-abbrev pub report_text : List ℕ → List (List ℕ) → List ℕ
-report_text header lines = header ++ (concat lines ++ total_line (length lines))
 
 -- what is overdue, and the day on which it was due
 abbrev pub kind_of : Overdue → List ℕ

@@ -2,11 +2,9 @@
 //! are read one at a time, and the text is written in pieces.
 #![tactic(auto)]
 
-mod fault;
 mod lines;
-mod pieces;
 mod reports;
 mod rows;
 
-pub use fault::ReportFault;
 pub use reports::{guarantees, overdue};
+pub use td_report_pieces::ReportFault;

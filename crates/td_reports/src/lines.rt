@@ -1,6 +1,7 @@
 //! Lines of reports.
 ghost use Rattle.std.specs.Prelude.{◌≡◌, ◌-◌, [], ◌∷◌, ◌++◌, IfOk, IsSome, OnErr, OnOk, option_map, string_bytes};
-ghost use Rattle.td_reports.specs.Texts.{amount_text, deadlines_line, end_text, guarantee_line, line_of, overdue_fields};
+ghost use Rattle.td_report_pieces.specs.Layout.{line_of};
+ghost use Rattle.td_reports.specs.Texts.{amount_text, deadlines_line, end_text, guarantee_line, overdue_fields};
 
 use std::alloc::{AllocError, Global};
 use td_base::{Cents, Day, HolderNo};

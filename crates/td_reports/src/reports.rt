@@ -7,15 +7,14 @@ ghost use Rattle.td_store.specs.Kept.{CountsFaults, content_in, sql_view};
 ghost use Rattle.td_store.specs.Looked.{HasLooked};
 ghost use Rattle.td_table_model.specs.Listed.{guarantees_listed, movements_listed};
 ghost use Rattle.td_reports.specs.Texts.{guarantees_text, overdue_text};
-ghost use Rattle.td_reports.specs.Written.{HasWritten, IsReported};
+ghost use Rattle.td_report_pieces.specs.Written.{HasWritten, IsReported};
 
-use crate::fault::ReportFault;
-use crate::pieces::Pieces;
 use crate::rows::{AmountsInUse, OverdueOn};
 use sqlite_trees::store::Alter;
 use std::alloc::Global;
 use std::io::Write;
 use td_base::{Counted, Day};
+use td_report_pieces::{Pieces, ReportFault};
 use td_store::SqlDesk;
 
 /// Writes the report of the movements that are overdue on a day, by holder and then by serial: `OVERDUE DAY`, a line for each, and

@@ -1,8 +1,8 @@
 //! What the reports have of the rows of a desk's file.
 use crate::lines::{guarantee_line, overdue_line};
-use crate::pieces::Report;
 use std::alloc::{AllocError, Global};
 use td_base::Day;
+use td_report_pieces::Report;
 use td_store_rows::{KeptGuarantee, MovementDeadlines};
 
 /// The movements that are overdue on a day.

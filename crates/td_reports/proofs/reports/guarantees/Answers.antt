@@ -6,9 +6,10 @@ use Rattle.td_table_model.specs.Listed.{guarantees_listed, without_codes}
 use Rattle.td_store.specs.Kept.{content_in}
 use Rattle.td_store.specs.Visits.{said_of_guarantee}
 use Rattle.td_reports.specs.Texts.{guarantee_line, guarantees_header}
-use Rattle.td_reports.proofs.Begun.{all_have_lines, begun, lines_of_forms, lines_shown}
-use Rattle.td_reports.proofs.Folding.{taken_all, HasTaken}
-use Rattle.td_reports.proofs.Reporting.{cause_of, has_written, reported, told_write}
+use Rattle.td_report_pieces.proofs.Begun.{begun}
+use Rattle.td_report_pieces.proofs.Folding.{taken_all, HasTaken}
+use Rattle.td_report_pieces.proofs.Reporting.{cause_of, has_written, reported, told_write}
+use Rattle.td_reports.proofs.Shown.{all_have_lines, lines_of_forms, lines_shown}
 use Rattle.td_reports.proofs.reports.guarantees.Given.{Over}
 use Rattle.td_reports.proofs.reports.guarantees.Goals as goal
 

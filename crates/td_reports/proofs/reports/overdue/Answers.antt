@@ -7,9 +7,10 @@ use Rattle.td_table_model.specs.Listed.{movements_listed}
 use Rattle.td_store.specs.Kept.{content_in}
 use Rattle.td_store.specs.Visits.{shown_of_movement}
 use Rattle.td_reports.specs.Texts.{deadlines_line, overdue_header, overdue_line}
-use Rattle.td_reports.proofs.Begun.{begun, filter_map-map, lines_shown}
-use Rattle.td_reports.proofs.Folding.{taken_all, HasTaken}
-use Rattle.td_reports.proofs.Reporting.{cause_of, has_written, reported, told_write}
+use Rattle.td_report_pieces.proofs.Begun.{begun}
+use Rattle.td_report_pieces.proofs.Folding.{taken_all, HasTaken}
+use Rattle.td_report_pieces.proofs.Reporting.{cause_of, has_written, reported, told_write}
+use Rattle.td_reports.proofs.Shown.{filter_map-map, lines_shown}
 use Rattle.td_reports.proofs.Texts.{made_as}
 use Rattle.td_reports.proofs.reports.overdue.Given.{Over}
 use Rattle.td_reports.proofs.reports.overdue.Goals as goal

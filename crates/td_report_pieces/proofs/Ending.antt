@@ -3,11 +3,11 @@ use Rattle.std.proofs.Common.{◌≡◌, ℕ, Bool, true, false, List, [], ◌�
 use Rattle.counted_io.specs.declared.counted.Counted.{Counted}
 use Rattle.counted_io.specs.Chains.{Wrote}
 use Rattle.td_desk.specs.declared.fault.Fault.{Fault}
-use Rattle.td_reports.specs.declared.fault.ReportFault.{ReportFault}
-use Rattle.td_reports.specs.declared.fault.ReportFault.TheVariants.{Write, Store, NoMemory}
-use Rattle.td_reports.specs.declared.pieces.Pieces.{Pieces}
-use Rattle.td_reports.specs.Pieces.{Ends, left_of}
-use Rattle.td_reports.specs.Written.{EndsBy, IsStopped, fault_after_write, stop_of}
+use Rattle.td_report_pieces.specs.declared.fault.ReportFault.{ReportFault}
+use Rattle.td_report_pieces.specs.declared.fault.ReportFault.TheVariants.{Write, Store, NoMemory}
+use Rattle.td_report_pieces.specs.declared.pieces.Pieces.{Pieces}
+use Rattle.td_report_pieces.specs.Pieces.{Ends, left_of}
+use Rattle.td_report_pieces.specs.Written.{EndsBy, IsStopped, fault_after_write, stop_of}
 
 -- where all writes were well, it ends as it was closed
 ends_as_closed : (stop : Option ReportFault) (closed : Result (Unit {0}) ReportFault) → OnOk closed (stop ≡ None) → IfErr closed (IsStopped stop) → EndsBy stop true closed

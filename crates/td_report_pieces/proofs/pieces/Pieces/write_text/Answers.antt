@@ -1,7 +1,7 @@
 use Rattle.std.proofs.Common.{◌≡◌, ◌∙◌, [], take, drop, string_bytes}
 use Rattle.std.proofs.lemmas.List.{take-append-drop}
-use Rattle.td_reports.proofs.Chains.{nothing_written}
-use Rattle.td_reports.proofs.pieces.Pieces.write_text.Goals as goal
+use Rattle.td_report_pieces.proofs.Chains.{nothing_written}
+use Rattle.td_report_pieces.proofs.pieces.Pieces.write_text.Goals as goal
 
 pub returns-clause-part : goal.returns-clause-part
 returns-clause-part g c = λ failed.

@@ -11,15 +11,15 @@ use Rattle.counted_io.specs.Counted.{calls_of, has_failed, known_bytes, HasCalle
 use Rattle.counted_io.proofs.Chaining.{wrote_appends, wrote_on}
 use Rattle.td_desk.specs.declared.fault.Fault.{Fault}
 use Rattle.td_desk.specs.declared.fault.Fault.TheVariants as fault
-use Rattle.td_reports.specs.declared.fault.ReportFault.{ReportFault}
-use Rattle.td_reports.specs.declared.fault.ReportFault.TheVariants.{Write, Store, NoMemory}
-use Rattle.td_reports.specs.declared.pieces.Pieces.{Pieces}
-use Rattle.td_reports.specs.Pieces.{Ends, left_of}
-use Rattle.td_reports.specs.Texts.{report_text, total_line}
-use Rattle.td_reports.specs.Written.{EndsBy, HasWritten, IsReported, IsTold, no_write_failed, stop_of}
-use Rattle.td_reports.proofs.Chains.{failed_call}
-use Rattle.td_reports.proofs.Ending.{append-nil-left}
-use Rattle.td_reports.proofs.Folding.{HasTaken}
+use Rattle.td_report_pieces.specs.declared.fault.ReportFault.{ReportFault}
+use Rattle.td_report_pieces.specs.declared.fault.ReportFault.TheVariants.{Write, Store, NoMemory}
+use Rattle.td_report_pieces.specs.declared.pieces.Pieces.{Pieces}
+use Rattle.td_report_pieces.specs.Pieces.{Ends, left_of}
+use Rattle.td_report_pieces.specs.Layout.{report_text, total_line}
+use Rattle.td_report_pieces.specs.Written.{EndsBy, HasWritten, IsReported, IsTold, no_write_failed, stop_of}
+use Rattle.td_report_pieces.proofs.Chains.{failed_call}
+use Rattle.td_report_pieces.proofs.Ending.{append-nil-left}
+use Rattle.td_report_pieces.proofs.Folding.{HasTaken}
 
 -- it stopped at nothing: the visit ended well
 not_stopped : (visited : Result Bool Fault) (f : Option ReportFault) → stop_of visited f ≡ None → (f ≡ None) × (all : Bool) × (visited ≡ Ok all)

@@ -1,5 +1,5 @@
-use Rattle.td_reports.proofs.Ending.{well_ended, cut_short}
-use Rattle.td_reports.proofs.pieces.Pieces.end.Goals as goal
+use Rattle.td_report_pieces.proofs.Ending.{well_ended, cut_short}
+use Rattle.td_report_pieces.proofs.pieces.Pieces.end.Goals as goal
 
 pub returns-then-is_written : goal.returns-then-is_written
 returns-then-is_written g c =

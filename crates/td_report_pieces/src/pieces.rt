@@ -1,6 +1,6 @@
 //! Reports whose lines are put behind one another and written in pieces.
 ghost use Rattle.std.specs.Prelude.{◌≡◌};
-ghost use Rattle.td_reports.specs.Written.{fault_after_write, stop_of};
+ghost use Rattle.td_report_pieces.specs.Written.{fault_after_write, stop_of};
 
 use crate::fault::ReportFault;
 use std::alloc::{AllocError, Global};
@@ -13,7 +13,7 @@ use typed_sql::Visitor;
 const PIECE: usize = 4096;
 
 /// What a report has of rows.
-pub(crate) trait Report<T> {
+pub trait Report<T> {
     ghost use Rattle.std.specs.Prelude.{◌≡◌, ℕ, IfOk, IsSome, List, OnErr, Option, option_map, string_bytes};
 
     /// The line of a row, if it has one.
@@ -27,7 +27,7 @@ pub(crate) trait Report<T> {
 
 /// A report that is being written.
 #[derive(Drop)]
-pub(crate) struct Pieces<R> {
+pub struct Pieces<R> {
     alloc: Global,
     report: R,
     // what isn't written yet
@@ -63,13 +63,13 @@ fn fault_after_write(closed: Result<(), ReportFault>) -> ReportFault
 impl<R> Pieces<R> {
     ghost use Rattle.std.specs.Prelude.{[], None, Some, false, true, IfErr, IfOk, IsErr, OnErr, OnOk, string_bytes};
     ghost use Rattle.counted_io.specs.Chains.{Wrote};
-    ghost use Rattle.td_reports.specs.declared.fault.ReportFault.TheVariants.{NoMemory};
+    ghost use Rattle.td_report_pieces.specs.declared.fault.ReportFault.TheVariants.{NoMemory};
     ghost use Rattle.std.specs.Result.{result_err};
-    ghost use Rattle.td_reports.specs.Pieces.{Ends, TakesUp, left_of};
-    ghost use Rattle.td_reports.specs.Written.{BreaksOff, IsStopped};
+    ghost use Rattle.td_report_pieces.specs.Pieces.{Ends, TakesUp, left_of};
+    ghost use Rattle.td_report_pieces.specs.Written.{BreaksOff, IsStopped};
 
     /// A report that begins with this header, if there was memory for it.
-    pub(crate) fn begin(alloc: Global, report: R, header: Result<String, AllocError>) -> Self
+    pub fn begin(alloc: Global, report: R, header: Result<String, AllocError>) -> Self
         ensures report { result.report ≡ report }
         ensures lines { result.lines ≡ 0 }
         ensures header { IfOk header (λ text. (string_bytes result.text ≡ string_bytes text) × (result.fault ≡ None)) }
@@ -140,7 +140,7 @@ impl<R> Pieces<R> {
 
     /// Writes what waits and, after a visit that nothing stopped, the total. The error is why the report isn't whole: a fault of
     /// the visit's store, else a write that failed, else want of memory. What waited is written before it is told.
-    pub(crate) fn end<W: Write>(
+    pub fn end<W: Write>(
         mut self,
         visited: Result<bool, Fault>,
         writer: &mut Counted<W>,
@@ -161,7 +161,7 @@ impl<R> Pieces<R> {
 
 impl<T: Drop, R: Report<T>, W: Write> Visitor<T, Counted<W>> for Pieces<R> {
     ghost use Rattle.std.specs.Prelude.{IsSome};
-    ghost use Rattle.td_reports.specs.Pieces.{SeesBy};
+    ghost use Rattle.td_report_pieces.specs.Pieces.{SeesBy};
 
     ghost sees = { λ old before row new after. SeesBy W.contents old.fault (R.line old.report row) old before new after };
 

@@ -4,11 +4,11 @@ use Rattle.std.specs.Result.{result_err}
 use Rattle.counted_io.specs.declared.counted.Counted.{Counted}
 use Rattle.counted_io.specs.Chains.{Wrote}
 use Rattle.counted_io.proofs.Chaining.{wrote_nothing}
-use Rattle.td_reports.specs.declared.fault.ReportFault.{ReportFault}
-use Rattle.td_reports.specs.declared.fault.ReportFault.TheVariants.{Write, Store, NoMemory}
-use Rattle.td_reports.specs.declared.pieces.Pieces.{Pieces}
-use Rattle.td_reports.specs.Pieces.{TakesUp, piece, text_in}
-use Rattle.td_reports.specs.Written.{no_write_failed}
+use Rattle.td_report_pieces.specs.declared.fault.ReportFault.{ReportFault}
+use Rattle.td_report_pieces.specs.declared.fault.ReportFault.TheVariants.{Write, Store, NoMemory}
+use Rattle.td_report_pieces.specs.declared.pieces.Pieces.{Pieces}
+use Rattle.td_report_pieces.specs.Pieces.{TakesUp, piece, text_in}
+use Rattle.td_report_pieces.specs.Written.{no_write_failed}
 
 module _ {R W : Type 0} (contents : W → Option (List ℕ)) (line : Option (List ℕ)) (old new : Pieces R) (before after : Counted W)
     (same : new.report ≡ old.report) where

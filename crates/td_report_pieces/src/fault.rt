@@ -1,6 +1,6 @@
 //! Why a report wasn't written whole.
 ghost use Rattle.std.specs.Prelude.{◌≡◌};
-ghost use Rattle.td_reports.specs.declared.fault.ReportFault.TheVariants.{NoMemory};
+ghost use Rattle.td_report_pieces.specs.declared.fault.ReportFault.TheVariants.{NoMemory};
 
 use std::alloc::AllocError;
 use thiserror::Error;

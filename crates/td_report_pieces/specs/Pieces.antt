@@ -4,11 +4,11 @@ use Rattle.std.specs.Option.{is_none}
 use Rattle.counted_io.specs.declared.counted.Counted.{Counted}
 use Rattle.counted_io.specs.Chains.{Wrote}
 use Rattle.td_desk.specs.declared.fault.Fault.{Fault}
-use Rattle.td_reports.specs.declared.fault.ReportFault.{ReportFault}
-use Rattle.td_reports.specs.declared.fault.ReportFault.TheVariants.{Write}
-use Rattle.td_reports.specs.declared.pieces.Pieces.{Pieces}
-use Rattle.td_reports.specs.Texts.{total_line}
-use Rattle.td_reports.specs.Written.{EndsBy, no_write_failed, stop_of}
+use Rattle.td_report_pieces.specs.declared.fault.ReportFault.{ReportFault}
+use Rattle.td_report_pieces.specs.declared.fault.ReportFault.TheVariants.{Write}
+use Rattle.td_report_pieces.specs.declared.pieces.Pieces.{Pieces}
+use Rattle.td_report_pieces.specs.Layout.{total_line}
+use Rattle.td_report_pieces.specs.Written.{EndsBy, no_write_failed, stop_of}
 
 -- the text of a line, or nothing; and how many lines that is
 abbrev pub text_in : Option (List ℕ) → List ℕ

@@ -7,11 +7,11 @@ use Rattle.std.specs.List.{FoldsTo, concat, filter_map}
 use Rattle.counted_io.specs.declared.counted.Counted.{Counted}
 use Rattle.counted_io.specs.Chains.{Wrote}
 use Rattle.counted_io.proofs.Chaining.{wrote_on}
-use Rattle.td_reports.specs.declared.fault.ReportFault.{ReportFault}
-use Rattle.td_reports.specs.declared.fault.ReportFault.TheVariants.{Write}
-use Rattle.td_reports.specs.declared.pieces.Pieces.{Pieces}
-use Rattle.td_reports.specs.Pieces.{SeesBy, TakesUp, text_in, lines_in}
-use Rattle.td_reports.specs.Written.{no_write_failed}
+use Rattle.td_report_pieces.specs.declared.fault.ReportFault.{ReportFault}
+use Rattle.td_report_pieces.specs.declared.fault.ReportFault.TheVariants.{Write}
+use Rattle.td_report_pieces.specs.declared.pieces.Pieces.{Pieces}
+use Rattle.td_report_pieces.specs.Pieces.{SeesBy, TakesUp, text_in, lines_in}
+use Rattle.td_report_pieces.specs.Written.{no_write_failed}
 
 -- a line more, or none
 one_text : {T : Type 0} (f : T → Option (List ℕ)) (row : T) → concat (filter_map f (row ∷ [])) ≡ text_in (f row)

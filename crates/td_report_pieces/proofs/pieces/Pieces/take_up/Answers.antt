@@ -1,8 +1,8 @@
 use Rattle.std.proofs.Common.{refl, sym, arith, ◌≡◌, ◌∙◌, ◌+◌, ◌++◌, string_bytes}
-use Rattle.td_reports.specs.declared.fault.ReportFault.TheVariants.{Store, NoMemory}
-use Rattle.td_reports.proofs.Taking.{not_taken, has_no_line, line_waits, piece_written, told_no_memory}
-use Rattle.td_reports.proofs.pieces.Pieces.take_up.Goals.{else-len-ge-PIECE-via-then-len-ge-PIECE+else-not-write_text, else-len-ge-PIECE-via-else-len-ge-PIECE}
-use Rattle.td_reports.proofs.pieces.Pieces.take_up.Goals as goal
+use Rattle.td_report_pieces.specs.declared.fault.ReportFault.TheVariants.{Store, NoMemory}
+use Rattle.td_report_pieces.proofs.Taking.{not_taken, has_no_line, line_waits, piece_written, told_no_memory}
+use Rattle.td_report_pieces.proofs.pieces.Pieces.take_up.Goals.{else-len-ge-PIECE-via-then-len-ge-PIECE+else-not-write_text, else-len-ge-PIECE-via-else-len-ge-PIECE}
+use Rattle.td_report_pieces.proofs.pieces.Pieces.take_up.Goals as goal
 
 pub returns-in_err-line : goal.returns-in_err-line
 returns-in_err-line g c =

@@ -7,8 +7,8 @@ use Rattle.counted_io.specs.Chains.{Wrote}
 use Rattle.counted_io.specs.Counted.{known_bytes}
 use Rattle.td_desk.specs.declared.fault.Fault.{Fault}
 use Rattle.td_desk.specs.declared.fault.Fault.TheVariants as fault
-use Rattle.td_reports.specs.declared.fault.ReportFault.{ReportFault}
-use Rattle.td_reports.specs.declared.fault.ReportFault.TheVariants.{Write, Store, NoMemory}
+use Rattle.td_report_pieces.specs.declared.fault.ReportFault.{ReportFault}
+use Rattle.td_report_pieces.specs.declared.fault.ReportFault.TheVariants.{Write, Store, NoMemory}
 
 -- What was appended is this text, where the report was written; else it begins this text.
 abbrev pub IsReported : {W : Type 0} → (W → Option (List ℕ)) → Counted W → Counted W → List ℕ → Result (Unit {0}) ReportFault → Type 0

@@ -1,0 +1,6 @@
+mod Taking
+mod Chains
+mod Ending
+mod Folding
+mod Begun
+mod Reporting
