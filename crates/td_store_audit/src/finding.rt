@@ -1,11 +1,9 @@
 //! What is looked up of a holder's parts. It changes nothing. `DatabaseCorrupt`: a row is no code's, or no
 //! line's; `OutOfMemory`: want of memory; any other error is the database's own.
-ghost use Rattle.std.specs.Prelude.{◌≡◌, [], ◌∷◌, IfOk, is_ok};
+ghost use Rattle.std.specs.Prelude.{◌≡◌, IfOk, is_ok};
 ghost use Rattle.sqlite.specs.Held.{state};
 ghost use Rattle.sqlite.specs.State.{HasCleanDisk};
-ghost use Rattle.sqlite.specs.Values.{bound};
 ghost use Rattle.typed_sql.specs.Reading.{IsInside};
-ghost use Rattle.typed_sql.specs.Values.{number_value};
 ghost use Rattle.td_store_rows.specs.StoreReads.{ReadsStore, ReadsVersion};
 ghost use Rattle.td_store_rows.specs.CodeTable.{AreCodes};
 ghost use Rattle.td_store_rows.specs.Places.{is_within};
@@ -14,11 +12,9 @@ ghost use Rattle.td_store_audit.specs.Found.{AreInCodeOrder, AreInLineOrder, Are
 use crate::texts::{CODES_BEHIND, CODES_WITHIN, lines_behind_at, lines_within_at};
 use sqlite::{Error, Transaction};
 use sqlite_trees::store::Alter;
-use sqlite_value::value::ValueRef;
 use std::alloc::Global;
 use td_base::HolderNo;
-use td_schema::number_of;
-use td_store_rows::{StoredCode, StoredLine, range_key};
+use td_store_rows::{StoredCode, StoredLine, place_key, range_key};
 use typed_sql::{fetch, fetch_first};
 
 /// A holder's codes of the guarantees with serials from `first` on and below `end`: by these, those of one guarantee in
@@ -58,7 +54,7 @@ pub fn has_code_behind<S: Alter>(
         alloc,
         tx,
         CODES_BEHIND,
-        &behind_key(holder, serial),
+        &place_key(holder.number(), serial),
     )?;
     Ok(code.is_some())
 }
@@ -89,13 +85,6 @@ pub fn lines_within<S: Alter>(
     )
 }
 
-// A holder's number and a serial.
-fn behind_key(holder: HolderNo, serial: u32) -> [ValueRef<'static>; 2]
-    ensures { bound result ≡ number_value holder ∷ number_value serial ∷ [] }
-{
-    [number_of(holder.number()), number_of(serial)]
-}
-
 /// Whether a holder has a line of a movement behind that serial, in a file of that version: one such line is read at most.
 pub fn has_line_behind<S: Alter>(
     alloc: Global,
@@ -114,7 +103,7 @@ pub fn has_line_behind<S: Alter>(
         alloc,
         tx,
         lines_behind_at(version),
-        &behind_key(holder, serial),
+        &place_key(holder.number(), serial),
     )?;
     Ok(line.is_some())
 }

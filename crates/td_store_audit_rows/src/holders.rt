@@ -1,20 +1,18 @@
 //! The holders, whatever stands in their columns.
-ghost use Rattle.std.specs.Prelude.{◌≡◌, ◌<◌, [], ◌∷◌, IfOk, IfSome, is_ok};
+ghost use Rattle.std.specs.Prelude.{◌≡◌, ◌<◌, IfOk, IfSome, is_ok};
 ghost use Rattle.sqlite.specs.Held.{state};
 ghost use Rattle.sqlite.specs.State.{HasCleanDisk};
-ghost use Rattle.sqlite.specs.Values.{bound};
 ghost use Rattle.typed_sql.specs.Reading.{IsInside};
-ghost use Rattle.typed_sql.specs.Values.{number_value};
 ghost use Rattle.td_store_rows.specs.StoreReads.{ReadsStore};
 ghost use Rattle.td_store_audit_rows.specs.NextHolder.{IsNextHolder};
 
 use crate::texts::HOLDERS_ABOVE;
 use sqlite::{Error, ErrorCode, Row, Transaction};
 use sqlite_trees::store::Alter;
-use sqlite_value::value::ValueRef;
 use std::alloc::Global;
 use td_base::{Eori, HolderNo, Moment};
-use td_schema::{eori_at, holder_at, moment_at, number_of, serial_at};
+use td_schema::{eori_at, holder_at, moment_at, serial_at};
+use td_store_rows::above_key;
 use typed_sql::{FromRow, fetch_first};
 
 /// A holder as the row has it: each field is `None` where the column holds no such field.
@@ -46,13 +44,6 @@ impl FromRow for RawHolder {
             mrn_count: serial_at(row, 4),
         })
     }
-}
-
-// What the holders above a number are asked for by.
-fn above_key(number: u32) -> [ValueRef<'static>; 1]
-    ensures { bound result ≡ number_value number ∷ [] }
-{
-    [number_of(number)]
 }
 
 /// The holder with the least number above that one, if there is one: no other row is fetched. The number found is above

@@ -25,4 +25,4 @@ pub use movements::{
     first_movement_above, insert_movement, movements_within, next_movement_of, set_status,
     visit_deadlines,
 };
-pub use places::range_key;
+pub use places::{above_key, place_key, range_key};

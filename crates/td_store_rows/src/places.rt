@@ -1,4 +1,4 @@
-//! What rows behind a place are asked for by.
+//! What the rows of a holder, or behind a place, are asked for by.
 ghost use Rattle.std.specs.Prelude.{◌≡◌, [], ◌∷◌};
 ghost use Rattle.sqlite.specs.Values.{bound};
 ghost use Rattle.typed_sql.specs.Values.{number_value};
@@ -8,14 +8,14 @@ use td_base::HolderNo;
 use td_schema::number_of;
 
 /// A holder's number, whether it is one or not, and a serial.
-pub(crate) fn place_key(holder: u32, serial: u32) -> [ValueRef<'static>; 2]
+pub fn place_key(holder: u32, serial: u32) -> [ValueRef<'static>; 2]
     ensures { bound result ≡ number_value holder ∷ number_value serial ∷ [] }
 {
     [number_of(holder), number_of(serial)]
 }
 
 /// A holder's number alone, whether it is one or not.
-pub(crate) fn above_key(holder: u32) -> [ValueRef<'static>; 1]
+pub fn above_key(holder: u32) -> [ValueRef<'static>; 1]
     ensures { bound result ≡ number_value holder ∷ [] }
 {
     [number_of(holder)]

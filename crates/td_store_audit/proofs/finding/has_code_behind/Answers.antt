@@ -23,7 +23,7 @@ pub returns-clause-told : goal.returns-clause-told
 returns-clause-told g c clean l has typed =
     rw (c.is_some.ensures) (first_tells code_row_of (is_after c.args.holder c.args.serial) code_order (typed_rows code_typing (state g.S.Store c.args.tx.now.conn.now).now.trees) c.in_ok-code.code
     (first_fetched code_typing (schema_of l) code_row_of CODES_BEHIND.now after_tests code_terms by_three
-    (is_after c.args.holder c.args.serial) (number_value c.args.holder ∷ number_value c.args.serial ∷ []) _ c.behind_key.ensures
+    (is_after c.args.holder c.args.serial) (number_value c.args.holder ∷ number_value c.args.serial ∷ []) _ (rw c.number.ensures.value at c.place_key.ensures)
     (codes_behind_mean l) (code_behind_pass c.args.holder c.args.serial) (λ r. refl)
     (state g.S.Store c.args.tx.now.conn.now) code_order
     (codes_compared c.args.holder (is_after c.args.holder c.args.serial) (is_behind c.args.holder c.args.serial)

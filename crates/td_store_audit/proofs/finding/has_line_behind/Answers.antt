@@ -23,7 +23,7 @@ pub returns-clause-told : goal.returns-clause-told
 returns-clause-told g c clean l own has typed =
     rw (c.is_some.ensures) (first_tells line_row_of (is_after c.args.holder c.args.serial) line_order (typed_rows (line_typing l) (state g.S.Store c.args.tx.now.conn.now).now.trees) c.in_ok-line.line
     (first_fetched (line_typing l) (schema_of l) line_row_of (lines_behind_text c.args.version) after_tests line_terms by_three
-    (is_after c.args.holder c.args.serial) (number_value c.args.holder ∷ number_value c.args.serial ∷ []) _ c.behind_key.ensures
+    (is_after c.args.holder c.args.serial) (number_value c.args.holder ∷ number_value c.args.serial ∷ []) _ (rw c.number.ensures.value at c.place_key.ensures)
     (behind_mean c.args.version l own) (behind_pass l c.args.holder c.args.serial) (λ r. refl)
     (state g.S.Store c.args.tx.now.conn.now) line_order
     (lines_compared l c.args.holder (is_after c.args.holder c.args.serial) (is_behind c.args.holder c.args.serial)
