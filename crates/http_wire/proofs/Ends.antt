@@ -1,8 +1,7 @@
 -- What each way to end says, from what holds when the stream ends.
 use Rattle.std.proofs.Common.{◌≡◌, ℕ, ◌+◌, ◌-◌, ◌<◌, ◌≤◌, Bool, true, false, List, [], ◌∷◌, ◌++◌, length, take, All, arith, refl, sym, ap, subst, ◌∙◌, inl, inr, append_assoc, append-nil}
-use Rattle.std.proofs.lemmas.List.{length-map, length-append}
+use Rattle.std.proofs.lemmas.List.{length-map}
 use Rattle.std.proofs.lemmas.List.Elements.{All-head, All-tail, All-cons, All-nil}
-use Rattle.std.specs.List.{flat_map}
 use Rattle.counted_io.specs.declared.counted.Counted.{Counted}
 use Rattle.counted_io.specs.Chains.{Wrote, IsCutShort}
 use Rattle.counted_io.proofs.Chaining.{wrote_on, wrote_appends}
@@ -16,7 +15,7 @@ use Rattle.http_wire.specs.ReplyText.{bytes_of, is_made}
 use Rattle.http_wire.specs.Wire.{Splits}
 use Rattle.http_wire.specs.Stream.{Exchange, Chain, replies_of, wires_of, silence, Sides, Run, GoesOn, EndedBy, IsCalledFor}
 use Rattle.http_wire.proofs.Needs.{IsLeftOver, left_at_end}
-use Rattle.http_wire.proofs.Sending.{IsHeld, Broken, broken, held_from, cut_front, cut_behind, cut_nothing, wrote_made}
+use Rattle.http_wire.proofs.Sending.{IsHeld, Broken, broken, held_from, cut_nothing, wrote_made}
 use Rattle.http_wire.proofs.Serving.{Words, IsServed, Serving, Gathering, Handled, replies_sent, replies_on, waits_push, no_ending, count_push, all_sent}
 
 -- requests after each of which the stream went on are ended by the last of them

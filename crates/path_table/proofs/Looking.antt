@@ -8,13 +8,12 @@ use Rattle.std.specs.Prelude.{◌||◌, nat_le, bytes_eq, ⊤, MatchOption}
 use Rattle.std.specs.Cmp.Lexicographic.{pointwise, bytes_decides}
 use Rattle.std.specs.List.{list_all, list_any, slice_get}
 use Rattle.matchit.specs.Order.{placed}
-use Rattle.matchit.specs.Params.{walk}
 use Rattle.matchit.specs.Route.{parse_route, Scan}
 use Rattle.matchit.specs.Router.{RouteOf, route_from}
 use Rattle.matchit.specs.Rows.{RowsOf, comes_before}
 use Rattle.matchit.specs.Seek.{first}
 use Rattle.path_table.specs.Routers.{with_read, router_behind, router_for, IsBytes, IsFound, FindsRow}
-use Rattle.path_table.specs.Segments.{segments, is_some_text, is_named, segment_fits, fits, parts_of}
+use Rattle.path_table.specs.Segments.{segments, is_some_text, is_named, segment_fits, fits}
 use Rattle.path_table.specs.Sound.{is_plain_segment, is_plain, can_share, are_apart, is_sound}
 use Rattle.path_table.proofs.Tokens.{token_fits, is_strict, param_count, token_parts}
 use Rattle.path_table.proofs.Seeking.{AllRows, SomeRow, all_weaker, found_fits, fits_found}

@@ -1,7 +1,7 @@
 -- Commands: whose they are, what their parts keep to, and what the verdict on them needs of their owners'
 -- accounts, beside the holder's own row.
 -- The names of refusals, as replies and result files show them.
-use Rattle.std.specs.Prelude.{ℕ, Bool, true, List, [], Option, Some, false, codes}
+use Rattle.std.specs.Prelude.{ℕ, Bool, true, List, Option, Some, false, codes}
 use Rattle.td_movement.specs.declared.line.Line.{Line}
 use Rattle.td_base.specs.Codes.{IsHolderNumber, IsEori, IsAccessCode, IsLrn, IsOfficeNo}
 use Rattle.td_base.specs.Days.{IsDay}

@@ -26,9 +26,9 @@ use Rattle.td_model.specs.declared.holder_row.HolderRow.{HolderRow}
 use Rattle.keyed_rows.proofs.Putting.{All-row_at}
 use Rattle.td_acts.proofs.ByKey.{number_found}
 use Rattle.td_acts.specs.declared.rows.Verdict.{Verdict}
-use Rattle.td_desk.specs.Content.{Content, IsSound, account_in, rows_of}
+use Rattle.td_desk.specs.Content.{Content, IsSound, rows_of}
 use Rattle.td_desk.specs.Laws.{ReleasesFindTheirGuarantees}
-use Rattle.td_desk.specs.Weighing.{IsWeighed, kept_for, kept_of, owner_account}
+use Rattle.td_desk.specs.Weighing.{IsWeighed, kept_for, owner_account}
 use Rattle.td_desk.proofs.Fresh.{owner_account_is_kept}
 
 -- the guarantee of a line is there

@@ -35,7 +35,7 @@ pub(crate) fn array_in<'v>(object: &'v Value, key: &str) -> Option<&'v Vec<Value
 }
 
 /// The EORI that a body says under `eori`, if it says one.
-pub fn eori_in(body: &Value) -> Option<Eori>
+pub(crate) fn eori_in(body: &Value) -> Option<Eori>
     ensures { result ≡ option_and_then eori_read (text_at (field_name field.Eori) (view body.now)) }
 {
     let text = text_in(body, Field::Eori.name())?;
@@ -43,7 +43,7 @@ pub fn eori_in(body: &Value) -> Option<Eori>
 }
 
 /// The reference amount, in cents, that a body says under `reference`, if it says one.
-pub fn reference_in(body: &Value) -> Option<Reference>
+pub(crate) fn reference_in(body: &Value) -> Option<Reference>
     ensures { result ≡ option_and_then reference_of (number_at (field_name field.Reference) (view body.now)) }
 {
     let cents = number_in(body, Field::Reference.name())?;
@@ -51,7 +51,7 @@ pub fn reference_in(body: &Value) -> Option<Reference>
 }
 
 /// The cover, in percent, that a body says under `cover`, if it says one.
-pub fn cover_in(body: &Value) -> Option<Cover>
+pub(crate) fn cover_in(body: &Value) -> Option<Cover>
     ensures { result ≡ option_and_then cover_of (number_at (field_name field.Cover) (view body.now)) }
 {
     let percent = number_in(body, Field::Cover.name())?;
@@ -59,7 +59,7 @@ pub fn cover_in(body: &Value) -> Option<Cover>
 }
 
 /// The access code that a body or a line says under `code`, if it says one.
-pub fn code_in(object: &Value) -> Option<AccessCode>
+pub(crate) fn code_in(object: &Value) -> Option<AccessCode>
     ensures { result ≡ option_and_then code_read (text_at (field_name field.Code) (view object.now)) }
 {
     let text = text_in(object, Field::Code.name())?;
@@ -67,7 +67,7 @@ pub fn code_in(object: &Value) -> Option<AccessCode>
 }
 
 /// The day by which a movement has to arrive, that a body says under `limit`, if it says one.
-pub fn limit_in(body: &Value) -> Option<Day>
+pub(crate) fn limit_in(body: &Value) -> Option<Day>
     ensures { result ≡ option_and_then day_read (text_at (field_name field.Limit) (view body.now)) }
 {
     let text = text_in(body, Field::Limit.name())?;
@@ -75,7 +75,7 @@ pub fn limit_in(body: &Value) -> Option<Day>
 }
 
 /// The result of a control (A1, A2 or B1) that a body says under `result`, if it says one.
-pub fn result_in(body: &Value) -> Option<Control>
+pub(crate) fn result_in(body: &Value) -> Option<Control>
     ensures { result ≡ option_and_then control_read (text_at (field_name field.Result) (view body.now)) }
 {
     let text = text_in(body, Field::Result.name())?;
@@ -83,7 +83,7 @@ pub fn result_in(body: &Value) -> Option<Control>
 }
 
 /// The ground of a write-off (`results` or `proof`) that a body says under `ground`, if it says one.
-pub fn ground_in(body: &Value) -> Option<Ground>
+pub(crate) fn ground_in(body: &Value) -> Option<Ground>
     ensures { result ≡ option_and_then ground_read (text_at (field_name field.Ground) (view body.now)) }
 {
     let text = text_in(body, Field::Ground.name())?;
@@ -91,7 +91,7 @@ pub fn ground_in(body: &Value) -> Option<Ground>
 }
 
 /// The LRN that a body says under `lrn`, if it says one.
-pub fn lrn_in(body: &Value) -> Option<Lrn>
+pub(crate) fn lrn_in(body: &Value) -> Option<Lrn>
     ensures { result ≡ option_and_then lrn_read (text_at (field_name field.Lrn) (view body.now)) }
 {
     let text = text_in(body, Field::Lrn.name())?;
@@ -99,7 +99,7 @@ pub fn lrn_in(body: &Value) -> Option<Lrn>
 }
 
 /// The office that a body says under this field's key, if it says one.
-pub fn office_in(body: &Value, field: Field) -> Option<OfficeNo>
+pub(crate) fn office_in(body: &Value, field: Field) -> Option<OfficeNo>
     ensures { result ≡ option_and_then office_read (text_at (field_name field) (view body.now)) }
 {
     let text = text_in(body, field.name())?;

@@ -17,7 +17,7 @@ use td_movement::Line;
 
 /// The lines that a body says under `lines`: `None` where they are missing, or anything is wrong inside them.
 /// `AllocError`: want of memory.
-pub fn lines_in(alloc: Global, body: &Value) -> Result<Option<Lines>, AllocError>
+pub(crate) fn lines_in(alloc: Global, body: &Value) -> Result<Option<Lines>, AllocError>
     ensures { IfOk result (λ lines. lines ≡ lines_at (field_name field.Lines) (view body.now)) }
 {
     let Some(objects) = array_in(body, Field::Lines.name()) else {

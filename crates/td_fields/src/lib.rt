@@ -10,8 +10,4 @@ pub use bodies::{
     read_addition, read_amendment, read_arrival, read_control, read_declaration, read_opening,
     read_registration, read_release, read_removal, read_write_off,
 };
-pub use body_fields::{
-    code_in, cover_in, eori_in, ground_in, limit_in, lrn_in, office_in, reference_in, result_in,
-};
-pub use body_lines::lines_in;
 pub use fault::{Allowed, Field, WebFault, reason_name};

@@ -1,5 +1,5 @@
 -- What a report begins with.
-use Rattle.std.proofs.Common.{◌≡◌, ℕ, List, [], ◌++◌, Option, None, Some, Result, Ok, Err, IfOk, IsErr, String, Global, refl, sym, ◌∙◌, append-nil, string_bytes}
+use Rattle.std.proofs.Common.{◌≡◌, ℕ, List, [], Option, None, Some, Result, Ok, Err, IfOk, IsErr, String, Global, refl, sym, ◌∙◌, append-nil, string_bytes}
 use Rattle.counted_io.specs.declared.counted.Counted.{Counted}
 use Rattle.counted_io.proofs.Chaining.{wrote_nothing}
 use Rattle.td_report_pieces.specs.declared.fault.ReportFault.TheVariants.{NoMemory}

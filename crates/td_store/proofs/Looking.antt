@@ -1,6 +1,5 @@
 -- What a call leaves that reads of a desk and tells an error of it as its fault, and what it found.
 use Rattle.std.proofs.Common.{◌≡◌, ℕ, Bool, false, List, Err, Ok, Option, Result, ap, arith, refl, subst, sym}
-use Rattle.std.proofs.lemmas.Bool.{false≢true}
 use Rattle.std.specs.Option.{option_map}
 use Rattle.std.specs.Prelude.{IfOk, IsTrue, OnOk, is_ok, true}
 use Rattle.sqlite_trees.specs.declared.store.Store.{Ghosts}

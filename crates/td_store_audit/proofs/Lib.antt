@@ -31,6 +31,7 @@ mod Meanings
 mod Ordering
 mod Permuted
 mod Filters
+mod PlaceRanges
 mod LineRanges
 mod CodeRanges
 mod PartsOfHolders

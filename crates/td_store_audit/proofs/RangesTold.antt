@@ -22,14 +22,15 @@ use Rattle.td_store_rows.specs.declared.movements.stored.MovementSerial.{Movemen
 use Rattle.td_store_audit_rows.specs.declared.holders.RawHolder.{RawHolder}
 use Rattle.td_store_audit.specs.Found.{AreLinesWithin, TellsBehind, line_order}
 use Rattle.td_store_audit.specs.InFile.{IsSoWhere, OnlyReadIn}
-use Rattle.td_store_audit.specs.InPlace.{AreLinesInPlaceWithin, AreNumbersApart, AreSerialsWithin, IsByNumber, IsBySerial}
+use Rattle.td_store_audit.specs.InPlace.{AreLinesInPlaceWithin, AreNumbersApart, AreOfOneMovement, AreSerialsWithin, IsByNumber, IsBySerial}
 use Rattle.td_store_audit.specs.Premises.{AreTotalsBelow, HasLinesInPlace, TellsWithin}
 use Rattle.td_store_audit.specs.Tallies.{AreItsTotals}
 use Rattle.td_store_audit.specs.Totals.{AreKeptUpTo, AreTotals, IsAmount, counted, kept_on, sum_on, total_on}
 use Rattle.td_store_audit.specs.declared.tallies.CountingSerials.{CountingSerials}
 use Rattle.td_store_audit.specs.declared.totals.Totals.{Totals}
 use Rattle.td_store_audit.proofs.Ordering.{lines_by_number, lines_by_serial}
-use Rattle.td_store_audit.proofs.LineRanges.{all_below, all_in_place, behind_none, found_apart, found_named, found_tell, found_within, is_below, is_in, joined_in_place, none_behind, none_below, none_in_place, part_in_place, sums_joined, within_is}
+use Rattle.td_store_audit.proofs.LineRanges.{all_below, all_in_place, found_apart, found_named, is_below, lines_tell, none_below, sums_joined, within_is}
+use Rattle.td_store_audit.proofs.PlaceRanges.{behind_none, found_within, is_in, joined_in_place, none_behind, none_in_place, part_in_place}
 use Rattle.td_store_audit.proofs.Reading.{so_before}
 use Rattle.td_store_audit.proofs.Totalled.{total_of_rows}
 
@@ -42,8 +43,8 @@ pub range_told : (layout : Layout) (trees : Trees) (H guarantees first end : ℕ
 range_told layout trees H guarantees first end rows b found sorted apart tells =
     let mine : List (Keyed LineCells) = part H (typed_rows (line_typing layout) trees) in
     let same : IsPermutation (filter (is_in first end) mine) rows = subst (λ xs. IsPermutation xs rows) (within_is H first end (typed_rows (line_typing layout) trees)) found in
-    let it = tells (lines_by_serial rows sorted) (lines_by_number rows sorted) (found_apart guarantees first end mine rows same apart) (found_within guarantees first end mine rows same apart) in
-    let tell = found_tell guarantees first end mine rows same apart in
+    let it = tells (lines_by_serial rows sorted) (lines_by_number rows sorted) (found_apart guarantees first end mine rows same apart) (found_within first end mine rows same) in
+    let tell = lines_tell guarantees first end mine rows same apart in
     (λ t. tell.0 (it.0 t), λ are. it.1 (tell.1 are))
 
 -- so far as the lines are of movements with serials below one they are in their places, and added up
@@ -67,7 +68,7 @@ module _ (version guarantees : ℕ) (h : CountingSerials) (a : State) where
   -- at first none are
   pub begins : (totals : Totals) → AreTotals (λ n. 0) totals → AreKeptBelow version guarantees h 0 a totals
   begins totals none layout own has typed apart = (
-    none_in_place guarantees (mine layout),
+    none_in_place (AreOfOneMovement guarantees) (mine layout),
     λ n. subst (λ rows. IsAmount (sum_on n serials rows) (kept_on n totals)) (sym (none_below (mine layout))) (none n),
   )
 
@@ -88,7 +89,7 @@ module _ (version guarantees : ℕ) (h : CountingSerials) (a : State) where
     pub broken_in : (end : ℕ) → next ≤ end → TellsWithin version guarantees H first next b false → TellsWithin version guarantees H 0 end a false
     broken_in end to told layout own has typed apart = (
       λ t. absurd (false≢true t),
-      λ are. (told_before false told layout own has typed apart).1 (part_in_place guarantees (mine layout) 0 first next end (omega arith) to are),
+      λ are. (told_before false told layout own has typed apart).1 (part_in_place (AreOfOneMovement guarantees) (mine layout) 0 first next end (omega arith) to are),
     )
 
     -- and where they are, they are added
@@ -97,7 +98,7 @@ module _ (version guarantees : ℕ) (h : CountingSerials) (a : State) where
         (added : (sums : ℕ → ℕ) → AllByRecursion (λ l. AreKeptUpTo l.guarantee old) lines → AreTotals sums old → AreTotals (λ n. sums n + total_on n serials lines) new) where
       pub more_kept : AreKeptBelow version guarantees h first a old → AreKeptBelow version guarantees h next a new
       more_kept before layout own has typed apart = (
-        joined_in_place guarantees (mine layout) first next so.0 here,
+        joined_in_place (AreOfOneMovement guarantees) (mine layout) first next so.0 here,
         λ n. subst (λ k. IsAmount k (kept_on n new)) (sum_is n) (added (λ n. sum_on n serials (filter (is_below first) (mine layout))) all_on so.1 n),
       )
         where

@@ -28,27 +28,32 @@ pub record AreCodesInPlace (guarantees : ℕ) (rows : List (Keyed (List ℕ))) :
   pub belong : BelongTo guarantees rows
   pub each : (n : ℕ) → 1 ≤ n → n ≤ guarantees → AreOneToTwenty (of_key place n rows)
 
--- the lines of a holder who has so many guarantees and movements: each is of one of the movements, and the lines of each of them
--- are, by their numbers, in their places
+-- the lines of one movement, where the holder has so many guarantees: they are, by their numbers, in their places
+abbrev pub AreOfOneMovement : ℕ → List (Keyed LineCells) → Type 0
+AreOfOneMovement guarantees lines = AreLinesInPlace guarantees (in_order no_of lines)
+
+-- the lines of a holder who has so many guarantees and movements: each is of one of the movements, and those of each of them are so
 pub record AreAllLinesInPlace (guarantees movements : ℕ) (rows : List (Keyed LineCells)) : Type 0 where
   pub belong : BelongTo movements rows
-  pub each : (n : ℕ) → 1 ≤ n → n ≤ movements → AreLinesInPlace guarantees (in_order no_of (of_key place n rows))
+  pub each : (n : ℕ) → 1 ≤ n → n ≤ movements → AreOfOneMovement guarantees (of_key place n rows)
 
 -- the serials of rows are from one on and below another
 abbrev pub AreSerialsWithin : {R : Type 0} → ℕ → ℕ → List (Keyed R) → Type 0
 AreSerialsWithin first end rows = AllByRecursion (λ r. (first ≤ place r) × (place r < end)) rows
 
--- those codes of a holder whose serials are from one on and below another: none has the serial 0, which is no guarantee's, and each
--- guarantee with such a serial has 1 to 20
-pub record AreCodesInPlaceWithin (first end : ℕ) (rows : List (Keyed (List ℕ))) : Type 0 where
+-- those rows of a holder whose serials are from one on and below another: none has the serial 0, which no guarantee and no movement
+-- has, and those of each such serial are as they have to be
+pub record AreInPlaceWithin {R : Type 0} (AreSo : List (Keyed R) → Type 0) (first end : ℕ) (rows : List (Keyed R)) : Type 0 where
   pub serials : AllByRecursion (λ r. first ≤ place r → place r < end → 1 ≤ place r) rows
-  pub each : (n : ℕ) → 1 ≤ n → first ≤ n → n < end → AreOneToTwenty (of_key place n rows)
+  pub each : (n : ℕ) → 1 ≤ n → first ≤ n → n < end → AreSo (of_key place n rows)
 
--- those lines of a holder who has so many guarantees whose serials are from one on and below another: none has the serial 0, which
--- is no movement's, and the lines of each movement with such a serial are, by their numbers, in their places
-pub record AreLinesInPlaceWithin (guarantees first end : ℕ) (rows : List (Keyed LineCells)) : Type 0 where
-  pub serials : AllByRecursion (λ r. first ≤ place r → place r < end → 1 ≤ place r) rows
-  pub each : (n : ℕ) → 1 ≤ n → first ≤ n → n < end → AreLinesInPlace guarantees (in_order no_of (of_key place n rows))
+-- codes: 1 to 20 of each guarantee
+abbrev pub AreCodesInPlaceWithin : ℕ → ℕ → List (Keyed (List ℕ)) → Type 0
+AreCodesInPlaceWithin = AreInPlaceWithin AreOneToTwenty
+
+-- lines, where the holder has so many guarantees
+abbrev pub AreLinesInPlaceWithin : ℕ → ℕ → ℕ → List (Keyed LineCells) → Type 0
+AreLinesInPlaceWithin guarantees = AreInPlaceWithin (AreOfOneMovement guarantees)
 
 -- From one place on, up to another, rows have a key; and the row at the other, if there is one, hasn't.
 pub record IsEndOfRun {X : Type 0} (key : X → ℕ) (n start : ℕ) (rows : List X) (end : ℕ) : Type 0 where

@@ -1,7 +1,7 @@
-use Rattle.std.proofs.Common.{◌≡◌, [], arith, false, rules, sym, true}
+use Rattle.std.proofs.Common.{◌≡◌, arith, rules, sym, true}
 use Rattle.std.specs.Prelude.{IsTrue}
 use Rattle.sqlite.specs.Held.{state}
-use Rattle.sqlite.specs.State.{HasCleanDisk, KeepsCommit, KeepsCounts, Shows, State, Survives}
+use Rattle.sqlite.specs.State.{HasCleanDisk, KeepsCommit, State, Survives}
 use Rattle.td_store_rows.specs.StoreReads.{IsOfVersion, LeavesVersion, ReadsVersion}
 use Rattle.td_store_rows.proofs.StoreReads.{seen_still}
 use Rattle.typed_sql.proofs.OnlyRead.{one_read, stays_on}

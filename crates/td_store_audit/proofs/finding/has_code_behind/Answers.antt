@@ -14,7 +14,7 @@ use Rattle.td_store_rows.specs.Places.{is_after}
 use Rattle.td_store_rows.specs.StoreReads.{IsAny}
 use Rattle.td_store_audit.proofs.Meanings.{by_three, code_terms, codes_behind_mean}
 use Rattle.td_store_audit.proofs.Ordering.{code_behind_pass, codes_compared, is_behind}
-use Rattle.td_store_audit.proofs.LineRanges.{first_tells}
+use Rattle.td_store_audit.proofs.PlaceRanges.{first_tells}
 use Rattle.td_store_audit.specs.Found.{code_order}
 use Rattle.td_store_audit.specs.declared.texts.TheConstants.{CODES_BEHIND}
 use Rattle.td_store_audit.proofs.finding.has_code_behind.Goals as goal

@@ -14,7 +14,7 @@ use Rattle.td_store_rows.specs.Places.{is_after}
 use Rattle.td_store_rows.specs.StoreReads.{IsOfVersion}
 use Rattle.td_store_audit.proofs.Meanings.{behind_mean, by_three, line_terms}
 use Rattle.td_store_audit.proofs.Ordering.{behind_pass, is_behind, lines_compared}
-use Rattle.td_store_audit.proofs.LineRanges.{first_tells}
+use Rattle.td_store_audit.proofs.PlaceRanges.{first_tells}
 use Rattle.td_store_audit.specs.Found.{line_order}
 use Rattle.td_store_audit.specs.LineTexts.{lines_behind_text}
 use Rattle.td_store_audit.proofs.finding.has_line_behind.Goals as goal

@@ -1,4 +1,4 @@
-use Rattle.std.proofs.Common.{◌≡◌, ◌<◌, ◌++◌, length, true, arith, inr}
+use Rattle.std.proofs.Common.{◌<◌, ◌++◌, length, true, arith, inr}
 use Rattle.std.proofs.lemmas.List.{length-append}
 use Rattle.counted_io.proofs.Chaining.{wrote_on}
 use Rattle.http_wire.specs.Replies.{waiting, room_of}

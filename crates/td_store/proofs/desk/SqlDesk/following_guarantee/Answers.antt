@@ -1,8 +1,8 @@
-use Rattle.std.proofs.Common.{◌≡◌, arith}
+use Rattle.std.proofs.Common.{arith}
 use Rattle.std.specs.Option.{option_map}
 use Rattle.std.specs.Prelude.{IfOk, is_ok}
 use Rattle.sqlite.specs.Held.{state}
-use Rattle.sqlite.specs.State.{HasCleanDisk, State}
+use Rattle.sqlite.specs.State.{State}
 use Rattle.td_store_load.proofs.Listing.{guarantees_in_order}
 use Rattle.td_store_load.specs.Placed.{IsFirstBehind, found_at, guarantees_placed}
 use Rattle.typed_sql.specs.Outside.{Looks}
