@@ -38,8 +38,9 @@ use Rattle.td_model.specs.Machine.{is_accepted_at, is_accepted_in, is_accepted, 
 use Rattle.td_acts.proofs.Accepted.{lodged_facts}
 use Rattle.td_acts.proofs.Joined.{AllByRecursion-map, AllByRecursion-weaker}
 use Rattle.td_acts.proofs.Steps.{map-id}
+use Rattle.td_batch_rows.specs.Declarations.{IsDeclaration}
 use Rattle.td_batch.specs.Runs.{at_moment}
-use Rattle.td_batch.specs.Again.{IsDeclaration, IsDeclaredAt}
+use Rattle.td_batch.specs.Again.{IsDeclaredAt}
 
 -- ---- declarations
 

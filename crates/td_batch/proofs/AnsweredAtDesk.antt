@@ -21,8 +21,8 @@ use Rattle.td_desk.specs.Content.{Content, account_in, fresh, IsSound}
 use Rattle.td_desk.specs.Runs.{heard, is_holder, IsRun, IsTied}
 use Rattle.td_desk.specs.View.{DeskView}
 use Rattle.td_desk.proofs.Fresh.{account_fresh}
+use Rattle.td_batch_rows.specs.Declarations.{IsDeclaration}
 use Rattle.td_batch.specs.declared.running.BatchRun.{BatchRun}
-use Rattle.td_batch.specs.Again.{IsDeclaration}
 use Rattle.td_batch.specs.Laws.{AnsweredAgain, IsSaidTo}
 use Rattle.td_batch.specs.Results.{declaration_result, declarations_header}
 use Rattle.td_batch.specs.Runs.{at_moment, outcomes_of, tried, IsBatchDone}

@@ -1,13 +1,7 @@
 -- Declarations that are sent again.
 use Rattle.std.specs.Prelude.{◌≡◌, ℤ}
-use Rattle.td_commands.specs.declared.command.Command.{Command}
-use Rattle.td_commands.specs.declared.command.Command.TheVariants.{Ie015}
 use Rattle.td_commands.specs.declared.command.Stamped.{Stamped}
-
--- the command is a declaration
-abbrev pub IsDeclaration : Command → Type 0
-IsDeclaration (Ie015 holder lrn departure destination lines) = Unit {0}
-IsDeclaration command = ⊥
+use Rattle.td_batch_rows.specs.Declarations.{IsDeclaration}
 
 -- the command is a declaration, sent at that moment
 abbrev pub IsDeclaredAt : ℤ → Stamped → Type 0

@@ -15,8 +15,8 @@ use Rattle.td_desk.specs.declared.fault.Fault.{Fault}
 use Rattle.td_desk.specs.Content.{Content, account_in, IsSound}
 use Rattle.td_desk.specs.Runs.{Agree, failures, IsTied, told}
 use Rattle.td_desk.specs.View.{DeskView}
+use Rattle.td_batch_rows.specs.Declarations.{IsDeclaration}
 use Rattle.td_batch.specs.declared.running.BatchRun.{BatchRun}
-use Rattle.td_batch.specs.Again.{IsDeclaration}
 use Rattle.td_batch.specs.Results.{declaration_result, declarations_header}
 use Rattle.td_batch.specs.Runs.{at_moment, IsBatchDone, IsRunOf, outcomes_of, tried}
 

@@ -4,11 +4,10 @@ ghost use Rattle.td_desk.specs.declared.fault.Fault.TheVariants as fault;
 ghost use Rattle.td_batch.specs.Results.{act_result, acts_header, declaration_result, declarations_header};
 ghost use Rattle.td_batch.specs.Runs.{IsDone, IsRunOf, is_refusal, outcome_of};
 
-use crate::acts::ActRow;
-use crate::declarations::DeclarationRow;
 use crate::results::{act_row, declaration_row};
 use std::alloc::{AllocError, Global};
 use td_acts::{Command, Said};
+use td_batch_rows::{ActRow, DeclarationRow};
 use td_desk::{Desk, Fault};
 
 /// What a batch left.

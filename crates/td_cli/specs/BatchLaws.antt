@@ -19,8 +19,8 @@ use Rattle.td_desk.specs.Content.{Content, account_in, IsSound}
 use Rattle.td_desk.specs.Runs.{Agree, failures, heard, is_failed, told}
 use Rattle.td_desk.specs.View.{DeskView}
 use Rattle.td_http.specs.Kept.{IsKeptIn}
+use Rattle.td_batch_rows.specs.Declarations.{IsDeclaration}
 use Rattle.td_batch.specs.declared.running.BatchRun.{BatchRun}
-use Rattle.td_batch.specs.Again.{IsDeclaration}
 use Rattle.td_batch.specs.Laws.{IsLater, IsSaidTo, stamped_rows}
 use Rattle.td_batch.specs.Results.{declaration_result, declarations_header}
 use Rattle.td_batch.specs.Runs.{at_moment, IsBatchDone, IsRowDone, IsRunOf, outcomes_of}

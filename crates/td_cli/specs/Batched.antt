@@ -12,10 +12,10 @@ use Rattle.td_desk.specs.declared.fault.Fault.{Fault}
 use Rattle.td_desk.specs.declared.fault.Fault.TheVariants as fault
 use Rattle.td_files.specs.Found.{FileSeen}
 use Rattle.td_files.specs.declared.desks.DeskFault.{DeskFault}
-use Rattle.td_batch.specs.declared.fault.BatchFault.{BatchFault}
-use Rattle.td_batch.specs.declared.fault.BatchFault.TheVariants as batch
+use Rattle.td_batch_rows.specs.declared.fault.BatchFault.{BatchFault}
+use Rattle.td_batch_rows.specs.declared.fault.BatchFault.TheVariants as batch
+use Rattle.td_batch_rows.specs.Rows.{Tells}
 use Rattle.td_batch.specs.declared.running.BatchRun.{BatchRun}
-use Rattle.td_batch.specs.Rows.{Tells}
 use Rattle.td_batch.specs.Runs.{has_refusal}
 use Rattle.td_words.specs.declared.words.BatchKind.{BatchKind}
 use Rattle.td_words.specs.declared.words.Records.{Records}

@@ -3,11 +3,11 @@ use Rattle.std.specs.Prelude.{ℕ, ℤ, List, Result}
 use Rattle.td_commands.specs.declared.command.Command.{Command}
 use Rattle.td_commands.specs.declared.said.Said.{Said}
 use Rattle.td_desk.specs.View.{DeskView}
+use Rattle.td_batch_rows.specs.Acts.{acts_in}
+use Rattle.td_batch_rows.specs.Declarations.{declarations_in}
+use Rattle.td_batch_rows.specs.Rows.{Place}
 use Rattle.td_batch.specs.declared.running.BatchRun.{BatchRun}
-use Rattle.td_batch.specs.Acts.{acts_in}
-use Rattle.td_batch.specs.Declarations.{declarations_in}
 use Rattle.td_batch.specs.Results.{act_result, acts_header, declaration_result, declarations_header}
-use Rattle.td_batch.specs.Rows.{Place}
 use Rattle.td_batch.specs.Runs.{IsRunOf}
 use Rattle.td_words.specs.declared.words.BatchKind.{BatchKind}
 use Rattle.td_words.specs.declared.words.BatchKind.TheVariants as kind

@@ -1,6 +1,6 @@
 //! The rows of a batch, done at a desk.
 ghost use Rattle.std.specs.Prelude.{◌≡◌, Ok, IfErr, IfOk};
-ghost use Rattle.td_batch.specs.Rows.{Tells};
+ghost use Rattle.td_batch_rows.specs.Rows.{Tells};
 ghost use Rattle.td_batch.specs.Runs.{IsRunOf};
 ghost use Rattle.td_jobs.specs.Batched.{HasDoneRows, commands_of, header_of, kind_of, line_of, rows_in};
 ghost use Rattle.td_jobs.specs.Jobs.{IsUntouched};

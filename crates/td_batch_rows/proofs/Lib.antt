@@ -1,0 +1,6 @@
+mod OptionFacts
+mod RecordsFacts
+mod RowFacts
+mod PartFacts
+mod Taking
+mod AreDeclarations
