@@ -1,6 +1,6 @@
 mod Taking
 mod Chains
 mod Ending
-mod Folding
-mod Begun
-mod Reporting
+pub mod Folding
+pub mod Begun
+pub mod Reporting
