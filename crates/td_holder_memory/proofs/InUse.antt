@@ -1,14 +1,12 @@
--- Amounts in use that are known, as movements begin and end to count.
+-- Amounts in use that are kept, as movements begin and end to count.
 use Rattle.std.proofs.Common.{◌≡◌, ℕ, ◌+◌, ◌<◌, List, [], ◌∷◌, length, map, get_or, set, drop, take, ◌∙◌, ap, arith}
 use Rattle.std.proofs.lemmas.List.{get_or-set_same}
-use Rattle.std.proofs.lemmas.List.Elements.{All-weaker}
 use Rattle.std.proofs.lemmas.List.Sums.{sum_by-take-drop, sum_by-drop_more, sum_by-set}
-use Rattle.std.specs.Prelude.{All}
 use Rattle.td_movement.specs.declared.movement.Movement.{Movement}
 use Rattle.td_acts.specs.declared.rows.NewStatus.{NewStatus}
 use Rattle.td_acts.specs.Changes.{with_status, moved}
 use Rattle.td_guarantee.specs.Usage.{movement_on, used_on}
-use Rattle.td_guarantee.specs.Known.{AreInUse}
+use Rattle.td_holder_memory.specs.Kept.{Kept, AreKept}
 use Rattle.td_holder_memory.specs.Places.{IsOnlyPlace}
 use Rattle.td_holder_memory.proofs.BySerial.{one_made}
 
@@ -33,16 +31,14 @@ pub one_of : (ms : List Movement) (at : ℕ) → at < length ms → Movement
 one_of [] at within = absurd (omega (arith, within))
 one_of (m ∷ ms) at within = m
 
--- what is known is in use after one movement has moved, which was taken off before and put on then
-pub known_kept : (status : NewStatus) (ms moved_ms : List Movement) (before after : Movement) (at : ℕ) (d : Movement) (known left sum : List (List ℕ × ℕ)) → IsOnlyPlace (λ m. m.mrn) status.mrn ms at
-    → moved_ms ≡ map (moved status) ms → before ≡ get_or ms at d → after ≡ get_or moved_ms at d → AreInUse known ms
-    → ((rest : List ℕ → ℕ) → All (λ k. k.1 ≡ rest k.0 + movement_on k.0 before) known → All (λ k. k.1 ≡ rest k.0) left)
-    → ((rest : List ℕ → ℕ) → All (λ k. k.1 ≡ rest k.0) left → All (λ k. k.1 ≡ rest k.0 + movement_on k.0 after) sum)
-    → AreInUse sum moved_ms
-known_kept status ms moved_ms before after at d known left sum is made one_before one_after are off on =
+-- what is kept is in use after one movement has moved, which was taken off before and put on then
+pub moved_kept : (status : NewStatus) (ms moved_ms : List Movement) (before after : Movement) (at : ℕ) (d : Movement) (kept left sum : Kept) → IsOnlyPlace (λ m. m.mrn) status.mrn ms at
+    → moved_ms ≡ map (moved status) ms → before ≡ get_or ms at d → after ≡ get_or moved_ms at d → AreKept (λ grn. used_on grn ms) kept
+    → ((rest : List ℕ → ℕ) → AreKept (λ grn. rest grn + movement_on grn before) kept → AreKept rest left)
+    → ((rest : List ℕ → ℕ) → AreKept rest left → AreKept (λ grn. rest grn + movement_on grn after) sum)
+    → AreKept (λ grn. used_on grn moved_ms) sum
+moved_kept status ms moved_ms before after at d kept left sum is made one_before one_after are off on = λ flag grn.
     let rest : List ℕ → ℕ = (λ grn. others_on grn ms at) in
     let then : after ≡ get_or (map (moved status) ms) at d = one_after ∙ ap (λ l. get_or l at d) made in
-    All-weaker (λ k. k.1 ≡ rest k.0 + movement_on k.0 after) (λ k. k.1 ≡ used_on k.0 moved_ms)
-    (λ k e. omega (arith, e, moved_one k.0 status ms at d is, ap (movement_on k.0) then, ap (used_on k.0) made)) sum
-    (on rest (off rest (All-weaker (λ k. k.1 ≡ used_on k.0 ms) (λ k. k.1 ≡ rest k.0 + movement_on k.0 before)
-    (λ k e. omega (arith, e, with_one k.0 ms at d is.within, ap (movement_on k.0) one_before)) known are)))
+    let whole = on rest (off rest (λ was grn. omega (arith, are was grn, with_one grn ms at d is.within, ap (movement_on grn) one_before))) flag grn in
+    omega (arith, whole, moved_one grn status ms at d is, ap (movement_on grn) then, ap (used_on grn) made)
