@@ -1,10 +1,10 @@
 //! The command line: which job its words ask for, and what is told where they ask for none.
-ghost use Rattle.std.specs.Prelude.{◌≡◌, codes, map, option_map, pos, slice_get, string_bytes, true, IfErr, IfOk, Some, SomeIff};
+ghost use Rattle.std.specs.Prelude.{◌≡◌, ◌↔◌, codes, map, option_map, pos, slice_get, string_bytes, IfErr, IfOk, IsTrue, Some, SomeIff};
 ghost use Rattle.ascii_text.specs.Digits.{digits_value};
 ghost use Rattle.clap.specs.Values.{kind_of};
 ghost use Rattle.clap.specs.Words.{first_of, found_of, rows_of};
 ghost use Rattle.td_words.specs.declared.words.NoJob.TheVariants.{NoMemory};
-ghost use Rattle.td_words.specs.Words.{AreRecords, AsksFor, IsCountryIn, IsDayOf, IsDecimal, IsIdleOf, IsJob, IsListening, IsMomentOf, IsNoJob, IsNoneSuch, IsNumberOf, IsOffice, IsReport, IsTask, IsTold, batch_name};
+ghost use Rattle.td_words.specs.Words.{AreRecords, AskForHelpOfHelp, AsksFor, IsCountryIn, IsDayOf, IsDecimal, IsIdleOf, IsJob, IsListening, IsMomentOf, IsNoJob, IsNoneSuch, IsNumberOf, IsOffice, IsReport, IsTask, IsTold, batch_name};
 
 use crate::options::{AT, CONNECTIONS, COUNTRY, DAY, DB, FILE, IDLE, KIND, NEW, PORT, program};
 use ascii_text::is_digits;
@@ -197,16 +197,19 @@ fn no_job(alloc: Global, error: &clap::Error, words: &[String]) -> Result<NoJob,
 
 // `help --help`, whose `--help` is a command to `clap` that isn't there.
 fn asks_for_help_of_help(words: &[String]) -> bool
-    ensures { result ≡ true → slice_get (map string_bytes words.now) 1 ≡ Some (codes "help") }
+    ensures { IsTrue result ↔ AskForHelpOfHelp (map string_bytes words.now) }
 {
-    let Some(command) = words.get(1) else {
-        return false;
-    };
-    command.as_str() == "help" && matches!(words.get(2), Some(option) if is_help(option))
+    has_at(words, 1, "help") && (has_at(words, 2, "--help") || has_at(words, 2, "-h"))
 }
 
-fn is_help(word: &str) -> bool {
-    word == "--help" || word == "-h"
+// Whether this word stands at that place.
+fn has_at(words: &[String], place: usize, word: &str) -> bool
+    ensures { IsTrue result ↔ (slice_get (map string_bytes words.now) place ≡ Some word.now) }
+{
+    match words.get(place) {
+        Some(there) => there.as_str() == word,
+        None => false,
+    }
 }
 
 // In one line. A negative number behind an option is a wrong value, which `clap` takes for an option of its own.

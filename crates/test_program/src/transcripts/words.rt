@@ -8,6 +8,8 @@ $
 ! 2 error: 'transit-desk' requires a subcommand but one was not provided [subcommands: serve, pipe, batch, acts, report, check, migrate, help]
 $ release --country CH
 ! 2 error: unrecognized subcommand 'release'
+$ help nosuch
+! 2 error: unrecognized subcommand 'nosuch'
 $ serve
 ! 2 error: the following required arguments were not provided: --country <CC> --port <N> --connections <K>
 $ pipe --country CH --version
