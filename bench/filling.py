@@ -1,6 +1,8 @@
 """Fills a desk's file by SQL, for what is tested and measured at sizes that a program's own streams reach too slowly. The file has its
-tables already: a program made them by `--new`, or they are those of version 1."""
+tables already: a program made them by `--new`, or `make_older` did."""
 import contextlib
+import importlib.machinery
+import importlib.util
 import os
 import sqlite3
 import sys
@@ -13,7 +15,8 @@ AT, DAY, LIMIT, ARRIVAL = 1740819600, 20148, 20155, 20150
 EORI, CODE, REFERENCE, COVER = "CH1234567", "AB12", 10**15, 50
 DEPARTURE, DESTINATION = "CH001251", "DE005600"
 # Of each state the limit, the day of arrival and the office of arrival.
-STATES = {"accepted": (None, None, None), "released": (LIMIT, None, None), "arrived": (LIMIT, ARRIVAL, DESTINATION)}
+STATES = {"accepted": (None, None, None), "released": (LIMIT, None, None), "arrived": (LIMIT, ARRIVAL, DESTINATION),
+          "cleared": (LIMIT, ARRIVAL, DESTINATION)}
 # The tables of guarantees and of lines by the version of a file.
 TABLES = {1: ("guarantees1", "lines1"), 3: ("guarantees2", "lines3")}
 
@@ -33,12 +36,24 @@ class Shape:
 
     def used(self):
         """The amount in use on each guarantee of a holder, in order."""
-        rounds, more = divmod(self.movements * self.lines, self.guarantees)
+        rounds, more = divmod(self.movements * self.lines, max(1, self.guarantees))
         return [self.cents * (rounds + (it < more)) if self.state != "accepted" else 0 for it in range(self.guarantees)]
 
     def keys(self, count):
         """The holders' numbers and so many serials of each, by turns."""
         return ((number, serial) for serial in range(1, count + 1) for number in self.numbers)
+
+
+def make_older(path):
+    """Makes a file of version 1 of a desk of CH, without further rows, by the texts of its tables that tests/migrations has."""
+    there = os.path.join(os.path.dirname(os.path.realpath(__file__)), "..", "tests", "migrations")
+    loader = importlib.machinery.SourceFileLoader("migrations", there)
+    migrations = importlib.util.module_from_spec(importlib.util.spec_from_loader("migrations", loader))
+    loader.exec_module(migrations)
+    with contextlib.closing(sqlite3.connect(path)) as database, database:
+        for text in migrations.TABLES:
+            database.execute(text)
+        database.execute("INSERT INTO meta VALUES (1, 1, 'CH')")
 
 
 def fill(path, shape, version=3):
