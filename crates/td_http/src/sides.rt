@@ -64,12 +64,6 @@ impl RequestSide<'_> {
         self.next.is_some()
     }
 
-    /// Reads once, drops what came, and answers whether it was the peer's end.
-    pub(crate) fn has_left(&mut self) -> bool {
-        let mut dropped = [0; 8192];
-        matches!(self.socket.read(&mut dropped), Ok(0))
-    }
-
     /// Reads what still comes, and drops it: up to 128 reads of at most half a second each. Where it `yields`, it
     /// ends when nothing came for a tenth of a second and another connection has.
     pub(crate) fn read_out(&mut self, yields: bool) {

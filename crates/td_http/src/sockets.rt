@@ -75,14 +75,9 @@ impl<'a> Connections for Incoming<'a> {
     // A socket that is dropped with bytes unread resets its peer, which may lose replies that it hasn't read
     // yet. So the peer is told that nothing more comes, and what it still sends is read and dropped, while other
     // connections are served. Where there is no memory to remember it, it is dropped.
-    // One that gives way to the next has a step to end its side too: its client may be the next one's, and would
-    // else take it for a connection that is kept, where the next reply comes before it looks at this one's end.
     fn close(&mut self, mut requests: RequestSide<'a>, replies: ReplySide<'a>) {
         self.next = requests.take_next();
         if replies.end().is_err() {
-            return;
-        }
-        if self.next.is_some() && requests.has_left() {
             return;
         }
         if self.leaving.len() >= MOST_LEAVING {
