@@ -193,7 +193,8 @@ class Document:
             if key not in headers or not self.is_valid(headers[key]["schema"], value):
                 return f"the document has no {key}: {value} there"
         content = response.get("content", {})
-        if bool(content) != bool(body) or body and (fields.get("Content-Type") not in content or str(len(body)) != fields.get("Content-Length")):
+        length = str(len(body)) == fields.get("Content-Length")
+        if bool(content) != bool(body) or body and not (fields.get("Content-Type") in content and length):
             return "it has another form of body"
         if body:
             schema = content[fields["Content-Type"]]["schema"]

@@ -19,7 +19,8 @@ from references import with_check_digit  # noqa: E402
 NEAR = "@[`{:-._~!$&'()*+,;=09AZaz"
 VALUES = [None, True, False, 0, 5, -1, 1.5, "", "5", [], {}, [[]], {"a": 1}]
 TEXTS_OF_A_SCHEMA = 500
-TEXTS = ["[]", "null", "5", '"a"', "", "{", "{}}", '{"a":}', "{'a':1}", '{"a":1,}', '{"a":01}', '{"a":NaN}', "[" * 200, "{\xff}", '{"\\ud800":1}']
+TEXTS = ["[]", "null", "5", '"a"', "", "{", "{}}", '{"a":}', "{'a':1}", '{"a":1,}', '{"a":01}', '{"a":NaN}', "[" * 200, "{\xff}",
+         '{"\\ud800":1}']
 
 
 def of_pattern(dice, pattern, way):
@@ -100,7 +101,7 @@ class Drawing:
 
     def items(self, schema):
         dice, least, most = self.dice, schema["minItems"], schema["maxItems"]
-        items, count = [], dice.choice([least, least, 2, 3, most, dice.randint(least, most)])
+        items, count = [], dice.choice([least, least, most, dice.randint(least, most), dice.randint(least, min(most, least + 3))])
         while len(items) < count:
             it = self.value(schema["items"])
             while "x-distinct" in schema and any(it[schema["x-distinct"]] == other[schema["x-distinct"]] for other in items):
@@ -127,6 +128,24 @@ class Drawing:
         """A valid request: its method, its target and its body."""
         body = b"" if operation.body is None else json.dumps(self.object(operation.body)).encode()
         return operation.method, self.target(operation), body
+
+    # ---- values at the ends
+
+    def edges(self, schema):
+        """Valid and wrong values at the ends of a schema: of a text's classes and lengths, of bounds, of words."""
+        if schema["type"] == "integer":
+            ends = schema.get("enum") or [schema["minimum"], schema["maximum"]]
+            return sorted({it + step for it in ends for step in (-1, 0, 1)} | {-it for it in ends})
+        if schema["type"] == "array":
+            counts = [schema["minItems"], schema["maxItems"], schema["maxItems"] + 1, max(schema["minItems"] - 1, 0)]
+            return [self.items(schema | {"minItems": it, "maxItems": it}) for it in counts]
+        if "enum" in schema:
+            return [other for it in schema["enum"] for other in (it, it[:-1], it + it[-1], it.swapcase(), chr(ord(it[0]) + 1) + it[1:],
+                                                                 it[:-1] + chr(ord(it[-1]) + 1))]
+        shortest, longest = (of_pattern(self.dice, schema["pattern"], way) for way in (0, -1))
+        texts = [schema["example"], longest]
+        every = [text[:at] + it + text[at + 1:] for text in texts for at in range(len(text)) for it in NEAR]
+        return texts + every + [shortest, shortest[:-1], longest + longest[-1], longest[:-1], longest[1:] + longest[-2:]]
 
     # ---- wrong ones
 
@@ -161,11 +180,11 @@ class Drawing:
         return self.spoil_member(schema, made, dice.choice(list(schema["properties"])))
 
     def changed_items(self, schema):
-        dice, items = self.dice, self.items(schema)
+        dice, items, more = self.dice, self.items(schema), schema["maxItems"] + 1
         at = dice.randrange(len(items))
         way = dice.randrange(4)
         if way == 0:
-            return items * (schema["maxItems"] // len(items) + 1) if dice.random() < 0.5 else self.items(schema | {"minItems": schema["maxItems"] + 1, "maxItems": schema["maxItems"] + 1})
+            return self.items(schema | {"minItems": more, "maxItems": more})
         if way == 1:
             items = items[: schema["maxItems"] - 1]
             return items + [copy.deepcopy(items[at % len(items)])]
@@ -197,7 +216,7 @@ class Drawing:
             method = self.dice.choice(["GET", "POST", "PUT", "DELETE", "PATCH", "OPTIONS", "get", "X"])
         elif way == "path":
             path = target.partition("?")[0]
-            target = self.dice.choice([path + "/", path[:-1] + "//", "/" + path, path.upper(), path.replace("/", "//", 2), path + "/x", path[1:] and "/x" + path])
+            target = self.dice.choice([path + "/", path + "//", "/" + path, path.upper(), path.replace("/", "//", 2), path + "/x", "/x" + path])
         elif way == "body":
             body = self.dice.choice(TEXTS).encode("latin-1")
         else:

@@ -40,7 +40,9 @@ export class Desk {
   }
 
   register(holder, eori) { return this.ask("PUT", `/office/holders/${holder}`, { eori }); }
-  openGuarantee(holder, reference, cover, code) { return this.ask("POST", `/office/holders/${holder}/guarantees`, { reference, cover, code }, false); }
+  openGuarantee(holder, reference, cover, code) {
+    return this.ask("POST", `/office/holders/${holder}/guarantees`, { reference, cover, code }, false);
+  }
   amend(grn, reference, cover) { return this.ask("POST", `/office/guarantees/${grn}/amend`, { reference, cover }); }
   revoke(grn) { return this.ask("POST", `/office/guarantees/${grn}/revoke`); }
   ie029(mrn, limit) { return this.ask("POST", `/office/movements/${mrn}/ie029`, { limit }); }
@@ -52,9 +54,13 @@ export class Desk {
   seeGuarantees(holder) { return this.ask("GET", `/holders/${holder}/guarantees`); }
   seeGuarantee(holder, grn) { return this.ask("GET", `/holders/${holder}/guarantees/${grn}`); }
   addCode(holder, grn, code) { return this.ask("POST", `/holders/${holder}/guarantees/${grn}/codes/add`, { code }); }
-  removeCode(holder, grn, code) { return this.ask("POST", `/holders/${holder}/guarantees/${grn}/codes/remove`, { code }); }
+  removeCode(holder, grn, code) {
+    return this.ask("POST", `/holders/${holder}/guarantees/${grn}/codes/remove`, { code });
+  }
   seeMovements(holder) { return this.ask("GET", `/holders/${holder}/movements`); }
-  ie015(holder, lrn, departure, destination, lines) { return this.ask("POST", `/holders/${holder}/movements`, { lrn, departure, destination, lines }); }
+  ie015(holder, lrn, departure, destination, lines) {
+    return this.ask("POST", `/holders/${holder}/movements`, { lrn, departure, destination, lines });
+  }
   seeMovement(holder, mrn) { return this.ask("GET", `/holders/${holder}/movements/${mrn}`); }
   ie014(holder, mrn) { return this.ask("POST", `/holders/${holder}/movements/${mrn}/ie014`); }
 }

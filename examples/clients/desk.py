@@ -50,7 +50,8 @@ class Desk:
     def register(self, holder, eori):
         return self.ask("PUT", f"/office/holders/{holder}", {"eori": eori})
     def open_guarantee(self, holder, reference, cover, code):
-        return self.ask("POST", f"/office/holders/{holder}/guarantees", {"reference": reference, "cover": cover, "code": code}, is_idempotent=False)
+        return self.ask("POST", f"/office/holders/{holder}/guarantees",
+                        {"reference": reference, "cover": cover, "code": code}, is_idempotent=False)
     def amend(self, grn, reference, cover):
         return self.ask("POST", f"/office/guarantees/{grn}/amend", {"reference": reference, "cover": cover})
     def revoke(self, grn):
@@ -78,7 +79,8 @@ class Desk:
     def see_movements(self, holder):
         return self.ask("GET", f"/holders/{holder}/movements")
     def ie015(self, holder, lrn, departure, destination, lines):
-        return self.ask("POST", f"/holders/{holder}/movements", {"lrn": lrn, "departure": departure, "destination": destination, "lines": lines})
+        return self.ask("POST", f"/holders/{holder}/movements",
+                        {"lrn": lrn, "departure": departure, "destination": destination, "lines": lines})
     def see_movement(self, holder, mrn):
         return self.ask("GET", f"/holders/{holder}/movements/{mrn}")
     def ie014(self, holder, mrn):
