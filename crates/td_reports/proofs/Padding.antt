@@ -1,5 +1,5 @@
 -- What widths write: a text at the left of its places, or at their right.
-use Rattle.std.proofs.Common.{◌≡◌, ℕ, zero, suc, ◌+◌, ◌-◌, ◌/◌, ◌%◌, ◌^◌, ◌<◌, ◌≤◌, Bool, true, false, cond, eqb, ltb, List, [], ◌∷◌, length, replicate, refl, ap, arith, append-nil}
+use Rattle.std.proofs.Common.{◌≡◌, ◌++◌, ◌∙◌, append_assoc, ℕ, zero, suc, ◌+◌, ◌-◌, ◌/◌, ◌%◌, ◌^◌, ◌<◌, ◌≤◌, Bool, true, false, cond, eqb, ltb, List, [], ◌∷◌, length, replicate, refl, ap, arith, append-nil}
 use borrow.Author.Tests.{ne_eqb}
 use Rattle.std.proofs.lemmas.Bool.Decides.{nat_tests}
 use Rattle.std.proofs.lemmas.List.{length-append}
@@ -87,23 +87,12 @@ length-digits_onto (suc k) n acc =
     let rest = length-digits_onto k (n / 10) (digit_glyph false (n % 10) ∷ acc) in
     either (λ (l : List ℕ). length l ≤ suc k + length acc) (eqb (n / 10) 0) _ _ (omega arith) (omega arith)
 
--- an amount at the right of its places
-IsAscii-cents_text : (n : ℕ) → IsAscii (cents_text n)
-unfolding digits
-IsAscii-cents_text n =
-    IsAscii-append (decimal (n / 100)) (46 ∷ (48 + n / 10 % 10) ∷ (48 + n % 10) ∷ []) (IsAscii-digits_onto 64 (n / 100) [] IsAscii-nil)
-    (IsAscii-cons 46 ((48 + n / 10 % 10) ∷ (48 + n % 10) ∷ []) (omega arith)
-    (IsAscii-cons (48 + n / 10 % 10) ((48 + n % 10) ∷ []) (omega arith) (IsAscii-cons (48 + n % 10) [] (omega arith) IsAscii-nil)))
-
-length-cents_text : (n : ℕ) → length (cents_text n) ≤ 67
-unfolding digits
-length-cents_text n =
-    let front = length-digits_onto 64 (n / 100) [] in
-    let all = length-append (decimal (n / 100)) (46 ∷ (48 + n / 10 % 10) ∷ (48 + n % 10) ∷ []) in
-    omega arith
-
-pub styled_amount : (n : ℕ) → styled_text (format_spec 32 3 0 17 (2 ^ 64 - 1)) (cents_text n) ≡ amount_text n
-styled_amount n = styled_right 17 (cents_text n) (omega arith) (IsAscii-cents_text n) (omega (arith, length-cents_text n))
+-- an amount is its whole units at the right of fourteen places, and a point and the cents behind them
+pub amount_parts : (n : ℕ) → right_in 14 (decimal (n / 100)) ++ 46 ∷ (48 + n / 10 % 10) ∷ (48 + n % 10) ∷ [] ≡ amount_text n
+amount_parts n =
+    let whole = decimal (n / 100) in
+    let rest : List ℕ = 46 ∷ (48 + n / 10 % 10) ∷ (48 + n % 10) ∷ [] in
+    append_assoc (replicate (14 - length whole) 32) whole rest ∙ ap (λ k. replicate k 32 ++ (whole ++ rest)) (omega (arith, length-append whole rest))
 
 -- the name of a state at the left of eight places
 pub styled_state : (state : State) → styled_text (format_spec 32 1 0 8 (2 ^ 64 - 1)) (state_name state) ≡ left_in 8 (state_name state)
