@@ -97,7 +97,8 @@ def by_holders(size, mrn_of):
 def of_lists(where, counted, timed):
     """The list of movements, by their number and by that of their lines, which it doesn't show."""
     for count in (1, 9, 99):
-        yield Case(f"list of movements of {count} line{'s' * (count > 1)}", where, of_lines(count), always(ALL_MOVEMENTS), True, counted, timed, 50)
+        name, fewer = f"list of movements of {count} line{'s' * (count > 1)}", counted // max(1, count // 20)
+        yield Case(name, where, of_lines(count), always(ALL_MOVEMENTS), True, fewer, timed, 20)
     yield Case("list of 100 movements, by lines", where, by_lines("accepted"), always(ALL_MOVEMENTS), False, 9, 45, 100)
 
 
