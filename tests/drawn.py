@@ -216,7 +216,8 @@ class Drawing:
             method = self.dice.choice(["GET", "POST", "PUT", "DELETE", "PATCH", "OPTIONS", "get", "X"])
         elif way == "path":
             path = target.partition("?")[0]
-            target = self.dice.choice([path + "/", path + "//", "/" + path, path.upper(), path.replace("/", "//", 2), path + "/x", "/x" + path])
+            target = self.dice.choice([path + "/", path + "//", "/" + path, path.upper(), path.replace("/", "//", 2), path + "/x",
+                                       "/x" + path])
         elif way == "body":
             body = self.dice.choice(TEXTS).encode("latin-1")
         else:

@@ -16,7 +16,8 @@ import http.client
 import os
 import sys
 
-from desk import Desk, Refused
+sys.dont_write_bytecode = True
+from desk import Desk, Refused  # noqa: E402
 
 
 def life(office, holder, limit):
