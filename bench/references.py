@@ -1,4 +1,5 @@
 """References of a desk of CH, for the programs that are measured: a program may make its MRNs with the letter or in the older form."""
+import functools
 import re
 import subprocess
 import tempfile
@@ -7,6 +8,7 @@ LETTERS = {letter: value for letter, value in zip("ABCDEFGHIJKLMNOPQRSTUVWXYZ", 
 MRN = re.compile(rb"\b\d\d[A-Z]{2}\d{12}[0-9J]\d\b")
 
 
+@functools.lru_cache(maxsize=1 << 16)
 def with_check_digit(text):
     """Returns a reference with its check digit (ISO 6346)."""
     total = sum(int(LETTERS.get(letter, letter)) << place for place, letter in enumerate(text))

@@ -1,4 +1,3 @@
 pub mod Codes
 pub mod Usage
-pub mod Known
 pub mod Laws

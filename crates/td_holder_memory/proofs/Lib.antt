@@ -4,4 +4,5 @@ pub mod Loading
 mod Mapping
 mod BySerial
 mod Indexed
-pub mod Amounts
+mod KeptAmounts
+pub mod InUse

@@ -5,32 +5,33 @@ ghost use Rattle.td_guarantee.specs.Usage.{used_on};
 ghost use Rattle.td_model.specs.Account.{movement_by_lrn, movement_by_mrn};
 ghost use Rattle.td_acts.specs.Changes.{moved};
 
+use crate::amounts::Amounts;
 use crate::movement_rows::MovementRows;
 use std::alloc::{AllocError, Global};
 use std::marker::Model;
 use td_acts::NewStatus;
 use td_base::{Cents, Country, Grn, Lrn, Mrn};
-use td_guarantee::{KnownAmounts, in_use};
+use td_guarantee::in_use;
 use td_movement::{Movement, counts};
 
 /// A holder's movements, by serial.
 #[derive(Drop)]
 pub(crate) struct CountedRows {
     rows: MovementRows,
-    // The amount in use on some guarantees. It is added up when a movement is released on one, and kept from then on.
-    known: KnownAmounts,
+    amounts: Amounts,
 }
 
 impl Model for CountedRows {
     ghost use Rattle.std.specs.Prelude.{List};
     ghost use Rattle.td_movement.specs.declared.movement.Movement.{Movement};
-    ghost use Rattle.td_guarantee.specs.Known.{AreInUse};
+    ghost use Rattle.td_guarantee.specs.Usage.{used_on};
+    ghost use Rattle.td_holder_memory.specs.Kept.{AreKept};
 
     ghost Value = { List Movement };
 
     ghost view = { λ r. r.rows };
 
-    ghost invariant = { λ r. AreInUse r.known r.rows };
+    ghost invariant = { λ r. AreKept (λ grn. used_on grn r.rows) r.amounts };
 }
 
 impl CountedRows {
@@ -40,7 +41,7 @@ impl CountedRows {
     {
         CountedRows {
             rows: MovementRows::new(alloc, country),
-            known: KnownAmounts::new(alloc),
+            amounts: Amounts::new(alloc, country),
         }
     }
 
@@ -57,9 +58,16 @@ impl CountedRows {
         ensures err { OnErr result (self.new ≡ self.old) }
     {
         if counts(movement.state) {
-            self.known.forget();
+            self.amounts.forget();
         }
         self.rows.push(movement)
+    }
+
+    /// Keeps a place for the amount in use on a guarantee that is opened. `AllocError`: want of memory.
+    pub fn open(&mut self, grn: &Grn) -> Result<(), AllocError>
+        ensures { self.new ≡ self.old }
+    {
+        self.amounts.open(grn)
     }
 
     /// The movement with an LRN, if there is one.
@@ -80,7 +88,7 @@ impl CountedRows {
     pub fn in_use(&self, grn: &Grn) -> Option<Cents>
         ensures { SomeIff result (IsCents (used_on grn.now self.now)) (used_on grn.now self.now) }
     {
-        match self.known.amount_on(grn) {
+        match self.amounts.amount_on(grn) {
             Some(amount) => {
                 let _range = amount.get();
                 Some(amount)
@@ -94,16 +102,12 @@ impl CountedRows {
         ensures { self.new ≡ map (moved status.now) self.old }
     {
         let Some(at) = self.rows.only_place_of(&status.mrn) else {
-            self.known.forget();
+            self.amounts.forget();
             self.rows.put_status(status);
             return;
         };
-        if counts(status.state) {
-            let movements = self.rows.as_slice();
-            self.known.add_up(movements, movements[at].lines.as_slice());
-        }
-        self.known.take_off(&self.rows.as_slice()[at]);
+        self.amounts.take_off(&self.rows.as_slice()[at]);
         self.rows.put_status(status);
-        self.known.put_on(&self.rows.as_slice()[at]);
+        self.amounts.put_on(&self.rows.as_slice()[at]);
     }
 }

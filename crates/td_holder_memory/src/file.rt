@@ -72,6 +72,7 @@ impl HolderFile {
             Change::Nothing => {}
             Change::Registered(row) => self.row = row,
             Change::Opened(row, guarantee) => {
+                self.movements.open(&guarantee.grn)?;
                 self.guarantees.push(guarantee)?;
                 self.row = row;
             }

@@ -8,7 +8,6 @@ use crate::connections::{Connections, serve_connections};
 use crate::sides::{ReplySide, RequestSide, sides};
 use crate::waiting::Waiting;
 use crate::{Clock, Service};
-use std::alloc::Global;
 use std::collections::VecDeque;
 use std::io;
 use std::net::{TcpListener, TcpStream};
@@ -89,14 +88,16 @@ impl<'a> Connections for Incoming<'a> {
 }
 
 /// Serves that many connections that come to the listening socket, one after another, at one service of a
-/// desk, as `serve_connections` does. A read waits at most `idle` seconds, from 1 on, and less behind a reply, as
-/// soon as another connection waits: then it fails, and so the stream ends. After its stream each peer is told that
-/// nothing more comes, and what it still sends is read, by up to 128 reads of at most half a second each, or a tenth
-/// where another connection waits, so that a peer that wrote more than was asked of it is not reset. The listener is
-/// one that blocks. An `Err`: the socket gave no further connection, or none that can be read and written; those
-/// before it were served.
+/// desk, as `serve_connections` does. A read waits at most `idle` seconds, from 1 on, and behind a reply for some 10 ms
+/// alone where another connection waits: then it fails, and so the stream ends. Between two reads that bring bytes
+/// the writes wait at most `idle` seconds in all, however many they are and whatever each of them takes: then they fail,
+/// and so the stream ends. So a peer that takes its replies slowly is left after the same time as one that takes none.
+/// After its stream each peer is told that nothing more comes, and what it still sends is read, by up to 128 reads of
+/// at most half a second each, or a tenth where another connection waits, so that a peer that wrote more than was
+/// asked of it is not reset. The listener is one that blocks. An `Err`: the socket gave no further connection, or none
+/// that can be read and written; those before it were served.
 pub fn serve_on<C: Clock, D: Desk>(
-    alloc: Global,
+    rt: HostRuntime,
     listener: &TcpListener,
     connections: u32,
     idle: u16,
@@ -109,7 +110,8 @@ pub fn serve_on<C: Clock, D: Desk>(
         × IsPrivateOver D.seen service.old service.new
         (map (λ connection. connection.exchanges) served.all_served) }
 {
-    let waiting = Waiting::new(listener, idle);
+    let alloc = rt.alloc();
+    let waiting = Waiting::new(rt, listener, idle);
     let mut incoming = Incoming {
         waiting: &waiting,
         next: None,

@@ -109,14 +109,14 @@ fn listen<W: Write, D: Desk, C: Clock>(
 {
     let address = SocketAddr::from((Ipv4Addr::LOCALHOST, listening.port));
     match TcpListener::bind(rt, address) {
-        Ok(listener) => serve_here(rt.alloc(), &listener, listening, lines, clock, service, out),
+        Ok(listener) => serve_here(*rt, &listener, listening, lines, clock, service, out),
         Err(_) => ServingEnd::Socket,
     }
 }
 
 // Serves the connections that come to the listening socket.
 fn serve_here<W: Write, D: Desk, C: Clock>(
-    alloc: Global,
+    rt: HostRuntime,
     listener: &TcpListener,
     listening: Listening,
     lines: &PrintedLines,
@@ -138,7 +138,7 @@ fn serve_here<W: Write, D: Desk, C: Clock>(
         idle,
         ..
     } = listening;
-    if serve_on(alloc, listener, connections, idle, clock, service).is_err() {
+    if serve_on(rt, listener, connections, idle, clock, service).is_err() {
         return ServingEnd::Socket;
     }
     if !write_whole(out, lines.last.as_bytes()) {

@@ -6,7 +6,7 @@ use Rattle.std.specs.Str.{bytes_eq}
 use Rattle.std.proofs.lemmas.Bool.Decides.{nat_tests}
 use Rattle.std.proofs.lemmas.List.Sorted.{IsPermutation-map, IsPermutation-refl, IsPermutation-trans}
 use Rattle.std.proofs.lemmas.Slice.Eq.{bytes_eq-Decides}
-use Rattle.sqlite_trees.proofs.ListLemmas.{IsPermutation-same, all-permutation, all_both, all_weaker}
+use Rattle.sqlite_trees.proofs.ListLemmas.{IsPermutation-same, all_both, all_weaker}
 use Rattle.sqlite_trees.specs.Tree.{Trees}
 use Rattle.sqlite_value.specs.Order.{Row}
 use Rattle.sqlite.proofs.Callers.{one_permutation}
@@ -23,8 +23,10 @@ use Rattle.td_table_model.specs.Tables.{AreTablesOf, Keyed, Kept, Tables, first_
 use Rattle.td_table_model.specs.Changes.{HaveSameRows}
 use Rattle.td_table_model.proofs.Following.{same_tables}
 use Rattle.td_table_model.proofs.Joining.{lines_are_use}
+use Rattle.td_table_model.proofs.KeepingRules.{keep_rules}
 use Rattle.td_table_model.proofs.Looked.{are_found}
 use Rattle.td_table_model.proofs.Told.{tell_keys}
+use Rattle.td_schema.specs.declared.layout.Layout.{Layout}
 use Rattle.td_schema.specs.declared.layout.Layout.TheVariants.{Made1, Made2, Grown2, Made3, Grown3From2, Grown3From1}
 use Rattle.typed_sql.specs.Typed.{Typing, row_of, typed_rows}
 use Rattle.td_store_rows.specs.Columns.{code_typing, guarantee_typing, holder_typing, line_typing, meta_row, meta_typing, movement_typing}
@@ -34,6 +36,7 @@ use Rattle.td_store_rows.proofs.Turned.{listed_there, plain_rows, plain_typed}
 use Rattle.td_migrate.specs.Filled.{with_its_use}
 use Rattle.td_migrate.specs.Grown.{AreGrown, GrowsFrom, HaveContent, HoldsVersion}
 use Rattle.td_migrate.specs.Moved.{BecomesSecond, IsSecond}
+use Rattle.td_migrate.specs.Put.{KeepTheRules}
 use Rattle.td_migrate.proofs.Putting.{typed_still}
 
 -- a table whose tree is as it was has the same rows
@@ -122,19 +125,16 @@ module _ (c : Content) (a : Database) (first : HoldsVersion Made1 c a) where
 
   module _ (grow : TablesGrow) (b : Database) (now : IsSecond a b) where
     abbrev kept : List (Keyed Kept)
-    kept = map (with_its_use a.trees) now.rows
-
-    bare_rows : AllByRecursion IsBare now.rows
-    bare_rows = all-permutation IsBare _ _ now.all (all_bare (a.trees (guarantee_typing Made1).table.tree))
+    kept = map (with_its_use a.trees) t.guarantees
 
     same_guarantees : IsPermutation t.guarantees (map without_amount kept)
-    same_guarantees = subst (IsPermutation t.guarantees) (sym (without_use a.trees now.rows bare_rows)) now.all
+    same_guarantees = IsPermutation-same _ _ (sym (without_use a.trees t.guarantees (all_bare (a.trees (guarantee_typing Made1).table.tree))))
 
     abbrev u : Tables
     u = record t { version = version_with_amounts; kept = kept }
 
     pub are : AreTablesOf u c
-    are = grow t c kept first.content.sound first.content.tables same_guarantees (mapped now.rows (all-permutation _ _ _ now.all amounts))
+    are = grow t c kept first.content.sound first.content.tables same_guarantees (mapped t.guarantees amounts)
 
     pub office : HasOfficeRow version_with_amounts c.country b.trees
     office =
@@ -176,10 +176,14 @@ module _ (c : Content) (a : Database) (first : HoldsVersion Made1 c a) where
     pub grown_trees : AreGrown Made1 c a.trees b.trees
     grown_trees = record { listed = listed_there Grown2 b now.schema now.sound; content = content; left = now.emptied }
 
+-- the rows of a file with a content keep the rules
+pub rules_kept : (l : Layout) (c : Content) (a : Database) → HoldsVersion l c a → KeepTheRules l a.trees
+rules_kept l c a held = record { typed = held.content.typed; rules = keep_rules (tables_in l a.trees) c held.content.sound held.content.tables }
+
 -- whatever content the file held
 pub second_grows : TablesGrow → (a b : State) → BecomesSecond a b → GrowsFrom first_version a.now b.now
 second_grows grow a b becomes Made1 is c first =
-    let second : IsSecond a.now b.now = becomes (λ _. first.schema) first.content.typed in
+    let second : IsSecond a.now b.now = becomes (λ _. first.schema) (rules_kept Made1 c a.now first) in
     record { schema = second.schema; trees = grown_trees c a.now first grow b.now second }
 second_grows grow a b becomes Made2 is c first = absurd cc
 second_grows grow a b becomes Grown2 is c first = absurd cc

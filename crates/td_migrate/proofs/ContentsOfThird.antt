@@ -21,7 +21,7 @@ use Rattle.td_store_rows.specs.StoreTables.{AreAllTyped, HasOfficeRow, country_i
 use Rattle.td_store_rows.proofs.Turned.{listed_there}
 use Rattle.td_migrate.specs.Grown.{AreGrown, GrowsFrom, HaveContent, HoldsVersion, LeavesEmpty}
 use Rattle.td_migrate.specs.LinesMoved.{BecomesThird, IsThird}
-use Rattle.td_migrate.proofs.Contents.{rows_still}
+use Rattle.td_migrate.proofs.Contents.{rows_still, rules_kept}
 use Rattle.td_migrate.proofs.Putting.{typed_still}
 use Rattle.td_migrate.proofs.Second.{of_second, second_layout}
 
@@ -101,7 +101,7 @@ emptied l is a b = of_second (λ l. IsThird l a b → LeavesEmpty l a.trees b.tr
 -- whatever content the file held
 pub third_grows : (a b : State) → BecomesThird a b → GrowsFrom version_with_amounts a.now b.now
 third_grows a b becomes l is c held =
-    let now : IsThird l a.now b.now = becomes l is (λ _. held.schema) held.content.typed in
+    let now : IsThird l a.now b.now = becomes l is (λ _. held.schema) (rules_kept l c a.now held) in
     let grows : AreGrown l c a.now.trees b.now.trees = record {
       listed = listed_there (grown l) b.now now.schema now.sound;
       content = content l is c a.now b.now held now;

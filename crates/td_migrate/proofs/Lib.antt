@@ -1,9 +1,15 @@
-mod First
 mod Putting
-mod PuttingLines
+mod Passing
+mod Split
+mod Placed
+mod Walking
+mod Used
 mod Second
 mod Becoming
 mod BecomingThird
+mod Older
+mod Summed
+mod EachHolder
 mod Contents
 mod ContentsOfThird
 mod Reached

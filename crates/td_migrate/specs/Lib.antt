@@ -1,4 +1,5 @@
 pub mod InUse
+pub mod Put
 pub mod Filled
 pub mod Moved
 pub mod LinesMoved

@@ -1,19 +1,27 @@
-//! What is in use on a guarantee, by the lines of the movements that count, in a file below version 3. It changes nothing.
-ghost use Rattle.std.specs.Prelude.{◌≡◌, ◌↔◌, IsTrue, IfOk, is_ok};
+//! What is in use on a holder's guarantees, by the lines of the movements that count, in a file below version 3: the lines are read
+//! once, range by range. It changes nothing. `DatabaseCorrupt`: a row is no line's or no movement's, two movements that count have one
+//! serial, a line names a guarantee behind the holder's last, or the holder's count of movements is none; `OutOfMemory`: want of memory;
+//! any other error is the database's own.
+ghost use Rattle.std.specs.Prelude.{◌≡◌, ◌+◌, ◌≤◌, ◌↔◌, IsTrue, IfOk, is_ok, unwrap_or};
+ghost use Rattle.std.specs.List.{AllByRecursion};
 ghost use Rattle.keyed_rows.specs.Rows.{Rises};
 ghost use Rattle.sqlite.specs.Held.{state};
 ghost use Rattle.sqlite.specs.State.{HasCleanDisk};
 ghost use Rattle.typed_sql.specs.Reading.{IsInside};
-ghost use Rattle.td_store_rows.specs.StoreReads.{ReadsFew};
+ghost use Rattle.td_table_model.specs.Tables.{version_with_amounts};
+ghost use Rattle.td_store_rows.specs.StoreReads.{ReadsVersion};
 ghost use Rattle.td_store_rows.specs.MovementTable.{serial_of_stored};
-ghost use Rattle.td_migrate.specs.InUse.{IsInUse, IsInUseIfInRange};
+ghost use Rattle.td_migrate.specs.InUse.{AreInUse, AreSumsBelow};
 
+use crate::ranges::{end_of, range_end};
 use sqlite::{Error, ErrorCode, Transaction};
 use sqlite_trees::store::Alter;
 use std::alloc::Global;
-use td_base::{Cents, HolderNo};
-use td_store_audit::total_on;
-use td_store_rows::{MovementSerial, counting_serials, lines_on};
+use td_base::HolderNo;
+use td_schema::VERSION_WITH_AMOUNTS;
+use td_store_audit::{Totals, lines_within};
+use td_store_audit_rows::RawHolder;
+use td_store_rows::{MovementSerial, StoredLine, counting_serials};
 
 // Whether serials stand in ascending order, no two alike.
 fn rise(serials: &[MovementSerial]) -> bool
@@ -30,45 +38,66 @@ fn rise(serials: &[MovementSerial]) -> bool
     true
 }
 
-// The amount in use on a holder's guarantee with a serial, in cents: what the lines on it add up to, of those of the
-// holder's movements that count. `None`: they add up to more than 10^15 cents, which no amount is. `DatabaseCorrupt`: a row is
-// no line's or no movement's, or two movements that count have one serial; `OutOfMemory`: want of memory; any other error is
-// the database's own.
-fn amount_if_in_range<S: Alter>(
+// Whether each line is on one of so many guarantees.
+fn are_on(guarantees: u32, lines: &[StoredLine]) -> bool
+    ensures { IsTrue result → AllByRecursion (λ line. line.guarantee ≤ guarantees) lines.now }
+{
+    for line in lines {
+        if line.guarantee > guarantees {
+            return false;
+        }
+    }
+    true
+}
+
+// What a holder's lines of the movements with serials below `end` add up to on each of so many guarantees, of those of the movements
+// with these serials.
+fn sums_below<S: Alter>(
     alloc: Global,
     tx: &mut Transaction<'_, S>,
     holder: HolderNo,
-    guarantee: u32,
-) -> Result<Option<Cents>, Error>
+    guarantees: u32,
+    serials: &[MovementSerial],
+    end: u32,
+) -> Result<Totals, Error>
+    requires inside { IsInside (state S.Store tx.old.conn.now) }
+    requires rise { Rises serial_of_stored 0 serials.now }
+    ensures same_reference { tx.new.conn.ghost_name ≡ tx.old.conn.ghost_name }
+    ensures summed { HasCleanDisk (state S.Store tx.new.conn.now)
+        → IfOk result (AreSumsBelow holder serials.now end (state S.Store tx.old.conn.now)) }
+    ensures reads { ReadsVersion version_with_amounts (is_ok result) (state S.Store tx.old.conn.now) (state S.Store tx.new.conn.now) }
+{
+    let mut totals = Totals::new(alloc, guarantees)?;
+    let mut first = 0;
+    'parts: while first < end {
+        let next = range_end(first, end);
+        let lines = lines_within(alloc, tx, VERSION_WITH_AMOUNTS, holder, first, next)?;
+        if !are_on(guarantees, &lines) {
+            return Err(Error::SqliteFailure(ErrorCode::DatabaseCorrupt));
+        }
+        totals.add(&lines, serials);
+        first = next;
+    }
+    Ok(totals)
+}
+
+/// The amounts in use on so many guarantees of a holder.
+pub(crate) fn amounts_in_use<S: Alter>(
+    alloc: Global,
+    tx: &mut Transaction<'_, S>,
+    raw: &RawHolder,
+    guarantees: u32,
+) -> Result<Totals, Error>
     requires { IsInside (state S.Store tx.old.conn.now) }
     ensures same_reference { tx.new.conn.ghost_name ≡ tx.old.conn.ghost_name }
     ensures found { HasCleanDisk (state S.Store tx.new.conn.now)
-        → IfOk result (IsInUseIfInRange holder guarantee (state S.Store tx.old.conn.now)) }
-    ensures reads { ReadsFew (is_ok result) (state S.Store tx.old.conn.now) (state S.Store tx.new.conn.now) }
+        → IfOk result (AreInUse raw.now.holder (unwrap_or raw.now.mrn_count 0 + 1) (state S.Store tx.old.conn.now)) }
+    ensures reads { ReadsVersion version_with_amounts (is_ok result) (state S.Store tx.old.conn.now) (state S.Store tx.new.conn.now) }
 {
-    let serials = counting_serials(alloc, tx, holder)?;
+    let end = end_of(raw.mrn_count)?;
+    let serials = counting_serials(alloc, tx, raw.holder)?;
     if !rise(&serials) {
         return Err(Error::SqliteFailure(ErrorCode::DatabaseCorrupt));
     }
-    let lines = lines_on(alloc, tx, holder, guarantee)?;
-    Ok(total_on(guarantee, &lines, &serials))
-}
-
-/// That amount, where they add up to one. `DatabaseCorrupt`: a row is no line's or no movement's, two movements that count have
-/// one serial, or they add up to more than 10^15 cents; `OutOfMemory`: want of memory; any other error is the database's own.
-pub(crate) fn amount_in_use<S: Alter>(
-    alloc: Global,
-    tx: &mut Transaction<'_, S>,
-    holder: HolderNo,
-    guarantee: u32,
-) -> Result<Cents, Error>
-    requires { IsInside (state S.Store tx.old.conn.now) }
-    ensures same_reference { tx.new.conn.ghost_name ≡ tx.old.conn.ghost_name }
-    ensures found { HasCleanDisk (state S.Store tx.new.conn.now)
-        → IfOk result (IsInUse holder guarantee (state S.Store tx.old.conn.now)) }
-    ensures reads { ReadsFew (is_ok result) (state S.Store tx.old.conn.now) (state S.Store tx.new.conn.now) }
-{
-    amount_if_in_range(alloc, tx, holder, guarantee)?.ok_or(Error::SqliteFailure(
-        ErrorCode::DatabaseCorrupt,
-    ))
+    sums_below(alloc, tx, raw.holder, guarantees, &serials, end)
 }

@@ -1,4 +1,6 @@
 //! Why a file isn't brought to the newest version.
+ghost use Rattle.std.specs.Prelude.{◌≡◌, ◌≢◌};
+ghost use Rattle.td_migrate.specs.declared.fault.MigrateFault.TheVariants as migrate_fault;
 ghost use Rattle.td_migrate.specs.Upgraded.{IsKindOf, SaysNothing};
 
 use sqlite::{Error as SqlError, ErrorCode};
@@ -38,7 +40,9 @@ pub(crate) fn fault_of(fault: OpenFault) -> MigrateFault
 
 /// The fault that an error of the database is told as: want of memory where it says so, else the store's.
 pub(crate) fn fault_of_error(error: &SqlError) -> MigrateFault
-    ensures { SaysNothing result }
+    ensures memory { error.now ≡ SqlError.SqliteFailure ErrorCode.OutOfMemory → result ≡ migrate_fault.NoMemory }
+    ensures store { error.now ≢ SqlError.SqliteFailure ErrorCode.OutOfMemory → result ≡ migrate_fault.Store }
+    ensures nothing { SaysNothing result }
 {
     match error {
         SqlError::SqliteFailure(ErrorCode::OutOfMemory) => MigrateFault::NoMemory,

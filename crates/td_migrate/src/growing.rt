@@ -1,35 +1,31 @@
 //! A file taken from a version to the next.
-ghost use Rattle.std.specs.Prelude.{◌≡◌, false, map, IsTrue, OnOk, OnErr, is_ok};
+ghost use Rattle.std.specs.Prelude.{◌≡◌, false, IsTrue, OnOk, OnErr, is_ok};
 ghost use Rattle.sqlite.specs.Held.{state};
 ghost use Rattle.sqlite.specs.State.{HasCleanDisk, Survives};
 ghost use Rattle.typed_sql.specs.Reading.{IsInside, StaysInside};
-ghost use Rattle.td_store_rows.specs.GuaranteeTable.{guarantee_row_of};
 ghost use Rattle.td_migrate.specs.Grown.{GrowsFrom, MayLeaveGrown};
 ghost use Rattle.td_store.specs.Opened.{IsEarlier};
 ghost use Rattle.td_migrate.specs.Moved.{BecomesSecond, MovesTo2};
 
-use crate::filling::{fill, first_guarantees};
+use crate::filling::fill;
 use crate::lines::write_3;
 use sqlite::{Connection, Error, Transaction};
 use sqlite_trees::store::Alter;
 use std::alloc::Global;
 use td_schema::{VERSION_WITH_AMOUNTS, make_guarantees2};
-use td_store_rows::{StoredGuarantee, empty_guarantees1, set_version};
+use td_store_rows::{empty_guarantees1, set_version};
 
-// Makes the table of guarantees of version 2 with these guarantees, each with the amount in use on it, and empties the one of version 1.
-fn move_guarantees<S: Alter>(
-    alloc: Global,
-    tx: &mut Transaction<'_, S>,
-    rows: &[StoredGuarantee],
-) -> Result<(), Error>
+// Makes the table of guarantees of version 2, puts all guarantees into it, each with the amount in use on it, and empties the one of
+// version 1.
+fn move_guarantees<S: Alter>(alloc: Global, tx: &mut Transaction<'_, S>) -> Result<(), Error>
     requires { IsInside (state S.Store tx.old.conn.now) }
     ensures same_reference { tx.new.conn.ghost_name ≡ tx.old.conn.ghost_name }
-    ensures moved { HasCleanDisk (state S.Store tx.new.conn.now) → OnOk result (MovesTo2 (map guarantee_row_of rows.now)
-        (state S.Store tx.old.conn.now) (state S.Store tx.new.conn.now)) }
+    ensures moved { HasCleanDisk (state S.Store tx.new.conn.now)
+        → OnOk result (MovesTo2 (state S.Store tx.old.conn.now) (state S.Store tx.new.conn.now)) }
     ensures within { StaysInside (is_ok result) (state S.Store tx.old.conn.now) (state S.Store tx.new.conn.now) }
 {
     make_guarantees2(tx)?;
-    fill(alloc, tx, rows)?;
+    fill(alloc, tx)?;
     empty_guarantees1(tx)
 }
 
@@ -41,8 +37,7 @@ fn write_2<S: Alter>(alloc: Global, tx: &mut Transaction<'_, S>) -> Result<(), E
         → OnOk result (BecomesSecond (state S.Store tx.old.conn.now) (state S.Store tx.new.conn.now)) }
     ensures within { StaysInside (is_ok result) (state S.Store tx.old.conn.now) (state S.Store tx.new.conn.now) }
 {
-    let rows = first_guarantees(alloc, tx)?;
-    move_guarantees(alloc, tx, &rows)?;
+    move_guarantees(alloc, tx)?;
     set_version(tx, VERSION_WITH_AMOUNTS)
 }
 

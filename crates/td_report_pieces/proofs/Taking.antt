@@ -1,5 +1,5 @@
 -- The ways in which a row is taken up.
-use Rattle.std.proofs.Common.{◌≡◌, ◌≢◌, ◌<◌, ◌≤◌, ℕ, ◌+◌, true, false, List, [], ◌++◌, length, Option, Some, None, Result, Ok, Err, IsErrAnd, refl, ap, append-nil, inl, inr, arith, string_bytes}
+use Rattle.std.proofs.Common.{◌≡◌, ◌≢◌, ◌<◌, ◌≤◌, ℕ, ◌+◌, ◌^◌, true, false, List, [], ◌++◌, length, Option, Some, None, Result, Ok, Err, IsErrAnd, refl, ap, append-nil, inl, inr, arith, string_bytes}
 use Rattle.std.specs.Result.{result_err}
 use Rattle.counted_io.specs.declared.counted.Counted.{Counted}
 use Rattle.counted_io.specs.Chains.{Wrote}
@@ -13,9 +13,9 @@ use Rattle.td_report_pieces.specs.Written.{no_write_failed}
 module _ {R W : Type 0} (contents : W → Option (List ℕ)) (line : Option (List ℕ)) (old new : Pieces R) (before after : Counted W)
     (same : new.report ≡ old.report) where
   -- it was not, for want of memory or since there are too many lines: all is as it was
-  pub not_taken : (why : ReportFault) → why ≢ Write → after ≡ before → string_bytes new.text ≡ string_bytes old.text
+  pub not_taken : (why : ReportFault) → why ≢ Write → (why ≡ Store → 2 ^ 64 ≤ old.lines + 1) → after ≡ before → string_bytes new.text ≡ string_bytes old.text
       → TakesUp contents line old before (Some why) new after
-  not_taken why other still text =
+  not_taken why other full still text =
       record {
         sent = [];
         rest = text_in line;
@@ -26,6 +26,7 @@ module _ {R W : Type 0} (contents : W → Option (List ℕ)) (line : Option (Lis
         none = λ write. absurd (other (cc write));
         short = λ short. rw text short;
         few = inl still;
+        full = λ store. full (cc store);
       }
     where
       kept : (why : ReportFault) → why ≢ Write → Wrote contents before before [] (no_write_failed (Some why))
@@ -47,6 +48,7 @@ module _ {R W : Type 0} (contents : W → Option (List ℕ)) (line : Option (Lis
         none = λ write. absurd (cc write);
         short = λ short. rw text short;
         few = inl still;
+        full = λ store. absurd (cc store);
       }
 
   module _ (found : List ℕ) (has : line ≡ Some found) where
@@ -64,6 +66,7 @@ module _ {R W : Type 0} (contents : W → Option (List ℕ)) (line : Option (Lis
           none = λ write. absurd (cc write);
           short = λ _. short;
           few = inl still;
+          full = λ store. absurd (cc store);
         }
 
     -- it made a piece, which was written
@@ -80,6 +83,7 @@ module _ {R W : Type 0} (contents : W → Option (List ℕ)) (line : Option (Lis
           none = λ write. absurd (cc write);
           short = λ _. rw text (omega arith);
           few = inr (rw has large);
+          full = λ store. absurd (cc store);
         }
 
     -- it made a piece, of which a write failed
@@ -96,6 +100,7 @@ module _ {R W : Type 0} (contents : W → Option (List ℕ)) (line : Option (Lis
           none = λ _. text;
           short = λ _. rw text (omega arith);
           few = inr (rw has large);
+          full = λ store. absurd (cc store);
         }
 
 -- want of memory is told as such

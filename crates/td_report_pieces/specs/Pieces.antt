@@ -1,11 +1,11 @@
 -- Reports that are being written.
-use Rattle.std.specs.Prelude.{◌≡◌, ◌⊎◌, ◌<◌, ◌≤◌, ℕ, ◌+◌, Bool, List, [], ◌++◌, length, unwrap_or, Option, Some, None, Result, IsOk, if◌then◌else◌, string_bytes}
+use Rattle.std.specs.Prelude.{◌≡◌, ◌⊎◌, ◌<◌, ◌≤◌, ℕ, ◌+◌, ◌^◌, Bool, List, [], ◌++◌, length, unwrap_or, Option, Some, None, Result, IsOk, if◌then◌else◌, string_bytes}
 use Rattle.std.specs.Option.{is_none}
 use Rattle.counted_io.specs.declared.counted.Counted.{Counted}
 use Rattle.counted_io.specs.Chains.{Wrote}
 use Rattle.td_desk.specs.declared.fault.Fault.{Fault}
 use Rattle.td_report_pieces.specs.declared.fault.ReportFault.{ReportFault}
-use Rattle.td_report_pieces.specs.declared.fault.ReportFault.TheVariants.{Write}
+use Rattle.td_report_pieces.specs.declared.fault.ReportFault.TheVariants.{Write, Store}
 use Rattle.td_report_pieces.specs.declared.pieces.Pieces.{Pieces}
 use Rattle.td_report_pieces.specs.Layout.{total_line}
 use Rattle.td_report_pieces.specs.Written.{EndsBy, no_write_failed, stop_of}
@@ -41,6 +41,8 @@ module _ {R W : Type 0} (contents : W → Option (List ℕ)) where
     -- no more waits than a piece, and no less is written
     pub short : length (string_bytes old.text) < piece → length (string_bytes new.text) < piece
     pub few : (after ≡ before) ⊎ (piece ≤ length (string_bytes old.text ++ text_in line))
+    -- it is told as the store's fault only if a number of 64 bits counts no further line
+    pub full : stopped ≡ Some Store → 2 ^ 64 ≤ old.lines + 1
 
   -- once it was stopped nothing more is done
   abbrev pub SeesBy : Option ReportFault → Option (List ℕ) → Pieces R → Counted W → Pieces R → Counted W → Type 0

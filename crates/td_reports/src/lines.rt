@@ -3,6 +3,7 @@ ghost use Rattle.std.specs.Prelude.{◌≡◌, ◌-◌, [], ◌∷◌, ◌++◌,
 ghost use Rattle.td_report_pieces.specs.Layout.{line_of};
 ghost use Rattle.td_reports.specs.Texts.{amount_text, deadlines_line, end_text, guarantee_line, overdue_fields};
 
+use ascii_text::last_digit;
 use std::alloc::{AllocError, Global};
 use td_base::{Cents, Day, HolderNo};
 use td_guarantee::{Guarantee, guaranteed};
@@ -63,11 +64,14 @@ fn free(reference: Cents, used: Cents) -> Cents
 }
 
 // Puts an amount behind a line, as a field more.
-fn add_amount(alloc: Global, line: &mut String, amount: Cents) -> Result<(), AllocError>
+fn add_amount(line: &mut String, amount: Cents) -> Result<(), AllocError>
     ensures { OnOk result (string_bytes line.new ≡ string_bytes line.old ++ 32 ∷ amount_text amount) }
 {
-    let text = amount.to_string(alloc)?;
-    write!(line, " {text:>17}")
+    let cents = amount.get();
+    let whole = cents / 100;
+    let tens = char::from(last_digit(cents / 10));
+    let ones = char::from(last_digit(cents));
+    write!(line, " {whole:>14}.{tens}{ones}")
 }
 
 // Puts the end day of a guarantee behind a line, or that it has none, and ends the line.
@@ -91,10 +95,10 @@ pub(crate) fn guarantee_line(
 {
     let reference = guarantee.reference;
     let mut line = format!(in alloc; "{} {holder} {:>3}", guarantee.grn, guarantee.cover.get())?;
-    add_amount(alloc, &mut line, reference)?;
-    add_amount(alloc, &mut line, guaranteed(reference, guarantee.cover))?;
-    add_amount(alloc, &mut line, used)?;
-    add_amount(alloc, &mut line, free(reference, used))?;
+    add_amount(&mut line, reference)?;
+    add_amount(&mut line, guaranteed(reference, guarantee.cover))?;
+    add_amount(&mut line, used)?;
+    add_amount(&mut line, free(reference, used))?;
     add_end(&mut line, guarantee.ends)?;
     Ok(line)
 }

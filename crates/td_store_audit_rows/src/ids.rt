@@ -1,5 +1,5 @@
 //! The rowids of the tables: a statement that writes goes by them.
-ghost use Rattle.std.specs.Prelude.{◌≡◌, [], false, IfSome, IsTrue, OnOk};
+ghost use Rattle.std.specs.Prelude.{◌≡◌, ◌↔◌, ℤ, [], None, false, IfSome, IsTrue, OnOk};
 ghost use Rattle.sqlite_value.specs.Order.{column};
 ghost use Rattle.sqlite_value.specs.declared.value.Value.TheVariants.{Int};
 ghost use Rattle.sqlite.specs.Given.{IsPlain};
@@ -16,7 +16,7 @@ use typed_sql::{Walker, integer_at, walk};
 
 // Whether an integer is above the last one, if there is one.
 fn is_above(last: Option<i64>, id: i64) -> bool
-    ensures { IsTrue result → IsAbove last id }
+    ensures { IsTrue result ↔ IsAbove last id }
 {
     match last {
         Some(before) => before < id,
@@ -26,7 +26,8 @@ fn is_above(last: Option<i64>, id: i64) -> bool
 
 // The integer that a row shows first, where it is above the last one.
 fn next_id(last: Option<i64>, row: &Row) -> Option<i64>
-    ensures { IfSome result (λ id. (column row.now 0 ≡ Int id) × IsAbove last id) }
+    ensures some { IfSome result (λ id. (column row.now 0 ≡ Int id) × IsAbove last id) }
+    ensures none { result ≡ None → (id : ℤ) → column row.now 0 ≡ Int id → IsAbove last id → ⊥ }
 {
     let id = integer_at(row, 0)?;
     if is_above(last, id) { Some(id) } else { None }

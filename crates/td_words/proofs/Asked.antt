@@ -121,7 +121,7 @@ module _ (words : List Text) (kind : ErrorKind) (fails : (kind ≡ OutOfMemory) 
   -- what is told for the kind that clap gave
   pub told : (e : NoJob) → IsTold kind words e → IsNoJob words e
   told (Help text) is = ⊎_elim (λ help. inl (found DisplayHelp help (λ same. cc)))
-      (λ other. ⊎_elim (λ version. inr (found DisplayVersion version (λ same. cc))) (λ help. inl (help_asked words help)) other) is
+      (λ other. ⊎_elim (λ version. inr (found DisplayVersion version (λ same. cc))) (λ help. inl (help_asked words help.0)) other) is
   told (Wrong text) is =
       (not_taken is.2, λ alone. ⊎_elim (not_alone is.2 DisplayHelp is.0) (not_alone is.2 DisplayVersion is.1) alone)
   told NoMemory is = tt

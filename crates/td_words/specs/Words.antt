@@ -233,9 +233,14 @@ IsNoneSuch {X} Is (Help text) = ⊥
 IsNoneSuch {X} Is (Wrong text) = (x : X) → Is x → ⊥
 IsNoneSuch {X} Is NoMemory = ⊤
 
--- What is told where clap found no job: help or the version for an error of that kind, or help where the word behind the
--- program's name is `help`.
+-- The words behind the program's name begin with `help --help` or `help -h`, whose option is no command to clap.
+abbrev pub AskForHelpOfHelp : List Text → Type 0
+AskForHelpOfHelp words =
+    (slice_get words 1 ≡ Some (codes "help"))
+    × ((slice_get words 2 ≡ Some (codes "--help")) ⊎ (slice_get words 2 ≡ Some (codes "-h")))
+
+-- What is told where clap found no job: help or the version for an error of that kind, or help of the command `help`.
 abbrev pub IsTold : ErrorKind → List Text → NoJob → Type 0
-IsTold kind words (Help text) = (kind ≡ DisplayHelp) ⊎ (kind ≡ DisplayVersion) ⊎ (slice_get words 1 ≡ Some (codes "help"))
+IsTold kind words (Help text) = (kind ≡ DisplayHelp) ⊎ (kind ≡ DisplayVersion) ⊎ AskForHelpOfHelp words
 IsTold kind words (Wrong text) = (kind ≢ DisplayHelp) × (kind ≢ DisplayVersion) × (kind ≢ OutOfMemory)
 IsTold kind words NoMemory = ⊤

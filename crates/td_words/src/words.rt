@@ -1,10 +1,10 @@
 //! The command line: which job its words ask for, and what is told where they ask for none.
-ghost use Rattle.std.specs.Prelude.{◌≡◌, codes, map, option_map, pos, slice_get, string_bytes, true, IfErr, IfOk, Some, SomeIff};
+ghost use Rattle.std.specs.Prelude.{◌≡◌, ◌↔◌, codes, map, option_map, pos, slice_get, string_bytes, IfErr, IfOk, IsTrue, Some, SomeIff};
 ghost use Rattle.ascii_text.specs.Digits.{digits_value};
 ghost use Rattle.clap.specs.Values.{kind_of};
 ghost use Rattle.clap.specs.Words.{first_of, found_of, rows_of};
 ghost use Rattle.td_words.specs.declared.words.NoJob.TheVariants.{NoMemory};
-ghost use Rattle.td_words.specs.Words.{AreRecords, AsksFor, IsCountryIn, IsDayOf, IsDecimal, IsIdleOf, IsJob, IsListening, IsMomentOf, IsNoJob, IsNoneSuch, IsNumberOf, IsOffice, IsReport, IsTask, IsTold, batch_name};
+ghost use Rattle.td_words.specs.Words.{AreRecords, AskForHelpOfHelp, AsksFor, IsCountryIn, IsDayOf, IsDecimal, IsIdleOf, IsJob, IsListening, IsMomentOf, IsNoJob, IsNoneSuch, IsNumberOf, IsOffice, IsReport, IsTask, IsTold, batch_name};
 
 use crate::options::{AT, CONNECTIONS, COUNTRY, DAY, DB, FILE, IDLE, KIND, NEW, PORT, program};
 use ascii_text::is_digits;
@@ -128,6 +128,11 @@ const NO_FILE: &str = "error: the following required arguments were not provided
 /// What is told of a report on a day without the day.
 const NO_DAY: &str = "error: the following required arguments were not provided: --day <D>\n";
 
+/// How the option of the country is shown, and what its value must be.
+const COUNTRY_SHOWN: &str = "--country <CC>";
+
+const COUNTRY_WANTED: &str = "two capital letters";
+
 const AT_NUMBER: NumberOption = NumberOption {
     name: AT,
     shown: "--at <SECONDS>",
@@ -197,28 +202,38 @@ fn no_job(alloc: Global, error: &clap::Error, words: &[String]) -> Result<NoJob,
 
 // `help --help`, whose `--help` is a command to `clap` that isn't there.
 fn asks_for_help_of_help(words: &[String]) -> bool
-    ensures { result ≡ true → slice_get (map string_bytes words.now) 1 ≡ Some (codes "help") }
+    ensures { IsTrue result ↔ AskForHelpOfHelp (map string_bytes words.now) }
 {
-    let Some(command) = words.get(1) else {
-        return false;
-    };
-    command.as_str() == "help" && matches!(words.get(2), Some(option) if is_help(option))
+    has_at(words, 1, "help") && (has_at(words, 2, "--help") || has_at(words, 2, "-h"))
 }
 
-fn is_help(word: &str) -> bool {
-    word == "--help" || word == "-h"
+// Whether this word stands at that place.
+fn has_at(words: &[String], place: usize, word: &str) -> bool
+    ensures { IsTrue result ↔ (slice_get (map string_bytes words.now) place ≡ Some word.now) }
+{
+    match words.get(place) {
+        Some(there) => there.as_str() == word,
+        None => false,
+    }
 }
 
-// In one line. A negative number behind an option is a wrong value, which `clap` takes for an option of its own.
+// In one line. A negative number behind an option is a wrong value, which `clap` takes for an option of its own. Where
+// something is missing, a wrong value that stands beside it is told first.
 fn what_was_wrong(
     alloc: Global,
     error: &clap::Error,
     words: &[String],
 ) -> Result<String, AllocError> {
-    match negative_number(words) {
-        Some((option, value)) => wrong_value(alloc, value, option.shown, option.wanted),
-        None => first_paragraph(alloc, &error.to_string(alloc)?),
+    if let Some((option, value)) = negative_number(words) {
+        return wrong_value(alloc, value, option.shown, option.wanted);
     }
+    if let (ErrorKind::MissingRequiredArgument, Some((option, wanted, value))) = (
+        error.kind(),
+        value_refused(words),
+    ) {
+        return wrong_value(alloc, value, option, wanted);
+    }
+    first_paragraph(alloc, &error.to_string(alloc)?)
 }
 
 // The first option that has a negative number behind it, and that number.
@@ -242,6 +257,23 @@ fn number_option(word: &str) -> Option<NumberOption> {
     }
 }
 
+// The first option that has a value behind it which it doesn't take: how the option is shown, what it takes, and the
+// value.
+fn value_refused(words: &[String]) -> Option<(&'static str, &'static str, &str)> {
+    for pair in words.windows(2) {
+        let value = pair[1].as_str();
+        if pair[0].as_str() == "--country" && Country::read(value.as_bytes()).is_none() {
+            return Some((COUNTRY_SHOWN, COUNTRY_WANTED, value));
+        }
+        if let Some(option) = number_option(&pair[0]) {
+            if decimal(value, option.least, option.greatest).is_none() {
+                return Some((option.shown, option.wanted, value));
+            }
+        }
+    }
+    None
+}
+
 // A minus sign and digits.
 fn is_negative(value: &str) -> bool {
     match value.strip_prefix('-') {
@@ -261,10 +293,22 @@ fn first_paragraph(alloc: Global, text: &str) -> Result<String, AllocError> {
         if !line.is_empty() {
             line.push_str(" ")?;
         }
-        line.push_str(part)?;
+        push_printable(&mut line, part)?;
     }
     line.push_str("\n")?;
     Ok(line)
+}
+
+// Puts a text behind the line, with a question mark for each control character, which a terminal might obey.
+fn push_printable(line: &mut String, text: &str) -> Result<(), AllocError> {
+    for character in text.chars() {
+        line.push(if character.is_control() {
+            '?'
+        } else {
+            character
+        })?;
+    }
+    Ok(())
 }
 
 // The job that a command of this name is, with these options. What `clap` lets nobody ask for, as another name or no value of
@@ -449,12 +493,7 @@ fn country_in(alloc: Global, matches: &ArgMatches<'_>) -> Result<Country, NoJob>
     let text = value_of(matches, COUNTRY).unwrap_or("");
     match Country::read(text.as_bytes()) {
         Some(country) => Ok(country),
-        None => Err(NoJob::Wrong(wrong_value(
-            alloc,
-            text,
-            "--country <CC>",
-            "two capital letters",
-        )?)),
+        None => Err(NoJob::Wrong(wrong_value(alloc, text, COUNTRY_SHOWN, COUNTRY_WANTED)?)),
     }
 }
 

@@ -1,6 +1,7 @@
 //! A desk over a store that may fail and shut, and runs at both desks.
 mod batches;
 mod lodging;
+mod split;
 mod store;
 
 use crate::examples::{AT, code, country, cover, eori, holder};

@@ -1,12 +1,13 @@
-//! Connections over sockets of this machine. Each peer has written all before the first is served.
-use super::{Connection, IS_CUT, REGISTERS, Still, THREE, assert_told, new_service};
+//! Connections over sockets of this machine. Each peer has written all before the first is served, and reads only once
+//! the last one is.
+use super::{Connection, IS_CUT, REGISTERS, Still, THREE, assert_told, new_service, text_of};
 use std::io;
 use std::io::{Read, Write};
 use std::net::{Ipv4Addr, Net, Shutdown, SocketAddr, TcpListener, TcpStream};
 use std::process::Abort;
 use td_http::serve_on;
 
-/// How long a read waits, in seconds.
+/// How long a read waits, and the writes behind it, in seconds.
 const IDLE: u16 = 1;
 
 /// A peer that has written this.
@@ -58,10 +59,15 @@ fn address(rt: &impl Abort, listener: &TcpListener) -> SocketAddr {
     listener.local_addr().expect(rt, "an address")
 }
 
-/// So many connections to the listener are served at a new desk.
-fn serve_all(rt: &(impl AllocGlobal + Abort), listener: &TcpListener, count: u32) {
+/// So many connections to the listener are served at a new desk, by the machine's clock.
+fn serve_all(
+    rt: &(impl AllocGlobal + Abort),
+    machine: HostRuntime,
+    listener: &TcpListener,
+    count: u32,
+) {
     let mut service = new_service(rt);
-    let served = serve_on(rt.alloc(), listener, count, IDLE, &mut Still, &mut service);
+    let served = serve_on(machine, listener, count, IDLE, &mut Still, &mut service);
     assert!(rt; served.is_ok());
 }
 
@@ -77,24 +83,24 @@ fn assert_all_told(
 }
 
 /// Each of the connections to a listener is told what is due to it.
-fn assert_served<N>(rt: &N, connections: &[Connection], count: u32)
+fn assert_served<N>(rt: &N, machine: HostRuntime, connections: &[Connection], count: u32)
 where
     N: Net<Listener = TcpListener, Stream = TcpStream> + AllocGlobal + Abort,
 {
     let listener = listener_of(rt);
     let mut peers = peers_of(rt, address(rt, &listener), connections);
-    serve_all(rt, &listener, count);
+    serve_all(rt, machine, &listener, count);
     assert_all_told(rt, &mut peers, connections);
 }
 
 #[test]
 fn a_connection_is_served(rt: HostRuntime) {
-    assert_served(&rt, &[REGISTERS], 1);
+    assert_served(&rt, rt, &[REGISTERS], 1);
 }
 
 #[test]
 fn a_connection_that_is_cut_stops_no_other(rt: HostRuntime) {
-    assert_served(&rt, &THREE, 3);
+    assert_served(&rt, rt, &THREE, 3);
 }
 
 /// More than is read before the request that asks to close is answered.
@@ -123,7 +129,7 @@ fn is_whole(peer: &TcpStream) -> bool {
 fn a_peer_that_wrote_more_is_not_reset(rt: HostRuntime) {
     let listener = listener_of(&rt);
     let mut peer = long_peer(&rt, address(&rt, &listener));
-    serve_all(&rt, &listener, 1);
+    serve_all(&rt, rt, &listener, 1);
     assert_peer_told(&rt, &mut peer, REGISTERS.1);
     assert!(rt; is_whole(&peer));
 }
@@ -152,7 +158,59 @@ fn peers_that_wait_hold_no_other(rt: HostRuntime) {
     let at = address(&rt, &listener);
     let mut waiting = waiting_peers_of(&rt, at, &WAITING);
     let mut last = peer_of(&rt, at, REGISTERS.0);
-    serve_all(&rt, &listener, 4);
+    serve_all(&rt, rt, &listener, 4);
     assert_all_told(&rt, &mut waiting, &WAITING);
     assert_peer_told(&rt, &mut last, REGISTERS.1);
+}
+
+/// Registers holder 000001.
+const REGISTRATION: &[u8] =
+    b"PUT /office/holders/000001 HTTP/1.1\r\nContent-Length: 20\r\n\r\n{\"eori\":\"CH1234567\"}";
+
+/// Opens a guarantee for that holder.
+const OPENS: &[u8] =
+    b"POST /office/holders/000001/guarantees HTTP/1.1\r\nContent-Length: 42\r\n\r\n{\"reference\":100,\"cover\":50,\"code\":\"AB12\"}";
+
+/// Lists all guarantees of that holder.
+const LISTS: &[u8] = b"GET /holders/000001/guarantees HTTP/1.1\r\n\r\n";
+
+/// How many lists are asked for: those of a hundred guarantees are more than the buffers of two sockets hold.
+const MANY_LISTS: usize = 600;
+
+/// A request, and then another one so many times.
+fn then_many(
+    rt: &(impl AllocGlobal + Abort),
+    first: &[u8],
+    request: &[u8],
+    times: usize,
+) -> Vec<u8> {
+    let mut all = first.to_vec(rt.alloc()).expect(rt, "memory");
+    for _ in 0..times {
+        all.extend_from_slice(request).expect(rt, "memory");
+    }
+    all
+}
+
+/// How many replies the peer was told.
+fn replies_to(rt: &(impl AllocGlobal + Abort), peer: &mut TcpStream) -> usize {
+    let mut told = Vec::new(rt.alloc());
+    let read = peer.read_to_end(&mut told);
+    assert!(rt; read.is_ok());
+    text_of(&told).matches("HTTP/1.1 200 OK").count()
+}
+
+// It is told what the buffers hold, and the next one is served.
+#[test]
+fn a_peer_that_reads_nothing_holds_no_other(rt: HostRuntime) {
+    let listener = listener_of(&rt);
+    let at = address(&rt, &listener);
+    let opening = then_many(&rt, REGISTRATION, OPENS, 100);
+    let _opened = peer_of(&rt, at, &opening);
+    let asked = then_many(&rt, b"", LISTS, MANY_LISTS);
+    let mut mute = writer_of(&rt, at, &asked).expect(&rt, "a peer");
+    let mut last = peer_of(&rt, at, IS_CUT.0);
+    serve_all(&rt, rt, &listener, 3);
+    assert_peer_told(&rt, &mut last, IS_CUT.1);
+    let told = replies_to(&rt, &mut mute);
+    assert!(rt; 0 < told && told < MANY_LISTS, "{told}");
 }

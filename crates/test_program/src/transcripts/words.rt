@@ -8,6 +8,8 @@ $
 ! 2 error: 'transit-desk' requires a subcommand but one was not provided [subcommands: serve, pipe, batch, acts, report, check, migrate, help]
 $ release --country CH
 ! 2 error: unrecognized subcommand 'release'
+$ help nosuch
+! 2 error: unrecognized subcommand 'nosuch'
 $ serve
 ! 2 error: the following required arguments were not provided: --country <CC> --port <N> --connections <K>
 $ pipe --country CH --version
@@ -18,6 +20,14 @@ $ pipe --country CH --country CH
 ! 2 error: the argument '--country <CC>' cannot be used multiple times
 $ pipe --country ch
 ! 2 error: invalid value 'ch' for '--country <CC>': it must be two capital letters
+$ pipe --country C\tH
+! 2 error: invalid value 'C?H' for '--country <CC>': it must be two capital letters
+$ bad\x1b[31m
+! 2 error: unrecognized subcommand 'bad?[31m'
+$ serve --country che --port 99999
+! 2 error: invalid value 'che' for '--country <CC>': it must be two capital letters
+$ serve --country CH --port 99999
+! 2 error: invalid value '99999' for '--port <N>': it must be a whole number from 1 to 65535
 $ pipe --country C\n\nH
 ! 2 error: invalid value 'C
 $ pipe --country -1

@@ -1,36 +1,60 @@
-use Rattle.std.proofs.Common.{◌∙◌, ◌≡◌, ◌+◌, [], ◌∷◌, ◌++◌, ap, get_or, map, refl, sym, subst, take}
-use Rattle.std.proofs.lemmas.List.{take_all, take_more, map-append}
+use Rattle.std.proofs.Common.{◌∙◌, ◌<◌, ◌+◌, Some, ap, map, refl, subst, sym}
+use Rattle.std.specs.Prelude.{unwrap_or}
 use Rattle.sqlite.specs.Held.{state}
-use Rattle.sqlite.specs.State.{State}
-use Rattle.td_store_rows.specs.GuaranteeTable.{guarantee_row_of}
-use Rattle.td_migrate.proofs.Putting.{HasFilled, fill_next, nothing_filled}
+use Rattle.sqlite.specs.State.{State, HasCleanDisk}
+use Rattle.typed_sql.proofs.OnlyRead.{stays_on}
+use Rattle.td_store_audit_rows.specs.NextHolder.{IsNextHolder}
+use Rattle.td_store_audit_rows.specs.declared.holders.RawHolder.{RawHolder}
+use Rattle.td_store_rows.specs.Columns.{guarantee_typing, kept_typing}
+use Rattle.td_migrate.specs.Filled.{HasSums, IsFirst, with_its_use}
+use Rattle.td_migrate.specs.Put.{KeepTheRules}
+use Rattle.td_migrate.proofs.EachHolder.{first_all, first_asked, first_none, first_still}
+use Rattle.td_migrate.proofs.Older.{first_beside}
+use Rattle.td_migrate.proofs.Putting.{HasPut, nothing_put}
+use Rattle.td_migrate.proofs.Walking.{all_put, holder_put, upto}
 use Rattle.td_migrate.proofs.filling.fill.Goals as goal
 
-pub rows-init : goal.rows-init
-rows-init g c = (refl, nothing_filled (state g.S.Store c.args.tx.now.conn.now) c.requires)
+pub holders-init : goal.holders-init
+holders-init g c = (
+  refl,
+  nothing_put IsFirst kept_typing KeepTheRules (upto IsFirst guarantee_typing kept_typing first_beside with_its_use first_still 0) (state g.S.Store c.args.tx.now.conn.now) c.requires
+      (λ l at x keep. ap (map (with_its_use x)) (first_none l x keep)),
+)
 
-pub rows-preserved : goal.rows-preserved
-rows-preserved g c = (c.fill_one.ensures.same_reference ∙ c.rows.invariant.0, more)
+pub holders-preserved : goal.holders-preserved
+holders-preserved g c = (
+  c.put_of.ensures.same_reference ∙ c.holder_above.ensures.same_reference ∙ c.holders.invariant.0,
+  subst (λ n. HasPut IsFirst kept_typing KeepTheRules (upto IsFirst guarantee_typing kept_typing first_beside with_its_use first_still n) a d) (sym c.number-number.ensures.value)
+      (holder_put IsFirst guarantee_typing kept_typing first_beside with_its_use first_still (HasSums raw) c.holders.number (unwrap_or raw.grn_count 0 + 1) raw above a b m d
+      (first_asked c.holders.number raw) c.holders.invariant.1 c.in_ok-raw.ensures.reads found c.in_ok-put_of.ensures.within c.in_ok-put_of.ensures.filled),
+)
   where
     a : State
     a = state g.S.Store c.args.tx.now.conn.now
 
     b : State
-    b = state g.S.Store c.rows.tx.conn.now
+    b = state g.S.Store c.holders.tx.conn.now
+
+    m : State
+    m = state g.S.Store c.holder_above.new.tx.conn.now
 
     d : State
-    d = state g.S.Store c.fill_one.new.tx.conn.now
+    d = state g.S.Store c.put_of.new.tx.conn.now
 
-    split : map guarantee_row_of (take (c.rows.row-index + 1) c.args.rows.now)
-        ≡ map guarantee_row_of (take c.rows.row-index c.args.rows.now) ++ guarantee_row_of c.row-item.result ∷ []
-    split = ap (map guarantee_row_of) (take_more c.args.rows.now c.rows.row-index _ c.rows-test.true)
-        ∙ map-append guarantee_row_of (take c.rows.row-index c.args.rows.now) (get_or c.args.rows.now c.rows.row-index _ ∷ [])
-        ∙ ap (λ r. map guarantee_row_of (take c.rows.row-index c.args.rows.now) ++ guarantee_row_of r ∷ []) (sym c.row-item.is)
+    raw : RawHolder
+    raw = c.in-Some.raw
 
-    more : HasFilled (map guarantee_row_of (take (c.rows.row-index + 1) c.args.rows.now)) a d
-    more = subst (λ rows. HasFilled rows a d) (sym split)
-        (fill_next (map guarantee_row_of (take c.rows.row-index c.args.rows.now)) (guarantee_row_of c.row-item.result) a b d c.rows.invariant.1
-        c.in_ok-fill_one.ensures.within c.in_ok-fill_one.ensures.filled)
+    above : c.holders.number < raw.holder
+    above = rw c.in-Some.is at c.in_ok-raw.ensures.above
+
+    found : HasCleanDisk m → IsNextHolder c.holders.number b (Some raw)
+    found clean = subst (IsNextHolder c.holders.number b) c.in-Some.is (c.in_ok-raw.ensures.found clean)
 
 pub returns-clause-filled : goal.returns-clause-filled
-returns-clause-filled g c clean = rw (take_all c.rows.row-index c.args.rows.now c.rows-test.false) at (c.rows.invariant.1.filled clean)
+returns-clause-filled g c clean =
+    all_put IsFirst guarantee_typing kept_typing first_beside with_its_use first_still c.holders.number (state g.S.Store c.args.tx.now.conn.now) (state g.S.Store c.holders.tx.conn.now)
+    (state g.S.Store c.holder_above.new.tx.conn.now) (λ l at. first_all c.holders.number l) c.holders.invariant.1 c.in_ok-raw.ensures.reads
+    (λ clean. subst (IsNextHolder c.holders.number (state g.S.Store c.holders.tx.conn.now)) c.in_default.is (c.in_ok-raw.ensures.found clean)) clean
+
+pub returns-clause-within : goal.returns-clause-within
+returns-clause-within g c = stays_on c.holders.invariant.1.within c.in_ok-raw.ensures.reads.within

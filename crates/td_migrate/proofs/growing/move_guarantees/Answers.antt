@@ -1,8 +1,7 @@
-use Rattle.std.proofs.Common.{arith, map}
+use Rattle.std.proofs.Common.{arith}
 use Rattle.sqlite.specs.Held.{state}
 use Rattle.sqlite.specs.State.{State, HasCleanDisk}
 use Rattle.typed_sql.proofs.Leaving.{on_ok}
-use Rattle.td_store_rows.specs.GuaranteeTable.{guarantee_row_of}
 use Rattle.td_migrate.proofs.Becoming.{moved}
 use Rattle.td_migrate.proofs.growing.move_guarantees.Goals as goal
 
@@ -14,6 +13,4 @@ returns-clause-moved g c clean =
     let e : State = state g.S.Store c.empty_guarantees1.new.tx.conn.now in
     let clean_d : HasCleanDisk d = omega (arith, clean, c.empty_guarantees1.ensures.within.survives.clean) in
     let clean_b : HasCleanDisk b = omega (arith, clean_d, c.fill.ensures.within.survives.clean) in
-    on_ok c.empty_guarantees1.result
-    (moved (map guarantee_row_of c.args.rows.now) a b d e (c.in_ok-make_guarantees2.ensures.made clean_b) (c.in_ok-fill.ensures.filled clean_d))
-    (c.empty_guarantees1.ensures.emptied clean)
+    on_ok c.empty_guarantees1.result (moved a b d e (c.in_ok-make_guarantees2.ensures.made clean_b) (c.in_ok-fill.ensures.filled clean_d)) (c.empty_guarantees1.ensures.emptied clean)

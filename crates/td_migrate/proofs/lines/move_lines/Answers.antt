@@ -1,8 +1,7 @@
-use Rattle.std.proofs.Common.{arith, map}
+use Rattle.std.proofs.Common.{arith}
 use Rattle.sqlite.specs.Held.{state}
 use Rattle.sqlite.specs.State.{State, HasCleanDisk}
 use Rattle.typed_sql.proofs.Leaving.{on_ok}
-use Rattle.td_store_rows.specs.LineTable.{line_row_of}
 use Rattle.td_migrate.proofs.BecomingThird.{lines_moved}
 use Rattle.td_migrate.proofs.lines.move_lines.Goals as goal
 
@@ -10,10 +9,8 @@ pub returns-clause-moved : goal.returns-clause-moved
 returns-clause-moved g c clean =
     let a : State = state g.S.Store c.args.tx.now.conn.now in
     let b : State = state g.S.Store c.make_lines3.new.tx.conn.now in
-    let d : State = state g.S.Store c.put_lines.new.tx.conn.now in
+    let d : State = state g.S.Store c.put_all.new.tx.conn.now in
     let e : State = state g.S.Store c.empty_lines1.new.tx.conn.now in
     let clean_d : HasCleanDisk d = omega (arith, clean, c.empty_lines1.ensures.within.survives.clean) in
-    let clean_b : HasCleanDisk b = omega (arith, clean_d, c.put_lines.ensures.within.survives.clean) in
-    on_ok c.empty_lines1.result
-    (lines_moved (map line_row_of c.args.lines.now) a b d e (c.in_ok-make_lines3.ensures.made clean_b) (c.in_ok-put_lines.ensures.put clean_d))
-    (c.empty_lines1.ensures.emptied clean)
+    let clean_b : HasCleanDisk b = omega (arith, clean_d, c.put_all.ensures.within.survives.clean) in
+    on_ok c.empty_lines1.result (lines_moved a b d e (c.in_ok-make_lines3.ensures.made clean_b) (c.in_ok-put_all.ensures.put clean_d)) (c.empty_lines1.ensures.emptied clean)

@@ -6,7 +6,7 @@ use Rattle.td_report_pieces.proofs.pieces.Pieces.take_up.Goals as goal
 
 pub returns-in_err-line : goal.returns-in_err-line
 returns-in_err-line g c =
-    rw (told_no_memory _ c.from_residual.ensures.1) (not_taken _ _ _ _ _ _ refl NoMemory (λ e. cc e) refl refl)
+    rw (told_no_memory _ c.from_residual.ensures.1) (not_taken _ _ _ _ _ _ refl NoMemory (λ e. cc e) (λ e. absurd (cc e)) refl refl)
 
 pub returns-in_default : goal.returns-in_default
 returns-in_default g c =
@@ -14,11 +14,11 @@ returns-in_default g c =
     has_no_line _ _ _ _ _ _ refl (sym said) refl refl refl
 
 pub returns-in_default-checked_add : goal.returns-in_default-checked_add
-returns-in_default-checked_add g c = not_taken _ _ _ _ _ _ refl Store (λ e. cc e) refl refl
+returns-in_default-checked_add g c = not_taken _ _ _ _ _ _ refl Store (λ e. cc e) (λ _. omega (arith, c.in_default-checked_add.ensures)) refl refl
 
 pub returns-in_err-push_str : goal.returns-in_err-push_str
 returns-in_err-push_str g c =
-    rw (told_no_memory _ c.from_residual-in_err-push_str.ensures.1) (not_taken _ _ _ _ _ _ refl NoMemory (λ e. cc e) refl c.in_err-push_str.ensures.bytes)
+    rw (told_no_memory _ c.from_residual-in_err-push_str.ensures.1) (not_taken _ _ _ _ _ _ refl NoMemory (λ e. cc e) (λ e. absurd (cc e)) refl c.in_err-push_str.ensures.bytes)
 
 pub returns : goal.returns
 returns g c =

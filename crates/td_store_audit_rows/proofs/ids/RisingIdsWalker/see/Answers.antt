@@ -8,6 +8,6 @@ pub returns : goal.returns
 returns c = λ rows knew rises. elim c.if-self.branch [
   | then-self w ↦
       let some : IsSome c.next_id-self.result = search rules in
-      next_one c.args.self.now.last c.next_id-self.result rows c.args.row.now (knew w.if-self.true) some c.next_id-self.ensures
+      next_one c.args.self.now.last c.next_id-self.result rows c.args.row.now (knew w.if-self.true) some c.next_id-self.ensures.some
   | else-self w ↦ absurd (let no = w.self-is in search rules)
 ]
