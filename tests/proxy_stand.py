@@ -127,9 +127,15 @@ class Proxy:
         until(f"nginx on {self.port}", 60, lambda: answers(self.port) or self.run.poll() is not None)
         due(f"nginx runs ({self.errors()[-600:]})", None, self.run.poll())
 
+    def workers(self):
+        with open(f"/proc/{self.run.pid}/task/{self.run.pid}/children", encoding="ascii") as it:
+            return set(it.read().split())
+
     def reload(self, status, *asked):
-        """Has nginx read its files again, and waits until what is asked is answered with that status."""
+        """Has nginx read its files again, and waits until those who had read them before are gone."""
+        before = self.workers()
         self.run.send_signal(signal.SIGHUP)
+        until("new workers", 60, lambda: self.workers() and not self.workers() & before)
         until(f"{status} for {asked} after a reload", 60, lambda: self.ask(*asked).status == status)
 
     def stop(self):
