@@ -3,6 +3,7 @@ it, which is the program, or a server that keeps the bytes it gets."""
 import contextlib
 import json
 import os
+import random
 import re
 import shutil
 import signal
@@ -32,9 +33,11 @@ def within(what, seconds, taken):
 
 
 def free_port():
-    with socket.socket() as it:
-        it.bind(("127.0.0.1", 0))
-        return it.getsockname()[1]
+    """A port that nobody has, below those that the kernel gives to connections."""
+    while True:
+        port = random.randrange(15_000, 32_000)
+        with contextlib.suppress(OSError), socket.create_server(("127.0.0.1", port)):
+            return port
 
 
 def output(words, **more):
