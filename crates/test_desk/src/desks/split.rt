@@ -1,11 +1,11 @@
 //! The commands of two holders at a desk of each: what is said is what one desk says to all of them.
-use super::{WANTED, assert_said, plain_desk, register, see};
+use super::{assert_said, plain_desk, register, see};
 use crate::examples::AT;
 use std::process::Abort;
 use td_acts::Stamped;
 use td_split::run_share;
 
-// Holder 000002's commands of the list that one desk does, and where their answers stand in it.
+// Holder 000002's commands of the list that one desk does, and what is said to them there.
 fn share_of_the_second(rt: &impl Abort) -> [Stamped; 3] {
     [
         register(rt, 2, b"CH1234567", AT),
@@ -14,7 +14,11 @@ fn share_of_the_second(rt: &impl Abort) -> [Stamped; 3] {
     ]
 }
 
-const OF_THE_SECOND: [&str; 3] = [WANTED[0], WANTED[3], WANTED[4]];
+const OF_THE_SECOND: [&str; 3] = [
+    "holder 000002 CH1234567 0 0",
+    "holder-known",
+    "holder 000002 CH1234567 0 0",
+];
 
 // Holder 000001's.
 fn share_of_the_first(rt: &impl Abort) -> [Stamped; 4] {
@@ -26,7 +30,12 @@ fn share_of_the_first(rt: &impl Abort) -> [Stamped; 4] {
     ]
 }
 
-const OF_THE_FIRST: [&str; 4] = [WANTED[1], WANTED[2], WANTED[5], WANTED[6]];
+const OF_THE_FIRST: [&str; 4] = [
+    "no-holder",
+    "holder 000001 CH1234567 0 0",
+    "clock-range",
+    "holder 000001 CH1234567 0 0",
+];
 
 fn assert_share(rt: &(impl AllocGlobal + Abort), list: &[Stamped], wanted: &[&str]) {
     let mut desk = plain_desk(rt);
