@@ -94,12 +94,12 @@ def by_holders(size, mrn_of):
     return Shape(1, 1, 1, "released", numbers=range(1, size + 1), mrn_of=mrn_of)
 
 
-def of_lists(where, counted, timed):
+def of_lists(where, counted, lines, timed):
     """The list of movements, by their number and by that of their lines, which it doesn't show."""
     for count in (1, 9, 99):
         name, fewer = f"list of movements of {count} line{'s' * (count > 1)}", counted // max(1, count // 20)
         yield Case(name, where, of_lines(count), always(ALL_MOVEMENTS), True, fewer, timed, 20)
-    yield Case("list of 100 movements, by lines", where, by_lines("accepted"), always(ALL_MOVEMENTS), False, 9, 45, 100)
+    yield Case("list of 100 movements, by lines", where, by_lines("accepted"), always(ALL_MOVEMENTS), False, lines, 45, 100)
 
 
 CASES = [
@@ -109,14 +109,14 @@ CASES = [
     Case("release by turns, by both", "memory", by_both(1), acts("ie029", RELEASE), False, 1_500, 2_000, 800),
     Case("release, by movements", "memory", by_movements(20), acts("ie029", RELEASE), False, 800, 20_000, 800),
     Case("declaration, by movements", "memory", by_movements(20), declarations, False, 400, 20_000, 400),
-    *of_lists("memory", 50, 300),
+    *of_lists("memory", 50, 45, 300),
     Case("list of guarantees, by guarantees", "file", by_guarantees, always(ALL_GUARANTEES), True, 50, 1_000, 20),
     Case("list of guarantees, by movements", "file", by_movements(20, "released"), always(ALL_GUARANTEES), False, 100, 5_000, 20),
     Case("view of a guarantee, by movements", "file", by_movements(1, "released"), view_of_one, False, 100, 5_000, 800),
     Case("view of a movement, by movements", "file", by_movements(20), views_of_movements, False, 100, 5_000, 800),
     Case("declaration, by movements", "file", by_movements(20), declarations, False, 100, 5_000, 800),
     Case("release, by movements", "file", by_movements(20), acts("ie029", RELEASE), False, 100, 5_000, 800),
-    *of_lists("file", 40, 300),
+    *of_lists("file", 40, 9, 300),
     Case("release, by lines", "file", by_lines("accepted"), acts("ie029", RELEASE), True, 9, 45, 100),
     Case("IE007, by lines", "file", by_lines("released"), acts("ie007", ARRIVAL), False, 9, 45, 100),
     Case("IE018, by lines", "file", by_lines("arrived"), acts("ie018", '{"result":"A1"}'), False, 9, 45, 100),

@@ -202,7 +202,7 @@ class Document:
                 return f"its body isn't one of the document: {wrong.message[:200]}"
         self.seen.add((id(response), "reply"))
         for key, header in headers.items():
-            self.seen.add((id(header), "there" if key in told else "not there"))
+            self.seen.add((id(header), "there") if key in told else (id(response), "without", key))
             if key in told:
                 self.show(header["schema"], told[key])
         return None
@@ -233,10 +233,10 @@ class Document:
         every = [it for operation in self.operations for it in operation.responses.values()]
         for response in [*every, *others["responses"].values(), others["head"]]:
             yield (id(response), "reply"), f"reply {self.place(response)}"
-            for header in response.get("headers", {}).values():
+            for key, header in response.get("headers", {}).items():
                 yield (id(header), "there"), f"{self.place(header)}: a reply with it"
                 if not header.get("required"):
-                    yield (id(header), "not there"), f"{self.place(header)}: a reply without it"
+                    yield (id(response), "without", key), f"{self.place(response)}: without {key}"
                 yield from self.claims_of(header["schema"])
             for content in response.get("content", {}).values():
                 yield from self.claims_of(content["schema"])

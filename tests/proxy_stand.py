@@ -3,6 +3,7 @@ it, which is the program, or a server that keeps the bytes it gets."""
 import contextlib
 import json
 import os
+import random
 import re
 import shutil
 import signal
@@ -32,9 +33,11 @@ def within(what, seconds, taken):
 
 
 def free_port():
-    with socket.socket() as it:
-        it.bind(("127.0.0.1", 0))
-        return it.getsockname()[1]
+    """A port that nobody has, below those that the kernel gives to connections."""
+    while True:
+        port = random.randrange(15_000, 32_000)
+        with contextlib.suppress(OSError), socket.create_server(("127.0.0.1", port)):
+            return port
 
 
 def output(words, **more):
@@ -127,9 +130,15 @@ class Proxy:
         until(f"nginx on {self.port}", 60, lambda: answers(self.port) or self.run.poll() is not None)
         due(f"nginx runs ({self.errors()[-600:]})", None, self.run.poll())
 
+    def workers(self):
+        with open(f"/proc/{self.run.pid}/task/{self.run.pid}/children", encoding="ascii") as it:
+            return set(it.read().split())
+
     def reload(self, status, *asked):
-        """Has nginx read its files again, and waits until what is asked is answered with that status."""
+        """Has nginx read its files again, and waits until those who had read them before are gone."""
+        before = self.workers()
         self.run.send_signal(signal.SIGHUP)
+        until("new workers", 60, lambda: self.workers() and not self.workers() & before)
         until(f"{status} for {asked} after a reload", 60, lambda: self.ask(*asked).status == status)
 
     def stop(self):
