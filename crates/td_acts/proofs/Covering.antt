@@ -14,6 +14,7 @@ use Rattle.td_commands.specs.declared.said.Refusal.{Refusal}
 use Rattle.td_commands.specs.declared.said.Refusal.TheVariants.{GuaranteeEnded, OverReference}
 use Rattle.td_model.specs.Account.{Account, ReferencesDiffer, entry_in, guarantee_by_grn, movement_by_mrn}
 use Rattle.td_acts.specs.Changes.{moved}
+use Rattle.td_acts.specs.Deciding.{terms_alone}
 use Rattle.td_model.specs.Sound.{IsCovered}
 use Rattle.td_acts.proofs.Cover.{lines_off}
 use Rattle.td_acts.proofs.ByKey.{KeysDiffer, behind_differ, first_differs, others_differ, each_found}
@@ -23,10 +24,15 @@ use Rattle.td_movement.specs.declared.line.Line.{Line}
 use Rattle.td_guarantee.specs.declared.guarantee.Guarantee.{Guarantee}
 use Rattle.td_model.specs.Declaring.{refusal_or, cover_refusal, first_uncovered}
 
--- lines are refused alike over guarantees that are found alike
-pub same_uncovered : (day : ℕ) (a b : List ℕ → Option (Guarantee × ℕ)) (lines : List Line) → AllByRecursion (λ l. a l.grn ≡ b l.grn) lines → first_uncovered day a lines ≡ first_uncovered day b lines
+-- a line is refused by the terms of its guarantee, whatever its codes are
+by_terms : (day cents : ℕ) (entry : Option (Guarantee × ℕ)) → cover_refusal day cents (option_map terms_alone entry) ≡ cover_refusal day cents entry
+by_terms day cents None = refl
+by_terms day cents (Some (g, used)) = refl
+
+-- lines are refused alike over guarantees that are found alike, but for their codes
+pub same_uncovered : (day : ℕ) (a b : List ℕ → Option (Guarantee × ℕ)) (lines : List Line) → AllByRecursion (λ l. a l.grn ≡ option_map terms_alone (b l.grn)) lines → first_uncovered day a lines ≡ first_uncovered day b lines
 same_uncovered day a b [] same = refl
-same_uncovered day a b (l ∷ lines) same = ap₂ refusal_or (ap (cover_refusal day l.cents) same.0) (same_uncovered day a b lines same.1)
+same_uncovered day a b (l ∷ lines) same = ap₂ refusal_or (ap (cover_refusal day l.cents) same.0 ∙ by_terms day l.cents (b l.grn)) (same_uncovered day a b lines same.1)
 
 -- neither refuses
 neither : (a b : Option Refusal) → refusal_or a b ≡ None → (a ≡ None) × (b ≡ None)

@@ -1,11 +1,11 @@
 -- What is said decides what is changed.
-use Rattle.std.proofs.Common.{◌≡◌, ℕ, Bool, true, false, List, Option, Some, None, refl, sym, ◌∙◌, ap, ap₂}
+use Rattle.std.proofs.Common.{◌≡◌, ℕ, Bool, true, false, List, [], ◌∷◌, map, Option, Some, None, refl, sym, ◌∙◌, ap, ap₂}
 use Rattle.std.specs.Prelude.{◌&&◌, not, if◌then◌else◌, option_map}
 use Rattle.td_commands.specs.declared.command.Command.{Command}
 use Rattle.td_commands.specs.declared.command.Command.TheVariants.{SeeGuarantee}
 use Rattle.td_commands.specs.declared.said.Answer.{Answer}
 use Rattle.td_commands.specs.declared.said.Answer.TheVariants as answer
-use Rattle.td_commands.specs.declared.said.Refusal.TheVariants.{NoHolder, NoGuarantee}
+use Rattle.td_commands.specs.declared.said.Refusal.TheVariants.{ClockBack, NoHolder, NoGuarantee, NoMovement, WrongState}
 use Rattle.td_commands.specs.declared.said.Refusal.{Refusal}
 use Rattle.td_commands.specs.declared.said.Said.{Said}
 use Rattle.td_commands.specs.declared.said.Said.TheVariants.{Answered, Refused}
@@ -16,14 +16,16 @@ use Rattle.td_model.specs.declared.holder_row.HolderRow.{HolderRow}
 use Rattle.td_acts.specs.declared.rows.NewStatus.{NewStatus}
 use Rattle.td_movement.specs.declared.movement.Movement.{Movement}
 use Rattle.td_movement.specs.declared.moves.Move.{Move}
+use Rattle.td_movement.specs.Movements.{without_lines}
+use Rattle.td_movement.specs.States.{state_after}
 use Rattle.td_guarantee.specs.declared.guarantee.Guarantee.{Guarantee}
 use Rattle.td_guarantee.specs.Usage.{used_on}
 use Rattle.td_model.specs.Account.{Account, entry_in, guarantee_by_grn, movement_by_mrn}
 use Rattle.td_acts.specs.declared.rows.Loaded.{Loaded}
-use Rattle.td_commands.specs.Commands.{is_changing, Need, nothing, lodging, movement, release, all_movements, guarantee, all_guarantees}
+use Rattle.td_commands.specs.Commands.{is_changing, Need, nothing, lodging, movement, status, release, all_movements, guarantee, all_guarantees}
 use Rattle.td_model.specs.Machine.{is_answer, has_known_lrn}
 use Rattle.td_acts.specs.Deciding.{IsLoaded, IsLookedUp, change_of, decision_at, if_row, touched}
-use Rattle.td_model.specs.Table.{said_at, on_guarantee, on_movement, or_refuse}
+use Rattle.td_model.specs.Table.{is_back, listed, said_at, on_guarantee, on_movement, or_refuse, refuse_if}
 
 abbrev verdict_of : Said → Change → Verdict
 verdict_of said change = record { said = said; change = change }
@@ -44,28 +46,60 @@ told_answered account t command a c v said change changing fresh is does = ap₂
     changed : (b : Bool) (s : Said) (k : Bool) → b ≡ true → s ≡ Answered a → k ≡ false → (if b && is_answer s && not k then change_of account t command else Nothing) ≡ change_of account t command
     changed b s k changes is other = rw (changes, is, other) refl
 
--- the same of a movement that moves, where what was found of it is what the account has
-pub told_moved : (account : Account) (holder : Option HolderRow) (found : Option Movement) (t : ℕ) (command : Command) (unregistered : Refusal) (mrn : List ℕ) (to : Move) (said_of : Movement → Said) (row : HolderRow) (m : Movement) (a : Answer) (status : NewStatus) (v : Verdict)
-    → holder ≡ account.holder → found ≡ movement_by_mrn mrn account.movements
-    → holder ≡ Some row → on_movement unregistered holder t found to said_of ≡ said_of m → said_of m ≡ Answered a → v.said ≡ Answered a → v.change ≡ Moved (touched row t) status
+-- what is said of a movement by its row is said of it where it was found without its lines
+pub on_status : (unregistered : Refusal) (holder : Option HolderRow) (t : ℕ) (found kept : Option Movement) (to : Move) (said_of : Movement → Said)
+    → ((m : Movement) → said_of (without_lines m) ≡ said_of m) → found ≡ option_map without_lines kept
+    → on_movement unregistered holder t found to said_of ≡ on_movement unregistered holder t kept to said_of
+on_status unregistered holder t found kept to said_of same is = ap (λ f. on_movement unregistered holder t f to said_of) is ∙ of_row kept
+  where
+    of_row : (kept : Option Movement) → on_movement unregistered holder t (option_map without_lines kept) to said_of ≡ on_movement unregistered holder t kept to said_of
+    of_row None = refl
+    of_row (Some m) = ap (λ s. or_refuse unregistered holder (λ row. refuse_if ClockBack (is_back t row) (or_refuse (WrongState m.state) (state_after m.state to) (λ state. s)))) (same m)
+
+-- and where it was found whole
+pub on_whole : (unregistered : Refusal) (holder : Option HolderRow) (t : ℕ) (found kept : Option Movement) (to : Move) (said_of : Movement → Said) → found ≡ kept
+    → on_movement unregistered holder t found to said_of ≡ on_movement unregistered holder t kept to said_of
+on_whole unregistered holder t found kept to said_of is = ap (λ f. on_movement unregistered holder t f to said_of) is
+
+-- a list shows no lines
+pub listed_alike : (ms : List Movement) → map listed (map without_lines ms) ≡ map listed ms
+listed_alike [] = refl
+listed_alike (m ∷ ms) = ap (λ l. listed m ∷ l) (listed_alike ms)
+
+-- a refusal of what was found of a movement is one of the movement
+pub told_unmoving : (account : Account) (holder : Option HolderRow) (found : Option Movement) (t : ℕ) (command : Command) (unregistered : Refusal) (mrn : List ℕ) (to : Move) (said_of : Movement → Said) (why : Refusal) (v : Verdict)
+    → holder ≡ account.holder
+    → on_movement unregistered account.holder t found to said_of ≡ on_movement unregistered account.holder t (movement_by_mrn mrn account.movements) to said_of
+    → on_movement unregistered holder t found to said_of ≡ Refused why → v.said ≡ Refused why → v.change ≡ Nothing
+    → said_at account t command ≡ on_movement unregistered account.holder t (movement_by_mrn mrn account.movements) to said_of
+    → v ≡ decision_at account t command
+told_unmoving account holder found t command unregistered mrn to said_of why v same_holder same_found on said change is_on =
+    told_refused account t command why v said change
+    (is_on ∙ sym same_found ∙ ap (λ h. on_movement unregistered h t found to said_of) (sym same_holder) ∙ on)
+
+-- the same of a movement that moves, where the same is said of what was found of it as of what the account has
+pub told_moved : (account : Account) (holder : Option HolderRow) (found : Option Movement) (t : ℕ) (command : Command) (unregistered : Refusal) (mrn : List ℕ) (to : Move) (said_of : Movement → Said) (row : HolderRow) (m : Movement) (a : Answer) (new : NewStatus) (v : Verdict)
+    → holder ≡ account.holder
+    → on_movement unregistered account.holder t found to said_of ≡ on_movement unregistered account.holder t (movement_by_mrn mrn account.movements) to said_of
+    → holder ≡ Some row → on_movement unregistered holder t found to said_of ≡ said_of m → said_of m ≡ Answered a → v.said ≡ Answered a → v.change ≡ Moved (touched row t) new
     → is_changing command ≡ true → has_known_lrn account command ≡ false
     → said_at account t command ≡ on_movement unregistered account.holder t (movement_by_mrn mrn account.movements) to said_of
-    → change_of account t command ≡ if_row account.holder (λ r. Moved (touched r t) status)
+    → change_of account t command ≡ if_row account.holder (λ r. Moved (touched r t) new)
     → v ≡ decision_at account t command
-told_moved account holder found t command unregistered mrn to said_of row m a status v same_holder same_found known on is said change changing fresh is_on is_moved =
-    told_answered account t command a (Moved (touched row t) status) v said change changing fresh
-    (is_on ∙ ap₂ (λ h f. on_movement unregistered h t f to said_of) (sym same_holder) (sym same_found) ∙ on ∙ is)
-    (is_moved ∙ ap (λ h. if_row h (λ r. Moved (touched r t) status)) (sym same_holder ∙ known))
+told_moved account holder found t command unregistered mrn to said_of row m a new v same_holder same_found known on is said change changing fresh is_on is_moved =
+    told_answered account t command a (Moved (touched row t) new) v said change changing fresh
+    (is_on ∙ sym same_found ∙ ap (λ h. on_movement unregistered h t found to said_of) (sym same_holder) ∙ on ∙ is)
+    (is_moved ∙ ap (λ h. if_row h (λ r. Moved (touched r t) new)) (sym same_holder ∙ known))
 
 -- and of one that doesn't, for a reason of its own
 pub told_unmoved : (account : Account) (holder : Option HolderRow) (found : Option Movement) (t : ℕ) (command : Command) (unregistered : Refusal) (mrn : List ℕ) (to : Move) (said_of : Movement → Said) (m : Movement) (why : Refusal) (v : Verdict)
-    → holder ≡ account.holder → found ≡ movement_by_mrn mrn account.movements
+    → holder ≡ account.holder
+    → on_movement unregistered account.holder t found to said_of ≡ on_movement unregistered account.holder t (movement_by_mrn mrn account.movements) to said_of
     → on_movement unregistered holder t found to said_of ≡ said_of m → said_of m ≡ Refused why → v.said ≡ Refused why → v.change ≡ Nothing
     → said_at account t command ≡ on_movement unregistered account.holder t (movement_by_mrn mrn account.movements) to said_of
     → v ≡ decision_at account t command
 told_unmoved account holder found t command unregistered mrn to said_of m why v same_holder same_found on is said change is_on =
-    told_refused account t command why v said change
-    (is_on ∙ ap₂ (λ h f. on_movement unregistered h t f to said_of) (sym same_holder) (sym same_found) ∙ on ∙ is)
+    told_unmoving account holder found t command unregistered mrn to said_of why v same_holder same_found (on ∙ is) said change is_on
 
 -- the row of a change, where the holder is registered
 the_change : (holder : Option HolderRow) (t : ℕ) (row : HolderRow) (c : HolderRow → Change) → option_map (λ r. touched r t) holder ≡ Some row → if_row holder (λ r. c (touched r t)) ≡ c row
@@ -144,6 +178,7 @@ loaded_again account need loaded copy country holder movements guarantees is =
     looked_up nothing things = tt
     looked_up (lodging lrn lines) things = rw (movements, guarantees) things
     looked_up (movement mrn) things = rw movements things
+    looked_up (status mrn) things = rw movements things
     looked_up (release mrn) things = rw (movements, guarantees) things
     looked_up all_movements things = rw movements things
     looked_up (guarantee grn) things = rw guarantees things

@@ -6,7 +6,9 @@ use Rattle.std.specs.Str.{bytes_eq}
 use Rattle.td_base.specs.Days.{day_of_moment, moment_of}
 use Rattle.td_base.specs.References.{grn_text, mrn_text}
 use Rattle.td_guarantee.specs.declared.guarantee.Guarantee.{Guarantee}
+use Rattle.td_guarantee.specs.Terms.{without_codes}
 use Rattle.td_guarantee.specs.Usage.{used_on}
+use Rattle.td_movement.specs.Movements.{without_lines}
 use Rattle.td_movement.specs.declared.state.State.{State}
 use Rattle.td_movement.specs.declared.state.State.TheVariants.{Cancelled, Released, Enquired, Arrived, WrittenOff}
 use Rattle.td_model.specs.declared.holder_row.HolderRow.{HolderRow}
@@ -19,7 +21,7 @@ use Rattle.td_acts.specs.declared.rows.Verdict.{Verdict}
 use Rattle.td_commands.specs.declared.command.Command.{Command}
 use Rattle.td_commands.specs.declared.command.Command.TheVariants.{Register, OpenGuarantee, Amend, Revoke, Ie015, Ie014, AddCode, RemoveCode, Ie029, Ie007, Ie018, Ie045, Ie140}
 use Rattle.td_model.specs.Account.{Account, entry_in, guarantee_by_grn, movement_by_mrn, movement_by_lrn}
-use Rattle.td_commands.specs.Commands.{Need, nothing, lodging, movement, release, all_movements, guarantee, all_guarantees, need_of}
+use Rattle.td_commands.specs.Commands.{Need, nothing, lodging, movement, status, release, all_movements, guarantee, all_guarantees, need_of}
 use Rattle.td_commands.specs.Lines.{line_of}
 use Rattle.td_model.specs.Effects.{year2_at, end_after, judged, new_holder_row, new_guarantee, new_movement}
 use Rattle.td_model.specs.Table.{said, said_at}
@@ -29,7 +31,12 @@ use Rattle.td_model.specs.Machine.{is_accepted_at}
 abbrev pub entry_by_grn : List ℕ → List (Guarantee × ℕ) → Option (Guarantee × ℕ)
 entry_by_grn grn entries = find (λ e. bytes_eq e.0.grn grn) entries
 
--- What is needed is found in what was loaded as it is in the account.
+-- its terms alone, without codes, and the amount in use
+abbrev pub terms_alone : Guarantee × ℕ → Guarantee × ℕ
+terms_alone e = (without_codes e.0, e.1)
+
+-- What is needed is found in what was loaded as it is in the account, movements without lines and guarantees without
+-- codes where none are needed.
 abbrev pub IsLookedUp : Account → Need → Loaded → Type 0
 IsLookedUp account nothing loaded = Unit {0}
 IsLookedUp account (lodging lrn lines) loaded =
@@ -38,11 +45,13 @@ IsLookedUp account (lodging lrn lines) loaded =
     ≡ guarantee_by_grn l.0.grn account.guarantees) lines
 IsLookedUp account (movement mrn) loaded =
     movement_by_mrn mrn loaded.movements.items ≡ movement_by_mrn mrn account.movements
+IsLookedUp account (status mrn) loaded =
+    movement_by_mrn mrn loaded.movements.items ≡ option_map without_lines (movement_by_mrn mrn account.movements)
 IsLookedUp account (release mrn) loaded =
     (movement_by_mrn mrn loaded.movements.items ≡ movement_by_mrn mrn account.movements)
     × IfSome (movement_by_mrn mrn account.movements) (λ m.
-    AllByRecursion (λ l. entry_by_grn l.grn loaded.guarantees.items ≡ entry_in account l.grn) m.lines)
-IsLookedUp account all_movements loaded = loaded.movements.items ≡ account.movements
+    AllByRecursion (λ l. entry_by_grn l.grn loaded.guarantees.items ≡ option_map terms_alone (entry_in account l.grn)) m.lines)
+IsLookedUp account all_movements loaded = loaded.movements.items ≡ map without_lines account.movements
 IsLookedUp account (guarantee grn) loaded = entry_by_grn grn loaded.guarantees.items ≡ entry_in account grn
 IsLookedUp account all_guarantees loaded =
     loaded.guarantees.items ≡ map (λ g. (g, used_on g.grn account.movements)) account.guarantees

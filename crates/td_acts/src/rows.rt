@@ -14,10 +14,10 @@ pub struct Loaded {
     pub country: Country,
     pub holder: Option<HolderRow>,
     /// For a declaration the movement with its LRN, for a move and a view the one with its MRN, if there is
-    /// one; for a view of all movements all.
+    /// one; for a view of all movements all. A list and moves, but for a release, have them without lines.
     pub movements: Vec<Movement>,
     /// Those guarantees that the command or the movement names, or all, and the amounts in use on them, which
-    /// a declaration doesn't ask for.
+    /// a declaration doesn't ask for. A release has them without their codes.
     pub guarantees: Vec<(Guarantee, Cents)>,
 }
 

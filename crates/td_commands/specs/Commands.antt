@@ -93,12 +93,13 @@ IsProper (SeeGuarantee holder grn) = IsHolderNumber holder × IsGrn grn
 IsProper (SeeGuarantees holder) = IsHolderNumber holder
 
 -- What is needed beside the holder's row: nothing; a movement by its LRN and the guarantees of lines; a movement
--- by its MRN, alone or with the guarantees of its lines and the amounts in use on them; all movements; a guarantee
--- and the amount in use on it; all guarantees and the amounts in use on them.
+-- by its MRN, with its lines, without them, or with them, their guarantees and the amounts in use on these; all
+-- movements without lines; a guarantee and the amount in use on it; all guarantees and the amounts in use on them.
 pub data Need : Type 0 where
   nothing : Need
   lodging : List ℕ → List (Line × List ℕ) → Need
   movement : List ℕ → Need
+  status : List ℕ → Need
   release : List ℕ → Need
   all_movements : Need
   guarantee : List ℕ → Need
@@ -111,14 +112,14 @@ need_of (OpenGuarantee holder reference cover code) = nothing
 need_of (Amend grn reference cover) = guarantee grn
 need_of (Revoke grn) = guarantee grn
 need_of (Ie015 holder lrn departure destination lines) = lodging lrn lines
-need_of (Ie014 holder mrn) = movement mrn
+need_of (Ie014 holder mrn) = status mrn
 need_of (AddCode holder grn code) = guarantee grn
 need_of (RemoveCode holder grn code) = guarantee grn
 need_of (Ie029 mrn limit) = release mrn
-need_of (Ie007 mrn office) = movement mrn
-need_of (Ie018 mrn result) = movement mrn
-need_of (Ie045 mrn cause) = movement mrn
-need_of (Ie140 mrn) = movement mrn
+need_of (Ie007 mrn office) = status mrn
+need_of (Ie018 mrn result) = status mrn
+need_of (Ie045 mrn cause) = status mrn
+need_of (Ie140 mrn) = status mrn
 need_of (SeeHolder holder) = nothing
 need_of (SeeMovement holder mrn) = movement mrn
 need_of (SeeMovements holder) = all_movements
@@ -130,6 +131,7 @@ abbrev pub need_said : Needs → Need
 need_said needs.Nothing = nothing
 need_said (needs.Lodging lrn lines) = lodging lrn lines.now
 need_said (needs.Movement mrn) = movement mrn
+need_said (needs.Status mrn) = status mrn
 need_said (needs.Release mrn) = release mrn
 need_said needs.AllMovements = all_movements
 need_said (needs.Guarantee grn) = guarantee grn

@@ -185,8 +185,8 @@ impl Command {
             | Command::Ie007 { mrn, .. }
             | Command::Ie018 { mrn, .. }
             | Command::Ie045 { mrn, .. }
-            | Command::Ie140 { mrn }
-            | Command::SeeMovement { mrn, .. } => Needs::Movement(*mrn),
+            | Command::Ie140 { mrn } => Needs::Status(*mrn),
+            Command::SeeMovement { mrn, .. } => Needs::Movement(*mrn),
             Command::Amend { grn, .. }
             | Command::Revoke { grn }
             | Command::AddCode { grn, .. }

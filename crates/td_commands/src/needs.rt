@@ -10,11 +10,13 @@ pub enum Needs<'a> {
     Nothing,
     /// The movement with an LRN, and the guarantees of lines.
     Lodging(Lrn, &'a Lines),
-    /// The movement with an MRN.
+    /// The movement with an MRN, with its lines.
     Movement(Mrn),
-    /// The movement with an MRN, the guarantees of its lines, and the amounts in use on them.
+    /// The movement with an MRN, without its lines.
+    Status(Mrn),
+    /// The movement with an MRN, with its lines, their guarantees, and the amounts in use on them.
     Release(Mrn),
-    /// All movements.
+    /// All movements, without their lines.
     AllMovements,
     /// The guarantee with a GRN, and the amount in use on it.
     Guarantee(Grn),

@@ -9,7 +9,7 @@ use Rattle.sqlite.specs.Effect.{Database}
 use Rattle.sqlite.specs.Start.{FindsIn}
 use Rattle.sqlite.specs.Files.{AreFoundIn, file_state}
 use Rattle.sqlite.specs.Held.{Held}
-use Rattle.sqlite.specs.State.{State, HasCleanDisk, Opens, Survives}
+use Rattle.sqlite.specs.State.{State, HasCleanDisk, IsLive, Opens, Survives}
 use Rattle.sqlite_trees.specs.Tree.{Trees}
 use Rattle.td_desk.specs.Content.{Content}
 use Rattle.td_table_model.specs.declared.rule.Rule.{Rule}
@@ -35,9 +35,10 @@ clean_before old new P survives clean =
     grind arith
 
 -- what an open found is what the files held
-pub found_there : (image : Image) (s : State) → Opens s → FindsIn image s → IsFoundIn image s.now
-found_there image s opens finds =
+pub found_there : (image : Image) (s : State) → Opens s × IsLive s → FindsIn image s → IsFoundIn image s.now
+found_there image s (opens, live) finds =
     record {
+      listed = (live opens.is_open).0;
       holds = λ trees held. ap (λ (db : Database). db.trees) opens.clean ∙ finds.holds trees held;
       reads = subst (λ (db : Database). AreFoundIn image db.trees) (sym opens.clean) finds.reads;
     }

@@ -1,3 +1,4 @@
 pub mod Codes
+pub mod Terms
 pub mod Usage
 pub mod Laws

@@ -1,5 +1,6 @@
 //! Guarantees.
 ghost use Rattle.std.specs.Prelude.{◌≡◌, IfOk};
+ghost use Rattle.td_guarantee.specs.Terms.{without_codes};
 
 use crate::codes::Codes;
 use std::alloc::{AllocError, Global};
@@ -23,12 +24,21 @@ impl Guarantee {
     pub fn copy(&self, alloc: Global) -> Result<Self, AllocError>
         ensures { IfOk result (λ guarantee. guarantee ≡ self.now) }
     {
-        Ok(Guarantee {
+        let mut copy = self.without_codes(alloc);
+        copy.codes = self.codes.copy(alloc)?;
+        Ok(copy)
+    }
+
+    /// The same guarantee with no codes. It takes no memory.
+    pub fn without_codes(&self, alloc: Global) -> Self
+        ensures { result ≡ without_codes self.now }
+    {
+        Guarantee {
             grn: self.grn,
             reference: self.reference,
             cover: self.cover,
             ends: self.ends,
-            codes: self.codes.copy(alloc)?,
-        })
+            codes: Codes::none(alloc),
+        }
     }
 }

@@ -7,12 +7,14 @@ use Rattle.std.proofs.lemmas.List.Elements.{filter_map-append}
 use Rattle.std.proofs.lemmas.Slice.Eq.{bytes_eq-Decides}
 use Rattle.td_movement.specs.declared.line.Line.{Line}
 use Rattle.td_movement.specs.declared.movement.Movement.{Movement}
+use Rattle.td_movement.specs.Movements.{without_lines}
 use Rattle.td_guarantee.specs.declared.guarantee.Guarantee.{Guarantee}
 use Rattle.td_acts.specs.declared.rows.Loaded.{Loaded}
+use Rattle.td_guarantee.specs.Terms.{without_codes}
 use Rattle.td_guarantee.specs.Usage.{used_on}
 use Rattle.td_model.specs.Account.{Account, guarantee_by_grn, movement_by_mrn, movement_by_lrn}
-use Rattle.td_acts.specs.Deciding.{IsLookedUp, entry_by_grn}
-use Rattle.td_commands.specs.Commands.{lodging, movement, release, guarantee}
+use Rattle.td_acts.specs.Deciding.{IsLookedUp, entry_by_grn, terms_alone}
+use Rattle.td_commands.specs.Commands.{lodging, movement, status, release, guarantee}
 use Rattle.td_acts.proofs.Lodging.{named_entry}
 use Rattle.td_holder_memory.proofs.Found.{with_key, found_has, found_alone}
 use Rattle.td_acts.proofs.Joined.{AllByRecursion-weaker}
@@ -114,18 +116,42 @@ pub movement_looked_up : (account : Account) (loaded : Loaded) (mrn : List ℕ) 
 movement_looked_up account loaded mrn movements =
     ap (movement_by_mrn mrn) movements ∙ found_alone (λ m. m.mrn) mrn (movement_by_mrn mrn account.movements) (found_has (λ m. m.mrn) mrn account.movements)
 
+-- and so is its row without its lines
+pub status_looked_up : (account : Account) (loaded : Loaded) (mrn : List ℕ) → loaded.movements.items ≡ option_to_list (option_map without_lines (movement_by_mrn mrn account.movements)) → IsLookedUp account (status mrn) loaded
+status_looked_up account loaded mrn movements =
+    ap (movement_by_mrn mrn) movements ∙ found_alone (λ m. m.mrn) mrn (option_map without_lines (movement_by_mrn mrn account.movements)) (row_has (movement_by_mrn mrn account.movements) (found_has (λ m. m.mrn) mrn account.movements))
+  where
+    row_has : (o : Option Movement) → IfSome o (λ m. m.mrn ≡ mrn) → IfSome (option_map without_lines o) (λ m. m.mrn ≡ mrn)
+    row_has None has = tt
+    row_has (Some m) has = has
+
 -- and a guarantee with the amount in use on it
 pub guarantee_looked_up : (account : Account) (loaded : Loaded) (grn : List ℕ) → loaded.guarantees.items ≡ option_to_list (entry_of account grn) → IsLookedUp account (guarantee grn) loaded
 guarantee_looked_up account loaded grn guarantees =
     ap (entry_by_grn grn) guarantees ∙ found_alone (λ (e : Guarantee × ℕ). e.0.grn) grn (entry_of account grn) (entry_has account grn (guarantee_by_grn grn account.guarantees) (found_has (λ g. g.grn) grn account.guarantees))
 
--- a movement by its MRN, and its lines' guarantees with the amounts in use on them
+-- its terms alone
+abbrev pub terms_of : Account → List ℕ → Option (Guarantee × ℕ)
+terms_of account grn = option_map (λ g. (without_codes g, used_on g.grn account.movements)) (guarantee_by_grn grn account.guarantees)
+
+-- they have the GRN too, and are those of the entry
+terms_have : (account : Account) (grn : List ℕ) (o : Option Guarantee) → IfSome o (λ g. g.grn ≡ grn) → IfSome (option_map (λ g. (without_codes g, used_on g.grn account.movements)) o) (λ (e : Guarantee × ℕ). e.0.grn ≡ grn)
+terms_have account grn None has = tt
+terms_have account grn (Some g) has = has
+
+pub terms_are : (account : Account) (o : Option Guarantee) → option_map (λ g. (without_codes g, used_on g.grn account.movements)) o ≡ option_map terms_alone (option_map (λ g. (g, used_on g.grn account.movements)) o)
+terms_are account None = refl
+terms_are account (Some g) = refl
+
+-- a movement by its MRN, and its lines' guarantees without codes, with the amounts in use on them
 pub release_looked_up : (account : Account) (loaded : Loaded) (mrn : List ℕ) → loaded.movements.items ≡ option_to_list (movement_by_mrn mrn account.movements)
-    → IfSome (movement_by_mrn mrn account.movements) (λ m. loaded.guarantees.items ≡ filter_map (λ l. entry_of account l.grn) m.lines) → IsLookedUp account (release mrn) loaded
+    → IfSome (movement_by_mrn mrn account.movements) (λ m. loaded.guarantees.items ≡ filter_map (λ l. terms_of account l.grn) m.lines) → IsLookedUp account (release mrn) loaded
 release_looked_up account loaded mrn movements guarantees = (movement_looked_up account loaded mrn movements, each_entry (movement_by_mrn mrn account.movements) guarantees)
   where
-    each_entry : (o : Option Movement) → IfSome o (λ m. loaded.guarantees.items ≡ filter_map (λ l. entry_of account l.grn) m.lines) → IfSome o (λ m. AllByRecursion (λ l. entry_by_grn l.grn loaded.guarantees.items ≡ entry_of account l.grn) m.lines)
+    each_entry : (o : Option Movement) → IfSome o (λ m. loaded.guarantees.items ≡ filter_map (λ l. terms_of account l.grn) m.lines) → IfSome o (λ m. AllByRecursion (λ l. entry_by_grn l.grn loaded.guarantees.items ≡ option_map terms_alone (entry_of account l.grn)) m.lines)
     each_entry None none = tt
     each_entry (Some m) is =
-        subst (λ (es : List (Guarantee × ℕ)). AllByRecursion (λ l. entry_by_grn l.grn es ≡ entry_of account l.grn) m.lines) (sym is)
-        (each_found (λ (e : Guarantee × ℕ). e.0.grn) (entry_of account) (λ k. entry_has account k (guarantee_by_grn k account.guarantees) (found_has (λ g. g.grn) k account.guarantees)) (λ (l : Line). l.grn) m.lines)
+        subst (λ (es : List (Guarantee × ℕ)). AllByRecursion (λ l. entry_by_grn l.grn es ≡ option_map terms_alone (entry_of account l.grn)) m.lines) (sym is)
+        (AllByRecursion-weaker (λ (l : Line). entry_by_grn l.grn (filter_map (λ (l : Line). terms_of account l.grn) m.lines) ≡ terms_of account l.grn) (λ (l : Line). entry_by_grn l.grn (filter_map (λ (l : Line). terms_of account l.grn) m.lines) ≡ option_map terms_alone (entry_of account l.grn))
+        (λ (l : Line) found. found ∙ terms_are account (guarantee_by_grn l.grn account.guarantees)) m.lines
+        (each_found (λ (e : Guarantee × ℕ). e.0.grn) (terms_of account) (λ k. terms_have account k (guarantee_by_grn k account.guarantees) (found_has (λ g. g.grn) k account.guarantees)) (λ (l : Line). l.grn) m.lines))

@@ -10,7 +10,7 @@ ghost use Rattle.td_model.specs.Sound.{IsCovered};
 use crate::counted_rows::CountedRows;
 use crate::guarantee_rows::GuaranteeRows;
 use crate::lookups::{
-    all_entries, copies_of, copy_of_found, entries_by_grn, guarantees_of, release_of,
+    all_entries, copy_of_found, entries_by_grn, guarantees_of, release_of, row_of_found, rows_of,
 };
 use keyed_rows::Keyed;
 use std::alloc::{AllocError, Global};
@@ -120,11 +120,12 @@ impl HolderFile {
                 copy_of_found(alloc, self.movements.find_by_mrn(mrn))?,
                 Vec::new(alloc),
             ),
-            Needs::Release(mrn) => release_of(alloc, &self.guarantees, &self.movements, mrn)?,
-            Needs::AllMovements => (
-                copies_of(alloc, self.movements.as_slice())?,
+            Needs::Status(mrn) => (
+                row_of_found(alloc, self.movements.find_by_mrn(mrn))?,
                 Vec::new(alloc),
             ),
+            Needs::Release(mrn) => release_of(alloc, &self.guarantees, &self.movements, mrn)?,
+            Needs::AllMovements => (rows_of(alloc, self.movements.as_slice())?, Vec::new(alloc)),
             Needs::Guarantee(grn) => (
                 Vec::new(alloc),
                 entries_by_grn(alloc, &self.guarantees, &self.movements, grn)?,

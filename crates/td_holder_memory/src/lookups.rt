@@ -1,7 +1,9 @@
 //! What a verdict needs, looked up among one holder's rows.
 ghost use Rattle.std.specs.Prelude.{◌≡◌, map, option_map, option_to_list, filter_map, IfSome, IfOk};
 ghost use Rattle.std.specs.List.{AllByRecursion};
+ghost use Rattle.td_guarantee.specs.Terms.{without_codes};
 ghost use Rattle.td_guarantee.specs.Usage.{used_on};
+ghost use Rattle.td_movement.specs.Movements.{without_lines};
 ghost use Rattle.td_model.specs.Account.{guarantee_by_grn, movement_by_mrn};
 ghost use Rattle.td_model.specs.Sound.{IsCovered};
 
@@ -25,6 +27,21 @@ pub(crate) fn copy_of_found(
     };
     let copies = vec![in alloc; movement.copy(alloc)?]?;
     Ok(copies)
+}
+
+/// The movement that was found without its lines, if there is one. `AllocError`: want of memory.
+pub(crate) fn row_of_found(
+    alloc: Global,
+    movement: Option<&Movement>,
+) -> Result<Vec<Movement>, AllocError>
+    ensures { IfOk result (λ rows. rows.items
+        ≡ option_to_list (option_map without_lines (option_map (λ m. m.now) movement.entry))) }
+{
+    let Some(movement) = movement else {
+        return Ok(Vec::new(alloc));
+    };
+    let rows = vec![in alloc; movement.without_lines(alloc)]?;
+    Ok(rows)
 }
 
 /// The guarantees that lines name, as far as they are there. A declaration doesn't ask for the amounts in use.
@@ -68,7 +85,7 @@ pub(crate) fn entries_by_grn(
 }
 
 /// The movement with an MRN, if there is one, and the guarantees that its lines name, as far as they are
-/// there, with the amounts in use on them. `AllocError`: want of memory.
+/// there, without codes, with the amounts in use on them. `AllocError`: want of memory.
 pub(crate) fn release_of(
     alloc: Global,
     guarantees: &GuaranteeRows,
@@ -79,7 +96,7 @@ pub(crate) fn release_of(
         ≡ option_to_list (movement_by_mrn mrn.now movements.now)) }
     ensures entries { AllByRecursion (IsCovered movements.now) guarantees.now
         → IfOk result (λ found. IfSome (movement_by_mrn mrn.now movements.now) (λ m. found.1.items
-        ≡ filter_map (λ l. option_map (λ g. (g, used_on g.grn movements.now))
+        ≡ filter_map (λ l. option_map (λ g. (without_codes g, used_on g.grn movements.now))
         (guarantee_by_grn l.grn guarantees.now)) m.lines)) }
 {
     let Some(movement) = movements.find_by_mrn(mrn) else {
@@ -91,7 +108,7 @@ pub(crate) fn release_of(
     Ok((found, entries))
 }
 
-// The guarantees that lines name, as far as they are there, and the amounts in use on them.
+// The guarantees that lines name, as far as they are there, without codes, and the amounts in use on them.
 fn entries_of(
     alloc: Global,
     guarantees: &GuaranteeRows,
@@ -100,28 +117,28 @@ fn entries_of(
 ) -> Result<Vec<(Guarantee, Cents)>, AllocError>
     ensures { AllByRecursion (IsCovered movements.now) guarantees.now
         → IfOk result (λ found. found.items
-        ≡ filter_map (λ l. option_map (λ g. (g, used_on g.grn movements.now))
+        ≡ filter_map (λ l. option_map (λ g. (without_codes g, used_on g.grn movements.now))
         (guarantee_by_grn l.grn guarantees.now)) lines.now) }
 {
     let mut found = Vec::new(alloc);
     for line in lines {
         if let Some(guarantee) = guarantees.find_by_grn(&line.grn) {
             let amount = used_of(movements, guarantee);
-            found.push((guarantee.copy(alloc)?, amount))?;
+            found.push((guarantee.without_codes(alloc), amount))?;
         }
     }
     Ok(found)
 }
 
-/// The same movements in other memory. `AllocError`: want of memory.
-pub(crate) fn copies_of(alloc: Global, movements: &[Movement]) -> Result<Vec<Movement>, AllocError>
-    ensures { IfOk result (λ copies. copies.items ≡ movements.now) }
+/// Movements without their lines. `AllocError`: want of memory.
+pub(crate) fn rows_of(alloc: Global, movements: &[Movement]) -> Result<Vec<Movement>, AllocError>
+    ensures { IfOk result (λ rows. rows.items ≡ map without_lines movements.now) }
 {
-    let mut copies = Vec::with_capacity(alloc, movements.len())?;
-    for movement in movements {
-        copies.push(movement.copy(alloc)?)?;
-    }
-    Ok(copies)
+    let rows = movements
+        .iter()
+        .map(|movement| movement.without_lines(alloc))
+        .collect(alloc)?;
+    Ok(rows)
 }
 
 /// All guarantees, and the amounts in use on them. `AllocError`: want of memory.

@@ -131,7 +131,8 @@ pub(crate) fn wait_a_step(socket: &TcpStream) -> io::Result<()> {
     socket.set_write_timeout(step)
 }
 
-/// Whether a read or a write waited for a step, and nothing came or was taken.
+/// Whether a read or a write waited for a step, and nothing came or was taken. A program that was frozen and goes on has
+/// its wait cut short, which is a step too.
 pub(crate) fn is_idle(moved: &io::Result<usize>) -> bool {
-    matches!(moved, Err(error) if error.kind() == ErrorKind::WouldBlock)
+    matches!(moved, Err(error) if matches!(error.kind(), ErrorKind::WouldBlock | ErrorKind::Interrupted))
 }

@@ -29,14 +29,14 @@ pub record AreBeside {R : Type 0} (src : Typing R) (a b : Trees) : Type 0 where
   pub source : b src.table.tree ≡ a src.table.tree
   pub holders : b holder_typing.table.tree ≡ a holder_typing.table.tree
 
-module _ {R R2 : Type 0} (At : Layout → Type 0) (src : Layout → Typing (Keyed R)) (ty : Layout → Typing R2)
+module _ {R Made : Type 0} (At : Layout → Type 0) (src : Layout → Typing (Keyed R)) (ty : Layout → Typing Made)
     (beside : (l : Layout) → At l → (x y : Trees) → AreOthersKept (schema_of (grown l)) (ty (grown l)).table.tree x y → AreBeside (src l) x y) where
   -- one range more of a holder's rows
-  module _ (f : Keyed R → R2) (H : ℕ) where
+  module _ (f : Keyed R → Made) (H : ℕ) where
     abbrev pub IsRead : Layout → Trees → Type 0
     IsRead l x = AreTyped (src l) x
 
-    abbrev pub below : ℕ → Layout → Trees → List R2
+    abbrev pub below : ℕ → Layout → Trees → List Made
     below end l x = map f (filter (is_within H 0 end) (typed_rows (src l) x))
 
     pub range_put : (first next : ℕ) → first ≤ next → (found : List (Keyed R)) (a b m d : State) → HasPut At ty IsRead (below first) a b
@@ -68,12 +68,12 @@ module _ {R R2 : Type 0} (At : Layout → Type 0) (src : Layout → Typing (Keye
     }
 
   -- the holders one after another
-  module _ (f : Trees → Keyed R → R2)
+  module _ (f : Trees → Keyed R → Made)
       (f_still : (l : Layout) → At l → (x y : Trees) → AreOthersKept (schema_of (grown l)) (ty (grown l)).table.tree x y → (rows : List (Keyed R)) → map (f y) rows ≡ map (f x) rows) where
-    abbrev pub upto : ℕ → Layout → Trees → List R2
+    abbrev pub upto : ℕ → Layout → Trees → List Made
     upto number l x = map (f x) (filter (is_upto number) (typed_rows (src l) x))
 
-    abbrev pub of_holder : ℕ → ℕ → Layout → Trees → List R2
+    abbrev pub of_holder : ℕ → ℕ → Layout → Trees → List Made
     of_holder H end l x = map (f x) (filter (is_within H 0 end) (typed_rows (src l) x))
 
     -- the next holder is found

@@ -1,3 +1,4 @@
 pub mod States
 pub mod Status
 pub mod Lines
+pub mod Movements

@@ -1,5 +1,6 @@
 //! Movements.
 ghost use Rattle.std.specs.Prelude.{◌≡◌, IfOk};
+ghost use Rattle.td_movement.specs.Movements.{without_lines};
 
 use crate::line::MovementLines;
 use crate::state::State;
@@ -32,7 +33,16 @@ impl Movement {
     pub fn copy(&self, alloc: Global) -> Result<Self, AllocError>
         ensures { IfOk result (λ movement. movement ≡ self.now) }
     {
-        Ok(Movement {
+        let mut copy = self.without_lines(alloc);
+        copy.lines = self.lines.copy(alloc)?;
+        Ok(copy)
+    }
+
+    /// The same movement with no lines. It takes no memory.
+    pub fn without_lines(&self, alloc: Global) -> Self
+        ensures { result ≡ without_lines self.now }
+    {
+        Movement {
             mrn: self.mrn,
             lrn: self.lrn,
             departure: self.departure,
@@ -42,7 +52,7 @@ impl Movement {
             limit: self.limit,
             arrival: self.arrival,
             actual: self.actual,
-            lines: self.lines.copy(alloc)?,
-        })
+            lines: MovementLines::new(Vec::new(alloc)),
+        }
     }
 }

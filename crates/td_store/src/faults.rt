@@ -53,10 +53,12 @@ pub(crate) fn told<S: Alter, T>(
 
 /// Why a desk isn't made or opened, by the error that the database answered: `NoMemory` for want of memory, else `Store`.
 pub(crate) fn open_fault_of(error: &Error) -> OpenFault
-    ensures { (result ≡ open_fault.Store) ⊎ (result ≡ open_fault.NoMemory) }
+    ensures kinds { (result ≡ open_fault.Store) ⊎ (result ≡ open_fault.NoMemory) }
+    ensures memory { error.now ≡ Error.SqliteFailure ErrorCode.OutOfMemory → result ≡ open_fault.NoMemory }
+    ensures other { error.now ≢ Error.SqliteFailure ErrorCode.OutOfMemory → result ≡ open_fault.Store }
 {
-    if matches!(error, Error::SqliteFailure(ErrorCode::OutOfMemory)) {
-        return OpenFault::NoMemory;
+    match error {
+        Error::SqliteFailure(ErrorCode::OutOfMemory) => OpenFault::NoMemory,
+        _ => OpenFault::Store,
     }
-    OpenFault::Store
 }

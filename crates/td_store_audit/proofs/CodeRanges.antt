@@ -21,7 +21,7 @@ use Rattle.td_store_audit.specs.Found.{AreInCodeOrder, TellsCodeBehind, code_ord
 use Rattle.td_store_audit.specs.InFile.{OnlyReadIn, TellsWhere}
 use Rattle.td_store_audit.specs.InPlace.{AreCodesInPlace, AreCodesInPlaceWithin, AreOneToTwenty, AreSerialsWithin, IsBySerial}
 use Rattle.td_store_audit.specs.Premises.{HasCodesInPlace, TellsCodesWithin}
-use Rattle.td_store_audit.specs.Ranges.{rows_between}
+use Rattle.td_store_rows.specs.Ranges.{rows_between}
 use Rattle.td_store_audit.proofs.Ordering.{codes_by_serial}
 use Rattle.td_store_audit.proofs.PlaceRanges.{behind_none, found_tell, found_within, is_in, joined_in_place, none_behind, none_in_place, part_in_place, same_key}
 use Rattle.td_store_audit.proofs.Reading.{so_before}

@@ -18,8 +18,9 @@ use Rattle.td_table_model.proofs.Ruled.{are_mine}
 use Rattle.td_base.specs.References.{greatest_grn_serial}
 use Rattle.td_store_rows.proofs.Turned.{plain_rows}
 use Rattle.td_store_audit_rows.specs.InPlace.{IsGuaranteeInPlace}
-use Rattle.td_store_audit.specs.Ranges.{rows_below, rows_between}
-use Rattle.td_store_audit.proofs.RowRanges.{all_below, mine_rise, none_left, within_apart, within_is}
+use Rattle.td_store_rows.specs.Ranges.{rows_below, rows_between}
+use Rattle.td_store_rows.proofs.RowRanges.{all_below, mine_rise, within_apart, within_is}
+use Rattle.td_store_audit.proofs.RowRanges.{none_left}
 use Rattle.td_schema.specs.declared.layout.Layout.{Layout}
 use Rattle.td_store_rows.specs.GuaranteeTable.{guarantee_row_of}
 use Rattle.td_store_rows.specs.KeptTable.{AreKeptBySerial, kept_row_of}

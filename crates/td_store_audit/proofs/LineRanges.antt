@@ -13,7 +13,7 @@ use Rattle.td_table_model.proofs.Orders.{in_order_permuted, in_order_permutes}
 use Rattle.td_store_rows.specs.Places.{is_within}
 use Rattle.td_store_audit_rows.specs.InPlace.{AreLinesInPlace, IsLineInPlace}
 use Rattle.td_store_audit.specs.InPlace.{AreAllLinesInPlace, AreLinesInPlaceWithin, AreNumbersApart, AreOfOneMovement}
-use Rattle.td_store_audit.specs.Ranges.{rows_between}
+use Rattle.td_store_rows.specs.Ranges.{rows_between}
 use Rattle.td_store_audit.proofs.Filters.{all_by_key, all_passing, fewer_pass, filter_all, filter_none}
 use Rattle.td_store_audit.proofs.Permuted.{apart_still}
 use Rattle.td_store_audit.proofs.PlaceRanges.{found_tell, is_in, same_key, test_in}

@@ -34,10 +34,12 @@ use Rattle.td_store_audit.specs.Auditable.{IsAuditable}
 use Rattle.td_base.specs.References.{greatest_older_mrn_serial}
 use Rattle.td_movement.specs.declared.movement.Movement.{Movement}
 use Rattle.td_store_audit.specs.InFile.{AreTypedApart, HasMovementsInPlace, IsSoWhere, TellsWhere}
-use Rattle.td_store_audit.specs.Ranges.{AreSerialsIn, movements_below, rows_below, rows_between}
-use Rattle.td_store_audit.proofs.RowRanges.{all_below, between_below, joined, mine_rise, none_below, none_is_behind, none_left, own_range, some_is_behind, upto, within_apart, within_is}
+use Rattle.td_store_rows.specs.Ranges.{rows_below, rows_between}
+use Rattle.td_store_audit.specs.Ranges.{AreSerialsIn, movements_below}
+use Rattle.td_store_rows.proofs.RowRanges.{all_below, between_below, joined, mine_rise, none_below, within_apart, within_is}
+use Rattle.td_store_audit.proofs.RowRanges.{none_is_behind, none_left, own_range, some_is_behind, upto}
 use Rattle.td_store_audit.proofs.Reading.{so_before}
-use Rattle.td_store_audit.proofs.Serials.{rises-filter}
+use Rattle.td_table_model.proofs.Orders.{rises-filter}
 use Rattle.td_store_audit.proofs.HoldersTold.{holders_tell, of_pairs, owners}
 use Rattle.td_store_rows.specs.StoreReads.{IsAny}
 

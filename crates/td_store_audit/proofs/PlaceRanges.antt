@@ -15,7 +15,7 @@ use Rattle.td_table_model.specs.Tables.{Keyed}
 use Rattle.td_table_model.proofs.Counting.{filter_both}
 use Rattle.td_store_rows.specs.Places.{is_after}
 use Rattle.td_store_audit.specs.InPlace.{AreInPlaceWithin, AreSerialsWithin}
-use Rattle.td_store_audit.specs.Ranges.{rows_between}
+use Rattle.td_store_rows.specs.Ranges.{rows_between}
 use Rattle.td_store_audit.proofs.Filters.{all_passing, all_where, filter_none, filter_within, none_pass}
 
 -- a number is below another, or from it on

@@ -1,5 +1,5 @@
 -- The serials of a holder's movements that count.
-use Rattle.std.proofs.Common.{◌≡◌, ◌∙◌, ℕ, ◌+◌, ◌<◌, Bool, true, false, cond, List, [], ◌∷◌, ◌++◌, get_or, length, map, take, sym, ap, subst, arith}
+use Rattle.std.proofs.Common.{◌≡◌, ◌∙◌, ℕ, ◌+◌, ◌<◌, List, [], ◌∷◌, ◌++◌, get_or, length, map, take, sym, ap, subst, arith}
 use Rattle.std.specs.Prelude.{filter}
 use Rattle.std.proofs.lemmas.List.{map-append, take_more}
 use Rattle.std.proofs.lemmas.List.Elements.{filter-append}
@@ -7,7 +7,7 @@ use Rattle.keyed_rows.specs.Rows.{Rises}
 use Rattle.td_movement.specs.declared.movement.Movement.{Movement}
 use Rattle.td_table_model.specs.Gathering.{IsNumbered, place}
 use Rattle.td_table_model.specs.Tables.{Keyed}
-use Rattle.td_table_model.proofs.Orders.{rises-map, rises_from_map, rises_lower}
+use Rattle.td_table_model.proofs.Orders.{numbered_rise, rises-filter, rises-map, rises_from_map, rises_lower}
 use Rattle.td_store_rows.specs.MovementTable.{movement_row_of, serial_of_stored}
 use Rattle.td_store_rows.specs.declared.movements.stored.MovementSerial.{MovementSerial}
 use Rattle.td_store_rows.specs.declared.movements.stored.StoredMovement.{StoredMovement}
@@ -25,21 +25,6 @@ serials_more rows i row within is =
     ∙ ap (λ l. map place (filter is_counting_row l)) (map-append movement_row_of (take i rows) (row ∷ []))
     ∙ ap (map place) (filter-append is_counting_row (map movement_row_of (take i rows)) (movement_row_of row ∷ []))
     ∙ map-append place (filter is_counting_row (map movement_row_of (take i rows))) (filter is_counting_row (movement_row_of row ∷ []))
-
-module _ {R : Type 0} (key : R → ℕ) where
-  -- numbered rows rise
-  pub numbered_rise : (n : ℕ) (rows : List R) → IsNumbered key n rows → Rises key (n + 1) rows
-  numbered_rise n [] is = tt
-  numbered_rise n (r ∷ rows) is = (omega (arith, is.0), subst (λ k. Rises key (k + 1) rows) (sym is.0) (numbered_rise (n + 1) rows is.1))
-
-  -- so do those of rising rows that pass
-  pub rises-filter : (p : R → Bool) (low : ℕ) (rows : List R) → Rises key low rows → Rises key low (filter p rows)
-  rises-filter p low [] rise = tt
-  rises-filter p low (r ∷ rows) rise = by_test (p r) (rises-filter p (key r + 1) rows rise.1)
-    where
-      by_test : (b : Bool) → Rises key (key r + 1) (filter p rows) → Rises key low (cond b (r ∷ filter p rows) (filter p rows))
-      by_test true later = (rise.0, later)
-      by_test false later = rises_lower key low (key r + 1) (filter p rows) (omega (arith, rise.0)) later
 
 -- so the serials that count rise, of movements numbered from 1 on
 pub serials_rise : (rows : List (Keyed Movement)) (serials : List MovementSerial) → IsNumbered place 0 rows

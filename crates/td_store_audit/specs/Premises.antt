@@ -10,7 +10,7 @@ use Rattle.td_store_rows.specs.StoreReads.{IsAny, IsOfVersion}
 use Rattle.td_store_audit_rows.specs.declared.holders.RawHolder.{RawHolder}
 use Rattle.td_store_audit.specs.InFile.{IsSoWhere}
 use Rattle.td_store_audit.specs.InPlace.{AreAllLinesInPlace, AreCodesInPlace, AreCodesInPlaceWithin, AreLinesInPlaceWithin, AreNumbersApart}
-use Rattle.td_store_audit.specs.Ranges.{rows_below}
+use Rattle.td_store_rows.specs.Ranges.{rows_below}
 use Rattle.td_store_audit.specs.Totals.{AreTotals, sum_on}
 use Rattle.td_store_audit.specs.declared.tallies.CountingSerials.{CountingSerials}
 use Rattle.td_store_audit.specs.declared.totals.Totals.{Totals}

@@ -1,5 +1,5 @@
--- A holder's rows with serials in a range, and which movements in rows count.
-use Rattle.std.specs.Prelude.{◌≡◌, ℕ, ◌&&◌, List, filter, map, nat_le, nat_lt}
+-- A holder's movements and guarantees with serials below one, and which movements in rows count.
+use Rattle.std.specs.Prelude.{◌≡◌, ℕ, List, filter, map}
 use Rattle.sqlite_trees.specs.Tree.{Trees}
 use Rattle.td_guarantee.specs.declared.guarantee.Guarantee.{Guarantee}
 use Rattle.td_movement.specs.declared.movement.Movement.{Movement}
@@ -7,17 +7,10 @@ use Rattle.td_table_model.specs.Gathering.{guarantees_by, movements_by, place}
 use Rattle.td_table_model.specs.Tables.{Keyed}
 use Rattle.td_schema.specs.declared.layout.Layout.{Layout}
 use Rattle.td_store_rows.specs.MovementTable.{serial_of_stored}
+use Rattle.td_store_rows.specs.Ranges.{rows_below}
 use Rattle.td_store_rows.specs.StoreTables.{tables_in}
 use Rattle.td_store_rows.specs.declared.movements.stored.MovementSerial.{MovementSerial}
 use Rattle.td_store_audit.specs.Tallies.{is_counting_row}
-
--- those with serials below one
-abbrev pub rows_below : {R : Type 0} → ℕ → List (Keyed R) → List (Keyed R)
-rows_below n rows = filter (λ r. nat_lt (place r) n) rows
-
--- those from one on and below another
-abbrev pub rows_between : {R : Type 0} → ℕ → ℕ → List (Keyed R) → List (Keyed R)
-rows_between first end rows = filter (λ r. nat_le first (place r) && nat_lt (place r) end) rows
 
 -- the movements of a holder with serials below one, in their order
 abbrev pub movements_below : Layout → Trees → ℕ → ℕ → List (Keyed Movement)

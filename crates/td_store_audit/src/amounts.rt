@@ -9,12 +9,11 @@ ghost use Rattle.td_store_audit.specs.Totals.{AreTotals};
 ghost use Rattle.td_store_audit.specs.InFile.{IsHolderKeptInFile, TellsWhere};
 ghost use Rattle.typed_sql.specs.Reading.{IsInside};
 
-use crate::ranges::range_end;
 use crate::tallies::HolderTotals;
 use sqlite::{Error, Transaction};
 use sqlite_trees::store::Alter;
 use std::alloc::Global;
-use td_store_rows::{KeptGuarantee, kept_within};
+use td_store_rows::{KeptGuarantee, kept_within, range_end};
 
 /// Whether the amounts on a holder's guarantees are what is in use on them, in a file that keeps them. It is given what the
 /// rules of movements and of lines hand on of the holder, and reads the guarantees alone. `OutOfMemory`: want of memory;

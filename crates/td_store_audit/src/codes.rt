@@ -11,12 +11,12 @@ ghost use Rattle.td_store_audit.specs.Premises.{HasCodesInPlace, TellsCodesWithi
 
 use crate::codes_in_place::codes_within_are_in_place;
 use crate::finding::{codes_within, has_code_behind};
-use crate::ranges::range_end;
 use sqlite::{Error, ErrorCode, Transaction};
 use sqlite_trees::store::Alter;
 use std::alloc::Global;
 use td_base::HolderNo;
 use td_store_audit_rows::RawHolder;
+use td_store_rows::range_end;
 
 /// Whether a holder's count of guarantees can be read, and the holder's codes are in their places by it: each is of a
 /// guarantee of the holder's, and each guarantee has 1 to 20. The codes of few guarantees are read at once.

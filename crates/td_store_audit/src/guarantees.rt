@@ -9,13 +9,12 @@ ghost use Rattle.td_store_audit.specs.Ranges.{guarantees_below};
 ghost use Rattle.td_store_audit.specs.InFile.{AreTypedApart, HasGuaranteesInPlace, TellsWhere};
 ghost use Rattle.typed_sql.specs.Reading.{IsInside};
 
-use crate::ranges::range_end;
 use sqlite::{Error, Transaction};
 use sqlite_trees::store::Alter;
 use std::alloc::Global;
 use td_base::{Country, HolderNo};
 use td_store_audit_rows::{RawHolder, guarantees_are_in_place};
-use td_store_rows::{guarantees_within, next_guarantee_of};
+use td_store_rows::{guarantees_within, next_guarantee_of, range_end};
 
 /// Whether a holder's guarantees are counted, and in their places, at an office of that country, in a file of that version.
 /// `OutOfMemory`: want of memory; any other error is the database's own.

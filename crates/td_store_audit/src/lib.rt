@@ -17,7 +17,6 @@ mod lines_in_place;
 mod movements;
 mod office;
 mod order;
-mod ranges;
 mod tallies;
 mod texts;
 mod totals;

@@ -15,14 +15,13 @@ ghost use Rattle.td_store_audit.specs.Premises.{AreTotalsBelow, HasLinesInPlace,
 
 use crate::finding::{has_line_behind, lines_within};
 use crate::lines_in_place::lines_within_are_in_place;
-use crate::ranges::range_end;
 use crate::tallies::CountingSerials;
 use crate::totals::Totals;
 use sqlite::{Error, Transaction};
 use sqlite_trees::store::Alter;
 use std::alloc::Global;
 use td_base::HolderNo;
-use td_store_rows::StoredLine;
+use td_store_rows::{StoredLine, range_end};
 
 // A holder's lines of the movements with serials from `first` on and below `end`, where they are in their places, by a count of the
 // holder's guarantees, if no two lines of one movement have one number.

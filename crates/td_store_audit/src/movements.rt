@@ -13,7 +13,6 @@ ghost use Rattle.td_store_audit.specs.Tallies.{AreCounting, is_counting_row, raw
 ghost use Rattle.td_store_audit.specs.InFile.{AreTypedApart, HasMovementsInPlace, IsSoWhere, TellsWhere};
 ghost use Rattle.typed_sql.specs.Reading.{IsInside};
 
-use crate::ranges::range_end;
 use crate::tallies::CountingSerials;
 use sqlite::{Error, Transaction};
 use sqlite_trees::store::Alter;
@@ -21,7 +20,9 @@ use std::alloc::{AllocError, Global};
 use td_base::{Country, HolderNo};
 use td_movement::counts;
 use td_store_audit_rows::{RawHolder, movements_are_in_place};
-use td_store_rows::{MovementSerial, StoredMovement, movements_within, next_movement_of};
+use td_store_rows::{
+    MovementSerial, StoredMovement, movements_within, next_movement_of, range_end,
+};
 
 /// Which movements of a holder count, where the holder's movements are counted and in their places, at an office of that
 /// country. `OutOfMemory`: want of memory; any other error is the database's own.

@@ -135,7 +135,7 @@ module _ (t : Tables) (c : Content) (sound : IsSound c) (are : AreTablesOf t c) 
       (λ p is. ap (λ m. keyed h.row.holder (p.0, m)) is) (numbered 0 h.movements)
       (each_same (λ p. with_lines t (movement_row h.row.holder p)) element (numbered 0 h.movements) back))
 
-  own_entries : (h : HolderRows) → AreHolderRows c.country h → HasParts c.country t h → map entry_of_row (kept_in h) ≡ guarantees_at h
+  pub own_entries : (h : HolderRows) → AreHolderRows c.country h → HasParts c.country t h → map entry_of_row (kept_in h) ≡ guarantees_at h
   own_entries h is parts =
       let back : map (λ p. with_codes t (guarantee_row h.row.holder p)) (numbered 0 h.guarantees) ≡ map element (numbered 0 h.guarantees) =
       sym (map-map (with_codes t) (guarantee_row h.row.holder) (numbered 0 h.guarantees))

@@ -5,5 +5,5 @@ mod WithUse
 mod Owner
 pub mod Places
 mod Behind
+mod InRanges
 pub mod Listing
-mod Onward

@@ -6,6 +6,7 @@ use Rattle.std.proofs.lemmas.Bool.Decides.{nat_tests}
 use Rattle.sqlite_trees.proofs.ListLemmas.{all-filter, all-permutation}
 use Rattle.sqlite.specs.State.{State}
 use Rattle.td_guarantee.specs.declared.guarantee.Guarantee.{Guarantee}
+use Rattle.td_guarantee.specs.Terms.{without_codes}
 use Rattle.td_guarantee.specs.Usage.{used_on}
 use Rattle.td_movement.specs.declared.line.Line.{Line}
 use Rattle.td_model.specs.Account.{Account, entry_in, guarantee_by_grn}
@@ -20,7 +21,7 @@ use Rattle.td_store_rows.specs.KeptTable.{IsTheKept, has_kept_grn, kept_row_of}
 use Rattle.td_store_rows.specs.declared.guarantees.stored.KeptGuarantee.{KeptGuarantee}
 use Rattle.td_store_rows.specs.StoreTables.{HoldsContent, tables_in}
 use Rattle.td_store_rows.proofs.StoreReads.{newest_keeps}
-use Rattle.td_store_load.specs.Needed.{entry_from, with_use}
+use Rattle.td_store_load.specs.Needed.{entry_from, with_use, terms_in}
 use Rattle.td_store_load.proofs.Found.{by_grn}
 
 -- the guarantees of entries are those that the lines name
@@ -61,15 +62,28 @@ module _ (a : State) (H : ℕ) (content : Content) (holds : HoldsContent content
   pub no_entry : (country grn : List ℕ) → content.country ≡ country → IsTheKept (has_kept_grn H (guarantee_no country grn) grn) a None → None ≡ entry_in account grn
   no_entry country grn at found = ap (option_map (with_use account)) (sym (by_grn a H content holds country grn at None found))
 
-  -- the guarantee with a GRN, and the amount in use on it
-  pub entry_is : (country grn : List ℕ) → content.country ≡ country → (k : KeptGuarantee) → IsTheKept (has_kept_grn H (guarantee_no country grn) grn) a (Some k)
-      → Some (entry_from t (kept_row_of k)) ≡ entry_in account grn
-  entry_is country grn at k found =
+  -- the amount that the row with a GRN keeps is what is in use
+  kept_use : (country grn : List ℕ) → (k : KeptGuarantee) → IsTheKept (has_kept_grn H (guarantee_no country grn) grn) a (Some k)
+      → k.used ≡ used_on k.guarantee.grn account.movements
+  kept_use country grn k found =
       let p = has_kept_grn H (guarantee_no country grn) grn in
       let those : IsPermutation (filter p t.kept) (kept_row_of k ∷ []) = found holds.trees.layout keeps holds.schema (holds.trees.typed.kept keeps) in
       let amount : IsAmountOf content (kept_row_of k) = (all-permutation (IsAmountOf content) _ _ those (all-filter (IsAmountOf content) p t.kept uses)).0 in
       let passes : p (kept_row_of k) ≡ true = (all-permutation (λ x. p x ≡ true) _ _ those (all_pass p t.kept)).0 in
       let own : k.holder ≡ H = grind (arith, nat_tests, (both_pass (k.holder == H) _ passes).0) in
-      let used : k.used ≡ used_on k.guarantee.grn account.movements = subst (λ n. k.used ≡ used_on k.guarantee.grn (account_in n content).movements) own amount in
-      ap (λ n. Some (with_codes t (without_amount (kept_row_of k)), n)) used
+      subst (λ n. k.used ≡ used_on k.guarantee.grn (account_in n content).movements) own amount
+
+  -- the guarantee with a GRN, and the amount in use on it
+  pub entry_is : (country grn : List ℕ) → content.country ≡ country → (k : KeptGuarantee) → IsTheKept (has_kept_grn H (guarantee_no country grn) grn) a (Some k)
+      → Some (entry_from t (kept_row_of k)) ≡ entry_in account grn
+  entry_is country grn at k found =
+      ap (λ n. Some (with_codes t (without_amount (kept_row_of k)), n)) (kept_use country grn k found)
       ∙ ap (option_map (with_use account)) (sym (by_grn a H content holds country grn at (Some k) found))
+
+  -- its terms without codes, and that amount; none: there is no such guarantee
+  pub terms_are : (country grn : List ℕ) → content.country ≡ country → (found : Option KeptGuarantee) → IsTheKept (has_kept_grn H (guarantee_no country grn) grn) a found
+      → option_map (λ k. (without_codes k.guarantee, k.used)) found ≡ terms_in account grn
+  terms_are country grn at None found = ap (option_map (λ g. (without_codes g, used_on g.grn account.movements))) (sym (by_grn a H content holds country grn at None found))
+  terms_are country grn at (Some k) found =
+      ap (λ n. Some (without_codes k.guarantee, n)) (kept_use country grn k found)
+      ∙ ap (option_map (λ g. (without_codes g, used_on g.grn account.movements))) (sym (by_grn a H content holds country grn at (Some k) found))

@@ -1,14 +1,20 @@
 -- What is read out of the tables of a store's file.
-use Rattle.std.specs.Prelude.{◌≡◌, ℕ, List, Option, slice_get}
+use Rattle.std.specs.Prelude.{◌≡◌, ℕ, List}
 use Rattle.sqlite.specs.State.{State}
 use Rattle.td_desk.specs.Content.{Content}
-use Rattle.td_table_model.specs.Tables.{Tables, numbered}
+use Rattle.td_movement.specs.Movements.{without_lines}
+use Rattle.td_movement.specs.declared.movement.Movement.{Movement}
+use Rattle.td_table_model.specs.Tables.{Keyed, Tables}
 use Rattle.td_store_rows.specs.declared.codes.stored.StoredCode.{StoredCode}
 use Rattle.td_store_rows.specs.StoreTables.{HoldsContent, tables_in}
 
 -- the code in a row
 abbrev pub code_of : StoredCode → List ℕ
 code_of row = row.code
+
+-- a movement in its row, without lines
+abbrev pub bare : Keyed Movement → Movement
+bare r = without_lines r.row
 
 -- where the store holds a content, this is what f says of its tables
 abbrev pub IsOfTables : {X : Type 0} → (Tables → X) → State → X → Type 0
@@ -17,7 +23,3 @@ IsOfTables f s x = (c : Content) (holds : HoldsContent c s) → x ≡ f (tables_
 -- where the store holds a content of that country, this is what f says of the content
 abbrev pub IsOfContent : {X : Type 0} → List ℕ → (Content → X) → State → X → Type 0
 IsOfContent country f s x = (c : Content) → HoldsContent c s → c.country ≡ country → x ≡ f c
-
--- where the store holds a content, this stands behind the first n of what f says of the content, with its number; none: nothing does
-abbrev pub IsNextOf : {X : Type 0} → (Content → List X) → ℕ → State → Option (ℕ × X) → Type 0
-IsNextOf f n s found = (c : Content) → HoldsContent c s → found ≡ slice_get (numbered 0 (f c)) n

@@ -1,25 +1,34 @@
 -- What a verdict needs of a holder's rows, as the tables of a store's file say it.
-use Rattle.std.specs.Prelude.{◌≡◌, ℕ, List, Some}
+use Rattle.std.specs.Prelude.{◌≡◌, ℕ, List, Option, Some, option_map}
 use Rattle.sqlite.specs.State.{State}
 use Rattle.td_guarantee.specs.declared.guarantee.Guarantee.{Guarantee}
+use Rattle.td_guarantee.specs.Terms.{without_codes}
 use Rattle.td_guarantee.specs.Usage.{used_on}
 use Rattle.td_commands.specs.Commands.{Need}
 use Rattle.td_model.specs.declared.holder_row.HolderRow.{HolderRow}
 use Rattle.td_acts.specs.declared.rows.Loaded.{Loaded}
-use Rattle.td_model.specs.Account.{Account}
+use Rattle.td_model.specs.Account.{Account, guarantee_by_grn}
 use Rattle.td_acts.specs.Deciding.{IsLoaded}
 use Rattle.td_desk.specs.Content.{Content, account_in}
 use Rattle.td_table_model.specs.Tables.{Keyed, Kept, Tables, without_amount}
-use Rattle.td_table_model.specs.Gathering.{with_codes}
+use Rattle.td_table_model.specs.Gathering.{in_order, part, place, with_codes}
 use Rattle.td_store_rows.specs.StoreTables.{HoldsContent}
 
 -- the guarantee in a row with its codes, and the amount in use that the row keeps
 abbrev pub entry_from : Tables → Keyed Kept → Guarantee × ℕ
 entry_from t k = (with_codes t (without_amount k), k.row.used)
 
+-- a holder's rows of guarantees with the amounts, by their serials
+abbrev pub kept_by : ℕ → Tables → List (Keyed Kept)
+kept_by H t = in_order place (part H t.kept)
+
 -- a guarantee of an account, and the amount in use on it
 abbrev pub with_use : Account → Guarantee → Guarantee × ℕ
 with_use account g = (g, used_on g.grn account.movements)
+
+-- the terms of an account's guarantee with a GRN, without codes, and the amount in use on it
+abbrev pub terms_in : Account → List ℕ → Option (Guarantee × ℕ)
+terms_in account grn = option_map (λ g. (without_codes g, used_on g.grn account.movements)) (guarantee_by_grn grn account.guarantees)
 
 -- where the store holds a content of that country in which this is the row of a holder, this is what is needed of the
 -- holder's account

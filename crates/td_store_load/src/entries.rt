@@ -1,27 +1,26 @@
 //! Guarantees with their codes and the amounts in use on them. `DatabaseCorrupt`: a row is no such row, there are several
 //! where there can be one, or one doesn't stand where it was asked for; `OutOfMemory`: want of memory; any other error is the
 //! database's own.
-ghost use Rattle.std.specs.Prelude.{◌≡◌, ◌<◌, filter_map, map, IfOk, IfSome, is_ok};
+ghost use Rattle.std.specs.Prelude.{◌≡◌, filter_map, map, IfOk, is_ok};
 ghost use Rattle.sqlite.specs.Held.{state};
 ghost use Rattle.sqlite.specs.State.{HasCleanDisk};
 ghost use Rattle.td_guarantee.specs.Codes.{AreAscending};
 ghost use Rattle.td_model.specs.Account.{entry_in};
-ghost use Rattle.td_desk.specs.Content.{Content, account_in};
+ghost use Rattle.td_desk.specs.Content.{account_in};
 ghost use Rattle.typed_sql.specs.Reading.{IsInside};
 ghost use Rattle.td_store_rows.specs.StoreReads.{ReadsNewest};
 ghost use Rattle.td_store_rows.specs.KeptTable.{kept_row_of};
-ghost use Rattle.td_store_rows.specs.StoreTables.{HoldsContent};
-ghost use Rattle.td_store_load.specs.Loaded.{IsNextOf, IsOfContent, IsOfTables, code_of};
-ghost use Rattle.td_store_load.specs.Needed.{entry_from, with_use};
+ghost use Rattle.td_store_load.specs.Loaded.{IsOfContent, IsOfTables, code_of};
+ghost use Rattle.td_store_load.specs.Needed.{entry_from, terms_in};
 
-use sqlite::{Error, ErrorCode, Transaction};
+use sqlite::{Error, Transaction};
 use sqlite_trees::store::Alter;
 use std::alloc::{AllocError, Global};
 use td_acts::Lines;
 use td_base::{Cents, Country, Grn, HolderNo};
 use td_guarantee::{Codes, Guarantee};
 use td_movement::Line;
-use td_store_rows::{KeptGuarantee, StoredCode, codes_of, find_kept, next_kept_of};
+use td_store_rows::{KeptGuarantee, StoredCode, codes_of, find_kept};
 
 // The codes in rows, which are given in ascending order. `AllocError`: want of memory.
 fn gather_codes(alloc: Global, rows: &[StoredCode]) -> Result<Codes, AllocError>
@@ -73,9 +72,31 @@ pub fn load_entry<S: Alter>(
     Ok(Some(entry_in_row(alloc, tx, &row)?))
 }
 
-/// The guarantees that a movement's lines name, as far as they are there, at an office of that country, and the amounts in use
-/// on them.
-pub fn load_entries_of<S: Alter>(
+/// The terms of the holder's guarantee with a GRN at an office of that country, if there is one, without codes, and the amount in
+/// use on it.
+pub fn load_terms<S: Alter>(
+    alloc: Global,
+    tx: &mut Transaction<'_, S>,
+    country: Country,
+    holder: HolderNo,
+    grn: &Grn,
+) -> Result<Option<(Guarantee, Cents)>, Error>
+    requires { IsInside (state S.Store tx.old.conn.now) }
+    ensures same_reference { tx.new.conn.ghost_name ≡ tx.old.conn.ghost_name }
+    ensures found { HasCleanDisk (state S.Store tx.new.conn.now)
+        → IfOk result (IsOfContent country (λ c. terms_in (account_in holder c) grn.now) (state S.Store tx.old.conn.now)) }
+    ensures reads { ReadsNewest (is_ok result) (state S.Store tx.old.conn.now) (state S.Store tx.new.conn.now) }
+{
+    let serial = grn.serial(country).unwrap_or(0);
+    let Some(kept) = find_kept(alloc, tx, holder, serial, grn)? else {
+        return Ok(None);
+    };
+    Ok(Some((kept.guarantee.without_codes(alloc), kept.used)))
+}
+
+/// The guarantees that a movement's lines name, as far as they are there, at an office of that country, without codes, and the
+/// amounts in use on them.
+pub fn load_terms_of<S: Alter>(
     alloc: Global,
     tx: &mut Transaction<'_, S>,
     country: Country,
@@ -85,13 +106,13 @@ pub fn load_entries_of<S: Alter>(
     requires { IsInside (state S.Store tx.old.conn.now) }
     ensures same_reference { tx.new.conn.ghost_name ≡ tx.old.conn.ghost_name }
     ensures found { HasCleanDisk (state S.Store tx.new.conn.now)
-        → IfOk result (λ found. IsOfContent country (λ c. filter_map (λ l. entry_in (account_in holder c) l.grn) lines.now)
+        → IfOk result (λ found. IsOfContent country (λ c. filter_map (λ l. terms_in (account_in holder c) l.grn) lines.now)
         (state S.Store tx.old.conn.now) found.items) }
     ensures reads { ReadsNewest (is_ok result) (state S.Store tx.old.conn.now) (state S.Store tx.new.conn.now) }
 {
     let mut found = Vec::new(alloc);
     'lines: for line in lines {
-        if let Some(entry) = load_entry(alloc, tx, country, holder, &line.grn)? {
+        if let Some(entry) = load_terms(alloc, tx, country, holder, &line.grn)? {
             found.push(entry)?;
         }
     }
@@ -121,53 +142,4 @@ pub fn load_declared_on<S: Alter>(
         }
     }
     Ok(found)
-}
-
-// The holder's guarantee next behind a serial, if there is one, with its codes, the amount in use on it and its own serial. The
-// serial rises whatever the disk returns.
-fn entry_behind<S: Alter>(
-    alloc: Global,
-    tx: &mut Transaction<'_, S>,
-    holder: HolderNo,
-    serial: u32,
-) -> Result<Option<(u32, (Guarantee, Cents))>, Error>
-    requires { IsInside (state S.Store tx.old.conn.now) }
-    ensures same_reference { tx.new.conn.ghost_name ≡ tx.old.conn.ghost_name }
-    ensures found { HasCleanDisk (state S.Store tx.new.conn.now)
-        → IfOk result (IsNextOf (λ c. map (with_use (account_in holder c)) (account_in holder c).guarantees) serial
-        (state S.Store tx.old.conn.now)) }
-    ensures rises { IfOk result (λ found. IfSome found (λ next. serial < next.0)) }
-    ensures reads { ReadsNewest (is_ok result) (state S.Store tx.old.conn.now) (state S.Store tx.new.conn.now) }
-{
-    let Some(row) = next_kept_of(alloc, tx, holder.number(), serial)? else {
-        return Ok(None);
-    };
-    if row.holder != holder || row.serial <= serial {
-        return Err(Error::SqliteFailure(ErrorCode::DatabaseCorrupt));
-    }
-    let entry = entry_in_row(alloc, tx, &row)?;
-    Ok(Some((row.serial, entry)))
-}
-
-/// All guarantees of a holder by their serials, and the amounts in use on them. They are read one at a time, by their
-/// keys.
-pub fn load_all_entries<S: Alter>(
-    alloc: Global,
-    tx: &mut Transaction<'_, S>,
-    holder: HolderNo,
-) -> Result<Vec<(Guarantee, Cents)>, Error>
-    requires { IsInside (state S.Store tx.old.conn.now) }
-    ensures same_reference { tx.new.conn.ghost_name ≡ tx.old.conn.ghost_name }
-    ensures found { HasCleanDisk (state S.Store tx.new.conn.now)
-        → IfOk result (λ found. (c : Content) → HoldsContent c (state S.Store tx.old.conn.now)
-        → found.items ≡ map (with_use (account_in holder c)) (account_in holder c).guarantees) }
-    ensures reads { ReadsNewest (is_ok result) (state S.Store tx.old.conn.now) (state S.Store tx.new.conn.now) }
-{
-    let mut entries = Vec::new(alloc);
-    let mut serial = 0;
-    'rows: while let Some((next, entry)) = entry_behind(alloc, tx, holder, serial)? {
-        entries.push(entry)?;
-        serial = next;
-    }
-    Ok(entries)
 }

@@ -7,6 +7,7 @@
 mod alone;
 mod entries;
 mod following;
+mod lists;
 mod movements;
 mod needs;
 

@@ -1,7 +1,8 @@
-//! Movements with their lines. `DatabaseCorrupt`: a row is no such row, there are several where there can be one, one doesn't
+//! Movements by their references, with their lines and without. `DatabaseCorrupt`: a row is no such row, there are several where there can be one, one doesn't
 //! stand where it was asked for, or the guarantee of a line isn't there; `OutOfMemory`: want of memory; any other error is the
 //! database's own.
-ghost use Rattle.std.specs.Prelude.{◌≡◌, ◌<◌, map, IfOk, IfSome, is_ok};
+ghost use Rattle.std.specs.Prelude.{◌≡◌, map, option_map, IfOk, is_ok};
+ghost use Rattle.td_movement.specs.Movements.{without_lines};
 ghost use Rattle.sqlite.specs.Held.{state};
 ghost use Rattle.sqlite.specs.State.{HasCleanDisk};
 ghost use Rattle.td_model.specs.Account.{movement_by_lrn, movement_by_mrn};
@@ -11,7 +12,7 @@ ghost use Rattle.typed_sql.specs.Reading.{IsInside};
 ghost use Rattle.td_store_rows.specs.StoreReads.{ReadsNewest};
 ghost use Rattle.td_store_rows.specs.LineTable.{line_row_of as row_of_line};
 ghost use Rattle.td_store_rows.specs.MovementTable.{movement_row_of};
-ghost use Rattle.td_store_load.specs.Loaded.{IsNextOf, IsOfContent, IsOfTables};
+ghost use Rattle.td_store_load.specs.Loaded.{IsOfContent, IsOfTables};
 ghost use Rattle.td_store_rows.specs.StoreTables.{HoldsContent};
 
 use sqlite::{Error, ErrorCode, Transaction};
@@ -21,7 +22,6 @@ use td_base::{Country, HolderNo, Lrn, Mrn};
 use td_movement::{Line, Movement, MovementLines};
 use td_store_rows::{
     StoredLine, StoredMovement, find_by_lrn, find_by_mrn, find_by_serial, lines_of,
-    next_movement_of,
 };
 
 // The line in a row, on the guarantee that the row names.
@@ -108,6 +108,29 @@ pub fn load_movement_by_mrn<S: Alter>(
     Ok(Some(movement_with_lines(alloc, tx, stored)?))
 }
 
+/// The holder's movement with an MRN at an office of that country, if there is one, without its lines.
+pub fn load_status_by_mrn<S: Alter>(
+    alloc: Global,
+    tx: &mut Transaction<'_, S>,
+    country: Country,
+    holder: HolderNo,
+    mrn: &Mrn,
+) -> Result<Option<Movement>, Error>
+    requires { IsInside (state S.Store tx.old.conn.now) }
+    ensures same_reference { tx.new.conn.ghost_name ≡ tx.old.conn.ghost_name }
+    ensures found { HasCleanDisk (state S.Store tx.new.conn.now)
+        → IfOk result (IsOfContent country
+        (λ c. option_map without_lines (movement_by_mrn mrn.now (account_in holder c).movements))
+        (state S.Store tx.old.conn.now)) }
+    ensures reads { ReadsNewest (is_ok result) (state S.Store tx.old.conn.now) (state S.Store tx.new.conn.now) }
+{
+    let serial = mrn.serial(country).unwrap_or(0);
+    let Some(row) = find_by_mrn(alloc, tx, holder, serial, mrn)? else {
+        return Ok(None);
+    };
+    Ok(Some(row.movement.without_lines(alloc)))
+}
+
 /// The holder's movement with an LRN, if there is one, with its lines.
 pub fn load_movement_by_lrn<S: Alter>(
     alloc: Global,
@@ -126,52 +149,4 @@ pub fn load_movement_by_lrn<S: Alter>(
         return Ok(None);
     };
     Ok(Some(movement_with_lines(alloc, tx, stored)?))
-}
-
-// The holder's movement next behind a serial, if there is one, with its lines and its own serial. The serial rises whatever the
-// disk returns.
-fn movement_behind<S: Alter>(
-    alloc: Global,
-    tx: &mut Transaction<'_, S>,
-    holder: HolderNo,
-    serial: u32,
-) -> Result<Option<(u32, Movement)>, Error>
-    requires { IsInside (state S.Store tx.old.conn.now) }
-    ensures same_reference { tx.new.conn.ghost_name ≡ tx.old.conn.ghost_name }
-    ensures found { HasCleanDisk (state S.Store tx.new.conn.now)
-        → IfOk result (IsNextOf (λ c. (account_in holder c).movements) serial (state S.Store tx.old.conn.now)) }
-    ensures rises { IfOk result (λ found. IfSome found (λ next. serial < next.0)) }
-    ensures reads { ReadsNewest (is_ok result) (state S.Store tx.old.conn.now) (state S.Store tx.new.conn.now) }
-{
-    let Some(row) = next_movement_of(alloc, tx, holder.number(), serial)? else {
-        return Ok(None);
-    };
-    if row.holder != holder || row.serial <= serial {
-        return Err(Error::SqliteFailure(ErrorCode::DatabaseCorrupt));
-    }
-    let next = row.serial;
-    let movement = movement_with_lines(alloc, tx, row)?;
-    Ok(Some((next, movement)))
-}
-
-/// All movements of a holder with their lines, by their serials. They are read one at a time, by their keys.
-pub fn load_all_movements<S: Alter>(
-    alloc: Global,
-    tx: &mut Transaction<'_, S>,
-    holder: HolderNo,
-) -> Result<Vec<Movement>, Error>
-    requires { IsInside (state S.Store tx.old.conn.now) }
-    ensures same_reference { tx.new.conn.ghost_name ≡ tx.old.conn.ghost_name }
-    ensures found { HasCleanDisk (state S.Store tx.new.conn.now)
-        → IfOk result (λ found. (c : Content) → HoldsContent c (state S.Store tx.old.conn.now)
-        → found.items ≡ (account_in holder c).movements) }
-    ensures reads { ReadsNewest (is_ok result) (state S.Store tx.old.conn.now) (state S.Store tx.new.conn.now) }
-{
-    let mut movements = Vec::new(alloc);
-    let mut serial = 0;
-    'rows: while let Some((next, movement)) = movement_behind(alloc, tx, holder, serial)? {
-        movements.push(movement)?;
-        serial = next;
-    }
-    Ok(movements)
 }

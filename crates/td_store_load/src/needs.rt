@@ -4,7 +4,7 @@
 ghost use Rattle.std.specs.Prelude.{◌≡◌, [], Some, option_to_list, IfOk, is_ok};
 ghost use Rattle.sqlite.specs.Held.{state};
 ghost use Rattle.sqlite.specs.State.{HasCleanDisk};
-ghost use Rattle.td_commands.specs.Commands.{need_said, lodging, movement, release, all_movements, guarantee, all_guarantees};
+ghost use Rattle.td_commands.specs.Commands.{need_said, lodging, movement, status, release, all_movements, guarantee, all_guarantees};
 ghost use Rattle.td_acts.specs.Deciding.{IsLoaded};
 ghost use Rattle.td_desk.specs.Content.{Content};
 ghost use Rattle.td_desk.specs.Weighing.{kept_for};
@@ -13,8 +13,9 @@ ghost use Rattle.td_store_rows.specs.StoreTables.{HoldsContent};
 ghost use Rattle.td_store_load.specs.Needed.{IsLoadedFor};
 ghost use Rattle.typed_sql.specs.Reading.{IsInside};
 
-use crate::entries::{load_all_entries, load_declared_on, load_entries_of, load_entry};
-use crate::movements::{load_all_movements, load_movement_by_lrn, load_movement_by_mrn};
+use crate::entries::{load_declared_on, load_entry, load_terms_of};
+use crate::lists::{list_guarantees, list_movements};
+use crate::movements::{load_movement_by_lrn, load_movement_by_mrn, load_status_by_mrn};
 use sqlite::{Error, Transaction};
 use sqlite_trees::store::Alter;
 use std::alloc::{AllocError, Global};
@@ -65,6 +66,7 @@ fn load_for<S: Alter>(
         Needs::Nothing => Ok(row_alone(alloc, country, row)),
         Needs::Lodging(lrn, lines) => load_lodging(alloc, tx, country, row, lrn, lines),
         Needs::Movement(mrn) => load_movement(alloc, tx, country, row, mrn),
+        Needs::Status(mrn) => load_status(alloc, tx, country, row, mrn),
         Needs::Release(mrn) => load_release(alloc, tx, country, row, mrn),
         Needs::AllMovements => load_movements(alloc, tx, country, row),
         Needs::Guarantee(grn) => load_guarantee(alloc, tx, country, row, grn),
@@ -144,7 +146,27 @@ fn load_movement<S: Alter>(
     Ok(loaded)
 }
 
-// The movement with an MRN, and the guarantees of its lines with the amounts in use on them.
+// The movement with an MRN, without its lines.
+fn load_status<S: Alter>(
+    alloc: Global,
+    tx: &mut Transaction<'_, S>,
+    country: Country,
+    row: HolderRow,
+    mrn: &Mrn,
+) -> Result<Loaded, Error>
+    requires { IsInside (state S.Store tx.old.conn.now) }
+    ensures same_reference { tx.new.conn.ghost_name ≡ tx.old.conn.ghost_name }
+    ensures loaded { HasCleanDisk (state S.Store tx.new.conn.now)
+        → IfOk result (IsLoadedFor country row (status mrn.now) (state S.Store tx.old.conn.now)) }
+    ensures reads { ReadsNewest (is_ok result) (state S.Store tx.old.conn.now) (state S.Store tx.new.conn.now) }
+{
+    let found = load_status_by_mrn(alloc, tx, country, row.holder, mrn)?;
+    let mut loaded = row_alone(alloc, country, row);
+    loaded.movements = in_list(alloc, found)?;
+    Ok(loaded)
+}
+
+// The movement with an MRN, and the guarantees of its lines without codes, with the amounts in use on them.
 fn load_release<S: Alter>(
     alloc: Global,
     tx: &mut Transaction<'_, S>,
@@ -161,7 +183,7 @@ fn load_release<S: Alter>(
     let Some(found) = load_movement_by_mrn(alloc, tx, country, row.holder, mrn)? else {
         return Ok(row_alone(alloc, country, row));
     };
-    let guarantees = load_entries_of(alloc, tx, country, row.holder, found.lines.as_slice())?;
+    let guarantees = load_terms_of(alloc, tx, country, row.holder, found.lines.as_slice())?;
     let movements = vec![in alloc; found]?;
     Ok(Loaded {
         country,
@@ -171,7 +193,7 @@ fn load_release<S: Alter>(
     })
 }
 
-// All movements.
+// All movements, without their lines.
 fn load_movements<S: Alter>(
     alloc: Global,
     tx: &mut Transaction<'_, S>,
@@ -184,7 +206,7 @@ fn load_movements<S: Alter>(
         → IfOk result (IsLoadedFor country row all_movements (state S.Store tx.old.conn.now)) }
     ensures reads { ReadsNewest (is_ok result) (state S.Store tx.old.conn.now) (state S.Store tx.new.conn.now) }
 {
-    let movements = load_all_movements(alloc, tx, row.holder)?;
+    let movements = list_movements(alloc, tx, &row)?;
     let mut loaded = row_alone(alloc, country, row);
     loaded.movements = movements;
     Ok(loaded)
@@ -223,7 +245,7 @@ fn load_guarantees<S: Alter>(
         → IfOk result (IsLoadedFor country row all_guarantees (state S.Store tx.old.conn.now)) }
     ensures reads { ReadsNewest (is_ok result) (state S.Store tx.old.conn.now) (state S.Store tx.new.conn.now) }
 {
-    let guarantees = load_all_entries(alloc, tx, row.holder)?;
+    let guarantees = list_guarantees(alloc, tx, &row)?;
     let mut loaded = row_alone(alloc, country, row);
     loaded.guarantees = guarantees;
     Ok(loaded)

@@ -14,6 +14,7 @@ pub mod MovementMeanings
 mod MovementCells
 pub mod MovementStatements
 pub mod RangeTests
+pub mod RowRanges
 pub mod MovementSerials
 mod Deadlines
 mod LineMeanings

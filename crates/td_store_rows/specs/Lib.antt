@@ -1,6 +1,7 @@
 pub mod Columns
 pub mod StoreReads
 pub mod Places
+pub mod Ranges
 pub mod MetaTable
 pub mod HolderTable
 pub mod GuaranteeTable

@@ -10,6 +10,7 @@ mod lines;
 mod meta;
 mod movements;
 mod places;
+mod ranges;
 
 pub use codes::{StoredCode, codes_of, delete_code, insert_code};
 pub use guarantees::{
@@ -26,3 +27,4 @@ pub use movements::{
     visit_deadlines,
 };
 pub use places::{above_key, place_key, range_key};
+pub use ranges::range_end;

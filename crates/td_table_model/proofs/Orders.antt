@@ -1,6 +1,6 @@
 -- Rows brought in order of a number: whatever order they were given in, the outcome is one.
 use Rattle.std.proofs.Common.{◌≡◌, ◌≢◌, ℕ, suc, ◌+◌, ◌<◌, ◌≤◌, Bool, true, false, cond, List, [], ◌∷◌, length, map, Some, None, refl, sym, subst, ◌∙◌, ap, arith, IsPermutation}
-use Rattle.std.specs.Prelude.{◌==◌, nat_lt, slice_index_or, if◌then◌else◌}
+use Rattle.std.specs.Prelude.{◌==◌, filter, nat_lt, slice_index_or, if◌then◌else◌}
 use Rattle.std.specs.List.{AllByRecursion}
 use Rattle.std.proofs.lemmas.Bool.Decides.{nat_tests}
 use Rattle.std.proofs.lemmas.List.Sorted.{IsPermutation-refl, IsPermutation-cons, IsPermutation-middle, IsPermutation-sym, IsPermutation-trans, length_permutation}
@@ -9,7 +9,7 @@ use Rattle.std.specs.Ordering.{is_lt, nat_cmp}
 use Rattle.sqlite_trees.proofs.ListLemmas.{all_weaker, all_both, along_permutation, IsPermutation-filter}
 use Rattle.keyed_rows.specs.Rows.{row_at, Rises, put_row}
 use Rattle.keyed_rows.proofs.Putting.{Rises-put_row, row_at-put_row_same, row_at-put_row_other}
-use Rattle.td_table_model.specs.Gathering.{IsApart, in_order, of_key}
+use Rattle.td_table_model.specs.Gathering.{IsApart, IsNumbered, in_order, of_key}
 
 module _ {R : Type 0} (key : R → ℕ) where
   -- rows in order rise
@@ -172,6 +172,20 @@ module _ {R : Type 0} (key : R → ℕ) where
   pub rises_lower : (low high : ℕ) (rows : List R) → low ≤ high → Rises key high rows → Rises key low rows
   rises_lower low high [] most rise = tt
   rises_lower low high (r ∷ rows) most rise = (omega (arith, most, rise.0), rise.1)
+
+  -- numbered rows rise
+  pub numbered_rise : (n : ℕ) (rows : List R) → IsNumbered key n rows → Rises key (n + 1) rows
+  numbered_rise n [] is = tt
+  numbered_rise n (r ∷ rows) is = (omega (arith, is.0), subst (λ k. Rises key (k + 1) rows) (sym is.0) (numbered_rise (n + 1) rows is.1))
+
+  -- so do those of rising rows that pass
+  pub rises-filter : (p : R → Bool) (low : ℕ) (rows : List R) → Rises key low rows → Rises key low (filter p rows)
+  rises-filter p low [] rise = tt
+  rises-filter p low (r ∷ rows) rise = by_test (p r) (rises-filter p (key r + 1) rows rise.1)
+    where
+      by_test : (b : Bool) → Rises key (key r + 1) (filter p rows) → Rises key low (cond b (r ∷ filter p rows) (filter p rows))
+      by_test true later = (rise.0, later)
+      by_test false later = rises_lower low (key r + 1) (filter p rows) (omega (arith, rise.0)) later
 
 -- what is made of elements rises where they do
 pub rises-map : {X R : Type 0} (f : X → R) (key : R → ℕ) (low : ℕ) (xs : List X) → Rises (λ x. key (f x)) low xs → Rises key low (map f xs)

@@ -108,7 +108,7 @@ fn lines(rt: &(impl AllocGlobal + Abort)) -> Lines {
 fn each_need_is_loaded_of_its_owner(rt: HostRuntime) {
     let lines = lines(&rt);
     let (lrn, mrn, grn) = (lrn(&rt, b"A2"), mrn(&rt, OLDER_MRN), grn(&rt, GRN));
-    let rows: [(Needs<'_>, &str, &str); 7] = [
+    let rows: [(Needs<'_>, &str, &str); 8] = [
         (Needs::Nothing, "", ""),
         (
             Needs::Lodging(lrn, &lines),
@@ -116,15 +116,16 @@ fn each_need_is_loaded_of_its_owner(rt: HostRuntime) {
             "",
         ),
         (Needs::Movement(mrn), "25CH00000100000013 2 ", ""),
+        (Needs::Status(mrn), "25CH00000100000013 0 ", ""),
         (
             Needs::Release(mrn),
-            "25CH00000100000013 2 25CH0000010000014 2 4.00 25CH0000010000023 1 200.00 ",
+            "25CH00000100000013 2 25CH0000010000014 0 4.00 25CH0000010000023 0 200.00 ",
             "",
         ),
         (
             Needs::AllMovements,
-            "25CH00000100000013 2 25CH00000100000021 1 25CH00000100000030 1 ",
-            "25CH00000200000019 1 25CH00000200000027 1 ",
+            "25CH00000100000013 0 25CH00000100000021 0 25CH00000100000030 0 ",
+            "25CH00000200000019 0 25CH00000200000027 0 ",
         ),
         (Needs::Guarantee(grn), "25CH0000010000014 2 4.00 ", ""),
         (

@@ -1,5 +1,5 @@
 //! Connections in memory.
-use super::{Connection, Still, THREE, assert_told, new_service};
+use super::{Connection, IS_CUT, REGISTERS, Still, THREE, assert_told, new_service};
 use std::alloc::Global;
 use std::io;
 use std::io::ErrorKind;
@@ -9,6 +9,7 @@ use td_http::{
     Connections, acknowledged_connections_are_kept, agreeing_connections_tell_the_same,
     serve_connections,
 };
+use td_split_jobs::serve_share;
 
 /// Gives these connections and then fails, and keeps what was written to each.
 #[derive(Drop)]
@@ -102,6 +103,46 @@ fn no_more_connections_are_served_than_were_asked_for(rt: HostRuntime) {
 #[test]
 fn a_failed_accept_is_told_after_the_connections_before_it(rt: HostRuntime) {
     assert_ends(&rt, 5, Some(ErrorKind::ConnectionAborted), 3);
+}
+
+/// What is asked of the desk of holder 000001, and what is told: what one desk for all tells. Then of the desk of 000002.
+const OF_TWO_DESKS: [[Connection; 2]; 2] = [
+    [
+        REGISTERS,
+        (
+            b"GET /holders/000001 HTTP/1.1\r\n\r\n",
+            b"HTTP/1.1 200 OK\r\nContent-Type: application/json\r\nContent-Length: 67\r\n\r\n{\"eori\":\"CH1234567\",\"guarantees\":0,\"holder\":\"000001\",\"movements\":0}",
+        ),
+    ],
+    [
+        IS_CUT,
+        (
+            b"GET /holders/000002 HTTP/1.1\r\n\r\n",
+            b"HTTP/1.1 200 OK\r\nContent-Type: application/json\r\nContent-Length: 67\r\n\r\n{\"eori\":\"DE7654321\",\"guarantees\":0,\"holder\":\"000002\",\"movements\":0}",
+        ),
+    ],
+];
+
+/// A new desk serves these connections, and tells what is due to each.
+fn assert_share(rt: &(impl AllocGlobal + Abort), share: &[Connection]) {
+    let mut table = Table {
+        alloc: rt.alloc(),
+        left: share,
+        told: Vec::new(rt.alloc()),
+    };
+    let mut service = new_service(rt);
+    let served = serve_share(rt.alloc(), &mut table, 2, &mut Still, &mut service);
+    assert!(rt; served.is_ok() && table.told.len() == 2);
+    for (told, (_, due)) in table.told.iter().zip(share) {
+        assert_told(rt, told, due);
+    }
+}
+
+#[test]
+fn two_desks_tell_what_one_desk_tells(rt: HostRuntime) {
+    for share in &OF_TWO_DESKS {
+        assert_share(&rt, share);
+    }
 }
 
 // There is nothing to run: the laws hold at these types.

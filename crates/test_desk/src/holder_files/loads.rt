@@ -11,7 +11,8 @@ use td_movement::{Movement, State};
 
 fn push_movements(words: &mut String, movements: &[Movement]) -> Result<(), AllocError> {
     for movement in movements {
-        write!(words, "{} ", movement.mrn)?;
+        let lines = movement.lines.as_slice().len();
+        write!(words, "{} {lines} ", movement.mrn)?;
     }
     Ok(())
 }
@@ -26,7 +27,7 @@ fn push_guarantees(
     Ok(())
 }
 
-// The references of what was loaded, and the amounts in use.
+// The references of what was loaded, how many lines there are, and the amounts in use.
 fn words_of(rt: &(impl AllocGlobal + Abort), loaded: &Loaded) -> String {
     let mut words = String::new(rt.alloc());
     push_movements(&mut words, &loaded.movements).expect(rt, "memory");
@@ -61,16 +62,17 @@ fn rows_are_loaded_by_needs(rt: HostRuntime) {
     let file = file_in_use(&rt);
     let mrn = mrn(&rt, SECOND_MRN);
     let grn = grn(&rt, GRN);
-    let rows: [(Needs<'_>, &str); 6] = [
+    let rows: [(Needs<'_>, &str); 7] = [
         (Needs::Nothing, ""),
-        (Needs::Movement(mrn), "25CH000001000002J7 "),
+        (Needs::Movement(mrn), "25CH000001000002J7 1 "),
+        (Needs::Status(mrn), "25CH000001000002J7 0 "),
         (
             Needs::Release(mrn),
-            "25CH000001000002J7 25CH0000010000014 5.00 ",
+            "25CH000001000002J7 1 25CH0000010000014 5.00 ",
         ),
         (
             Needs::AllMovements,
-            "25CH000001000001J8 25CH000001000002J7 ",
+            "25CH000001000001J8 0 25CH000001000002J7 0 ",
         ),
         (Needs::Guarantee(grn), "25CH0000010000014 5.00 "),
         (

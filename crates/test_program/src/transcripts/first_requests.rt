@@ -4,7 +4,7 @@ use std::test::Fail;
 
 const CASES: &[u8] = br#"
 == the first requests
-# Those of examples/first.http.
+# A registration, and a view of the holder.
 $ pipe --country CH --at 1740819600
 > PUT /office/holders/000001 {"eori":"CH1234567"}
 < 200 {"eori":"CH1234567","guarantees":0,"holder":"000001","movements":0}

@@ -12,7 +12,7 @@ use Rattle.td_acts.specs.Deciding.{IsVerdictAt}
 use Rattle.td_model.specs.Table.{listed, or_refuse}
 use Rattle.td_model.specs.declared.holder_row.HolderRow.{HolderRow}
 use Rattle.td_acts.specs.declared.rows.Verdict.{Verdict}
-use Rattle.td_acts.proofs.Told.{told_shown, told_view}
+use Rattle.td_acts.proofs.Told.{listed_alike, told_shown, told_view}
 use Rattle.td_acts.proofs.table.decide_at.Goals as goal
 use Rattle.td_acts.proofs.table.decide_at.Goals.{in-Register, in-OpenGuarantee, in-Revoke, in-Ie014, in-Ie029, in-Ie007, in-Ie018, in-Ie045, in-Ie140, in-SeeHolder, in-SeeMovement, in-SeeMovements+in_ok-items-in-SeeMovements, in-SeeGuarantee, in-SeeGuarantees}
 
@@ -45,7 +45,7 @@ returns c = elim c.match-command.branch [
       (λ account loaded. told_view c.args.loaded.now.holder account.holder (λ row. Answered (answer.Movements w.in_ok-items-in-SeeMovements.items.items))
       (λ row. Answered (answer.Movements (map listed account.movements))) w.see_movements-verdict.result
       loaded.holder (ap (λ items. λ (row : HolderRow). Answered (answer.Movements items))
-      (w.in_ok-items-in-SeeMovements.ensures ∙ ap (map listed) (w.deref.ensures.value ∙ loaded.things)))
+      (w.in_ok-items-in-SeeMovements.ensures ∙ ap (map listed) (w.deref.ensures.value ∙ loaded.things) ∙ listed_alike account.movements))
       w.see_movements-verdict.ensures.said w.see_movements-verdict.ensures.change)
   | in-SeeGuarantee w ↦ as_is _ w.in-SeeGuarantee.is _ w.verdict-is
       (λ account loaded. told_shown account c.args.loaded.now.holder w.take_entry-found.result c.args.at w.in-SeeGuarantee.holder w.in-SeeGuarantee.grn w.see_guarantee-verdict.result

@@ -15,10 +15,10 @@ use Rattle.td_store_rows.specs.KeptTable.{kept_row_of}
 use Rattle.td_store_rows.specs.StoreReads.{KeepsUse}
 use Rattle.td_store_rows.specs.StoreTables.{tables_in}
 use Rattle.td_store_audit.specs.InFile.{AreTypedApart, IsRowKept}
-use Rattle.td_store_audit.specs.Ranges.{rows_below, rows_between}
+use Rattle.td_store_rows.specs.Ranges.{rows_below, rows_between}
 use Rattle.td_store_audit.proofs.HandedOn.{AreKeptOfRange, all_kept, kept_of_range, range_kept}
 use Rattle.td_store_audit.proofs.Reading.{so_before}
-use Rattle.td_store_audit.proofs.RowRanges.{all_at_first, all_more, mine_rise}
+use Rattle.td_store_rows.proofs.RowRanges.{all_at_first, all_more, mine_rise}
 use Rattle.td_store_audit.proofs.amounts.is_holder_kept.Goals as goal
 
 pub parts-init : goal.parts-init

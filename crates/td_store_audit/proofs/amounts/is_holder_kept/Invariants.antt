@@ -6,7 +6,7 @@ use Rattle.td_table_model.specs.Gathering.{in_order, part, place}
 use Rattle.td_store_rows.specs.StoreReads.{KeepsUse, ReadsKept}
 use Rattle.td_store_rows.specs.StoreTables.{tables_in}
 use Rattle.td_store_audit.specs.InFile.{IsRowKept, IsSoWhere}
-use Rattle.td_store_audit.specs.Ranges.{rows_below}
+use Rattle.td_store_rows.specs.Ranges.{rows_below}
 use Rattle.td_store_audit.specs.Tallies.{IsHandedOn}
 use Rattle.td_store_audit.proofs.amounts.is_holder_kept.Given as goal
 

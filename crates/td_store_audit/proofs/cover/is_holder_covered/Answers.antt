@@ -13,11 +13,11 @@ use Rattle.td_store_rows.specs.GuaranteeTable.{guarantee_row_of}
 use Rattle.td_store_rows.specs.StoreReads.{IsOfVersion}
 use Rattle.td_store_rows.specs.StoreTables.{tables_in}
 use Rattle.td_store_audit.specs.InFile.{AreTypedApart, IsRowCovered}
-use Rattle.td_store_audit.specs.Ranges.{rows_below, rows_between}
+use Rattle.td_store_rows.specs.Ranges.{rows_below, rows_between}
 use Rattle.td_store_audit.proofs.GuaranteesKept.{AreRowsOfRange, rows_of_range}
 use Rattle.td_store_audit.proofs.HandedOn.{all_of_them, range_covered}
 use Rattle.td_store_audit.proofs.Reading.{so_before}
-use Rattle.td_store_audit.proofs.RowRanges.{all_at_first, all_more, mine_rise}
+use Rattle.td_store_rows.proofs.RowRanges.{all_at_first, all_more, mine_rise}
 use Rattle.td_store_audit.proofs.cover.is_holder_covered.Goals as goal
 
 pub parts-init : goal.parts-init

@@ -6,7 +6,7 @@ use Rattle.td_table_model.specs.Gathering.{guarantees_by}
 use Rattle.td_store_rows.specs.StoreReads.{IsOfVersion, ReadsVersion}
 use Rattle.td_store_rows.specs.StoreTables.{tables_in}
 use Rattle.td_store_audit.specs.InFile.{IsRowCovered, IsSoWhere}
-use Rattle.td_store_audit.specs.Ranges.{rows_below}
+use Rattle.td_store_rows.specs.Ranges.{rows_below}
 use Rattle.td_store_audit.specs.Tallies.{IsHandedOn}
 use Rattle.td_store_audit.proofs.cover.is_holder_covered.Given as goal
 

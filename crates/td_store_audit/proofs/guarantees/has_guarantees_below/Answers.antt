@@ -13,7 +13,7 @@ use Rattle.td_store_rows.specs.StoreReads.{IsOfVersion}
 use Rattle.td_store_rows.specs.StoreTables.{tables_in}
 use Rattle.td_store_audit_rows.specs.InPlace.{IsGuaranteeInPlace}
 use Rattle.td_store_audit.specs.InFile.{AreTypedApart}
-use Rattle.td_store_audit.specs.Ranges.{rows_between}
+use Rattle.td_store_rows.specs.Ranges.{rows_between}
 use Rattle.td_store_audit.proofs.GuaranteesKept.{AreRowsOfRange, range_tells, rows_more, rows_none, rows_of_range}
 use Rattle.td_store_audit.proofs.Reading.{so_before}
 use Rattle.td_store_audit.proofs.RowRanges.{next_joined}

@@ -16,7 +16,7 @@ use Rattle.td_store_rows.specs.StoreReads.{IsAny}
 use Rattle.td_store_rows.specs.StoreTables.{tables_in}
 use Rattle.td_store_audit_rows.specs.InPlace.{IsMovementInPlace}
 use Rattle.td_store_audit.specs.InFile.{AreTypedApart}
-use Rattle.td_store_audit.specs.Ranges.{rows_between}
+use Rattle.td_store_rows.specs.Ranges.{rows_between}
 use Rattle.td_store_audit.specs.Tallies.{is_counting_row}
 use Rattle.td_store_audit.proofs.MovementsKept.{AreRowsOfRange, range_tells, rows_more, rows_none, rows_of_range}
 use Rattle.td_store_audit.proofs.Reading.{so_before}

@@ -23,6 +23,11 @@ returns-in-Movement-clause-loaded g c clean =
     let old : State = state g.S.Store c.args.tx.now.conn.now in
     subst (λ needs. IfOk c.load_movement.result (IsLoadedFor c.args.country c.args.row (need_said needs) old)) (sym c.in-Movement.is) (c.load_movement.ensures.loaded clean)
 
+pub returns-in-Status-clause-loaded : goal.returns-in-Status-clause-loaded
+returns-in-Status-clause-loaded g c clean =
+    let old : State = state g.S.Store c.args.tx.now.conn.now in
+    subst (λ needs. IfOk c.load_status.result (IsLoadedFor c.args.country c.args.row (need_said needs) old)) (sym c.in-Status.is) (c.load_status.ensures.loaded clean)
+
 pub returns-in-Release-clause-loaded : goal.returns-in-Release-clause-loaded
 returns-in-Release-clause-loaded g c clean =
     let old : State = state g.S.Store c.args.tx.now.conn.now in

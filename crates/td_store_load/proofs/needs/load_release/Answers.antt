@@ -4,10 +4,11 @@ use Rattle.sqlite.specs.Held.{state}
 use Rattle.sqlite.specs.State.{State, HasCleanDisk}
 use Rattle.td_movement.specs.declared.movement.Movement.{Movement}
 use Rattle.td_acts.specs.declared.rows.Loaded.{Loaded}
-use Rattle.td_model.specs.Account.{Account, entry_in, movement_by_mrn}
+use Rattle.td_model.specs.Account.{Account, movement_by_mrn}
 use Rattle.td_desk.specs.Content.{account_in}
 use Rattle.td_holder_memory.proofs.Loading.{release_looked_up}
 use Rattle.td_store_rows.proofs.StoreReads.{reads_on}
+use Rattle.td_store_load.specs.Needed.{terms_in}
 use Rattle.td_store_load.proofs.Reading.{held_after}
 use Rattle.td_store_load.proofs.needs.load_release.Goals as goal
 
@@ -19,7 +20,7 @@ returns-in_default-clause-loaded g c clean content holds at row =
       country = c.row_alone.ensures.country ∙ sym at;
       holder = c.row_alone.ensures.row ∙ sym row;
       things = release_looked_up account c.row_alone.result c.args.mrn.now (c.row_alone.ensures.movements ∙ ap option_to_list none)
-          (subst (λ (o : Option Movement). IfSome o (λ m. c.row_alone.result.guarantees.items ≡ filter_map (λ l. entry_in account l.grn) m.lines)) none tt);
+          (subst (λ (o : Option Movement). IfSome o (λ m. c.row_alone.result.guarantees.items ≡ filter_map (λ l. terms_in account l.grn) m.lines)) none tt);
     }
 
 pub returns-clause-loaded : goal.returns-clause-loaded
@@ -27,9 +28,9 @@ returns-clause-loaded g c clean content holds at row = record {
   country = sym at;
   holder = sym row;
   things = release_looked_up account loaded c.args.mrn.now (c.in_ok-movements.ensures.items ∙ ap option_to_list some)
-      (subst (λ (o : Option Movement). IfSome o (λ m. c.in_ok-guarantees.guarantees.items ≡ filter_map (λ l. entry_in account l.grn) m.lines)) some
+      (subst (λ (o : Option Movement). IfSome o (λ m. c.in_ok-guarantees.guarantees.items ≡ filter_map (λ l. terms_in account l.grn) m.lines)) some
       (c.in_ok-guarantees.ensures.found clean content (held_after content a b (c.in_ok-found.ensures.reads.still clean_b refl) holds) at
-      ∙ ap (filter_map (λ l. entry_in account l.grn)) c.as_slice.ensures));
+      ∙ ap (filter_map (λ l. terms_in account l.grn)) c.as_slice.ensures));
 }
   where
     a : State
@@ -39,7 +40,7 @@ returns-clause-loaded g c clean content holds at row = record {
     b = state g.S.Store c.load_movement_by_mrn.new.tx.conn.now
 
     clean_b : HasCleanDisk b
-    clean_b = omega (arith, clean, c.load_entries_of.ensures.reads.within.survives.clean)
+    clean_b = omega (arith, clean, c.load_terms_of.ensures.reads.within.survives.clean)
 
     account : Account
     account = account_in c.args.row.holder content

@@ -14,7 +14,7 @@ returns-in-Ok-create-clause-made g c = λ clean.
     record {
       live = (made.live clean).1;
       before = found.now;
-      found = found_there (image_at g.S.Start) found (c.in-Ok.ensures.open was).0 (c.in-Ok.ensures.found was);
+      found = found_there (image_at g.S.Start) found (c.in-Ok.ensures.open was) (c.in-Ok.ensures.found was);
       blank = λ taken. made.taken taken;
       empty = made.empty clean;
       holds = subst (λ x. HoldsContent x desk) (sym (made.empty clean)) (made.made clean);
@@ -30,5 +30,5 @@ returns-in-Err-create-clause-left g c =
     let refused = c.in-Err-create.refused in
     let told = c.in-Err-create.ensures in
     left_as_found (image_at g.S.Start) found _ refused.connection told.crash
-    (λ was. found_there (image_at g.S.Start) found (c.in-Ok.ensures.open was).0 (c.in-Ok.ensures.found was))
+    (λ was. found_there (image_at g.S.Start) found (c.in-Ok.ensures.open was) (c.in-Ok.ensures.found was))
     told.same told.settled _ _ c.turn_away.ensures.handed

@@ -11,7 +11,7 @@ returns-in-Ok-open-clause-kept g c = λ clean.
     let desk = file_state c.in-Ok-open.desk in
     let opened = c.in-Ok-open.ensures in
     let was = clean_before found desk _ opened.crash clean in
-    let is = found_there (image_at g.S.Start) found (c.in-Ok.ensures.open was).0 (c.in-Ok.ensures.found was) in
+    let is = found_there (image_at g.S.Start) found (c.in-Ok.ensures.open was) (c.in-Ok.ensures.found was) in
     record {
       live = (opened.live clean).1;
       found = subst (IsFoundIn (image_at g.S.Start)) (sym (opened.same clean)) is;
@@ -30,7 +30,7 @@ returns-in-Err-open-clause-fault g c =
     (told_of (image_at g.S.Start) c.args.country refused.connection refused.fault (λ neither clean.
     let was = clean_before found left _ told.crash clean in
     let opened = c.in-Ok.ensures.open was in
-    let is = found_there (image_at g.S.Start) found opened.0 (c.in-Ok.ensures.found was) in
+    let is = found_there (image_at g.S.Start) found opened (c.in-Ok.ensures.found was) in
     refused_for (image_at g.S.Start) c.args.country found refused.fault is
     (told.unknown clean) (told.earlier clean) (told.other clean) (told.broken clean) (told.sound clean opened.0.is_open)
     (λ content trees. c.what_a_crash_leaves_opens.ensures c.in-Ok.conn content opened.1 trees) neither))
@@ -42,5 +42,5 @@ returns-in-Err-open-clause-left g c =
     let refused = c.in-Err-open.refused in
     let told = c.in-Err-open.ensures in
     left_as_found (image_at g.S.Start) found _ refused.connection told.crash
-    (λ was. found_there (image_at g.S.Start) found (c.in-Ok.ensures.open was).0 (c.in-Ok.ensures.found was))
+    (λ was. found_there (image_at g.S.Start) found (c.in-Ok.ensures.open was) (c.in-Ok.ensures.found was))
     told.handed told.settled _ _ c.turn_away.ensures.handed

@@ -12,9 +12,9 @@ returns-in-Ok-result g c = (
       let found = file_state c.in-Ok.conn in
       let after = c.in-Ok-result.ensures in
       let was = clean_before found (file_state c.upgrade-result.new.conn) _ after.crash clean in
-      let opened = (c.in-Ok.ensures.open was).0 in
+      let opened = c.in-Ok.ensures.open was in
       shows_upgrade (image_at g.S.Start) found c.upgrade-result.new.conn _ (found_there (image_at g.S.Start) found opened (c.in-Ok.ensures.found was))
-      opened.is_open c.see_settled.ensures.settled (λ whole. (after.shown whole).1) after.told after.left after.crash after.settled clean,
+      opened.0.is_open c.see_settled.ensures.settled (λ whole. (after.shown whole).1) after.told after.left after.crash after.settled clean,
 )
 
 pub returns-in-Err-result : goal.returns-in-Err-result
@@ -28,8 +28,8 @@ returns-in-Err-result g c = inr (
         let found = file_state c.in-Ok.conn in
         let after = c.in-Err-result.ensures in
         let was = clean_before found (file_state c.upgrade-result.new.conn) _ after.crash clean in
-        let opened = (c.in-Ok.ensures.open was).0 in
+        let opened = c.in-Ok.ensures.open was in
         shows_upgrade (image_at g.S.Start) found c.upgrade-result.new.conn _ (found_there (image_at g.S.Start) found opened (c.in-Ok.ensures.found was))
-        opened.is_open c.see_settled.ensures.settled (λ whole. tt) after.told after.left after.crash after.settled clean,
+        opened.0.is_open c.see_settled.ensures.settled (λ whole. tt) after.told after.left after.crash after.settled clean,
   ),
 )

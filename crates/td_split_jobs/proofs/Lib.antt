@@ -1,0 +1,5 @@
+pub mod Contents
+pub mod Places
+pub mod Batches
+pub mod RowLaws
+pub mod RequestLaws

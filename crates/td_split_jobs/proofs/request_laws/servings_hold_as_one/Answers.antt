@@ -1,0 +1,5 @@
+use Rattle.td_split_jobs.proofs.RequestLaws.{servings_hold_as_one}
+use Rattle.td_split_jobs.proofs.request_laws.servings_hold_as_one.Goals as goal
+
+pub returns : goal.returns
+returns g c = servings_hold_as_one c.union_is_one_content.ensures g.D.Desk.seen g.E.Desk.seen

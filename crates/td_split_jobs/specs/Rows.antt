@@ -1,0 +1,77 @@
+-- Rows of a file that are split among desks by holder, and the batches that the desks do of them.
+use Rattle.std.specs.Prelude.{◌≡◌, ℕ, ◌<◌, ◌==◌, ℤ, Bool, List, [], ◌∷◌, map, filter, if◌then◌else◌, IfSome, Option}
+use Rattle.std.specs.List.{AllByRecursion}
+use Rattle.td_commands.specs.declared.command.Command.{Command}
+use Rattle.td_commands.specs.declared.said.Said.{Said}
+use Rattle.td_commands.specs.Commands.{owner_of}
+use Rattle.td_desk.specs.declared.fault.Fault.{Fault}
+use Rattle.td_desk.specs.Content.{IsSound, rows_of}
+use Rattle.td_desk.specs.Runs.{is_holder, failures}
+use Rattle.td_desk.specs.View.{DeskView}
+use Rattle.td_batch.specs.declared.running.BatchRun.{BatchRun}
+use Rattle.td_batch.specs.Laws.{stamped_rows}
+use Rattle.td_batch.specs.Runs.{IsBatchDone, outcomes_of}
+
+-- a row's command, and the number of the desk that it is sent to
+pub record SentRow : Type 0 where
+  pub command : Command
+  pub desk : ℕ
+
+-- the commands of all rows in order, as one desk does them
+abbrev pub all_rows : List SentRow → List Command
+all_rows sent = map (λ s. s.command) sent
+
+-- those of the rows that are sent to desk i, in order
+abbrev pub rows_for : ℕ → List SentRow → List Command
+rows_for i sent = map (λ s. s.command) (filter (λ s. s.desk == i) sent)
+
+-- the number of the desk that each row is sent to
+abbrev pub desks_of : List SentRow → List ℕ
+desks_of sent = map (λ s. s.desk) sent
+
+-- A row is sent to one of so many desks: a holder's to the holder's own, which f says, and one that nobody owns to any.
+abbrev pub IsRowSentTo : List ℕ → (ℕ → ℕ) → ℕ → SentRow → Type 0
+IsRowSentTo country f desks s = (s.desk < desks) × IfSome (owner_of country s.command) (λ H. s.desk ≡ f H)
+
+-- the rows of a result file, each made of its command and of what was said to it
+abbrev pub result_lines : (Command → Said → List ℕ) → List Command → List Said → List (List ℕ)
+result_lines line [] said = []
+result_lines line (row ∷ rows) [] = []
+result_lines line (row ∷ rows) (s ∷ said) = line row s ∷ result_lines line rows said
+
+-- those of H's rows
+abbrev pub own_lines : List ℕ → ℕ → (Command → Said → List ℕ) → List Command → List Said → List (List ℕ)
+own_lines country H line [] said = []
+own_lines country H line (row ∷ rows) [] = []
+own_lines country H line (row ∷ rows) (s ∷ said) =
+    if is_holder H (owner_of country row) then line row s ∷ own_lines country H line rows said
+    else own_lines country H line rows said
+
+-- whether each of H's rows that were tried failed, in order
+abbrev pub failures_in : List ℕ → ℕ → ℤ → List Command → BatchRun → List Said → List Bool
+failures_in country H at rows r said = failures country H (stamped_rows at rows r said) (outcomes_of said r.stopped)
+
+-- A batch was done at a desk of that country, and this was said to its rows. No fault had shut the desk, its content was sound, and
+-- in the end its disk is clean.
+pub record IsBatchAt {D : Type 0} (view : DeskView D) (called : D → Option Fault → D → Type 0)
+    (line : Command → Said → List ℕ) (header : List ℕ) (at : ℤ) (country : List ℕ)
+    (rows : List Command) (r : BatchRun) (said : List Said) (old new : D) : Type 0 where
+  pub country_is : (view.content old).country ≡ country
+  pub live : view.is_live old
+  pub sound : IsSound (view.content old)
+  pub clean : view.is_clean new
+  pub done : IsBatchDone view called line header at rows r old new
+  pub said_is : done.said ≡ said
+
+-- The rows of a file were split among so many desks by f: one desk did all of them, and each of the others those that were sent to
+-- it, all at one moment. In the beginning each of these had the one desk's rows of its own holders.
+pub record IsSplitBatch {D E : Type 0} (view : DeskView D) (called : D → Option Fault → D → Type 0)
+    (other : DeskView E) (other_called : E → Option Fault → E → Type 0)
+    (line : Command → Said → List ℕ) (header : List ℕ) (at : ℤ) (country : List ℕ) (f : ℕ → ℕ) (desks : ℕ) (sent : List SentRow)
+    (r : BatchRun) (runs : ℕ → BatchRun) (said : List Said) (answers : ℕ → List Said) (old new : D) (olds news : ℕ → E) : Type 0 where
+  pub placed : (H : ℕ) → f H < desks
+  pub sent_to : AllByRecursion (IsRowSentTo country f desks) sent
+  pub one : IsBatchAt view called line header at country (all_rows sent) r said old new
+  pub many : (i : ℕ) → i < desks
+      → IsBatchAt other other_called line header at country (rows_for i sent) (runs i) (answers i) (olds i) (news i)
+  pub begun : (H : ℕ) → rows_of H (other.content (olds (f H))) ≡ rows_of H (view.content old)

@@ -1,0 +1,17 @@
+use Rattle.std.proofs.Common.{◌≡◌, take, true}
+use Rattle.std.specs.Prelude.{filter_map}
+use Rattle.sqlite.specs.Held.{state}
+use Rattle.sqlite.specs.State.{HasCleanDisk}
+use Rattle.td_desk.specs.Content.{account_in}
+use Rattle.td_store_rows.specs.StoreReads.{ReadsNewest}
+use Rattle.td_store_load.specs.Loaded.{IsOfContent}
+use Rattle.td_store_load.specs.Needed.{terms_in}
+use Rattle.td_store_load.proofs.entries.load_terms_of.Given as goal
+
+abbrev pub invariant-lines : goal.invariant-lines
+invariant-lines g l =
+    (l.tx.conn.ghost_name ≡ l.initial.tx.conn.ghost_name)
+    × ReadsNewest true (state g.S.Store l.initial.tx.conn.now) (state g.S.Store l.tx.conn.now)
+    × (HasCleanDisk (state g.S.Store l.tx.conn.now)
+    → IsOfContent l.country (λ c. filter_map (λ x. terms_in (account_in l.holder c) x.grn) (take l.line-index l.lines))
+    (state g.S.Store l.initial.tx.conn.now) l.found.items)

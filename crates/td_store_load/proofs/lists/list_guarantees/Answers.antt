@@ -1,0 +1,22 @@
+use Rattle.std.proofs.Common.{◌≡◌, Some, map, subst}
+use Rattle.std.proofs.lemmas.Result.{IfOk-weaker}
+use Rattle.sqlite.specs.Held.{state}
+use Rattle.sqlite.specs.State.{State}
+use Rattle.td_desk.specs.Content.{Content, account_in}
+use Rattle.td_store_rows.specs.Ranges.{rows_below}
+use Rattle.td_store_rows.specs.StoreTables.{HoldsContent}
+use Rattle.td_store_load.specs.Loaded.{IsOfTables}
+use Rattle.td_store_load.specs.Needed.{entry_from, kept_by, with_use}
+use Rattle.td_store_load.proofs.InRanges.{all_kept_listed}
+use Rattle.td_store_load.proofs.lists.list_guarantees.Goals as goal
+
+pub returns-clause-found : goal.returns-clause-found
+returns-clause-found g c clean =
+    let a : State = state g.S.Store c.args.tx.now.conn.now in
+    let row = c.args.row.now in
+    IfOk-weaker c.guarantees_below.result
+    (λ found. IsOfTables (λ t. map (entry_from t) (rows_below c.in-Some.end (kept_by row.holder t))) a found.items)
+    (λ found. (content : Content) → HoldsContent content a → (account_in row.holder content).holder ≡ Some row
+    → found.items ≡ map (with_use (account_in row.holder content)) (account_in row.holder content).guarantees)
+    (λ found is. all_kept_listed row a found.items (subst (λ end. IsOfTables (λ t. map (entry_from t) (rows_below end (kept_by row.holder t))) a found.items) c.in-Some.ensures.1 is))
+    (c.guarantees_below.ensures.found clean)
