@@ -11,12 +11,23 @@ use Rattle.td_cli.specs.AtDesk.{AtDesk}
 
 module _ {S End : Type 0} {disk : Ghosts S} (image : Image) (country : List ℕ) (before file : Option (FileSeen disk)) where
   -- what is done is said by itself where it is said beside something else, which holds without a desk, too
-  pub left_alone : (did : (D : Type 0) → DeskView D → (D → Type 0) → (D → Type 0) → End → Type 0) (beside : Type 0) (records : Records) (end : Result End DeskFault)
-      → AtDesk image country records (λ D view begins ends end. beside × did D view begins ends end) beside before file end
-      → beside × AtDesk image country records did (Unit {0}) before file end
-  left_alone did beside Memory (Ok end) left = (left.0.0, (left.0.1, left.1))
-  left_alone did beside (File path) (Ok end) left = (left.3.0, (left.0, left.1, left.2, left.3.1))
-  left_alone did beside (NewFile path) (Ok end) left = (left.3.0, (left.0, left.1, left.2, left.3.1))
-  left_alone did beside Memory (Err why) left = (left.0, (tt, left.1, left.2))
-  left_alone did beside (File path) (Err why) left = (left.0, (tt, left.1, left.2))
-  left_alone did beside (NewFile path) (Err why) left = (left.0, (tt, left.1, left.2))
+  pub left_alone : (did : (D : Type 0) → DeskView D → D → D → End → Type 0) (beside untouched : Type 0) (records : Records) (end : Result End DeskFault)
+      → AtDesk image country records (λ D view opened left end. beside × did D view opened left end) (beside × untouched) before file end
+      → beside × AtDesk image country records did untouched before file end
+  left_alone did beside untouched Memory (Ok end) at = (at.0.3.0, ((at.0.0, at.0.1, at.0.2, at.0.3.1), at.1))
+  left_alone did beside untouched (File path) (Ok end) at = (at.5.0, (at.0, at.1, at.2, at.3, at.4, at.5.1))
+  left_alone did beside untouched (NewFile path) (Ok end) at = (at.5.0, (at.0, at.1, at.2, at.3, at.4, at.5.1))
+  left_alone did beside untouched Memory (Err why) at = (at.0.0, (at.0.1, at.1, at.2))
+  left_alone did beside untouched (File path) (Err why) at = (at.0.0, (at.0.1, at.1, at.2))
+  left_alone did beside untouched (NewFile path) (Err why) at = (at.0.0, (at.0.1, at.1, at.2))
+
+  -- what is done says something by itself
+  pub left_as : (did said : (D : Type 0) → DeskView D → D → D → End → Type 0) (untouched other : Type 0) (records : Records) (end : Result End DeskFault)
+      → ((D : Type 0) (view : DeskView D) (opened left : D) (end : End) → did D view opened left end → said D view opened left end) → (untouched → other)
+      → AtDesk image country records did untouched before file end → AtDesk image country records said other before file end
+  left_as did said untouched other Memory (Ok end) says also at = ((at.0.0, at.0.1, at.0.2, says _ _ _ _ _ at.0.3), at.1)
+  left_as did said untouched other (File path) (Ok end) says also at = (at.0, at.1, at.2, at.3, at.4, says _ _ _ _ _ at.5)
+  left_as did said untouched other (NewFile path) (Ok end) says also at = (at.0, at.1, at.2, at.3, at.4, says _ _ _ _ _ at.5)
+  left_as did said untouched other Memory (Err why) says also at = (also at.0, at.1, at.2)
+  left_as did said untouched other (File path) (Err why) says also at = (also at.0, at.1, at.2)
+  left_as did said untouched other (NewFile path) (Err why) says also at = (also at.0, at.1, at.2)

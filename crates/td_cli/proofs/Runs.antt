@@ -8,22 +8,14 @@ use Rattle.td_model.specs.Book.{Book}
 use Rattle.td_desk.specs.Content.{Content, IsSound}
 use Rattle.td_desk.specs.Runs.{IsTied}
 use Rattle.td_desk.specs.View.{IsSettled}
-use Rattle.http_wire.specs.Stream.{Exchange, Ending, silence, refusal, to_head, no_memory, IsEnding}
+use Rattle.http_wire.specs.Stream.{Exchange}
 use Rattle.td_http.specs.Private.{IsServedOver, books_over}
 use Rattle.td_http.specs.Serving.{IsServed}
 use Rattle.td_http.proofs.Kept.{Keeps, keeps_first}
 use Rattle.td_http.proofs.Private.{served_both, served_nothing, served_over}
 use Rattle.td_files.specs.Found.{FileSeen, IsClean, content_in, over_file}
-use Rattle.td_jobs.specs.Desks.{IsHeadHandledAt}
 use Rattle.td_cli.specs.Desks.{BeginsIn}
 use Rattle.td_cli.specs.Runs.{GoesOnFrom, IsRun}
-
--- what parts with the rest of a stream leaves the desk as it is
-pub ending_same : {D : Type 0} (old new : D) (rest : List ℕ) (ending : Ending) → IsEnding IsHeadHandledAt old new rest ending → new ≡ old
-ending_same old new rest silence is = is
-ending_same old new rest (refusal e) is = is.0
-ending_same old new rest (to_head target reply) is = is.0.stays
-ending_same old new rest no_memory is = is.0
 
 -- one stream
 pub one_stream : (country : List ℕ) (books : ℕ → Book) (es : List Exchange) (c : Content) → IsServed country books 0 es c → IsServedOver country books (es ∷ []) c

@@ -20,9 +20,16 @@ use Rattle.td_batch.specs.Runs.{has_refusal}
 use Rattle.td_words.specs.declared.words.BatchKind.{BatchKind}
 use Rattle.td_words.specs.declared.words.Records.{Records}
 use Rattle.td_jobs.specs.Batched.{HasDoneRows, rows_in}
-use Rattle.td_jobs.specs.Desks.{IsMoment}
+use Rattle.td_machine.specs.Machine.{Around, HasRead, IsNotRead}
+use Rattle.td_machine.specs.declared.machine.Unread.{Unread}
+use Rattle.td_machine.specs.declared.machine.Unread.TheVariants as unread
 use Rattle.td_cli.specs.AtDesk.{AtDesk}
 use Rattle.td_cli.specs.Statuses.{IsFaultTold, IsTold}
+
+-- the message where a file couldn't be read
+abbrev pub message_of_unread : Unread → List ℕ
+message_of_unread unread.File = codes "transit-desk: file\n"
+message_of_unread unread.NoMemory = codes "transit-desk: no-memory\n"
 
 -- the message where no rows were read
 abbrev pub message_of_batch_fault : BatchFault → List ℕ
@@ -65,24 +72,35 @@ IsBatchTold contents said (Err why) out out_left errors errors_left status =
     (out_left ≡ out) × IsFaultTold said errors errors_left why status
 
 -- Rows were done at a desk whose records stand there, in this country, at this moment or at one of the machine's clock, and what
--- became of them was told; or there was no desk.
-abbrev pub IsBatchAtDesk : {W E S : Type 0} {disk : Ghosts S} → (W → Option (List ℕ)) → (E → Option (List ℕ)) → Image → List ℕ → Option ℤ
-    → Records → BatchKind → List Command → Counted W → Counted W → Counted E → Counted E
-    → Option (FileSeen disk) → Option (FileSeen disk) → ℕ → Type 0
-IsBatchAtDesk contents said image country at records which commands out out_left errors errors_left before file status =
+-- became of them was told; or there was no desk, and the clock wasn't asked.
+abbrev pub IsBatchAtDesk : {M W E S : Type 0} {disk : Ghosts S} → (M → ℤ → M → Type 0) → (W → Option (List ℕ)) → (E → Option (List ℕ)) → Image
+    → List ℕ → Option ℤ → Records → BatchKind → List Command → Counted W → Counted W → Counted E → Counted E
+    → Option (FileSeen disk) → Option (FileSeen disk) → M → M → ℕ → Type 0
+IsBatchAtDesk ticks contents said image country at records which commands out out_left errors errors_left before file machine machine_left status =
     (end : Result BatchRun DeskFault)
     × AtDesk image country records
-    (λ D view begins ends r. HasDoneRows {C = Unit {0}} view begins ends (IsMoment at) which commands tt r) (Unit {0}) before file end
+    (λ D view opened left r. HasDoneRows view opened left ticks at which commands machine machine_left r)
+    (machine_left ≡ machine) before file end
     × IsBatchTold contents said end out out_left errors errors_left status
 
--- A file of rows was done. It couldn't be read, or it isn't wholly rows: then nothing was printed, and the desk's file wasn't opened.
--- Or these bytes were read of it, which are these rows, and they were done at the desk.
-abbrev pub IsBatched : {W E S : Type 0} {disk : Ghosts S} → (W → Option (List ℕ)) → (E → Option (List ℕ)) → Image → List ℕ → Option ℤ
-    → Records → BatchKind → Counted W → Counted W → Counted E → Counted E → Option (FileSeen disk) → Option (FileSeen disk) → ℕ → Type 0
-IsBatched contents said image country at records which out out_left errors errors_left before file status =
-    ((out_left ≡ out) × (file ≡ before) × (status ≡ 1)
-    × (IsTold said errors errors_left (codes "transit-desk: file\n") ⊎ IsTold said errors errors_left (codes "transit-desk: no-memory\n")))
-    ⊎ (((bytes : List ℕ) × (why : BatchFault) × Tells (rows_in which bytes) why
+-- What came of the bytes of a file. They aren't wholly rows: then nothing was printed, the clock wasn't asked, and the desk's file
+-- wasn't opened. Or they are these rows, which were done at the desk.
+abbrev pub AreRowsBatched : {M W E S : Type 0} {disk : Ghosts S} → (M → ℤ → M → Type 0) → (W → Option (List ℕ)) → (E → Option (List ℕ)) → Image
+    → List ℕ → Option ℤ → Records → BatchKind → List ℕ → Counted W → Counted W → Counted E → Counted E
+    → Option (FileSeen disk) → Option (FileSeen disk) → M → M → ℕ → Type 0
+AreRowsBatched ticks contents said image country at records which bytes out out_left errors errors_left before file machine machine_left status =
+    ((why : BatchFault) × Tells (rows_in which bytes) why × (machine_left ≡ machine)
     × (out_left ≡ out) × (file ≡ before) × IsBatchFaultTold said errors errors_left why status)
-    ⊎ ((bytes : List ℕ) × (commands : List Command) × (rows_in which bytes ≡ Ok commands)
-    × IsBatchAtDesk contents said image country at records which commands out out_left errors errors_left before file status))
+    ⊎ ((commands : List Command) × (rows_in which bytes ≡ Ok commands)
+    × IsBatchAtDesk ticks contents said image country at records which commands out out_left errors errors_left before file machine machine_left status)
+
+-- The file of rows at this path was done. It couldn't be read: then nothing was printed, and the desk's file wasn't opened. Or these
+-- are its bytes, and this came of them.
+abbrev pub IsBatched : {M L Reads Writes W E S : Type 0} {disk : Ghosts S} → Around M L Reads Writes → (W → Option (List ℕ)) → (E → Option (List ℕ))
+    → Image → List ℕ → Option ℤ → Records → BatchKind → List ℕ → Counted W → Counted W → Counted E → Counted E
+    → Option (FileSeen disk) → Option (FileSeen disk) → M → M → ℕ → Type 0
+IsBatched {M} around contents said image country at records which csv out out_left errors errors_left before file machine machine_left status =
+    ((why : Unread) × IsNotRead around.known csv machine machine_left why
+    × (out_left ≡ out) × (file ≡ before) × (status ≡ 1) × IsTold said errors errors_left (message_of_unread why))
+    ⊎ ((bytes : List ℕ) × (read : M) × HasRead around.known csv machine bytes read
+    × AreRowsBatched around.ticks contents said image country at records which bytes out out_left errors errors_left before file read machine_left status)

@@ -1,5 +1,5 @@
 -- What the program does with its words, its input and its outputs.
-use Rattle.std.specs.Prelude.{◌≡◌, ◌≢◌, ◌⊎◌, ℕ, ℤ, List, codes, Option, Result, Ok, Err}
+use Rattle.std.specs.Prelude.{◌≡◌, ◌≢◌, ◌⊎◌, ℕ, ℤ, List, codes, string_bytes, Option, Result, Ok, Err}
 use Rattle.std.specs.IoError.{error_kind}
 use Rattle.std.specs.declared.io.Error.{Error}
 use Rattle.std.specs.declared.io.ErrorKind.TheVariants.{OutOfMemory}
@@ -11,6 +11,7 @@ use Rattle.td_files.specs.declared.desks.DeskFault.{DeskFault}
 use Rattle.http_wire.specs.declared.stream.StreamEnd.{StreamEnd}
 use Rattle.td_words.specs.declared.words.Job.{Job}
 use Rattle.td_words.specs.declared.words.Job.TheVariants.{AtDesk, Migrate}
+use Rattle.td_words.specs.declared.words.Listening.{Listening}
 use Rattle.td_words.specs.declared.words.NoJob.{NoJob}
 use Rattle.td_words.specs.declared.words.Records.{Records}
 use Rattle.td_words.specs.declared.words.Records.TheVariants.{File}
@@ -18,9 +19,9 @@ use Rattle.td_words.specs.declared.words.Task.{Task}
 use Rattle.td_words.specs.declared.words.Task.TheVariants.{Serve, Pipe, Batch, Report, Check}
 use Rattle.td_words.specs.Words.{AsksFor, IsNoJob}
 use Rattle.td_jobs.specs.declared.serving.ServingEnd.{ServingEnd}
-use Rattle.td_jobs.specs.Desks.{IsUnserved}
+use Rattle.td_machine.specs.Machine.{Around}
 use Rattle.td_jobs.specs.Jobs.{IsUntouched}
-use Rattle.td_jobs.specs.Listening.{ServesAt}
+use Rattle.td_jobs.specs.Listening.{ServesAs}
 use Rattle.td_jobs.specs.Piped.{IsPipedAt}
 use Rattle.td_cli.specs.AtDesk as desks
 use Rattle.td_cli.specs.Batched.{IsBatched}
@@ -30,23 +31,25 @@ use Rattle.td_cli.specs.Statuses.{IsAnswered, IsEndTold, IsFaultTold, IsPrinted,
 
 -- What a job leaves that serves one stream at a desk whose records stand there, in this country and at this moment or by
 -- the machine's clock: where there was a desk, the stream was served.
-abbrev pub PipesAs : {R W S : Type 0} {disk : Ghosts S} → (R → Option (List ℕ)) → (W → Option (List ℕ)) → Image → List ℕ → Option ℤ
-    → Records → Counted R → Counted R → Counted W → Counted W → Option (FileSeen disk) → Option (FileSeen disk)
-    → Result StreamEnd DeskFault → Type 0
-PipesAs remaining contents image country at records reader reader_left writer writer_left before file end =
+abbrev pub PipesAs : {M R W S : Type 0} {disk : Ghosts S} → (M → ℤ → M → Type 0) → (R → Option (List ℕ)) → (W → Option (List ℕ)) → Image
+    → List ℕ → Option ℤ → Records → Counted R → Counted R → Counted W → Counted W → Option (FileSeen disk) → Option (FileSeen disk)
+    → M → M → Result StreamEnd DeskFault → Type 0
+PipesAs ticks remaining contents image country at records reader reader_left writer writer_left before file machine machine_left end =
     desks.AtDesk image country records
-    (λ D view begins ends end. IsPipedAt view begins ends remaining contents at reader reader_left writer writer_left end)
-    (IsUntouched reader reader_left writer writer_left) before file end
+    (λ D view opened left end.
+    IsPipedAt view opened left remaining contents ticks at reader reader_left writer writer_left machine machine_left end)
+    (IsUntouched reader reader_left writer writer_left machine machine_left) before file end
 
 -- What a serving leaves at a desk whose records stand there, in this country and at this moment or by the machine's clock:
 -- the input isn't read, and where there was a desk, this is said of how the serving ended.
-abbrev pub IsServing : {R W S : Type 0} {disk : Ghosts S} → (W → Option (List ℕ)) → Image → List ℕ → Option ℤ → Records → ℕ → ℕ
-    → Counted R → Counted R → Counted W → Counted W → Option (FileSeen disk) → Option (FileSeen disk)
-    → Result ServingEnd DeskFault → Type 0
-IsServing contents image country at records port connections reader reader_left writer writer_left before file end =
+abbrev pub IsServing : {M L Reads Writes R W S : Type 0} {disk : Ghosts S} → Around M L Reads Writes → (W → Option (List ℕ)) → Image
+    → List ℕ → Option ℤ → Records → Listening → Counted R → Counted R → Counted W → Counted W → Option (FileSeen disk) → Option (FileSeen disk)
+    → M → M → Result ServingEnd DeskFault → Type 0
+IsServing around contents image country at records listening reader reader_left writer writer_left before file machine machine_left end =
     desks.AtDesk image country records
-    (λ D view begins ends end. (reader_left ≡ reader) × ServesAt view begins ends contents at port connections writer writer_left end)
-    (IsUntouched reader reader_left writer writer_left) before file end
+    (λ D view opened left end.
+    (reader_left ≡ reader) × ServesAs view opened left contents around at listening writer writer_left end machine machine_left)
+    (IsUntouched reader reader_left writer writer_left machine machine_left) before file end
 
 -- what was found was told: sound where a desk was opened, or why there was none
 abbrev pub IsCheckTold : {W E : Type 0} → (W → Option (List ℕ)) → (E → Option (List ℕ)) → Result (Unit {0}) DeskFault
@@ -61,50 +64,54 @@ abbrev pub IsChecked : {W E S : Type 0} {disk : Ghosts S} → (W → Option (Lis
     → Counted W → Counted W → Counted E → Counted E → Option (FileSeen disk) → Option (FileSeen disk) → ℕ → Type 0
 IsChecked contents said image country records out out_left errors errors_left before file status =
     (end : Result (Unit {0}) DeskFault)
-    × desks.AtDesk image country records (λ D view begins ends opened. IsUnserved begins ends) (Unit {0}) before file end
+    × desks.AtDesk image country records (λ D view opened left end. left ≡ opened) (Unit {0}) before file end
     × IsCheckTold contents said end out out_left errors errors_left status
 
 -- A task was done, in this country and at this moment or by the machine's clock, and how it ended was told: one stream from the
--- input to the first writer; connections, for which the input isn't read; a file of rows; a report; or a file was tested, of which the image is what it
--- held. The file is what a connection to it shows before the task and after it, if one is there.
-abbrev pub IsTaskDone : {R W E S : Type 0} {disk : Ghosts S} → (R → Option (List ℕ)) → (W → Option (List ℕ)) → (E → Option (List ℕ)) → Image
-    → Task → List ℕ → Option ℤ → Counted R → Counted R → Counted W → Counted W → Counted E → Counted E
-    → Option (FileSeen disk) → Option (FileSeen disk) → ℕ → Type 0
-IsTaskDone remaining contents said image (Pipe records) country at reader reader_left writer writer_left errors errors_left before file status =
+-- input to the first writer; connections, for which the input isn't read; a file of rows; a report; or a file was tested, of which
+-- the image is what it held. The file is what a connection to it shows before the task and after it, if one is there. A report and a
+-- test ask nothing of the machine.
+abbrev pub IsTaskDone : {M L Reads Writes R W E S : Type 0} {disk : Ghosts S} → Around M L Reads Writes → (R → Option (List ℕ))
+    → (W → Option (List ℕ)) → (E → Option (List ℕ)) → Image → Task → List ℕ → Option ℤ → Counted R → Counted R → Counted W → Counted W
+    → Counted E → Counted E → Option (FileSeen disk) → Option (FileSeen disk) → M → M → ℕ → Type 0
+IsTaskDone around remaining contents said image (Pipe records) country at reader reader_left writer writer_left errors errors_left before file machine machine_left status =
     (end : Result StreamEnd DeskFault)
-    × PipesAs remaining contents image country at records reader reader_left writer writer_left before file end
+    × PipesAs around.ticks remaining contents image country at records reader reader_left writer writer_left before file machine machine_left end
     × IsEndTold said errors errors_left end status
-IsTaskDone remaining contents said image (Serve listening records) country at reader reader_left writer writer_left errors errors_left before file status =
+IsTaskDone around remaining contents said image (Serve listening records) country at reader reader_left writer writer_left errors errors_left before file machine machine_left status =
     (end : Result ServingEnd DeskFault)
-    × IsServing contents image country at records listening.port listening.connections reader reader_left writer writer_left before file end
+    × IsServing around contents image country at records listening reader reader_left writer writer_left before file machine machine_left end
     × IsServingTold said errors errors_left end status
-IsTaskDone remaining contents said image (Batch which csv records) country at reader reader_left writer writer_left errors errors_left before file status =
-    (reader_left ≡ reader) × IsBatched contents said image country at (File records) which writer writer_left errors errors_left before file status
-IsTaskDone remaining contents said image (Report kind path) country at reader reader_left writer writer_left errors errors_left before file status =
+IsTaskDone around remaining contents said image (Batch which csv path) country at reader reader_left writer writer_left errors errors_left before file machine machine_left status =
     (reader_left ≡ reader)
+    × IsBatched around contents said image country at (File path) which (string_bytes csv) writer writer_left errors errors_left before file machine machine_left status
+IsTaskDone around remaining contents said image (Report kind path) country at reader reader_left writer writer_left errors errors_left before file machine machine_left status =
+    (reader_left ≡ reader) × (machine_left ≡ machine)
     × IsReportDone contents said image country kind (File path) writer writer_left errors errors_left before file status
-IsTaskDone remaining contents said image (Check path) country at reader reader_left writer writer_left errors errors_left before file status =
-    (reader_left ≡ reader) × IsChecked contents said image country (File path) writer writer_left errors errors_left before file status
+IsTaskDone around remaining contents said image (Check path) country at reader reader_left writer writer_left errors errors_left before file machine machine_left status =
+    (reader_left ≡ reader) × (machine_left ≡ machine)
+    × IsChecked contents said image country (File path) writer writer_left errors errors_left before file status
 
--- A job was done: a task at a desk of an office, or a file was brought to the newest version, for which the input isn't read.
-abbrev pub IsDone : {R W E S : Type 0} {disk : Ghosts S} → (R → Option (List ℕ)) → (W → Option (List ℕ)) → (E → Option (List ℕ)) → Image
-    → Job → Counted R → Counted R → Counted W → Counted W → Counted E → Counted E
-    → Option (FileSeen disk) → Option (FileSeen disk) → ℕ → Type 0
-IsDone remaining contents said image (AtDesk office task) reader reader_left writer writer_left errors errors_left before file status =
-    IsTaskDone remaining contents said image task office.country office.at reader reader_left writer writer_left errors errors_left before file status
-IsDone remaining contents said image (Migrate path) reader reader_left writer writer_left errors errors_left before file status =
-    (reader_left ≡ reader) × IsMigrated contents said image writer writer_left errors errors_left before file status
+-- A job was done: a task at a desk of an office, or a file was brought to the newest version, for which the input isn't read and nothing
+-- is asked of the machine.
+abbrev pub IsDone : {M L Reads Writes R W E S : Type 0} {disk : Ghosts S} → Around M L Reads Writes → (R → Option (List ℕ))
+    → (W → Option (List ℕ)) → (E → Option (List ℕ)) → Image → Job → Counted R → Counted R → Counted W → Counted W → Counted E → Counted E
+    → Option (FileSeen disk) → Option (FileSeen disk) → M → M → ℕ → Type 0
+IsDone around remaining contents said image (AtDesk office task) reader reader_left writer writer_left errors errors_left before file machine machine_left status =
+    IsTaskDone around remaining contents said image task office.country office.at reader reader_left writer writer_left errors errors_left before file machine machine_left status
+IsDone around remaining contents said image (Migrate path) reader reader_left writer writer_left errors errors_left before file machine machine_left status =
+    (reader_left ≡ reader) × (machine_left ≡ machine) × IsMigrated contents said image writer writer_left errors errors_left before file status
 
--- The words ask for a job, which was done. Or they were given none, for want of memory, or
--- since they ask for help, or for no task at all: then nothing was read, no file was opened, and they were answered. The image is
--- what the file held that the words name, if they name one.
-abbrev pub IsPerformed : {R W E S : Type 0} {disk : Ghosts S} → (R → Option (List ℕ)) → (W → Option (List ℕ)) → (E → Option (List ℕ)) → Image
-    → List (List ℕ) → Counted R → Counted R → Counted W → Counted W → Counted E → Counted E
-    → Option (FileSeen disk) → Option (FileSeen disk) → ℕ → Type 0
-IsPerformed remaining contents said image words reader reader_left writer writer_left errors errors_left before file status =
+-- The words ask for a job, which was done in the machine. Or they were given none, for want of memory, or
+-- since they ask for help, or for no task at all: then nothing was read, no file was opened, nothing was asked of the machine, and they
+-- were answered. The image is what the file held that the words name, if they name one.
+abbrev pub IsPerformed : {M L Reads Writes R W E S : Type 0} {disk : Ghosts S} → Around M L Reads Writes → (R → Option (List ℕ))
+    → (W → Option (List ℕ)) → (E → Option (List ℕ)) → Image → List (List ℕ) → Counted R → Counted R → Counted W → Counted W
+    → Counted E → Counted E → Option (FileSeen disk) → Option (FileSeen disk) → M → M → ℕ → Type 0
+IsPerformed around remaining contents said image words reader reader_left writer writer_left errors errors_left before file machine machine_left status =
     ((job : Job) × AsksFor words job
-    × IsDone remaining contents said image job reader reader_left writer writer_left errors errors_left before file status)
-    ⊎ ((no_job : NoJob) × IsNoJob words no_job × (reader_left ≡ reader) × (file ≡ before)
+    × IsDone around remaining contents said image job reader reader_left writer writer_left errors errors_left before file machine machine_left status)
+    ⊎ ((no_job : NoJob) × IsNoJob words no_job × (reader_left ≡ reader) × (file ≡ before) × (machine_left ≡ machine)
     × IsAnswered contents said writer writer_left errors errors_left no_job status)
 
 -- Words that couldn't be read: there was no memory for them, or they aren't text, and the error's kind says which.

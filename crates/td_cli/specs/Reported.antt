@@ -25,14 +25,10 @@ abbrev pub report_text : ReportKind → Content → List ℕ
 report_text (Overdue day) c = overdue_text day (movements_listed c)
 report_text Guarantees c = guarantees_text (guarantees_listed c)
 
--- A desk that is seen so, and began and ended so, was reported on, and left as it was. What was written is the text of its content, or
--- where a fault ended the report the beginning of that.
-pub record HasReported {D W : Type 0} (view : DeskView D) (begins ends : D → Type 0) (contents : W → Option (List ℕ))
+-- A desk that is seen so was reported on, and left as it was. What was written is the text of its content, or where a fault ended the
+-- report the beginning of that.
+pub record HasReported {D W : Type 0} (view : DeskView D) (opened left : D) (contents : W → Option (List ℕ))
     (kind : ReportKind) (out out_left : Counted W) (end : Result (Unit {0}) ReportFault) : Type 0 where
-  pub opened : D
-  pub left : D
-  pub begun : begins opened
-  pub ended : ends left
   pub looked : HasLooked view (is_ok end) opened left
   pub written : view.is_clean left → view.is_live opened
       → IsReported contents out out_left (report_text kind (view.content opened)) end
@@ -58,6 +54,6 @@ abbrev pub IsReportDone : {W E S : Type 0} {disk : Ghosts S} → (W → Option (
     → ReportKind → Records → Counted W → Counted W → Counted E → Counted E → Option (FileSeen disk) → Option (FileSeen disk) → ℕ → Type 0
 IsReportDone contents said image country kind records out out_left errors errors_left before file status =
     (end : Result (Result (Unit {0}) ReportFault) DeskFault)
-    × AtDesk image country records (λ D view begins ends end. HasReported view begins ends contents kind out out_left end) (out_left ≡ out)
+    × AtDesk image country records (λ D view opened left end. HasReported view opened left contents kind out out_left end) (out_left ≡ out)
     before file end
     × IsReportTold said errors errors_left end status

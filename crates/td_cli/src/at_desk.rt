@@ -1,9 +1,8 @@
-//! One way to a desk for every job: its records stand in memory, in a file or in a new file, and its requests come at one
-//! moment or by the machine's clock.
+//! One way to a desk for every job: its records stand in memory, in a file or in a new file.
 ghost use Rattle.std.specs.Prelude.{◌≡◌, Some};
 ghost use Rattle.sqlite.specs.WalFiles.{image_at};
 ghost use Rattle.td_files.specs.Found.{IsKeptDesk, over_file};
-ghost use Rattle.td_jobs.specs.Desks.{IsMoment, IsReady};
+ghost use Rattle.td_jobs.specs.Desks.{IsReady};
 ghost use Rattle.td_jobs.specs.Jobs.{IsUntouched};
 ghost use Rattle.td_cli.specs.AtDesk.{AtDesk};
 
@@ -11,13 +10,15 @@ use sqlite::Start;
 use std::io::{Read, Write};
 use td_base::Counted;
 use td_files::{DeskFault, DeskFile, FileDesk, OpenFault};
-use td_jobs::{DeskJob, at_moment, in_memory};
+use td_jobs::{DeskJob, in_memory};
+use td_machine::{Machine, Surroundings};
 use td_words::{Office, Records};
 
 /// Does a job at a desk of the office whose records stand there, and answers how it ended. An error: why there was no
 /// desk.
-pub(crate) fn at_desk<S: Start, R: Read, W: Write, J: DeskJob>(
+pub(crate) fn at_desk<M: Machine, S: Start, R: Read, W: Write, J: DeskJob>(
     rt: &HostRuntime,
+    machine: &mut M,
     office: Office,
     records: &Records,
     file: &mut DeskFile<S>,
@@ -26,29 +27,30 @@ pub(crate) fn at_desk<S: Start, R: Read, W: Write, J: DeskJob>(
     out: &mut Counted<W>,
 ) -> Result<J::End, DeskFault>
     ensures { AtDesk (image_at S.Start) office.country records.now
-        (λ D view begins ends end. J.does D _ _ _ view begins ends R.remaining W.contents (IsMoment office.at) job.now
-        input.old input.new out.old out.new tt end)
-        (IsUntouched input.old input.new out.old out.new) file.old.connection file.new.connection result }
+        (λ D view opened left end. J.does D _ _ _ _ _ _ view opened left R.remaining W.contents ⟦<M as Surroundings>⟧.around office.at job.now
+        input.old input.new out.old out.new machine.old machine.new end)
+        (IsUntouched input.old input.new out.old out.new machine.old machine.new) file.old.connection file.new.connection result }
 {
     match records {
-        Records::Memory => match in_memory(rt, office, job, input, out) {
+        Records::Memory => match in_memory(rt.alloc(), machine, office, job, input, out) {
             Ok(end) => Ok(end),
             Err(_) => Err(DeskFault::Refused(OpenFault::NoMemory)),
         },
         Records::File(path) => {
             let desk = file.open_desk(rt, office.country, path)?;
-            Ok(over_file(rt, desk, office.at, file, job, input, out))
+            Ok(over_file(rt, machine, desk, office.at, file, job, input, out))
         }
         Records::NewFile(path) => {
             let desk = file.make_desk(rt, office.country, path)?;
-            Ok(over_file(rt, desk, office.at, file, job, input, out))
+            Ok(over_file(rt, machine, desk, office.at, file, job, input, out))
         }
     }
 }
 
 // At a desk over a file, whose connection is handed back.
-fn over_file<S: Start, R: Read, W: Write, J: DeskJob>(
+fn over_file<M: Machine, S: Start, R: Read, W: Write, J: DeskJob>(
     rt: &HostRuntime,
+    machine: &mut M,
     desk: FileDesk<S>,
     at: Option<i64>,
     file: &mut DeskFile<S>,
@@ -56,11 +58,11 @@ fn over_file<S: Start, R: Read, W: Write, J: DeskJob>(
     input: &mut Counted<R>,
     out: &mut Counted<W>,
 ) -> J::End
-    ensures { IsReady over_file desk → (s : _) × (file.new.connection ≡ Some s) × IsKeptDesk s
-        × J.does _ _ _ _ over_file (λ d. d ≡ desk) (λ d. d ≡ s) R.remaining W.contents (IsMoment at) job.now
-        input.old input.new out.old out.new tt result }
+    ensures { IsReady over_file desk → (left : _) × (file.new.connection ≡ Some left) × IsKeptDesk left
+        × J.does _ _ _ _ _ _ _ over_file desk left R.remaining W.contents ⟦<M as Surroundings>⟧.around at job.now
+        input.old input.new out.old out.new machine.old machine.new result }
 {
-    let (end, desk) = at_moment(rt, desk, at, job, input, out);
+    let (end, desk) = job.on(rt.alloc(), desk, machine, at, input, out);
     file.keep(desk);
     end
 }

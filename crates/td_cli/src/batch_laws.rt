@@ -13,27 +13,29 @@ ghost use Rattle.td_files.specs.Found.{FileSeen, IsClean, over_file};
 ghost use Rattle.td_words.specs.declared.words.BatchKind.{BatchKind};
 ghost use Rattle.td_cli.specs.BatchLaws.{IsAnsweredAfterCrash, IsKeptBetweenRows, TellAlikeByRows, TriedRow, commands_tried, outcomes_tried};
 ghost use Rattle.td_jobs.specs.Batched.{HasDoneRows, header_of, line_of};
-ghost use Rattle.td_jobs.specs.Desks.{BeginAlike, IsMoment, fresh_books};
+ghost use Rattle.td_jobs.specs.Desks.{BeginAlike, fresh_books};
 ghost use Rattle.td_cli.specs.Desks.{BeginsKept};
 ghost use Rattle.td_cli.specs.Runs.{GoesOnFrom, IsRun, OpensAfterCrash};
 
 use sqlite_disk::Disk;
+use td_http::Clock;
 
-/// The headline of batches. Two files of rows that `perform` did at desks over files for one country, of declarations or of acts,
+/// The headline of batches. Two files of rows that `perform_on` did at desks over files for one country, of declarations or of acts,
 /// whose desks began with the same of a holder: that holder is told the same by both, where the rows that were tried agree on the
 /// holder's commands, their moments included, and the same of these failed, and where the files' disks are clean in the end. What
 /// other holders' rows stand in the files of rows, or what else the desks' files held, makes no difference.
 ///
 /// A row of the result file is made of its command and of what was said to it (`result_rows`).
-pub fn agreeing_batches_over_files_tell_the_same<F: Disk, OtherF: Disk>()
-    ensures { (country : List ℕ) (H : ℕ) (which other_which : BatchKind) (at other_at : Option ℤ)
-        (image other_image : Image) (file : FileSeen F.Disk) (other_file : FileSeen OtherF.Disk)
-        (rows other_rows : List Command) (r other_r : BatchRun)
-        → (one : HasDoneRows {C = Unit {0}} over_file (BeginsKept image country) (λ d. d ≡ file) (IsMoment at) which rows tt r)
-        → (other : HasDoneRows {C = Unit {0}} over_file (BeginsKept other_image country) (λ d. d ≡ other_file) (IsMoment other_at)
-        other_which other_rows tt other_r)
-        → IsClean file → IsClean other_file
-        → BeginAlike country H (over_file.content one.opened) (over_file.content other.opened)
+pub fn agreeing_batches_over_files_tell_the_same<C: Clock, F: Disk, OtherC: Clock, OtherF: Disk>()
+    ensures { (country : List ℕ) (H : ℕ) (which other_which : BatchKind) (at other_at : Option ℤ) (image other_image : Image)
+        (opened left : FileSeen F.Disk) (other_opened other_left : FileSeen OtherF.Disk)
+        (rows other_rows : List Command) (clock clock_left : C) (other_clock other_clock_left : OtherC) (r other_r : BatchRun)
+        → BeginsKept image country opened → BeginsKept other_image country other_opened
+        → (one : HasDoneRows over_file opened left C.ticks at which rows clock clock_left r)
+        → (other : HasDoneRows over_file other_opened other_left OtherC.ticks other_at
+        other_which other_rows other_clock other_clock_left other_r)
+        → IsClean left → IsClean other_left
+        → BeginAlike country H (over_file.content opened) (over_file.content other_opened)
         → TellAlikeByRows country H (commands_tried one.moment rows r one.ran) (outcomes_tried one.moment rows r one.ran)
         (commands_tried other.moment other_rows other_r other.ran) (outcomes_tried other.moment other_rows other_r other.ran) }
 {}

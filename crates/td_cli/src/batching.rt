@@ -1,26 +1,27 @@
 //! Batches: a file of rows, done at a desk.
-ghost use Rattle.std.specs.Prelude.{◌≡◌, ◌⊎◌, IfOk, codes, string_bytes};
+ghost use Rattle.std.specs.Prelude.{◌≡◌, IfOk, string_bytes};
 ghost use Rattle.sqlite.specs.WalFiles.{image_at};
 ghost use Rattle.td_jobs.specs.Batched.{commands_of, kind_of};
-ghost use Rattle.td_cli.specs.Batched.{IsBatchAtDesk, IsBatchFaultTold, IsBatchTold, IsBatched, IsRunTold, message_of_batch_fault, message_of_stop};
+ghost use Rattle.td_cli.specs.Batched.{IsBatchAtDesk, IsBatchFaultTold, IsBatchTold, IsBatched, IsRunTold, message_of_batch_fault, message_of_stop, message_of_unread};
 
 use crate::at_desk::at_desk;
 use crate::telling::{DONE, FAULT, NO_MEMORY, fault, tell_desk_fault};
 use sqlite::Start;
 use std::alloc::{AllocError, Global};
-use std::io::{ErrorKind, Read, Write};
-use std::{fs, io};
+use std::io::{Read, Write};
 use td_base::{Counted, write_whole};
 use td_batch::{BatchFault, BatchRun};
 use td_desk::Fault;
 use td_files::{DeskFault, DeskFile};
 use td_jobs::Rows;
+use td_machine::{Machine, Surroundings, Unread};
 use td_words::{BatchKind, Office, Records};
 
-/// Does the rows of the file at the path `csv` at a desk of the office whose records stand there, prints what became of
-/// each, and gives the status. The desk's file isn't opened where the rows can't be read. The input isn't read.
-pub(crate) fn batch<S: Start, R: Read, W: Write, E: Write>(
+/// Does the rows of the machine's file at the path `csv` at a desk of the office whose records stand there, prints what became
+/// of each, and gives the status. The desk's file isn't opened where the rows can't be read. The input isn't read.
+pub(crate) fn batch<M: Machine, S: Start, R: Read, W: Write, E: Write>(
     rt: &HostRuntime,
+    machine: &mut M,
     office: Office,
     kind: BatchKind,
     csv: &str,
@@ -31,26 +32,28 @@ pub(crate) fn batch<S: Start, R: Read, W: Write, E: Write>(
     errors: &mut Counted<E>,
 ) -> u8
     ensures unread { input.new ≡ input.old }
-    ensures done { IsBatched W.contents E.contents (image_at S.Start) office.country office.at records.now kind
-        out.old out.new errors.old errors.new file.old.connection file.new.connection result }
+    ensures done { IsBatched ⟦<M as Surroundings>⟧.around W.contents E.contents (image_at S.Start) office.country office.at records.now kind
+        csv.now out.old out.new errors.old errors.new file.old.connection file.new.connection machine.old machine.new result }
 {
-    let bytes = match fs::read(rt, csv) {
+    let bytes = match machine.read_file(rt.alloc(), csv) {
         Ok(bytes) => bytes,
-        Err(error) => return fault(errors, unread_line(&error)),
+        Err(why) => return fault(errors, unread_line(why)),
     };
     match Rows::read(rt.alloc(), kind, &bytes) {
-        Ok(rows) => do_rows(rt, office, &rows, records, file, input, out, errors),
+        Ok(rows) => do_rows(
+            rt, machine, office, &rows, records, file, input, out, errors,
+        ),
         Err(why) => tell_batch_fault(rt.alloc(), why, errors),
     }
 }
 
 // What is told of a file with rows that can't be read.
-fn unread_line(error: &io::Error) -> &'static str
-    ensures { (result.now ≡ codes "transit-desk: file\n") ⊎ (result.now ≡ codes "transit-desk: no-memory\n") }
+fn unread_line(why: Unread) -> &'static str
+    ensures { result.now ≡ message_of_unread why }
 {
-    match error.kind() {
-        ErrorKind::OutOfMemory => NO_MEMORY,
-        _ => "transit-desk: file\n",
+    match why {
+        Unread::File => "transit-desk: file\n",
+        Unread::NoMemory => NO_MEMORY,
     }
 }
 
@@ -76,8 +79,9 @@ fn tell_batch_fault<E: Write>(alloc: Global, why: BatchFault, errors: &mut Count
 }
 
 // Does the rows at the desk, and tells what became of them.
-fn do_rows<S: Start, R: Read, W: Write, E: Write>(
+fn do_rows<M: Machine, S: Start, R: Read, W: Write, E: Write>(
     rt: &HostRuntime,
+    machine: &mut M,
     office: Office,
     rows: &Rows,
     records: &Records,
@@ -87,10 +91,10 @@ fn do_rows<S: Start, R: Read, W: Write, E: Write>(
     errors: &mut Counted<E>,
 ) -> u8
     ensures unread { input.new ≡ input.old }
-    ensures done { IsBatchAtDesk W.contents E.contents (image_at S.Start) office.country office.at records.now (kind_of rows.now) (commands_of rows.now)
-        out.old out.new errors.old errors.new file.old.connection file.new.connection result }
+    ensures done { IsBatchAtDesk M.ticks W.contents E.contents (image_at S.Start) office.country office.at records.now (kind_of rows.now) (commands_of rows.now)
+        out.old out.new errors.old errors.new file.old.connection file.new.connection machine.old machine.new result }
 {
-    let end = at_desk(rt, office, records, file, rows, input, out);
+    let end = at_desk(rt, machine, office, records, file, rows, input, out);
     tell_batch(rt.alloc(), end, out, errors)
 }
 

@@ -11,11 +11,14 @@ use std::io::{Read, Write};
 use td_base::Counted;
 use td_files::{DeskFault, DeskFile};
 use td_jobs::Checking;
+use td_machine::Machine;
 use td_words::{Office, Records};
 
-/// Tells whether a desk of the office can be opened where the records stand, and gives the status. The input isn't read.
-pub(crate) fn check<S: Start, R: Read, W: Write, E: Write>(
+/// Tells whether a desk of the office can be opened where the records stand, and gives the status. The input isn't read, and
+/// nothing is asked of the machine.
+pub(crate) fn check<M: Machine, S: Start, R: Read, W: Write, E: Write>(
     rt: &HostRuntime,
+    machine: &mut M,
     office: Office,
     records: &Records,
     file: &mut DeskFile<S>,
@@ -24,10 +27,11 @@ pub(crate) fn check<S: Start, R: Read, W: Write, E: Write>(
     errors: &mut Counted<E>,
 ) -> u8
     ensures unread { input.new ≡ input.old }
+    ensures unasked { machine.new ≡ machine.old }
     ensures checked { IsChecked W.contents E.contents (image_at S.Start) office.country records.now out.old out.new errors.old errors.new
         file.old.connection file.new.connection result }
 {
-    let end = at_desk(rt, office, records, file, &Checking, input, out);
+    let end = at_desk(rt, machine, office, records, file, &Checking, input, out);
     tell_check(rt.alloc(), end, out, errors)
 }
 

@@ -1,5 +1,5 @@
 //! The jobs of the program.
-ghost use Rattle.std.specs.Prelude.{◌≡◌, map, string_bytes};
+ghost use Rattle.std.specs.Prelude.{map, string_bytes};
 ghost use Rattle.sqlite.specs.WalFiles.{image_at};
 ghost use Rattle.td_cli.specs.Performed.{IsDone, IsPerformed, IsTaskDone};
 ghost use Rattle.td_cli.specs.Statuses.{IsAnswered};
@@ -15,12 +15,11 @@ use std::io::{Read, Write};
 use td_base::{Counted, write_whole};
 use td_files::DeskFile;
 use td_jobs::Piping;
+use td_machine::{HostMachine, Machine, Surroundings};
 use td_words::{Job, NoJob, Office, Records, Task, read_words};
 
-/// Does what the words ask for, and gives the program's status. The first word is the program's name; replies
-/// go to `out`, and the text of wrong words, or one message for a fault, to `errors`. A text that can't be
-/// written is dropped. The input is read by a job alone. The file is the one that the words name, if they name one: a job
-/// opens it, and hands back a connection to it, which the caller closes.
+/// Does what the words ask for on the machine that the handle stands for, as `perform_on` does, and gives the program's
+/// status.
 pub fn perform<S: Start, R: Read, W: Write, E: Write>(
     rt: &HostRuntime,
     words: &[String],
@@ -29,38 +28,62 @@ pub fn perform<S: Start, R: Read, W: Write, E: Write>(
     out: &mut Counted<W>,
     errors: &mut Counted<E>,
 ) -> u8
-    ensures { IsPerformed R.remaining W.contents E.contents (image_at S.Start) (map string_bytes words.now)
+    ensures { (machine : HostMachine) × (machine_left : HostMachine)
+        × IsPerformed ⟦<HostMachine as Surroundings>⟧.around R.remaining W.contents E.contents (image_at S.Start) (map string_bytes words.now)
         input.old input.new out.old out.new errors.old errors.new
-        file.old.connection file.new.connection result }
+        file.old.connection file.new.connection machine machine_left result }
+{
+    perform_on(rt, &mut HostMachine { rt }, words, file, input, out, errors)
+}
+
+/// Does what the words ask for, and gives the program's status. The first word is the program's name; replies
+/// go to `out`, and the text of wrong words, or one message for a fault, to `errors`. A text that can't be
+/// written is dropped. The input is read by a job alone. Of the machine the clock is asked, a file of rows is read and a port is
+/// listened on. The desk's file is the one that the words name, if they name one: a job opens it, and hands back a connection to
+/// it, which the caller closes.
+pub fn perform_on<M: Machine, S: Start, R: Read, W: Write, E: Write>(
+    rt: &HostRuntime,
+    machine: &mut M,
+    words: &[String],
+    file: &mut DeskFile<S>,
+    input: &mut Counted<R>,
+    out: &mut Counted<W>,
+    errors: &mut Counted<E>,
+) -> u8
+    ensures { IsPerformed ⟦<M as Surroundings>⟧.around R.remaining W.contents E.contents (image_at S.Start) (map string_bytes words.now)
+        input.old input.new out.old out.new errors.old errors.new
+        file.old.connection file.new.connection machine.old machine.new result }
 {
     match read_words(rt.alloc(), words) {
-        Ok(job) => do_job(rt, job, file, input, out, errors),
+        Ok(job) => do_job(rt, machine, job, file, input, out, errors),
         Err(no_job) => tell(&no_job, out, errors),
     }
 }
 
 // Does the job, tells how it ended, and gives the status.
-fn do_job<S: Start, R: Read, W: Write, E: Write>(
+fn do_job<M: Machine, S: Start, R: Read, W: Write, E: Write>(
     rt: &HostRuntime,
+    machine: &mut M,
     job: Job,
     file: &mut DeskFile<S>,
     input: &mut Counted<R>,
     out: &mut Counted<W>,
     errors: &mut Counted<E>,
 ) -> u8
-    ensures { IsDone R.remaining W.contents E.contents (image_at S.Start) job
+    ensures { IsDone ⟦<M as Surroundings>⟧.around R.remaining W.contents E.contents (image_at S.Start) job
         input.old input.new out.old out.new errors.old errors.new
-        file.old.connection file.new.connection result }
+        file.old.connection file.new.connection machine.old machine.new result }
 {
     match job {
-        Job::AtDesk(office, task) => do_task(rt, office, task, file, input, out, errors),
+        Job::AtDesk(office, task) => do_task(rt, machine, office, task, file, input, out, errors),
         Job::Migrate(path) => migrate(rt, &path, file, out, errors),
     }
 }
 
 // Does the task at a desk of the office, tells how it ended, and gives the status.
-fn do_task<S: Start, R: Read, W: Write, E: Write>(
+fn do_task<M: Machine, S: Start, R: Read, W: Write, E: Write>(
     rt: &HostRuntime,
+    machine: &mut M,
     office: Office,
     task: Task,
     file: &mut DeskFile<S>,
@@ -68,27 +91,29 @@ fn do_task<S: Start, R: Read, W: Write, E: Write>(
     out: &mut Counted<W>,
     errors: &mut Counted<E>,
 ) -> u8
-    ensures { IsTaskDone R.remaining W.contents E.contents (image_at S.Start) task office.country office.at
+    ensures { IsTaskDone ⟦<M as Surroundings>⟧.around R.remaining W.contents E.contents (image_at S.Start) task office.country office.at
         input.old input.new out.old out.new errors.old errors.new
-        file.old.connection file.new.connection result }
+        file.old.connection file.new.connection machine.old machine.new result }
 {
     match task {
         Task::Serve(listening, records) => {
-            let end = at_desk(rt, office, &records, file, &listening, input, out);
+            let end = at_desk(rt, machine, office, &records, file, &listening, input, out);
             tell_serving(rt.alloc(), end, errors)
         }
         Task::Pipe(records) => {
-            let end = at_desk(rt, office, &records, file, &Piping, input, out);
+            let end = at_desk(rt, machine, office, &records, file, &Piping, input, out);
             tell_end(rt.alloc(), end, errors)
         }
         Task::Batch(kind, csv, path) => {
             let records = Records::File(path);
-            batch(rt, office, kind, &csv, &records, file, input, out, errors)
+            batch(
+                rt, machine, office, kind, &csv, &records, file, input, out, errors,
+            )
         }
         Task::Report(kind, path) => report(rt, office.country, kind, path, file, out, errors),
         Task::Check(path) => {
             let records = Records::File(path);
-            check(rt, office, &records, file, input, out, errors)
+            check(rt, machine, office, &records, file, input, out, errors)
         }
     }
 }

@@ -18,7 +18,7 @@ pub use batch_laws::{
     a_batch_cut_short_is_sent_again, acknowledged_rows_are_kept_in_the_file,
     agreeing_batches_over_files_tell_the_same, runs_over_one_file_lead_on,
 };
-pub use jobs::perform;
+pub use jobs::{perform, perform_on};
 pub use laws::{
     agreeing_jobs_over_files_tell_the_same, agreeing_jobs_tell_the_same,
     agreeing_servings_over_files_tell_the_same, agreeing_servings_tell_the_same,
@@ -29,4 +29,4 @@ pub use run_laws::{
     runs_over_one_file_are_one_run,
 };
 pub use td_files::DeskFile;
-pub use td_jobs::{FixedClock, MachineClock};
+pub use td_machine::{FixedClock, HostMachine, Machine, MachineClock};

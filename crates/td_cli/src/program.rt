@@ -11,6 +11,7 @@ use std::io::{Read, Write};
 use std::{env, io};
 use td_base::Counted;
 use td_files::DeskFile;
+use td_machine::{HostMachine, Surroundings};
 
 /// The words of the command line, the program's name first. An error: there was no memory for them, or they
 /// aren't UTF-8 text.
@@ -30,9 +31,10 @@ pub fn run_program<S: Start, R: Read, W: Write, E: Write>(
     errors: &mut Counted<E>,
 ) -> u8
     ensures { MatchResult words
-        (λ words. IsPerformed R.remaining W.contents E.contents (image_at S.Start) (map string_bytes words.items)
+        (λ words. (machine : HostMachine) × (machine_left : HostMachine)
+        × IsPerformed ⟦<HostMachine as Surroundings>⟧.around R.remaining W.contents E.contents (image_at S.Start) (map string_bytes words.items)
         input.old input.new out.old out.new errors.old errors.new
-        file.old.connection file.new.connection result)
+        file.old.connection file.new.connection machine machine_left result)
         (λ error. (input.new ≡ input.old) × (out.new ≡ out.old) × (file.new ≡ file.old)
         × IsUnread E.contents error errors.old errors.new result) }
 {

@@ -47,7 +47,7 @@ fn report_on<S: Start, W: Write>(
     out: &mut Counted<W>,
 ) -> Result<Result<(), ReportFault>, DeskFault>
     ensures { AtDesk (image_at S.Start) country (File path)
-        (λ D view begins ends end. HasReported view begins ends W.contents kind out.old out.new end) (out.new ≡ out.old)
+        (λ D view opened left end. HasReported view opened left W.contents kind out.old out.new end) (out.new ≡ out.old)
         file.old.connection file.new.connection result }
 {
     let mut desk = file.open_desk(rt, country, &path)?;

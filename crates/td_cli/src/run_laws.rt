@@ -1,5 +1,5 @@
 //! Laws of runs over a file, one after another, and of what a crash leaves on the way, as contracts of functions that do nothing.
-ghost use Rattle.std.specs.Prelude.{◌≡◌, ℕ, ℤ, Bool, List, [], ◌∷◌, ◌++◌, map, IsTrue, None, Option, Result};
+ghost use Rattle.std.specs.Prelude.{◌≡◌, ℕ, Bool, List, [], ◌∷◌, ◌++◌, map, IsTrue, Result};
 ghost use Rattle.std.specs.declared.io.Error.{Error};
 ghost use Rattle.sqlite.specs.Files.{file_state};
 ghost use Rattle.sqlite_wal.specs.Recovery.{Image};
@@ -8,37 +8,49 @@ ghost use Rattle.http_wire.specs.Stream.{Exchange};
 ghost use Rattle.http_wire.specs.declared.stream.StreamEnd.{StreamEnd};
 ghost use Rattle.td_files.specs.Found.{FileSeen, IsClean, over_file};
 ghost use Rattle.td_http.specs.ConnectionLaws.{TellAlikeOver};
-ghost use Rattle.td_http.specs.Connections.{SocketConnection, beside};
+ghost use Rattle.td_http.specs.Connections.{Connection};
 ghost use Rattle.td_http.specs.Kept.{IsKeptBetween};
 ghost use Rattle.td_http.specs.KeptOver.{IsKeptWithin};
-ghost use Rattle.td_jobs.specs.Desks.{BeginAlike, IsHeadHandledAt, IsMoment, fresh_books};
+ghost use Rattle.td_http.specs.Serving.{IsHeadHandledBy, desk_of};
+ghost use Rattle.td_jobs.specs.Desks.{BeginAlike, fresh_books};
 ghost use Rattle.td_cli.specs.Desks.{BeginsIn};
 ghost use Rattle.td_jobs.specs.Listening.{HasServed};
-ghost use Rattle.td_jobs.specs.Piped.{IsPipedAt};
+ghost use Rattle.td_jobs.specs.Piped.{IsPiped};
 ghost use Rattle.td_cli.specs.Runs.{GoesOnFrom, IsRun};
 
 use sqlite_disk::Disk;
 use std::io::{Read, Write};
+use td_http::Clock;
+use td_machine::{Machine, Surroundings};
 
 /// Runs of the program over one file, one after another, tell each holder what one run tells for the requests of all of them in
 /// order, as an office runs it: a run for each moment, or a restart each night.
 ///
-/// `piped`, `served`: a job of `perform` over a file, whose disk stayed clean and which no fault shut, is a run, of one stream or
+/// `piped`, `served`: a job of `perform_on` over a file, whose disk stayed clean and which no fault shut, is a run, of one stream or
 /// of one for each connection. `joined`: two runs, the second of which opened the file with what the first left, are one run of
 /// the streams of both. `alike`: two such lists of runs, over files that began with the same of a holder, tell that holder the
 /// same bytes where their requests agree on the holder's commands.
-pub fn runs_over_one_file_are_one_run<R: Read, W: Write, F: Disk, OtherF: Disk>()
-    ensures piped { (country : List ℕ) (is_new : Bool) (image : Image) (at : Option ℤ) (file : FileSeen F.Disk)
-        (reader reader_left : Counted R) (writer writer_left : Counted W) (end : StreamEnd)
-        → (one : IsPipedAt over_file (BeginsIn is_new image country) (λ d. d ≡ file) R.remaining W.contents at
-        reader reader_left writer writer_left end)
-        → IsClean file → IsTrue (file_state file).is_open → IsRun country one.opened (one.served.run.exchanges ∷ []) file }
-    ensures served { (country : List ℕ) (is_new : Bool) (image : Image) (at : Option ℤ) (file : FileSeen F.Disk)
-        (port connections : ℕ) (writer writer_left : Counted W) (answer : Result Unit Error)
-        → (one : HasServed {C = Unit {0}} over_file (BeginsIn is_new image country) (λ d. d ≡ file) W.contents (IsMoment at)
-        port connections writer writer_left tt answer)
-        → IsClean file → IsTrue (file_state file).is_open
-        → IsRun country one.opened (map (λ connection. connection.exchanges) one.served.all_served) file }
+pub fn runs_over_one_file_are_one_run<
+    R: Read,
+    W: Write,
+    M: Machine,
+    C: Clock,
+    F: Disk,
+    OtherF: Disk,
+>()
+    ensures piped { (country : List ℕ) (is_new : Bool) (image : Image) (opened left : FileSeen F.Disk)
+        (reader reader_left : Counted R) (writer writer_left : Counted W) (clock clock_left : C) (end : StreamEnd)
+        → BeginsIn is_new image country opened
+        → (one : IsPiped over_file opened left R.remaining W.contents C.ticks
+        reader reader_left writer writer_left clock clock_left end)
+        → IsClean left → IsTrue (file_state left).is_open → IsRun country opened (one.served.run.exchanges ∷ []) left }
+    ensures served { (country : List ℕ) (is_new : Bool) (image : Image) (opened left : FileSeen F.Disk)
+        (connections : ℕ) (came gone : M.Incoming) (clock clock_left : C) (answer : Result Unit Error)
+        → BeginsIn is_new image country opened
+        → (one : HasServed over_file opened left ⟦<M as Surroundings>⟧.around C.ticks
+        connections came gone clock clock_left answer)
+        → IsClean left → IsTrue (file_state left).is_open
+        → IsRun country opened (map (λ connection. connection.exchanges) one.served.all_served) left }
     ensures joined { (country : List ℕ) (opened between next left : FileSeen F.Disk) (streams others : List (List Exchange))
         → IsRun country opened streams between → GoesOnFrom country between next → IsRun country next others left
         → IsRun country opened (streams ++ others) left }
@@ -51,29 +63,31 @@ pub fn runs_over_one_file_are_one_run<R: Read, W: Write, F: Disk, OtherF: Disk>(
 /// What was acknowledged over a file is kept. However the exchanges of a job that served a stream over a file are split in two,
 /// there was a moment between them at which whatever a crash leaves is a desk's file, which the next opening takes: with the
 /// accepted changes of the first part, and at most one more, which was answered by a fixed reply.
-pub fn acknowledged_replies_are_kept_in_the_file<R: Read, W: Write, F: Disk>()
-    ensures { (country : List ℕ) (is_new : Bool) (image : Image) (at : Option ℤ) (file : FileSeen F.Disk)
-        (reader reader_left : Counted R) (writer writer_left : Counted W) (end : StreamEnd) (first others : List Exchange)
-        → (one : IsPipedAt over_file (BeginsIn is_new image country) (λ d. d ≡ file) R.remaining W.contents at
-        reader reader_left writer writer_left end)
-        → IsClean file → one.served.run.exchanges ≡ first ++ others
-        → IsKeptBetween {C = Unit {0}} (IsMoment at) (λ d. d) over_file country (fresh_books (over_file.content one.opened)) first others
-        (tt, one.opened) (one.clock_left, one.served.run.handler) }
+pub fn acknowledged_replies_are_kept_in_the_file<R: Read, W: Write, C: Clock, F: Disk>()
+    ensures { (country : List ℕ) (is_new : Bool) (image : Image) (opened left : FileSeen F.Disk)
+        (reader reader_left : Counted R) (writer writer_left : Counted W) (clock clock_left : C) (end : StreamEnd) (first others : List Exchange)
+        → BeginsIn is_new image country opened
+        → (one : IsPiped over_file opened left R.remaining W.contents C.ticks
+        reader reader_left writer writer_left clock clock_left end)
+        → IsClean left → one.served.run.exchanges ≡ first ++ others
+        → IsKeptBetween C.ticks desk_of over_file country (fresh_books (over_file.content opened)) first others
+        (clock, one.service) (clock_left, one.served.run.handler) }
 {}
 
 /// The same of a serving over a file. Take any of its connections, and any two parts of that one's exchanges, one after the other:
 /// between them there was a moment at which whatever a crash leaves is a desk's file, which the next opening takes: with the
 /// accepted changes of all connections before this one and of the first part, and at most one more, which was answered by a fixed
-/// reply. (What came over the sockets, and what became of the replies, no contract can say.)
-pub fn acknowledged_connections_are_kept_in_the_file<W: Write, F: Disk>()
-    ensures { (country : List ℕ) (is_new : Bool) (image : Image) (at : Option ℤ) (file : FileSeen F.Disk)
-        (port connections : ℕ) (writer writer_left : Counted W) (answer : Result Unit Error)
-        (before : List SocketConnection) (connection : SocketConnection) (after : List SocketConnection)
-        (first others : List Exchange)
-        → (one : HasServed {C = Unit {0}} over_file (BeginsIn is_new image country) (λ d. d ≡ file) W.contents (IsMoment at)
-        port connections writer writer_left tt answer)
-        → IsClean file → one.served.all_served ≡ before ++ connection ∷ after → connection.exchanges ≡ first ++ others
-        → IsKeptWithin (λ _. None) (λ _. None) (λ _ _ _ _. Unit {0}) (λ _ _ _ _. Unit {0}) (IsMoment at) (λ d. d) IsHeadHandledAt
-        over_file country (fresh_books (over_file.content one.opened)) before connection after first others
-        (beside tt one.opened) one.served.last }
+/// reply.
+pub fn acknowledged_connections_are_kept_in_the_file<M: Machine, C: Clock, F: Disk>()
+    ensures { (country : List ℕ) (is_new : Bool) (image : Image) (opened left : FileSeen F.Disk)
+        (connections : ℕ) (came gone : M.Incoming) (clock clock_left : C) (answer : Result Unit Error)
+        (before : List (Connection M.Incoming.Reader M.Incoming.Writer)) (connection : Connection M.Incoming.Reader M.Incoming.Writer)
+        (after : List (Connection M.Incoming.Reader M.Incoming.Writer)) (first others : List Exchange)
+        → BeginsIn is_new image country opened
+        → (one : HasServed over_file opened left ⟦<M as Surroundings>⟧.around C.ticks
+        connections came gone clock clock_left answer)
+        → IsClean left → one.served.all_served ≡ before ++ connection ∷ after → connection.exchanges ≡ first ++ others
+        → IsKeptWithin M.Incoming.Reader.remaining M.Incoming.Writer.contents M.Incoming.gives M.Incoming.takes C.ticks desk_of IsHeadHandledBy
+        over_file country (fresh_books (over_file.content opened)) before connection after first others
+        (record { source = came; clock = clock; handler = one.service }) one.served.last }
 {}

@@ -1,10 +1,10 @@
 -- What is left of connections where nothing is known of their source.
-use Rattle.std.proofs.Common.{◌≡◌, ℕ, ◌<◌, ℤ, List, [], ◌∷◌, length, Option, Result, Ok, Err, ap}
-use Rattle.std.specs.Prelude.{MatchResult}
+use Rattle.std.proofs.Common.{◌≡◌, ℕ, ◌<◌, ℤ, List, [], ◌∷◌, length, Option, Result, Ok, Err, ap, refl}
+use Rattle.std.specs.Prelude.{IsErr, MatchResult}
 use Rattle.std.specs.declared.io.Error.{Error}
 use Rattle.http_wire.specs.declared.reply.Reply.{Reply}
 use Rattle.http_wire.specs.Wire.{Asked}
-use Rattle.td_http.specs.Connections.{Between, Connection, ServedConnections, IsRefused, beside}
+use Rattle.td_http.specs.Connections.{Between, Connection, ServedConnections, ServesConnections, IsRefused, beside}
 
 -- the clock and the handler alone
 abbrev without_source : {L C H : Type 0} → Between L C H → Between (Unit {0}) C H
@@ -46,3 +46,20 @@ pub ended_anyhow : {R W C H L : Type 0} (refuses : L → Error → L → Type 0)
 ended_anyhow refuses all_served last new count (Ok done) ended = (ended.0, ap without_source ended.1)
 ended_anyhow refuses all_served last new count (Err why) ended =
     (ended.0, record { refused = tt; clock = ended.1.clock; handler = ended.1.handler })
+
+-- no connection was served, and there was none to be had: the answer is an error
+pub none_came : {R W C H : Type 0} (remaining : R → Option (List ℕ)) (contents : W → Option (List ℕ)) (ticks : C → ℤ → C → Type 0)
+    (handles : H → ℤ → Asked → Reply → H → Type 0) (heads : H → List ℕ → Reply → H → Type 0) (clock : C) (handler : H)
+    (count : ℕ) (answer : Result Unit Error) → 0 < count → IsErr answer
+    → (served : ServesConnections remaining contents (λ _ _ _ _. Unit {0}) (λ _ _ _ _. Unit {0}) (λ _ _ _. Unit {0}) ticks handles heads
+    (beside clock handler) (beside clock handler) count answer) × (served.all_served ≡ [])
+none_came remaining contents ticks handles heads clock handler count (Ok done) some is_err = absurd is_err
+none_came remaining contents ticks handles heads clock handler count (Err why) some is_err = (
+  record {
+    all_served = [];
+    last = beside clock handler;
+    were_served = refl;
+    ended = (some, record { refused = tt; clock = refl; handler = refl });
+  },
+  refl,
+)

@@ -3,6 +3,7 @@ use crate::waiting::{Waiting, is_idle, wait_a_step};
 use std::io;
 use std::io::{ErrorKind, Read, Write};
 use std::net::{Shutdown, TcpStream};
+use std::rc::Rc;
 use std::time::Duration;
 
 /// The most reads that a connection gets after its stream has ended.
@@ -17,9 +18,9 @@ const LAST_STEPS: u32 = 5;
 /// The side from which requests are read. A read that has waited for the idle limit fails; one that waits for the
 /// request behind a reply fails after a step if another connection has come too, which is kept.
 #[derive(Drop)]
-pub(crate) struct RequestSide<'a> {
+pub struct RequestSide {
     socket: TcpStream,
-    waiting: &'a Waiting<'a>,
+    waiting: Rc<Waiting>,
     /// The most steps that a read waits.
     steps: u32,
     /// The connection that came meanwhile.
@@ -29,28 +30,32 @@ pub(crate) struct RequestSide<'a> {
 /// The side to which replies are written. A write fails once those after the last bytes that came have taken as long
 /// as the idle limit in all.
 #[derive(Drop)]
-pub(crate) struct ReplySide<'a> {
+pub struct ReplySide {
     socket: TcpStream,
-    waiting: &'a Waiting<'a>,
+    waiting: Rc<Waiting>,
 }
 
 /// The two sides of a connection that came. An `Err`: it can't be read and written.
-pub(crate) fn sides<'a>(
+pub(crate) fn sides(
     socket: TcpStream,
-    waiting: &'a Waiting<'a>,
-) -> io::Result<(RequestSide<'a>, ReplySide<'a>)> {
+    waiting: &Rc<Waiting>,
+) -> io::Result<(RequestSide, ReplySide)> {
     wait_a_step(&socket)?;
     waiting.begin();
     let requests = RequestSide {
         socket: socket.try_clone()?,
-        waiting,
+        waiting: Rc::clone(waiting)?,
         steps: waiting.steps(),
         next: None,
     };
-    Ok((requests, ReplySide { socket, waiting }))
+    let replies = ReplySide {
+        socket,
+        waiting: Rc::clone(waiting)?,
+    };
+    Ok((requests, replies))
 }
 
-impl RequestSide<'_> {
+impl RequestSide {
     /// The connection that came while this one was waited for.
     pub(crate) fn take_next(&mut self) -> Option<TcpStream> {
         self.next.take()
@@ -83,7 +88,7 @@ impl RequestSide<'_> {
     }
 }
 
-impl Read for RequestSide<'_> {
+impl Read for RequestSide {
     fn read(&mut self, buf: &mut [u8]) -> io::Result<usize> {
         let began = self.waiting.now();
         let mut read = self.socket.read(buf);
@@ -98,7 +103,7 @@ impl Read for RequestSide<'_> {
     }
 }
 
-impl ReplySide<'_> {
+impl ReplySide {
     ghost use Rattle.std.specs.Io.{WritesAtMost};
 
     /// Tells the peer that nothing more comes.
@@ -117,7 +122,7 @@ impl ReplySide<'_> {
     }
 }
 
-impl Write for ReplySide<'_> {
+impl Write for ReplySide {
     fn write(&mut self, buf: &[u8]) -> io::Result<usize> {
         self.waiting.set_replied(true);
         let mut written = Err(ErrorKind::WouldBlock.into());

@@ -14,9 +14,9 @@ const STEPS_A_SECOND: u32 = 125;
 
 /// A listening socket, and how its connections are waited for.
 #[derive(Drop)]
-pub(crate) struct Waiting<'a> {
+pub(crate) struct Waiting {
     rt: HostRuntime,
-    listener: &'a TcpListener,
+    listener: TcpListener,
     /// Whether an accept waits until a connection has come.
     blocks: Cell<bool>,
     /// Whether replies were written after the last bytes that came.
@@ -27,9 +27,9 @@ pub(crate) struct Waiting<'a> {
     idle: u16,
 }
 
-impl<'a> Waiting<'a> {
+impl Waiting {
     /// Of a listener that blocks, whose connections are waited for so many seconds.
-    pub(crate) fn new(rt: HostRuntime, listener: &'a TcpListener, idle: u16) -> Waiting<'a> {
+    pub(crate) fn new(rt: HostRuntime, listener: TcpListener, idle: u16) -> Waiting {
         Waiting {
             rt,
             listener,

@@ -1,4 +1,3 @@
-pub mod Clocks
-mod Desks
 mod Pipes
 mod ServedConnections
+mod Quiet

@@ -1,5 +1,5 @@
 -- The rows of a file, done at a desk.
-use Rattle.std.specs.Prelude.{ℕ, ℤ, List, Result}
+use Rattle.std.specs.Prelude.{ℕ, ℤ, List, Option, Result}
 use Rattle.td_commands.specs.declared.command.Command.{Command}
 use Rattle.td_commands.specs.declared.said.Said.{Said}
 use Rattle.td_desk.specs.View.{DeskView}
@@ -11,6 +11,7 @@ use Rattle.td_batch.specs.Results.{act_result, acts_header, declaration_result, 
 use Rattle.td_batch.specs.Runs.{IsRunOf}
 use Rattle.td_words.specs.declared.words.BatchKind.{BatchKind}
 use Rattle.td_words.specs.declared.words.BatchKind.TheVariants as kind
+use Rattle.td_jobs.specs.Desks.{IsMomentBy}
 use Rattle.td_jobs.specs.declared.rows.Rows.{Rows}
 use Rattle.td_jobs.specs.declared.rows.Rows.TheVariants as rows
 
@@ -36,14 +37,10 @@ abbrev pub commands_of : Rows → List Command
 commands_of (rows.Declarations all) = all.items
 commands_of (rows.Acts all) = all.items
 
--- Rows were done, all at one moment, which the clock showed as it was asked once, at a desk that is seen so, and began and ended so.
-pub record HasDoneRows {D C : Type 0} (view : DeskView D) (begins ends : D → Type 0) (ticks : C → ℤ → C → Type 0)
-    (which : BatchKind) (commands : List Command) (clock : C) (r : BatchRun) : Type 0 where
-  pub opened : D
-  pub left : D
-  pub clock_left : C
+-- Rows were done, all at one moment, at a desk that is seen so: the moment that is given, or else the answer of the machine's clock,
+-- which is asked once.
+pub record HasDoneRows {D M : Type 0} (view : DeskView D) (opened left : D) (ticks : M → ℤ → M → Type 0) (at : Option ℤ)
+    (which : BatchKind) (commands : List Command) (machine machine_left : M) (r : BatchRun) : Type 0 where
   pub moment : ℤ
-  pub begun : begins opened
-  pub ended : ends left
-  pub asked : ticks clock moment clock_left
+  pub asked : IsMomentBy ticks at machine moment machine_left
   pub ran : IsRunOf view (λ _ _ _. Unit {0}) (line_of which) (header_of which) moment commands r opened left

@@ -11,8 +11,11 @@ use Rattle.td_desk.specs.Content.{Content}
 use Rattle.td_desk.specs.Runs.{IsTied}
 use Rattle.td_desk.specs.View.{DeskView}
 use Rattle.td_http.specs.Private.{IsServedOver}
-use Rattle.td_http.specs.Connections.{ServesSockets}
-use Rattle.td_jobs.specs.Desks.{IsHandledAt, IsHeadHandledAt, IsMoment, IsUnserved}
+use Rattle.td_http.specs.Connections.{ServesConnections}
+use Rattle.td_http.specs.Serving.{desk_of, IsHandledBy, IsHeadHandledBy}
+use Rattle.td_http.specs.declared.service.Service.{Service}
+use Rattle.td_machine.specs.Machine.{Around}
+use Rattle.td_jobs.specs.Desks.{ByClock}
 use Rattle.td_words.specs.declared.words.Listening.{Listening}
 use Rattle.td_jobs.specs.declared.serving.PrintedLines.{PrintedLines}
 use Rattle.td_jobs.specs.declared.serving.ServingEnd.{ServingEnd}
@@ -31,44 +34,75 @@ AreLinesOf listening lines =
     (string_bytes lines.first ≡ listening_line listening.port)
     × (string_bytes lines.last ≡ served_line listening.connections)
 
--- That was printed, and then so many connections were served, one after another, at a desk that is seen so, and began and ended so. Where
--- the desk is clean in the end, to each holder the bytes of the replies, over all connections, are those of that holder's own
--- machine, from any books that say what the desk had at first, as fresh ones do; and where no fault has shut it, its content
--- is the one after them. Where the answer is an error, no further connection came.
-pub record HasServed {D W C : Type 0} (view : DeskView D) (begins ends : D → Type 0) (contents : W → Option (List ℕ)) (ticks : C → ℤ → C → Type 0)
-    (port connections : ℕ) (writer writer_left : Counted W) (clock : C) (answer : Result Unit Error) : Type 0 where
-  pub listening : Appends (known_bytes contents writer) (known_bytes contents writer_left) (listening_line port)
-  pub opened : D
-  pub left : D
-  pub clock_left : C
-  pub begun : begins opened
-  pub ended : ends left
-  pub served : ServesSockets ticks (IsHandledAt view) IsHeadHandledAt clock opened clock_left left connections answer
+-- So many connections were served, one after another, at a service of a desk that is seen so, by a clock: those that the source
+-- gave, each its own replies. Where the desk is clean in the end, to each holder the bytes of the replies, over all connections, are
+-- those of that holder's own machine, from any books that say what the desk had at first, as fresh ones do; and where no fault has
+-- shut it, its content is the one after them. Where the answer is an error, no further connection came.
+pub record HasServed {D M L Reads Writes C : Type 0} (view : DeskView D) (opened left : D) (around : Around M L Reads Writes)
+    (ticks : C → ℤ → C → Type 0) (connections : ℕ) (came gone : L) (clock clock_left : C) (answer : Result Unit Error) : Type 0 where
+  pub service : Service D
+  pub service_left : Service D
+  pub opened_is : desk_of service ≡ opened
+  pub left_is : desk_of service_left ≡ left
+  pub served : ServesConnections around.remaining around.contents around.gives around.takes around.refuses
+      ticks (IsHandledBy view) IsHeadHandledBy
+      (record { source = came; clock = clock; handler = service })
+      (record { source = gone; clock = clock_left; handler = service_left }) connections answer
   pub clean : view.is_clean left → view.is_clean opened
   pub private : view.is_clean left → (books : ℕ → Book) → IsTied (view.content opened) books
       → (c : Content) × IsServedOver (view.content opened).country books
       (map (λ connection. connection.exchanges) served.all_served) c
       × (view.is_live left → view.content left ≡ c)
 
--- What a serving at a desk leaves that ended so. Without memory for what is printed, and where the port couldn't be listened on,
--- nothing was printed and no request served; all connections were served where that is printed in the end, or couldn't be.
-abbrev pub ServesAs : {D W C : Type 0} → DeskView D → (D → Type 0) → (D → Type 0) → (W → Option (List ℕ)) → (C → ℤ → C → Type 0) → ℕ → ℕ
-    → Counted W → Counted W → C → ServingEnd → Type 0
-ServesAs {W = W} view begins ends contents ticks port connections writer writer_left clock Done =
-    (said : Counted W) × HasServed view begins ends contents ticks port connections writer said clock (Ok tt)
-    × Appends (known_bytes contents said) (known_bytes contents writer_left) (served_line connections)
-ServesAs view begins ends contents ticks port connections writer writer_left clock NoMemory =
-    (writer_left ≡ writer) × IsUnserved begins ends
-ServesAs view begins ends contents ticks port connections writer writer_left clock Socket =
-    ((writer_left ≡ writer) × IsUnserved begins ends)
-    ⊎ ((why : Error) × HasServed view begins ends contents ticks port connections writer writer_left clock (Err why))
-ServesAs {W = W} view begins ends contents ticks port connections writer writer_left clock Write =
-    (IsCutShort contents writer writer_left (listening_line port) × IsUnserved begins ends)
-    ⊎ ((said : Counted W) × HasServed view begins ends contents ticks port connections writer said clock (Ok tt)
-    × IsCutShort contents said writer_left (served_line connections))
+-- the same by the clock of a job
+abbrev pub HasServedAt : {D M L Reads Writes : Type 0} → DeskView D → D → D → Around M L Reads Writes → Option ℤ → ℕ → L → L → M → M
+    → Result Unit Error → Type 0
+HasServedAt view opened left around at connections came gone machine machine_left answer =
+    ByClock around.ticks at machine machine_left
+    (λ C by clock clock_left. HasServed view opened left around by connections came gone clock clock_left answer)
 
--- the same at the moments of a job
-abbrev pub ServesAt : {D W : Type 0} → DeskView D → (D → Type 0) → (D → Type 0) → (W → Option (List ℕ)) → Option ℤ → ℕ → ℕ
-    → Counted W → Counted W → ServingEnd → Type 0
-ServesAt view begins ends contents at port connections writer writer_left end =
-    ServesAs {C = Unit {0}} view begins ends contents (IsMoment at) port connections writer writer_left tt end
+module _ {D W M L Reads Writes : Type 0} (view : DeskView D) (opened left : D) (contents : W → Option (List ℕ)) (around : Around M L Reads Writes)
+    (at : Option ℤ) (listening : Listening) (writer writer_left : Counted W) where
+  -- That the port is listened on was printed, and then the connections that came to it were served; and the writer had this then.
+  abbrev pub HasPrintedAndServed : L → L → M → M → Counted W → Result Unit Error → Type 0
+  HasPrintedAndServed came gone machine machine_left said answer =
+      Appends (known_bytes contents writer) (known_bytes contents said) (listening_line listening.port)
+      × HasServedAt view opened left around at listening.connections came gone machine machine_left answer
+
+  -- What a serving did that ended so, once the port was listened on. All connections were served where that is printed in the end, or
+  -- couldn't be; where the first line couldn't be printed, no connection was accepted.
+  abbrev pub ServesThere : ServingEnd → L → L → M → M → Type 0
+  ServesThere Done came gone machine machine_left =
+      (said : Counted W) × HasPrintedAndServed came gone machine machine_left said (Ok tt)
+      × Appends (known_bytes contents said) (known_bytes contents writer_left) (served_line listening.connections)
+  ServesThere NoMemory came gone machine machine_left = ⊥
+  ServesThere Socket came gone machine machine_left =
+      (why : Error) × HasPrintedAndServed came gone machine machine_left writer_left (Err why)
+  ServesThere Write came gone machine machine_left =
+      (IsCutShort contents writer writer_left (listening_line listening.port)
+      × (left ≡ opened) × (gone ≡ came) × (machine_left ≡ machine))
+      ⊎ ((said : Counted W) × HasPrintedAndServed came gone machine machine_left said (Ok tt)
+      × IsCutShort contents said writer_left (served_line listening.connections))
+
+  -- How a serving ended that couldn't listen: nothing was printed and no request served. Either there was no memory for what is
+  -- printed, and nothing was asked of the machine; or the port couldn't be listened on.
+  abbrev pub IsDeaf : ServingEnd → M → M → Type 0
+  IsDeaf Done machine machine_left = ⊥
+  IsDeaf NoMemory machine machine_left = (writer_left ≡ writer) × (left ≡ opened) × (machine_left ≡ machine)
+  IsDeaf Socket machine machine_left =
+      (writer_left ≡ writer) × (left ≡ opened) × around.known.deaf machine listening.port listening.idle machine_left
+  IsDeaf Write machine machine_left = ⊥
+
+  -- The machine listened on the port, with the idle limit, that was done with the connections that came, and it listens no more.
+  pub record HasListened (end : ServingEnd) (machine machine_left : M) : Type 0 where
+    pub came : L
+    pub gone : L
+    pub begun : M
+    pub ended : M
+    pub listens : around.known.listens machine listening.port listening.idle came begun
+    pub serves : ServesThere end came gone begun ended
+    pub hangs_up : around.known.hangs_up ended gone machine_left
+
+  -- what a serving did that ended so
+  abbrev pub ServesAs : ServingEnd → M → M → Type 0
+  ServesAs end machine machine_left = IsDeaf end machine machine_left ⊎ HasListened end machine machine_left

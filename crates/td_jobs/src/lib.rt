@@ -3,15 +3,13 @@
 #![tactic(auto)]
 
 mod checking;
-mod clock;
 mod job;
 mod piping;
 mod rows;
 mod serving;
 
 pub use checking::Checking;
-pub use clock::{FixedClock, MachineClock};
-pub use job::{DeskJob, at_moment, in_memory};
+pub use job::{DeskJob, in_memory};
 pub use piping::Piping;
 pub use rows::Rows;
 pub use serving::ServingEnd;

@@ -3,8 +3,7 @@ ghost use Rattle.std.specs.Prelude.{◌≡◌, Ok, IfErr, IfOk};
 ghost use Rattle.td_batch_rows.specs.Rows.{Tells};
 ghost use Rattle.td_batch.specs.Runs.{IsRunOf};
 ghost use Rattle.td_jobs.specs.Batched.{HasDoneRows, commands_of, header_of, kind_of, line_of, rows_in};
-ghost use Rattle.td_jobs.specs.Jobs.{IsUntouched};
-ghost use Rattle.td_jobs.specs.RowsSeen.{rows_seen};
+ghost use Rattle.td_jobs.specs.Desks.{IsMomentBy};
 
 use crate::job::DeskJob;
 use std::alloc::Global;
@@ -15,7 +14,7 @@ use td_batch::{
     run_declarations,
 };
 use td_desk::Desk;
-use td_http::Clock;
+use td_machine::Machine;
 use td_words::BatchKind;
 
 /// The rows of a file.
@@ -51,27 +50,36 @@ impl Rows {
     }
 }
 
-/// The job that does rows at one moment, for which the clock is asked once, and answers what became of them. It reads and
-/// prints nothing: what is printed of them is in its answer.
+// The moment of a job that asks once.
+fn moment_by<M: Machine>(machine: &mut M, at: Option<i64>) -> i64
+    ensures { IsMomentBy M.ticks at machine.old result machine.new }
+{
+    match at {
+        Some(at) => at,
+        None => machine.seconds(),
+    }
+}
+
+/// The job that does rows at one moment, for which the machine's clock is asked once where none is given, and answers what
+/// became of them. It reads and prints nothing: what is printed of them is in its answer.
 impl DeskJob for Rows {
     type End = BatchRun;
 
-    ghost does = { λ D R W C view begins ends remaining contents ticks job reader reader_left writer writer_left clock run.
-        IsUntouched reader reader_left writer writer_left
-        × HasDoneRows view begins ends ticks (kind_of job) (commands_of job) clock run };
+    ghost does = { λ D R W M L Reads Writes view opened left remaining contents around at job reader reader_left writer writer_left machine machine_left run.
+        (reader_left ≡ reader) × (writer_left ≡ writer)
+        × HasDoneRows view opened left around.ticks at (kind_of job) (commands_of job) machine machine_left run };
 
-    ghost seen = { λ D D' R W C C' view see begins ends begins' ends' remaining contents ticks moments look job reader reader_left writer writer_left clock run begin close shows does.
-        (does.0, rows_seen view see begins ends begins' ends' ticks moments look (kind_of job) (commands_of job) clock run begin close shows does.1) };
-
-    fn on<D: Desk, C: Clock + Drop, R: Read, W: Write>(
+    fn on<D: Desk, M: Machine, R: Read, W: Write>(
         &self,
-        rt: &HostRuntime,
+        alloc: Global,
         mut desk: D,
-        mut clock: C,
+        machine: &mut M,
+        at: Option<i64>,
         _input: &mut Counted<R>,
         _out: &mut Counted<W>,
     ) -> (BatchRun, D) {
-        let run = self.run(rt.alloc(), &mut desk, clock.seconds());
+        let moment = moment_by(machine, at);
+        let run = self.run(alloc, &mut desk, moment);
         (run, desk)
     }
 }

@@ -2,16 +2,16 @@
 ghost use Rattle.std.specs.Prelude.{◌≡◌};
 ghost use Rattle.td_http.specs.Serving.{desk_of};
 ghost use Rattle.td_jobs.specs.Desks.{IsReady};
-ghost use Rattle.td_jobs.specs.Listening.{AreLinesOf, ServesAs};
-ghost use Rattle.td_jobs.specs.ConnectionsSeen.{serving_seen};
+ghost use Rattle.td_jobs.specs.Listening.{AreLinesOf, HasServedAt, ServesAs, ServesThere};
 
 use crate::job::DeskJob;
 use std::alloc::{AllocError, Global};
+use std::io;
 use std::io::{Read, Write};
-use std::net::{Ipv4Addr, SocketAddr, TcpListener};
 use td_base::{Counted, write_whole};
 use td_desk::Desk;
-use td_http::{Clock, Service, serve_on};
+use td_http::{Service, serve_connections};
+use td_machine::{FixedClock, Machine, Surroundings};
 use td_words::Listening;
 
 /// How a serving ended.
@@ -53,96 +53,119 @@ impl PrintedLines {
 impl DeskJob for Listening {
     type End = ServingEnd;
 
-    ghost does = { λ D R W C view begins ends remaining contents ticks job reader reader_left writer writer_left clock end.
-        (reader_left ≡ reader) × ServesAs view begins ends contents ticks job.port job.connections writer writer_left clock end };
+    ghost does = { λ D R W M L Reads Writes view opened left remaining contents around at job reader reader_left writer writer_left machine machine_left end.
+        (reader_left ≡ reader) × ServesAs view opened left contents around at job writer writer_left end machine machine_left };
 
-    ghost seen = { λ D D' R W C C' view see begins ends begins' ends' remaining contents ticks moments look job reader reader_left writer writer_left clock end begin close shows serves.
-        (serves.0, serving_seen view see begins ends begins' ends' contents ticks moments look job.port job.connections writer writer_left clock begin close shows end serves.1) };
-
-    fn on<D: Desk, C: Clock + Drop, R: Read, W: Write>(
+    fn on<D: Desk, M: Machine, R: Read, W: Write>(
         &self,
-        rt: &HostRuntime,
+        alloc: Global,
         desk: D,
-        mut clock: C,
+        machine: &mut M,
+        at: Option<i64>,
         _input: &mut Counted<R>,
         out: &mut Counted<W>,
     ) -> (ServingEnd, D) {
         let mut service = Service::new(desk);
-        let end = serve_printing(rt, *self, &mut clock, &mut service, out);
+        let end = serve_printing(alloc, *self, machine, at, &mut service, out);
         (end, service.into_desk())
     }
 }
 
 // Serves them at a service.
-fn serve_printing<W: Write, D: Desk, C: Clock>(
-    rt: &HostRuntime,
+fn serve_printing<D: Desk, M: Machine, W: Write>(
+    alloc: Global,
     listening: Listening,
-    clock: &mut C,
+    machine: &mut M,
+    at: Option<i64>,
     service: &mut Service<D>,
     out: &mut Counted<W>,
 ) -> ServingEnd
     ensures { IsReady D.seen (desk_of service.old)
-        → ServesAs D.seen
-        (λ d. d ≡ desk_of service.old) (λ d. d ≡ desk_of service.new) W.contents C.ticks
-        listening.port listening.connections out.old out.new clock.old result }
+        → ServesAs D.seen (desk_of service.old) (desk_of service.new) W.contents ⟦<M as Surroundings>⟧.around at listening
+        out.old out.new result machine.old machine.new }
 {
-    match PrintedLines::of(rt.alloc(), listening) {
-        Ok(lines) => listen(rt, listening, &lines, clock, service, out),
+    match PrintedLines::of(alloc, listening) {
+        Ok(lines) => listen(alloc, listening, &lines, machine, at, service, out),
         Err(_) => ServingEnd::NoMemory,
     }
 }
 
 // Listens on the port, and serves the connections at a service.
-fn listen<W: Write, D: Desk, C: Clock>(
-    rt: &HostRuntime,
+fn listen<D: Desk, M: Machine, W: Write>(
+    alloc: Global,
     listening: Listening,
     lines: &PrintedLines,
-    clock: &mut C,
+    machine: &mut M,
+    at: Option<i64>,
     service: &mut Service<D>,
     out: &mut Counted<W>,
 ) -> ServingEnd
-    ensures { IsReady D.seen (desk_of service.old)
-        → AreLinesOf listening lines.now
-        → ServesAs D.seen
-        (λ d. d ≡ desk_of service.old) (λ d. d ≡ desk_of service.new) W.contents C.ticks
-        listening.port listening.connections out.old out.new clock.old result }
+    ensures { IsReady D.seen (desk_of service.old) → AreLinesOf listening lines.now
+        → ServesAs D.seen (desk_of service.old) (desk_of service.new) W.contents ⟦<M as Surroundings>⟧.around at listening
+        out.old out.new result machine.old machine.new }
 {
-    let address = SocketAddr::from((Ipv4Addr::LOCALHOST, listening.port));
-    match TcpListener::bind(rt, address) {
-        Ok(listener) => serve_here(*rt, &listener, listening, lines, clock, service, out),
-        Err(_) => ServingEnd::Socket,
-    }
+    let Ok(mut incoming) = machine.listen(alloc, listening.port, listening.idle) else {
+        return ServingEnd::Socket;
+    };
+    let end = serve_there(
+        alloc,
+        listening,
+        lines,
+        machine,
+        at,
+        &mut incoming,
+        service,
+        out,
+    );
+    machine.hang_up(incoming);
+    end
 }
 
-// Serves the connections that come to the listening socket.
-fn serve_here<W: Write, D: Desk, C: Clock>(
-    rt: HostRuntime,
-    listener: &TcpListener,
+// Serves the connections that come, and prints the lines before and after.
+fn serve_there<D: Desk, M: Machine, W: Write>(
+    alloc: Global,
     listening: Listening,
     lines: &PrintedLines,
-    clock: &mut C,
+    machine: &mut M,
+    at: Option<i64>,
+    incoming: &mut M::Incoming,
     service: &mut Service<D>,
     out: &mut Counted<W>,
 ) -> ServingEnd
-    ensures { IsReady D.seen (desk_of service.old)
-        → AreLinesOf listening lines.now
-        → ServesAs D.seen
-        (λ d. d ≡ desk_of service.old) (λ d. d ≡ desk_of service.new) W.contents C.ticks
-        listening.port listening.connections out.old out.new clock.old result }
+    ensures { IsReady D.seen (desk_of service.old) → AreLinesOf listening lines.now
+        → ServesThere D.seen (desk_of service.old) (desk_of service.new) W.contents ⟦<M as Surroundings>⟧.around at listening
+        out.old out.new result incoming.old incoming.new machine.old machine.new }
 {
     if !write_whole(out, lines.first.as_bytes()) {
         return ServingEnd::Write;
     }
-    let Listening {
-        connections,
-        idle,
-        ..
-    } = listening;
-    if serve_on(rt, listener, connections, idle, clock, service).is_err() {
+    if serve_by(alloc, listening.connections, machine, at, incoming, service).is_err() {
         return ServingEnd::Socket;
     }
     if !write_whole(out, lines.last.as_bytes()) {
         return ServingEnd::Write;
     }
     ServingEnd::Done
+}
+
+// Serves so many of them by the clock of the job.
+fn serve_by<D: Desk, M: Machine>(
+    alloc: Global,
+    connections: u32,
+    machine: &mut M,
+    at: Option<i64>,
+    incoming: &mut M::Incoming,
+    service: &mut Service<D>,
+) -> io::Result<()>
+    ensures { IsReady D.seen (desk_of service.old)
+        → HasServedAt D.seen (desk_of service.old) (desk_of service.new) ⟦<M as Surroundings>⟧.around at connections
+        incoming.old incoming.new machine.old machine.new result }
+{
+    match at {
+        Some(at) => {
+            let mut clock = FixedClock { at };
+            serve_connections(alloc, incoming, connections, &mut clock, service)
+        }
+        None => serve_connections(alloc, incoming, connections, machine, service),
+    }
 }

@@ -8,6 +8,7 @@ mod help;
 mod laws;
 mod lost_replies;
 mod machine_clock;
+mod machine_in_memory;
 mod memory;
 mod prefixes;
 mod serving;

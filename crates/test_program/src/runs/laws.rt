@@ -12,6 +12,7 @@ use td_desk::PlainDesk;
 use td_http::{
     acknowledged_replies_are_kept, agreeing_streams_tell_the_same, equal_requests_are_told_the_same,
 };
+use td_machine::MemoryMachine;
 
 #[test]
 fn laws_hold_at_concrete_types() {
@@ -26,31 +27,51 @@ fn laws_hold_at_concrete_types() {
         PlainDesk,
     >();
     equal_requests_are_told_the_same::<PlainDesk, PlainDesk>();
-    agreeing_jobs_tell_the_same::<&[u8], Vec<u8>, Drip<'_>, Narrow>();
-    agreeing_servings_tell_the_same::<Vec<u8>, Narrow>();
+    agreeing_jobs_tell_the_same::<&[u8], Vec<u8>, FixedClock, Drip<'_>, Narrow, Moments<'_>>();
+    agreeing_servings_tell_the_same::<MemoryMachine, FixedClock, MemoryMachine, MemoryMachine>();
     agreeing_jobs_over_files_tell_the_same::<
         &[u8],
         Vec<u8>,
+        FixedClock,
         FileFrom<Unknown>,
         Drip<'_>,
         Narrow,
+        Moments<'_>,
         FileFrom<Unknown>,
     >();
     agreeing_servings_over_files_tell_the_same::<
-        Vec<u8>,
+        MemoryMachine,
+        FixedClock,
         FileFrom<Unknown>,
-        Narrow,
+        MemoryMachine,
+        MemoryMachine,
         FileFrom<Unknown>,
     >();
-    runs_over_one_file_are_one_run::<&[u8], Vec<u8>, FileFrom<Unknown>, FileFrom<Unknown>>();
+    runs_over_one_file_are_one_run::<
+        &[u8],
+        Vec<u8>,
+        MemoryMachine,
+        FixedClock,
+        FileFrom<Unknown>,
+        FileFrom<Unknown>,
+    >();
     acknowledged_replies_are_kept::<&[u8], Vec<u8>, FixedClock, PlainDesk>();
-    acknowledged_replies_are_kept_in_the_file::<&[u8], Vec<u8>, FileFrom<Unknown>>();
-    acknowledged_connections_are_kept_in_the_file::<Vec<u8>, FileFrom<Unknown>>();
+    acknowledged_replies_are_kept_in_the_file::<&[u8], Vec<u8>, FixedClock, FileFrom<Unknown>>();
+    acknowledged_connections_are_kept_in_the_file::<
+        MemoryMachine,
+        MemoryMachine,
+        FileFrom<Unknown>,
+    >();
 }
 
 #[test]
 fn laws_of_batches_hold_at_concrete_types() {
-    agreeing_batches_over_files_tell_the_same::<FileFrom<Unknown>, FileFrom<Unknown>>();
+    agreeing_batches_over_files_tell_the_same::<
+        MemoryMachine,
+        FileFrom<Unknown>,
+        FixedClock,
+        FileFrom<Unknown>,
+    >();
     acknowledged_rows_are_kept_in_the_file::<FileFrom<Unknown>>();
     a_batch_cut_short_is_sent_again::<FileFrom<Unknown>, FileFrom<Unknown>>();
     runs_over_one_file_lead_on::<FileFrom<Unknown>>();

@@ -1,7 +1,7 @@
-use Rattle.std.proofs.Common.{ap, subst, sym}
+use Rattle.std.proofs.Common.{ap}
 use Rattle.td_model.specs.Book.{fresh_book}
 use Rattle.td_desk.proofs.Agreeing.{heard_alike, told_alike}
-use Rattle.td_files.specs.Found.{IsClean, over_file}
+use Rattle.td_files.specs.Found.{over_file}
 use Rattle.td_jobs.specs.Batched.{header_of, line_of}
 use Rattle.td_cli.specs.BatchLaws.{commands_tried, outcomes_tried}
 use Rattle.td_jobs.specs.Desks.{fresh_books}
@@ -9,14 +9,14 @@ use Rattle.td_cli.proofs.BatchesAlike.{from_opened}
 use Rattle.td_cli.proofs.batch_laws.agreeing_batches_over_files_tell_the_same.Goals as goal
 
 pub returns : goal.returns
-returns g c = λ country H which other_which at other_at image other_image file other_file rows other_rows r other_r one other clean other_clean alike agree failed.
-    let run = from_opened (line_of which) (header_of which) image country one.moment rows r one.opened one.left one.begun (subst IsClean (sym one.ended) clean) one.ran in
-    let other_run = from_opened (line_of other_which) (header_of other_which) other_image country other.moment other_rows other_r other.opened other.left other.begun
-    (subst IsClean (sym other.ended) other_clean) other.ran in
+returns g c = λ country H which other_which at other_at image other_image opened left other_opened other_left rows other_rows clock clock_left other_clock other_clock_left r other_r begins other_begins one other clean other_clean alike agree failed.
+    let run = from_opened (line_of which) (header_of which) image country one.moment rows r opened left begins clean one.ran in
+    let other_run = from_opened (line_of other_which) (header_of other_which) other_image country other.moment other_rows other_r other_opened other_left other_begins
+    other_clean other.ran in
     let list = commands_tried one.moment rows r one.ran in
     let outcomes = outcomes_tried one.moment rows r one.ran in
     let other_list = commands_tried other.moment other_rows other_r other.ran in
     let other_outcomes = outcomes_tried other.moment other_rows other_r other.ran in
-    told_alike country H (fresh_books (over_file.content one.opened)) (fresh_books (over_file.content other.opened)) list other_list outcomes other_outcomes
+    told_alike country H (fresh_books (over_file.content opened)) (fresh_books (over_file.content other_opened)) list other_list outcomes other_outcomes
     run.0 other_run.0 run.1 other_run.1 (ap fresh_book alike.2)
     (heard_alike country H list other_list outcomes other_outcomes run.1.one_each other_run.1.one_each agree failed)

@@ -1,15 +1,24 @@
+use Rattle.std.proofs.Common.{◌≡◌}
 use Rattle.sqlite.specs.WalFiles.{image_at}
-use Rattle.td_jobs.specs.Jobs.{IsUntouched}
 use Rattle.td_jobs.specs.Batched.{HasDoneRows, commands_of, kind_of}
-use Rattle.td_jobs.specs.Desks.{IsMoment}
-use Rattle.td_cli.proofs.LeftAtDesks.{left_alone}
+use Rattle.td_cli.proofs.LeftAtDesks.{left_alone, left_as}
 use Rattle.td_cli.proofs.batching.do_rows.Goals as goal
 
-pub returns-clause-done : goal.returns-clause-done
-returns-clause-done g c =
+pub returns : goal.returns
+returns g c =
+    let image = image_at g.S.Start in
+    let country = c.args.office.country in
+    let before = c.args.file.now.connection in
+    let file = c.at_desk-end.new.file.connection in
+    let records = c.args.records.now in
     let rows = c.args.rows.now in
-    let left = left_alone (image_at g.S.Start) c.args.office.country c.args.file.now.connection c.at_desk-end.new.file.connection
-    (λ D view begins ends r. HasDoneRows {C = Unit {0}} view begins ends (IsMoment c.args.office.at) (kind_of rows) (commands_of rows) tt r)
-    (IsUntouched c.args.input.now c.at_desk-end.new.input c.args.out.now c.at_desk-end.new.out)
-    c.args.records.now c.at_desk-end.result c.at_desk-end.ensures in
-    (c.at_desk-end.result, left.1, rw left.0.1 at c.tell_batch.ensures)
+    let machine = c.args.machine.now in
+    let machine_left = c.at_desk-end.new.machine in
+    let at = left_alone image country before file
+    (λ D view opened left r. HasDoneRows view opened left g.M.Clock.ticks c.args.office.at (kind_of rows) (commands_of rows) machine machine_left r)
+    ((c.at_desk-end.new.input ≡ c.args.input.now) × (c.at_desk-end.new.out ≡ c.args.out.now)) (machine_left ≡ machine) records c.at_desk-end.result
+    (left_as image country before file _ _ _ _ records c.at_desk-end.result (λ D view opened left r is. ((is.0, is.1), is.2)) (λ is. ((is.0, is.1), is.2)) c.at_desk-end.ensures) in
+    record {
+      unread = at.0.0;
+      done = (c.at_desk-end.result, at.1, rw at.0.1 at c.tell_batch.ensures);
+    }

@@ -1,21 +1,23 @@
-use Rattle.std.proofs.Common.{None, length, subst, sym}
+use Rattle.std.proofs.Common.{ap, length, subst, sym}
 use Rattle.td_files.specs.Found.{IsClean, over_file}
-use Rattle.td_http.specs.Connections.{beside}
+use Rattle.td_http.specs.Serving.{desk_of, IsHeadHandledBy}
+use Rattle.td_http.proofs.Kept.{Keeps}
 use Rattle.td_http.proofs.KeptOver.{kept_within, last_is}
-use Rattle.td_jobs.specs.Desks.{IsHeadHandledAt, IsMoment, fresh_books}
+use Rattle.td_jobs.specs.Desks.{fresh_books}
 use Rattle.td_cli.proofs.Desks.{fresh_tied}
 use Rattle.td_cli.proofs.Runs.{begun_keeps}
 use Rattle.td_cli.proofs.run_laws.acknowledged_connections_are_kept_in_the_file.Goals as goal
 
 pub returns : goal.returns
-returns g c = λ country is_new image at file port connections writer writer_left answer before connection after first others one clean list_is exchanges_are.
-    let left_clean = subst IsClean (sym one.ended) clean in
-    let was = one.clean left_clean in
-    let content = over_file.content one.opened in
+returns g c = λ country is_new image opened left connections came gone clock clock_left answer before connection after first others begins one clean list_is exchanges_are.
+    let content = over_file.content opened in
     let served = one.served in
-    kept_within (λ _. None) (λ _. None) (λ _ _ _ _. Unit {0}) (λ _ _ _ _. Unit {0}) (IsMoment at) (λ d. d) IsHeadHandledAt
+    let source = g.M.Incoming.Connections in
+    let keeps = begun_keeps is_new image country (fresh_books content) opened begins (one.clean clean) (fresh_tied content) in
+    let service_clean = subst IsClean (sym one.left_is) clean in
+    kept_within g.M.Incoming.Reader.Read.remaining g.M.Incoming.Writer.Write.contents source.gives source.takes g.C.Clock.ticks desk_of IsHeadHandledBy
     (λ old new target reply is. is.stays) over_file country (fresh_books content) served.all_served before connection after first others
-    (beside tt one.opened) served.last
-    (begun_keeps is_new image country (fresh_books content) one.opened one.begun was (fresh_tied content)) served.were_served
-    (subst IsClean (last_is (λ _ _ _. Unit {0}) served.last (beside one.clock_left one.left) (length served.all_served) connections answer served.ended) left_clean)
-    list_is exchanges_are
+    (record { source = came; clock = clock; handler = one.service }) served.last
+    (subst (Keeps over_file country (λ s. ⊥) (fresh_books content)) (sym one.opened_is) keeps) served.were_served
+    (subst IsClean (ap desk_of (last_is source.refuses served.last (record { source = gone; clock = clock_left; handler = one.service_left })
+    (length served.all_served) connections answer served.ended)) service_clean) list_is exchanges_are

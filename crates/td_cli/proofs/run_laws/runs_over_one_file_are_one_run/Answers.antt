@@ -1,7 +1,5 @@
-use Rattle.std.proofs.Common.{◌∙◌, ap, subst, sym}
-use Rattle.std.specs.Prelude.{IsTrue}
-use Rattle.sqlite.specs.Files.{file_state}
-use Rattle.td_files.specs.Found.{IsClean, over_file}
+use Rattle.std.proofs.Common.{subst, sym}
+use Rattle.td_files.specs.Found.{over_file}
 use Rattle.td_http.specs.Private.{IsServedOver}
 use Rattle.td_jobs.specs.Desks.{fresh_books}
 use Rattle.td_cli.proofs.Agreeing.{lists_alike}
@@ -10,24 +8,19 @@ use Rattle.td_cli.proofs.Runs.{one_stream, run_of, runs_joined}
 use Rattle.td_cli.proofs.run_laws.runs_over_one_file_are_one_run.Goals as goal
 
 pub returns-clause-piped : goal.returns-clause-piped
-returns-clause-piped g c = λ country is_new image at file reader reader_left writer writer_left end one clean live.
-    run_of is_new image country one.opened file _ one.begun (one.clean (subst IsClean (sym one.ended) clean))
+returns-clause-piped g c = λ country is_new image opened left reader reader_left writer writer_left clock clock_left end begins one clean live.
+    run_of is_new image country opened left _ begins (one.clean clean)
     (λ books tied.
-    let served = one.private (subst IsClean (sym one.ended) clean) books tied in (
+    let served = one.private clean books tied in (
       served.0,
       one_stream _ books one.served.run.exchanges served.0 served.1,
-      ap over_file.content (sym one.ended) ∙ served.2 (subst (λ s. IsTrue (file_state s).is_open) (sym one.ended) live),
+      served.2 live,
     ))
 
 pub returns-clause-served : goal.returns-clause-served
-returns-clause-served g c = λ country is_new image at file port connections writer writer_left answer one clean live.
-    run_of is_new image country one.opened file _ one.begun (one.clean (subst IsClean (sym one.ended) clean))
-    (λ books tied.
-    let served = one.private (subst IsClean (sym one.ended) clean) books tied in (
-      served.0,
-      served.1,
-      ap over_file.content (sym one.ended) ∙ served.2 (subst (λ s. IsTrue (file_state s).is_open) (sym one.ended) live),
-    ))
+returns-clause-served g c = λ country is_new image opened left connections came gone clock clock_left answer begins one clean live.
+    run_of is_new image country opened left _ begins (one.clean clean)
+    (λ books tied. let served = one.private clean books tied in (served.0, served.1, served.2 live))
 
 pub returns-clause-joined : goal.returns-clause-joined
 returns-clause-joined g c = λ country opened between next left streams others first goes second.

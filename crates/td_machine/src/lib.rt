@@ -1,0 +1,17 @@
+//! The machine that the program stands in: its files, its clock and its sockets, as a trait that generic code is lent; the
+//! machine itself; and one in memory, of which all is known.
+#![tactic(auto)]
+
+mod around;
+mod clock;
+mod host;
+mod laws;
+mod machine;
+mod memory;
+
+pub use around::Surroundings;
+pub use clock::{FixedClock, MachineClock};
+pub use host::HostMachine;
+pub use laws::clients_are_served_in_order;
+pub use machine::{Deaf, Machine, Unread};
+pub use memory::{MemoryFile, MemoryIncoming, MemoryMachine};
