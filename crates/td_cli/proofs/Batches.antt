@@ -1,9 +1,12 @@
--- A text that was written or not.
-use Rattle.std.proofs.Common.{◌≡◌, inl, inr, ℕ, Bool, true, false, List, Option, refl}
+-- A text that was written or not, and a file that was read or not.
+use Rattle.std.proofs.Common.{◌≡◌, inl, inr, ℕ, Bool, true, false, List, Option, None, refl}
 use Rattle.std.specs.Io.KnownBytes.{Appends}
 use Rattle.counted_io.specs.declared.counted.Counted.{Counted}
 use Rattle.counted_io.specs.Counted.{known_bytes}
 use Rattle.counted_io.specs.Chains.{IsCutShort}
+use Rattle.td_machine.specs.Machine.{IsNotRead, Known}
+use Rattle.td_machine.specs.declared.machine.Unread.{Unread}
+use Rattle.td_machine.specs.declared.machine.Unread.TheVariants.{File, NoMemory}
 use Rattle.td_cli.specs.Statuses.{IsTold}
 
 -- a text was written whole, or as much of it as was taken
@@ -12,3 +15,9 @@ pub told_by : {W : Type 0} (contents : W → Option (List ℕ)) (old new : Count
     → IsTold contents old new text
 told_by contents old new text true whole cut = inl (whole refl)
 told_by contents old new text false whole cut = inr (cut refl)
+
+-- why a file wasn't read
+pub not_read : {M L : Type 0} (known : Known M L) (path : List ℕ) (old new : M) (why : Unread)
+    → (why ≡ File → known.holds old path ≡ None) → known.reads old new → IsNotRead known path old new why
+not_read known path old new File none reads = (none refl, reads)
+not_read known path old new NoMemory none reads = reads

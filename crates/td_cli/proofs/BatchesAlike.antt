@@ -19,7 +19,7 @@ use Rattle.td_cli.proofs.Later.{batch_clean}
 use Rattle.td_cli.proofs.Runs.{begun_country, begun_live, begun_sound}
 
 -- where nothing was done
-no_run : (country : List ℕ) (books : ℕ → Book) (c : Content) → c.country ≡ country → IsSound c → IsTied c books → IsRun country books [] [] c
+pub no_run : (country : List ℕ) (books : ℕ → Book) (c : Content) → c.country ≡ country → IsSound c → IsTied c books → IsRun country books [] [] c
 no_run country books c same sound tied = record {
   one_each = refl;
   answers = λ H. refl;

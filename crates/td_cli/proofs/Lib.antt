@@ -7,3 +7,4 @@ mod KeptRows
 mod SentAgain
 mod Later
 mod BatchesAlike
+mod Parts

@@ -7,3 +7,4 @@ pub mod Reported
 pub mod Performed
 pub mod Runs
 pub mod BatchLaws
+pub mod Parts

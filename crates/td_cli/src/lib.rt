@@ -13,6 +13,7 @@ mod program;
 mod reporting;
 mod run_laws;
 mod telling;
+mod work_laws;
 
 pub use batch_laws::{
     a_batch_cut_short_is_sent_again, acknowledged_rows_are_kept_in_the_file,
@@ -30,3 +31,4 @@ pub use run_laws::{
 };
 pub use td_files::DeskFile;
 pub use td_machine::{FixedClock, HostMachine, Machine, MachineClock};
+pub use work_laws::work_over_one_file_is_one_machines;

@@ -1,5 +1,6 @@
 -- What is left of connections where nothing is known of their source.
 use Rattle.std.proofs.Common.{◌≡◌, ℕ, ◌<◌, ℤ, List, [], ◌∷◌, length, Option, Result, Ok, Err, ap, refl}
+use Rattle.std.proofs.lemmas.Bool.{false≢true}
 use Rattle.std.specs.Prelude.{IsErr, MatchResult}
 use Rattle.std.specs.declared.io.Error.{Error}
 use Rattle.http_wire.specs.declared.reply.Reply.{Reply}
@@ -53,7 +54,7 @@ pub none_came : {R W C H : Type 0} (remaining : R → Option (List ℕ)) (conten
     (count : ℕ) (answer : Result Unit Error) → 0 < count → IsErr answer
     → (served : ServesConnections remaining contents (λ _ _ _ _. Unit {0}) (λ _ _ _ _. Unit {0}) (λ _ _ _. Unit {0}) ticks handles heads
     (beside clock handler) (beside clock handler) count answer) × (served.all_served ≡ [])
-none_came remaining contents ticks handles heads clock handler count (Ok done) some is_err = absurd is_err
+none_came remaining contents ticks handles heads clock handler count (Ok done) some is_err = absurd (false≢true is_err)
 none_came remaining contents ticks handles heads clock handler count (Err why) some is_err = (
   record {
     all_served = [];

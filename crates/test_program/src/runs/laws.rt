@@ -7,6 +7,7 @@ use td_cli::{
     agreeing_batches_over_files_tell_the_same, agreeing_jobs_over_files_tell_the_same,
     agreeing_jobs_tell_the_same, agreeing_servings_over_files_tell_the_same,
     agreeing_servings_tell_the_same, runs_over_one_file_are_one_run, runs_over_one_file_lead_on,
+    work_over_one_file_is_one_machines,
 };
 use td_desk::PlainDesk;
 use td_http::{
@@ -75,4 +76,5 @@ fn laws_of_batches_hold_at_concrete_types() {
     acknowledged_rows_are_kept_in_the_file::<FileFrom<Unknown>>();
     a_batch_cut_short_is_sent_again::<FileFrom<Unknown>, FileFrom<Unknown>>();
     runs_over_one_file_lead_on::<FileFrom<Unknown>>();
+    work_over_one_file_is_one_machines::<FileFrom<Unknown>, FileFrom<Unknown>>();
 }

@@ -1,9 +1,26 @@
 use Rattle.std.proofs.Common.{inl, inr, refl}
 use Rattle.td_jobs.specs.Batched.{commands_of}
+use Rattle.td_cli.proofs.Batches.{not_read}
 use Rattle.td_cli.proofs.batching.batch.Goals as goal
 
 pub returns-in-Err-clause-done : goal.returns-in-Err-clause-done
-returns-in-Err-clause-done g c = ?
+returns-in-Err-clause-done g c = inl (
+  c.in-Err.why,
+  not_read g.M.Machine.known c.args.csv.now c.args.machine.now c.read_file.new.self c.in-Err.why c.in-Err.ensures.unread c.read_file.ensures.stays,
+  refl,
+  refl,
+  c.fault.ensures.status,
+  rw c.unread_line.ensures at c.fault.ensures.message,
+)
 
 pub returns-in-Ok-read-clause-done : goal.returns-in-Ok-read-clause-done
-returns-in-Ok-read-clause-done g c = ?
+returns-in-Ok-read-clause-done g c = inr (
+  c.in-Ok.bytes.items,
+  c.read_file.new.self,
+  record { held = c.in-Ok.ensures.bytes; reads = c.read_file.ensures.stays },
+  inr (
+    commands_of c.in-Ok-read.rows,
+    rw c.deref.ensures.value at c.in-Ok-read.ensures.rows.1,
+    rw c.in-Ok-read.ensures.rows.0 at c.do_rows.ensures.done,
+  ),
+)

@@ -1,6 +1,8 @@
 use Rattle.std.proofs.Common.{[], None, arith, refl}
 use Rattle.td_http.specs.Serving.{IsHandledBy, IsHeadHandledBy}
 use Rattle.td_http.specs.Connections.{beside}
+use Rattle.td_http.specs.declared.sides.ReplySide.{ReplySide}
+use Rattle.td_http.specs.declared.sides.RequestSide.{RequestSide}
 use Rattle.td_http.proofs.ServedConnections.{between}
 use Rattle.td_http.proofs.Anyhow.{ended_anyhow, none_came, were_served_anyhow}
 use Rattle.td_http.proofs.Private.{connections_private}
@@ -10,8 +12,8 @@ pub returns-then-connections-eq0 : goal.returns-then-connections-eq0
 returns-then-connections-eq0 g c =
     let none = c.if-connections-eq0.true in
     let old = beside c.args.clock.now c.args.service.now in (
-      record { all_served = []; last = old; were_served = refl; ended = (omega arith, refl) },
-      connections_private (λ _. None) (λ _. None) (λ _ _ _ _. Unit {0}) (λ _ _ _ _. Unit {0}) g.C.Clock.ticks g.D.Desk.seen [] old old refl,
+      record { all_served = []; last = old; were_served = refl; ended = (omega arith, refl {a = old}) },
+      connections_private {R = RequestSide} {W = ReplySide} (λ _. None) (λ _. None) (λ _ _ _ _. Unit {0}) (λ _ _ _ _. Unit {0}) g.C.Clock.ticks g.D.Desk.seen [] old old (refl {a = old}),
     )
 
 pub returns-in_err-try_clone : goal.returns-in_err-try_clone
@@ -21,7 +23,7 @@ returns-in_err-try_clone g c =
     let none = none_came (λ _. None) (λ _. None) g.C.Clock.ticks (IsHandledBy g.D.Desk.seen) IsHeadHandledBy c.args.clock.now c.args.service.now
     c.args.connections c.from_residual.result (omega arith) c.from_residual.ensures.0 in (
       none.0,
-      rw none.1 (connections_private (λ _. None) (λ _. None) (λ _ _ _ _. Unit {0}) (λ _ _ _ _. Unit {0}) g.C.Clock.ticks g.D.Desk.seen [] old old refl),
+      rw none.1 (connections_private {R = RequestSide} {W = ReplySide} (λ _. None) (λ _. None) (λ _ _ _ _. Unit {0}) (λ _ _ _ _. Unit {0}) g.C.Clock.ticks g.D.Desk.seen [] old old (refl {a = old})),
     )
 
 pub returns-in_err-incoming : goal.returns-in_err-incoming
@@ -31,7 +33,7 @@ returns-in_err-incoming g c =
     let none = none_came (λ _. None) (λ _. None) g.C.Clock.ticks (IsHandledBy g.D.Desk.seen) IsHeadHandledBy c.args.clock.now c.args.service.now
     c.args.connections c.from_residual-in_err-incoming.result (omega arith) c.from_residual-in_err-incoming.ensures.0 in (
       none.0,
-      rw none.1 (connections_private (λ _. None) (λ _. None) (λ _ _ _ _. Unit {0}) (λ _ _ _ _. Unit {0}) g.C.Clock.ticks g.D.Desk.seen [] old old refl),
+      rw none.1 (connections_private {R = RequestSide} {W = ReplySide} (λ _. None) (λ _. None) (λ _ _ _ _. Unit {0}) (λ _ _ _ _. Unit {0}) g.C.Clock.ticks g.D.Desk.seen [] old old (refl {a = old})),
     )
 
 pub returns : goal.returns
