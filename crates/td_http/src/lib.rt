@@ -22,7 +22,7 @@ pub use laws::{
     acknowledged_replies_are_kept, agreeing_streams_tell_the_same, equal_requests_are_told_the_same,
 };
 pub use service::Service;
-pub use sockets::serve_on;
+pub use sockets::{Incoming, serve_on};
 pub use td_answers::{
     answer_is_told_in, fault_bytes, fault_is_told_in, refusal_is_told_in, reply_bytes,
 };
