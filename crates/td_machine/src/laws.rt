@@ -6,6 +6,7 @@ ghost use Rattle.td_http.specs.declared.service.Service.{Service};
 ghost use Rattle.td_machine.specs.Pinned.{AreServedInOrder};
 
 use crate::memory::MemoryIncoming;
+use std::collections::VecDeque;
 use std::io::{Read, Write};
 use td_desk::Desk;
 use td_http::{Clock, Connections};
@@ -13,9 +14,8 @@ use td_http::{Clock, Connections};
 /// The connections that were served of a machine in memory are those of its clients, in their order, and what was written to each is
 /// kept in that client's place.
 pub fn clients_are_served_in_order<C: Clock, D: Desk>()
-    ensures { (old new : Between MemoryIncoming C (Service D))
-        (all_served : List (Connection ⟦<MemoryIncoming as Connections>⟧.Reader ⟦<MemoryIncoming as Connections>⟧.Writer))
-        → ServedConnections ⟦<<MemoryIncoming as Connections>::Reader as Read>⟧.remaining ⟦<<MemoryIncoming as Connections>::Writer as Write>⟧.contents
+    ensures { (old new : Between MemoryIncoming C (Service D)) (all_served : List (Connection _ _))
+        → ServedConnections ⟦<VecDeque<u8> as Read>⟧.remaining ⟦<Vec<u8> as Write>⟧.contents
         ⟦<MemoryIncoming as Connections>⟧.gives ⟦<MemoryIncoming as Connections>⟧.takes C.ticks (IsHandledBy D.seen) IsHeadHandledBy
         old all_served new
         → AreServedInOrder old.source.clients.items new.source.clients.items old.source.told.items new.source.told.items
