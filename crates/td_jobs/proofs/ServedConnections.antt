@@ -12,7 +12,7 @@ use Rattle.td_http.proofs.Private.{connections_clean}
 use Rattle.td_desk.specs.View.{DeskView}
 use Rattle.td_machine.specs.Machine.{Around}
 use Rattle.td_jobs.specs.Desks.{IsReady}
-use Rattle.td_jobs.specs.Listening.{HasServed}
+use Rattle.td_jobs.specs.Listening.{HasServed, HasServedAt}
 
 -- a desk that is clean after the connections, and after an accept that failed, was clean after the last connection
 last_clean : {L R W C D : Type 0} (is_clean : D → Type 0) (refuses : L → Error → L → Type 0) (all_served : List (Connection R W)) (last new : Between L C (Service D))
@@ -30,7 +30,7 @@ pub has_served : {D M L Reads Writes C : Type 0} (view : DeskView D) (around : A
     → IsPrivateOver view old new (map (λ connection. connection.exchanges) served.all_served) → IsReady view (desk_of old)
     → HasServed view (desk_of old) (desk_of new) around ticks count came gone clock clock_left answer
 has_served view around ticks count came gone clock clock_left old new answer served private ready =
-    let was = (λ clean. connections_clean around.remaining around.contents around.gives around.takes ticks view
+    let was : view.is_clean (desk_of new) → view.is_clean (desk_of old) = (λ clean. connections_clean around.remaining around.contents around.gives around.takes ticks view
     served.all_served (record { source = came; clock = clock; handler = old }) served.last served.were_served
     (last_clean view.is_clean around.refuses served.all_served served.last (record { source = gone; clock = clock_left; handler = new }) count answer served.ended clean)) in
     record {
@@ -43,11 +43,16 @@ has_served view around ticks count came gone clock clock_left old new answer ser
       private = λ clean books tied. let is = ready (was clean) in private clean is.0 is.1 books tied;
     }
 
--- where the answer is an error, no further connection came; and where it is none, all were served
-pub served_some : (P : Result (Unit {0}) Error → Type 0) (answer : Result (Unit {0}) Error) → is_err answer ≡ true → P answer → (why : Error) × P (Err why)
-served_some P (Ok done) failed has = absurd (false≢true failed)
-served_some P (Err why) failed has = (why, has)
+module _ {D M L Reads Writes : Type 0} {view : DeskView D} {opened left : D} {around : Around M L Reads Writes} {at : Option ℤ} {count : ℕ}
+    {came gone : L} {machine machine_left : M} where
+  abbrev Served : Result (Unit {0}) Error → Type 0
+  Served answer = HasServedAt view opened left around at count came gone machine machine_left answer
 
-pub served_all : (P : Result (Unit {0}) Error → Type 0) (answer : Result (Unit {0}) Error) → is_err answer ≡ false → P answer → P (Ok tt)
-served_all P (Ok done) good has = has
-served_all P (Err why) good has = absurd (false≢true (sym good))
+  -- where the answer is an error, no further connection came; and where it is none, all were served
+  pub served_some : (answer : Result (Unit {0}) Error) → is_err answer ≡ true → Served answer → (why : Error) × Served (Err why)
+  served_some (Ok done) failed has = absurd (false≢true failed)
+  served_some (Err why) failed has = (why, has)
+
+  pub served_all : (answer : Result (Unit {0}) Error) → is_err answer ≡ false → Served answer → Served (Ok tt)
+  served_all (Ok done) good has = has
+  served_all (Err why) good has = absurd (false≢true (sym good))

@@ -17,7 +17,7 @@ pub trait DeskJob {
     type End;
 
     // what it does
-    ghost does: { Doing Self End };
+    ghost does: { Doing Self Self.End };
 
     /// Does it at a desk, which is handed back: at this moment, in seconds since 1970, or by the machine's clock where none
     /// is given.

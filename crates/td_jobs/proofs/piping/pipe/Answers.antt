@@ -15,7 +15,7 @@ returns-in-Some g c = λ ready.
       ),
     )
 
-pub returns : goal.returns
-returns g c = λ ready.
+pub returns-in-None : goal.returns-in-None
+returns-in-None g c = λ ready.
     rw c.in-None.is (piped_at g.D.Desk.seen g.R.Read.remaining g.W.Write.contents _ _ _ _ _ _ _ _ _ _
     c.serve_stream-in-None.ensures.0 c.serve_stream-in-None.ensures.1 ready)

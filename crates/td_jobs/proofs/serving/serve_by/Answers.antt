@@ -15,7 +15,7 @@ returns-in-Some g c = λ ready.
       ),
     )
 
-pub returns : goal.returns
-returns g c = λ ready.
+pub returns-in-None : goal.returns-in-None
+returns-in-None g c = λ ready.
     rw c.in-None.is (has_served g.D.Desk.seen g.M.Surroundings.around _ _ _ _ _ _ _ _ _
     c.serve_connections-in-None.ensures.0 c.serve_connections-in-None.ensures.1 ready)
