@@ -43,16 +43,17 @@ has_served view around ticks count came gone clock clock_left old new answer ser
       private = λ clean books tied. let is = ready (was clean) in private clean is.0 is.1 books tied;
     }
 
-module _ {D M L Reads Writes : Type 0} {view : DeskView D} {opened left : D} {around : Around M L Reads Writes} {at : Option ℤ} {count : ℕ}
-    {came gone : L} {machine machine_left : M} where
-  abbrev Served : Result (Unit {0}) Error → Type 0
-  Served answer = HasServedAt view opened left around at count came gone machine machine_left answer
+-- where the answer is an error, no further connection came; and where it is none, all were served
+pub served_some : {D M L Reads Writes : Type 0} {view : DeskView D} {opened left : D} {around : Around M L Reads Writes} {at : Option ℤ} {count : ℕ}
+    {came gone : L} {machine machine_left : M} (answer : Result (Unit {0}) Error) → is_err answer ≡ true
+    → HasServedAt view opened left around at count came gone machine machine_left answer
+    → (why : Error) × HasServedAt view opened left around at count came gone machine machine_left (Err why)
+served_some (Ok done) failed has = absurd (false≢true failed)
+served_some (Err why) failed has = (why, has)
 
-  -- where the answer is an error, no further connection came; and where it is none, all were served
-  pub served_some : (answer : Result (Unit {0}) Error) → is_err answer ≡ true → Served answer → (why : Error) × Served (Err why)
-  served_some (Ok done) failed has = absurd (false≢true failed)
-  served_some (Err why) failed has = (why, has)
-
-  pub served_all : (answer : Result (Unit {0}) Error) → is_err answer ≡ false → Served answer → Served (Ok tt)
-  served_all (Ok done) good has = has
-  served_all (Err why) good has = absurd (false≢true (sym good))
+pub served_all : {D M L Reads Writes : Type 0} {view : DeskView D} {opened left : D} {around : Around M L Reads Writes} {at : Option ℤ} {count : ℕ}
+    {came gone : L} {machine machine_left : M} (answer : Result (Unit {0}) Error) → is_err answer ≡ false
+    → HasServedAt view opened left around at count came gone machine machine_left answer
+    → HasServedAt view opened left around at count came gone machine machine_left (Ok tt)
+served_all (Ok done) good has = has
+served_all (Err why) good has = absurd (false≢true (sym good))

@@ -11,11 +11,11 @@ returns-in-Some g c = λ ready.
       refl,
       (
         c.serve_connections.new.clock,
-        has_served g.D.Desk.seen g.M.Surroundings.around _ _ _ _ _ _ _ _ _ moved.0 moved.1 ready,
+        has_served g.D.Desk.seen _ _ _ _ _ _ _ _ _ _ moved.0 moved.1 ready,
       ),
     )
 
 pub returns-in-None : goal.returns-in-None
 returns-in-None g c = λ ready.
-    rw c.in-None.is (has_served g.D.Desk.seen g.M.Surroundings.around _ _ _ _ _ _ _ _ _
+    rw c.in-None.is (has_served g.D.Desk.seen _ _ _ _ _ _ _ _ _ _
     c.serve_connections-in-None.ensures.0 c.serve_connections-in-None.ensures.1 ready)
