@@ -1,8 +1,6 @@
 -- Connections at desks.
-use Rattle.std.proofs.Common.{◌≡◌, ℕ, ◌<◌, ℤ, List, length, map, Option, Result, Ok, Err, true, false, refl, subst, sym}
-use Rattle.std.proofs.lemmas.Bool.{false≢true}
+use Rattle.std.proofs.Common.{◌≡◌, ℕ, ◌<◌, ℤ, List, length, map, Result, Ok, Err, refl, subst}
 use Rattle.std.specs.Prelude.{MatchResult}
-use Rattle.std.specs.Result.{is_err}
 use Rattle.std.specs.declared.io.Error.{Error}
 use Rattle.td_http.specs.declared.service.Service.{Service}
 use Rattle.td_http.specs.Serving.{desk_of, IsHandledBy, IsHeadHandledBy}
@@ -12,7 +10,7 @@ use Rattle.td_http.proofs.Private.{connections_clean}
 use Rattle.td_desk.specs.View.{DeskView}
 use Rattle.td_machine.specs.Machine.{Around}
 use Rattle.td_jobs.specs.Desks.{IsReady}
-use Rattle.td_jobs.specs.Listening.{HasServed, HasServedAt}
+use Rattle.td_jobs.specs.Listening.{HasServed}
 
 -- a desk that is clean after the connections, and after an accept that failed, was clean after the last connection
 last_clean : {L R W C D : Type 0} (is_clean : D → Type 0) (refuses : L → Error → L → Type 0) (all_served : List (Connection R W)) (last new : Between L C (Service D))
@@ -42,18 +40,3 @@ has_served view around ticks count came gone clock clock_left old new answer ser
       clean = was;
       private = λ clean books tied. let is = ready (was clean) in private clean is.0 is.1 books tied;
     }
-
--- where the answer is an error, no further connection came; and where it is none, all were served
-pub served_some : {D M L Reads Writes : Type 0} {view : DeskView D} {opened left : D} {around : Around M L Reads Writes} {at : Option ℤ} {count : ℕ}
-    {came gone : L} {machine machine_left : M} (answer : Result (Unit {0}) Error) → is_err answer ≡ true
-    → HasServedAt view opened left around at count came gone machine machine_left answer
-    → (why : Error) × HasServedAt view opened left around at count came gone machine machine_left (Err why)
-served_some (Ok done) failed has = absurd (false≢true failed)
-served_some (Err why) failed has = (why, has)
-
-pub served_all : {D M L Reads Writes : Type 0} {view : DeskView D} {opened left : D} {around : Around M L Reads Writes} {at : Option ℤ} {count : ℕ}
-    {came gone : L} {machine machine_left : M} (answer : Result (Unit {0}) Error) → is_err answer ≡ false
-    → HasServedAt view opened left around at count came gone machine machine_left answer
-    → HasServedAt view opened left around at count came gone machine machine_left (Ok tt)
-served_all (Ok done) good has = has
-served_all (Err why) good has = absurd (false≢true (sym good))

@@ -139,9 +139,10 @@ fn serve_there<D: Desk, M: Machine, W: Write>(
     if !write_whole(out, lines.first.as_bytes()) {
         return ServingEnd::Write;
     }
-    if serve_by(alloc, listening.connections, machine, at, incoming, service).is_err() {
+    let count = listening.connections;
+    let Ok(()) = serve_by(alloc, count, machine, at, incoming, service) else {
         return ServingEnd::Socket;
-    }
+    };
     if !write_whole(out, lines.last.as_bytes()) {
         return ServingEnd::Write;
     }
