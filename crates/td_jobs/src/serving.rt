@@ -140,9 +140,10 @@ fn serve_there<D: Desk, M: Machine, W: Write>(
         return ServingEnd::Write;
     }
     let count = listening.connections;
-    let Ok(()) = serve_by(alloc, count, machine, at, incoming, service) else {
-        return ServingEnd::Socket;
-    };
+    match serve_by(alloc, count, machine, at, incoming, service) {
+        Ok(()) => {}
+        Err(_) => return ServingEnd::Socket,
+    }
     if !write_whole(out, lines.last.as_bytes()) {
         return ServingEnd::Write;
     }
