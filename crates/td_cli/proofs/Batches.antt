@@ -7,7 +7,7 @@ use Rattle.counted_io.specs.Chains.{IsCutShort}
 use Rattle.td_machine.specs.Machine.{IsNotRead, Known}
 use Rattle.td_machine.specs.declared.machine.Unread.{Unread}
 use Rattle.td_machine.specs.declared.machine.Unread.TheVariants.{File, NoMemory}
-use Rattle.td_cli.specs.Statuses.{IsTold}
+use Rattle.td_cli.specs.Exits.{IsTold}
 
 -- a text was written whole, or as much of it as was taken
 pub told_by : {W : Type 0} (contents : W → Option (List ℕ)) (old new : Counted W) (text : List ℕ) (b : Bool)

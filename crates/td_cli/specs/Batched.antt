@@ -1,6 +1,5 @@
 -- A file of rows, done at a desk, and what was told of it.
-use Rattle.std.specs.Prelude.{◌≡◌, ◌⊎◌, ℕ, ℤ, Bool, List, ◌++◌, codes, Option, Some, None, Result, Ok, Err, if◌then◌else◌}
-use Rattle.std.specs.Fmt.{decimal}
+use Rattle.std.specs.Prelude.{◌≡◌, ◌⊎◌, ℕ, ℤ, Bool, List, Option, Some, None, Result, Ok, Err, if◌then◌else◌}
 use Rattle.std.specs.Io.KnownBytes.{Appends}
 use Rattle.sqlite_wal.specs.Recovery.{Image}
 use Rattle.counted_io.specs.declared.counted.Counted.{Counted}
@@ -9,11 +8,9 @@ use Rattle.counted_io.specs.Chains.{IsCutShort}
 use Rattle.sqlite_disk.specs.declared.Disk.{Ghosts}
 use Rattle.td_commands.specs.declared.command.Command.{Command}
 use Rattle.td_desk.specs.declared.fault.Fault.{Fault}
-use Rattle.td_desk.specs.declared.fault.Fault.TheVariants as fault
 use Rattle.td_files.specs.Found.{FileSeen}
 use Rattle.td_files.specs.declared.desks.DeskFault.{DeskFault}
 use Rattle.td_batch_rows.specs.declared.fault.BatchFault.{BatchFault}
-use Rattle.td_batch_rows.specs.declared.fault.BatchFault.TheVariants as batch
 use Rattle.td_batch_rows.specs.Rows.{Tells}
 use Rattle.td_batch.specs.declared.running.BatchRun.{BatchRun}
 use Rattle.td_batch.specs.Runs.{has_refusal}
@@ -22,31 +19,10 @@ use Rattle.td_words.specs.declared.words.Records.{Records}
 use Rattle.td_jobs.specs.Batched.{HasDoneRows, rows_in}
 use Rattle.td_machine.specs.Machine.{Around, HasRead, IsNotRead}
 use Rattle.td_machine.specs.declared.machine.Unread.{Unread}
-use Rattle.td_machine.specs.declared.machine.Unread.TheVariants as unread
 use Rattle.td_cli.specs.AtDesk.{AtDesk}
-use Rattle.td_cli.specs.Statuses.{IsFaultTold, IsTold}
-
--- the message where a file couldn't be read
-abbrev pub message_of_unread : Unread → List ℕ
-message_of_unread unread.File = codes "transit-desk: file\n"
-message_of_unread unread.NoMemory = codes "transit-desk: no-memory\n"
-
--- the message where no rows were read
-abbrev pub message_of_batch_fault : BatchFault → List ℕ
-message_of_batch_fault (batch.BadCsv row column) =
-    codes "transit-desk: bad csv row " ++ (decimal row ++ (codes " column " ++ (decimal column ++ codes "\n")))
-message_of_batch_fault batch.NoMemory = codes "transit-desk: no-memory\n"
-
--- Why no rows were read, by the status and by what was told: its line, or, where there was no memory for that, this.
-abbrev pub IsBatchFaultTold : {E : Type 0} → (E → Option (List ℕ)) → Counted E → Counted E → BatchFault → ℕ → Type 0
-IsBatchFaultTold said errors errors_left why status =
-    (status ≡ 1) × (IsTold said errors errors_left (message_of_batch_fault why)
-    ⊎ IsTold said errors errors_left (codes "transit-desk: no-memory\n"))
-
--- the message for the fault that stopped a batch
-abbrev pub message_of_stop : Fault → List ℕ
-message_of_stop fault.NoMemory = codes "transit-desk: no-memory\n"
-message_of_stop fault.Store = codes "transit-desk: store\n"
+use Rattle.td_cli.specs.Exits.{IsEnded, IsTold, of_file, of_rows, of_stop, of_unread}
+use Rattle.td_cli.specs.declared.exits.Cause.TheVariants.{Of}
+use Rattle.td_cli.specs.declared.exits.Word.TheVariants as word
 
 -- The text was printed, or that it couldn't be was told; the status is 1 where a row was refused, too. Where a fault stopped the
 -- batch its text is printed, or as much of it as was taken, and then the fault is told.
@@ -54,9 +30,9 @@ abbrev pub IsTextTold : {W E : Type 0} → (W → Option (List ℕ)) → (E → 
     → Counted W → Counted W → Counted E → Counted E → ℕ → Type 0
 IsTextTold contents said text refused None out out_left errors errors_left status =
     (Appends (known_bytes contents out) (known_bytes contents out_left) text × (errors_left ≡ errors) × (status ≡ (if refused then 1 else 0)))
-    ⊎ (IsCutShort contents out out_left text × (status ≡ 1) × IsTold said errors errors_left (codes "transit-desk: write\n"))
+    ⊎ (IsCutShort contents out out_left text × IsEnded said (Some (Of word.Write)) errors errors_left status)
 IsTextTold contents said text refused (Some why) out out_left errors errors_left status =
-    IsTold contents out out_left text × (status ≡ 1) × IsTold said errors errors_left (message_of_stop why)
+    IsTold contents out out_left text × IsEnded said (Some (of_stop why)) errors errors_left status
 
 -- what a run left was told
 abbrev pub IsRunTold : {W E : Type 0} → (W → Option (List ℕ)) → (E → Option (List ℕ)) → BatchRun → Counted W → Counted W
@@ -69,7 +45,7 @@ abbrev pub IsBatchTold : {W E : Type 0} → (W → Option (List ℕ)) → (E →
     → Counted W → Counted W → Counted E → Counted E → ℕ → Type 0
 IsBatchTold contents said (Ok r) out out_left errors errors_left status = IsRunTold contents said r out out_left errors errors_left status
 IsBatchTold contents said (Err why) out out_left errors errors_left status =
-    (out_left ≡ out) × IsFaultTold said errors errors_left why status
+    (out_left ≡ out) × IsEnded said (Some (of_file why)) errors errors_left status
 
 -- Rows were done at a desk whose records stand there, in this country, at this moment or at one of the machine's clock, and what
 -- became of them was told; or there was no desk, and the clock wasn't asked.
@@ -90,7 +66,7 @@ abbrev pub AreRowsBatched : {M W E S : Type 0} {disk : Ghosts S} → (M → ℤ 
     → Option (FileSeen disk) → Option (FileSeen disk) → M → M → ℕ → Type 0
 AreRowsBatched ticks contents said image country at records which bytes out out_left errors errors_left before file machine machine_left status =
     ((why : BatchFault) × Tells (rows_in which bytes) why × (machine_left ≡ machine)
-    × (out_left ≡ out) × (file ≡ before) × IsBatchFaultTold said errors errors_left why status)
+    × (out_left ≡ out) × (file ≡ before) × IsEnded said (Some (of_rows why)) errors errors_left status)
     ⊎ ((commands : List Command) × (rows_in which bytes ≡ Ok commands)
     × IsBatchAtDesk ticks contents said image country at records which commands out out_left errors errors_left before file machine machine_left status)
 
@@ -101,6 +77,6 @@ abbrev pub IsBatched : {M L Reads Writes W E S : Type 0} {disk : Ghosts S} → A
     → Option (FileSeen disk) → Option (FileSeen disk) → M → M → ℕ → Type 0
 IsBatched {M} around contents said image country at records which csv out out_left errors errors_left before file machine machine_left status =
     ((why : Unread) × IsNotRead around.known csv machine machine_left why
-    × (out_left ≡ out) × (file ≡ before) × (status ≡ 1) × IsTold said errors errors_left (message_of_unread why))
+    × (out_left ≡ out) × (file ≡ before) × IsEnded said (Some (of_unread why)) errors errors_left status)
     ⊎ ((bytes : List ℕ) × (read : M) × HasRead around.known csv machine bytes read
     × AreRowsBatched around.ticks contents said image country at records which bytes out out_left errors errors_left before file read machine_left status)

@@ -1,3 +1,4 @@
+pub mod Exits
 pub mod Statuses
 pub mod Desks
 pub mod AtDesk

@@ -1,5 +1,5 @@
 -- A file that was to be brought to the newest version of the tables, and what was told of it.
-use Rattle.std.specs.Prelude.{◌≡◌, ◌⊎◌, ℕ, List, ◌++◌, codes, Option, Result, Ok, Err}
+use Rattle.std.specs.Prelude.{◌≡◌, ◌⊎◌, ℕ, List, ◌++◌, codes, Option, Some, Result, Ok, Err}
 use Rattle.std.specs.Fmt.{decimal}
 use Rattle.sqlite_wal.specs.Recovery.{Image}
 use Rattle.counted_io.specs.declared.counted.Counted.{Counted}
@@ -7,7 +7,10 @@ use Rattle.sqlite_disk.specs.declared.Disk.{Ghosts}
 use Rattle.td_files.specs.Found.{FileSeen}
 use Rattle.td_files.specs.Upgraded.{IsUpgraded}
 use Rattle.td_files.specs.declared.desks.DeskFault.{DeskFault}
-use Rattle.td_cli.specs.Statuses.{IsFaultTold, IsPrinted, IsTold}
+use Rattle.td_cli.specs.Exits.{IsEnded, of_file}
+use Rattle.td_cli.specs.Statuses.{IsPrinted}
+use Rattle.td_cli.specs.declared.exits.Cause.TheVariants.{Of}
+use Rattle.td_cli.specs.declared.exits.Word.TheVariants.{NoMemory}
 
 -- the line of a version
 abbrev pub message_of_version : ℕ → List ℕ
@@ -18,9 +21,9 @@ abbrev pub IsMigrationTold : {W E : Type 0} → (W → Option (List ℕ)) → (E
     → Result ℕ DeskFault → ℕ → Type 0
 IsMigrationTold contents said out out_left errors errors_left (Ok version) status =
     IsPrinted contents said out out_left errors errors_left (message_of_version version) status
-    ⊎ ((out_left ≡ out) × (status ≡ 1) × IsTold said errors errors_left (codes "transit-desk: no-memory\n"))
+    ⊎ ((out_left ≡ out) × IsEnded said (Some (Of NoMemory)) errors errors_left status)
 IsMigrationTold contents said out out_left errors errors_left (Err why) status =
-    (out_left ≡ out) × IsFaultTold said errors errors_left why status
+    (out_left ≡ out) × IsEnded said (Some (of_file why)) errors errors_left status
 
 -- a file that held this was to be brought to the newest version, and what came of it was told
 abbrev pub IsMigrated : {W E S : Type 0} {disk : Ghosts S} → (W → Option (List ℕ)) → (E → Option (List ℕ)) → Image

@@ -1,5 +1,5 @@
 -- What the program does with its words, its input and its outputs.
-use Rattle.std.specs.Prelude.{◌≡◌, ◌≢◌, ◌⊎◌, ℕ, ℤ, List, codes, string_bytes, Option, Result, Ok, Err}
+use Rattle.std.specs.Prelude.{◌≡◌, ◌≢◌, ◌⊎◌, ℕ, ℤ, List, codes, string_bytes, Option, Some, Result, Ok, Err}
 use Rattle.std.specs.IoError.{error_kind}
 use Rattle.std.specs.declared.io.Error.{Error}
 use Rattle.std.specs.declared.io.ErrorKind.TheVariants.{OutOfMemory}
@@ -27,7 +27,10 @@ use Rattle.td_cli.specs.AtDesk as desks
 use Rattle.td_cli.specs.Batched.{IsBatched}
 use Rattle.td_cli.specs.Migrated.{IsMigrated}
 use Rattle.td_cli.specs.Reported.{IsReportDone}
-use Rattle.td_cli.specs.Statuses.{IsAnswered, IsEndTold, IsFaultTold, IsPrinted, IsServingTold, IsTold}
+use Rattle.td_cli.specs.Exits.{IsEnded, IsTold, of_file, of_job, of_serving, of_stream}
+use Rattle.td_cli.specs.Statuses.{IsAnswered, IsPrinted}
+use Rattle.td_cli.specs.declared.exits.Cause.TheVariants.{Of}
+use Rattle.td_cli.specs.declared.exits.Word.TheVariants.{NoMemory}
 
 -- What a job leaves that serves one stream at a desk whose records stand there, in this country and at this moment or by
 -- the machine's clock: where there was a desk, the stream was served.
@@ -57,7 +60,7 @@ abbrev pub IsCheckTold : {W E : Type 0} → (W → Option (List ℕ)) → (E →
 IsCheckTold contents said (Ok opened) out out_left errors errors_left status =
     IsPrinted contents said out out_left errors errors_left (codes "sound\n") status
 IsCheckTold contents said (Err why) out out_left errors errors_left status =
-    (out_left ≡ out) × IsFaultTold said errors errors_left why status
+    (out_left ≡ out) × IsEnded said (Some (of_file why)) errors errors_left status
 
 -- Records were tested: a desk of the country was opened where they stand, and left as it was, or there was none; and that was told.
 abbrev pub IsChecked : {W E S : Type 0} {disk : Ghosts S} → (W → Option (List ℕ)) → (E → Option (List ℕ)) → Image → List ℕ → Records
@@ -77,11 +80,11 @@ abbrev pub IsTaskDone : {M L Reads Writes R W E S : Type 0} {disk : Ghosts S} �
 IsTaskDone around remaining contents said image (Pipe records) country at reader reader_left writer writer_left errors errors_left before file machine machine_left status =
     (end : Result StreamEnd DeskFault)
     × PipesAs around.ticks remaining contents image country at records reader reader_left writer writer_left before file machine machine_left end
-    × IsEndTold said errors errors_left end status
+    × IsEnded said (of_job of_stream end) errors errors_left status
 IsTaskDone around remaining contents said image (Serve listening records) country at reader reader_left writer writer_left errors errors_left before file machine machine_left status =
     (end : Result ServingEnd DeskFault)
     × IsServing around contents image country at records listening reader reader_left writer writer_left before file machine machine_left end
-    × IsServingTold said errors errors_left end status
+    × IsEnded said (of_job of_serving end) errors errors_left status
 IsTaskDone around remaining contents said image (Batch which csv path) country at reader reader_left writer writer_left errors errors_left before file machine machine_left status =
     (reader_left ≡ reader)
     × IsBatched around contents said image country at (File path) which (string_bytes csv) writer writer_left errors errors_left before file machine machine_left status
@@ -117,7 +120,6 @@ IsPerformed around remaining contents said image words reader reader_left writer
 -- Words that couldn't be read: there was no memory for them, or they aren't text, and the error's kind says which.
 abbrev pub IsUnread : {E : Type 0} → (E → Option (List ℕ)) → Error → Counted E → Counted E → ℕ → Type 0
 IsUnread said error errors errors_left status =
-    ((error_kind error ≡ OutOfMemory) × (status ≡ 1)
-    × IsTold said errors errors_left (codes "transit-desk: no-memory\n"))
+    ((error_kind error ≡ OutOfMemory) × IsEnded said (Some (Of NoMemory)) errors errors_left status)
     ⊎ ((error_kind error ≢ OutOfMemory) × (status ≡ 2)
     × IsTold said errors errors_left (codes "error: the words of the command line aren't UTF-8 text\n"))

@@ -1,5 +1,5 @@
 -- A report on the records in a file, and what was told of it.
-use Rattle.std.specs.Prelude.{◌≡◌, ℕ, List, codes, is_ok, true, Option, Result, Ok, Err}
+use Rattle.std.specs.Prelude.{◌≡◌, ℕ, List, is_ok, true, Option, None, Some, Result, Ok, Err}
 use Rattle.sqlite_wal.specs.Recovery.{Image}
 use Rattle.counted_io.specs.declared.counted.Counted.{Counted}
 use Rattle.counted_io.specs.Counted.{has_failed}
@@ -18,7 +18,8 @@ use Rattle.td_words.specs.declared.words.Records.{Records}
 use Rattle.td_words.specs.declared.words.ReportKind.{ReportKind}
 use Rattle.td_words.specs.declared.words.ReportKind.TheVariants.{Overdue, Guarantees}
 use Rattle.td_cli.specs.AtDesk.{AtDesk}
-use Rattle.td_cli.specs.Statuses.{IsFaultTold, IsTold}
+use Rattle.td_cli.specs.Exits.{IsEnded, of_job, of_report}
+use Rattle.td_cli.specs.declared.exits.Cause.{Cause}
 
 -- the text of a report on a content
 abbrev pub report_text : ReportKind → Content → List ℕ
@@ -34,19 +35,10 @@ pub record HasReported {D W : Type 0} (view : DeskView D) (opened left : D) (con
       → IsReported contents out out_left (report_text kind (view.content opened)) end
   pub cause : end ≡ Err report.Write → has_failed out_left ≡ true
 
--- the message for the fault that ended a report
-abbrev pub message_of_report : ReportFault → List ℕ
-message_of_report report.Write = codes "transit-desk: write\n"
-message_of_report report.Store = codes "transit-desk: store\n"
-message_of_report report.NoMemory = codes "transit-desk: no-memory\n"
-
--- What was told: nothing where the report is whole, and else the fault that ended it; or why there was no desk to report on.
-abbrev pub IsReportTold : {E : Type 0} → (E → Option (List ℕ)) → Counted E → Counted E
-    → Result (Result (Unit {0}) ReportFault) DeskFault → ℕ → Type 0
-IsReportTold said errors errors_left (Ok (Ok done)) status = (status ≡ 0) × (errors_left ≡ errors)
-IsReportTold said errors errors_left (Ok (Err why)) status =
-    (status ≡ 1) × IsTold said errors errors_left (message_of_report why)
-IsReportTold said errors errors_left (Err why) status = IsFaultTold said errors errors_left why status
+-- the fault that ended a report, if one did
+abbrev pub report_cause : Result (Unit {0}) ReportFault → Option Cause
+report_cause (Ok done) = None
+report_cause (Err why) = Some (of_report why)
 
 -- The records that stand there were reported on, of a desk of this country, or nothing was written, since there was no desk; and what
 -- came of it was told.
@@ -56,4 +48,4 @@ IsReportDone contents said image country kind records out out_left errors errors
     (end : Result (Result (Unit {0}) ReportFault) DeskFault)
     × AtDesk image country records (λ D view opened left end. HasReported view opened left contents kind out out_left end) (out_left ≡ out)
     before file end
-    × IsReportTold said errors errors_left end status
+    × IsEnded said (of_job report_cause end) errors errors_left status

@@ -1,20 +1,19 @@
 //! Batches: a file of rows, done at a desk.
-ghost use Rattle.std.specs.Prelude.{◌≡◌, IfOk, string_bytes};
+ghost use Rattle.std.specs.Prelude.{◌≡◌};
 ghost use Rattle.sqlite.specs.WalFiles.{image_at};
 ghost use Rattle.td_jobs.specs.Batched.{commands_of, kind_of};
-ghost use Rattle.td_cli.specs.Batched.{IsBatchAtDesk, IsBatchFaultTold, IsBatchTold, IsBatched, IsRunTold, message_of_batch_fault, message_of_stop, message_of_unread};
+ghost use Rattle.td_cli.specs.Batched.{IsBatchAtDesk, IsBatchTold, IsBatched, IsRunTold};
 
 use crate::at_desk::at_desk;
-use crate::telling::{DONE, FAULT, NO_MEMORY, fault, tell_desk_fault};
+use crate::exits::{Cause, DONE, FAULT, Word, fault, of_file, of_rows, of_stop, of_unread};
 use sqlite::Start;
-use std::alloc::{AllocError, Global};
+use std::alloc::Global;
 use std::io::{Read, Write};
 use td_base::{Counted, write_whole};
-use td_batch::{BatchFault, BatchRun};
-use td_desk::Fault;
+use td_batch::BatchRun;
 use td_files::{DeskFault, DeskFile};
 use td_jobs::Rows;
-use td_machine::{Machine, Surroundings, Unread};
+use td_machine::{Machine, Surroundings};
 use td_words::{BatchKind, Office, Records};
 
 /// Does the rows of the machine's file at the path `csv` at a desk of the office whose records stand there, prints what became
@@ -37,44 +36,13 @@ pub(crate) fn batch<M: Machine, S: Start, R: Read, W: Write, E: Write>(
 {
     let bytes = match machine.read_file(rt.alloc(), csv) {
         Ok(bytes) => bytes,
-        Err(why) => return fault(errors, unread_line(why)),
+        Err(why) => return fault(rt.alloc(), of_unread(why), errors),
     };
     match Rows::read(rt.alloc(), kind, &bytes) {
         Ok(rows) => do_rows(
             rt, machine, office, &rows, records, file, input, out, errors,
         ),
-        Err(why) => tell_batch_fault(rt.alloc(), why, errors),
-    }
-}
-
-// What is told of a file with rows that can't be read.
-fn unread_line(why: Unread) -> &'static str
-    ensures { result.now ≡ message_of_unread why }
-{
-    match why {
-        Unread::File => "transit-desk: file\n",
-        Unread::NoMemory => NO_MEMORY,
-    }
-}
-
-fn batch_fault_line(alloc: Global, why: BatchFault) -> Result<String, AllocError>
-    ensures { IfOk result (λ line. string_bytes line ≡ message_of_batch_fault why) }
-{
-    match why {
-        BatchFault::BadCsv { row, column } => {
-            format!(in alloc; "transit-desk: bad csv row {row} column {column}\n")
-        }
-        BatchFault::NoMemory => String::from_str(alloc, NO_MEMORY),
-    }
-}
-
-// Says why no rows were read, and gives the status of that.
-fn tell_batch_fault<E: Write>(alloc: Global, why: BatchFault, errors: &mut Counted<E>) -> u8
-    ensures { IsBatchFaultTold E.contents errors.old errors.new why result }
-{
-    match batch_fault_line(alloc, why) {
-        Ok(line) => fault(errors, &line),
-        Err(_) => fault(errors, NO_MEMORY),
+        Err(why) => fault(rt.alloc(), of_rows(why), errors),
     }
 }
 
@@ -108,28 +76,24 @@ fn tell_batch<W: Write, E: Write>(
     ensures { IsBatchTold W.contents E.contents end out.old out.new errors.old errors.new result }
 {
     match end {
-        Ok(run) => tell_run(&run, out, errors),
-        Err(why) => tell_desk_fault(alloc, why, errors),
-    }
-}
-
-fn stop_line(why: Fault) -> &'static str
-    ensures { result.now ≡ message_of_stop why }
-{
-    match why {
-        Fault::NoMemory => NO_MEMORY,
-        Fault::Store => "transit-desk: store\n",
+        Ok(run) => tell_run(alloc, &run, out, errors),
+        Err(why) => fault(alloc, of_file(why), errors),
     }
 }
 
 // Prints the result file, says the fault that stopped the run, if any, and gives the status.
-fn tell_run<W: Write, E: Write>(run: &BatchRun, out: &mut Counted<W>, errors: &mut Counted<E>) -> u8
+fn tell_run<W: Write, E: Write>(
+    alloc: Global,
+    run: &BatchRun,
+    out: &mut Counted<W>,
+    errors: &mut Counted<E>,
+) -> u8
     ensures { IsRunTold W.contents E.contents run.now out.old out.new errors.old errors.new result }
 {
     let is_whole = write_whole(out, &run.text);
     match run.stopped {
-        Some(why) => fault(errors, stop_line(why)),
-        None if !is_whole => fault(errors, "transit-desk: write\n"),
+        Some(why) => fault(alloc, of_stop(why), errors),
+        None if !is_whole => fault(alloc, Cause::Of(Word::Write), errors),
         None if run.has_refusal() => FAULT,
         None => DONE,
     }

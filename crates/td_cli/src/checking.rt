@@ -4,7 +4,8 @@ ghost use Rattle.sqlite.specs.WalFiles.{image_at};
 ghost use Rattle.td_cli.specs.Performed.{IsCheckTold, IsChecked};
 
 use crate::at_desk::at_desk;
-use crate::telling::{print, tell_desk_fault};
+use crate::exits::{fault, of_file};
+use crate::telling::print;
 use sqlite::Start;
 use std::alloc::Global;
 use std::io::{Read, Write};
@@ -45,7 +46,7 @@ fn tell_check<W: Write, E: Write>(
     ensures { IsCheckTold W.contents E.contents end out.old out.new errors.old errors.new result }
 {
     match end {
-        Ok(()) => print("sound\n", out, errors),
-        Err(why) => tell_desk_fault(alloc, why, errors),
+        Ok(()) => print(alloc, "sound\n", out, errors),
+        Err(why) => fault(alloc, of_file(why), errors),
     }
 }

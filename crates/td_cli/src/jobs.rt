@@ -1,20 +1,24 @@
 //! The jobs of the program.
-ghost use Rattle.std.specs.Prelude.{map, string_bytes};
+ghost use Rattle.std.specs.Prelude.{◌≡◌, map, string_bytes};
 ghost use Rattle.sqlite.specs.WalFiles.{image_at};
+ghost use Rattle.td_cli.specs.Exits.{of_job};
 ghost use Rattle.td_cli.specs.Performed.{IsDone, IsPerformed, IsTaskDone};
 ghost use Rattle.td_cli.specs.Statuses.{IsAnswered};
 
 use crate::at_desk::at_desk;
 use crate::batching::batch;
 use crate::checking::check;
+use crate::exits::{Cause, WRONG_WORDS, Word, exit, fault, of_file, of_serving, of_stream};
 use crate::migrating::migrate;
 use crate::reporting::report;
-use crate::telling::{WRONG_WORDS, fault, print, tell_end, tell_serving};
+use crate::telling::print;
 use sqlite::Start;
+use std::alloc::Global;
 use std::io::{Read, Write};
 use td_base::{Counted, write_whole};
-use td_files::DeskFile;
-use td_jobs::Piping;
+use td_files::{DeskFault, DeskFile};
+use td_http::StreamEnd;
+use td_jobs::{Piping, ServingEnd};
 use td_machine::{HostMachine, Machine, Surroundings};
 use td_words::{Job, NoJob, Office, Records, Task, read_words};
 
@@ -56,7 +60,7 @@ pub fn perform_on<M: Machine, S: Start, R: Read, W: Write, E: Write>(
 {
     match read_words(rt.alloc(), words) {
         Ok(job) => do_job(rt, machine, job, file, input, out, errors),
-        Err(no_job) => tell(&no_job, out, errors),
+        Err(no_job) => tell(rt.alloc(), &no_job, out, errors),
     }
 }
 
@@ -98,11 +102,11 @@ fn do_task<M: Machine, S: Start, R: Read, W: Write, E: Write>(
     match task {
         Task::Serve(listening, records) => {
             let end = at_desk(rt, machine, office, &records, file, &listening, input, out);
-            tell_serving(rt.alloc(), end, errors)
+            exit(rt.alloc(), serving_cause(end), errors)
         }
         Task::Pipe(records) => {
             let end = at_desk(rt, machine, office, &records, file, &Piping, input, out);
-            tell_end(rt.alloc(), end, errors)
+            exit(rt.alloc(), stream_cause(end), errors)
         }
         Task::Batch(kind, csv, path) => {
             let records = Records::File(path);
@@ -118,16 +122,41 @@ fn do_task<M: Machine, S: Start, R: Read, W: Write, E: Write>(
     }
 }
 
+// The cause by which a stream ended, or for which there was no desk for it, if any.
+fn stream_cause(end: Result<StreamEnd, DeskFault>) -> Option<Cause>
+    ensures { result ≡ of_job of_stream end }
+{
+    match end {
+        Ok(end) => of_stream(end),
+        Err(why) => Some(of_file(why)),
+    }
+}
+
+// The same of a serving.
+fn serving_cause(end: Result<ServingEnd, DeskFault>) -> Option<Cause>
+    ensures { result ≡ of_job of_serving end }
+{
+    match end {
+        Ok(end) => of_serving(end),
+        Err(why) => Some(of_file(why)),
+    }
+}
+
 // Says why the words ask for no job, and gives the status of it. Help that was asked for goes to `out`.
-fn tell<W: Write, E: Write>(no_job: &NoJob, out: &mut Counted<W>, errors: &mut Counted<E>) -> u8
+fn tell<W: Write, E: Write>(
+    alloc: Global,
+    no_job: &NoJob,
+    out: &mut Counted<W>,
+    errors: &mut Counted<E>,
+) -> u8
     ensures { IsAnswered W.contents E.contents out.old out.new errors.old errors.new no_job.now result }
 {
     match no_job {
-        NoJob::Help(text) => print(text, out, errors),
+        NoJob::Help(text) => print(alloc, text, out, errors),
         NoJob::Wrong(text) => {
             let _told = write_whole(errors, text.as_bytes());
             WRONG_WORDS
         }
-        NoJob::NoMemory => fault(errors, "transit-desk: no-memory\n"),
+        NoJob::NoMemory => fault(alloc, Cause::Of(Word::NoMemory), errors),
     }
 }

@@ -6,6 +6,7 @@ mod at_desk;
 mod batch_laws;
 mod batching;
 mod checking;
+mod exits;
 mod jobs;
 mod laws;
 mod migrating;

@@ -3,7 +3,8 @@ ghost use Rattle.std.specs.Prelude.{◌≡◌, IfOk, string_bytes};
 ghost use Rattle.sqlite.specs.WalFiles.{image_at};
 ghost use Rattle.td_cli.specs.Migrated.{IsMigrated, IsMigrationTold, message_of_version};
 
-use crate::telling::{NO_MEMORY, fault, print, tell_desk_fault};
+use crate::exits::{Cause, Word, fault, of_file};
+use crate::telling::print;
 use sqlite::Start;
 use std::alloc::{AllocError, Global};
 use std::io::Write;
@@ -44,9 +45,9 @@ fn tell_migration<W: Write, E: Write>(
 {
     match end {
         Ok(version) => match version_line(alloc, version) {
-            Ok(line) => print(&line, out, errors),
-            Err(_) => fault(errors, NO_MEMORY),
+            Ok(line) => print(alloc, &line, out, errors),
+            Err(_) => fault(alloc, Cause::Of(Word::NoMemory), errors),
         },
-        Err(why) => tell_desk_fault(alloc, why, errors),
+        Err(why) => fault(alloc, of_file(why), errors),
     }
 }

@@ -40,6 +40,6 @@ pub fn run_program<S: Start, R: Read, W: Write, E: Write>(
 {
     match words {
         Ok(words) => perform(rt, &words, file, input, out, errors),
-        Err(error) => unread_words(&error, errors),
+        Err(error) => unread_words(rt.alloc(), &error, errors),
     }
 }

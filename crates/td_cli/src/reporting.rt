@@ -3,13 +3,14 @@ ghost use Rattle.std.specs.Prelude.{◌≡◌, is_ok, Err, true};
 ghost use Rattle.sqlite.specs.WalFiles.{image_at};
 ghost use Rattle.td_words.specs.declared.words.Records.TheVariants.{File};
 ghost use Rattle.td_cli.specs.AtDesk.{AtDesk};
-ghost use Rattle.td_cli.specs.Reported.{HasReported, IsReportDone, IsReportTold, message_of_report, report_text};
+ghost use Rattle.td_cli.specs.Exits.{of_job};
+ghost use Rattle.td_cli.specs.Reported.{HasReported, IsReportDone, report_cause, report_text};
 ghost use Rattle.counted_io.specs.Counted.{has_failed};
 ghost use Rattle.td_report_pieces.specs.Written.{IsReported};
 ghost use Rattle.td_store.specs.Kept.{sql_view};
 ghost use Rattle.td_store.specs.Looked.{HasLooked};
 
-use crate::telling::{DONE, NO_MEMORY, fault, tell_desk_fault};
+use crate::exits::{Cause, exit, of_file, of_report};
 use sqlite::{Alter, Start};
 use std::alloc::Global;
 use std::io::Write;
@@ -34,7 +35,7 @@ pub(crate) fn report<S: Start, W: Write, E: Write>(
         file.old.connection file.new.connection result }
 {
     let end = report_on(rt, country, kind, path, file, out);
-    tell_report(rt.alloc(), end, errors)
+    exit(rt.alloc(), cause(end), errors)
 }
 
 // Writes it, or answers why there was no desk.
@@ -74,28 +75,13 @@ fn write_report<T: Alter, W: Write>(
     }
 }
 
-// What is told of a report that a fault ended.
-fn report_line(why: ReportFault) -> &'static str
-    ensures { result.now ≡ message_of_report why }
-{
-    match why {
-        ReportFault::Write => "transit-desk: write\n",
-        ReportFault::Store => "transit-desk: store\n",
-        ReportFault::NoMemory => NO_MEMORY,
-    }
-}
-
-// Tells the fault that ended a report, if any, or why there was no desk, and gives the status.
-fn tell_report<E: Write>(
-    alloc: Global,
-    end: Result<Result<(), ReportFault>, DeskFault>,
-    errors: &mut Counted<E>,
-) -> u8
-    ensures { IsReportTold E.contents errors.old errors.new end result }
+// The cause by which a report ended, or for which there was no desk, if any.
+fn cause(end: Result<Result<(), ReportFault>, DeskFault>) -> Option<Cause>
+    ensures { result ≡ of_job report_cause end }
 {
     match end {
-        Ok(Ok(())) => DONE,
-        Ok(Err(why)) => fault(errors, report_line(why)),
-        Err(why) => tell_desk_fault(alloc, why, errors),
+        Ok(Ok(())) => None,
+        Ok(Err(why)) => Some(of_report(why)),
+        Err(why) => Some(of_file(why)),
     }
 }

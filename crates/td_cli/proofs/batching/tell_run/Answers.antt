@@ -1,6 +1,7 @@
-use Rattle.std.proofs.Common.{sym, subst}
+use Rattle.std.proofs.Common.{Some, sym, subst}
 use Rattle.td_batch.specs.Runs.{has_refusal}
 use Rattle.td_cli.specs.Batched.{IsTextTold}
+use Rattle.td_cli.specs.Exits.{IsEnded}
 use Rattle.td_cli.proofs.Batches.{told_by}
 use Rattle.td_cli.proofs.batching.tell_run.Goals as goal
 
@@ -13,6 +14,5 @@ returns-in-Some g c =
     (sym c.in-Some.is) (
       told_by g.W.Write.contents c.args.out.now written.new.writer run.text.items written.result
           (rw c.deref.ensures.value at written.ensures.whole) (rw c.deref.ensures.value at written.ensures.cut),
-      c.fault.ensures.status,
-      rw c.stop_line.ensures at c.fault.ensures.message,
+      rw c.of_stop.ensures at c.fault.ensures,
     )

@@ -1,0 +1,123 @@
+-- How the program ends: the table of its causes, each with its line on standard error, and the status.
+use Rattle.std.specs.Prelude.{◌≡◌, ◌⊎◌, ℕ, List, ◌++◌, codes, Option, Some, None, Result, Ok, Err}
+use Rattle.std.specs.Fmt.{decimal}
+use Rattle.std.specs.Io.KnownBytes.{Appends}
+use Rattle.counted_io.specs.declared.counted.Counted.{Counted}
+use Rattle.counted_io.specs.Counted.{known_bytes}
+use Rattle.counted_io.specs.Chains.{IsCutShort}
+use Rattle.http_wire.specs.declared.stream.StreamEnd.{StreamEnd}
+use Rattle.http_wire.specs.declared.stream.StreamEnd.TheVariants as stream
+use Rattle.td_desk.specs.declared.fault.Fault.{Fault}
+use Rattle.td_desk.specs.declared.fault.Fault.TheVariants as stop
+use Rattle.td_batch_rows.specs.declared.fault.BatchFault.{BatchFault}
+use Rattle.td_batch_rows.specs.declared.fault.BatchFault.TheVariants as rows
+use Rattle.td_report_pieces.specs.declared.fault.ReportFault.{ReportFault}
+use Rattle.td_report_pieces.specs.declared.fault.ReportFault.TheVariants as report
+use Rattle.td_files.specs.Faults as refused
+use Rattle.td_files.specs.declared.desks.DeskFault.{DeskFault}
+use Rattle.td_files.specs.declared.desks.DeskFault.TheVariants as desk
+use Rattle.td_machine.specs.declared.machine.Unread.{Unread}
+use Rattle.td_machine.specs.declared.machine.Unread.TheVariants as unread
+use Rattle.td_jobs.specs.declared.serving.ServingEnd.{ServingEnd}
+use Rattle.td_jobs.specs.declared.serving.ServingEnd.TheVariants as serving
+use Rattle.td_cli.specs.declared.exits.Cause.{Cause}
+use Rattle.td_cli.specs.declared.exits.Cause.TheVariants.{BadCsv, NeedsMigration, Of}
+use Rattle.td_cli.specs.declared.exits.Word.{Word}
+use Rattle.td_cli.specs.declared.exits.Word.TheVariants.{File, UnknownVersion, OtherCountry, Damaged, Store, NoMemory, Write, Socket, StreamRefused, StreamCut, ReadsSpent, ReadFault, WriteFault, StreamFailed}
+
+-- the words of the causes whose lines are fixed
+abbrev pub word_text : Word → List ℕ
+word_text File = codes "file"
+word_text UnknownVersion = codes "unknown-version"
+word_text OtherCountry = codes "other-country"
+word_text (Damaged rule) = codes "damaged " ++ refused.rule_name rule
+word_text Store = codes "store"
+word_text NoMemory = codes "no-memory"
+word_text Write = codes "write"
+word_text Socket = codes "socket"
+word_text StreamRefused = codes "stream refused"
+word_text StreamCut = codes "stream cut"
+word_text ReadsSpent = codes "stream reads-spent"
+word_text ReadFault = codes "stream read-fault"
+word_text WriteFault = codes "stream write-fault"
+word_text StreamFailed = codes "stream failed"
+
+abbrev pub word_line : Word → List ℕ
+word_line word = codes "transit-desk: " ++ (word_text word ++ codes "\n")
+
+-- the line of a cause
+abbrev pub line_of : Cause → List ℕ
+line_of (BadCsv row column) = codes "transit-desk: bad csv row " ++ (decimal row ++ (codes " column " ++ (decimal column ++ codes "\n")))
+line_of (NeedsMigration version) = codes "transit-desk: needs-migration " ++ (decimal version ++ codes "\n")
+line_of (Of word) = word_line word
+
+-- the text was written, or as much of it as the writer took
+abbrev pub IsTold : {W : Type 0} → (W → Option (List ℕ)) → Counted W → Counted W → List ℕ → Type 0
+IsTold contents old new text =
+    Appends (known_bytes contents old) (known_bytes contents new) text ⊎ IsCutShort contents old new text
+
+-- The line of a cause was told. In the place of one that has numbers it may be told that there was no memory for it.
+abbrev pub IsCauseTold : {E : Type 0} → (E → Option (List ℕ)) → Counted E → Counted E → Cause → Type 0
+IsCauseTold said errors errors_left (Of word) = IsTold said errors errors_left (word_line word)
+IsCauseTold said errors errors_left (BadCsv row column) =
+    IsTold said errors errors_left (line_of (BadCsv row column)) ⊎ IsTold said errors errors_left (word_line NoMemory)
+IsCauseTold said errors errors_left (NeedsMigration version) =
+    IsTold said errors errors_left (line_of (NeedsMigration version)) ⊎ IsTold said errors errors_left (word_line NoMemory)
+
+-- A job ended well, with status 0 and no line; or by a cause, with status 1 and its line.
+abbrev pub IsEnded : {E : Type 0} → (E → Option (List ℕ)) → Option Cause → Counted E → Counted E → ℕ → Type 0
+IsEnded said None errors errors_left status = (status ≡ 0) × (errors_left ≡ errors)
+IsEnded said (Some cause) errors errors_left status = (status ≡ 1) × IsCauseTold said errors errors_left cause
+
+-- the cause of each fault: why there was no desk over a file
+abbrev pub of_file : DeskFault → Cause
+of_file desk.File = Of File
+of_file (desk.Refused refused.UnknownVersion) = Of UnknownVersion
+of_file (desk.Refused (refused.NeedsMigration version)) = NeedsMigration version
+of_file (desk.Refused refused.OtherCountry) = Of OtherCountry
+of_file (desk.Refused (refused.Damaged rule)) = Of (Damaged rule)
+of_file (desk.Refused refused.Store) = Of Store
+of_file (desk.Refused refused.NoMemory) = Of NoMemory
+
+-- why a stream ended otherwise than at the end of the input, by a request to close, or after its last request
+abbrev pub of_stream : StreamEnd → Option Cause
+of_stream stream.Closed = None
+of_stream stream.Asked = None
+of_stream stream.Served = None
+of_stream stream.Refused = Some (Of StreamRefused)
+of_stream stream.Cut = Some (Of StreamCut)
+of_stream stream.ReadsSpent = Some (Of ReadsSpent)
+of_stream stream.ReadFault = Some (Of ReadFault)
+of_stream stream.WriteFault = Some (Of WriteFault)
+of_stream stream.Failed = Some (Of StreamFailed)
+
+-- why not all connections were served, or that couldn't be printed
+abbrev pub of_serving : ServingEnd → Option Cause
+of_serving serving.Done = None
+of_serving serving.NoMemory = Some (Of NoMemory)
+of_serving serving.Socket = Some (Of Socket)
+of_serving serving.Write = Some (Of Write)
+
+-- why a file of rows wasn't read, why its bytes aren't rows, and why a batch stopped at a row
+abbrev pub of_unread : Unread → Cause
+of_unread unread.File = Of File
+of_unread unread.NoMemory = Of NoMemory
+
+abbrev pub of_rows : BatchFault → Cause
+of_rows (rows.BadCsv row column) = BadCsv row column
+of_rows rows.NoMemory = Of NoMemory
+
+abbrev pub of_stop : Fault → Cause
+of_stop stop.NoMemory = Of NoMemory
+of_stop stop.Store = Of Store
+
+-- why a report isn't whole
+abbrev pub of_report : ReportFault → Cause
+of_report report.Write = Of Write
+of_report report.Store = Of Store
+of_report report.NoMemory = Of NoMemory
+
+-- the cause by which a job at a desk ended, or for which there was no desk
+abbrev pub of_job : {End : Type 0} → (End → Option Cause) → Result End DeskFault → Option Cause
+of_job of (Ok end) = of end
+of_job of (Err why) = Some (of_file why)

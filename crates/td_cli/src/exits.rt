@@ -1,0 +1,243 @@
+//! How a job ends: well, with status 0 and no word, or by a cause, with status 1 and one line on standard error. Each cause is a row.
+ghost use Rattle.std.specs.Prelude.{◌≡◌, Some, IfOk, MatchResult, string_bytes};
+ghost use Rattle.td_cli.specs.Exits.{IsEnded, IsTold, line_of, of_file, of_report, of_rows, of_serving, of_stop, of_stream, of_unread, word_line};
+ghost use Rattle.td_cli.specs.declared.exits.Cause.TheVariants.{BadCsv, NeedsMigration};
+ghost use Rattle.td_cli.specs.declared.exits.Word.TheVariants.{Damaged, NoMemory};
+
+use std::alloc::{AllocError, Global};
+use std::io::Write;
+use td_base::{Counted, write_whole};
+use td_batch::BatchFault;
+use td_desk::Fault;
+use td_files::{DeskFault, OpenFault};
+use td_http::StreamEnd;
+use td_jobs::ServingEnd;
+use td_machine::Unread;
+use td_reports::ReportFault;
+use td_table_model::Rule;
+
+/// The status of a job that is done.
+pub(crate) const DONE: u8 = 0;
+/// The status of a job that a fault ended, or in which a row was refused.
+pub(crate) const FAULT: u8 = 1;
+/// The status of wrong words.
+pub(crate) const WRONG_WORDS: u8 = 2;
+
+/// Why a job ended by a fault.
+#[derive(Clone, Copy, Debug, PartialEq, Eq)]
+pub enum Cause {
+    /// A file of rows: its first bad row, and in it the first bad column.
+    BadCsv { row: u64, column: u32 },
+    /// A file has a desk's tables of this earlier version.
+    NeedsMigration(u32),
+    /// A cause whose line is fixed.
+    Of(Word),
+}
+
+/// A cause whose line is fixed.
+#[derive(Clone, Copy, Debug, PartialEq, Eq)]
+pub enum Word {
+    /// A file isn't there, can't be opened or read, or is no database.
+    File,
+    /// A file has no desk's tables of a version that is known.
+    UnknownVersion,
+    /// A file has a desk of another country.
+    OtherCountry,
+    /// The rows of a file break this rule first.
+    Damaged(Rule),
+    /// The database answered an error.
+    Store,
+    /// Want of memory.
+    NoMemory,
+    /// The output couldn't be written.
+    Write,
+    /// The port couldn't be listened on, or no further connection came.
+    Socket,
+    /// What came is no whole request.
+    StreamRefused,
+    /// The input ended within a request.
+    StreamCut,
+    /// A stream had as many reads as it may have.
+    ReadsSpent,
+    /// The input couldn't be read.
+    ReadFault,
+    /// A reply couldn't be written.
+    WriteFault,
+    /// A request failed, which ended the stream.
+    StreamFailed,
+}
+
+/// Why there is no desk over a file.
+pub(crate) fn of_file(why: DeskFault) -> Cause
+    ensures { result ≡ of_file why }
+{
+    match why {
+        DeskFault::File => Cause::Of(Word::File),
+        DeskFault::Refused(OpenFault::UnknownVersion) => Cause::Of(Word::UnknownVersion),
+        DeskFault::Refused(OpenFault::NeedsMigration(version)) => Cause::NeedsMigration(version),
+        DeskFault::Refused(OpenFault::OtherCountry) => Cause::Of(Word::OtherCountry),
+        DeskFault::Refused(OpenFault::Damaged(rule)) => Cause::Of(Word::Damaged(rule)),
+        DeskFault::Refused(OpenFault::Store) => Cause::Of(Word::Store),
+        DeskFault::Refused(OpenFault::NoMemory) => Cause::Of(Word::NoMemory),
+    }
+}
+
+/// Why a stream ended otherwise than well.
+pub(crate) fn of_stream(end: StreamEnd) -> Option<Cause>
+    ensures { result ≡ of_stream end }
+{
+    match end {
+        StreamEnd::Closed | StreamEnd::Asked | StreamEnd::Served => None,
+        StreamEnd::Refused => Some(Cause::Of(Word::StreamRefused)),
+        StreamEnd::Cut => Some(Cause::Of(Word::StreamCut)),
+        StreamEnd::ReadsSpent => Some(Cause::Of(Word::ReadsSpent)),
+        StreamEnd::ReadFault => Some(Cause::Of(Word::ReadFault)),
+        StreamEnd::WriteFault => Some(Cause::Of(Word::WriteFault)),
+        StreamEnd::Failed => Some(Cause::Of(Word::StreamFailed)),
+    }
+}
+
+/// Why a serving ended otherwise than well.
+pub(crate) fn of_serving(end: ServingEnd) -> Option<Cause>
+    ensures { result ≡ of_serving end }
+{
+    match end {
+        ServingEnd::Done => None,
+        ServingEnd::NoMemory => Some(Cause::Of(Word::NoMemory)),
+        ServingEnd::Socket => Some(Cause::Of(Word::Socket)),
+        ServingEnd::Write => Some(Cause::Of(Word::Write)),
+    }
+}
+
+/// Why a file of rows wasn't read.
+pub(crate) fn of_unread(why: Unread) -> Cause
+    ensures { result ≡ of_unread why }
+{
+    match why {
+        Unread::File => Cause::Of(Word::File),
+        Unread::NoMemory => Cause::Of(Word::NoMemory),
+    }
+}
+
+/// Why its bytes aren't rows.
+pub(crate) fn of_rows(why: BatchFault) -> Cause
+    ensures { result ≡ of_rows why }
+{
+    match why {
+        BatchFault::BadCsv { row, column } => Cause::BadCsv { row, column },
+        BatchFault::NoMemory => Cause::Of(Word::NoMemory),
+    }
+}
+
+/// Why a batch stopped at a row.
+pub(crate) fn of_stop(why: Fault) -> Cause
+    ensures { result ≡ of_stop why }
+{
+    match why {
+        Fault::NoMemory => Cause::Of(Word::NoMemory),
+        Fault::Store => Cause::Of(Word::Store),
+    }
+}
+
+/// Why a report isn't whole.
+pub(crate) fn of_report(why: ReportFault) -> Cause
+    ensures { result ≡ of_report why }
+{
+    match why {
+        ReportFault::Write => Cause::Of(Word::Write),
+        ReportFault::Store => Cause::Of(Word::Store),
+        ReportFault::NoMemory => Cause::Of(Word::NoMemory),
+    }
+}
+
+// The line of a broken rule.
+fn rule_line(rule: Rule) -> &'static str
+    ensures { result.now ≡ word_line (Damaged rule) }
+{
+    match rule {
+        Rule::S1 => "transit-desk: damaged S1\n",
+        Rule::S2 => "transit-desk: damaged S2\n",
+        Rule::S3 => "transit-desk: damaged S3\n",
+        Rule::S4 => "transit-desk: damaged S4\n",
+        Rule::S5 => "transit-desk: damaged S5\n",
+        Rule::S6 => "transit-desk: damaged S6\n",
+        Rule::S7 => "transit-desk: damaged S7\n",
+        Rule::S8 => "transit-desk: damaged S8\n",
+    }
+}
+
+impl Word {
+    // Its line.
+    fn line(self) -> &'static str
+        ensures { result.now ≡ word_line self }
+    {
+        match self {
+            Word::File => "transit-desk: file\n",
+            Word::UnknownVersion => "transit-desk: unknown-version\n",
+            Word::OtherCountry => "transit-desk: other-country\n",
+            Word::Damaged(rule) => rule_line(rule),
+            Word::Store => "transit-desk: store\n",
+            Word::NoMemory => "transit-desk: no-memory\n",
+            Word::Write => "transit-desk: write\n",
+            Word::Socket => "transit-desk: socket\n",
+            Word::StreamRefused => "transit-desk: stream refused\n",
+            Word::StreamCut => "transit-desk: stream cut\n",
+            Word::ReadsSpent => "transit-desk: stream reads-spent\n",
+            Word::ReadFault => "transit-desk: stream read-fault\n",
+            Word::WriteFault => "transit-desk: stream write-fault\n",
+            Word::StreamFailed => "transit-desk: stream failed\n",
+        }
+    }
+}
+
+// Tells a line, as much of it as is taken.
+fn tell<E: Write>(line: &str, errors: &mut Counted<E>)
+    ensures { IsTold E.contents errors.old errors.new line.now }
+{
+    let _told = write_whole(errors, line.as_bytes());
+}
+
+// Tells a line that was made, or that there was no memory for it.
+fn tell_made<E: Write>(line: Result<String, AllocError>, errors: &mut Counted<E>)
+    ensures { MatchResult line (λ line. IsTold E.contents errors.old errors.new (string_bytes line))
+        (λ why. IsTold E.contents errors.old errors.new (word_line NoMemory)) }
+{
+    match line {
+        Ok(line) => tell(&line, errors),
+        Err(_) => tell(Word::NoMemory.line(), errors),
+    }
+}
+
+fn bad_csv_line(alloc: Global, row: u64, column: u32) -> Result<String, AllocError>
+    ensures { IfOk result (λ line. string_bytes line ≡ line_of (BadCsv row column)) }
+{
+    format!(in alloc; "transit-desk: bad csv row {row} column {column}\n")
+}
+
+fn needs_migration_line(alloc: Global, version: u32) -> Result<String, AllocError>
+    ensures { IfOk result (λ line. string_bytes line ≡ line_of (NeedsMigration version)) }
+{
+    format!(in alloc; "transit-desk: needs-migration {version}\n")
+}
+
+/// Tells the cause, and gives its status.
+pub(crate) fn fault<E: Write>(alloc: Global, cause: Cause, errors: &mut Counted<E>) -> u8
+    ensures { IsEnded E.contents (Some cause) errors.old errors.new result }
+{
+    match cause {
+        Cause::BadCsv { row, column } => tell_made(bad_csv_line(alloc, row, column), errors),
+        Cause::NeedsMigration(version) => tell_made(needs_migration_line(alloc, version), errors),
+        Cause::Of(word) => tell(word.line(), errors),
+    }
+    FAULT
+}
+
+/// Tells the cause that ended a job, if any, and gives its status.
+pub(crate) fn exit<E: Write>(alloc: Global, cause: Option<Cause>, errors: &mut Counted<E>) -> u8
+    ensures { IsEnded E.contents cause errors.old errors.new result }
+{
+    match cause {
+        None => DONE,
+        Some(cause) => fault(alloc, cause, errors),
+    }
+}
