@@ -2,13 +2,13 @@
 use Rattle.std.specs.Prelude.{◌≡◌, ℕ, List, is_ok, true, Option, None, Some, Result, Ok, Err}
 use Rattle.sqlite_wal.specs.Recovery.{Image}
 use Rattle.counted_io.specs.declared.counted.Counted.{Counted}
-use Rattle.counted_io.specs.Counted.{has_failed}
+use Rattle.counted_io.specs.Counted.{calls_of, has_failed, HasCalled}
 use Rattle.sqlite_disk.specs.declared.Disk.{Ghosts}
 use Rattle.td_desk.specs.Content.{Content}
 use Rattle.td_desk.specs.View.{DeskView}
 use Rattle.td_files.specs.Found.{FileSeen}
 use Rattle.td_files.specs.declared.desks.DeskFault.{DeskFault}
-use Rattle.td_report_pieces.specs.Written.{IsReported}
+use Rattle.td_report_pieces.specs.Written.{HasWritten, IsReported}
 use Rattle.td_reports.specs.Texts.{guarantees_text, overdue_text}
 use Rattle.td_report_pieces.specs.declared.fault.ReportFault.{ReportFault}
 use Rattle.td_report_pieces.specs.declared.fault.ReportFault.TheVariants as report
@@ -27,13 +27,15 @@ report_text (Overdue day) c = overdue_text day (movements_listed c)
 report_text Guarantees c = guarantees_text (guarantees_listed c)
 
 -- A desk that is seen so was reported on, and left as it was. What was written is the text of its content, or where a fault ended the
--- report the beginning of that.
+-- report the beginning of that. `Write` comes only of a write of this report, which failed or took nothing and is the last one: whatever
+-- was written is a chain of writes.
 pub record HasReported {D W : Type 0} (view : DeskView D) (opened left : D) (contents : W → Option (List ℕ))
     (kind : ReportKind) (out out_left : Counted W) (end : Result (Unit {0}) ReportFault) : Type 0 where
   pub looked : HasLooked view (is_ok end) opened left
   pub written : view.is_clean left → view.is_live opened
       → IsReported contents out out_left (report_text kind (view.content opened)) end
-  pub cause : end ≡ Err report.Write → has_failed out_left ≡ true
+  pub cause : end ≡ Err report.Write → (has_failed out_left ≡ true) × HasCalled (calls_of out) (calls_of out_left)
+  pub chain : HasWritten contents out out_left end
 
 -- the fault that ended a report, if one did
 abbrev pub report_cause : Result (Unit {0}) ReportFault → Option Cause
