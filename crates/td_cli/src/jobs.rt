@@ -32,8 +32,8 @@ pub fn perform<S: Start, R: Read, W: Write, E: Write>(
     out: &mut Counted<W>,
     errors: &mut Counted<E>,
 ) -> u8
-    ensures { (machine : HostMachine) × (machine_left : HostMachine)
-        × IsPerformed ⟦<HostMachine as Surroundings>⟧.around R.remaining W.contents E.contents (image_at S.Start) (map string_bytes words.now)
+    ensures { (machine : _) × (machine_left : _)
+        × IsPerformed ⟦<HostMachine<'static> as Surroundings>⟧.around R.remaining W.contents E.contents (image_at S.Start) (map string_bytes words.now)
         input.old input.new out.old out.new errors.old errors.new
         file.old.connection file.new.connection machine machine_left result }
 {
