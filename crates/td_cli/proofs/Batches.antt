@@ -1,5 +1,6 @@
--- A text that was written or not, and a file that was read or not.
-use Rattle.std.proofs.Common.{◌≡◌, inl, inr, ℕ, Bool, true, false, List, Option, None, refl}
+-- Texts that were written or not, and a file that was read or not.
+use Rattle.std.proofs.Common.{◌≡◌, ◌⊎◌, inl, inr, ℕ, Bool, true, false, List, Option, None, Result, Ok, Err, refl, subst}
+use Rattle.std.specs.Prelude.{IfOk, MatchResult}
 use Rattle.std.specs.Io.KnownBytes.{Appends}
 use Rattle.counted_io.specs.declared.counted.Counted.{Counted}
 use Rattle.counted_io.specs.Counted.{known_bytes}
@@ -21,3 +22,11 @@ pub not_read : {M L : Type 0} (known : Known M L) (path : List ℕ) (old new : M
     → (why ≡ File → known.holds old path ≡ None) → known.reads old new → IsNotRead known path old new why
 not_read known path old new File none reads = (none refl, reads)
 not_read known path old new NoMemory none reads = reads
+
+-- a line that was made was told, or that there was no memory for it
+pub told_made : {W T A : Type 0} (contents : W → Option (List ℕ)) (old new : Counted W) (text none : List ℕ) (bytes : T → List ℕ) (line : Result T A)
+    → IfOk line (λ line. bytes line ≡ text)
+    → MatchResult line (λ line. IsTold contents old new (bytes line)) (λ why. IsTold contents old new none)
+    → IsTold contents old new text ⊎ IsTold contents old new none
+told_made contents old new text none bytes (Ok line) is told = inl (subst (IsTold contents old new) is told)
+told_made contents old new text none bytes (Err why) is told = inr told

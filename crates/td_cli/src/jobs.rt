@@ -1,7 +1,7 @@
 //! The jobs of the program.
 ghost use Rattle.std.specs.Prelude.{◌≡◌, map, string_bytes};
 ghost use Rattle.sqlite.specs.WalFiles.{image_at};
-ghost use Rattle.td_cli.specs.Exits.{of_job};
+ghost use Rattle.td_cli.specs.Exits.{of_job, of_serving, of_stream};
 ghost use Rattle.td_cli.specs.Performed.{IsDone, IsPerformed, IsTaskDone};
 ghost use Rattle.td_cli.specs.Statuses.{IsAnswered};
 

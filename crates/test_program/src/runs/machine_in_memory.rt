@@ -127,7 +127,7 @@ fn assert_told(told: &[Vec<u8>], due: &[&[&[u8]]]) -> Result<(), Fail> {
 
 fn assert_replies(told: &[u8], due: &[&[u8]]) -> Result<(), Fail> {
     let mut left = told;
-    for reply in *due {
+    for reply in due {
         let (first, rest) = left.split_at(reply.len().min(left.len()));
         assert_text(first, reply)?;
         left = rest;

@@ -1,0 +1,14 @@
+use Rattle.std.proofs.Common.{refl}
+use Rattle.std.specs.Prelude.{string_bytes}
+use Rattle.td_cli.proofs.Batches.{told_made}
+use Rattle.td_cli.proofs.exits.fault.Goals as goal
+
+pub returns-in-BadCsv : goal.returns-in-BadCsv
+returns-in-BadCsv g c = rw c.in-BadCsv.is (refl, told_made g.E.Write.contents _ _ _ _ string_bytes c.bad_csv_line.result c.bad_csv_line.ensures c.tell_made.ensures)
+
+pub returns-in-NeedsMigration : goal.returns-in-NeedsMigration
+returns-in-NeedsMigration g c =
+    rw c.in-NeedsMigration.is (refl, told_made g.E.Write.contents _ _ _ _ string_bytes c.needs_migration_line.result c.needs_migration_line.ensures c.tell_made-in-NeedsMigration.ensures)
+
+pub returns-in-Of : goal.returns-in-Of
+returns-in-Of g c = rw c.in-Of.is (refl, rw c.line.ensures at c.tell.ensures)
