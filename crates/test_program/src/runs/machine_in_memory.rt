@@ -24,7 +24,7 @@ const OPENED: &[u8] =
     b"HTTP/1.1 200 OK\r\nContent-Type: application/json\r\nContent-Length: 27\r\n\r\n{\"grn\":\"25CH0000010000014\"}";
 
 const LODGED: &[u8] =
-    b"HTTP/1.1 200 OK\r\nContent-Type: application/json\r\nContent-Length: 58\r\n\r\n{\"lrn\":\"A1\",\"message\":\"IE028\",\"mrn\":\"25CH000001000001J8\"}";
+    b"HTTP/1.1 200 OK\r\nContent-Type: application/json\r\nContent-Length: 57\r\n\r\n{\"lrn\":\"A1\",\"message\":\"IE028\",\"mrn\":\"25CH000001000001J8\"}";
 
 const CLOCK_BACK: &[u8] =
     b"HTTP/1.1 409 Conflict\r\nContent-Type: application/json\r\nContent-Length: 22\r\n\r\n{\"error\":\"clock-back\"}";
