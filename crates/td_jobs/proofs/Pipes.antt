@@ -1,5 +1,5 @@
 -- Streams at desks.
-use Rattle.std.proofs.Common.{◌≡◌, ℕ, ℤ, List, Option, refl, subst, sym}
+use Rattle.std.proofs.Common.{ℕ, ℤ, List, Option, refl}
 use Rattle.counted_io.specs.declared.counted.Counted.{Counted}
 use Rattle.http_wire.specs.declared.stream.StreamEnd.{StreamEnd}
 use Rattle.http_wire.specs.Stream.{Serves}

@@ -1,7 +1,6 @@
-use Rattle.std.proofs.Common.{Some, sym, subst}
+use Rattle.std.proofs.Common.{sym, subst}
 use Rattle.td_batch.specs.Runs.{has_refusal}
 use Rattle.td_cli.specs.Batched.{IsTextTold}
-use Rattle.td_cli.specs.Exits.{IsEnded}
 use Rattle.td_cli.proofs.Batches.{told_by}
 use Rattle.td_cli.proofs.batching.tell_run.Goals as goal
 

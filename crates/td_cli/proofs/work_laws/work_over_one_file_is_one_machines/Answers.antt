@@ -1,7 +1,6 @@
 use Rattle.std.proofs.Common.{false}
 use Rattle.td_files.specs.Found.{over_file}
 use Rattle.td_jobs.specs.Batched.{header_of, line_of}
-use Rattle.td_cli.proofs.Later.{batch_clean}
 use Rattle.td_cli.proofs.Parts.{batch_work, none_told, streams_work, work_alike, work_joined}
 use Rattle.td_cli.proofs.Runs.{begun_country, begun_live, begun_sound}
 use Rattle.td_cli.proofs.work_laws.work_over_one_file_is_one_machines.Goals as goal
