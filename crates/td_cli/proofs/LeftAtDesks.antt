@@ -1,15 +1,15 @@
 -- What jobs leave at a desk whose records stand somewhere.
-use Rattle.std.proofs.Common.{ℕ, List, Option, Result, Ok, Err}
+use Rattle.std.proofs.Common.{ℕ, List, Result, Ok, Err}
 use Rattle.sqlite_disk.specs.declared.Disk.{Ghosts}
 use Rattle.sqlite_wal.specs.Recovery.{Image}
 use Rattle.td_desk.specs.View.{DeskView}
-use Rattle.td_files.specs.Found.{FileSeen}
+use Rattle.td_files.specs.Found.{FileHeld}
 use Rattle.td_files.specs.declared.desks.DeskFault.{DeskFault}
 use Rattle.td_words.specs.declared.words.Records.{Records}
 use Rattle.td_words.specs.declared.words.Records.TheVariants.{Memory, File, NewFile}
 use Rattle.td_cli.specs.AtDesk.{AtDesk}
 
-module _ {S End : Type 0} {disk : Ghosts S} (image : Image) (country : List ℕ) (before file : Option (FileSeen disk)) where
+module _ {Start S End : Type 0} {disk : Ghosts S} (image : Image) (country : List ℕ) (before file : FileHeld Start disk) where
   -- what is done is said by itself where it is said beside something else, which holds without a desk, too
   pub left_alone : (did : (D : Type 0) → DeskView D → D → D → End → Type 0) (beside untouched : Type 0) (records : Records) (end : Result End DeskFault)
       → AtDesk image country records (λ D view opened left end. beside × did D view opened left end) (beside × untouched) before file end

@@ -1,10 +1,10 @@
 -- One way to a desk for every job: what it leaves, wherever the desk's records stand.
-use Rattle.std.specs.Prelude.{◌≡◌, ℕ, List, Option, Some, Result, Ok, Err}
+use Rattle.std.specs.Prelude.{◌≡◌, ℕ, List, Some, Result, Ok, Err}
 use Rattle.sqlite_wal.specs.Recovery.{Image}
 use Rattle.sqlite_disk.specs.declared.Disk.{Ghosts}
 use Rattle.td_desk.specs.View.{DeskView}
 use Rattle.td_desk.specs.declared.plain.PlainDesk.{PlainDesk}
-use Rattle.td_files.specs.Found.{FileSeen, IsKeptDesk, IsLeftAsFound, IsToldOf, IsUnmade, over_file}
+use Rattle.td_files.specs.Found.{FileHeld, FileSeen, HasNoDesk, HasNoNewDesk, IsKeptDesk, over_file}
 use Rattle.td_files.specs.declared.desks.DeskFault.{DeskFault}
 use Rattle.td_files.specs.declared.desks.DeskFault.TheVariants.{Refused}
 use Rattle.td_files.specs.Faults as fault
@@ -13,23 +13,22 @@ use Rattle.td_words.specs.declared.words.Records.TheVariants.{Memory, File, NewF
 use Rattle.td_jobs.specs.Desks.{BeginsEmpty, in_memory}
 use Rattle.td_cli.specs.Desks.{BeginsKept, BeginsMade}
 
--- What a job leaves whose desk's records stand there, in this country, and of the connection to a file that was there before it.
--- It was done at a desk that was opened so, and a file shows what the desk left, which is a desk's file; or there was no desk for
--- this fault, what the job works on is untouched, and the file shows what it held. In memory that is want of memory, and no file is
--- opened.
-abbrev pub AtDesk : {S End : Type 0} {disk : Ghosts S} → Image → List ℕ → Records
+-- What a job leaves whose desk's records stand there, in this country, and of the file that was lent to it. It was done at a desk that
+-- was opened so, and the file's connection shows what the desk left, which is a desk's file; or there was no desk for this fault, what
+-- the job works on is untouched, and the file is left as it was found. In memory that is want of memory, and no file is opened.
+abbrev pub AtDesk : {Start S End : Type 0} {disk : Ghosts S} → Image → List ℕ → Records
     → ((D : Type 0) → DeskView D → D → D → End → Type 0) → Type 0
-    → Option (FileSeen disk) → Option (FileSeen disk) → Result End DeskFault → Type 0
+    → FileHeld Start disk → FileHeld Start disk → Result End DeskFault → Type 0
 AtDesk image country Memory did untouched before file (Ok end) =
     ((opened : PlainDesk) × (left : PlainDesk) × BeginsEmpty country opened × did PlainDesk in_memory opened left end) × (file ≡ before)
 AtDesk {disk = disk} image country (File path) did untouched before file (Ok end) =
-    (opened : FileSeen disk) × (left : FileSeen disk) × (file ≡ Some left) × IsKeptDesk left
+    (opened : FileSeen disk) × (left : FileSeen disk) × (file.connection ≡ Some left) × IsKeptDesk left
     × BeginsKept image country opened × did (FileSeen disk) over_file opened left end
 AtDesk {disk = disk} image country (NewFile path) did untouched before file (Ok end) =
-    (opened : FileSeen disk) × (left : FileSeen disk) × (file ≡ Some left) × IsKeptDesk left
+    (opened : FileSeen disk) × (left : FileSeen disk) × (file.connection ≡ Some left) × IsKeptDesk left
     × BeginsMade image country opened × did (FileSeen disk) over_file opened left end
 AtDesk image country Memory did untouched before file (Err why) = untouched × (why ≡ Refused fault.NoMemory) × (file ≡ before)
 AtDesk image country (File path) did untouched before file (Err why) =
-    untouched × IsToldOf image country file why × IsLeftAsFound image before file
+    untouched × HasNoDesk image country before file why
 AtDesk image country (NewFile path) did untouched before file (Err why) =
-    untouched × IsUnmade why × IsLeftAsFound image before file
+    untouched × HasNoNewDesk image country before file why

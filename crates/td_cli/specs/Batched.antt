@@ -8,7 +8,7 @@ use Rattle.counted_io.specs.Chains.{IsCutShort}
 use Rattle.sqlite_disk.specs.declared.Disk.{Ghosts}
 use Rattle.td_commands.specs.declared.command.Command.{Command}
 use Rattle.td_desk.specs.declared.fault.Fault.{Fault}
-use Rattle.td_files.specs.Found.{FileSeen}
+use Rattle.td_files.specs.Found.{FileHeld}
 use Rattle.td_files.specs.declared.desks.DeskFault.{DeskFault}
 use Rattle.td_batch_rows.specs.declared.fault.BatchFault.{BatchFault}
 use Rattle.td_batch_rows.specs.Rows.{Tells}
@@ -49,9 +49,9 @@ IsBatchTold contents said (Err why) out out_left errors errors_left status =
 
 -- Rows were done at a desk whose records stand there, in this country, at this moment or at one of the machine's clock, and what
 -- became of them was told; or there was no desk, and the clock wasn't asked.
-abbrev pub IsBatchAtDesk : {M W E S : Type 0} {disk : Ghosts S} → (M → ℤ → M → Type 0) → (W → Option (List ℕ)) → (E → Option (List ℕ)) → Image
+abbrev pub IsBatchAtDesk : {M W E Start S : Type 0} {disk : Ghosts S} → (M → ℤ → M → Type 0) → (W → Option (List ℕ)) → (E → Option (List ℕ)) → Image
     → List ℕ → Option ℤ → Records → BatchKind → List Command → Counted W → Counted W → Counted E → Counted E
-    → Option (FileSeen disk) → Option (FileSeen disk) → M → M → ℕ → Type 0
+    → FileHeld Start disk → FileHeld Start disk → M → M → ℕ → Type 0
 IsBatchAtDesk ticks contents said image country at records which commands out out_left errors errors_left before file machine machine_left status =
     (end : Result BatchRun DeskFault)
     × AtDesk image country records
@@ -61,9 +61,9 @@ IsBatchAtDesk ticks contents said image country at records which commands out ou
 
 -- What came of the bytes of a file. They aren't wholly rows: then nothing was printed, the clock wasn't asked, and the desk's file
 -- wasn't opened. Or they are these rows, which were done at the desk.
-abbrev pub AreRowsBatched : {M W E S : Type 0} {disk : Ghosts S} → (M → ℤ → M → Type 0) → (W → Option (List ℕ)) → (E → Option (List ℕ)) → Image
+abbrev pub AreRowsBatched : {M W E Start S : Type 0} {disk : Ghosts S} → (M → ℤ → M → Type 0) → (W → Option (List ℕ)) → (E → Option (List ℕ)) → Image
     → List ℕ → Option ℤ → Records → BatchKind → List ℕ → Counted W → Counted W → Counted E → Counted E
-    → Option (FileSeen disk) → Option (FileSeen disk) → M → M → ℕ → Type 0
+    → FileHeld Start disk → FileHeld Start disk → M → M → ℕ → Type 0
 AreRowsBatched ticks contents said image country at records which bytes out out_left errors errors_left before file machine machine_left status =
     ((why : BatchFault) × Tells (rows_in which bytes) why × (machine_left ≡ machine)
     × (out_left ≡ out) × (file ≡ before) × IsEnded said (Some (of_rows why)) errors errors_left status)
@@ -72,9 +72,9 @@ AreRowsBatched ticks contents said image country at records which bytes out out_
 
 -- The file of rows at this path was done. It couldn't be read: then nothing was printed, and the desk's file wasn't opened. Or these
 -- are its bytes, and this came of them.
-abbrev pub IsBatched : {M L Reads Writes W E S : Type 0} {disk : Ghosts S} → Around M L Reads Writes → (W → Option (List ℕ)) → (E → Option (List ℕ))
+abbrev pub IsBatched : {M L Reads Writes W E Start S : Type 0} {disk : Ghosts S} → Around M L Reads Writes → (W → Option (List ℕ)) → (E → Option (List ℕ))
     → Image → List ℕ → Option ℤ → Records → BatchKind → List ℕ → Counted W → Counted W → Counted E → Counted E
-    → Option (FileSeen disk) → Option (FileSeen disk) → M → M → ℕ → Type 0
+    → FileHeld Start disk → FileHeld Start disk → M → M → ℕ → Type 0
 IsBatched {M} around contents said image country at records which csv out out_left errors errors_left before file machine machine_left status =
     ((why : Unread) × IsNotRead around.known csv machine machine_left why
     × (out_left ≡ out) × (file ≡ before) × IsEnded said (Some (of_unread why)) errors errors_left status)

@@ -4,7 +4,7 @@ use Rattle.std.specs.Fmt.{decimal}
 use Rattle.sqlite_wal.specs.Recovery.{Image}
 use Rattle.counted_io.specs.declared.counted.Counted.{Counted}
 use Rattle.sqlite_disk.specs.declared.Disk.{Ghosts}
-use Rattle.td_files.specs.Found.{FileSeen}
+use Rattle.td_files.specs.Found.{FileHeld}
 use Rattle.td_files.specs.Upgraded.{IsUpgraded}
 use Rattle.td_files.specs.declared.desks.DeskFault.{DeskFault}
 use Rattle.td_cli.specs.Exits.{IsEnded, of_file}
@@ -26,8 +26,8 @@ IsMigrationTold contents said out out_left errors errors_left (Err why) status =
     (out_left ≡ out) × IsEnded said (Some (of_file why)) errors errors_left status
 
 -- a file that held this was to be brought to the newest version, and what came of it was told
-abbrev pub IsMigrated : {W E S : Type 0} {disk : Ghosts S} → (W → Option (List ℕ)) → (E → Option (List ℕ)) → Image
-    → Counted W → Counted W → Counted E → Counted E → Option (FileSeen disk) → Option (FileSeen disk) → ℕ → Type 0
+abbrev pub IsMigrated : {W E Start S : Type 0} {disk : Ghosts S} → (W → Option (List ℕ)) → (E → Option (List ℕ)) → Image
+    → Counted W → Counted W → Counted E → Counted E → FileHeld Start disk → FileHeld Start disk → ℕ → Type 0
 IsMigrated contents said image out out_left errors errors_left before file status =
     (end : Result ℕ DeskFault) × IsUpgraded image before file end
     × IsMigrationTold contents said out out_left errors errors_left end status

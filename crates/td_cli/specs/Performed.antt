@@ -6,7 +6,7 @@ use Rattle.std.specs.declared.io.ErrorKind.TheVariants.{OutOfMemory}
 use Rattle.sqlite_wal.specs.Recovery.{Image}
 use Rattle.counted_io.specs.declared.counted.Counted.{Counted}
 use Rattle.sqlite_disk.specs.declared.Disk.{Ghosts}
-use Rattle.td_files.specs.Found.{FileSeen}
+use Rattle.td_files.specs.Found.{FileHeld}
 use Rattle.td_files.specs.declared.desks.DeskFault.{DeskFault}
 use Rattle.http_wire.specs.declared.stream.StreamEnd.{StreamEnd}
 use Rattle.td_words.specs.declared.words.Job.{Job}
@@ -34,8 +34,8 @@ use Rattle.td_cli.specs.declared.exits.Word.TheVariants.{NoMemory}
 
 -- What a job leaves that serves one stream at a desk whose records stand there, in this country and at this moment or by
 -- the machine's clock: where there was a desk, the stream was served.
-abbrev pub PipesAs : {M R W S : Type 0} {disk : Ghosts S} → (M → ℤ → M → Type 0) → (R → Option (List ℕ)) → (W → Option (List ℕ)) → Image
-    → List ℕ → Option ℤ → Records → Counted R → Counted R → Counted W → Counted W → Option (FileSeen disk) → Option (FileSeen disk)
+abbrev pub PipesAs : {M R W Start S : Type 0} {disk : Ghosts S} → (M → ℤ → M → Type 0) → (R → Option (List ℕ)) → (W → Option (List ℕ)) → Image
+    → List ℕ → Option ℤ → Records → Counted R → Counted R → Counted W → Counted W → FileHeld Start disk → FileHeld Start disk
     → M → M → Result StreamEnd DeskFault → Type 0
 PipesAs ticks remaining contents image country at records reader reader_left writer writer_left before file machine machine_left end =
     desks.AtDesk image country records
@@ -45,8 +45,8 @@ PipesAs ticks remaining contents image country at records reader reader_left wri
 
 -- What a serving leaves at a desk whose records stand there, in this country and at this moment or by the machine's clock:
 -- the input isn't read, and where there was a desk, this is said of how the serving ended.
-abbrev pub IsServing : {M L Reads Writes R W S : Type 0} {disk : Ghosts S} → Around M L Reads Writes → (W → Option (List ℕ)) → Image
-    → List ℕ → Option ℤ → Records → Listening → Counted R → Counted R → Counted W → Counted W → Option (FileSeen disk) → Option (FileSeen disk)
+abbrev pub IsServing : {M L Reads Writes R W Start S : Type 0} {disk : Ghosts S} → Around M L Reads Writes → (W → Option (List ℕ)) → Image
+    → List ℕ → Option ℤ → Records → Listening → Counted R → Counted R → Counted W → Counted W → FileHeld Start disk → FileHeld Start disk
     → M → M → Result ServingEnd DeskFault → Type 0
 IsServing around contents image country at records listening reader reader_left writer writer_left before file machine machine_left end =
     desks.AtDesk image country records
@@ -63,8 +63,8 @@ IsCheckTold contents said (Err why) out out_left errors errors_left status =
     (out_left ≡ out) × IsEnded said (Some (of_file why)) errors errors_left status
 
 -- Records were tested: a desk of the country was opened where they stand, and left as it was, or there was none; and that was told.
-abbrev pub IsChecked : {W E S : Type 0} {disk : Ghosts S} → (W → Option (List ℕ)) → (E → Option (List ℕ)) → Image → List ℕ → Records
-    → Counted W → Counted W → Counted E → Counted E → Option (FileSeen disk) → Option (FileSeen disk) → ℕ → Type 0
+abbrev pub IsChecked : {W E Start S : Type 0} {disk : Ghosts S} → (W → Option (List ℕ)) → (E → Option (List ℕ)) → Image → List ℕ → Records
+    → Counted W → Counted W → Counted E → Counted E → FileHeld Start disk → FileHeld Start disk → ℕ → Type 0
 IsChecked contents said image country records out out_left errors errors_left before file status =
     (end : Result (Unit {0}) DeskFault)
     × desks.AtDesk image country records (λ D view opened left end. left ≡ opened) (Unit {0}) before file end
@@ -74,9 +74,9 @@ IsChecked contents said image country records out out_left errors errors_left be
 -- input to the first writer; connections, for which the input isn't read; a file of rows; a report; or a file was tested, of which
 -- the image is what it held. The file is what a connection to it shows before the task and after it, if one is there. A report and a
 -- test ask nothing of the machine.
-abbrev pub IsTaskDone : {M L Reads Writes R W E S : Type 0} {disk : Ghosts S} → Around M L Reads Writes → (R → Option (List ℕ))
+abbrev pub IsTaskDone : {M L Reads Writes R W E Start S : Type 0} {disk : Ghosts S} → Around M L Reads Writes → (R → Option (List ℕ))
     → (W → Option (List ℕ)) → (E → Option (List ℕ)) → Image → Task → List ℕ → Option ℤ → Counted R → Counted R → Counted W → Counted W
-    → Counted E → Counted E → Option (FileSeen disk) → Option (FileSeen disk) → M → M → ℕ → Type 0
+    → Counted E → Counted E → FileHeld Start disk → FileHeld Start disk → M → M → ℕ → Type 0
 IsTaskDone around remaining contents said image (Pipe records) country at reader reader_left writer writer_left errors errors_left before file machine machine_left status =
     (end : Result StreamEnd DeskFault)
     × PipesAs around.ticks remaining contents image country at records reader reader_left writer writer_left before file machine machine_left end
@@ -97,9 +97,9 @@ IsTaskDone around remaining contents said image (Check path) country at reader r
 
 -- A job was done: a task at a desk of an office, or a file was brought to the newest version, for which the input isn't read and nothing
 -- is asked of the machine.
-abbrev pub IsDone : {M L Reads Writes R W E S : Type 0} {disk : Ghosts S} → Around M L Reads Writes → (R → Option (List ℕ))
+abbrev pub IsDone : {M L Reads Writes R W E Start S : Type 0} {disk : Ghosts S} → Around M L Reads Writes → (R → Option (List ℕ))
     → (W → Option (List ℕ)) → (E → Option (List ℕ)) → Image → Job → Counted R → Counted R → Counted W → Counted W → Counted E → Counted E
-    → Option (FileSeen disk) → Option (FileSeen disk) → M → M → ℕ → Type 0
+    → FileHeld Start disk → FileHeld Start disk → M → M → ℕ → Type 0
 IsDone around remaining contents said image (AtDesk office task) reader reader_left writer writer_left errors errors_left before file machine machine_left status =
     IsTaskDone around remaining contents said image task office.country office.at reader reader_left writer writer_left errors errors_left before file machine machine_left status
 IsDone around remaining contents said image (Migrate path) reader reader_left writer writer_left errors errors_left before file machine machine_left status =
@@ -108,9 +108,9 @@ IsDone around remaining contents said image (Migrate path) reader reader_left wr
 -- The words ask for a job, which was done in the machine. Or they were given none, for want of memory, or
 -- since they ask for help, or for no task at all: then nothing was read, no file was opened, nothing was asked of the machine, and they
 -- were answered. The image is what the file held that the words name, if they name one.
-abbrev pub IsPerformed : {M L Reads Writes R W E S : Type 0} {disk : Ghosts S} → Around M L Reads Writes → (R → Option (List ℕ))
+abbrev pub IsPerformed : {M L Reads Writes R W E Start S : Type 0} {disk : Ghosts S} → Around M L Reads Writes → (R → Option (List ℕ))
     → (W → Option (List ℕ)) → (E → Option (List ℕ)) → Image → List (List ℕ) → Counted R → Counted R → Counted W → Counted W
-    → Counted E → Counted E → Option (FileSeen disk) → Option (FileSeen disk) → M → M → ℕ → Type 0
+    → Counted E → Counted E → FileHeld Start disk → FileHeld Start disk → M → M → ℕ → Type 0
 IsPerformed around remaining contents said image words reader reader_left writer writer_left errors errors_left before file machine machine_left status =
     ((job : Job) × AsksFor words job
     × IsDone around remaining contents said image job reader reader_left writer writer_left errors errors_left before file machine machine_left status)

@@ -6,7 +6,7 @@ use Rattle.counted_io.specs.Counted.{calls_of, has_failed, HasCalled}
 use Rattle.sqlite_disk.specs.declared.Disk.{Ghosts}
 use Rattle.td_desk.specs.Content.{Content}
 use Rattle.td_desk.specs.View.{DeskView}
-use Rattle.td_files.specs.Found.{FileSeen}
+use Rattle.td_files.specs.Found.{FileHeld}
 use Rattle.td_files.specs.declared.desks.DeskFault.{DeskFault}
 use Rattle.td_report_pieces.specs.Written.{HasWritten, IsReported}
 use Rattle.td_reports.specs.Texts.{guarantees_text, overdue_text}
@@ -44,8 +44,8 @@ report_cause (Err why) = Some (of_report why)
 
 -- The records that stand there were reported on, of a desk of this country, or nothing was written, since there was no desk; and what
 -- came of it was told.
-abbrev pub IsReportDone : {W E S : Type 0} {disk : Ghosts S} → (W → Option (List ℕ)) → (E → Option (List ℕ)) → Image → List ℕ
-    → ReportKind → Records → Counted W → Counted W → Counted E → Counted E → Option (FileSeen disk) → Option (FileSeen disk) → ℕ → Type 0
+abbrev pub IsReportDone : {W E Start S : Type 0} {disk : Ghosts S} → (W → Option (List ℕ)) → (E → Option (List ℕ)) → Image → List ℕ
+    → ReportKind → Records → Counted W → Counted W → Counted E → Counted E → FileHeld Start disk → FileHeld Start disk → ℕ → Type 0
 IsReportDone contents said image country kind records out out_left errors errors_left before file status =
     (end : Result (Result (Unit {0}) ReportFault) DeskFault)
     × AtDesk image country records (λ D view opened left end. HasReported view opened left contents kind out out_left end) (out_left ≡ out)

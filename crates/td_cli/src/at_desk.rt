@@ -29,7 +29,7 @@ pub(crate) fn at_desk<M: Machine, S: Start, R: Read, W: Write, J: DeskJob>(
     ensures { AtDesk (image_at S.Start) office.country records.now
         (λ D view opened left end. J.does D _ _ _ _ _ _ view opened left R.remaining W.contents ⟦<M as Surroundings>⟧.around office.at job.now
         input.old input.new out.old out.new machine.old machine.new end)
-        (IsUntouched input.old input.new out.old out.new machine.old machine.new) file.old.connection file.new.connection result }
+        (IsUntouched input.old input.new out.old out.new machine.old machine.new) file.old file.new result }
 {
     match records {
         Records::Memory => match in_memory(rt.alloc(), machine, office, job, input, out) {

@@ -32,7 +32,7 @@ pub(crate) fn batch<M: Machine, S: Start, R: Read, W: Write, E: Write>(
 ) -> u8
     ensures unread { input.new ≡ input.old }
     ensures done { IsBatched ⟦<M as Surroundings>⟧.around W.contents E.contents (image_at S.Start) office.country office.at records.now kind
-        csv.now out.old out.new errors.old errors.new file.old.connection file.new.connection machine.old machine.new result }
+        csv.now out.old out.new errors.old errors.new file.old file.new machine.old machine.new result }
 {
     let bytes = match machine.read_file(rt.alloc(), csv) {
         Ok(bytes) => bytes,
@@ -60,7 +60,7 @@ fn do_rows<M: Machine, S: Start, R: Read, W: Write, E: Write>(
 ) -> u8
     ensures unread { input.new ≡ input.old }
     ensures done { IsBatchAtDesk M.ticks W.contents E.contents (image_at S.Start) office.country office.at records.now (kind_of rows.now) (commands_of rows.now)
-        out.old out.new errors.old errors.new file.old.connection file.new.connection machine.old machine.new result }
+        out.old out.new errors.old errors.new file.old file.new machine.old machine.new result }
 {
     let end = at_desk(rt, machine, office, records, file, rows, input, out);
     tell_batch(rt.alloc(), end, out, errors)

@@ -30,7 +30,7 @@ pub(crate) fn check<M: Machine, S: Start, R: Read, W: Write, E: Write>(
     ensures unread { input.new ≡ input.old }
     ensures unasked { machine.new ≡ machine.old }
     ensures checked { IsChecked W.contents E.contents (image_at S.Start) office.country records.now out.old out.new errors.old errors.new
-        file.old.connection file.new.connection result }
+        file.old file.new result }
 {
     let end = at_desk(rt, machine, office, records, file, &Checking, input, out);
     tell_check(rt.alloc(), end, out, errors)

@@ -35,7 +35,7 @@ pub fn perform<S: Start, R: Read, W: Write, E: Write>(
     ensures { (machine : _) × (machine_left : _)
         × IsPerformed ⟦<HostMachine<'static> as Surroundings>⟧.around R.remaining W.contents E.contents (image_at S.Start) (map string_bytes words.now)
         input.old input.new out.old out.new errors.old errors.new
-        file.old.connection file.new.connection machine machine_left result }
+        file.old file.new machine machine_left result }
 {
     perform_on(rt, &mut HostMachine { rt }, words, file, input, out, errors)
 }
@@ -56,7 +56,7 @@ pub fn perform_on<M: Machine, S: Start, R: Read, W: Write, E: Write>(
 ) -> u8
     ensures { IsPerformed ⟦<M as Surroundings>⟧.around R.remaining W.contents E.contents (image_at S.Start) (map string_bytes words.now)
         input.old input.new out.old out.new errors.old errors.new
-        file.old.connection file.new.connection machine.old machine.new result }
+        file.old file.new machine.old machine.new result }
 {
     match read_words(rt.alloc(), words) {
         Ok(job) => do_job(rt, machine, job, file, input, out, errors),
@@ -76,7 +76,7 @@ fn do_job<M: Machine, S: Start, R: Read, W: Write, E: Write>(
 ) -> u8
     ensures { IsDone ⟦<M as Surroundings>⟧.around R.remaining W.contents E.contents (image_at S.Start) job
         input.old input.new out.old out.new errors.old errors.new
-        file.old.connection file.new.connection machine.old machine.new result }
+        file.old file.new machine.old machine.new result }
 {
     match job {
         Job::AtDesk(office, task) => do_task(rt, machine, office, task, file, input, out, errors),
@@ -97,7 +97,7 @@ fn do_task<M: Machine, S: Start, R: Read, W: Write, E: Write>(
 ) -> u8
     ensures { IsTaskDone ⟦<M as Surroundings>⟧.around R.remaining W.contents E.contents (image_at S.Start) task office.country office.at
         input.old input.new out.old out.new errors.old errors.new
-        file.old.connection file.new.connection machine.old machine.new result }
+        file.old file.new machine.old machine.new result }
 {
     match task {
         Task::Serve(listening, records) => {

@@ -27,7 +27,7 @@ pub(crate) fn migrate<S: Start, W: Write, E: Write>(
     errors: &mut Counted<E>,
 ) -> u8
     ensures { IsMigrated W.contents E.contents (image_at S.Start) out.old out.new errors.old errors.new
-        file.old.connection file.new.connection result }
+        file.old file.new result }
 {
     let end = file.upgrade(rt, path);
     tell_migration(rt.alloc(), end, out, errors)

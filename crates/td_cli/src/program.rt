@@ -34,7 +34,7 @@ pub fn run_program<S: Start, R: Read, W: Write, E: Write>(
         (λ words. (machine : _) × (machine_left : _)
         × IsPerformed ⟦<HostMachine<'static> as Surroundings>⟧.around R.remaining W.contents E.contents (image_at S.Start) (map string_bytes words.items)
         input.old input.new out.old out.new errors.old errors.new
-        file.old.connection file.new.connection machine machine_left result)
+        file.old file.new machine machine_left result)
         (λ error. (input.new ≡ input.old) × (out.new ≡ out.old) × (file.new ≡ file.old)
         × IsUnread E.contents error errors.old errors.new result) }
 {

@@ -32,7 +32,7 @@ pub(crate) fn report<S: Start, W: Write, E: Write>(
     errors: &mut Counted<E>,
 ) -> u8
     ensures { IsReportDone W.contents E.contents (image_at S.Start) country kind (File path) out.old out.new errors.old errors.new
-        file.old.connection file.new.connection result }
+        file.old file.new result }
 {
     let end = report_on(rt, country, kind, path, file, out);
     exit(rt.alloc(), cause(end), errors)
@@ -49,7 +49,7 @@ fn report_on<S: Start, W: Write>(
 ) -> Result<Result<(), ReportFault>, DeskFault>
     ensures { AtDesk (image_at S.Start) country (File path)
         (λ D view opened left end. HasReported view opened left W.contents kind out.old out.new end) (out.new ≡ out.old)
-        file.old.connection file.new.connection result }
+        file.old file.new result }
 {
     let mut desk = file.open_desk(rt, country, &path)?;
     let end = write_report(rt.alloc(), &mut desk, kind, out);

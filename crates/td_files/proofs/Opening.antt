@@ -1,8 +1,12 @@
 -- What the opening of a desk over a file says of what the file held.
-use Rattle.std.proofs.Common.{◌≡◌, ◌⊎◌, ◌∙◌, ℕ, ◌≤◌, List, Option, Some, ap, arith, inl, inr, refl, subst, sym}
+use Rattle.std.proofs.Common.{◌≡◌, ◌⊎◌, ◌∙◌, ℕ, ◌≤◌, List, [], ◌∷◌, Some, ap, arith, inl, inr, refl, subst, sym}
 use Rattle.std.specs.Prelude.{IsTrue, IfErr, OnOk, Result}
 use Rattle.sqlite_disk.specs.declared.Disk as disk
 use Rattle.sqlite_store.specs.declared.store.FileStore.{FileStore}
+use Rattle.sqlite_schema.specs.declared.schema.Index.{Index}
+use Rattle.sqlite_schema.specs.declared.schema.Schema.{Schema}
+use Rattle.sqlite_schema.specs.declared.schema.Table.{Table}
+use Rattle.sqlite_schema.specs.declared.schema.View.{View}
 use Rattle.sqlite_trees.specs.View.{doubt}
 use Rattle.sqlite_wal.specs.Recovery.{Image}
 use Rattle.sqlite.specs.Effect.{Database}
@@ -15,17 +19,17 @@ use Rattle.td_desk.specs.Content.{Content}
 use Rattle.td_table_model.specs.declared.rule.Rule.{Rule}
 use Rattle.td_schema.specs.Layouts.{schema_of}
 use Rattle.td_schema.specs.declared.layout.Layout.{Layout}
+use Rattle.td_schema.specs.Tables.{IsEmptyOf, no_schema}
 use Rattle.td_store_rows.specs.StoreTables.{AreTreesOf, HoldsContent}
 use Rattle.typed_sql.specs.Outside.{CrashLeavesShown}
+use Rattle.td_store_write.specs.Created.{MayLeaveEmpty}
 use Rattle.td_store.specs.Opened.{AreDamaged, IsOfAnother, IsOfEarlier, IsOfUnknownVersion, IsStoreSchema, TellsDatabase}
 use Rattle.td_store.specs.declared.refused.OpenFault.{OpenFault}
 use Rattle.td_store.specs.declared.refused.OpenFault.TheVariants.{UnknownVersion, NeedsMigration, OtherCountry, Damaged, Store, NoMemory}
-use Rattle.td_files.specs.declared.desks.DeskFault.{DeskFault}
-use Rattle.td_files.specs.declared.desks.DeskFault.TheVariants.{Refused}
 use Rattle.td_migrate.specs.Upgraded.{LeavesWithFault, MayLeaveUpgraded, TellsUpgrade}
 use Rattle.td_migrate.specs.declared.fault.MigrateFault.{MigrateFault}
 use Rattle.td_files.specs.Upgraded.{ShowsUpgrade}
-use Rattle.td_files.specs.Found.{IsClean, IsFoundIn, IsLeftAsFound, IsRefusedFor, IsToldOf, IsUnmade}
+use Rattle.td_files.specs.Found.{CommitsDesk, IsClean, IsFoundIn, IsRefusedFor, IsUnmadeFor, IsStoreOrMemory}
 
 -- no fault is forgotten
 pub clean_before : (old new : State) (P : Trees → Type 0) → Survives old new P → HasCleanDisk new → HasCleanDisk old
@@ -57,73 +61,87 @@ tells country db (Damaged rule) unknown earlier other broken = inr (inr (broken 
 tells country db Store unknown earlier other broken = inl (inl refl)
 tells country db NoMemory unknown earlier other broken = inl (inr refl)
 
--- Where the disk stayed clean, what the file held was refused for this fault, if it is neither the store's nor want of memory.
-pub refused_for : (image : Image) (country : List ℕ) (found : State) (fault : OpenFault) → IsFoundIn image found.now
-    → (fault ≡ UnknownVersion → IsOfUnknownVersion found.now)
-    → ((version : ℕ) → fault ≡ NeedsMigration version → IsStoreSchema found.now.schema × IsOfEarlier version found.now.trees)
-    → (fault ≡ OtherCountry → IsStoreSchema found.now.schema × IsOfAnother country found.now.trees)
-    → ((rule : Rule) → fault ≡ Damaged rule → (l : Layout) × (found.now.schema ≡ schema_of l) × AreDamaged country rule l found.now.trees)
-    → ((c : Content) → HoldsContent c found → c.country ≡ country → (fault ≡ Store) ⊎ (fault ≡ NoMemory))
-    → ((c : Content) → AreTreesOf c found.now.trees → HoldsContent c found)
-    → ¬ ((fault ≡ Store) ⊎ (fault ≡ NoMemory)) → IsRefusedFor image country fault
-refused_for image country found fault is unknown earlier other broken sound opens neither =
-    record {
-      db = found.now;
-      found = is;
-      tells = tells country found.now fault unknown earlier other broken;
-      unsound = λ c trees same. neither (sound c (opens c trees) same);
-    }
+-- a schema has something in it, or nothing
+nothing_by : (ts : List Table) (is : List Index) (vs : List View)
+    → (record { tables = ts; indexes = is; views = vs } ≡ no_schema) ⊎ (¬ (record { tables = ts; indexes = is; views = vs } ≡ no_schema))
+nothing_by [] [] [] = inl refl
+nothing_by (t ∷ ts) is vs = inr (λ same. let none : t ∷ ts ≡ [] = ap (λ (s : Schema). s.tables) same in cc)
+nothing_by [] (i ∷ is) vs = inr (λ same. let none : i ∷ is ≡ [] = ap (λ (s : Schema). s.indexes) same in cc)
+nothing_by [] [] (v ∷ vs) = inr (λ same. let none : v ∷ vs ≡ [] = ap (λ (s : Schema). s.views) same in cc)
+
+-- so a database has a table, or none
+blank_or_taken : (db : Database) → IsEmptyOf no_schema db ⊎ (¬ IsEmptyOf no_schema db)
+blank_or_taken db = elim (nothing_by db.schema.tables db.schema.indexes db.schema.views) [
+  | inl none ↦ inl (record { schema = none; empty = tt })
+  | inr some ↦ inr (λ (blank : IsEmptyOf no_schema db). some blank.schema)
+]
+
+pub blank_then : (db : Database) → ¬ (¬ IsEmptyOf no_schema db) → IsEmptyOf no_schema db
+blank_then db blank = elim (blank_or_taken db) [ inl none ↦ none | inr taken ↦ absurd (blank taken) ]
+
+-- what a crash leaves of a connection that committed no more than this, where before it left what was found
+leaves_found : (found left : State) (P : Trees → Type 0) → Survives found left P → CrashLeavesShown found → IsTrue found.is_open
+    → HasCleanDisk left → (trees : Trees) → left.may_leave trees → (trees ≡ found.now.trees) ⊎ P trees
+leaves_found found left P crash before is_open clean trees may =
+    elim (crash.crash clean trees may) [ inl was ↦ inl ((before is_open trees).0 was) | inr made ↦ inr made ]
 
 module _ {D : Type 0} {g : disk.Ghosts D} where
-  -- so it is told of the file
-  pub told_of : (image : Image) (country : List ℕ) (left : Held (FileStore D g)) (fault : OpenFault)
-      → (¬ ((fault ≡ Store) ⊎ (fault ≡ NoMemory)) → IsClean left → IsRefusedFor image country fault)
-      → IsToldOf image country (Some left) (Refused fault)
-  told_of image country left UnknownVersion refused = (left, refl, refused neither) where
-    neither : ¬ ((UnknownVersion ≡ Store) ⊎ (UnknownVersion ≡ NoMemory))
-    neither (inl is) = cc
-    neither (inr is) = cc
-  told_of image country left (NeedsMigration version) refused = (left, refl, refused neither) where
-    neither : ¬ ((NeedsMigration version ≡ Store) ⊎ (NeedsMigration version ≡ NoMemory))
-    neither (inl is) = cc
-    neither (inr is) = cc
-  told_of image country left OtherCountry refused = (left, refl, refused neither) where
-    neither : ¬ ((OtherCountry ≡ Store) ⊎ (OtherCountry ≡ NoMemory))
-    neither (inl is) = cc
-    neither (inr is) = cc
-  told_of image country left (Damaged rule) refused = (left, refl, refused neither) where
-    neither : ¬ ((Damaged rule ≡ Store) ⊎ (Damaged rule ≡ NoMemory))
-    neither (inl is) = cc
-    neither (inr is) = cc
-  told_of image country left Store refused = tt
-  told_of image country left NoMemory refused = tt
+  -- What the clauses of an opening say of a connection that was handed back: what the file held was refused for this fault.
+  pub refused_for : (image : Image) (country : List ℕ) (found : State) (fault : OpenFault) (c : Held (FileStore D g))
+      → IsFoundIn image found.now → IsTrue found.is_open → CrashLeavesShown found → Survives found (file_state c) (λ _. ⊥)
+      → (HasCleanDisk (file_state c) → IsTrue (file_state c).is_open → (file_state c).now ≡ found.now) → CrashLeavesShown (file_state c)
+      → (HasCleanDisk (file_state c) → fault ≡ UnknownVersion → IsOfUnknownVersion found.now)
+      → (HasCleanDisk (file_state c) → (version : ℕ) → fault ≡ NeedsMigration version
+      → IsStoreSchema found.now.schema × IsOfEarlier version found.now.trees)
+      → (HasCleanDisk (file_state c) → fault ≡ OtherCountry → IsStoreSchema found.now.schema × IsOfAnother country found.now.trees)
+      → (HasCleanDisk (file_state c) → (rule : Rule) → fault ≡ Damaged rule
+      → (l : Layout) × (found.now.schema ≡ schema_of l) × AreDamaged country rule l found.now.trees)
+      → (HasCleanDisk (file_state c) → IsTrue found.is_open → (x : Content) → HoldsContent x found → x.country ≡ country → IsStoreOrMemory fault)
+      → ((x : Content) → AreTreesOf x found.now.trees → HoldsContent x found) → IsClean c → IsRefusedFor image country fault c
+  refused_for image country found fault c is is_open before crash same settled unknown earlier other broken sound opens clean = record {
+    left = record {
+      db = found.now;
+      found = is;
+      same = same clean;
+      leaves = leaves_found found (file_state c) (λ _. ⊥) crash before is_open clean;
+      settled = settled;
+    };
+    tells = tells country found.now fault (unknown clean) (earlier clean) (other clean) (broken clean);
+    unsound = λ x trees at. sound clean is_open x (opens x trees) at;
+  }
 
-  -- what was said when the connection was handed back
-  pub told_at : (image : Image) (country : List ℕ) (handed : Held (FileStore D g)) (left : Option (Held (FileStore D g)))
-      (fault : OpenFault) (why : DeskFault)
-      → IsToldOf image country (Some handed) (Refused fault) → left ≡ Some handed → why ≡ Refused fault → IsToldOf image country left why
-  told_at image country handed left fault why told back is =
-      subst (λ w. IsToldOf image country left w) (sym is) (subst (λ l. IsToldOf image country l (Refused fault)) (sym back) told)
+  -- what a crash leaves of a file in which no desk was made
+  leaves_unmade : (country : List ℕ) (conn c : Held (FileStore D g)) → CrashLeavesShown (file_state conn) → IsTrue (file_state conn).is_open
+      → Survives (file_state conn) (file_state c) (MayLeaveEmpty country (file_state conn))
+      → (¬ IsEmptyOf no_schema (file_state conn).now → c ≡ conn) → HasCleanDisk (file_state c)
+      → (trees : Trees) → (file_state c).may_leave trees → (trees ≡ (file_state conn).now.trees) ⊎ CommitsDesk country (file_state conn).now trees
+  leaves_unmade country conn c before is_open crash taken clean trees may =
+      elim (blank_or_taken (file_state conn).now) [
+        | inl blank ↦ elim (leaves_found (file_state conn) (file_state c) (MayLeaveEmpty country (file_state conn)) crash before is_open clean trees may) [
+          | inl was ↦ inl was
+          | inr made ↦ inr (blank, made.1 blank)
+        ]
+        | inr some ↦ inl ((before is_open trees).0 (subst (λ (h : Held (FileStore D g)). (file_state h).may_leave trees) (taken some) may))
+      ]
 
-  -- a connection that was handed back as it was found
-  pub left_as_found : (image : Image) (found : State) (P : Trees → Type 0) (left : Held (FileStore D g)) → Survives found (file_state left) P
-      → (HasCleanDisk found → IsFoundIn image found.now)
-      → (HasCleanDisk (file_state left) → IsTrue (file_state left).is_open → (file_state left).now ≡ found.now)
-      → CrashLeavesShown (file_state left) → (old new : Option (Held (FileStore D g))) → new ≡ Some left → IsLeftAsFound image old new
-  left_as_found image found P left survives is same settled old new back =
-      inr (
-        left,
-        back,
-        λ clean. record {
-          found = λ open_. subst (IsFoundIn image) (sym (same clean open_)) (is (clean_before found (file_state left) P survives clean));
-          settled = settled;
-        },
-      )
-
--- a desk that couldn't be made is told by one of three faults
-pub unmade_at : (fault : OpenFault) (why : DeskFault) → (fault ≡ Store) ⊎ (fault ≡ NoMemory) → why ≡ Refused fault → IsUnmade why
-unmade_at fault why (inl store) is = inr (inl (is ∙ ap Refused store))
-unmade_at fault why (inr memory) is = inr (inr (is ∙ ap Refused memory))
+  -- what the clauses of a making say of a connection that was handed back
+  pub unmade_for : (image : Image) (country : List ℕ) (conn c : Held (FileStore D g)) (fault : OpenFault)
+      → IsFoundIn image (file_state conn).now → IsTrue (file_state conn).is_open → CrashLeavesShown (file_state conn)
+      → Survives (file_state conn) (file_state c) (MayLeaveEmpty country (file_state conn))
+      → (HasCleanDisk (file_state c) → IsTrue (file_state c).is_open → (file_state c).now ≡ (file_state conn).now) → CrashLeavesShown (file_state c)
+      → IsStoreOrMemory fault → (¬ IsEmptyOf no_schema (file_state conn).now → (fault ≡ Store) × (c ≡ conn)) → IsClean c
+      → IsUnmadeFor image country fault c
+  unmade_for image country conn c fault is is_open before crash same settled cause taken clean = record {
+    left = record {
+      db = (file_state conn).now;
+      found = is;
+      same = same clean;
+      leaves = leaves_unmade country conn c before is_open crash (λ some. (taken some).1) clean;
+      settled = settled;
+    };
+    cause = cause;
+    taken = λ some. (taken some).0;
+  }
 
 -- what came of an upgrade of what a connection found
 pub shows_upgrade : {D : Type 0} {g : disk.Ghosts D} (image : Image) (found : State) (c : Held (FileStore D g)) (result : Result ℕ MigrateFault)

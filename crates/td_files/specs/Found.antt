@@ -1,6 +1,6 @@
--- What contracts see of a desk over a file, what it began with by what the file held, what of that it was refused for, and what is
--- left of a file whose desk was refused.
-use Rattle.std.specs.Prelude.{◌≡◌, ◌⊎◌, ℕ, List, IsTrue, Option, Some}
+-- What contracts see of a desk over a file, what it began with by what the file held, and what of that it was refused for. And what is
+-- left of a file that has no desk over it.
+use Rattle.std.specs.Prelude.{◌≡◌, ◌⊎◌, ℕ, List, IsSome, IsTrue, None, Option, Some}
 use Rattle.sqlite_disk.specs.declared.Disk as disk
 use Rattle.sqlite_wal.specs.Recovery.{Image}
 use Rattle.sqlite_store.specs.declared.store.FileStore.{FileStore}
@@ -18,9 +18,10 @@ use Rattle.typed_sql.specs.Outside.{CrashLeavesShown}
 use Rattle.td_store.specs.Kept.{sql_view}
 use Rattle.td_store.specs.Opened.{TellsDatabase}
 use Rattle.td_store.specs.declared.refused.OpenFault.{OpenFault}
-use Rattle.td_store.specs.declared.refused.OpenFault.TheVariants.{UnknownVersion, NeedsMigration, OtherCountry, Damaged, Store, NoMemory}
+use Rattle.td_store.specs.declared.refused.OpenFault.TheVariants.{Store, NoMemory}
 use Rattle.td_files.specs.declared.desks.DeskFault.{DeskFault}
 use Rattle.td_files.specs.declared.desks.DeskFault.TheVariants.{File, Refused}
+use Rattle.td_files.specs.declared.files.OneFile.{OneFile}
 
 -- the database is the one that files hold which hold this, and its schema is the one that its trees list
 pub record IsFoundIn (image : Image) (db : Database) : Type 0 where
@@ -28,12 +29,17 @@ pub record IsFoundIn (image : Image) (db : Database) : Type 0 where
   pub holds : (trees : Trees) → HoldsDatabase image trees → db.trees ≡ trees
   pub reads : AreFoundIn image db.trees
 
--- What the file held was refused for this fault, which says what the tables are; and they are no desk's of this country.
-pub record IsRefusedFor (image : Image) (country : List ℕ) (fault : OpenFault) : Type 0 where
-  pub db : Database
-  pub found : IsFoundIn image db
-  pub tells : TellsDatabase country db (Some fault)
-  pub unsound : (c : Content) → AreTreesOf c db.trees → ¬ (c.country ≡ country)
+-- what is committed where no desk is to be made: nothing
+abbrev pub CommitsNothing : Database → Trees → Type 0
+CommitsNothing db trees = ⊥
+
+-- what the making of a desk may commit: an empty desk's trees, where there was no table
+abbrev pub CommitsDesk : List ℕ → Database → Trees → Type 0
+CommitsDesk country db trees = IsEmptyOf no_schema db × AreTreesOf (empty_content country) trees
+
+-- the fault is the store's, or want of memory
+abbrev pub IsStoreOrMemory : OpenFault → Type 0
+IsStoreOrMemory fault = (fault ≡ Store) ⊎ (fault ≡ NoMemory)
 
 -- a connection to a file, as contracts see it
 abbrev pub FileSeen : {D : Type 0} → disk.Ghosts D → Type 0
@@ -63,7 +69,7 @@ module _ {D : Type 0} {g : disk.Ghosts D} where
     pub live : IsTrue (file_state c).is_open
     pub before : Database
     pub found : IsFoundIn image before
-    pub blank : ¬ (¬ IsEmptyOf no_schema before)
+    pub blank : IsEmptyOf no_schema before
     pub empty : content_in (file_state c).now.trees ≡ empty_content country
     pub holds : HoldsContent (content_in (file_state c).now.trees) (file_state c)
     pub leaves : LeavesOnly over_file c (content_in (file_state c).now.trees)
@@ -74,33 +80,52 @@ module _ {D : Type 0} {g : disk.Ghosts D} where
   IsKeptDesk c = IsClean c → IsTrue (file_state c).is_open
       → HoldsContent (content_in (file_state c).now.trees) (file_state c) × LeavesOnly over_file c (content_in (file_state c).now.trees)
 
-  -- a connection shows what was found, as far as it is open, and a crash leaves just that
-  pub record ShowsFound (image : Image) (c : FileSeen g) : Type 0 where
-    pub found : IsTrue (file_state c).is_open → IsFoundIn image (file_state c).now
+  -- What is left of a file that was opened, and has no desk over it: an open connection shows what was found, and a crash leaves just
+  -- that. Where a fault shut the connection, a crash leaves what was found, or what a making could commit.
+  pub record ShowsFound (image : Image) (Commits : Database → Trees → Type 0) (c : FileSeen g) : Type 0 where
+    pub db : Database
+    pub found : IsFoundIn image db
+    pub same : IsTrue (file_state c).is_open → (file_state c).now ≡ db
+    pub leaves : (trees : Trees) → (file_state c).may_leave trees → (trees ≡ db.trees) ⊎ Commits db trees
     pub settled : CrashLeavesShown (file_state c)
 
-  -- What is left of a file that no desk was opened over: no connection was handed back, or one which, where its disk is clean, shows
-  -- what was found.
-  abbrev pub IsLeftAsFound : Image → Option (FileSeen g) → Option (FileSeen g) → Type 0
-  IsLeftAsFound image old new =
-      (new ≡ old) ⊎ ((c : FileSeen g) × (new ≡ Some c) × (IsClean c → ShowsFound image c))
+  -- What a file held was refused for this fault, which says what the tables are; unless it is the store's, or want of memory, they are
+  -- no desk's of this country. The file is left as it was found.
+  pub record IsRefusedFor (image : Image) (country : List ℕ) (fault : OpenFault) (c : FileSeen g) : Type 0 where
+    pub left : ShowsFound image CommitsNothing c
+    pub tells : TellsDatabase country left.db (Some fault)
+    pub unsound : (x : Content) → AreTreesOf x left.db.trees → x.country ≡ country → IsStoreOrMemory fault
 
-  -- a connection that was handed back is there, and where its disk is clean, what the file held was refused for this
-  abbrev pub IsToldAt : Image → List ℕ → Option (FileSeen g) → OpenFault → Type 0
-  IsToldAt image country left fault =
-      (c : FileSeen g) × (left ≡ Some c) × (IsClean c → IsRefusedFor image country fault)
+  -- No desk was made in a file, for this fault: the store's, where there is a table. The file is left as it was found.
+  pub record IsUnmadeFor (image : Image) (country : List ℕ) (fault : OpenFault) (c : FileSeen g) : Type 0 where
+    pub left : ShowsFound image (CommitsDesk country) c
+    pub cause : IsStoreOrMemory fault
+    pub taken : ¬ IsEmptyOf no_schema left.db → fault ≡ Store
 
-  -- Why no desk was opened over the file, which left this: where its disk is clean, what the file held was refused for it. That the
-  -- file wasn't opened, that its store failed, and want of memory say nothing of what it held.
-  abbrev pub IsToldOf : Image → List ℕ → Option (FileSeen g) → DeskFault → Type 0
-  IsToldOf image country left File = Unit {0}
-  IsToldOf image country left (Refused Store) = Unit {0}
-  IsToldOf image country left (Refused NoMemory) = Unit {0}
-  IsToldOf image country left (Refused UnknownVersion) = IsToldAt image country left UnknownVersion
-  IsToldOf image country left (Refused (NeedsMigration version)) = IsToldAt image country left (NeedsMigration version)
-  IsToldOf image country left (Refused OtherCountry) = IsToldAt image country left OtherCountry
-  IsToldOf image country left (Refused (Damaged rule)) = IsToldAt image country left (Damaged rule)
+-- why a file isn't opened: it isn't there or is no database, another program has it open, or there was no memory
+abbrev pub IsOpeningFault : DeskFault → Type 0
+IsOpeningFault why = (why ≡ File) ⊎ ((why ≡ Refused Store) ⊎ (why ≡ Refused NoMemory))
 
--- why no desk was made in a file
-abbrev pub IsUnmade : DeskFault → Type 0
-IsUnmade why = (why ≡ File) ⊎ ((why ≡ Refused Store) ⊎ (why ≡ Refused NoMemory))
+-- a file that a program opens, as contracts see it
+abbrev pub FileHeld : Type 0 → {D : Type 0} → disk.Ghosts D → Type 0
+FileHeld S {D} g = OneFile S (FileStore D g)
+
+module _ {S D : Type 0} {g : disk.Ghosts D} where
+  -- A file wasn't opened, for this fault. It was opened before, and is as it was; or an opening failed, which shows so (`Unopened`).
+  abbrev pub IsUnopened : FileHeld S g → FileHeld S g → DeskFault → Type 0
+  IsUnopened old new why =
+      ((old.start ≡ None) × (new ≡ old) × (why ≡ File))
+      ⊎ (IsSome new.unopened × (new.connection ≡ old.connection) × IsOpeningFault why)
+
+  -- It was opened, and its connection, which was handed back, shows this of it, where its disk is clean.
+  abbrev pub IsHandedBack : (OpenFault → FileSeen g → Type 0) → FileHeld S g → DeskFault → Type 0
+  IsHandedBack Shows new why =
+      (fault : OpenFault) × (why ≡ Refused fault) × (c : FileSeen g) × (new.connection ≡ Some c) × (IsClean c → Shows fault c)
+
+  -- no desk was opened over a file, for this fault
+  abbrev pub HasNoDesk : Image → List ℕ → FileHeld S g → FileHeld S g → DeskFault → Type 0
+  HasNoDesk image country old new why = IsUnopened old new why ⊎ IsHandedBack (IsRefusedFor image country) new why
+
+  -- none was made in it
+  abbrev pub HasNoNewDesk : Image → List ℕ → FileHeld S g → FileHeld S g → DeskFault → Type 0
+  HasNoNewDesk image country old new why = IsUnopened old new why ⊎ IsHandedBack (IsUnmadeFor image country) new why

@@ -7,20 +7,17 @@ ghost use Rattle.sqlite.specs.WalFiles.{image_at};
 ghost use Rattle.td_files.specs.Closed.{IsClosedFrom};
 
 use crate::cache::cached_pages;
-use sqlite::{Alter, Connection, Error, ErrorCode, FileFrom, FileStore, Files, Options, Start};
-use sqlite_std_file::OpenError;
+use crate::connecting::{CANNOT_OPEN, FileConnection, Unopened, connect};
+use sqlite::{Alter, Connection, Error, ErrorCode, FileFrom, FileStore, Files, Start};
 use std::fs;
-use std::hash::{BuildHasher, RandomState};
-use std::io::ErrorKind;
-
-/// A connection to the database in a file of the machine. `S` stands for what the file held as it was opened.
-pub type FileConnection<S> = Connection<FileStore<FileFrom<S>>>;
 
 /// The one file that a program opens, and what is left of it after a job.
 #[derive(Drop)]
 pub struct OneFile<S, T: Alter> {
     /// What stands for what it held as it was opened; it is taken then.
     pub start: Option<S>,
+    /// That it couldn't be opened, where that is so.
+    pub unopened: Option<Unopened<S>>,
     /// The connection that a job handed back, whether it had a desk over it or was refused one.
     pub connection: Option<Connection<T>>,
 }
@@ -34,10 +31,13 @@ pub type Closed<S> = Result<Files<FileFrom<S>>, (Error, FileStore<FileFrom<S>>)>
 impl<S: Start> OneFile<S, FileStore<FileFrom<S>>> {
     /// A file that isn't opened yet.
     pub fn new(start: S) -> Self
-        ensures { result.connection ≡ None }
+        ensures start { result.start ≡ Some start }
+        ensures unopened { result.unopened ≡ None }
+        ensures connection { result.connection ≡ None }
     {
         OneFile {
             start: Some(start),
+            unopened: None,
             connection: None,
         }
     }
@@ -59,6 +59,7 @@ impl<S: Start> OneFile<S, FileStore<FileFrom<S>>> {
     {
         let OneFile {
             start: _,
+            unopened: _,
             connection,
         } = self;
         match connection {
@@ -67,8 +68,6 @@ impl<S: Start> OneFile<S, FileStore<FileFrom<S>>> {
         }
     }
 }
-
-const CANNOT_OPEN: Error = Error::SqliteFailure(ErrorCode::CannotOpen);
 
 // The name of the log of the file at the path, where the file is there and has no log.
 fn missing_log(rt: &HostRuntime, path: &str) -> Option<String> {
@@ -87,50 +86,6 @@ fn remove_empty(rt: &HostRuntime, log: &str) {
     }
 }
 
-// The database's error for a file that isn't opened.
-fn error_of(refused: OpenError) -> Error {
-    match refused {
-        OpenError::OutOfMemory => Error::SqliteFailure(ErrorCode::OutOfMemory),
-        OpenError::Io(error) if error.kind() == ErrorKind::OutOfMemory => {
-            Error::SqliteFailure(ErrorCode::OutOfMemory)
-        }
-        OpenError::Busy => Error::SqliteFailure(ErrorCode::DatabaseBusy),
-        OpenError::Io(_) | OpenError::HotJournal => CANNOT_OPEN,
-    }
-}
-
-// Connects to the database in the file at the path, which is made where it isn't there, and keeps so many of its pages in memory.
-// A name that SQLite takes for no path is refused.
-fn connect<S: Start>(
-    rt: &HostRuntime,
-    path: &str,
-    cache_pages: usize,
-    start: S,
-) -> Result<FileConnection<S>, Error>
-    ensures open { IfOk result (λ conn. HasCleanDisk (file_state conn) → IsOpened conn) }
-    ensures found { IfOk result (λ conn. HasCleanDisk (file_state conn) → FindsIn (image_at S.Start) (file_state conn)) }
-    ensures ended { IfOk result (λ conn. conn.in_transaction ≡ false) }
-{
-    if path == ":memory:" || path.starts_with("file:") {
-        return Err(CANNOT_OPEN);
-    }
-    let files = match sqlite_std_file::open(rt, path, start) {
-        Ok(files) => files,
-        Err(refused) => return Err(error_of(refused)),
-    };
-    let seed = RandomState::new(rt)
-        .map_err(|_| CANNOT_OPEN)?
-        .hash_one(&0u8);
-    let options = Options {
-        cache_pages,
-        ..Options::new(seed)
-    };
-    match Connection::open_files(rt.alloc(), files, options) {
-        Ok(conn) => Ok(conn),
-        Err((error, _)) => Err(error),
-    }
-}
-
 /// Opens the database in the file at the path. With `is_new` a file that isn't there is made; else it has to be there. An error
 /// is want of memory (`OutOfMemory`), another program that has the file open (`DatabaseBusy`), or why the file can't be opened:
 /// beside one that is no database (`NotADatabase`) no empty log is left that wasn't there.
@@ -139,22 +94,25 @@ pub(crate) fn open_file<S: Start>(
     path: &str,
     is_new: bool,
     start: S,
-) -> Result<FileConnection<S>, Error>
+) -> Result<FileConnection<S>, Unopened<S>>
     ensures open { IfOk result (λ conn. HasCleanDisk (file_state conn) → IsOpened conn) }
     ensures found { IfOk result (λ conn. HasCleanDisk (file_state conn) → FindsIn (image_at S.Start) (file_state conn)) }
     ensures ended { IfOk result (λ conn. conn.in_transaction ≡ false) }
 {
     if !is_new && !fs::exists(rt, path).unwrap_or(false) {
-        return Err(CANNOT_OPEN);
+        return Err(Unopened::given_up(start, CANNOT_OPEN));
     }
     let log = missing_log(rt, path);
     match connect(rt, path, cached_pages(rt, path), start) {
         Ok(conn) => Ok(conn),
-        Err(error) => {
-            if let (Error::SqliteFailure(ErrorCode::NotADatabase), Some(log)) = (&error, &log) {
+        Err(unopened) => {
+            if let (Error::SqliteFailure(ErrorCode::NotADatabase), Some(log)) = (
+                unopened.error(),
+                &log,
+            ) {
                 remove_empty(rt, log);
             }
-            Err(error)
+            Err(unopened)
         }
     }
 }

@@ -3,10 +3,12 @@
 #![tactic(auto)]
 
 mod cache;
+mod connecting;
 mod desks;
 mod files;
 mod upgrades;
 
+pub use connecting::{FileConnection, Unopened};
 pub use desks::{DeskFault, FileDesk};
-pub use files::{Closed, DeskFile, FileConnection, OneFile};
+pub use files::{Closed, DeskFile, OneFile};
 pub use td_store::OpenFault;

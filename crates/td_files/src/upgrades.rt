@@ -4,7 +4,7 @@ ghost use Rattle.sqlite.specs.WalFiles.{image_at};
 ghost use Rattle.td_files.specs.declared.desks.DeskFault.TheVariants as fault;
 ghost use Rattle.td_files.specs.Upgraded.{IsUpgraded, refused_as};
 
-use crate::desks::{DeskFault, file_fault};
+use crate::desks::DeskFault;
 use crate::files::{OneFile, open_file};
 use sqlite::{FileFrom, FileStore, Start};
 use td_migrate::{MigrateFault, upgrade};
@@ -29,14 +29,14 @@ impl<S: Start> OneFile<S, FileStore<FileFrom<S>>> {
     /// as `td_migrate::upgrade` says, there was no memory, or another program has the file open (`Store`). The connection is kept: with
     /// a fault it shows what was found, or what the first of two steps made of that, unless the fault shut it.
     pub fn upgrade(&mut self, rt: &HostRuntime, path: &str) -> Result<u32, DeskFault>
-        ensures { IsUpgraded (image_at S.Start) self.old.connection self.new.connection result }
+        ensures { IsUpgraded (image_at S.Start) self.old self.new result }
     {
         let Some(start) = self.start.take() else {
             return Err(DeskFault::File);
         };
         let mut conn = match open_file(rt, path, false, start) {
             Ok(conn) => conn,
-            Err(error) => return Err(file_fault(&error)),
+            Err(unopened) => return Err(self.note_unopened(unopened)),
         };
         see_settled(&conn);
         let result = upgrade(rt.alloc(), &mut conn);

@@ -8,8 +8,8 @@ pub returns : goal.returns
 returns g c =
     let image = image_at g.S.Start in
     let country = c.args.office.country in
-    let before = c.args.file.now.connection in
-    let file = c.at_desk-end.new.file.connection in
+    let before = c.args.file.now in
+    let file = c.at_desk-end.new.file in
     let records = c.args.records.now in
     let rows = c.args.rows.now in
     let machine = c.args.machine.now in

@@ -8,8 +8,8 @@ pub returns : goal.returns
 returns g c =
     let image = image_at g.S.Start in
     let country = c.args.office.country in
-    let before = c.args.file.now.connection in
-    let file = c.at_desk-end.new.file.connection in
+    let before = c.args.file.now in
+    let file = c.at_desk-end.new.file in
     let records = c.args.records.now in
     let untouched = IsUntouched c.args.input.now c.at_desk-end.new.input c.args.out.now c.at_desk-end.new.out c.args.machine.now c.at_desk-end.new.machine in
     let at = left_alone image country before file (λ D view opened left end. left ≡ opened) untouched (Unit {0}) records c.at_desk-end.result

@@ -3,7 +3,7 @@ use Rattle.sqlite_disk.specs.Events.{Event, replay}
 use Rattle.sqlite_wal.specs.Recovery.{Image}
 use Rattle.sqlite.specs.Files.{file_state}
 use Rattle.sqlite.specs.Start.{FindsIn}
-use Rattle.td_files.proofs.files.connect.Goals as goal
+use Rattle.td_files.proofs.connecting.connect.Goals as goal
 
 -- what two files of the machine hold
 abbrev image : List ℕ → List ℕ → Image
