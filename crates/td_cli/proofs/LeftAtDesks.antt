@@ -1,9 +1,11 @@
 -- What jobs leave at a desk whose records stand somewhere.
-use Rattle.std.proofs.Common.{ℕ, List, Result, Ok, Err}
+use Rattle.std.proofs.Common.{◌≡◌, ℕ, List, Result, Ok, Err, subst, sym}
+use Rattle.std.specs.Prelude.{IsErrAnd}
+use Rattle.std_alloc.specs.declared.string.String.{String}
 use Rattle.sqlite_disk.specs.declared.Disk.{Ghosts}
 use Rattle.sqlite_wal.specs.Recovery.{Image}
 use Rattle.td_desk.specs.View.{DeskView}
-use Rattle.td_files.specs.Found.{FileHeld}
+use Rattle.td_files.specs.Found.{FileHeld, HasNoDesk, HasNoNewDesk}
 use Rattle.td_files.specs.declared.desks.DeskFault.{DeskFault}
 use Rattle.td_words.specs.declared.words.Records.{Records}
 use Rattle.td_words.specs.declared.words.Records.TheVariants.{Memory, File, NewFile}
@@ -18,8 +20,8 @@ module _ {Start S End : Type 0} {disk : Ghosts S} (image : Image) (country : Lis
   left_alone did beside untouched (File path) (Ok end) at = (at.5.0, (at.0, at.1, at.2, at.3, at.4, at.5.1))
   left_alone did beside untouched (NewFile path) (Ok end) at = (at.5.0, (at.0, at.1, at.2, at.3, at.4, at.5.1))
   left_alone did beside untouched Memory (Err why) at = (at.0.0, (at.0.1, at.1, at.2))
-  left_alone did beside untouched (File path) (Err why) at = (at.0.0, (at.0.1, at.1, at.2))
-  left_alone did beside untouched (NewFile path) (Err why) at = (at.0.0, (at.0.1, at.1, at.2))
+  left_alone did beside untouched (File path) (Err why) at = (at.0.0, (at.0.1, at.1))
+  left_alone did beside untouched (NewFile path) (Err why) at = (at.0.0, (at.0.1, at.1))
 
   -- what is done says something by itself
   pub left_as : (did said : (D : Type 0) → DeskView D → D → D → End → Type 0) (untouched other : Type 0) (records : Records) (end : Result End DeskFault)
@@ -29,5 +31,16 @@ module _ {Start S End : Type 0} {disk : Ghosts S} (image : Image) (country : Lis
   left_as did said untouched other (File path) (Ok end) says also at = (at.0, at.1, at.2, at.3, at.4, says _ _ _ _ _ at.5)
   left_as did said untouched other (NewFile path) (Ok end) says also at = (at.0, at.1, at.2, at.3, at.4, says _ _ _ _ _ at.5)
   left_as did said untouched other Memory (Err why) says also at = (also at.0, at.1, at.2)
-  left_as did said untouched other (File path) (Err why) says also at = (also at.0, at.1, at.2)
-  left_as did said untouched other (NewFile path) (Err why) says also at = (also at.0, at.1, at.2)
+  left_as did said untouched other (File path) (Err why) says also at = (also at.0, at.1)
+  left_as did said untouched other (NewFile path) (Err why) says also at = (also at.0, at.1)
+
+  -- there was no desk, for a fault that is handed on
+  pub no_desk : (did : (D : Type 0) → DeskView D → D → D → End → Type 0) (untouched : Type 0) (path : String) (answer : Result End DeskFault) (why : DeskFault)
+      → IsErrAnd answer (λ told. told ≡ why) → untouched → HasNoDesk image country before file why → AtDesk image country (File path) did untouched before file answer
+  no_desk did untouched path (Ok end) why is stays none = absurd is
+  no_desk did untouched path (Err told) why is stays none = (stays, subst (HasNoDesk image country before file) (sym is) none)
+
+  pub no_new_desk : (did : (D : Type 0) → DeskView D → D → D → End → Type 0) (untouched : Type 0) (path : String) (answer : Result End DeskFault) (why : DeskFault)
+      → IsErrAnd answer (λ told. told ≡ why) → untouched → HasNoNewDesk image country before file why → AtDesk image country (NewFile path) did untouched before file answer
+  no_new_desk did untouched path (Ok end) why is stays none = absurd is
+  no_new_desk did untouched path (Err told) why is stays none = (stays, subst (HasNoNewDesk image country before file) (sym is) none)
