@@ -11,7 +11,7 @@ use super::rows::{rows_of, shown, tables};
 use super::stops::{batch, list};
 use super::{database, made};
 use crate::examples::{GRN, country, day, grn};
-use sqlite::{Alter, Connection, MemStore};
+use sqlite::{Connection, MemStore};
 use std::process::Abort;
 use td_base::Counted;
 use td_batch::{ActRow, BatchRun, read_acts, run_acts, run_declarations};
@@ -347,6 +347,7 @@ fn acting_over_tables(rt: HostRuntime) {
 /// So many movements have one line each.
 const MOVEMENTS: usize = 100;
 
+// A desk of one holder who lodged them.
 fn with_many(rt: &(impl AllocGlobal + Abort)) -> SqlDesk<MemStore> {
     let mut desk = made(rt);
     accept(rt, &mut desk, register(rt, 1));
@@ -364,7 +365,7 @@ fn with_many(rt: &(impl AllocGlobal + Abort)) -> SqlDesk<MemStore> {
 
 // How many movements a walk gives, and whether all its calls found memory. What the calls behind the first one ask for is
 // marked.
-fn walked<S: Alter>(rt: &(impl AllocGlobal + Abort), desk: &mut SqlDesk<S>) -> (usize, bool) {
+fn walked(rt: &(impl AllocGlobal + Abort), desk: &mut SqlDesk<MemStore>) -> (usize, bool) {
     let mut rows = desk.movement_rows().expect(rt, "a walk");
     let first = rows.next(rt.alloc()).expect(rt, "a movement");
     assert!(rt; first.is_some());
