@@ -1,7 +1,7 @@
 //! Want of memory in calls on a desk: what a call leaves that finds none, and that it is done where it is asked
 //! again. tests/memory runs these tests again and again, and refuses another request for memory in each run; with
 //! ample memory they show that the calls succeed.
-use super::accepted::START;
+use super::accepted::{START, accept, lodge, open, register};
 use super::migrations::{
     first, rows_of as first_rows_of, second, second_rows_of, upgraded, version_of,
 };
@@ -10,7 +10,7 @@ use super::reports::busy;
 use super::rows::{rows_of, shown, tables};
 use super::stops::{batch, list};
 use super::{database, made};
-use crate::examples::{country, day};
+use crate::examples::{GRN, country, day, grn};
 use sqlite::{Connection, MemStore};
 use std::process::Abort;
 use td_base::Counted;
@@ -342,4 +342,56 @@ fn acting_over_tables(rt: HostRuntime) {
         seen(&rt, &mut desk).as_str(),
         seen(&rt, &mut other).as_str()
     );
+}
+
+/// So many movements have one line each.
+const MOVEMENTS: usize = 100;
+
+// A desk of one holder who lodged them.
+fn with_many(rt: &(impl AllocGlobal + Abort)) -> SqlDesk<MemStore> {
+    let mut desk = made(rt);
+    accept(rt, &mut desk, register(rt, 1));
+    accept(rt, &mut desk, open(rt, 1, 1_000_000, 50));
+    for number in 0..MOVEMENTS {
+        let name = format!(in rt.alloc(); "L{number}").expect(rt, "memory");
+        accept(
+            rt,
+            &mut desk,
+            lodge(rt, 1, name.as_bytes(), grn(rt, GRN), 1),
+        );
+    }
+    desk
+}
+
+// How many movements a walk gives, and whether all its calls found memory. What the calls behind the first one ask for is
+// marked.
+fn walked(rt: &(impl AllocGlobal + Abort), desk: &mut SqlDesk<MemStore>) -> (usize, bool) {
+    let mut rows = desk.movement_rows().expect(rt, "a walk");
+    let first = rows.next(rt.alloc()).expect(rt, "a movement");
+    assert!(rt; first.is_some());
+    let mut given: usize = 1;
+    let mut found_memory = true;
+    mark(rt, BEGIN);
+    for _ in 1..MOVEMENTS {
+        match rows.next(rt.alloc()) {
+            Ok(Some(_movement)) => given = given.saturating_add(1),
+            Ok(None) => {}
+            Err(fault) => {
+                assert!(rt; fault == Fault::NoMemory);
+                found_memory = false;
+            }
+        }
+    }
+    mark(rt, END);
+    (given, found_memory)
+}
+
+// tests/memory counts what a walk asks for: one that reads all movements by its first call asks for nothing later.
+#[test]
+fn walking_along_movements(rt: HostRuntime) {
+    let mut desk = with_many(&rt);
+    let before = seen(&rt, &mut desk);
+    let (given, found_memory) = walked(&rt, &mut desk);
+    assert!(rt; given == MOVEMENTS || !found_memory);
+    assert_eq!(rt; seen(&rt, &mut desk).as_str(), before.as_str());
 }
