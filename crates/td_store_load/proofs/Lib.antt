@@ -1,4 +1,5 @@
 mod Found
+mod ReadOnce
 mod Reading
 mod Whole
 mod WithUse

@@ -6,7 +6,6 @@ use Rattle.std.proofs.lemmas.Bool.Decides.{nat_tests}
 use Rattle.sqlite_trees.proofs.ListLemmas.{all-filter, all-permutation}
 use Rattle.sqlite.specs.State.{State}
 use Rattle.td_guarantee.specs.declared.guarantee.Guarantee.{Guarantee}
-use Rattle.td_guarantee.specs.Terms.{without_codes}
 use Rattle.td_guarantee.specs.Usage.{used_on}
 use Rattle.td_movement.specs.declared.line.Line.{Line}
 use Rattle.td_model.specs.Account.{Account, entry_in, guarantee_by_grn}
@@ -21,7 +20,7 @@ use Rattle.td_store_rows.specs.KeptTable.{IsTheKept, has_kept_grn, kept_row_of}
 use Rattle.td_store_rows.specs.declared.guarantees.stored.KeptGuarantee.{KeptGuarantee}
 use Rattle.td_store_rows.specs.StoreTables.{HoldsContent, tables_in}
 use Rattle.td_store_rows.proofs.StoreReads.{newest_keeps}
-use Rattle.td_store_load.specs.Needed.{entry_from, with_use, terms_in}
+use Rattle.td_store_load.specs.Needed.{entry_from, with_use}
 use Rattle.td_store_load.proofs.Found.{by_grn}
 
 -- the guarantees of entries are those that the lines name
@@ -37,7 +36,7 @@ entries_of_lines account (l ∷ lines) = by_found (guarantee_by_grn l.0.grn acco
     by_found (Some g) later = ap (λ gs. g ∷ gs) later
 
 -- those that pass pass
-all_pass : {X : Type 0} (p : X → Bool) (xs : List X) → AllByRecursion (λ x. p x ≡ true) (filter p xs)
+pub all_pass : {X : Type 0} (p : X → Bool) (xs : List X) → AllByRecursion (λ x. p x ≡ true) (filter p xs)
 all_pass p [] = tt
 all_pass {X} p (x ∷ xs) = by_test (p x) refl (all_pass p xs)
   where
@@ -79,11 +78,3 @@ module _ (a : State) (H : ℕ) (content : Content) (holds : HoldsContent content
   entry_is country grn at k found =
       ap (λ n. Some (with_codes t (without_amount (kept_row_of k)), n)) (kept_use country grn k found)
       ∙ ap (option_map (with_use account)) (sym (by_grn a H content holds country grn at (Some k) found))
-
-  -- its terms without codes, and that amount; none: there is no such guarantee
-  pub terms_are : (country grn : List ℕ) → content.country ≡ country → (found : Option KeptGuarantee) → IsTheKept (has_kept_grn H (guarantee_no country grn) grn) a found
-      → option_map (λ k. (without_codes k.guarantee, k.used)) found ≡ terms_in account grn
-  terms_are country grn at None found = ap (option_map (λ g. (without_codes g, used_on g.grn account.movements))) (sym (by_grn a H content holds country grn at None found))
-  terms_are country grn at (Some k) found =
-      ap (λ n. Some (without_codes k.guarantee, n)) (kept_use country grn k found)
-      ∙ ap (option_map (λ g. (without_codes g, used_on g.grn account.movements))) (sym (by_grn a H content holds country grn at (Some k) found))

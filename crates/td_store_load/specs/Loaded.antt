@@ -3,8 +3,10 @@ use Rattle.std.specs.Prelude.{◌≡◌, ℕ, List}
 use Rattle.sqlite.specs.State.{State}
 use Rattle.td_desk.specs.Content.{Content}
 use Rattle.td_movement.specs.Movements.{without_lines}
+use Rattle.td_movement.specs.declared.line.Line.{Line}
 use Rattle.td_movement.specs.declared.movement.Movement.{Movement}
-use Rattle.td_table_model.specs.Tables.{Keyed, Tables}
+use Rattle.td_table_model.specs.Gathering.{grn_by}
+use Rattle.td_table_model.specs.Tables.{Keyed, LineCells, Tables}
 use Rattle.td_store_rows.specs.declared.codes.stored.StoredCode.{StoredCode}
 use Rattle.td_store_rows.specs.StoreTables.{HoldsContent, tables_in}
 
@@ -15,6 +17,10 @@ code_of row = row.code
 -- a movement in its row, without lines
 abbrev pub bare : Keyed Movement → Movement
 bare r = without_lines r.row
+
+-- the line in a row of a holder's movement, on the guarantee of the holder's that the row names
+abbrev pub line_of : ℕ → Tables → Keyed LineCells → Line
+line_of H t r = record { grn = grn_by H r.row.guarantee t; cents = r.row.cents }
 
 -- where the store holds a content, this is what f says of its tables
 abbrev pub IsOfTables : {X : Type 0} → (Tables → X) → State → X → Type 0

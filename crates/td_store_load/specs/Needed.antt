@@ -1,9 +1,10 @@
 -- What a verdict needs of a holder's rows, as the tables of a store's file say it.
-use Rattle.std.specs.Prelude.{◌≡◌, ℕ, List, Option, Some, option_map}
+use Rattle.std.specs.Prelude.{◌≡◌, ℕ, List, Option, Some, filter_map, option_map}
 use Rattle.sqlite.specs.State.{State}
 use Rattle.td_guarantee.specs.declared.guarantee.Guarantee.{Guarantee}
 use Rattle.td_guarantee.specs.Terms.{without_codes}
 use Rattle.td_guarantee.specs.Usage.{used_on}
+use Rattle.td_movement.specs.declared.line.Line.{Line}
 use Rattle.td_commands.specs.Commands.{Need}
 use Rattle.td_model.specs.declared.holder_row.HolderRow.{HolderRow}
 use Rattle.td_acts.specs.declared.rows.Loaded.{Loaded}
@@ -29,6 +30,11 @@ with_use account g = (g, used_on g.grn account.movements)
 -- the terms of an account's guarantee with a GRN, without codes, and the amount in use on it
 abbrev pub terms_in : Account → List ℕ → Option (Guarantee × ℕ)
 terms_in account grn = option_map (λ g. (without_codes g, used_on g.grn account.movements)) (guarantee_by_grn grn account.guarantees)
+
+-- where the store holds a content, these are the terms of the guarantees of a holder's that lines name, as far as they are there
+abbrev pub AreTermsOf : ℕ → State → List Line → List (Guarantee × ℕ) → Type 0
+AreTermsOf H s lines terms =
+    (c : Content) → HoldsContent c s → terms ≡ filter_map (λ l. terms_in (account_in H c) l.grn) lines
 
 -- where the store holds a content of that country in which this is the row of a holder, this is what is needed of the
 -- holder's account

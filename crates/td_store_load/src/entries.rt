@@ -11,7 +11,7 @@ ghost use Rattle.typed_sql.specs.Reading.{IsInside};
 ghost use Rattle.td_store_rows.specs.StoreReads.{ReadsNewest};
 ghost use Rattle.td_store_rows.specs.KeptTable.{kept_row_of};
 ghost use Rattle.td_store_load.specs.Loaded.{IsOfContent, IsOfTables, code_of};
-ghost use Rattle.td_store_load.specs.Needed.{entry_from, terms_in};
+ghost use Rattle.td_store_load.specs.Needed.{entry_from};
 
 use sqlite::{Error, Transaction};
 use sqlite_trees::store::Alter;
@@ -19,7 +19,6 @@ use std::alloc::{AllocError, Global};
 use td_acts::Lines;
 use td_base::{Cents, Country, Grn, HolderNo};
 use td_guarantee::{Codes, Guarantee};
-use td_movement::Line;
 use td_store_rows::{KeptGuarantee, StoredCode, codes_of, find_kept};
 
 // The codes in rows, which are given in ascending order. `AllocError`: want of memory.
@@ -70,53 +69,6 @@ pub fn load_entry<S: Alter>(
         return Ok(None);
     };
     Ok(Some(entry_in_row(alloc, tx, &row)?))
-}
-
-/// The terms of the holder's guarantee with a GRN at an office of that country, if there is one, without codes, and the amount in
-/// use on it.
-pub fn load_terms<S: Alter>(
-    alloc: Global,
-    tx: &mut Transaction<'_, S>,
-    country: Country,
-    holder: HolderNo,
-    grn: &Grn,
-) -> Result<Option<(Guarantee, Cents)>, Error>
-    requires { IsInside (state S.Store tx.old.conn.now) }
-    ensures same_reference { tx.new.conn.ghost_name ≡ tx.old.conn.ghost_name }
-    ensures found { HasCleanDisk (state S.Store tx.new.conn.now)
-        → IfOk result (IsOfContent country (λ c. terms_in (account_in holder c) grn.now) (state S.Store tx.old.conn.now)) }
-    ensures reads { ReadsNewest (is_ok result) (state S.Store tx.old.conn.now) (state S.Store tx.new.conn.now) }
-{
-    let serial = grn.serial(country).unwrap_or(0);
-    let Some(kept) = find_kept(alloc, tx, holder, serial, grn)? else {
-        return Ok(None);
-    };
-    Ok(Some((kept.guarantee.without_codes(alloc), kept.used)))
-}
-
-/// The guarantees that a movement's lines name, as far as they are there, at an office of that country, without codes, and the
-/// amounts in use on them.
-pub fn load_terms_of<S: Alter>(
-    alloc: Global,
-    tx: &mut Transaction<'_, S>,
-    country: Country,
-    holder: HolderNo,
-    lines: &[Line],
-) -> Result<Vec<(Guarantee, Cents)>, Error>
-    requires { IsInside (state S.Store tx.old.conn.now) }
-    ensures same_reference { tx.new.conn.ghost_name ≡ tx.old.conn.ghost_name }
-    ensures found { HasCleanDisk (state S.Store tx.new.conn.now)
-        → IfOk result (λ found. IsOfContent country (λ c. filter_map (λ l. terms_in (account_in holder c) l.grn) lines.now)
-        (state S.Store tx.old.conn.now) found.items) }
-    ensures reads { ReadsNewest (is_ok result) (state S.Store tx.old.conn.now) (state S.Store tx.new.conn.now) }
-{
-    let mut found = Vec::new(alloc);
-    'lines: for line in lines {
-        if let Some(entry) = load_terms(alloc, tx, country, holder, &line.grn)? {
-            found.push(entry)?;
-        }
-    }
-    Ok(found)
 }
 
 /// The guarantees that the lines of a declaration name, as far as they are there, at an office of that country, and the

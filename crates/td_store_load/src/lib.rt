@@ -10,6 +10,7 @@ mod following;
 mod lists;
 mod movements;
 mod needs;
+mod releases;
 
 pub use alone::{read_following_guarantee, read_following_movement, read_needs};
 pub use following::{following_guarantee, following_movement};

@@ -13,9 +13,10 @@ ghost use Rattle.td_store_rows.specs.StoreTables.{HoldsContent};
 ghost use Rattle.td_store_load.specs.Needed.{IsLoadedFor};
 ghost use Rattle.typed_sql.specs.Reading.{IsInside};
 
-use crate::entries::{load_declared_on, load_entry, load_terms_of};
+use crate::entries::{load_declared_on, load_entry};
 use crate::lists::{list_guarantees, list_movements};
 use crate::movements::{load_movement_by_lrn, load_movement_by_mrn, load_status_by_mrn};
+use crate::releases::load_released;
 use sqlite::{Error, Transaction};
 use sqlite_trees::store::Alter;
 use std::alloc::{AllocError, Global};
@@ -180,10 +181,10 @@ fn load_release<S: Alter>(
         → IfOk result (IsLoadedFor country row (release mrn.now) (state S.Store tx.old.conn.now)) }
     ensures reads { ReadsNewest (is_ok result) (state S.Store tx.old.conn.now) (state S.Store tx.new.conn.now) }
 {
-    let Some(found) = load_movement_by_mrn(alloc, tx, country, row.holder, mrn)? else {
+    let Some(released) = load_released(alloc, tx, country, row.holder, mrn)? else {
         return Ok(row_alone(alloc, country, row));
     };
-    let guarantees = load_terms_of(alloc, tx, country, row.holder, found.lines.as_slice())?;
+    let (found, guarantees) = released;
     let movements = vec![in alloc; found]?;
     Ok(Loaded {
         country,

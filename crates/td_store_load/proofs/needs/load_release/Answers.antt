@@ -1,21 +1,21 @@
-use Rattle.std.proofs.Common.{◌≡◌, ◌∙◌, None, Option, Some, ap, arith, subst, sym, refl}
+use Rattle.std.proofs.Common.{◌≡◌, ◌∙◌, None, Option, Some, ap, subst, sym}
+use Rattle.std.specs.Option.{option_map}
 use Rattle.std.specs.Prelude.{option_to_list, filter_map, IfSome}
 use Rattle.sqlite.specs.Held.{state}
-use Rattle.sqlite.specs.State.{State, HasCleanDisk}
+use Rattle.td_guarantee.specs.declared.guarantee.Guarantee.{Guarantee}
 use Rattle.td_movement.specs.declared.movement.Movement.{Movement}
 use Rattle.td_acts.specs.declared.rows.Loaded.{Loaded}
 use Rattle.td_model.specs.Account.{Account, movement_by_mrn}
 use Rattle.td_desk.specs.Content.{account_in}
 use Rattle.td_holder_memory.proofs.Loading.{release_looked_up}
-use Rattle.td_store_rows.proofs.StoreReads.{reads_on}
 use Rattle.td_store_load.specs.Needed.{terms_in}
-use Rattle.td_store_load.proofs.Reading.{held_after}
 use Rattle.td_store_load.proofs.needs.load_release.Goals as goal
 
 pub returns-in_default-clause-loaded : goal.returns-in_default-clause-loaded
 returns-in_default-clause-loaded g c clean content holds at row =
     let account : Account = account_in c.args.row.holder content in
-    let none : None ≡ movement_by_mrn c.args.mrn.now account.movements = sym c.in_default.is ∙ c.in_ok-found.ensures.found clean content holds at in
+    let none : None ≡ movement_by_mrn c.args.mrn.now account.movements =
+    sym (ap (option_map (λ both. both.0)) c.in_default.is) ∙ c.in_ok-released.ensures.found clean content holds at in
     record {
       country = c.row_alone.ensures.country ∙ sym at;
       holder = c.row_alone.ensures.row ∙ sym row;
@@ -28,28 +28,15 @@ returns-clause-loaded g c clean content holds at row = record {
   country = sym at;
   holder = sym row;
   things = release_looked_up account loaded c.args.mrn.now (c.in_ok-movements.ensures.items ∙ ap option_to_list some)
-      (subst (λ (o : Option Movement). IfSome o (λ m. c.in_ok-guarantees.guarantees.items ≡ filter_map (λ l. terms_in account l.grn) m.lines)) some
-      (c.in_ok-guarantees.ensures.found clean content (held_after content a b (c.in_ok-found.ensures.reads.still clean_b refl) holds) at
-      ∙ ap (filter_map (λ l. terms_in account l.grn)) c.as_slice.ensures));
+      (subst (λ (o : Option Movement). IfSome o (λ m. c.in-Some.released.1.items ≡ filter_map (λ l. terms_in account l.grn) m.lines)) some
+      ((rw c.in-Some.is at (c.in_ok-released.ensures.terms clean)) content holds));
 }
   where
-    a : State
-    a = state g.S.Store c.args.tx.now.conn.now
-
-    b : State
-    b = state g.S.Store c.load_movement_by_mrn.new.tx.conn.now
-
-    clean_b : HasCleanDisk b
-    clean_b = omega (arith, clean, c.load_terms_of.ensures.reads.within.survives.clean)
-
     account : Account
     account = account_in c.args.row.holder content
 
     loaded : Loaded
-    loaded = record { country = c.args.country; holder = Some c.args.row; movements = c.in_ok-movements.movements; guarantees = c.in_ok-guarantees.guarantees }
+    loaded = record { country = c.args.country; holder = Some c.args.row; movements = c.in_ok-movements.movements; guarantees = c.in-Some.released.1 }
 
-    some : Some c.in-Some.found ≡ movement_by_mrn c.args.mrn.now account.movements
-    some = sym c.in-Some.is ∙ c.in_ok-found.ensures.found clean_b content holds at
-
-pub returns-clause-reads : goal.returns-clause-reads
-returns-clause-reads g c = reads_on c.in_ok-found.ensures.reads c.in_ok-guarantees.ensures.reads
+    some : Some c.in-Some.released.0 ≡ movement_by_mrn c.args.mrn.now account.movements
+    some = sym (ap (option_map (λ both. both.0)) c.in-Some.is) ∙ c.in_ok-released.ensures.found clean content holds at

@@ -1,0 +1,196 @@
+-- A line's guarantee, of which the row was read once, by the serial that the line names: its GRN, its terms and the amount in use.
+use Rattle.std.proofs.Common.{◌≡◌, ◌∙◌, ℕ, ◌+◌, Bool, true, false, List, [], ◌∷◌, ◌++◌, filter, map, nat_le, nat_lt, Option, Some, refl, sym, ap, ap₂, subst, arith, IsPermutation}
+use Rattle.std.specs.Prelude.{◌==◌, ◌&&◌, filter_map, unwrap_or}
+use Rattle.std.specs.List.{AllByRecursion}
+use Rattle.std.specs.Option.{option_map}
+use Rattle.std.specs.Str.{bytes_eq}
+use Rattle.std.proofs.lemmas.Bool.Decides.{nat_tests}
+use Rattle.std.proofs.lemmas.List.Sorted.{IsPermutation-map}
+use Rattle.std.proofs.lemmas.Slice.Eq.{bytes_eq-Decides}
+use Rattle.sqlite_trees.proofs.ListLemmas.{IsPermutation-filter, all-filter, all-permutation, all_of, all_weaker, filter_same, map-map}
+use Rattle.sqlite.specs.State.{State}
+use Rattle.td_base.specs.References.{owner_of, serial_of}
+use Rattle.td_guarantee.specs.declared.guarantee.Guarantee.{Guarantee}
+use Rattle.td_guarantee.specs.Terms.{without_codes}
+use Rattle.td_guarantee.specs.Usage.{used_on}
+use Rattle.td_movement.specs.declared.line.Line.{Line}
+use Rattle.td_model.specs.Account.{Account, guarantee_by_grn}
+use Rattle.td_desk.specs.Content.{Content, account_in}
+use Rattle.td_holder_memory.proofs.Loading.{one_more}
+use Rattle.td_table_model.specs.Gathering.{grn_by, line_from, lines_by, no_of, of_key, owner, part, place, with_codes, with_lines}
+use Rattle.td_table_model.specs.Laws.{IsAmountOf}
+use Rattle.td_table_model.specs.Rules.{KeepRules}
+use Rattle.td_table_model.specs.Tables.{Keyed, Kept, LineCells, Tables, guarantee_no, without_amount}
+use Rattle.td_table_model.proofs.Counting.{filter_both}
+use Rattle.td_table_model.proofs.Grouped.{of_key_has}
+use Rattle.td_table_model.proofs.KeepingRules.{keep_rules}
+use Rattle.td_table_model.proofs.KeptAmounts.{amounts_are_use}
+use Rattle.td_table_model.proofs.Looked.{are_found}
+use Rattle.td_table_model.proofs.Numbered.{map_same}
+use Rattle.td_table_model.proofs.Rebuilt.{all_in_order}
+use Rattle.td_table_model.proofs.Told.{references_tell}
+use Rattle.typed_sql.proofs.Ordered.{both_pass}
+use Rattle.td_store_rows.specs.KeptTable.{AreKept, kept_row_of}
+use Rattle.td_store_rows.specs.LineTable.{AreByNumber, line_row_of as row_of_line}
+use Rattle.td_store_rows.specs.MovementTable.{IsTheMovement, has_mrn, movement_row_of as row_of_movement}
+use Rattle.td_store_rows.specs.Places.{is_within}
+use Rattle.td_store_rows.specs.StoreReads.{KeepsUse, OnlyReadNewest}
+use Rattle.td_store_rows.specs.StoreTables.{HoldsContent, tables_in}
+use Rattle.td_store_rows.specs.declared.guarantees.stored.KeptGuarantee.{KeptGuarantee}
+use Rattle.td_store_rows.specs.declared.lines.stored.StoredLine.{StoredLine}
+use Rattle.td_store_rows.specs.declared.movements.stored.StoredMovement.{StoredMovement}
+use Rattle.td_store_rows.proofs.StoreReads.{newest_keeps, newest_more_lines}
+use Rattle.td_store_rows.proofs.Turned.{plain_rows}
+use Rattle.td_store_load.specs.Loaded.{IsOfTables, line_of}
+use Rattle.td_store_load.specs.Needed.{AreTermsOf, terms_in}
+use Rattle.td_store_load.proofs.Found.{filtered}
+use Rattle.td_store_load.proofs.Reading.{held_after, said_before}
+use Rattle.td_store_load.proofs.Whole.{found_alone, grn_alone}
+use Rattle.td_store_load.proofs.WithUse.{all_pass}
+
+-- the rows from a serial on and below the next are those with the serial
+one_serial : (n s : ℕ) → (nat_le n s && nat_lt s (n + 1)) ≡ (s == n)
+one_serial n s = by_tests (nat_le n s) refl (nat_lt s (n + 1)) refl (s == n) refl
+  where
+    by_tests : (b : Bool) → nat_le n s ≡ b → (d : Bool) → nat_lt s (n + 1) ≡ d → (e : Bool) → (s == n) ≡ e → (b && d) ≡ e
+    by_tests true is_b true is_d true is_e = refl
+    by_tests true is_b true is_d false is_e = absurd (grind (arith, nat_tests, is_b, is_d, is_e))
+    by_tests true is_b false is_d true is_e = absurd (grind (arith, nat_tests, is_b, is_d, is_e))
+    by_tests true is_b false is_d false is_e = refl
+    by_tests false is_b d is_d true is_e = absurd (grind (arith, nat_tests, is_b, is_e))
+    by_tests false is_b d is_d false is_e = refl
+
+-- the one row of a holder with a serial
+module _ (a : State) (H n : ℕ) (k : KeptGuarantee) (found : AreKept (is_within H n (n + 1)) a (k ∷ [])) (content : Content) (holds : HoldsContent content a) where
+  abbrev t : Tables
+  t = tables_in holds.trees.layout a.now.trees
+
+  abbrev grn : List ℕ
+  grn = k.guarantee.grn
+
+  abbrev account : Account
+  account = account_in H content
+
+  -- whether a row is the holder's, with the serial; and whether a guarantee has the GRN
+  abbrev asked : {R : Type 0} → Keyed R → Bool
+  asked r = r.holder == H && r.serial == n
+
+  abbrev has : Keyed Guarantee → Bool
+  has g = bytes_eq g.row.grn grn
+
+  abbrev plain : Keyed Guarantee
+  plain = without_amount (kept_row_of k)
+
+  keeps : KeepsUse holds.trees.layout
+  keeps = newest_keeps holds.trees.layout holds.trees.newest
+
+  kept_alone : IsPermutation (filter asked t.kept) (kept_row_of k ∷ [])
+  kept_alone =
+      subst (λ l. IsPermutation l (kept_row_of k ∷ []))
+      (filter_same (is_within H n (n + 1)) asked t.kept
+      (all_of (λ (r : Keyed Kept). is_within H n (n + 1) r ≡ asked r) (λ r. ap (λ b. r.holder == H && b) (one_serial n r.serial)) t.kept))
+      (found holds.trees.layout keeps holds.schema (holds.trees.typed.kept keeps))
+
+  plain_alone : IsPermutation (filter asked t.guarantees) (plain ∷ [])
+  plain_alone =
+      subst (λ l. IsPermutation l (plain ∷ [])) (sym (ap (filter asked) (plain_rows holds.trees.layout a.now.trees) ∙ filtered asked t.kept))
+      (IsPermutation-map without_amount _ _ kept_alone)
+
+  pub serial_grn : grn ≡ grn_by H n t
+  serial_grn = sym (grn_alone t H n plain plain_alone)
+
+  -- its GRN tells its serial
+  told : serial_of t.country grn ≡ Some k.serial
+  told =
+      (all-permutation (λ (g : Keyed Guarantee). (owner_of t.country g.row.grn ≡ Some g.holder) × (serial_of t.country g.row.grn ≡ Some g.serial)) _ _ plain_alone
+      (all-filter (λ (g : Keyed Guarantee). (owner_of t.country g.row.grn ≡ Some g.holder) × (serial_of t.country g.row.grn ≡ Some g.serial)) asked t.guarantees
+      (references_tell t content holds.trees.sound holds.trees.tables).0.grns)).0.1
+
+  passes : asked (kept_row_of k) ≡ true
+  passes = (all-permutation (λ x. asked x ≡ true) _ _ kept_alone (all_pass asked t.kept)).0
+
+  own : k.holder ≡ H
+  own = grind (arith, nat_tests, (both_pass (k.holder == H) _ passes).0)
+
+  named : k.serial ≡ n
+  named = grind (arith, nat_tests, (both_pass (k.holder == H) _ passes).1)
+
+  number : guarantee_no t.country grn ≡ n
+  number = ap (λ o. unwrap_or o 0) told ∙ named
+
+  -- so it is the one that has the GRN
+  grn_is_asked : (g : Keyed Guarantee) → has g ≡ (g.serial == guarantee_no t.country grn && has g) → (g.holder == H && has g) ≡ (g.holder == H && (g.serial == n && has g))
+  grn_is_asked g same = ap (λ b. g.holder == H && b) (same ∙ ap (λ m. g.serial == m && has g) number)
+
+  nested : filter (λ (g : Keyed Guarantee). g.holder == H && (g.serial == n && has g)) t.guarantees ≡ filter has (filter asked t.guarantees)
+  nested =
+      filter_both (λ (g : Keyed Guarantee). g.serial == n && has g) (λ (g : Keyed Guarantee). g.holder == H) t.guarantees ∙ filter_both has (λ (g : Keyed Guarantee). g.serial == n) (part H t.guarantees)
+      ∙ ap (filter has) (sym (filter_both (λ (g : Keyed Guarantee). g.serial == n) (λ (g : Keyed Guarantee). g.holder == H) t.guarantees))
+
+  has_alone : IsPermutation (filter (λ (g : Keyed Guarantee). g.holder == H && has g) t.guarantees) (plain ∷ [])
+  has_alone =
+      subst (λ l. IsPermutation l (plain ∷ []))
+      (sym (filter_same (λ (g : Keyed Guarantee). g.holder == H && has g) (λ (g : Keyed Guarantee). g.holder == H && (g.serial == n && has g)) t.guarantees
+      (all_weaker (λ (g : Keyed Guarantee). has g ≡ (g.serial == guarantee_no t.country grn && has g)) (λ (g : Keyed Guarantee). (g.holder == H && has g) ≡ (g.holder == H && (g.serial == n && has g)))
+      grn_is_asked t.guarantees ((references_tell t content holds.trees.sound holds.trees.tables).1.grns grn)) ∙ nested))
+      (subst (λ l. IsPermutation (filter has (filter asked t.guarantees)) l) (itself (bytes_eq grn grn) ((bytes_eq-Decides grn grn).1 refl))
+      (IsPermutation-filter has (filter asked t.guarantees) (plain ∷ []) plain_alone))
+    where
+      itself : (b : Bool) → b ≡ true → filter (λ (g : Keyed Guarantee). b) (plain ∷ []) ≡ plain ∷ []
+      itself true is = refl
+      itself false is = cc
+
+  by_its_grn : guarantee_by_grn grn account.guarantees ≡ Some (with_codes t plain)
+  by_its_grn =
+      (are_found t content holds.trees.sound holds.trees.tables H).grns grn
+      ∙ ap (option_map (with_codes t)) (found_alone (λ (g : Keyed Guarantee). g.holder == H && has g) t.guarantees (Some plain) has_alone)
+
+  -- the amount that it keeps is what is in use
+  use_is : k.used ≡ used_on grn account.movements
+  use_is =
+      let uses : AllByRecursion (IsAmountOf content) t.kept = amounts_are_use t content holds.trees.sound holds.trees.tables keeps in
+      let amount : IsAmountOf content (kept_row_of k) = (all-permutation (IsAmountOf content) _ _ kept_alone (all-filter (IsAmountOf content) asked t.kept uses)).0 in
+      subst (λ m. k.used ≡ used_on grn (account_in m content).movements) own amount
+
+  pub serial_terms : Some (without_codes k.guarantee, k.used) ≡ terms_in account grn
+  serial_terms =
+      ap (λ u. Some (without_codes k.guarantee, u)) use_is
+      ∙ ap (option_map (λ g. (without_codes g, used_on g.grn account.movements))) (sym by_its_grn)
+
+-- one more line, and the terms of its guarantee
+pub terms_more : (a b : State) (H : ℕ) → OnlyReadNewest a b → (lines : List Line) (terms : List (Guarantee × ℕ)) → AreTermsOf H a lines terms
+    → (line : Line) (e : Guarantee × ℕ) → ((c : Content) → HoldsContent c b → Some e ≡ terms_in (account_in H c) line.grn)
+    → (new : List (Guarantee × ℕ)) → new ≡ terms ++ e ∷ [] → AreTermsOf H a (lines ++ line ∷ []) new
+terms_more a b H left lines terms are line e is new added c holds =
+    one_more (λ (l : Line). terms_in (account_in H c) l.grn) lines line (Some e) terms new (sym (is c (held_after c a b left holds))) (are c holds) added
+
+-- the lines in a holder's rows are those of the movement
+pub movement_of : (a b : State) (stored : StoredMovement) (rows : List StoredLine) (lines : List Line) → AreByNumber stored.holder stored.serial a rows → OnlyReadNewest a b
+    → IsOfTables (λ t. map (λ r. line_of stored.holder t (row_of_line r)) rows) b lines → IsOfTables (λ t. with_lines t (row_of_movement stored)) a (record stored.movement { lines = lines })
+movement_of a b stored rows lines order still each content holds =
+    let H : ℕ = stored.holder in
+    let t : Tables = tables_in holds.trees.layout a.now.trees in
+    let keep : KeepRules t = keep_rules t content holds.trees.sound holds.trees.tables in
+    let found : map row_of_line rows ≡ lines_by H stored.serial t =
+    order holds.trees.layout (newest_more_lines holds.trees.layout holds.trees.newest) holds.schema holds.trees.typed.lines
+    (keep.stored.lines H stored.serial) in
+    let own : AllByRecursion (λ (r : Keyed LineCells). owner r ≡ H) (lines_by H stored.serial t) =
+    all_in_order no_of (λ (r : Keyed LineCells). owner r ≡ H) (of_key place stored.serial (part H t.lines))
+    (all-filter (λ (r : Keyed LineCells). owner r ≡ H) (λ r. place r == stored.serial) (part H t.lines) (of_key_has owner H t.lines)) in
+    ap (λ (l : List Line). record stored.movement { lines = l })
+    (said_before (λ t. map (λ r. line_of H t (row_of_line r)) rows) a b lines still each content holds
+    ∙ sym (map-map (line_of H t) row_of_line rows) ∙ ap (map (line_of H t)) found
+    ∙ map_same (line_of H t) (line_from t) (lines_by H stored.serial t)
+    (all_weaker (λ (r : Keyed LineCells). owner r ≡ H) (λ r. line_of H t r ≡ line_from t r)
+    (λ r is. ap (λ (h : ℕ). line_of h t r) (sym is)) (lines_by H stored.serial t) own))
+
+-- the terms of a movement's lines are of the holder's guarantees whose movement it is
+pub terms_of_holder : (a : State) (H n : ℕ) (mrn : List ℕ) (stored : StoredMovement) → IsTheMovement (has_mrn H n mrn) a (Some stored)
+    → (lines : List Line) (terms : List (Guarantee × ℕ)) → AreTermsOf stored.holder a lines terms → AreTermsOf H a lines terms
+terms_of_holder a H n mrn stored found lines terms are c holds =
+    let t : Tables = tables_in holds.trees.layout a.now.trees in
+    let those : IsPermutation (filter (has_mrn H n mrn) t.movements) (row_of_movement stored ∷ []) = found holds.trees.layout holds.schema holds.trees.typed.movements in
+    let passes : has_mrn H n mrn (row_of_movement stored) ≡ true =
+    (all-permutation (λ x. has_mrn H n mrn x ≡ true) _ _ those (all_pass (has_mrn H n mrn) t.movements)).0 in
+    let own : stored.holder ≡ H = grind (arith, nat_tests, (both_pass (stored.holder == H) _ passes).0) in
+    subst (λ h. terms ≡ filter_map (λ l. terms_in (account_in h c) l.grn) lines) own (are c holds)
