@@ -12,6 +12,13 @@ use Rattle.td_words.specs.declared.words.Records.{Records}
 use Rattle.td_words.specs.declared.words.Records.TheVariants.{Memory, File, NewFile}
 use Rattle.td_cli.specs.AtDesk.{AtDesk}
 
+module _ {Start S : Type 0} {disk : Ghosts S} (image : Image) (country : List ℕ) (before file : FileHeld Start disk) where
+  -- why there is no desk where records stand
+  abbrev pub IsNone : Records → DeskFault → Type 0
+  IsNone Memory why = (why ≡ Refused fault.NoMemory) × (file ≡ before)
+  IsNone (File path) why = HasNoDesk image country before file why
+  IsNone (NewFile path) why = HasNoNewDesk image country before file why
+
 module _ {Start S End : Type 0} {disk : Ghosts S} (image : Image) (country : List ℕ) (before file : FileHeld Start disk) where
   -- what is done is said by itself where it is said beside something else, which holds without a desk, too
   pub left_alone : (did : (D : Type 0) → DeskView D → D → D → End → Type 0) (beside untouched : Type 0) (records : Records) (end : Result End DeskFault)
@@ -35,15 +42,9 @@ module _ {Start S End : Type 0} {disk : Ghosts S} (image : Image) (country : Lis
   left_as did said untouched other (File path) (Err why) says also at = (also at.0, at.1)
   left_as did said untouched other (NewFile path) (Err why) says also at = (also at.0, at.1)
 
-  -- why there is no desk where records stand
-  abbrev pub IsNone : Records → DeskFault → Type 0
-  IsNone Memory why = (why ≡ Refused fault.NoMemory) × (file ≡ before)
-  IsNone (File path) why = HasNoDesk image country before file why
-  IsNone (NewFile path) why = HasNoNewDesk image country before file why
-
   -- there was none, for a fault that is handed on
   pub no_desk : (did : (D : Type 0) → DeskView D → D → D → End → Type 0) (untouched : Type 0) (records : Records) (answer : Result End DeskFault) (why : DeskFault)
-      → IsErrAnd answer (λ told. told ≡ why) → untouched → IsNone records why → AtDesk image country records did untouched before file answer
+      → IsErrAnd answer (λ told. told ≡ why) → untouched → IsNone image country before file records why → AtDesk image country records did untouched before file answer
   no_desk did untouched records (Ok end) why is stays none = absurd is
   no_desk did untouched Memory (Err told) why is stays none = (stays, is ∙ none.0, none.1)
   no_desk did untouched (File path) (Err told) why is stays none = (stays, subst (HasNoDesk image country before file) (sym is) none)
