@@ -1,8 +1,7 @@
 use Rattle.std.proofs.Common.{refl}
 use Rattle.sqlite.specs.WalFiles.{image_at}
-use Rattle.td_words.specs.declared.words.Records.TheVariants.{File, NewFile}
 use Rattle.td_cli.proofs.Desks.{kept_ready, made_ready}
-use Rattle.td_cli.proofs.LeftAtDesks.{no_desk}
+use Rattle.td_cli.proofs.LeftAtDesks.{err_is}
 use Rattle.td_cli.proofs.at_desk.at_desk.Goals as goal
 
 pub returns-in_ok-desk-in-File : goal.returns-in_ok-desk-in-File
@@ -22,11 +21,10 @@ returns-in_ok-desk-in-NewFile g c =
 pub returns-in_err-desk-in-File : goal.returns-in_err-desk-in-File
 returns-in_err-desk-in-File g c =
     let refused = c.in_err-desk-in-File in
-    rw c.in-File.is (no_desk (image_at g.S.Start) c.args.office.country c.args.file.now c.open_desk.new.self _ _ (File c.in-File.path) c.from_residual.result refused.field-0.0
-    c.from_residual.ensures.1 (refl, refl, refl) refused.ensures.refused)
+    rw (c.in-File.is, err_is c.from_residual.result refused.field-0.0 c.from_residual.ensures.1) ((refl, refl, refl), refused.ensures.refused)
 
 pub returns-in_err-desk-in-NewFile : goal.returns-in_err-desk-in-NewFile
 returns-in_err-desk-in-NewFile g c =
     let refused = c.in_err-desk-in-NewFile in
-    rw c.in-NewFile.is (no_desk (image_at g.S.Start) c.args.office.country c.args.file.now c.make_desk.new.self _ _ (NewFile c.in-NewFile.path)
-    c.from_residual-in_err-desk-in-NewFile.result refused.field-0.0 c.from_residual-in_err-desk-in-NewFile.ensures.1 (refl, refl, refl) refused.ensures.refused)
+    let handed = c.from_residual-in_err-desk-in-NewFile in
+    rw (c.in-NewFile.is, err_is handed.result refused.field-0.0 handed.ensures.1) ((refl, refl, refl), refused.ensures.refused)

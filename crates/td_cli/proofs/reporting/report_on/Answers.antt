@@ -1,7 +1,5 @@
 use Rattle.std.proofs.Common.{refl}
-use Rattle.sqlite.specs.WalFiles.{image_at}
-use Rattle.td_words.specs.declared.words.Records.TheVariants.{File}
-use Rattle.td_cli.proofs.LeftAtDesks.{no_desk}
+use Rattle.td_cli.proofs.LeftAtDesks.{err_is}
 use Rattle.td_cli.proofs.reporting.report_on.Goals as goal
 
 pub returns : goal.returns
@@ -16,6 +14,4 @@ returns g c =
     )
 
 pub returns-in_err-desk : goal.returns-in_err-desk
-returns-in_err-desk g c =
-    no_desk (image_at g.S.Start) c.args.country c.args.file.now c.open_desk.new.self _ _ (File c.args.path) c.from_residual.result c.in_err-desk.field-0.0
-    c.from_residual.ensures.1 refl c.in_err-desk.ensures.refused
+returns-in_err-desk g c = rw (err_is c.from_residual.result c.in_err-desk.field-0.0 c.from_residual.ensures.1) (refl, c.in_err-desk.ensures.refused)
