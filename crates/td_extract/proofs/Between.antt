@@ -1,11 +1,11 @@
 -- The holders of a range among all.
 use Rattle.std.proofs.Common.{◌≡◌, ◌≢◌, ◌⊎◌, ◌∙◌, ℕ, Bool, true, false, List, [], ◌∷◌, Option, Some, None, refl, sym, ap, arith, inl, inr}
-use Rattle.std.specs.Prelude.{◌==◌, if◌then◌else◌, filter}
+use Rattle.std.specs.Prelude.{if◌then◌else◌, filter}
 use Rattle.std.proofs.lemmas.Bool.{cases_eq}
 use Rattle.std.proofs.lemmas.Bool.Decides.{nat_tests}
 use Rattle.sqlite_trees.proofs.ListLemmas.{all-filter}
 use Rattle.keyed_rows.specs.Rows.{row_at}
-use Rattle.td_model.specs.Account.{Account, HolderRows, account_with, empty_account, holder_key}
+use Rattle.td_model.specs.Account.{HolderRows, account_with, empty_account, holder_key}
 use Rattle.td_model.specs.Sound.{AreHolderRows}
 use Rattle.td_table_model.proofs.Orders.{rises-filter}
 use Rattle.td_extract.specs.Between.{is_between}

@@ -1,6 +1,13 @@
-//! What a desk's content has of the holders of a range: the rows of these holders, and no others.
+//! A desk's file of the holders of a range: their rows, and no others, copied out of a desk's file into a database without tables, in
+//! one transaction.
 #![tactic(auto)]
 
+mod copying;
+mod extracting;
+mod fault;
+mod holders;
 mod laws;
+mod putting;
 
+pub use extracting::extract;
 pub use laws::{accounts_are_of_the_range, sound_parts_are_sound};
