@@ -1,0 +1,10 @@
+mod Lists
+mod Between
+mod Placed
+mod Rows
+mod Found
+mod Copied
+mod Next
+mod Picked
+mod Walked
+mod Made

@@ -1,0 +1,11 @@
+use Rattle.std.proofs.Common.{◌≡◌, map, take}
+use Rattle.sqlite.specs.Held.{state}
+use Rattle.td_store_rows.specs.CodeTable.{code_row_of}
+use Rattle.td_extract.specs.Copied.{no_rows}
+use Rattle.td_extract.proofs.Rows.{HasPut}
+use Rattle.td_extract.proofs.putting.put_codes.Given as goal
+
+abbrev pub invariant-rows : goal.invariant-rows
+invariant-rows g l =
+    (l.tx.conn.ghost_name ≡ l.initial.tx.conn.ghost_name)
+    × HasPut (record no_rows { codes = map code_row_of (take l.row-index l.rows) }) (state g.T.Store l.initial.tx.conn.now) (state g.T.Store l.tx.conn.now)

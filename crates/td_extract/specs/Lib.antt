@@ -1,0 +1,4 @@
+pub mod Between
+pub mod Laws
+pub mod Copied
+pub mod Extracted
