@@ -74,13 +74,6 @@ copied_then f g h a same b d old mid new first second = record {
       (copied_before g a b mid new (first.reads.still clean_b refl) (second.copies clean clean_new));
 }
 
-pub copied_so : (f g : Tables → Rows) (a : State) → PickSame a g f → (b old new : State) → HasCopied f a b old new → HasCopied g a b old new
-copied_so f g a same b old new copied = record {
-  reads = copied.reads;
-  within = copied.within;
-  copies = λ clean clean_new. copied_as f g a same old new (copied.copies clean clean_new);
-}
-
 -- where an error is answered
 pub reads_failed : {T E : Type 0} {a b : State} (r : Result T E) → IsErr r → ReadsNewest false a b → ReadsNewest (is_ok r) a b
 reads_failed (Ok x) failed reads = absurd (false≢true failed)
