@@ -16,9 +16,9 @@ use td_acts::HolderRow;
 use td_store_audit_rows::holder_above;
 use td_store_rows::find_holder;
 
-// The holder with the least number above one and up to another, if there is one. It changes nothing. `DatabaseCorrupt`, too: the row
-// that is found by a number says another.
-fn next_holder<S: Alter>(
+/// The holder with the least number above one and up to another, if there is one. It changes nothing. `DatabaseCorrupt`, too: the row
+/// that is found by a number says another.
+pub fn next_holder<S: Alter>(
     alloc: Global,
     tx: &mut Transaction<'_, S>,
     number: u32,
@@ -47,7 +47,7 @@ fn next_holder<S: Alter>(
 }
 
 /// All rows of the holders from the first number to the last.
-pub(crate) fn copy_holders<S: Alter, T: Alter>(
+pub fn copy_holders<S: Alter, T: Alter>(
     alloc: Global,
     from: &mut Transaction<'_, S>,
     to: &mut Transaction<'_, T>,
