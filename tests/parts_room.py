@@ -6,12 +6,14 @@ import shutil
 import sqlite3
 import subprocess
 import sys
+import tempfile
 
 ROOT = os.path.dirname(os.path.dirname(os.path.realpath(__file__)))
 sys.path.insert(0, os.path.join(ROOT, "bench"))
 from references import grn_of, lettered  # noqa: E402
 
 SECONDS, LAST = 300, 999_999
+MEMORY = "/dev/shm" if os.path.isdir("/dev/shm") else None
 AT = 1740819600  # 2025-03-01T09:00:00Z
 TABLES = ["codes", "guarantees2", "holders", "lines3", "meta", "movements"]
 
@@ -49,29 +51,27 @@ def copied(path, to):
     return to
 
 
+@contextlib.contextmanager
 def database_of(path):
-    """A copy of a file and its log, opened by sqlite3, which finds it whole. The file is left as it is."""
-    database = sqlite3.connect(copied(path, f"{path}.seen"))
-    due(f"the integrity of {path}", [("ok",)], database.execute("PRAGMA integrity_check").fetchall())
-    due(f"the references in {path}", [], database.execute("PRAGMA foreign_key_check").fetchall())
-    return contextlib.closing(database)
+    """A copy of a file and its log, in a folder of its own, opened by sqlite3, which finds it whole. The file is left as it is."""
+    with tempfile.TemporaryDirectory(prefix="parts-seen-", dir=MEMORY) as folder:
+        with contextlib.closing(sqlite3.connect(copied(path, f"{folder}/desk.db"))) as database:
+            due(f"the integrity of {path}", [("ok",)], database.execute("PRAGMA integrity_check").fetchall())
+            due(f"the references in {path}", [], database.execute("PRAGMA foreign_key_check").fetchall())
+            yield database
 
 
 def held(path):
     """All rows of a file, table by table."""
     with database_of(path) as database:
         names = [name for name, in database.execute("SELECT name FROM sqlite_schema WHERE type = 'table' ORDER BY name")]
-        rows = {name: sorted(database.execute(f"SELECT * FROM {name}").fetchall(), key=repr) for name in names}
-    remove(f"{path}.seen")
-    return rows
+        return {name: sorted(database.execute(f"SELECT * FROM {name}").fetchall(), key=repr) for name in names}
 
 
 def texts_of(path):
     """The texts of all that was made in a file, one after another."""
     with database_of(path) as database:
-        texts = [text for text, in database.execute("SELECT sql FROM sqlite_schema WHERE sql IS NOT NULL ORDER BY rowid")]
-    remove(f"{path}.seen")
-    return texts
+        return [text for text, in database.execute("SELECT sql FROM sqlite_schema WHERE sql IS NOT NULL ORDER BY rowid")]
 
 
 def newest(rows):
@@ -106,6 +106,7 @@ class Room:
 
     def __init__(self, program, folder, kills, seed):
         self.program, self.folder, self.kills, self.seed, self.dice = program, folder, kills, seed, random.Random(seed)
+        self.is_by_hand = kills >= 30
 
     def path(self, name):
         return os.path.join(self.folder, name)
