@@ -5,6 +5,7 @@ pub mod AtDesk
 pub mod Batched
 pub mod Migrated
 pub mod Reported
+pub mod Transferred
 pub mod Performed
 pub mod Runs
 pub mod BatchLaws

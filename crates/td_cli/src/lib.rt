@@ -14,6 +14,7 @@ mod program;
 mod reporting;
 mod run_laws;
 mod telling;
+mod transferring;
 mod work_laws;
 
 pub use batch_laws::{

@@ -1,0 +1,6 @@
+mod Put
+mod Laws
+mod Beside
+mod Held
+mod Apart
+mod Walked
