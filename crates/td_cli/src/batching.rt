@@ -5,7 +5,7 @@ ghost use Rattle.td_jobs.specs.Batched.{commands_of, kind_of};
 ghost use Rattle.td_cli.specs.Batched.{IsBatchAtDesk, IsBatchTold, IsBatched, IsRunTold};
 
 use crate::at_desk::at_desk;
-use crate::exits::{Cause, DONE, FAULT, Word, fault, of_file, of_rows, of_stop, of_read_error};
+use crate::exits::{Cause, DONE, FAULT, Word, fault, of_file, of_read_error, of_rows, of_stop};
 use sqlite::Start;
 use std::alloc::Global;
 use std::io::{Read, Write};

@@ -79,7 +79,7 @@ pub blank_then : (db : Database) → ¬ (¬ IsEmptyOf no_schema db) → IsEmptyO
 blank_then db blank = elim (blank_or_taken db) [ inl none ↦ none | inr taken ↦ absurd (blank taken) ]
 
 -- what a crash leaves of a connection that committed no more than this, where before it left what was found
-leaves_found : (found left : State) (P : Trees → Type 0) → Survives found left P → CrashLeavesShown found → IsTrue found.is_open
+pub leaves_found : (found left : State) (P : Trees → Type 0) → Survives found left P → CrashLeavesShown found → IsTrue found.is_open
     → HasCleanDisk left → (trees : Trees) → left.may_leave trees → (trees ≡ found.now.trees) ⊎ P trees
 leaves_found found left P crash before is_open clean trees may =
     elim (crash.crash clean trees may) [ inl was ↦ inl ((before is_open trees).0 was) | inr made ↦ inr made ]

@@ -6,10 +6,10 @@ use Rattle.sqlite.specs.Effect.{Database}
 use Rattle.sqlite.specs.Files.{file_state}
 use Rattle.sqlite.specs.State.{State, HasCleanDisk}
 use Rattle.td_desk.specs.Content.{Content}
-use Rattle.td_desk.specs.View.{LeavesOnly}
 use Rattle.td_schema.specs.Tables.{IsEmptyOf, no_schema}
 use Rattle.td_store_rows.specs.StoreTables.{HoldsContent}
 use Rattle.td_store.specs.Looked.{HasLooked}
+use Rattle.typed_sql.specs.Outside.{CrashLeavesShown}
 use Rattle.td_extract.specs.Between.{content_between}
 use Rattle.td_files.specs.Found.{FileHeld, FileSeen, HasNoDesk, IsClean, IsFoundIn, IsHandedBack, IsKeptDesk, IsOpenedDesk, IsUnmadeFor, IsUnopened, over_file}
 use Rattle.td_files.specs.declared.desks.DeskFault.{DeskFault}
@@ -22,7 +22,7 @@ module _ {D : Type 0} {g : disk.Ghosts D} where
     pub found : IsFoundIn image before
     pub blank : IsEmptyOf no_schema before
     pub holds : HoldsContent made (file_state c)
-    pub leaves : LeavesOnly over_file c made
+    pub settled : CrashLeavesShown (file_state c)
 
 -- This is so of the content of that country that a source held, where its disk was clean to the end.
 abbrev pub OfSource : List ℕ → State → State → (Content → Type 0) → Type 0

@@ -5,7 +5,6 @@ use Rattle.sqlite_wal.specs.Recovery.{Image}
 use Rattle.sqlite_trees.specs.Tree.{Trees}
 use Rattle.sqlite.specs.Files.{file_state}
 use Rattle.td_desk.specs.Content.{Content}
-use Rattle.td_desk.specs.View.{LeavesOnly}
 use Rattle.td_store_rows.specs.StoreTables.{AreTreesOf, HoldsContent}
 use Rattle.typed_sql.specs.Outside.{CrashLeavesShown}
 use Rattle.td_join.specs.Joined.{AreApart, IsFirstOfBoth, joined}
@@ -29,7 +28,7 @@ refused_for join.NoMemory = File (Refused fault.NoMemory)
 -- the least number; or the fault is the store's, or want of memory.
 abbrev pub TellsJoin : {D : Type 0} {g : disk.Ghosts D} → Content → Content → FileSeen g → Result (Unit {0}) JoinRefusal → Type 0
 TellsJoin c d left (Ok done) =
-    AreApart c d × IsTrue (file_state left).is_open × HoldsContent (joined c d) (file_state left) × LeavesOnly over_file left (joined c d)
+    AreApart c d × IsTrue (file_state left).is_open × HoldsContent (joined c d) (file_state left)
 TellsJoin c d left (Err (HolderExists holder)) = IsFirstOfBoth c d holder
 TellsJoin c d left (Err (File why)) = (why ≡ Refused fault.Store) ⊎ (why ≡ Refused fault.NoMemory)
 
@@ -39,7 +38,6 @@ pub record HasJoined {D E : Type 0} {g : disk.Ghosts D} {h : disk.Ghosts E} (rea
     (result : Result (Unit {0}) JoinRefusal) : Type 0 where
   pub told : IsClean left → IsClean read_left → TellsJoin (over_file.content read) (over_file.content opened) left result
   pub same : IsClean left → IsTrue (file_state left).is_open → OnErr result ((file_state left).now ≡ (file_state opened).now)
-  pub kept : IsClean read_left → IsKeptDesk left
   pub leaves : IsClean left → IsClean read_left → (trees : Trees) → (file_state left).may_leave trees
       → (trees ≡ (file_state opened).now.trees) ⊎ AreTreesOf (joined (over_file.content read) (over_file.content opened)) trees
   pub settled : CrashLeavesShown (file_state left)

@@ -1,5 +1,5 @@
 -- The holders of one content, looked up in another one after another in ascending order of their numbers.
-use Rattle.std.proofs.Common.{◌≡◌, ◌∙◌, ◌<◌, ◌≤◌, ◌⊎◌, ℕ, Bool, true, false, Option, Some, None, IsSome, refl, sym, ap, subst, arith, inl, inr}
+use Rattle.std.proofs.Common.{◌≡◌, ◌∙◌, ◌<◌, ◌≤◌, ◌⊎◌, ℕ, false, Option, Some, None, IsSome, refl, sym, ap, subst, arith, inl, inr}
 use Rattle.std.specs.Prelude.{IfSome, is_some}
 use Rattle.std.specs.List.{AllByRecursion}
 use Rattle.std.specs.Option.{option_map}
@@ -9,7 +9,7 @@ use Rattle.keyed_rows.proofs.Putting.{All-row_at, row_at_has}
 use Rattle.td_model.specs.declared.holder_row.HolderRow.{HolderRow}
 use Rattle.td_model.specs.Account.{HolderRows, holder_key}
 use Rattle.td_model.specs.Sound.{AreHolderRows}
-use Rattle.td_desk.specs.Content.{Content, IsSound, account_in, rows_of}
+use Rattle.td_desk.specs.Content.{Content, IsSound, rows_of}
 use Rattle.td_extract.specs.Extracted.{HasLeastOf}
 use Rattle.td_join.specs.Joined.{AreApart, IsFirstOfBoth}
 
@@ -26,11 +26,11 @@ of_one P c all H some = by_rows (rows_of H c) some (row_at_has holder_key H c.ho
     by_rows (Some h) some has is = subst P has is
 
 -- who is there is there with rows
-row_there : (o : Option HolderRows) → is_some (option_map (λ (h : HolderRows). h.row) o) ≡ is_some o
+pub row_there : (o : Option HolderRows) → is_some (option_map (λ (h : HolderRows). h.row) o) ≡ is_some o
 row_there None = refl
 row_there (Some h) = refl
 
-none_there : (o : Option HolderRows) → is_some o ≡ false → o ≡ None
+pub none_there : (o : Option HolderRows) → is_some o ≡ false → o ≡ None
 none_there None none = refl
 none_there (Some h) none = absurd (let e = none in cc)
 

@@ -1,6 +1,7 @@
 mod Put
-mod Laws
+mod Contents
 mod Beside
 mod Held
+mod Begun
 mod Apart
 mod Walked

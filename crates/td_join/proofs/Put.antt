@@ -1,11 +1,11 @@
 -- Rows that are put among others, each in its place.
-use Rattle.std.proofs.Common.{◌≡◌, ◌≢◌, ◌⊎◌, ◌∙◌, ◌+◌, ◌<◌, ◌≤◌, ℕ, Bool, true, false, List, [], ◌∷◌, ◌++◌, Option, Some, None, refl, sym, ap, subst, arith, inl, inr, IsPermutation}
+use Rattle.std.proofs.Common.{◌≡◌, ◌≢◌, ◌⊎◌, ◌∙◌, ◌+◌, ◌<◌, ◌≤◌, ℕ, Bool, true, false, List, [], ◌∷◌, ◌++◌, Option, Some, None, refl, sym, ap, arith, inl, inr, IsPermutation}
 use Rattle.std.specs.Prelude.{◌||◌, filter, if◌then◌else◌}
 use Rattle.std.specs.List.{AllByRecursion}
 use Rattle.std.proofs.lemmas.Bool.{cases_eq}
 use Rattle.std.proofs.lemmas.Bool.Decides.{nat_tests}
 use Rattle.std.proofs.lemmas.List.Sorted.{IsPermutation-cons, IsPermutation-refl, IsPermutation-trans}
-use Rattle.sqlite_trees.proofs.ListLemmas.{all-filter, all_weaker}
+use Rattle.sqlite_trees.proofs.ListLemmas.{all-filter}
 use Rattle.keyed_rows.specs.Rows.{Rises, put_row, row_at}
 use Rattle.keyed_rows.proofs.Putting.{All-put_row, Rises-put_row, row_at-put_row_other, row_at-put_row_same}
 use Rattle.td_model.specs.Account.{HolderRows, holder_key}

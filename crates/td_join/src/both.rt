@@ -15,6 +15,7 @@ use td_store_rows::find_holder;
 
 /// The least number that a holder may have, and the greatest.
 pub(crate) const FIRST_NUMBER: u32 = 1;
+
 pub(crate) const LAST_NUMBER: u32 = 999_999;
 
 /// The holder with the least number of those who stand in both files, if there is one. It changes nothing. `DatabaseCorrupt`: a row
@@ -35,7 +36,8 @@ pub(crate) fn first_of_both<S: Alter, T: Alter>(
 {
     let mut number = 0;
     'holders: while let Some(row) = next_holder(alloc, from, number, LAST_NUMBER)? {
-        if find_holder(alloc, to, row.holder)?.is_some() {
+        let other = find_holder(alloc, to, row.holder)?;
+        if other.is_some() {
             return Ok(Some(row.holder));
         }
         number = row.holder.number();

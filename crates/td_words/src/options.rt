@@ -369,7 +369,12 @@ fn join_command<'a>(alloc: Global) -> Result<Command<'a>, AllocError>
 {
     let about = "Puts all rows of a file into another that has none of its holders";
     let records = required_option(alloc, DB, "FILE", "The file that the rows are put into");
-    let others = required_option(alloc, WITH, "FILE", "The file with the rows, which keeps them");
+    let others = required_option(
+        alloc,
+        WITH,
+        "FILE",
+        "The file with the rows, which keeps them",
+    );
     let command = country_command(alloc, JOIN, about, JOIN_USAGE);
     with_arg(with_arg(command, records), others)
 }

@@ -13,7 +13,15 @@ fn main(rt: HostRuntime) -> ExitCode {
     let mut file = DeskFile::new(Unknown);
     let mut other = DeskFile::new(Unknown);
     let words = words_of(&rt);
-    let status = run_program(&rt, words, &mut file, &mut other, &mut input, &mut out, &mut errors);
+    let status = run_program(
+        &rt,
+        words,
+        &mut file,
+        &mut other,
+        &mut input,
+        &mut out,
+        &mut errors,
+    );
     file.close();
     other.close();
     ExitCode::from(status)

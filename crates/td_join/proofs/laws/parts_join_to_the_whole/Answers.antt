@@ -1,4 +1,4 @@
-use Rattle.td_join.proofs.Laws.{parts_join_to_the_whole}
+use Rattle.td_join.proofs.Contents.{parts_join_to_the_whole}
 use Rattle.td_join.proofs.laws.parts_join_to_the_whole.Goals as goal
 
 pub returns : goal.returns
