@@ -92,66 +92,36 @@ module _ {D : Type 0} {g : disk.Ghosts D} where
 
 -- ---- a join
 
-module _ {D E : Type 0} {g : disk.Ghosts D} {h : disk.Ghosts E} (image other_image : Image) (country : List ℕ) (p q : Held (FileStore D g)) (a b : Held (FileStore E h))
-    (begins : IsClean p → IsOpenedDesk image country p) (read : IsClean a → IsOpenedDesk other_image country a)
-    {w : Bool} (looks : Looks w (file_state a) (file_state b))
-    (crash : Survives (file_state p) (file_state q) (MayLeaveJoined (file_state a) (file_state b) (file_state p)))
-    (before : CrashLeavesShown (file_state p)) (settled : CrashLeavesShown (file_state q)) where
-  was_first : IsClean q → IsOpenedDesk image country p
-  was_first clean = begins (clean_before (file_state p) (file_state q) _ crash clean)
+-- what it may commit, where the files held contents of one country
+commits : (c d : Content) (from seen old : State) → HasCleanDisk seen → HoldsContent c from → HoldsContent d old → c.country ≡ d.country
+    → (trees : Trees) → MayLeaveJoined from seen old trees → AreTreesOf (joined c d) trees
+commits c d from seen old clean holds held same trees may = may.1 clean c d holds held same
 
-  was_other : IsClean b → IsOpenedDesk other_image country a
-  was_other clean = read (clean_before (file_state a) (file_state b) _ looks.crash clean)
+-- The content of a file, which held it from its opening on, and the file that it was put into.
+module _ (country : List ℕ) (c : Content) (from seen old left : State) (clean : HasCleanDisk seen) (holds : HoldsContent c from) (at : c.country ≡ country)
+    (crash : Survives old left (MayLeaveJoined from seen old)) where
+  leaves : HasCleanDisk left → (d : Content) → HoldsContent d old → d.country ≡ country → (trees : Trees) → left.may_leave trees
+      → old.may_leave trees ⊎ AreTreesOf (joined c d) trees
+  leaves clean_left d held is trees may = elim (crash.crash clean_left trees may) [
+    | inl was ↦ inl was
+    | inr left ↦ inr (commits c d from seen old clean holds held (at ∙ sym is) trees left)
+  ]
 
-  c : Content
-  c = over_file.content a
+  pub has_joined : (HasCleanDisk left → IsTrue old.is_open × IsTrue left.is_open) → (HasCleanDisk seen → HasCleanDisk left → Joins from old left)
+      → (HasCleanDisk seen → HasCleanDisk left → WereApart from old) → HasJoined country c old left (Ok tt)
+  has_joined shown joins apart = record {
+    told = λ clean_left d held is. (apart clean clean_left c d holds held, (shown clean_left).1, joins clean clean_left c d holds held (at ∙ sym is));
+    same = λ clean_left live. tt;
+    leaves = leaves;
+  }
 
-  d : Content
-  d = over_file.content p
+  -- what is told of a fault
+  tells : (why : JoinFault) → (HasCleanDisk seen → HasCleanDisk left → TellsWhoStood from old why) → HasCleanDisk left → (d : Content) → HoldsContent d old
+      → d.country ≡ country → TellsJoin c d left (Err (refused_for why))
+  tells (join.Stands holder) told clean_left d held is = told clean clean_left c d holds held
+  tells join.Store told clean_left d held is = inl refl
+  tells join.NoMemory told clean_left d held is = inr refl
 
-  same_country : IsClean q → IsClean b → c.country ≡ d.country
-  same_country clean clean_b = (was_other clean_b).country_is ∙ sym (was_first clean).country_is
-
-  leaves : IsClean q → IsClean b → (trees : Trees) → (file_state q).may_leave trees → (trees ≡ (file_state p).now.trees) ⊎ AreTreesOf (joined c d) trees
-  leaves clean clean_b trees may =
-      let first = was_first clean in
-      elim (leaves_found (file_state p) (file_state q) _ crash before first.live clean trees may) [
-        | inl was ↦ inl was
-        | inr left ↦ inr (left.1 clean_b c d (was_other clean_b).holds first.holds (same_country clean clean_b))
-      ]
-
-  -- the clauses of a join, whose result this is
-  module _ (shown : HasCleanDisk (file_state q) → IsTrue (file_state p).is_open × IsTrue (file_state q).is_open)
-      (joins : HasCleanDisk (file_state b) → HasCleanDisk (file_state q) → Joins (file_state a) (file_state p) (file_state q))
-      (apart : HasCleanDisk (file_state b) → HasCleanDisk (file_state q) → WereApart (file_state a) (file_state p)) where
-    holds_both : IsClean q → IsClean b → HoldsContent (joined c d) (file_state q)
-    holds_both clean clean_b = joins clean_b clean c d (was_other clean_b).holds (was_first clean).holds (same_country clean clean_b)
-
-    pub has_joined : HasJoined a b p q (Ok tt)
-    has_joined = record {
-      told = λ clean clean_b. (
-        apart clean_b clean c d (was_other clean_b).holds (was_first clean).holds,
-        (shown clean).1,
-        holds_both clean clean_b,
-      );
-      same = λ clean live. tt;
-      leaves = leaves;
-      settled = settled;
-    }
-
-  -- and where it answered this fault
-  module _ (why : JoinFault) (stands : HasCleanDisk (file_state b) → HasCleanDisk (file_state q) → TellsWhoStood (file_state a) (file_state p) why)
-      (err : HasCleanDisk (file_state q) → IsTrue (file_state q).is_open → (file_state q).now ≡ (file_state p).now) where
-    tells : (fault : JoinFault) → (HasCleanDisk (file_state b) → HasCleanDisk (file_state q) → TellsWhoStood (file_state a) (file_state p) fault)
-        → IsClean q → IsClean b → TellsJoin c d q (Err (refused_for fault))
-    tells (join.Stands holder) told clean clean_b = told clean_b clean c d (was_other clean_b).holds (was_first clean).holds
-    tells join.Store told clean clean_b = inl refl
-    tells join.NoMemory told clean clean_b = inr refl
-
-    pub has_not_joined : HasJoined a b p q (Err (refused_for why))
-    has_not_joined = record {
-      told = tells why stands;
-      same = err;
-      leaves = leaves;
-      settled = settled;
-    }
+  pub has_not_joined : (why : JoinFault) → (HasCleanDisk seen → HasCleanDisk left → TellsWhoStood from old why)
+      → (HasCleanDisk left → IsTrue left.is_open → left.now ≡ old.now) → HasJoined country c old left (Err (refused_for why))
+  has_not_joined why stands err = record { told = tells why stands; same = err; leaves = leaves }

@@ -1,14 +1,17 @@
 //! One desk's file put into another.
-ghost use Rattle.std.specs.Prelude.{◌≡◌};
+ghost use Rattle.std.specs.Prelude.{◌≡◌, false};
+ghost use Rattle.sqlite.specs.Held.{state};
 ghost use Rattle.sqlite.specs.WalFiles.{image_at};
-ghost use Rattle.td_files.specs.Joined.{IsJoined, refused_for};
+ghost use Rattle.typed_sql.specs.Outside.{CrashLeavesShown};
+ghost use Rattle.td_files.specs.Joined.{IsJoined, IsPutInto, refused_for};
 
 use crate::desks::DeskFault;
 use crate::files::{DeskFile, OneFile};
-use sqlite::{FileFrom, FileStore, Start};
+use sqlite::{Alter, Connection, FileFrom, FileStore, Start};
 use td_base::{Country, HolderNo};
 use td_join::{JoinFault, join};
 use td_store::OpenFault;
+use typed_sql::see_settled;
 
 /// Why one desk's file isn't put into another.
 #[derive(Clone, Copy, Debug, PartialEq, Eq)]
@@ -27,6 +30,35 @@ fn refused(why: JoinFault) -> JoinRefusal
         JoinFault::Stands(holder) => JoinRefusal::HolderExists(holder),
         JoinFault::Store => JoinRefusal::File(DeskFault::Refused(OpenFault::Store)),
         JoinFault::NoMemory => JoinRefusal::File(DeskFault::Refused(OpenFault::NoMemory)),
+    }
+}
+
+impl<O: Start> OneFile<O, FileStore<FileFrom<O>>> {
+    // Puts what the desk's file at the path holds into another desk's, as `join` says.
+    fn put_into<T: Alter>(
+        &mut self,
+        rt: &HostRuntime,
+        country: Country,
+        path: &str,
+        to: &mut Connection<T>,
+    ) -> Result<(), JoinRefusal>
+        requires outside { to.old.in_transaction ≡ false }
+        ensures ended { to.new.in_transaction ≡ false }
+        ensures settled { CrashLeavesShown (state T.Store to.new) }
+        ensures put { IsPutInto T.Store (image_at O.Start) country self.old self.new to.old to.new result }
+    {
+        see_settled(to);
+        let desk = match self.open_desk(rt, country, path) {
+            Ok(desk) => desk,
+            Err(why) => return Err(JoinRefusal::File(why)),
+        };
+        let mut from = desk.close();
+        let result = join(rt.alloc(), &mut from, to);
+        self.hold(from);
+        match result {
+            Ok(()) => Ok(()),
+            Err(why) => Err(refused(why)),
+        }
     }
 }
 
@@ -49,21 +81,9 @@ impl<S: Start> OneFile<S, FileStore<FileFrom<S>>> {
             Ok(desk) => desk,
             Err(why) => return Err(JoinRefusal::File(why)),
         };
-        let others = match other.open_desk(rt, country, other_path) {
-            Ok(desk) => desk,
-            Err(why) => {
-                self.keep(desk);
-                return Err(JoinRefusal::File(why));
-            }
-        };
         let mut to = desk.close();
-        let mut from = others.close();
-        let result = join(rt.alloc(), &mut from, &mut to);
+        let result = other.put_into(rt, country, other_path, &mut to);
         self.hold(to);
-        other.hold(from);
-        match result {
-            Ok(()) => Ok(()),
-            Err(why) => Err(refused(why)),
-        }
+        result
     }
 }
