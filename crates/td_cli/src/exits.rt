@@ -1,6 +1,6 @@
 //! How a job ends: well, with status 0 and no word, or by a cause, with status 1 and one line on standard error. Each cause is a row.
 ghost use Rattle.std.specs.Prelude.{◌≡◌, Some, IfOk, MatchResult, string_bytes};
-ghost use Rattle.td_cli.specs.Exits.{IsEnded, IsTold, line_of, of_file, of_joined, of_report, of_rows, of_serving, of_stop, of_stream, of_read_error, word_line};
+ghost use Rattle.td_cli.specs.Exits.{IsEnded, IsTold, line_of, of_file, of_join, of_report, of_rows, of_serving, of_stop, of_stream, of_read_error, word_line};
 ghost use Rattle.td_cli.specs.declared.exits.Cause.TheVariants.{BadCsv, HolderExists, NeedsMigration};
 ghost use Rattle.td_cli.specs.declared.exits.Word.TheVariants.{Damaged, NoMemory};
 
@@ -141,14 +141,13 @@ pub(crate) fn of_stop(why: Fault) -> Cause
     }
 }
 
-/// Why no rows were put into a file, if none were.
-pub(crate) fn of_joined(end: Result<(), JoinRefusal>) -> Option<Cause>
-    ensures { result ≡ of_joined end }
+/// Why no rows were put into a file.
+pub(crate) fn of_join(why: JoinRefusal) -> Cause
+    ensures { result ≡ of_join why }
 {
-    match end {
-        Ok(()) => None,
-        Err(JoinRefusal::File(why)) => Some(of_file(why)),
-        Err(JoinRefusal::HolderExists(holder)) => Some(Cause::HolderExists(holder)),
+    match why {
+        JoinRefusal::File(why) => of_file(why),
+        JoinRefusal::HolderExists(holder) => Cause::HolderExists(holder),
     }
 }
 

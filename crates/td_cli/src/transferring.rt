@@ -1,13 +1,14 @@
 //! Rows put from one file into another.
+ghost use Rattle.std.specs.Prelude.{◌≡◌};
 ghost use Rattle.sqlite.specs.WalFiles.{image_at};
-ghost use Rattle.td_cli.specs.Exits.{of_extract, of_job};
+ghost use Rattle.td_cli.specs.Exits.{of_extract, of_job, of_joined};
 ghost use Rattle.td_cli.specs.Transferred.{IsTransferred};
 
-use crate::exits::{Cause, exit, of_file, of_joined};
+use crate::exits::{Cause, exit, of_file, of_join};
 use sqlite::Start;
 use std::io::Write;
 use td_base::{Counted, Country};
-use td_files::{DeskFault, DeskFile};
+use td_files::{DeskFault, DeskFile, JoinRefusal};
 use td_words::Transfer;
 
 // The cause for which no file was made, if none was.
@@ -17,6 +18,16 @@ fn extract_cause(end: Result<(), DeskFault>) -> Option<Cause>
     match end {
         Ok(()) => None,
         Err(why) => Some(of_file(why)),
+    }
+}
+
+// The cause for which no rows were put into a file, if none were.
+fn join_cause(end: Result<(), JoinRefusal>) -> Option<Cause>
+    ensures { result ≡ of_joined end }
+{
+    match end {
+        Ok(()) => None,
+        Err(why) => Some(of_join(why)),
     }
 }
 
@@ -41,7 +52,7 @@ pub(crate) fn transfer<S: Start, O: Start, E: Write>(
         }
         Transfer::Join(into, from) => {
             let end = file.join(rt, country, &into, other, &from);
-            exit(rt.alloc(), of_joined(end), errors)
+            exit(rt.alloc(), join_cause(end), errors)
         }
     }
 }
