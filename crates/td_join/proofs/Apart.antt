@@ -1,17 +1,20 @@
 -- The holders of one content, looked up in another one after another in ascending order of their numbers.
-use Rattle.std.proofs.Common.{◌≡◌, ◌∙◌, ◌<◌, ◌≤◌, ◌⊎◌, ℕ, false, Option, Some, None, IsSome, refl, sym, ap, subst, arith, inl, inr}
-use Rattle.std.specs.Prelude.{IfSome, is_some}
+use Rattle.std.proofs.Common.{◌≡◌, ◌∙◌, ◌+◌, ◌<◌, ◌≤◌, ◌⊎◌, ℕ, Bool, true, false, List, [], ◌∷◌, Option, Some, None, IsSome, refl, sym, ap, subst, arith, inl, inr}
+use Rattle.std.specs.Prelude.{IfSome, filter, if◌then◌else◌, is_some}
 use Rattle.std.specs.List.{AllByRecursion}
 use Rattle.std.specs.Option.{option_map}
 use Rattle.std.proofs.lemmas.Bool.{cases_lt}
+use Rattle.std.proofs.lemmas.Bool.Decides.{nat_tests}
 use Rattle.sqlite_trees.proofs.ListLemmas.{all_both, all_weaker}
 use Rattle.keyed_rows.proofs.Putting.{All-row_at, row_at_has}
 use Rattle.td_model.specs.declared.holder_row.HolderRow.{HolderRow}
 use Rattle.td_model.specs.Account.{HolderRows, holder_key}
 use Rattle.td_model.specs.Sound.{AreHolderRows}
 use Rattle.td_desk.specs.Content.{Content, IsSound, rows_of}
+use Rattle.td_extract.specs.Between.{content_between, is_between}
 use Rattle.td_extract.specs.Extracted.{HasLeastOf}
 use Rattle.td_join.specs.Joined.{AreApart, IsFirstOfBoth}
+use Rattle.td_join.specs.Laws.{PartsAreApart}
 
 -- of the first content's holders with numbers up to that one none stands in the second
 abbrev pub AreApartUpTo : ℕ → Content → Content → Type 0
@@ -79,3 +82,34 @@ module _ (c d : Content) where
       by_order : (n : ℕ) → (n ≤ number → rows_of n d ≡ None) → (number < n → 999999 < n) → n ≤ 999999 → (number < n) ⊎ (n ≤ number) → rows_of n d ≡ None
       by_order n before behind most (inr up) = before up
       by_order n before behind most (inl above) = absurd (omega (arith, behind above, most))
+
+-- those that pass a test pass it
+all_pass : (p : ℕ → Bool) (rows : List HolderRows) → AllByRecursion (λ h. p (holder_key h) ≡ true) (filter (λ h. p (holder_key h)) rows)
+all_pass p [] = tt
+all_pass p (h ∷ rows) = by_test (p (holder_key h)) refl (all_pass p rows)
+  where
+    by_test : (b : Bool) → p (holder_key h) ≡ b → AllByRecursion (λ h. p (holder_key h) ≡ true) (filter (λ h. p (holder_key h)) rows)
+        → AllByRecursion (λ h. p (holder_key h) ≡ true) (if b then h ∷ filter (λ h. p (holder_key h)) rows else filter (λ h. p (holder_key h)) rows)
+    by_test true is later = (is, later)
+    by_test false is later = later
+
+-- so no holder is in two ranges that have no number in common
+module _ (first last low high : ℕ) (other : (n : ℕ) → is_between first last n ≡ true → is_between low high n ≡ true → ⊥) (c : Content) where
+  ranges_apart : AreApart (content_between first last c) (content_between low high c)
+  ranges_apart H there = by_rows (rows_of H (content_between low high c)) refl
+    where
+      by_rows : (o : Option HolderRows) → rows_of H (content_between low high c) ≡ o → rows_of H (content_between low high c) ≡ None
+      by_rows None is = is
+      by_rows (Some h) is =
+          absurd (other H
+          (of_one (λ n. is_between first last n ≡ true) (content_between first last c) (all_pass (is_between first last) c.holders) H there)
+          (of_one (λ n. is_between low high n ≡ true) (content_between low high c) (all_pass (is_between low high) c.holders) H (ap is_some is)))
+
+below_or_above : (first middle last n : ℕ) → is_between first middle n ≡ true → is_between (middle + 1) last n ≡ true → ⊥
+below_or_above first middle last n lower upper = absurd (grind (arith, nat_tests, lower, upper))
+
+pub parts_are_apart : PartsAreApart
+parts_are_apart first middle last c = (
+  ranges_apart first middle (middle + 1) last (below_or_above first middle last) c,
+  ranges_apart (middle + 1) last first middle (λ n upper lower. below_or_above first middle last n lower upper) c,
+)

@@ -1,17 +1,14 @@
 -- The rows of all holders of one content, put into the tables of another that has none of these holders.
-use Rattle.std.proofs.Common.{◌≡◌, ◌∙◌, ℕ, true, List, ◌++◌, map, flat_map, Some, None, sym, ap, subst, arith, IsPermutation}
+use Rattle.std.proofs.Common.{◌≡◌, ◌∙◌, true, List, ◌++◌, map, flat_map, Some, None, sym, ap, subst, IsPermutation}
 use Rattle.std.specs.Prelude.{filter, is_some}
 use Rattle.std.specs.List.{AllByRecursion}
-use Rattle.std.proofs.lemmas.Bool.Decides.{nat_tests}
 use Rattle.std.proofs.lemmas.List.{map-append}
 use Rattle.std.proofs.lemmas.List.Concat.{flat_map-append}
 use Rattle.std.proofs.lemmas.List.Sorted.{IsPermutation-append, IsPermutation-map, IsPermutation-sym, IsPermutation-trans}
 use Rattle.sqlite_trees.proofs.ListLemmas.{IsPermutation-flat_map, all-flat_map, all-map, all-permutation, all_weaker, filter_all}
 use Rattle.keyed_rows.specs.Rows.{row_at}
-use Rattle.td_base.specs.Codes.{IsHolderNumber}
 use Rattle.td_model.specs.declared.holder_row.HolderRow.{HolderRow}
 use Rattle.td_model.specs.Account.{HolderRows, holder_key}
-use Rattle.td_model.specs.Sound.{AreHolderRows}
 use Rattle.td_desk.specs.Content.{Content, IsSound}
 use Rattle.td_table_model.specs.Gathering.{owner}
 use Rattle.td_table_model.specs.Tables.{AreTablesOf, KeepAmounts, Keyed, Tables, code_rows_of, guarantees_in, kept_in, line_rows_of, movements_in, without_amount}
@@ -20,24 +17,17 @@ use Rattle.td_table_model.proofs.Owned.{owned_codes, owned_kept, owned_lines, ow
 use Rattle.td_extract.specs.Between.{is_between}
 use Rattle.td_extract.specs.Copied.{of_holders, with_rows}
 use Rattle.td_join.specs.Joined.{AreApart, joined}
+use Rattle.td_join.proofs.Contents.{numbers}
 use Rattle.td_join.proofs.Put.{put_permuted}
 
--- the number of a holder is one that a holder may have
-number_between : (n : ℕ) → IsHolderNumber n → is_between 1 999999 n ≡ true
-number_between n is = grind (arith, nat_tests, is)
-
--- so the rows of the holders with such numbers are all rows
+-- the rows of the holders with the numbers that a holder may have are all rows
 module _ (c : Content) (sound : IsSound c) where
-  numbers : AllByRecursion (λ h. is_between 1 999999 (holder_key h) ≡ true) c.holders
-  numbers =
-      all_weaker (AreHolderRows c.country) (λ h. is_between 1 999999 (holder_key h) ≡ true) (λ h is. number_between (holder_key h) is.row.number) c.holders sound.holders
-
   all_holders : (rows : List HolderRow) → IsPermutation (map (λ (h : HolderRows). h.row) c.holders) rows
       → filter (λ (h : HolderRow). is_between 1 999999 h.holder) rows ≡ rows
   all_holders rows are =
       filter_all (λ (h : HolderRow). is_between 1 999999 h.holder) rows
       (all-permutation (λ (h : HolderRow). is_between 1 999999 h.holder ≡ true) (map (λ (h : HolderRows). h.row) c.holders) rows are
-      (all-map (λ (h : HolderRow). is_between 1 999999 h.holder ≡ true) (λ (h : HolderRows). h.row) c.holders numbers))
+      (all-map (λ (h : HolderRow). is_between 1 999999 h.holder ≡ true) (λ (h : HolderRows). h.row) c.holders (numbers c sound)))
 
   all_rows : {X : Type 0} (f : HolderRows → List (Keyed X)) → ((h : HolderRows) → AllByRecursion (λ x. owner x ≡ holder_key h) (f h)) → (rows : List (Keyed X))
       → IsPermutation (flat_map f c.holders) rows → filter (λ r. is_between 1 999999 (owner r)) rows ≡ rows
@@ -46,7 +36,7 @@ module _ (c : Content) (sound : IsSound c) where
       (all-permutation (λ r. is_between 1 999999 (owner r) ≡ true) (flat_map f c.holders) rows are
       (all-flat_map (λ r. is_between 1 999999 (owner r) ≡ true) f c.holders
       (all_weaker (λ h. is_between 1 999999 (holder_key h) ≡ true) (λ h. AllByRecursion (λ r. is_between 1 999999 (owner r) ≡ true) (f h))
-      (λ h is. all_weaker (λ r. owner r ≡ holder_key h) (λ r. is_between 1 999999 (owner r) ≡ true) (λ r own. ap (is_between 1 999999) own ∙ is) (f h) (owned h)) c.holders numbers)))
+      (λ h is. all_weaker (λ r. owner r ≡ holder_key h) (λ r. is_between 1 999999 (owner r) ≡ true) (λ r own. ap (is_between 1 999999) own ∙ is) (f h) (owned h)) c.holders (numbers c sound))))
 
 module _ (c d : Content) (country : c.country ≡ d.country) (sound : IsSound c) (apart : AreApart c d) where
   -- the holders of both are those of the first and those of the second

@@ -1,13 +1,15 @@
 -- Two contents in one: each account, the rules, and the parts of a whole.
-use Rattle.std.proofs.Common.{◌≡◌, ◌∙◌, ◌+◌, ◌≤◌, ℕ, List, Option, Some, None, refl, sym, ap, subst, arith}
+use Rattle.std.proofs.Common.{◌≡◌, ◌∙◌, ◌+◌, ◌≤◌, ℕ, true, List, Option, Some, None, refl, sym, ap, subst, arith}
 use Rattle.std.specs.Prelude.{◌||◌, if◌then◌else◌, is_some}
 use Rattle.std.specs.List.{AllByRecursion}
 use Rattle.std.proofs.lemmas.Bool.Decides.{nat_tests}
-use Rattle.td_model.specs.Account.{HolderRows, account_with}
+use Rattle.sqlite_trees.proofs.ListLemmas.{all_weaker, filter_all}
+use Rattle.td_base.specs.Codes.{IsHolderNumber}
+use Rattle.td_model.specs.Account.{HolderRows, account_with, holder_key}
 use Rattle.td_model.specs.Sound.{AreHolderRows}
-use Rattle.td_desk.specs.Content.{Content, account_in, rows_of}
-use Rattle.td_extract.specs.Between.{is_between}
-use Rattle.td_join.specs.Laws.{AccountsAreOfEither, PartsJoinToTheWhole, SoundContentsJoin}
+use Rattle.td_desk.specs.Content.{Content, IsSound, account_in, rows_of}
+use Rattle.td_extract.specs.Between.{content_between, is_between}
+use Rattle.td_join.specs.Laws.{AccountsAreOfEither, PartsJoinToTheWhole, SoundContentsJoin, SplitsJoinBack}
 use Rattle.td_join.proofs.Put.{all_put, found_put, or_those, put_together, rises_put}
 
 pub accounts_are_of_either : AccountsAreOfEither
@@ -45,3 +47,18 @@ parts_join_to_the_whole first middle last c sound begins ends = (
       (put_together (is_between (middle + 1) last) (is_between first middle) (is_between first last)
       (λ n. upper_or_lower first middle last n begins ends) 0 c.holders sound.order),
 )
+
+-- each holder has a number that a holder may have
+number_between : (n : ℕ) → IsHolderNumber n → is_between 1 999999 n ≡ true
+number_between n is = grind (arith, nat_tests, is)
+
+pub numbers : (c : Content) → IsSound c → AllByRecursion (λ h. is_between 1 999999 (holder_key h) ≡ true) c.holders
+numbers c sound =
+    all_weaker (AreHolderRows c.country) (λ h. is_between 1 999999 (holder_key h) ≡ true) (λ h is. number_between (holder_key h) is.row.number) c.holders sound.holders
+
+all_between : (c : Content) → IsSound c → content_between 1 999999 c ≡ c
+all_between c sound = ap (with_holders c.country) (filter_all (λ h. is_between 1 999999 (holder_key h)) c.holders (numbers c sound))
+
+pub splits_join_back : SplitsJoinBack
+splits_join_back middle c sound ends =
+    let parts = parts_join_to_the_whole 1 middle 999999 c sound (omega arith) ends in (parts.0 ∙ all_between c sound, parts.1 ∙ all_between c sound)

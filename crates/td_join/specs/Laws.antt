@@ -2,7 +2,7 @@
 use Rattle.std.specs.Prelude.{◌≡◌, ◌+◌, ◌≤◌, ℕ, if◌then◌else◌, is_some}
 use Rattle.td_desk.specs.Content.{Content, IsSound, account_in, rows_of}
 use Rattle.td_extract.specs.Between.{content_between}
-use Rattle.td_join.specs.Joined.{joined}
+use Rattle.td_join.specs.Joined.{AreApart, joined}
 
 -- It keeps of each holder of the first what this keeps, and of any other number what the second keeps.
 abbrev pub AccountsAreOfEither : Type 0
@@ -20,3 +20,17 @@ PartsJoinToTheWhole =
     (first middle last : ℕ) (c : Content) → IsSound c → first ≤ middle + 1 → middle ≤ last
     → (joined (content_between first middle c) (content_between (middle + 1) last c) ≡ content_between first last c)
     × (joined (content_between (middle + 1) last c) (content_between first middle c) ≡ content_between first last c)
+
+-- No holder stands in both parts, so a join of them is never refused.
+abbrev pub PartsAreApart : Type 0
+PartsAreApart =
+    (first middle last : ℕ) (c : Content)
+    → AreApart (content_between first middle c) (content_between (middle + 1) last c)
+    × AreApart (content_between (middle + 1) last c) (content_between first middle c)
+
+-- So a content that is split at a number, whichever it is, is joined to what it was.
+abbrev pub SplitsJoinBack : Type 0
+SplitsJoinBack =
+    (middle : ℕ) (c : Content) → IsSound c → middle ≤ 999999
+    → (joined (content_between 1 middle c) (content_between (middle + 1) 999999 c) ≡ c)
+    × (joined (content_between (middle + 1) 999999 c) (content_between 1 middle c) ≡ c)

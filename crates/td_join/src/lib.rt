@@ -9,4 +9,7 @@ mod laws;
 
 pub use fault::JoinFault;
 pub use joining::join;
-pub use laws::{accounts_are_of_either, parts_join_to_the_whole, sound_contents_join};
+pub use laws::{
+    accounts_are_of_either, parts_are_apart, parts_join_to_the_whole, sound_contents_join,
+    splits_join_back,
+};
