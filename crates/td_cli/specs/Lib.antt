@@ -10,3 +10,4 @@ pub mod Performed
 pub mod Runs
 pub mod BatchLaws
 pub mod Parts
+pub mod PartLaws
