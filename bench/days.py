@@ -1,7 +1,8 @@
 """A day's requests as they come: by chance, at the rate of each hour (a process of Poisson), each with a connection of its own, over TLS
-through the nginx of package/root where nginx is installed, and else to the desk itself. An hour is made as short as is asked for, and its
-rate stays: so there are fewer requests than in a day, and each waits as long as it would. A request's time runs from the moment at which it
-comes, and so has what it waits for others in it."""
+through the nginx of package/root where nginx is installed, and else to the desk itself. Where connections are kept, a request comes over
+one to nginx that is idle, if there is one of its caller. An hour is made as short as is asked for, and its rate stays: so there are fewer
+requests than in a day, and each waits as long as it would. A request's time runs from the moment at which it comes, and so has what it
+waits for others in it."""
 import collections
 import concurrent.futures
 import contextlib
@@ -29,6 +30,8 @@ ACTS = {"release": ("accepted", "ie029", '{"limit":"2025-03-08"}'), "arrival": (
 # Of how many holders but the first movements are lodged: a caller of the proxy has a line of so many numbers.
 AGENT = 400
 WORKERS = 64
+# The seconds after which a client gives up a connection that it kept, before nginx does, in 75.
+IDLE = 50
 
 # A request as it comes: the second of its coming, who asks, and what.
 Coming = collections.namedtuple("Coming", "at who method target body")
@@ -85,19 +88,43 @@ class Requests:
 
 
 class Door:
-    """Where clients ask: nginx in front of a desk, or the desk itself."""
+    """Where clients ask: nginx in front of a desk, or the desk itself. `idle` are connections by caller that are kept, if they are."""
 
-    def __init__(self, proxy, port):
-        self.proxy, self.port = proxy, port
+    def __init__(self, proxy, port, keeps=False):
+        self.proxy, self.port, self.idle = proxy, port, {"office": [], "holder": [], "agent": []} if keeps else {}
         self.contexts = {who: proxy.certificates.context(who) for who in ("office", "holder", "agent")} if proxy else {}
 
     def ask(self, coming):
         """The status of the whole reply."""
-        head = f"{coming.method} {coming.target} HTTP/1.1\r\nHost: localhost\r\nConnection: close\r\n"
+        end = "" if self.idle else "Connection: close\r\n"
         length = f"Content-Length: {len(coming.body)}\r\n" if coming.method == "POST" else ""
+        request = f"{coming.method} {coming.target} HTTP/1.1\r\nHost: localhost\r\n{end}{length}\r\n{coming.body}".encode()
+        if self.idle:
+            return self.over_a_kept(coming.who, request)
         with self.connect(coming.who) as it:
-            it.sendall(f"{head}{length}\r\n{coming.body}".encode())
+            it.sendall(request)
             return drained(it)
+
+    def over_a_kept(self, who, request):
+        try:
+            it, since = self.idle[who].pop()
+        except IndexError:
+            it, since = None, 0
+        if time.monotonic() - since > IDLE:
+            if it:
+                it.close()
+            it = self.connect(who)
+        it.sendall(request)
+        status, stays = replied(it)
+        if stays:
+            self.idle[who].append((it, time.monotonic()))
+        else:
+            it.close()
+        return status
+
+    def close(self):
+        for it, _ in [it for those in self.idle.values() for it in those]:
+            it.close()
 
     def connect(self, who):
         if self.proxy:
@@ -120,8 +147,23 @@ def drained(it):
     return int(head.split()[1]) if length and int(length[1]) == came else 0
 
 
+def replied(it):
+    """The status of a reply on a connection that is kept, and whether that stays: 0 where the reply's end is missing."""
+    got = b""
+    while b"\r\n\r\n" not in got:
+        piece = it.recv(1 << 16)
+        if not piece:
+            return 0, False
+        got += piece
+    head, _, body = got.partition(b"\r\n\r\n")
+    came, length = len(body), int(re.search(rb"Content-Length: (\d+)\r\n", head + b"\r\n")[1])
+    while came < length and (piece := it.recv(1 << 20)):
+        came += len(piece)
+    return int(head.split()[1]) if came == length else 0, came == length and b"\r\nConnection: close" not in head
+
+
 @contextlib.contextmanager
-def door(program, port, callers):
+def door(program, port, callers, keeps=False):
     """The door to a desk on that port, with nginx in front of it where there is one."""
     if not has_nginx():
         yield Door(None, port)
@@ -131,22 +173,25 @@ def door(program, port, callers):
         certificates = proxy_stand.Certificates(folder)
         certificates.fingerprints = {who: certificates.fingerprints[who] for who in callers}
         with proxy_stand.Stand(program, certificates).proxy_before(port, callers) as proxy:
-            yield Door(proxy, port)
+            with contextlib.closing(Door(proxy, port, keeps)) as it:
+                yield it
 
 
 def has_nginx():
     return bool(shutil.which("nginx") and shutil.which("openssl"))
 
 
-def lived(there, coming):
-    """Has each request come at its moment: the seconds that each took, in the order of their coming, and a line on those that weren't granted."""
+def lived(there, coming, path):
+    """Has each request come at its moment: the seconds that each took, in the order of their coming, and whether the log was written into the
+    file meanwhile; and a line on those that weren't granted."""
 
     def ask(it):
+        before = os.stat(path).st_mtime_ns
         try:
             status = there.ask(it)
         except OSError as why:
             status = why
-        return status, time.monotonic() - began - it.at
+        return status, time.monotonic() - began - it.at, os.stat(path).st_mtime_ns != before
 
     with concurrent.futures.ThreadPoolExecutor(WORKERS) as workers:
         began, asked = time.monotonic() + 0.1, []
@@ -154,6 +199,6 @@ def lived(there, coming):
             time.sleep(max(0.0, began + it.at - time.monotonic()))
             asked.append((it, workers.submit(ask, it)))
         told = [(it, *answer.result()) for it, answer in asked]
-    wrong = [(it, status) for it, status, _ in told if status != 200]
+    wrong = [(it, status) for it, status, *_ in told if status != 200]
     line = f"{len(wrong)} of {len(told)} weren't granted: {wrong[0][0].method} {wrong[0][0].target}: {wrong[0][1]}" if wrong else None
-    return [seconds for _, _, seconds in told], line
+    return [took for _, _, *took in told], line

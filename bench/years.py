@@ -26,9 +26,9 @@ OVERDUE = 5
 PLACED = """
 INSERT INTO slice WITH RECURSIVE {numbers},
 turns AS (SELECT i, i * :first / :movements AS firsts, (i - 1) * :first / :movements AS before FROM numbers),
-placed AS MATERIALIZED (SELECT i, iif(firsts > before, 1, 2 + (i - firsts - 1) % :others) AS holder,
+placed AS MATERIALIZED (SELECT i, :above + iif(firsts > before, 1, 2 + (i - firsts - 1) % :others) AS holder,
                         iif(firsts > before, firsts, 1 + (i - firsts - 1) / :others) AS serial FROM turns)
-SELECT i, holder, serial, (serial * 37 + holder * 11) % 100, iif(holder = 1, :of_first, :of_others),
+SELECT i, holder, serial, (serial * 37 + holder * 11) % 100, iif(holder = :above + 1, :of_first, :of_others),
        1 + (serial * 7 + holder) % 5 FROM placed"""
 SERIES = "numbers (i) AS (SELECT :after + 1 UNION ALL SELECT i + 1 FROM numbers WHERE i < :upto)"
 PICKED = "numbers (i) AS (SELECT value FROM json_each(:picked))"
@@ -57,10 +57,10 @@ def reference(end=""):
 
 class Year:
     """What stands in the file: so many movements, of which holder 1 has `first` and `others` have the rest; and how many guarantees holder
-    1 has, and each other."""
+    1 has, and each other. All numbers of holders are so far above these."""
 
-    def __init__(self, movements, first=None, others=None, guarantees=(50, 5)):
-        self.movements, self.guarantees = movements, guarantees
+    def __init__(self, movements, first=None, others=None, guarantees=(50, 5), above=0):
+        self.movements, self.guarantees, self.above = movements, guarantees, above
         self.first = min(MOST, movements * 3 // 10) if first is None else first
         self.others = max(10, movements // EACH) if others is None else others
         if min(guarantees) < 5 or (movements - self.first > self.others * MOST):
@@ -68,7 +68,8 @@ class Year:
 
     def words(self, **more):
         of_first, of_others = self.guarantees
-        return {"movements": self.movements, "first": self.first, "others": self.others, "of_first": of_first, "of_others": of_others, **more}
+        return {"movements": self.movements, "first": self.first, "others": self.others, "of_first": of_first, "of_others": of_others,
+                "above": self.above, **more}
 
     def make(self, program, path):
         """The file as the program made it, filled."""
@@ -99,13 +100,13 @@ class Year:
     def begin(self, database, guarantees):
         """The holders, with their guarantees and a code each."""
         prepare(database)
-        database.execute("INSERT INTO holders (holder, eori, last_at, grn_count, mrn_count) VALUES (1, ?, ?, ?, ?)",
-                         (EORI, AT, self.guarantees[0], self.first))
+        database.execute("INSERT INTO holders (holder, eori, last_at, grn_count, mrn_count) VALUES (?, ?, ?, ?, ?)",
+                         (self.above + 1, EORI, AT, self.guarantees[0], self.first))
         numbers = "WITH RECURSIVE numbers (n) AS (SELECT 1 UNION ALL SELECT n + 1 FROM numbers WHERE n < {})"
         if self.others:
             database.execute(f"INSERT INTO holders (holder, eori, last_at, grn_count, mrn_count) {numbers.format(self.others)} "
-                             "SELECT n + 1, ?, ?, ?, (? - n) / ? FROM numbers",
-                             (EORI, AT, self.guarantees[1], self.movements - self.first + self.others, self.others))
+                             "SELECT ? + n, ?, ?, ?, (? - n) / ? FROM numbers",
+                             (self.above + 1, EORI, AT, self.guarantees[1], self.movements - self.first + self.others, self.others))
         database.execute(f"INSERT INTO {guarantees} (holder, serial, grn, reference, cover{', used' * (guarantees == 'guarantees2')}) "
                          f"{numbers.format(max(self.guarantees))}, keys AS MATERIALIZED (SELECT holder, n AS serial FROM holders CROSS JOIN numbers "
                          f"ON n <= grn_count) SELECT holder, serial, {reference()}, {REFERENCE}, {COVER}{', 0' * (guarantees == 'guarantees2')} FROM keys")

@@ -3,6 +3,7 @@ account of each holder, the order of refusals, the amounts, the days, how reques
 reports. `tests/rules` compares the program that was built with it, and `tests/fuzz` what it says to streams of changed bytes."""
 import collections
 import datetime
+import functools
 import json
 import os
 import re
@@ -318,6 +319,10 @@ ROUTES = {
     "/holders/H/movements/M": {"GET": ("see_movement", [])},
     "/holders/H/movements/M/ie014": {"POST": ("ie014", [])},
 }
+# The same by how many parts a path has: of each path its parts, and its methods.
+BY_LENGTH = collections.defaultdict(list)
+for PATH, METHODS in ROUTES.items():
+    BY_LENGTH[PATH.count("/") + 1].append((PATH.split("/"), METHODS))
 
 
 def text_in(form):
@@ -394,12 +399,12 @@ def fields_in(names, body):
     return values
 
 
+@functools.lru_cache(1024)
 def route_of(target):
     """The methods of a target's path, and the parts that stand for a number or a reference, by their letters; nothing without a path."""
     parts = target.split("?")[0].split("/")
-    for path, methods in ROUTES.items():
-        names = path.split("/")
-        if len(names) == len(parts) and all(part if name in ("H", "G", "M") else name == part for name, part in zip(names, parts)):
+    for names, methods in BY_LENGTH.get(len(parts), ()):
+        if all(part if name in ("H", "G", "M") else name == part for name, part in zip(names, parts)):
             return methods, [(name, part) for name, part in zip(names, parts) if name in ("H", "G", "M")]
     return None, []
 
@@ -423,19 +428,24 @@ def reply_of(status, body, allow=None):
     return (head + text).encode()
 
 
-def replied(desk, at, request, ends):
-    """The reply to a request at a desk, whose end is counted."""
+def asked(desk, at, request, ends):
+    """Asks a desk, and counts the end: the status of the reply, what its body says, and the methods that it lists, if it does."""
     try:
         command, given = command_in(*request)
         answer = desk.do(at, command, *given)
     except Unread as why:
         ends[why.args[1]["error"]] += 1
-        return reply_of(*why.args)
+        return why.args
     except Refused as why:
         ends[why.args[0]] += 1
-        return reply_of(STATUS[why.args[0]], {"error": why.args[0], **(why.args[1] if len(why.args) > 1 else {})})
+        return STATUS[why.args[0]], {"error": why.args[0], **(why.args[1] if len(why.args) > 1 else {})}
     ends[command] += 1
-    return reply_of(200, answer)
+    return 200, answer
+
+
+def replied(desk, at, request, ends):
+    """The reply to a request at a desk, whose end is counted."""
+    return reply_of(*asked(desk, at, request, ends))
 
 
 # What the result file of acts tells of each act that was done.

@@ -6,8 +6,8 @@ use Rattle.counted_io.specs.declared.counted.Counted.{Counted}
 use Rattle.counted_io.specs.Counted.{known_bytes}
 use Rattle.counted_io.specs.Chains.{IsCutShort}
 use Rattle.td_machine.specs.Machine.{IsNotRead, Known}
-use Rattle.td_machine.specs.declared.machine.Unread.{Unread}
-use Rattle.td_machine.specs.declared.machine.Unread.TheVariants.{File, NoMemory}
+use Rattle.td_machine.specs.declared.machine.ReadError.{ReadError}
+use Rattle.td_machine.specs.declared.machine.ReadError.TheVariants.{File, NoMemory}
 use Rattle.td_cli.specs.Exits.{IsTold}
 
 -- a text was written whole, or as much of it as was taken
@@ -18,7 +18,7 @@ told_by contents old new text true whole cut = inl (whole refl)
 told_by contents old new text false whole cut = inr (cut refl)
 
 -- why a file wasn't read
-pub not_read : {M L : Type 0} (known : Known M L) (path : List ℕ) (old new : M) (why : Unread)
+pub not_read : {M L : Type 0} (known : Known M L) (path : List ℕ) (old new : M) (why : ReadError)
     → (why ≡ File → known.holds old path ≡ None) → known.reads old new → IsNotRead known path old new why
 not_read known path old new File none reads = (none refl, reads)
 not_read known path old new NoMemory none reads = reads

@@ -8,3 +8,4 @@ mod SentAgain
 mod Later
 mod BatchesAlike
 mod Parts
+mod GoOn

@@ -18,9 +18,9 @@ use Rattle.td_words.specs.declared.words.BatchKind.{BatchKind}
 use Rattle.td_words.specs.declared.words.Records.{Records}
 use Rattle.td_jobs.specs.Batched.{HasDoneRows, rows_in}
 use Rattle.td_machine.specs.Machine.{Around, HasRead, IsNotRead}
-use Rattle.td_machine.specs.declared.machine.Unread.{Unread}
+use Rattle.td_machine.specs.declared.machine.ReadError.{ReadError}
 use Rattle.td_cli.specs.AtDesk.{AtDesk}
-use Rattle.td_cli.specs.Exits.{IsEnded, IsTold, of_file, of_rows, of_stop, of_unread}
+use Rattle.td_cli.specs.Exits.{IsEnded, IsTold, of_file, of_rows, of_stop, of_read_error}
 use Rattle.td_cli.specs.declared.exits.Cause.TheVariants.{Of}
 use Rattle.td_cli.specs.declared.exits.Word.TheVariants as word
 
@@ -76,7 +76,7 @@ abbrev pub IsBatched : {M L Reads Writes W E Start S : Type 0} {disk : Ghosts S}
     → Image → List ℕ → Option ℤ → Records → BatchKind → List ℕ → Counted W → Counted W → Counted E → Counted E
     → FileHeld Start disk → FileHeld Start disk → M → M → ℕ → Type 0
 IsBatched {M} around contents said image country at records which csv out out_left errors errors_left before file machine machine_left status =
-    ((why : Unread) × IsNotRead around.known csv machine machine_left why
-    × (out_left ≡ out) × (file ≡ before) × IsEnded said (Some (of_unread why)) errors errors_left status)
+    ((why : ReadError) × IsNotRead around.known csv machine machine_left why
+    × (out_left ≡ out) × (file ≡ before) × IsEnded said (Some (of_read_error why)) errors errors_left status)
     ⊎ ((bytes : List ℕ) × (read : M) × HasRead around.known csv machine bytes read
     × AreRowsBatched around.ticks contents said image country at records which bytes out out_left errors errors_left before file read machine_left status)

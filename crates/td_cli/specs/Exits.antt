@@ -9,6 +9,7 @@ use Rattle.http_wire.specs.declared.stream.StreamEnd.{StreamEnd}
 use Rattle.http_wire.specs.declared.stream.StreamEnd.TheVariants as stream
 use Rattle.td_desk.specs.declared.fault.Fault.{Fault}
 use Rattle.td_desk.specs.declared.fault.Fault.TheVariants as stop
+use Rattle.td_base.specs.Codes.{holder_text}
 use Rattle.td_batch_rows.specs.declared.fault.BatchFault.{BatchFault}
 use Rattle.td_batch_rows.specs.declared.fault.BatchFault.TheVariants as rows
 use Rattle.td_report_pieces.specs.declared.fault.ReportFault.{ReportFault}
@@ -16,12 +17,14 @@ use Rattle.td_report_pieces.specs.declared.fault.ReportFault.TheVariants as repo
 use Rattle.td_files.specs.Faults as refused
 use Rattle.td_files.specs.declared.desks.DeskFault.{DeskFault}
 use Rattle.td_files.specs.declared.desks.DeskFault.TheVariants as desk
-use Rattle.td_machine.specs.declared.machine.Unread.{Unread}
-use Rattle.td_machine.specs.declared.machine.Unread.TheVariants as unread
+use Rattle.td_files.specs.declared.joins.JoinRefusal.{JoinRefusal}
+use Rattle.td_files.specs.declared.joins.JoinRefusal.TheVariants as join
+use Rattle.td_machine.specs.declared.machine.ReadError.{ReadError}
+use Rattle.td_machine.specs.declared.machine.ReadError.TheVariants as read_error
 use Rattle.td_jobs.specs.declared.serving.ServingEnd.{ServingEnd}
 use Rattle.td_jobs.specs.declared.serving.ServingEnd.TheVariants as serving
 use Rattle.td_cli.specs.declared.exits.Cause.{Cause}
-use Rattle.td_cli.specs.declared.exits.Cause.TheVariants.{BadCsv, NeedsMigration, Of}
+use Rattle.td_cli.specs.declared.exits.Cause.TheVariants.{BadCsv, HolderExists, NeedsMigration, Of}
 use Rattle.td_cli.specs.declared.exits.Word.{Word}
 use Rattle.td_cli.specs.declared.exits.Word.TheVariants.{File, UnknownVersion, OtherCountry, Damaged, Store, NoMemory, Write, Socket, StreamRefused, StreamCut, ReadsSpent, ReadFault, WriteFault, StreamFailed}
 
@@ -49,6 +52,7 @@ word_line word = codes "transit-desk: " ++ (word_text word ++ codes "\n")
 abbrev pub line_of : Cause → List ℕ
 line_of (BadCsv row column) = codes "transit-desk: bad csv row " ++ (decimal row ++ (codes " column " ++ (decimal column ++ codes "\n")))
 line_of (NeedsMigration version) = codes "transit-desk: needs-migration " ++ (decimal version ++ codes "\n")
+line_of (HolderExists holder) = codes "transit-desk: holder-exists " ++ (holder_text holder ++ codes "\n")
 line_of (Of word) = word_line word
 
 -- the text was written, or as much of it as the writer took
@@ -63,6 +67,8 @@ IsCauseTold said errors errors_left (BadCsv row column) =
     IsTold said errors errors_left (line_of (BadCsv row column)) ⊎ IsTold said errors errors_left (word_line NoMemory)
 IsCauseTold said errors errors_left (NeedsMigration version) =
     IsTold said errors errors_left (line_of (NeedsMigration version)) ⊎ IsTold said errors errors_left (word_line NoMemory)
+IsCauseTold said errors errors_left (HolderExists holder) =
+    IsTold said errors errors_left (line_of (HolderExists holder)) ⊎ IsTold said errors errors_left (word_line NoMemory)
 
 -- A job ended well, with status 0 and no line; or by a cause, with status 1 and its line.
 abbrev pub IsEnded : {E : Type 0} → (E → Option (List ℕ)) → Option Cause → Counted E → Counted E → ℕ → Type 0
@@ -99,9 +105,9 @@ of_serving serving.Socket = Some (Of Socket)
 of_serving serving.Write = Some (Of Write)
 
 -- why a file of rows wasn't read, why its bytes aren't rows, and why a batch stopped at a row
-abbrev pub of_unread : Unread → Cause
-of_unread unread.File = Of File
-of_unread unread.NoMemory = Of NoMemory
+abbrev pub of_read_error : ReadError → Cause
+of_read_error read_error.File = Of File
+of_read_error read_error.NoMemory = Of NoMemory
 
 abbrev pub of_rows : BatchFault → Cause
 of_rows (rows.BadCsv row column) = BadCsv row column
@@ -116,6 +122,19 @@ abbrev pub of_report : ReportFault → Cause
 of_report report.Write = Of Write
 of_report report.Store = Of Store
 of_report report.NoMemory = Of NoMemory
+
+-- an extract that was made has no cause
+abbrev pub of_extract : Unit {0} → Option Cause
+of_extract done = None
+
+-- why no rows were put into a file
+abbrev pub of_join : JoinRefusal → Cause
+of_join (join.File why) = of_file why
+of_join (join.HolderExists holder) = HolderExists holder
+
+abbrev pub of_joined : Result (Unit {0}) JoinRefusal → Option Cause
+of_joined (Ok done) = None
+of_joined (Err why) = Some (of_join why)
 
 -- the cause by which a job at a desk ended, or for which there was no desk
 abbrev pub of_job : {End : Type 0} → (End → Option Cause) → Result End DeskFault → Option Cause

@@ -5,7 +5,9 @@ pub mod AtDesk
 pub mod Batched
 pub mod Migrated
 pub mod Reported
+pub mod Transferred
 pub mod Performed
 pub mod Runs
 pub mod BatchLaws
 pub mod Parts
+pub mod PartLaws

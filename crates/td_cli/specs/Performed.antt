@@ -10,7 +10,7 @@ use Rattle.td_files.specs.Found.{FileHeld}
 use Rattle.td_files.specs.declared.desks.DeskFault.{DeskFault}
 use Rattle.http_wire.specs.declared.stream.StreamEnd.{StreamEnd}
 use Rattle.td_words.specs.declared.words.Job.{Job}
-use Rattle.td_words.specs.declared.words.Job.TheVariants.{AtDesk, Migrate}
+use Rattle.td_words.specs.declared.words.Job.TheVariants.{AtDesk, Migrate, Transfer}
 use Rattle.td_words.specs.declared.words.Listening.{Listening}
 use Rattle.td_words.specs.declared.words.NoJob.{NoJob}
 use Rattle.td_words.specs.declared.words.Records.{Records}
@@ -29,6 +29,7 @@ use Rattle.td_cli.specs.Migrated.{IsMigrated}
 use Rattle.td_cli.specs.Reported.{IsReportDone}
 use Rattle.td_cli.specs.Exits.{IsEnded, IsTold, of_file, of_job, of_serving, of_stream}
 use Rattle.td_cli.specs.Statuses.{IsAnswered, IsPrinted}
+use Rattle.td_cli.specs.Transferred.{IsTransferred}
 use Rattle.td_cli.specs.declared.exits.Cause.TheVariants.{Of}
 use Rattle.td_cli.specs.declared.exits.Word.TheVariants.{NoMemory}
 
@@ -95,26 +96,33 @@ IsTaskDone around remaining contents said image (Check path) country at reader r
     (reader_left ≡ reader) × (machine_left ≡ machine)
     × IsChecked contents said image country (File path) writer writer_left errors errors_left before file status
 
--- A job was done: a task at a desk of an office, or a file was brought to the newest version, for which the input isn't read and nothing
--- is asked of the machine.
-abbrev pub IsDone : {M L Reads Writes R W E Start S : Type 0} {disk : Ghosts S} → Around M L Reads Writes → (R → Option (List ℕ))
-    → (W → Option (List ℕ)) → (E → Option (List ℕ)) → Image → Job → Counted R → Counted R → Counted W → Counted W → Counted E → Counted E
-    → FileHeld Start disk → FileHeld Start disk → M → M → ℕ → Type 0
-IsDone around remaining contents said image (AtDesk office task) reader reader_left writer writer_left errors errors_left before file machine machine_left status =
-    IsTaskDone around remaining contents said image task office.country office.at reader reader_left writer writer_left errors errors_left before file machine machine_left status
-IsDone around remaining contents said image (Migrate path) reader reader_left writer writer_left errors errors_left before file machine machine_left status =
-    (reader_left ≡ reader) × (machine_left ≡ machine) × IsMigrated contents said image writer writer_left errors errors_left before file status
+-- A job was done: a task at a desk of an office; or a file was brought to the newest version, or rows were put from one file into
+-- another, for which the input isn't read and nothing is asked of the machine. The other file is touched by the last alone.
+abbrev pub IsDone : {M L Reads Writes R W E Start Other S T : Type 0} {disk : Ghosts S} {others : Ghosts T} → Around M L Reads Writes
+    → (R → Option (List ℕ)) → (W → Option (List ℕ)) → (E → Option (List ℕ)) → Image → Image → Job → Counted R → Counted R
+    → Counted W → Counted W → Counted E → Counted E → FileHeld Start disk → FileHeld Start disk → FileHeld Other others → FileHeld Other others
+    → M → M → ℕ → Type 0
+IsDone around remaining contents said image other_image (AtDesk office task) reader reader_left writer writer_left errors errors_left before file other other_left machine machine_left status =
+    (other_left ≡ other)
+    × IsTaskDone around remaining contents said image task office.country office.at reader reader_left writer writer_left errors errors_left before file machine machine_left status
+IsDone around remaining contents said image other_image (Migrate path) reader reader_left writer writer_left errors errors_left before file other other_left machine machine_left status =
+    (reader_left ≡ reader) × (machine_left ≡ machine) × (other_left ≡ other)
+    × IsMigrated contents said image writer writer_left errors errors_left before file status
+IsDone around remaining contents said image other_image (Transfer country what) reader reader_left writer writer_left errors errors_left before file other other_left machine machine_left status =
+    (reader_left ≡ reader) × (machine_left ≡ machine) × (writer_left ≡ writer)
+    × IsTransferred said image other_image what country errors errors_left before file other other_left status
 
 -- The words ask for a job, which was done in the machine. Or they were given none, for want of memory, or
 -- since they ask for help, or for no task at all: then nothing was read, no file was opened, nothing was asked of the machine, and they
--- were answered. The image is what the file held that the words name, if they name one.
-abbrev pub IsPerformed : {M L Reads Writes R W E Start S : Type 0} {disk : Ghosts S} → Around M L Reads Writes → (R → Option (List ℕ))
-    → (W → Option (List ℕ)) → (E → Option (List ℕ)) → Image → List (List ℕ) → Counted R → Counted R → Counted W → Counted W
-    → Counted E → Counted E → FileHeld Start disk → FileHeld Start disk → M → M → ℕ → Type 0
-IsPerformed around remaining contents said image words reader reader_left writer writer_left errors errors_left before file machine machine_left status =
+-- were answered. The images are what the files held that the words name, if they name one, or two.
+abbrev pub IsPerformed : {M L Reads Writes R W E Start Other S T : Type 0} {disk : Ghosts S} {others : Ghosts T} → Around M L Reads Writes
+    → (R → Option (List ℕ)) → (W → Option (List ℕ)) → (E → Option (List ℕ)) → Image → Image → List (List ℕ) → Counted R → Counted R
+    → Counted W → Counted W → Counted E → Counted E → FileHeld Start disk → FileHeld Start disk → FileHeld Other others → FileHeld Other others
+    → M → M → ℕ → Type 0
+IsPerformed around remaining contents said image other_image words reader reader_left writer writer_left errors errors_left before file other other_left machine machine_left status =
     ((job : Job) × AsksFor words job
-    × IsDone around remaining contents said image job reader reader_left writer writer_left errors errors_left before file machine machine_left status)
-    ⊎ ((no_job : NoJob) × IsNoJob words no_job × (reader_left ≡ reader) × (file ≡ before) × (machine_left ≡ machine)
+    × IsDone around remaining contents said image other_image job reader reader_left writer writer_left errors errors_left before file other other_left machine machine_left status)
+    ⊎ ((no_job : NoJob) × IsNoJob words no_job × (reader_left ≡ reader) × (file ≡ before) × (other_left ≡ other) × (machine_left ≡ machine)
     × IsAnswered contents said writer writer_left errors errors_left no_job status)
 
 -- Words that couldn't be read: there was no memory for them, or they aren't text, and the error's kind says which.

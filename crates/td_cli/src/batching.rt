@@ -5,7 +5,7 @@ ghost use Rattle.td_jobs.specs.Batched.{commands_of, kind_of};
 ghost use Rattle.td_cli.specs.Batched.{IsBatchAtDesk, IsBatchTold, IsBatched, IsRunTold};
 
 use crate::at_desk::at_desk;
-use crate::exits::{Cause, DONE, FAULT, Word, fault, of_file, of_rows, of_stop, of_unread};
+use crate::exits::{Cause, DONE, FAULT, Word, fault, of_file, of_read_error, of_rows, of_stop};
 use sqlite::Start;
 use std::alloc::Global;
 use std::io::{Read, Write};
@@ -36,7 +36,7 @@ pub(crate) fn batch<M: Machine, S: Start, R: Read, W: Write, E: Write>(
 {
     let bytes = match machine.read_file(rt.alloc(), csv) {
         Ok(bytes) => bytes,
-        Err(why) => return fault(rt.alloc(), of_unread(why), errors),
+        Err(why) => return fault(rt.alloc(), of_read_error(why), errors),
     };
     match Rows::read(rt.alloc(), kind, &bytes) {
         Ok(rows) => do_rows(

@@ -1,18 +1,18 @@
 //! How a job ends: well, with status 0 and no word, or by a cause, with status 1 and one line on standard error. Each cause is a row.
 ghost use Rattle.std.specs.Prelude.{◌≡◌, Some, IfOk, MatchResult, string_bytes};
-ghost use Rattle.td_cli.specs.Exits.{IsEnded, IsTold, line_of, of_file, of_report, of_rows, of_serving, of_stop, of_stream, of_unread, word_line};
-ghost use Rattle.td_cli.specs.declared.exits.Cause.TheVariants.{BadCsv, NeedsMigration};
+ghost use Rattle.td_cli.specs.Exits.{IsEnded, IsTold, line_of, of_file, of_join, of_report, of_rows, of_serving, of_stop, of_stream, of_read_error, word_line};
+ghost use Rattle.td_cli.specs.declared.exits.Cause.TheVariants.{BadCsv, HolderExists, NeedsMigration};
 ghost use Rattle.td_cli.specs.declared.exits.Word.TheVariants.{Damaged, NoMemory};
 
 use std::alloc::{AllocError, Global};
 use std::io::Write;
-use td_base::{Counted, write_whole};
+use td_base::{Counted, HolderNo, write_whole};
 use td_batch::BatchFault;
 use td_desk::Fault;
-use td_files::{DeskFault, OpenFault};
+use td_files::{DeskFault, JoinRefusal, OpenFault};
 use td_http::StreamEnd;
 use td_jobs::ServingEnd;
-use td_machine::Unread;
+use td_machine::ReadError;
 use td_reports::ReportFault;
 use td_table_model::Rule;
 
@@ -30,6 +30,8 @@ pub enum Cause {
     BadCsv { row: u64, column: u32 },
     /// A file has a desk's tables of this earlier version.
     NeedsMigration(u32),
+    /// A file that rows are put into has this holder already.
+    HolderExists(HolderNo),
     /// A cause whose line is fixed.
     Of(Word),
 }
@@ -110,12 +112,12 @@ pub(crate) fn of_serving(end: ServingEnd) -> Option<Cause>
 }
 
 /// Why a file of rows wasn't read.
-pub(crate) fn of_unread(why: Unread) -> Cause
-    ensures { result ≡ of_unread why }
+pub(crate) fn of_read_error(why: ReadError) -> Cause
+    ensures { result ≡ of_read_error why }
 {
     match why {
-        Unread::File => Cause::Of(Word::File),
-        Unread::NoMemory => Cause::Of(Word::NoMemory),
+        ReadError::File => Cause::Of(Word::File),
+        ReadError::NoMemory => Cause::Of(Word::NoMemory),
     }
 }
 
@@ -136,6 +138,16 @@ pub(crate) fn of_stop(why: Fault) -> Cause
     match why {
         Fault::NoMemory => Cause::Of(Word::NoMemory),
         Fault::Store => Cause::Of(Word::Store),
+    }
+}
+
+/// Why no rows were put into a file.
+pub(crate) fn of_join(why: JoinRefusal) -> Cause
+    ensures { result ≡ of_join why }
+{
+    match why {
+        JoinRefusal::File(why) => of_file(why),
+        JoinRefusal::HolderExists(holder) => Cause::HolderExists(holder),
     }
 }
 
@@ -220,6 +232,12 @@ fn needs_migration_line(alloc: Global, version: u32) -> Result<String, AllocErro
     format!(in alloc; "transit-desk: needs-migration {version}\n")
 }
 
+fn holder_exists_line(alloc: Global, holder: HolderNo) -> Result<String, AllocError>
+    ensures { IfOk result (λ line. string_bytes line ≡ line_of (HolderExists holder)) }
+{
+    format!(in alloc; "transit-desk: holder-exists {holder}\n")
+}
+
 /// Tells the cause, and gives its status.
 pub(crate) fn fault<E: Write>(alloc: Global, cause: Cause, errors: &mut Counted<E>) -> u8
     ensures { IsEnded E.contents (Some cause) errors.old errors.new result }
@@ -227,6 +245,7 @@ pub(crate) fn fault<E: Write>(alloc: Global, cause: Cause, errors: &mut Counted<
     match cause {
         Cause::BadCsv { row, column } => tell_made(bad_csv_line(alloc, row, column), errors),
         Cause::NeedsMigration(version) => tell_made(needs_migration_line(alloc, version), errors),
+        Cause::HolderExists(holder) => tell_made(holder_exists_line(alloc, holder), errors),
         Cause::Of(word) => tell(word.line(), errors),
     }
     FAULT

@@ -12,6 +12,7 @@ use crate::exits::{Cause, WRONG_WORDS, Word, exit, fault, of_file, of_serving, o
 use crate::migrating::migrate;
 use crate::reporting::report;
 use crate::telling::print;
+use crate::transferring::transfer;
 use sqlite::Start;
 use std::alloc::Global;
 use std::io::{Read, Write};
@@ -24,63 +25,68 @@ use td_words::{Job, NoJob, Office, Records, Task, read_words};
 
 /// Does what the words ask for on the machine that the handle stands for, as `perform_on` does, and gives the program's
 /// status.
-pub fn perform<S: Start, R: Read, W: Write, E: Write>(
+pub fn perform<S: Start, O: Start, R: Read, W: Write, E: Write>(
     rt: &HostRuntime,
     words: &[String],
     file: &mut DeskFile<S>,
+    other: &mut DeskFile<O>,
     input: &mut Counted<R>,
     out: &mut Counted<W>,
     errors: &mut Counted<E>,
 ) -> u8
     ensures { (machine : _) × (machine_left : _)
-        × IsPerformed ⟦<HostMachine<'static> as Surroundings>⟧.around R.remaining W.contents E.contents (image_at S.Start) (map string_bytes words.now)
-        input.old input.new out.old out.new errors.old errors.new
-        file.old file.new machine machine_left result }
+        × IsPerformed ⟦<HostMachine<'static> as Surroundings>⟧.around R.remaining W.contents E.contents (image_at S.Start) (image_at O.Start)
+        (map string_bytes words.now) input.old input.new out.old out.new errors.old errors.new
+        file.old file.new other.old other.new machine machine_left result }
 {
-    perform_on(rt, &mut HostMachine { rt }, words, file, input, out, errors)
+    let machine = &mut HostMachine { rt };
+    perform_on(rt, machine, words, file, other, input, out, errors)
 }
 
 /// Does what the words ask for, and gives the program's status. The first word is the program's name; replies
 /// go to `out`, and the text of wrong words, or one message for a fault, to `errors`. A text that can't be
 /// written is dropped. The input is read by a job alone. Of the machine the clock is asked, a file of rows is read and a port is
 /// listened on. The desk's file is the one that the words name, if they name one: a job opens it, and hands back a connection to
-/// it, which the caller closes.
-pub fn perform_on<M: Machine, S: Start, R: Read, W: Write, E: Write>(
+/// it, which the caller closes. The other file is that of `--into` or of `--with`: what is done between two files opens it, too.
+pub fn perform_on<M: Machine, S: Start, O: Start, R: Read, W: Write, E: Write>(
     rt: &HostRuntime,
     machine: &mut M,
     words: &[String],
     file: &mut DeskFile<S>,
+    other: &mut DeskFile<O>,
     input: &mut Counted<R>,
     out: &mut Counted<W>,
     errors: &mut Counted<E>,
 ) -> u8
-    ensures { IsPerformed ⟦<M as Surroundings>⟧.around R.remaining W.contents E.contents (image_at S.Start) (map string_bytes words.now)
-        input.old input.new out.old out.new errors.old errors.new
-        file.old file.new machine.old machine.new result }
+    ensures { IsPerformed ⟦<M as Surroundings>⟧.around R.remaining W.contents E.contents (image_at S.Start) (image_at O.Start)
+        (map string_bytes words.now) input.old input.new out.old out.new errors.old errors.new
+        file.old file.new other.old other.new machine.old machine.new result }
 {
     match read_words(rt.alloc(), words) {
-        Ok(job) => do_job(rt, machine, job, file, input, out, errors),
+        Ok(job) => do_job(rt, machine, job, file, other, input, out, errors),
         Err(no_job) => tell(rt.alloc(), &no_job, out, errors),
     }
 }
 
 // Does the job, tells how it ended, and gives the status.
-fn do_job<M: Machine, S: Start, R: Read, W: Write, E: Write>(
+fn do_job<M: Machine, S: Start, O: Start, R: Read, W: Write, E: Write>(
     rt: &HostRuntime,
     machine: &mut M,
     job: Job,
     file: &mut DeskFile<S>,
+    other: &mut DeskFile<O>,
     input: &mut Counted<R>,
     out: &mut Counted<W>,
     errors: &mut Counted<E>,
 ) -> u8
-    ensures { IsDone ⟦<M as Surroundings>⟧.around R.remaining W.contents E.contents (image_at S.Start) job
+    ensures { IsDone ⟦<M as Surroundings>⟧.around R.remaining W.contents E.contents (image_at S.Start) (image_at O.Start) job
         input.old input.new out.old out.new errors.old errors.new
-        file.old file.new machine.old machine.new result }
+        file.old file.new other.old other.new machine.old machine.new result }
 {
     match job {
         Job::AtDesk(office, task) => do_task(rt, machine, office, task, file, input, out, errors),
         Job::Migrate(path) => migrate(rt, &path, file, out, errors),
+        Job::Transfer(country, what) => transfer(rt, country, what, file, other, errors),
     }
 }
 

@@ -10,10 +10,12 @@ mod exits;
 mod jobs;
 mod laws;
 mod migrating;
+mod part_laws;
 mod program;
 mod reporting;
 mod run_laws;
 mod telling;
+mod transferring;
 mod work_laws;
 
 pub use batch_laws::{
@@ -25,6 +27,7 @@ pub use laws::{
     agreeing_jobs_over_files_tell_the_same, agreeing_jobs_tell_the_same,
     agreeing_servings_over_files_tell_the_same, agreeing_servings_tell_the_same,
 };
+pub use part_laws::holders_go_on_where_their_rows_go;
 pub use program::{run_program, words_of};
 pub use run_laws::{
     acknowledged_connections_are_kept_in_the_file, acknowledged_replies_are_kept_in_the_file,

@@ -20,26 +20,27 @@ pub fn words_of(rt: &(impl AllocGlobal + Env)) -> io::Result<Vec<String>> {
 }
 
 /// The program on words that were read, or not: does what they ask for as `perform` does, or says why they
-/// couldn't be read, and gives the status. Replies go to `out`, and what is wrong to `errors`; the file is the one that the
-/// words name.
-pub fn run_program<S: Start, R: Read, W: Write, E: Write>(
+/// couldn't be read, and gives the status. Replies go to `out`, and what is wrong to `errors`; the files are those that the
+/// words name, that of `--db` first.
+pub fn run_program<S: Start, O: Start, R: Read, W: Write, E: Write>(
     rt: &HostRuntime,
     words: io::Result<Vec<String>>,
     file: &mut DeskFile<S>,
+    other: &mut DeskFile<O>,
     input: &mut Counted<R>,
     out: &mut Counted<W>,
     errors: &mut Counted<E>,
 ) -> u8
     ensures { MatchResult words
         (λ words. (machine : _) × (machine_left : _)
-        × IsPerformed ⟦<HostMachine<'static> as Surroundings>⟧.around R.remaining W.contents E.contents (image_at S.Start) (map string_bytes words.items)
-        input.old input.new out.old out.new errors.old errors.new
-        file.old file.new machine machine_left result)
-        (λ error. (input.new ≡ input.old) × (out.new ≡ out.old) × (file.new ≡ file.old)
+        × IsPerformed ⟦<HostMachine<'static> as Surroundings>⟧.around R.remaining W.contents E.contents (image_at S.Start) (image_at O.Start)
+        (map string_bytes words.items) input.old input.new out.old out.new errors.old errors.new
+        file.old file.new other.old other.new machine machine_left result)
+        (λ error. (input.new ≡ input.old) × (out.new ≡ out.old) × (file.new ≡ file.old) × (other.new ≡ other.old)
         × IsUnread E.contents error errors.old errors.new result) }
 {
     match words {
-        Ok(words) => perform(rt, &words, file, input, out, errors),
+        Ok(words) => perform(rt, &words, file, other, input, out, errors),
         Err(error) => unread_words(rt.alloc(), &error, errors),
     }
 }

@@ -22,7 +22,6 @@ use Rattle.td_schema.specs.declared.layout.Layout.{Layout}
 use Rattle.td_schema.specs.Tables.{IsEmptyOf, no_schema}
 use Rattle.td_store_rows.specs.StoreTables.{AreTreesOf, HoldsContent}
 use Rattle.typed_sql.specs.Outside.{CrashLeavesShown}
-use Rattle.td_store_write.specs.Created.{MayLeaveEmpty}
 use Rattle.td_store.specs.Opened.{AreDamaged, IsOfAnother, IsOfEarlier, IsOfUnknownVersion, IsStoreSchema, TellsDatabase}
 use Rattle.td_store.specs.declared.refused.OpenFault.{OpenFault}
 use Rattle.td_store.specs.declared.refused.OpenFault.TheVariants.{UnknownVersion, NeedsMigration, OtherCountry, Damaged, Store, NoMemory}
@@ -80,7 +79,7 @@ pub blank_then : (db : Database) → ¬ (¬ IsEmptyOf no_schema db) → IsEmptyO
 blank_then db blank = elim (blank_or_taken db) [ inl none ↦ none | inr taken ↦ absurd (blank taken) ]
 
 -- what a crash leaves of a connection that committed no more than this, where before it left what was found
-leaves_found : (found left : State) (P : Trees → Type 0) → Survives found left P → CrashLeavesShown found → IsTrue found.is_open
+pub leaves_found : (found left : State) (P : Trees → Type 0) → Survives found left P → CrashLeavesShown found → IsTrue found.is_open
     → HasCleanDisk left → (trees : Trees) → left.may_leave trees → (trees ≡ found.now.trees) ⊎ P trees
 leaves_found found left P crash before is_open clean trees may =
     elim (crash.crash clean trees may) [ inl was ↦ inl ((before is_open trees).0 was) | inr made ↦ inr made ]
@@ -110,33 +109,35 @@ module _ {D : Type 0} {g : disk.Ghosts D} where
     unsound = λ x trees at. sound clean is_open x (opens x trees) at;
   }
 
-  -- what a crash leaves of a file in which no desk was made
-  leaves_unmade : (country : List ℕ) (conn c : Held (FileStore D g)) → CrashLeavesShown (file_state conn) → IsTrue (file_state conn).is_open
-      → Survives (file_state conn) (file_state c) (MayLeaveEmpty country (file_state conn))
+  -- what a crash leaves of a file in which no desk's file of a content was made, where the making may commit just its trees
+  leaves_unmade : (made : Content) (May : Trees → Type 0) (conn c : Held (FileStore D g)) → CrashLeavesShown (file_state conn)
+      → IsTrue (file_state conn).is_open → Survives (file_state conn) (file_state c) May
+      → ((trees : Trees) → May trees → IsEmptyOf no_schema (file_state conn).now → AreTreesOf made trees)
       → (¬ IsEmptyOf no_schema (file_state conn).now → c ≡ conn) → HasCleanDisk (file_state c)
-      → (trees : Trees) → (file_state c).may_leave trees → (trees ≡ (file_state conn).now.trees) ⊎ CommitsDesk country (file_state conn).now trees
-  leaves_unmade country conn c before is_open crash taken clean trees may =
+      → (trees : Trees) → (file_state c).may_leave trees → (trees ≡ (file_state conn).now.trees) ⊎ CommitsDesk made (file_state conn).now trees
+  leaves_unmade made May conn c before is_open crash commits taken clean trees may =
       elim (blank_or_taken (file_state conn).now) [
-        | inl blank ↦ elim (leaves_found (file_state conn) (file_state c) (MayLeaveEmpty country (file_state conn)) crash before is_open clean trees may) [
+        | inl blank ↦ elim (leaves_found (file_state conn) (file_state c) May crash before is_open clean trees may) [
           | inl was ↦ inl was
-          | inr made ↦ inr (blank, made.1 blank)
+          | inr left ↦ inr (blank, commits trees left blank)
         ]
         | inr some ↦ inl ((before is_open trees).0 (subst (λ (h : Held (FileStore D g)). (file_state h).may_leave trees) (taken some) may))
       ]
 
   -- what the clauses of a making say of a connection that was handed back
-  pub unmade_for : (image : Image) (country : List ℕ) (conn c : Held (FileStore D g)) (fault : OpenFault)
+  pub unmade_for : (image : Image) (made : Content) (May : Trees → Type 0) (conn c : Held (FileStore D g)) (fault : OpenFault)
       → IsFoundIn image (file_state conn).now → IsTrue (file_state conn).is_open → CrashLeavesShown (file_state conn)
-      → Survives (file_state conn) (file_state c) (MayLeaveEmpty country (file_state conn))
+      → Survives (file_state conn) (file_state c) May
+      → ((trees : Trees) → May trees → IsEmptyOf no_schema (file_state conn).now → AreTreesOf made trees)
       → (HasCleanDisk (file_state c) → IsTrue (file_state c).is_open → (file_state c).now ≡ (file_state conn).now) → CrashLeavesShown (file_state c)
       → IsStoreOrMemory fault → (¬ IsEmptyOf no_schema (file_state conn).now → (fault ≡ Store) × (c ≡ conn)) → IsClean c
-      → IsUnmadeFor image country fault c
-  unmade_for image country conn c fault is is_open before crash same settled cause taken clean = record {
+      → IsUnmadeFor image made fault c
+  unmade_for image made May conn c fault is is_open before crash commits same settled cause taken clean = record {
     left = record {
       db = (file_state conn).now;
       found = is;
       same = same clean;
-      leaves = leaves_unmade country conn c before is_open crash (λ some. (taken some).1) clean;
+      leaves = leaves_unmade made May conn c before is_open crash commits (λ some. (taken some).1) clean;
       settled = settled;
     };
     cause = cause;

@@ -33,9 +33,9 @@ pub record IsFoundIn (image : Image) (db : Database) : Type 0 where
 abbrev pub CommitsNothing : Database → Trees → Type 0
 CommitsNothing db trees = ⊥
 
--- what the making of a desk may commit: an empty desk's trees, where there was no table
-abbrev pub CommitsDesk : List ℕ → Database → Trees → Type 0
-CommitsDesk country db trees = IsEmptyOf no_schema db × AreTreesOf (empty_content country) trees
+-- what the making of a desk's file may commit: the trees of the content that it is to have, where there was no table
+abbrev pub CommitsDesk : Content → Database → Trees → Type 0
+CommitsDesk made db trees = IsEmptyOf no_schema db × AreTreesOf made trees
 
 -- the fault is the store's, or want of memory
 abbrev pub IsStoreOrMemory : OpenFault → Type 0
@@ -96,9 +96,9 @@ module _ {D : Type 0} {g : disk.Ghosts D} where
     pub tells : TellsDatabase country left.db (Some fault)
     pub unsound : (x : Content) → AreTreesOf x left.db.trees → x.country ≡ country → IsStoreOrMemory fault
 
-  -- No desk was made in a file, for this fault: the store's, where there is a table. The file is left as it was found.
-  pub record IsUnmadeFor (image : Image) (country : List ℕ) (fault : OpenFault) (c : FileSeen g) : Type 0 where
-    pub left : ShowsFound image (CommitsDesk country) c
+  -- No desk's file of a content was made in a file, for this fault: the store's, where there is a table. The file is left as it was found.
+  pub record IsUnmadeFor (image : Image) (made : Content) (fault : OpenFault) (c : FileSeen g) : Type 0 where
+    pub left : ShowsFound image (CommitsDesk made) c
     pub cause : IsStoreOrMemory fault
     pub taken : ¬ IsEmptyOf no_schema left.db → fault ≡ Store
 
@@ -128,4 +128,4 @@ module _ {S D : Type 0} {g : disk.Ghosts D} where
 
   -- none was made in it
   abbrev pub HasNoNewDesk : Image → List ℕ → FileHeld S g → FileHeld S g → DeskFault → Type 0
-  HasNoNewDesk image country old new why = IsUnopened old new why ⊎ IsHandedBack (IsUnmadeFor image country) new why
+  HasNoNewDesk image country old new why = IsUnopened old new why ⊎ IsHandedBack (IsUnmadeFor image (empty_content country)) new why

@@ -5,10 +5,13 @@
 mod cache;
 mod connecting;
 mod desks;
+mod extracts;
 mod files;
+mod joins;
 mod upgrades;
 
 pub use connecting::{FileConnection, Unopened};
 pub use desks::{DeskFault, FileDesk};
 pub use files::{Closed, DeskFile, OneFile};
+pub use joins::JoinRefusal;
 pub use td_store::OpenFault;

@@ -86,12 +86,12 @@ module _ {D W M L Reads Writes : Type 0} (view : DeskView D) (opened left : D) (
 
   -- How a serving ended that couldn't listen: nothing was printed and no request served. Either there was no memory for what is
   -- printed, and nothing was asked of the machine; or the port couldn't be listened on.
-  abbrev pub IsDeaf : ServingEnd → M → M → Type 0
-  IsDeaf Done machine machine_left = ⊥
-  IsDeaf NoMemory machine machine_left = (writer_left ≡ writer) × (left ≡ opened) × (machine_left ≡ machine)
-  IsDeaf Socket machine machine_left =
-      (writer_left ≡ writer) × (left ≡ opened) × around.known.deaf machine listening.port listening.idle machine_left
-  IsDeaf Write machine machine_left = ⊥
+  abbrev pub IsNotListening : ServingEnd → M → M → Type 0
+  IsNotListening Done machine machine_left = ⊥
+  IsNotListening NoMemory machine machine_left = (writer_left ≡ writer) × (left ≡ opened) × (machine_left ≡ machine)
+  IsNotListening Socket machine machine_left =
+      (writer_left ≡ writer) × (left ≡ opened) × around.known.cannot_listen machine listening.port listening.idle machine_left
+  IsNotListening Write machine machine_left = ⊥
 
   -- The machine listened on the port, with the idle limit, that was done with the connections that came, and it listens no more.
   pub record HasListened (end : ServingEnd) (machine machine_left : M) : Type 0 where
@@ -101,8 +101,8 @@ module _ {D W M L Reads Writes : Type 0} (view : DeskView D) (opened left : D) (
     pub ended : M
     pub listens : around.known.listens machine listening.port listening.idle came begun
     pub serves : ServesThere end came gone begun ended
-    pub hangs_up : around.known.hangs_up ended gone machine_left
+    pub stops_listening : around.known.stops_listening ended gone machine_left
 
   -- what a serving did that ended so
   abbrev pub ServesAs : ServingEnd → M → M → Type 0
-  ServesAs end machine machine_left = IsDeaf end machine machine_left ⊎ HasListened end machine machine_left
+  ServesAs end machine machine_left = IsNotListening end machine machine_left ⊎ HasListened end machine machine_left

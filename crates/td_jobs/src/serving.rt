@@ -117,7 +117,7 @@ fn listen<D: Desk, M: Machine, W: Write>(
         service,
         out,
     );
-    machine.hang_up(incoming);
+    machine.stop_listening(incoming);
     end
 }
 

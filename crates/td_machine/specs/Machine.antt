@@ -1,8 +1,8 @@
 -- What is known of the machine that a program stands in.
 use Rattle.std.specs.Prelude.{◌≡◌, ℕ, ℤ, List, Option, None, Some}
 use Rattle.std.specs.declared.io.Error.{Error}
-use Rattle.td_machine.specs.declared.machine.Unread.{Unread}
-use Rattle.td_machine.specs.declared.machine.Unread.TheVariants.{File, NoMemory}
+use Rattle.td_machine.specs.declared.machine.ReadError.{ReadError}
+use Rattle.td_machine.specs.declared.machine.ReadError.TheVariants.{File, NoMemory}
 
 -- A machine of type M, to which connections come by a source of type L.
 pub record Known (M L : Type 0) : Type 1 where
@@ -13,9 +13,9 @@ pub record Known (M L : Type 0) : Type 1 where
   -- a port is listened on with an idle limit in seconds: the machine, the port, the limit, the connections that come, the machine after it
   pub listens : M → ℕ → ℕ → L → M → Type 0
   -- it couldn't be
-  pub deaf : M → ℕ → ℕ → M → Type 0
+  pub cannot_listen : M → ℕ → ℕ → M → Type 0
   -- it is listened on no more
-  pub hangs_up : M → L → M → Type 0
+  pub stops_listening : M → L → M → Type 0
 
 -- A machine with its clock, and the connections to it, whose requests are read from an R and whose replies are written to a W.
 pub record Around (M L R W : Type 0) : Type 1 where
@@ -41,6 +41,6 @@ pub record HasRead {M L : Type 0} (known : Known M L) (path : List ℕ) (old : M
   pub reads : known.reads old new
 
 -- It wasn't read, for this reason: that there is none at the path is said only where no bytes of it are known.
-abbrev pub IsNotRead : {M L : Type 0} → Known M L → List ℕ → M → M → Unread → Type 0
+abbrev pub IsNotRead : {M L : Type 0} → Known M L → List ℕ → M → M → ReadError → Type 0
 IsNotRead known path old new File = (known.holds old path ≡ None) × known.reads old new
 IsNotRead known path old new NoMemory = known.reads old new

@@ -2,7 +2,7 @@
 ghost use Rattle.td_machine.specs.Machine.{Known};
 
 use crate::clock::MachineClock;
-use crate::machine::{Deaf, Machine, Unread};
+use crate::machine::{ListenError, Machine, ReadError};
 use std::alloc::Global;
 use std::fs;
 use std::io::ErrorKind;
@@ -32,24 +32,24 @@ impl Machine for HostMachine<'_> {
       holds = λ _ _. None;
       reads = λ _ _. Unit {0};
       listens = λ _ _ _ _ _. Unit {0};
-      deaf = λ _ _ _ _. Unit {0};
-      hangs_up = λ _ _ _. Unit {0};
+      cannot_listen = λ _ _ _ _. Unit {0};
+      stops_listening = λ _ _ _. Unit {0};
     } };
 
-    fn read_file(&mut self, _alloc: Global, path: &str) -> Result<Vec<u8>, Unread> {
+    fn read_file(&mut self, _alloc: Global, path: &str) -> Result<Vec<u8>, ReadError> {
         fs::read(self.rt, path).map_err(|error| match error.kind() {
-            ErrorKind::OutOfMemory => Unread::NoMemory,
-            _ => Unread::File,
+            ErrorKind::OutOfMemory => ReadError::NoMemory,
+            _ => ReadError::File,
         })
     }
 
-    fn listen(&mut self, _alloc: Global, port: u16, idle: u16) -> Result<Incoming, Deaf> {
+    fn listen(&mut self, _alloc: Global, port: u16, idle: u16) -> Result<Incoming, ListenError> {
         let address = SocketAddr::from((Ipv4Addr::LOCALHOST, port));
-        let listener = TcpListener::bind(self.rt, address).map_err(|_| Deaf)?;
-        Incoming::new(*self.rt, listener, idle).map_err(|_| Deaf)
+        let listener = TcpListener::bind(self.rt, address).map_err(|_| ListenError)?;
+        Incoming::new(*self.rt, listener, idle).map_err(|_| ListenError)
     }
 
-    fn hang_up(&mut self, mut incoming: Incoming) {
+    fn stop_listening(&mut self, mut incoming: Incoming) {
         incoming.end();
     }
 }

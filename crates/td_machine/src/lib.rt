@@ -13,5 +13,5 @@ pub use around::Surroundings;
 pub use clock::{FixedClock, MachineClock};
 pub use host::HostMachine;
 pub use laws::clients_are_served_in_order;
-pub use machine::{Deaf, Machine, Unread};
+pub use machine::{ListenError, Machine, ReadError};
 pub use memory::{MemoryFile, MemoryIncoming, MemoryMachine};

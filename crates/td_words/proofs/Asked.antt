@@ -1,18 +1,21 @@
 -- What clap met in the words, and what the words don't ask for.
-use Rattle.std.proofs.Common.{◌≡◌, ◌≢◌, ◌∙◌, ◌⊎◌, ap, sym, subst, refl, ℕ, inl, inr, ⊎_elim, List, [], ◌∷◌, Option, None, Some, option_map, codes, slice_get, true, Result, Ok, Err, IfErr, IfOk, IsErrAnd}
+use Rattle.std.proofs.Common.{◌≡◌, ◌≢◌, ◌∙◌, ◌⊎◌, ap, sym, subst, refl, ℕ, inl, inr, ⊎_elim, List, [], ◌∷◌, Option, None, Some, option_map, codes, slice_get, slice_index, arith, true, Result, Ok, Err, IfErr, IfOk, IsErrAnd}
 use Rattle.clap.specs.Faults.{is_simple_and_free, walk_fault}
 use Rattle.clap.specs.Kinds.{HasKind, Kinds}
-use Rattle.clap.specs.Words.{App, IsAmong, Row, Text, fault_of, subcommand_name_of, subcommand_of, subcommand_rows_of}
+use Rattle.clap.specs.Words.{App, IsAmong, Row, Text, fault_of, first_of, subcommand_name_of, subcommand_of, subcommand_rows_of}
 use Rattle.clap.specs.declared.ArgMatches.{ArgMatches}
 use Rattle.clap.specs.declared.error.Error.{Error}
 use Rattle.clap.specs.declared.error.kind.ErrorKind.{ErrorKind}
 use Rattle.clap.specs.declared.error.kind.ErrorKind.TheVariants.{DisplayHelp, DisplayVersion, OutOfMemory}
+use Rattle.td_words.specs.declared.words.HolderRange.{HolderRange}
 use Rattle.td_words.specs.declared.words.Job.{Job}
 use Rattle.td_words.specs.declared.words.NoJob.{NoJob}
 use Rattle.td_words.specs.declared.words.NoJob.TheVariants.{Help, Wrong, NoMemory}
 use Rattle.td_words.specs.declared.words.ReportKind.{ReportKind}
 use Rattle.td_words.specs.declared.words.ReportKind.TheVariants.{Overdue, Guarantees}
-use Rattle.td_words.specs.Words.{AreTaken, AskForNone, AsksFor, IsDayOf, IsJob, IsNoJob, IsNoneSuch, IsReportBy, IsTold, program_app}
+use Rattle.td_words.specs.declared.words.Transfer as transfer
+use Rattle.td_words.specs.declared.words.Transfer.TheVariants.{Extract, Join}
+use Rattle.td_words.specs.Words.{AreTaken, AskForNone, AsksFor, IsDayOf, IsJob, IsNoJob, IsNoneSuch, IsRangeOf, IsReportBy, IsTold, IsTransfer, program_app}
 
 pub is_simple_program : is_simple_and_free program_app ≡ true
 is_simple_program = refl
@@ -43,6 +46,13 @@ module _ {X Y : Type 0} (P : X → Type 0) (Q : Y → Type 0) (part : (y : Y) �
 pub day_of_report : (kind day : Option Text) (report : ReportKind) → IsReportBy kind day report → (on : Option ℕ) × IsDayOf day on
 day_of_report kind day (Overdue on) is = (Some on, is.1)
 day_of_report kind day Guarantees is = is.1
+
+-- an extract has a range of holders
+pub range_of_extract : (name : Text) (rows : List Row) → name ≡ codes "extract" → (what : transfer.Transfer) → IsTransfer name rows what
+    → (holders : HolderRange) × IsRangeOf (first_of (codes "holders") rows) holders
+range_of_extract name rows named (Extract holders from into) is = (holders, is.1)
+range_of_extract name rows named (Join into from) is =
+    absurd (let same : slice_index (codes "extract") 0 ≡ slice_index (codes "join") 0 = ap (λ t. slice_index t 0) (sym named ∙ is.0) in omega (arith, same))
 
 -- ---- words that clap takes
 

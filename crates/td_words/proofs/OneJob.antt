@@ -1,17 +1,20 @@
 -- Words ask for at most one job.
-use Rattle.std.proofs.Common.{◌≡◌, ◌∙◌, ap, refl, sym, subst, ℕ, ℤ, pos, List, Option, None, Some, codes, slice_index, arith}
+use Rattle.std.proofs.Common.{◌≡◌, ◌≢◌, ◌∙◌, ap, refl, sym, subst, ℕ, ℤ, pos, List, Option, None, Some, codes, slice_index, arith}
 use Rattle.clap.specs.Words.{Row, Text}
-use Rattle.td_words.specs.Laws.{AreSameRecords, IsSameJob, IsSameTask, WordsAskForOneJob}
-use Rattle.td_words.specs.Words.{AreRecordsBy, IsDayOf, IsIdleOf, IsJob, IsMomentOf, IsNumberOf, IsReportBy, IsTask}
+use Rattle.td_words.specs.Laws.{AreSameRecords, IsSameJob, IsSameTask, IsSameTransfer, WordsAskForOneJob}
+use Rattle.td_words.specs.Words.{AreRecordsBy, IsDayOf, IsIdleOf, IsJob, IsMomentOf, IsNumberOf, IsRangeOf, IsReportBy, IsTask, IsTransfer}
 use Rattle.td_words.specs.declared.words.BatchKind.TheVariants.{Declarations, Acts}
+use Rattle.td_words.specs.declared.words.HolderRange.{HolderRange}
 use Rattle.td_words.specs.declared.words.Job.{Job}
-use Rattle.td_words.specs.declared.words.Job.TheVariants.{AtDesk, Migrate}
+use Rattle.td_words.specs.declared.words.Job.TheVariants.{AtDesk, Migrate, Transfer}
 use Rattle.td_words.specs.declared.words.Records.{Records}
 use Rattle.td_words.specs.declared.words.Records.TheVariants.{Memory, File, NewFile}
 use Rattle.td_words.specs.declared.words.ReportKind.{ReportKind}
 use Rattle.td_words.specs.declared.words.ReportKind.TheVariants.{Overdue, Guarantees}
 use Rattle.td_words.specs.declared.words.Task.{Task}
 use Rattle.td_words.specs.declared.words.Task.TheVariants.{Serve, Pipe, Batch, Report, Check}
+use Rattle.td_words.specs.declared.words.Transfer as transfer
+use Rattle.td_words.specs.declared.words.Transfer.TheVariants.{Extract, Join}
 use Rattle.td_words.proofs.Asked.{same_met}
 
 number_once : (least greatest : ℕ) (value : Option Text) (m n : ℕ) → IsNumberOf least greatest value m → IsNumberOf least greatest value n → m ≡ n
@@ -124,24 +127,68 @@ task_once name rows (Check path) (Batch Acts there records) is other = absurd (o
 task_once name rows (Check path) (Report kind there) is other = absurd (omega (arith, clash name rows (Check path) (Report kind there) is other))
 task_once name rows (Check path) (Check there) is other = same_value _ _ _ is.1 other.1
 
--- the name of a task's command isn't that of `migrate`
-no_migrate : (name : Text) (rows : List Row) (task : Task) → IsTask name rows task → name ≡ codes "migrate" → ⊥
-no_migrate name rows (Serve l r) is other = omega (arith, letter_is name rows (Serve l r) is, ap (λ t. slice_index t 0) other)
-no_migrate name rows (Pipe r) is other = omega (arith, letter_is name rows (Pipe r) is, ap (λ t. slice_index t 0) other)
-no_migrate name rows (Batch Declarations file db) is other = omega (arith, letter_is name rows (Batch Declarations file db) is, ap (λ t. slice_index t 0) other)
-no_migrate name rows (Batch Acts file db) is other = omega (arith, letter_is name rows (Batch Acts file db) is, ap (λ t. slice_index t 0) other)
-no_migrate name rows (Report report path) is other = omega (arith, letter_is name rows (Report report path) is, ap (λ t. slice_index t 0) other)
-no_migrate name rows (Check path) is other = omega (arith, letter_is name rows (Check path) is, ap (λ t. slice_index t 0) other)
+-- no task's command begins with the letter of `migrate`, of `extract` or of `join`
+task_letters : (task : Task) → (first_letter task ≢ 109) × (first_letter task ≢ 101) × (first_letter task ≢ 106)
+task_letters (Serve l r) = (λ e. omega (arith, e), λ e. omega (arith, e), λ e. omega (arith, e))
+task_letters (Pipe r) = (λ e. omega (arith, e), λ e. omega (arith, e), λ e. omega (arith, e))
+task_letters (Batch Declarations file db) = (λ e. omega (arith, e), λ e. omega (arith, e), λ e. omega (arith, e))
+task_letters (Batch Acts file db) = (λ e. omega (arith, e), λ e. omega (arith, e), λ e. omega (arith, e))
+task_letters (Report report path) = (λ e. omega (arith, e), λ e. omega (arith, e), λ e. omega (arith, e))
+task_letters (Check path) = (λ e. omega (arith, e), λ e. omega (arith, e), λ e. omega (arith, e))
 
-job_once : (name : Text) (rows : List Row) (job other : Job) → IsJob name rows job → IsJob name rows other → IsSameJob job other
-job_once name rows (AtDesk office task) (AtDesk there other) is same = (
-  task_once name rows task other is.0 same.0,
-  same_value _ _ _ is.1.country.named same.1.country.named,
-  moment_once _ _ _ is.1.at same.1.at,
-)
-job_once name rows (AtDesk office task) (Migrate path) is same = absurd (no_migrate name rows task is.0 same.0)
-job_once name rows (Migrate path) (AtDesk office task) is same = absurd (no_migrate name rows task same.0 is.0)
-job_once name rows (Migrate path) (Migrate there) is same = same_value _ _ _ is.1 same.1
+-- the name of a task's command is no other text whose first letter no task has
+module _ (name : Text) (rows : List Row) where
+  letter_by : (other : Text) (task : Task) → IsTask name rows task → name ≡ other → first_letter task ≡ slice_index other 0
+  letter_by other task is named = sym (letter_is name rows task is) ∙ ap (λ t. slice_index t 0) named
+
+  no_migrate : (task : Task) → IsTask name rows task → name ≡ codes "migrate" → ⊥
+  no_migrate task is named = (task_letters task).0 (letter_by (codes "migrate") task is named)
+
+  no_transfer : (task : Task) (what : transfer.Transfer) → IsTask name rows task → IsTransfer name rows what → ⊥
+  no_transfer task (Extract holders from into) is other = (task_letters task).1 (letter_by (codes "extract") task is other.0)
+  no_transfer task (Join into from) is other = (task_letters task).2 (letter_by (codes "join") task is other.0)
+
+two_names : (name a b : Text) → name ≡ a → name ≡ b → slice_index a 0 ≡ slice_index b 0
+two_names name a b is other = ap (λ t. slice_index t 0) (sym is ∙ other)
+
+range_once : (value : Option Text) (a b : HolderRange) → IsRangeOf value a → IsRangeOf value b → (a.first ≡ b.first) × (a.last ≡ b.last)
+range_once None a b is other = absurd is
+range_once (Some text) a b is other =
+    let first : ◌≡◌ {A = Option ℕ} (Some a.first) (Some b.first) = sym is.first ∙ other.first in
+    let last : ◌≡◌ {A = Option ℕ} (Some a.last) (Some b.last) = sym is.last ∙ other.last in
+    (cc, cc)
+
+module _ (name : Text) (rows : List Row) where
+  transfer_once : (what other : transfer.Transfer) → IsTransfer name rows what → IsTransfer name rows other → IsSameTransfer what other
+  transfer_once (Extract holders from into) (Extract others there new) is other =
+      let range = range_once _ holders others is.1 other.1 in
+      (range.0, range.1, same_value _ _ _ is.2 other.2, same_value _ _ _ is.3 other.3)
+  transfer_once (Extract holders from into) (Join there others) is other =
+      absurd (omega (arith, two_names name (codes "extract") (codes "join") is.0 other.0))
+  transfer_once (Join into from) (Extract holders there new) is other =
+      absurd (omega (arith, two_names name (codes "join") (codes "extract") is.0 other.0))
+  transfer_once (Join into from) (Join there others) is other = (same_value _ _ _ is.1 other.1, same_value _ _ _ is.2 other.2)
+
+  -- `migrate` is none between two files
+  one_file : (what : transfer.Transfer) → IsTransfer name rows what → name ≡ codes "migrate" → ⊥
+  one_file (Extract holders from into) is named = omega (arith, two_names name (codes "extract") (codes "migrate") is.0 named)
+  one_file (Join into from) is named = omega (arith, two_names name (codes "join") (codes "migrate") is.0 named)
+
+  job_once : (job other : Job) → IsJob name rows job → IsJob name rows other → IsSameJob job other
+  job_once (AtDesk office task) (AtDesk there other) is same = (
+    task_once name rows task other is.0 same.0,
+    same_value _ _ _ is.1.country.named same.1.country.named,
+    moment_once _ _ _ is.1.at same.1.at,
+  )
+  job_once (AtDesk office task) (Migrate path) is same = absurd (no_migrate name rows task is.0 same.0)
+  job_once (AtDesk office task) (Transfer country what) is same = absurd (no_transfer name rows task what is.0 same.0)
+  job_once (Migrate path) (AtDesk office task) is same = absurd (no_migrate name rows task same.0 is.0)
+  job_once (Migrate path) (Migrate there) is same = same_value _ _ _ is.1 same.1
+  job_once (Migrate path) (Transfer country what) is same = absurd (one_file what same.0 is.0)
+  job_once (Transfer country what) (AtDesk office task) is same = absurd (no_transfer name rows task what same.0 is.0)
+  job_once (Transfer country what) (Migrate path) is same = absurd (one_file what is.0 same.0)
+  job_once (Transfer country what) (Transfer other others) is same =
+      (transfer_once what others is.0 same.0, same_value _ _ _ is.1.named same.1.named)
 
 pub one_job : WordsAskForOneJob
 one_job words job other asked same =

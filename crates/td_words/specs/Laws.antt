@@ -3,11 +3,13 @@ use Rattle.std.specs.Prelude.{◌≡◌, List, string_bytes, ⊤}
 use Rattle.clap.specs.Words.{Text}
 use Rattle.td_words.specs.Words.{AsksFor}
 use Rattle.td_words.specs.declared.words.Job.{Job}
-use Rattle.td_words.specs.declared.words.Job.TheVariants.{AtDesk, Migrate}
+use Rattle.td_words.specs.declared.words.Job.TheVariants.{AtDesk, Migrate, Transfer}
 use Rattle.td_words.specs.declared.words.Records.{Records}
 use Rattle.td_words.specs.declared.words.Records.TheVariants.{Memory, File, NewFile}
 use Rattle.td_words.specs.declared.words.Task.{Task}
 use Rattle.td_words.specs.declared.words.Task.TheVariants.{Serve, Pipe, Batch, Report, Check}
+use Rattle.td_words.specs.declared.words.Transfer as transfer
+use Rattle.td_words.specs.declared.words.Transfer.TheVariants.{Extract, Join}
 
 -- the records stand at the same place
 abbrev pub AreSameRecords : Records → Records → Type 0
@@ -28,11 +30,19 @@ IsSameTask (Report report path) (Report other there) = (report ≡ other) × (st
 IsSameTask (Check path) (Check other) = string_bytes path ≡ string_bytes other
 IsSameTask _ _ = ⊥
 
--- two jobs are the same: the same task, in the same country, at the same moment; or of the same file
+-- the same is done between two files
+abbrev pub IsSameTransfer : transfer.Transfer → transfer.Transfer → Type 0
+IsSameTransfer (Extract holders from into) (Extract other there new) =
+    (holders.first ≡ other.first) × (holders.last ≡ other.last) × (string_bytes from ≡ string_bytes there) × (string_bytes into ≡ string_bytes new)
+IsSameTransfer (Join into from) (Join there others) = (string_bytes into ≡ string_bytes there) × (string_bytes from ≡ string_bytes others)
+IsSameTransfer _ _ = ⊥
+
+-- two jobs are the same: the same task, in the same country, at the same moment; or of the same file; or between the same files
 abbrev pub IsSameJob : Job → Job → Type 0
 IsSameJob (AtDesk office task) (AtDesk other other_task) =
     IsSameTask task other_task × (office.country ≡ other.country) × (office.at ≡ other.at)
 IsSameJob (Migrate path) (Migrate other) = string_bytes path ≡ string_bytes other
+IsSameJob (Transfer country what) (Transfer other others) = IsSameTransfer what others × (country ≡ other)
 IsSameJob _ _ = ⊥
 
 -- words that ask for two jobs ask for one

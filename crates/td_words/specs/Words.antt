@@ -1,17 +1,18 @@
 -- What the words of the command line ask for.
-use Rattle.std.specs.Prelude.{◌≡◌, ◌≢◌, ◌⊎◌, ℕ, ◌≤◌, ℤ, pos, List, [], ◌∷◌, length, All, codes, slice_get, true, string_bytes, Option, None, Some, ⊤}
+use Rattle.std.specs.Prelude.{◌≡◌, ◌≢◌, ◌⊎◌, ℕ, ◌≤◌, ℤ, pos, List, [], ◌∷◌, length, All, codes, drop, slice_get, take, true, string_bytes, Option, None, Some, ⊤}
 use Rattle.std.specs.Char.{IsAsciiDigit}
 use Rattle.ascii_text.specs.Digits.{digits_value}
 use Rattle.clap.specs.Words.{App, IsAmong, Row, Rule, Text, fault_of, first_of, new_app, new_rule, subcommand_of, with_rule, with_subcommand}
 use Rattle.clap.specs.declared.builder.ArgAction.TheVariants.{Set, SetTrue}
 use Rattle.clap.specs.declared.error.kind.ErrorKind.{ErrorKind}
 use Rattle.clap.specs.declared.error.kind.ErrorKind.TheVariants.{DisplayHelp, DisplayVersion, OutOfMemory}
-use Rattle.td_base.specs.Codes.{IsCountry}
+use Rattle.td_base.specs.Codes.{IsCountry, holder_read}
 use Rattle.td_base.specs.Days.{day_read}
 use Rattle.td_words.specs.declared.words.BatchKind.{BatchKind}
 use Rattle.td_words.specs.declared.words.BatchKind.TheVariants.{Declarations, Acts}
+use Rattle.td_words.specs.declared.words.HolderRange.{HolderRange}
 use Rattle.td_words.specs.declared.words.Job.{Job}
-use Rattle.td_words.specs.declared.words.Job.TheVariants.{AtDesk, Migrate}
+use Rattle.td_words.specs.declared.words.Job.TheVariants.{AtDesk, Migrate, Transfer}
 use Rattle.td_words.specs.declared.words.Listening.{Listening}
 use Rattle.td_words.specs.declared.words.NoJob.{NoJob}
 use Rattle.td_words.specs.declared.words.NoJob.TheVariants.{Help, Wrong, NoMemory}
@@ -22,6 +23,8 @@ use Rattle.td_words.specs.declared.words.ReportKind.{ReportKind}
 use Rattle.td_words.specs.declared.words.ReportKind.TheVariants.{Overdue, Guarantees}
 use Rattle.td_words.specs.declared.words.Task.{Task}
 use Rattle.td_words.specs.declared.words.Task.TheVariants.{Serve, Pipe, Batch, Report, Check}
+use Rattle.td_words.specs.declared.words.Transfer as transfer
+use Rattle.td_words.specs.declared.words.Transfer.TheVariants.{Extract, Join}
 
 -- an option that takes one value
 abbrev pub option_rule : Text → Rule
@@ -46,7 +49,7 @@ with_office app =
     with_rule (with_rule (with_rule (with_country app) (option_rule (codes "db"))) new_file_rule)
     (option_rule (codes "at"))
 
--- the commands `serve`, `pipe`, `batch`, `acts`, `report`, `check` and `migrate`, and the program that has them
+-- the commands of the program, and the program that has them
 abbrev pub serve_app : App
 serve_app =
     with_rule
@@ -90,6 +93,21 @@ check_app = with_rule (with_country (new_app (codes "check"))) (required_rule (c
 abbrev pub migrate_app : App
 migrate_app = with_rule (new_app (codes "migrate")) (required_rule (codes "db"))
 
+-- those between two files: the one that copies the rows of some holders into a new one, and the one that puts all rows into another
+abbrev pub extract_app : App
+extract_app =
+    with_rule
+    (with_rule
+    (with_rule (with_country (new_app (codes "extract"))) (required_rule (codes "db")))
+    (required_rule (codes "holders")))
+    (required_rule (codes "into"))
+
+abbrev pub join_app : App
+join_app =
+    with_rule
+    (with_rule (with_country (new_app (codes "join"))) (required_rule (codes "db")))
+    (required_rule (codes "with"))
+
 -- the program, which has a version, before its jobs are added
 abbrev pub bare_app : App
 bare_app =
@@ -103,11 +121,15 @@ program_app =
     (with_subcommand
     (with_subcommand
     (with_subcommand
+    (with_subcommand
+    (with_subcommand
     (with_subcommand (with_subcommand (with_subcommand bare_app serve_app.top) pipe_app.top) (batch_app (codes "batch")).top)
     (batch_app (codes "acts")).top)
     report_app.top)
     check_app.top)
-    migrate_app.top
+    migrate_app.top)
+    extract_app.top)
+    join_app.top
 
 -- A text of decimal digits, one or more and nothing else, that shows this number, and it is from the least to the greatest
 -- that there may be. So a sign, a blank, and no digit at all are no number.
@@ -163,6 +185,29 @@ IsReportBy kind day Guarantees = (kind ≡ Some (codes "guarantees")) × ((any :
 abbrev pub IsReport : List Row → ReportKind → Type 0
 IsReport rows report = IsReportBy (first_of (codes "kind") rows) (first_of (codes "day") rows) report
 
+-- A text that shows a range of holders: two numbers, each in six digits, with a hyphen between them. The first isn't above the last.
+pub record IsRange (text : Text) (range : HolderRange) : Type 0 where
+  pub size : length text ≡ 13
+  pub first : holder_read (take 6 text) ≡ Some range.first
+  pub hyphen : slice_get text 6 ≡ Some 45
+  pub last : holder_read (drop 7 text) ≡ Some range.last
+  pub order : range.first ≤ range.last
+
+-- the range that an option has for its value; an option that isn't there has none
+abbrev pub IsRangeOf : Option Text → HolderRange → Type 0
+IsRangeOf None range = ⊥
+IsRangeOf (Some text) range = IsRange text range
+
+-- What is done between two files, by this name: the holders whose rows are copied, the file with them and the new one; or the file that
+-- rows are put into, and the one that has them.
+abbrev pub IsTransfer : Text → List Row → transfer.Transfer → Type 0
+IsTransfer name rows (Extract holders from into) =
+    (name ≡ codes "extract") × IsRangeOf (first_of (codes "holders") rows) holders
+    × (first_of (codes "db") rows ≡ Some (string_bytes from)) × (first_of (codes "into") rows ≡ Some (string_bytes into))
+IsTransfer name rows (Join into from) =
+    (name ≡ codes "join") × (first_of (codes "db") rows ≡ Some (string_bytes into))
+    × (first_of (codes "with") rows ≡ Some (string_bytes from))
+
 -- The task of this name, with the values of its own options: where the records stand, of `serve` a port, a number of
 -- connections and perhaps an idle limit, of `batch` and `acts` the file with the rows, of `report` which it is, and of it and of
 -- `check` the file.
@@ -188,11 +233,13 @@ pub record IsOffice (rows : List Row) (office : Office) : Type 0 where
   pub country : IsCountryIn rows office.country
   pub at : IsMomentOf (first_of (codes "at") rows) office.at
 
--- A command of this name with these options is this job: a task at a desk of an office, or `migrate` of a file.
+-- A command of this name with these options is this job: a task at a desk of an office, `migrate` of a file, or what is done between two
+-- files of a country's office.
 abbrev pub IsJob : Text → List Row → Job → Type 0
 IsJob name rows (AtDesk office task) = IsTask name rows task × IsOffice rows office
 IsJob name rows (Migrate path) =
     (name ≡ codes "migrate") × (first_of (codes "db") rows ≡ Some (string_bytes path))
+IsJob name rows (Transfer country what) = IsTransfer name rows what × IsCountryIn rows country
 
 -- Words that clap takes: its own definitions find no fault in them. So each option is one of the command's, is there at
 -- most once and has its value, and what is required is there. The first word is the program's name.

@@ -6,4 +6,7 @@ mod options;
 mod words;
 
 pub use laws::words_ask_for_one_job;
-pub use words::{BatchKind, Job, Listening, NoJob, Office, Records, ReportKind, Task, read_words};
+pub use words::{
+    BatchKind, HolderRange, Job, Listening, NoJob, Office, Records, ReportKind, Task, Transfer,
+    read_words,
+};

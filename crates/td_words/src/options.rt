@@ -3,7 +3,7 @@ ghost use Rattle.std.specs.Prelude.{◌≡◌, codes, false, IfOk, true};
 ghost use Rattle.clap.specs.Words.{App, Rule, app_of, new_app, rule_of, with_rule, with_subcommand};
 ghost use Rattle.clap.specs.declared.Command.TheViews.{out-Command};
 ghost use Rattle.td_words.specs.Commands.{IsCommand};
-ghost use Rattle.td_words.specs.Words.{bare_app, batch_app, check_app, kind_rule, migrate_app, new_file_rule, option_rule, pipe_app, program_app, report_app, required_rule, serve_app, with_country, with_office};
+ghost use Rattle.td_words.specs.Words.{bare_app, batch_app, check_app, extract_app, join_app, kind_rule, migrate_app, new_file_rule, option_rule, pipe_app, program_app, report_app, required_rule, serve_app, with_country, with_office};
 
 use clap::{Arg, ArgAction, Command};
 use std::alloc::{AllocError, Global};
@@ -28,6 +28,12 @@ pub(crate) const KIND: &str = "kind";
 
 pub(crate) const DAY: &str = "day";
 
+pub(crate) const HOLDERS: &str = "holders";
+
+pub(crate) const INTO: &str = "into";
+
+pub(crate) const WITH: &str = "with";
+
 const SERVE: &str = "serve";
 
 const PIPE: &str = "pipe";
@@ -41,6 +47,10 @@ const REPORT: &str = "report";
 const CHECK: &str = "check";
 
 const MIGRATE: &str = "migrate";
+
+const EXTRACT: &str = "extract";
+
+const JOIN: &str = "join";
 
 /// What `--version` tells.
 const VERSION: &str = "0.1";
@@ -67,6 +77,11 @@ const CHECK_USAGE: &str = "transit-desk check --country <CC> --db <FILE>";
 
 const MIGRATE_USAGE: &str = "transit-desk migrate --db <FILE>";
 
+const EXTRACT_USAGE: &str =
+    "transit-desk extract --country <CC> --db <FILE> --holders <FIRST-LAST> --into <NEW>";
+
+const JOIN_USAGE: &str = "transit-desk join --country <CC> --db <FILE> --with <FILE>";
+
 const USAGE: &str =
     "transit-desk serve --country <CC> --port <N> --connections <K> [--idle <SECONDS>]
          [--db <FILE> [--new]] [--at <SECONDS>]
@@ -75,7 +90,9 @@ const USAGE: &str =
        transit-desk acts --country <CC> --db <FILE> --file <CSV> [--at <SECONDS>]
        transit-desk report <KIND> --country <CC> --db <FILE> [--day <D>]
        transit-desk check --country <CC> --db <FILE>
-       transit-desk migrate --db <FILE>";
+       transit-desk migrate --db <FILE>
+       transit-desk extract --country <CC> --db <FILE> --holders <FIRST-LAST> --into <NEW>
+       transit-desk join --country <CC> --db <FILE> --with <FILE>";
 
 /// What help says behind the options.
 const NOTES: &str =
@@ -93,10 +110,13 @@ Examples:
   transit-desk report guarantees --country CH --db desk.db
   transit-desk check --country CH --db desk.db
   transit-desk migrate --db desk.db
+  transit-desk extract --country CH --db desk.db --holders 000001-000400 --into part.db
+  transit-desk join --country CH --db desk.db --with part.db
 
 Status:
   0  Done: the stream ended well, all connections were served, all rows were answered,
-     the report was written, the file is a desk's, or its tables are of the newest version
+     the report was written, the file is a desk's, or its tables are of the newest version,
+     or the rows were copied
   1  A fault, which one line on standard error tells, as: transit-desk: stream cut;
      or a row was refused
   2  Wrong words: one line on standard error tells what was wrong";
@@ -321,6 +341,44 @@ fn migrate_command<'a>(alloc: Global) -> Result<Command<'a>, AllocError>
     bare_command(alloc, MIGRATE, about, MIGRATE_USAGE).arg(required_option(alloc, DB, "FILE", help))
 }
 
+// The one that copies the rows of some holders into a new file.
+fn extract_command<'a>(alloc: Global) -> Result<Command<'a>, AllocError>
+    ensures { IsCommand extract_app result }
+{
+    let about = "Copies the rows of a range of holders out of a file into a new one";
+    let records = required_option(alloc, DB, "FILE", RECORDS);
+    let holders = required_option(
+        alloc,
+        HOLDERS,
+        "FIRST-LAST",
+        "The numbers of the first holder and the last, as 000001-000400",
+    );
+    let new = required_option(
+        alloc,
+        INTO,
+        "NEW",
+        "The file that is made, which may be there if it has no tables",
+    );
+    let command = country_command(alloc, EXTRACT, about, EXTRACT_USAGE);
+    with_arg(with_arg(with_arg(command, records), holders), new)
+}
+
+// The one that puts the rows of a file into another.
+fn join_command<'a>(alloc: Global) -> Result<Command<'a>, AllocError>
+    ensures { IsCommand join_app result }
+{
+    let about = "Puts all rows of a file into another that has none of its holders";
+    let records = required_option(alloc, DB, "FILE", "The file that the rows are put into");
+    let others = required_option(
+        alloc,
+        WITH,
+        "FILE",
+        "The file with the rows, which keeps them",
+    );
+    let command = country_command(alloc, JOIN, about, JOIN_USAGE);
+    with_arg(with_arg(command, records), others)
+}
+
 // The program before its jobs are added.
 fn bare_program<'a>(alloc: Global) -> Result<Command<'a>, AllocError>
     ensures { IfOk result (λ c. app_of c ≡ bare_app) }
@@ -357,5 +415,7 @@ pub(crate) fn program<'a>(alloc: Global) -> Result<Command<'a>, AllocError>
     let program = with_job(program, acts_command(alloc));
     let program = with_job(program, report_command(alloc));
     let program = with_job(program, check_command(alloc));
-    with_job(program, migrate_command(alloc))
+    let program = with_job(program, migrate_command(alloc));
+    let program = with_job(program, extract_command(alloc));
+    with_job(program, join_command(alloc))
 }

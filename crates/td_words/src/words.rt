@@ -1,17 +1,20 @@
 //! The command line: which job its words ask for, and what is told where they ask for none.
-ghost use Rattle.std.specs.Prelude.{◌≡◌, ◌↔◌, codes, map, option_map, pos, slice_get, string_bytes, IfErr, IfOk, IsTrue, Some, SomeIff};
+ghost use Rattle.std.specs.Prelude.{◌≡◌, ◌↔◌, codes, map, option_map, pos, slice_get, string_bytes, IfErr, IfOk, IfSome, IsTrue, None, Some, SomeIff};
 ghost use Rattle.ascii_text.specs.Digits.{digits_value};
 ghost use Rattle.clap.specs.Values.{kind_of};
 ghost use Rattle.clap.specs.Words.{first_of, found_of, rows_of};
+ghost use Rattle.td_words.specs.declared.words.HolderRange.{HolderRange};
 ghost use Rattle.td_words.specs.declared.words.NoJob.TheVariants.{NoMemory};
-ghost use Rattle.td_words.specs.Words.{AreRecords, AskForHelpOfHelp, AsksFor, IsCountryIn, IsDayOf, IsDecimal, IsIdleOf, IsJob, IsListening, IsMomentOf, IsNoJob, IsNoneSuch, IsNumberOf, IsOffice, IsReport, IsTask, IsTold, batch_name};
+ghost use Rattle.td_words.specs.Words.{AreRecords, AskForHelpOfHelp, AsksFor, IsCountryIn, IsDayOf, IsDecimal, IsIdleOf, IsJob, IsListening, IsMomentOf, IsNoJob, IsNoneSuch, IsNumberOf, IsOffice, IsRange, IsRangeOf, IsReport, IsTask, IsTold, IsTransfer, batch_name};
 
-use crate::options::{AT, CONNECTIONS, COUNTRY, DAY, DB, FILE, IDLE, KIND, NEW, PORT, program};
+use crate::options::{
+    AT, CONNECTIONS, COUNTRY, DAY, DB, FILE, HOLDERS, IDLE, INTO, KIND, NEW, PORT, WITH, program,
+};
 use ascii_text::is_digits;
 use clap::ArgMatches;
 use clap::error::ErrorKind;
 use std::alloc::{AllocError, Global};
-use td_base::{Country, Day};
+use td_base::{Country, Day, HolderNo};
 
 /// Where a desk is served: at a port of this machine, for so many connections, one after another.
 #[derive(Clone, Copy, Debug, PartialEq, Eq)]
@@ -69,6 +72,23 @@ pub enum Task {
     Check(String),
 }
 
+/// The holders with numbers from the first to the last.
+#[derive(Clone, Copy, Debug, PartialEq, Eq)]
+pub struct HolderRange {
+    pub first: HolderNo,
+    /// Not below the first.
+    pub last: HolderNo,
+}
+
+/// What is done between two files with records.
+#[derive(Debug, PartialEq, Eq, Drop)]
+pub enum Transfer {
+    /// The rows of these holders are copied out of the file at the first path into a new one at the second.
+    Extract(HolderRange, String, String),
+    /// All rows of the file at the second path are put into the one at the first.
+    Join(String, String),
+}
+
 /// The office that a desk is of, and its clock.
 #[derive(Clone, Copy, Debug, PartialEq, Eq)]
 pub struct Office {
@@ -86,6 +106,8 @@ pub enum Job {
     AtDesk(Office, Task),
     /// The tables of the file at this path are brought to the newest version.
     Migrate(String),
+    /// This is done between two files of offices of this country.
+    Transfer(Country, Transfer),
 }
 
 /// Why the words ask for no job.
@@ -132,6 +154,16 @@ const NO_DAY: &str = "error: the following required arguments were not provided:
 const COUNTRY_SHOWN: &str = "--country <CC>";
 
 const COUNTRY_WANTED: &str = "two capital letters";
+
+/// How the option of holders is shown, and what its value must be.
+const HOLDERS_SHOWN: &str = "--holders <FIRST-LAST>";
+
+const HOLDERS_WANTED: &str = "two numbers of holders, as 000001-000400";
+
+/// How long its value is, and where the sign between the two numbers stands.
+const RANGE_SIZE: usize = 13;
+
+const HYPHEN: usize = 6;
 
 const AT_NUMBER: NumberOption = NumberOption {
     name: AT,
@@ -265,6 +297,9 @@ fn value_refused(words: &[String]) -> Option<(&'static str, &'static str, &str)>
         if pair[0].as_str() == "--country" && Country::read(value.as_bytes()).is_none() {
             return Some((COUNTRY_SHOWN, COUNTRY_WANTED, value));
         }
+        if pair[0].as_str() == "--holders" && range(value).is_none() {
+            return Some((HOLDERS_SHOWN, HOLDERS_WANTED, value));
+        }
         if let Some(option) = number_option(&pair[0]) {
             if decimal(value, option.least, option.greatest).is_none() {
                 return Some((option.shown, option.wanted, value));
@@ -319,6 +354,10 @@ fn job_of(alloc: Global, name: &str, matches: &ArgMatches<'_>) -> Result<Job, No
 {
     match name {
         "migrate" => Ok(Job::Migrate(file_in(alloc, matches, DB)?)),
+        "extract" | "join" => {
+            let transfer = transfer_in(alloc, name, matches)?;
+            Ok(Job::Transfer(country_in(alloc, matches)?, transfer))
+        }
         _ => {
             let task = task_in(alloc, name, matches)?;
             Ok(Job::AtDesk(office_in(alloc, matches)?, task))
@@ -355,6 +394,25 @@ fn task_in(alloc: Global, name: &str, matches: &ArgMatches<'_>) -> Result<Task, 
             Ok(Task::Report(report, file_in(alloc, matches, DB)?))
         }
         "check" => Ok(Task::Check(file_in(alloc, matches, DB)?)),
+        _ => Err(NoJob::NoMemory),
+    }
+}
+
+// What is done between two files, by that name.
+fn transfer_in(alloc: Global, name: &str, matches: &ArgMatches<'_>) -> Result<Transfer, NoJob>
+    ensures transfer { IfOk result (IsTransfer name.now (rows_of (found_of matches.now))) }
+    ensures none { IfErr result (IsNoneSuch (IsTransfer name.now (rows_of (found_of matches.now)))) }
+{
+    match name {
+        "extract" => {
+            let holders = range_in(alloc, matches)?;
+            let from = file_in(alloc, matches, DB)?;
+            Ok(Transfer::Extract(holders, from, file_in(alloc, matches, INTO)?))
+        }
+        "join" => {
+            let into = file_in(alloc, matches, DB)?;
+            Ok(Transfer::Join(into, file_in(alloc, matches, WITH)?))
+        }
         _ => Err(NoJob::NoMemory),
     }
 }
@@ -409,6 +467,35 @@ fn day_in(alloc: Global, matches: &ArgMatches<'_>) -> Result<Option<Day>, NoJob>
             "a day from 2000-01-01 to 2100-12-31, written so",
         )?)),
     }
+}
+
+// The holders whose rows are wanted.
+fn range_in(alloc: Global, matches: &ArgMatches<'_>) -> Result<HolderRange, NoJob>
+    ensures range { IfOk result (IsRangeOf (first_of (codes "holders") (rows_of (found_of matches.now)))) }
+    ensures none { IfErr result (IsNoneSuch (IsRangeOf (first_of (codes "holders") (rows_of (found_of matches.now))))) }
+{
+    let text = value_of(matches, HOLDERS).unwrap_or("");
+    match range(text) {
+        Some(range) => Ok(range),
+        None => Err(NoJob::Wrong(wrong_value(alloc, text, HOLDERS_SHOWN, HOLDERS_WANTED)?)),
+    }
+}
+
+// The range that a text is: two numbers of holders with a hyphen between them, of which the second isn't below the first.
+fn range(text: &str) -> Option<HolderRange>
+    ensures is { IfSome result (IsRange text.now) }
+    ensures none { result ≡ None → (range : HolderRange) → IsRange text.now range → ⊥ }
+{
+    let text = text.as_bytes();
+    if text.len() != RANGE_SIZE || text[HYPHEN] != b'-' {
+        return None;
+    }
+    let first = HolderNo::read(&text[..HYPHEN])?;
+    let last = HolderNo::read(&text[HYPHEN + 1..])?;
+    if first.number() > last.number() {
+        return None;
+    }
+    Some(HolderRange { first, last })
 }
 
 // Where the records stand. `clap` has "false" for a `--new` that isn't there.

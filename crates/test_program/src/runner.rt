@@ -6,8 +6,8 @@
 //! A line begins with what it is:
 //!
 //! - `== NAME`: a case. Its file isn't there before it.
-//! - `$ WORDS`: a run of the program with these words, in which FILE is the file of the case, and CSV one that lines
-//!   below give. A stream that is served in memory is served over a new file as well, and once more one byte a read.
+//! - `$ WORDS`: a run of the program with these words, in which FILE is the file of the case, OTHER a second one, and
+//!   CSV one that lines below give. A stream that is served in memory is served over a new file as well, and once more one byte a read.
 //! - `@ SECONDS`: what follows comes at this moment, at a desk of CH. All of the case is one stream in memory, whose
 //!   clock shows the moments, and a run of `pipe` over the case's file for each moment.
 //! - `> METHOD TARGET BODY`: a request, whose body may be left out. `>| BYTES`: bytes as they stand. `>* TIMES BYTES`:

@@ -24,6 +24,8 @@ mod movements;
 #[cfg(test)]
 mod needs;
 #[cfg(test)]
+mod parts;
+#[cfg(test)]
 mod schema;
 #[cfg(test)]
 mod statements;

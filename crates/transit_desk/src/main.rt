@@ -11,8 +11,18 @@ fn main(rt: HostRuntime) -> ExitCode {
     let mut out = Counted::new(rt.stdout());
     let mut errors = Counted::new(rt.stderr());
     let mut file = DeskFile::new(Unknown);
+    let mut other = DeskFile::new(Unknown);
     let words = words_of(&rt);
-    let status = run_program(&rt, words, &mut file, &mut input, &mut out, &mut errors);
+    let status = run_program(
+        &rt,
+        words,
+        &mut file,
+        &mut other,
+        &mut input,
+        &mut out,
+        &mut errors,
+    );
     file.close();
+    other.close();
     ExitCode::from(status)
 }

@@ -66,7 +66,7 @@ pub struct Ran<R, W> {
     pub errors: Vec<u8>,
 }
 
-/// Runs the program on these words, or on the cause why they couldn't be read, and closes the file that they name. It is
+/// Runs the program on these words, or on the cause why they couldn't be read, and closes the files that they name. It is
 /// the call that `main` makes. (It stands for any reader and writer: the proof of each call over a file of the machine is
 /// dear.)
 pub fn run_over<R: Read, W: Write>(
@@ -80,11 +80,21 @@ where
     W: Drop,
 {
     let mut file = DeskFile::new(Unknown);
+    let mut other = DeskFile::new(Unknown);
     let mut input = Counted::new(reader);
     let mut out = Counted::new(writer);
     let mut errors = Counted::new(Vec::new(rt.alloc()));
-    let status = run_program(rt, words, &mut file, &mut input, &mut out, &mut errors);
+    let status = run_program(
+        rt,
+        words,
+        &mut file,
+        &mut other,
+        &mut input,
+        &mut out,
+        &mut errors,
+    );
     file.close();
+    other.close();
     Ran {
         status,
         input: input.into_inner(),

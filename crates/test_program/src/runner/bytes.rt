@@ -1,6 +1,6 @@
 //! The lines of a transcript as bytes of requests and replies. They are added to what is there, so that no function has
 //! bytes of its own where it fails.
-use super::files::ROWS;
+use super::files::{OTHER, ROWS};
 use super::told::Place;
 use std::alloc::{AllocError, Global};
 use std::test::Fail;
@@ -195,11 +195,12 @@ pub fn rows_of(alloc: Global, place: Place<'_>, lines: &str) -> Result<Vec<u8>, 
     Ok(rows)
 }
 
-// The path that a word stands for: FILE is the file of the run, and CSV the one that it is to read.
+// The path that a word stands for: FILE is the file of the run, OTHER the second one that it opens, and CSV the one that it is to read.
 fn path_of<'a>(word: &'a str, file: &'a str) -> &'a str {
     match word {
         "FILE" => file,
         "CSV" => ROWS,
+        "OTHER" => OTHER,
         _ => word,
     }
 }

@@ -11,10 +11,21 @@ pub const FILE: &str = "case.db";
 /// The copy of it that is changed and then tested.
 pub const COPY: &str = "copy.db";
 
+/// The other file of a case, of those runs that open two. It isn't there before the case either.
+pub const OTHER: &str = "other.db";
+
 /// The file of rows that a run is to read.
 pub const ROWS: &str = "rows.csv";
 
-const PATHS: [&str; 5] = [FILE, COPY, "case.db-wal", "copy.db-wal", ROWS];
+const PATHS: [&str; 7] = [
+    FILE,
+    COPY,
+    OTHER,
+    "case.db-wal",
+    "copy.db-wal",
+    "other.db-wal",
+    ROWS,
+];
 
 /// Removes them, and their logs, as far as they are there.
 pub fn remove(rt: &HostRuntime) {

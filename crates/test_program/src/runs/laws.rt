@@ -6,8 +6,8 @@ use td_cli::{
     acknowledged_replies_are_kept_in_the_file, acknowledged_rows_are_kept_in_the_file,
     agreeing_batches_over_files_tell_the_same, agreeing_jobs_over_files_tell_the_same,
     agreeing_jobs_tell_the_same, agreeing_servings_over_files_tell_the_same,
-    agreeing_servings_tell_the_same, runs_over_one_file_are_one_run, runs_over_one_file_lead_on,
-    work_over_one_file_is_one_machines,
+    agreeing_servings_tell_the_same, holders_go_on_where_their_rows_go,
+    runs_over_one_file_are_one_run, runs_over_one_file_lead_on, work_over_one_file_is_one_machines,
 };
 use td_desk::PlainDesk;
 use td_http::{
@@ -77,4 +77,5 @@ fn laws_of_batches_hold_at_concrete_types() {
     a_batch_cut_short_is_sent_again::<FileFrom<Unknown>, FileFrom<Unknown>>();
     runs_over_one_file_lead_on::<FileFrom<Unknown>>();
     work_over_one_file_is_one_machines::<FileFrom<Unknown>, FileFrom<Unknown>>();
+    holders_go_on_where_their_rows_go::<FileFrom<Unknown>>();
 }

@@ -96,6 +96,7 @@ fn done_on<M: Machine>(
 ) -> Result<Done, AllocError> {
     let words = words_of(rt.alloc(), words)?;
     let mut file = DeskFile::new(Unknown);
+    let mut other = DeskFile::new(Unknown);
     let mut input = Counted::new(input);
     let mut out = Counted::new(Vec::new(rt.alloc()));
     let mut errors = Counted::new(Vec::new(rt.alloc()));
@@ -104,11 +105,13 @@ fn done_on<M: Machine>(
         machine,
         &words,
         &mut file,
+        &mut other,
         &mut input,
         &mut out,
         &mut errors,
     );
     file.close();
+    other.close();
     Ok(Done {
         status,
         out: out.into_inner(),

@@ -50,11 +50,21 @@ fn unread_words_are_told(rt: HostRuntime) -> Result<(), Fail> {
 // The writers have their room before the program is called.
 fn done_with_room(rt: &HostRuntime, words: &[String], room: (Vec<u8>, Vec<u8>)) -> Done {
     let mut file = DeskFile::new(Unknown);
+    let mut other = DeskFile::new(Unknown);
     let mut input = Counted::new(REGISTER);
     let mut out = Counted::new(room.0);
     let mut errors = Counted::new(room.1);
-    let status = perform(rt, words, &mut file, &mut input, &mut out, &mut errors);
+    let status = perform(
+        rt,
+        words,
+        &mut file,
+        &mut other,
+        &mut input,
+        &mut out,
+        &mut errors,
+    );
     file.close();
+    other.close();
     Done {
         status,
         out: out.into_inner(),

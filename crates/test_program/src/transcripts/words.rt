@@ -5,7 +5,7 @@ use std::test::Fail;
 const CASES: &[u8] = br#"
 == what was wrong is told
 $
-! 2 error: 'transit-desk' requires a subcommand but one was not provided [subcommands: serve, pipe, batch, acts, report, check, migrate, help]
+! 2 error: 'transit-desk' requires a subcommand but one was not provided [subcommands: serve, pipe, batch, acts, report, check, migrate, extract, join, help]
 $ release --country CH
 ! 2 error: unrecognized subcommand 'release'
 $ help nosuch
@@ -163,11 +163,45 @@ $ report guarantees --country ch --db F
 $ report overdue --country CH --db F --day 2025-03-20 --day 2025-03-20
 ! 2 error: the argument '--day <D>' cannot be used multiple times
 
+== what was wrong on an extract or a join is told
+$ extract
+! 2 error: the following required arguments were not provided: --country <CC> --db <FILE> --holders <FIRST-LAST> --into <NEW>
+$ extract --country CH --db F --into N
+! 2 error: the following required arguments were not provided: --holders <FIRST-LAST>
+$ extract --country CH --db F --holders 1-400 --into N
+! 2 error: invalid value '1-400' for '--holders <FIRST-LAST>': it must be two numbers of holders, as 000001-000400
+$ extract --country CH --db F --holders 000400-000399 --into N
+! 2 error: invalid value '000400-000399' for '--holders <FIRST-LAST>': it must be two numbers of holders, as 000001-000400
+$ extract --country CH --db F --holders 000000-000400 --into N
+! 2 error: invalid value '000000-000400' for '--holders <FIRST-LAST>': it must be two numbers of holders, as 000001-000400
+$ extract --country CH --db F --holders 000001_000400 --into N
+! 2 error: invalid value '000001_000400' for '--holders <FIRST-LAST>': it must be two numbers of holders, as 000001-000400
+$ extract --country CH --db F --holders 000001-00040a --into N
+! 2 error: invalid value '000001-00040a' for '--holders <FIRST-LAST>': it must be two numbers of holders, as 000001-000400
+$ extract --country CH --db F --holders 000001-0004000 --into N
+! 2 error: invalid value '000001-0004000' for '--holders <FIRST-LAST>': it must be two numbers of holders, as 000001-000400
+$ extract --country CH --holders 000001
+! 2 error: invalid value '000001' for '--holders <FIRST-LAST>': it must be two numbers of holders, as 000001-000400
+$ extract --country ch --db F --holders 000001-000400 --into N
+! 2 error: invalid value 'ch' for '--country <CC>': it must be two capital letters
+$ extract --country CH --db F --holders 000001-000400 --into N --at 1740819600
+! 2 error: unexpected argument '--at' found
+$ join
+! 2 error: the following required arguments were not provided: --country <CC> --db <FILE> --with <FILE>
+$ join --country CH --db F
+! 2 error: the following required arguments were not provided: --with <FILE>
+$ join --db F --with F
+! 2 error: the following required arguments were not provided: --country <CC>
+$ join --country CHE --db F --with F
+! 2 error: invalid value 'CHE' for '--country <CC>': it must be two capital letters
+$ join --country CH --db F --with F --with F
+! 2 error: the argument '--with <FILE>' cannot be used multiple times
+
 == wrong words do nothing
 # The request is not served, whatever the words ask for.
 $
 > GET /holders/000001
-! 2 error: 'transit-desk' requires a subcommand but one was not provided [subcommands: serve, pipe, batch, acts, report, check, migrate, help]
+! 2 error: 'transit-desk' requires a subcommand but one was not provided [subcommands: serve, pipe, batch, acts, report, check, migrate, extract, join, help]
 $ pipe --country ch
 > GET /holders/000001
 ! 2 error: invalid value 'ch' for '--country <CC>': it must be two capital letters
@@ -197,6 +231,8 @@ $ --help
 <|        transit-desk report <KIND> --country <CC> --db <FILE> [--day <D>]\n
 <|        transit-desk check --country <CC> --db <FILE>\n
 <|        transit-desk migrate --db <FILE>\n
+<|        transit-desk extract --country <CC> --db <FILE> --holders <FIRST-LAST> --into <NEW>\n
+<|        transit-desk join --country <CC> --db <FILE> --with <FILE>\n
 <| \n
 <| Commands:\n
 <|   serve    Serves connections to a port of this machine, one after another\n
@@ -206,6 +242,8 @@ $ --help
 <|   report   Prints what is overdue on a day, or all guarantees\n
 <|   check    Tests whether a desk of the country can be opened over a file\n
 <|   migrate  Brings the tables of a file to the newest version\n
+<|   extract  Copies the rows of a range of holders out of a file into a new one\n
+<|   join     Puts all rows of a file into another that has none of its holders\n
 <|   help     Print this message or the help of the given subcommand(s)\n
 <| \n
 <| Options:\n
@@ -226,10 +264,13 @@ $ --help
 <|   transit-desk report guarantees --country CH --db desk.db\n
 <|   transit-desk check --country CH --db desk.db\n
 <|   transit-desk migrate --db desk.db\n
+<|   transit-desk extract --country CH --db desk.db --holders 000001-000400 --into part.db\n
+<|   transit-desk join --country CH --db desk.db --with part.db\n
 <| \n
 <| Status:\n
 <|   0  Done: the stream ended well, all connections were served, all rows were answered,\n
-<|      the report was written, the file is a desk's, or its tables are of the newest version\n
+<|      the report was written, the file is a desk's, or its tables are of the newest version,\n
+<|      or the rows were copied\n
 <|   1  A fault, which one line on standard error tells, as: transit-desk: stream cut;\n
 <|      or a row was refused\n
 <|   2  Wrong words: one line on standard error tells what was wrong\n
@@ -265,10 +306,13 @@ $ serve --help
 <|   transit-desk report guarantees --country CH --db desk.db\n
 <|   transit-desk check --country CH --db desk.db\n
 <|   transit-desk migrate --db desk.db\n
+<|   transit-desk extract --country CH --db desk.db --holders 000001-000400 --into part.db\n
+<|   transit-desk join --country CH --db desk.db --with part.db\n
 <| \n
 <| Status:\n
 <|   0  Done: the stream ended well, all connections were served, all rows were answered,\n
-<|      the report was written, the file is a desk's, or its tables are of the newest version\n
+<|      the report was written, the file is a desk's, or its tables are of the newest version,\n
+<|      or the rows were copied\n
 <|   1  A fault, which one line on standard error tells, as: transit-desk: stream cut;\n
 <|      or a row was refused\n
 <|   2  Wrong words: one line on standard error tells what was wrong\n
@@ -300,10 +344,13 @@ $ pipe --help
 <|   transit-desk report guarantees --country CH --db desk.db\n
 <|   transit-desk check --country CH --db desk.db\n
 <|   transit-desk migrate --db desk.db\n
+<|   transit-desk extract --country CH --db desk.db --holders 000001-000400 --into part.db\n
+<|   transit-desk join --country CH --db desk.db --with part.db\n
 <| \n
 <| Status:\n
 <|   0  Done: the stream ended well, all connections were served, all rows were answered,\n
-<|      the report was written, the file is a desk's, or its tables are of the newest version\n
+<|      the report was written, the file is a desk's, or its tables are of the newest version,\n
+<|      or the rows were copied\n
 <|   1  A fault, which one line on standard error tells, as: transit-desk: stream cut;\n
 <|      or a row was refused\n
 <|   2  Wrong words: one line on standard error tells what was wrong\n
@@ -337,10 +384,13 @@ $ report --help
 <|   transit-desk report guarantees --country CH --db desk.db\n
 <|   transit-desk check --country CH --db desk.db\n
 <|   transit-desk migrate --db desk.db\n
+<|   transit-desk extract --country CH --db desk.db --holders 000001-000400 --into part.db\n
+<|   transit-desk join --country CH --db desk.db --with part.db\n
 <| \n
 <| Status:\n
 <|   0  Done: the stream ended well, all connections were served, all rows were answered,\n
-<|      the report was written, the file is a desk's, or its tables are of the newest version\n
+<|      the report was written, the file is a desk's, or its tables are of the newest version,\n
+<|      or the rows were copied\n
 <|   1  A fault, which one line on standard error tells, as: transit-desk: stream cut;\n
 <|      or a row was refused\n
 <|   2  Wrong words: one line on standard error tells what was wrong\n
@@ -370,10 +420,13 @@ $ check --help
 <|   transit-desk report guarantees --country CH --db desk.db\n
 <|   transit-desk check --country CH --db desk.db\n
 <|   transit-desk migrate --db desk.db\n
+<|   transit-desk extract --country CH --db desk.db --holders 000001-000400 --into part.db\n
+<|   transit-desk join --country CH --db desk.db --with part.db\n
 <| \n
 <| Status:\n
 <|   0  Done: the stream ended well, all connections were served, all rows were answered,\n
-<|      the report was written, the file is a desk's, or its tables are of the newest version\n
+<|      the report was written, the file is a desk's, or its tables are of the newest version,\n
+<|      or the rows were copied\n
 <|   1  A fault, which one line on standard error tells, as: transit-desk: stream cut;\n
 <|      or a row was refused\n
 <|   2  Wrong words: one line on standard error tells what was wrong\n
@@ -402,10 +455,13 @@ $ migrate --help
 <|   transit-desk report guarantees --country CH --db desk.db\n
 <|   transit-desk check --country CH --db desk.db\n
 <|   transit-desk migrate --db desk.db\n
+<|   transit-desk extract --country CH --db desk.db --holders 000001-000400 --into part.db\n
+<|   transit-desk join --country CH --db desk.db --with part.db\n
 <| \n
 <| Status:\n
 <|   0  Done: the stream ended well, all connections were served, all rows were answered,\n
-<|      the report was written, the file is a desk's, or its tables are of the newest version\n
+<|      the report was written, the file is a desk's, or its tables are of the newest version,\n
+<|      or the rows were copied\n
 <|   1  A fault, which one line on standard error tells, as: transit-desk: stream cut;\n
 <|      or a row was refused\n
 <|   2  Wrong words: one line on standard error tells what was wrong\n

@@ -9,7 +9,7 @@ returns-in-Err-clause-done g c = inl (
   not_read g.M.Machine.known c.args.csv.now c.args.machine.now c.read_file.new.self c.in-Err.why c.in-Err.ensures.unread c.read_file.ensures.stays,
   refl,
   refl,
-  rw c.of_unread.ensures at c.fault.ensures,
+  rw c.of_read_error.ensures at c.fault.ensures,
 )
 
 pub returns-in-Ok-read-clause-done : goal.returns-in-Ok-read-clause-done

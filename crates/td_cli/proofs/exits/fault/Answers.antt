@@ -10,5 +10,9 @@ pub returns-in-NeedsMigration : goal.returns-in-NeedsMigration
 returns-in-NeedsMigration g c =
     rw c.in-NeedsMigration.is (refl, told_made g.E.Write.contents _ _ _ _ string_bytes c.needs_migration_line.result c.needs_migration_line.ensures c.tell_made-in-NeedsMigration.ensures)
 
+pub returns-in-HolderExists : goal.returns-in-HolderExists
+returns-in-HolderExists g c =
+    rw c.in-HolderExists.is (refl, told_made g.E.Write.contents _ _ _ _ string_bytes c.holder_exists_line.result c.holder_exists_line.ensures c.tell_made-in-HolderExists.ensures)
+
 pub returns-in-Of : goal.returns-in-Of
 returns-in-Of g c = rw c.in-Of.is (refl, rw c.line.ensures at c.tell.ensures)

@@ -1,6 +1,6 @@
 use Rattle.std.proofs.Common.{codes}
 use Rattle.clap.specs.Words.{with_subcommand}
-use Rattle.td_words.specs.Words.{bare_app, batch_app, check_app, migrate_app, pipe_app, report_app, serve_app}
+use Rattle.td_words.specs.Words.{bare_app, batch_app, check_app, extract_app, join_app, migrate_app, pipe_app, report_app, serve_app}
 use Rattle.td_words.proofs.options.program.Goals as goal
 
 pub returns : goal.returns
@@ -18,4 +18,8 @@ returns c =
     let fourth = c.with_job-program-4.ensures three acts third c.acts_command.ensures in
     let fifth = c.with_job-program-5.ensures four report_app fourth c.report_command.ensures in
     let sixth = c.with_job-program-6.ensures five check_app fifth c.check_command.ensures in
-    c.with_job.ensures (with_subcommand five check_app.top) migrate_app sixth c.migrate_command.ensures
+    let six = with_subcommand five check_app.top in
+    let seven = with_subcommand six migrate_app.top in
+    let seventh = c.with_job-program-7.ensures six migrate_app sixth c.migrate_command.ensures in
+    let eighth = c.with_job-program-8.ensures seven extract_app seventh c.extract_command.ensures in
+    c.with_job.ensures (with_subcommand seven extract_app.top) join_app eighth c.join_command.ensures

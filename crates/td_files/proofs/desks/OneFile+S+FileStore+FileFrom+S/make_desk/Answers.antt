@@ -2,6 +2,8 @@ use Rattle.std.proofs.Common.{inr, subst, sym}
 use Rattle.sqlite.specs.Files.{file_state}
 use Rattle.sqlite.specs.WalFiles.{image_at}
 use Rattle.td_store_rows.specs.StoreTables.{HoldsContent}
+use Rattle.td_desk.specs.Content.{empty_content}
+use Rattle.td_store_write.specs.Created.{MayLeaveEmpty}
 use Rattle.td_files.proofs.Opening.{blank_then, clean_before, found_there, unmade_for}
 use Rattle.td_files.proofs.desks.OneFile+S+FileStore+FileFrom+S.make_desk.Goals as goal
 
@@ -34,7 +36,8 @@ returns-in-Err-create-clause-refused g c =
       λ clean.
           let was = clean_before found (file_state refused.connection) _ told.crash clean in
           let opened = c.in-Ok.ensures.open was in
-          unmade_for (image_at g.S.Start) c.args.country c.in-Ok.conn refused.connection refused.fault
+          unmade_for (image_at g.S.Start) (empty_content c.args.country) (MayLeaveEmpty c.args.country found) c.in-Ok.conn refused.connection refused.fault
           (found_there (image_at g.S.Start) found opened (c.in-Ok.ensures.found was)) opened.0.is_open c.see_settled.ensures.settled told.crash
+          (λ trees may. may.1)
           told.same told.settled told.fault told.taken clean,
     )

@@ -1,0 +1,96 @@
+//! A desk's file made with what another has of the holders of a range.
+ghost use Rattle.std.specs.Prelude.{◌≡◌, false, is_ok};
+ghost use Rattle.sqlite.specs.Held.{state};
+ghost use Rattle.sqlite.specs.State.{HasCleanDisk};
+ghost use Rattle.sqlite.specs.WalFiles.{image_at};
+ghost use Rattle.td_desk.specs.declared.fault.Fault.TheVariants as fault;
+ghost use Rattle.td_store_rows.specs.StoreReads.{HasNewestTables};
+ghost use Rattle.typed_sql.specs.Outside.{CrashLeavesShown, Looks};
+ghost use Rattle.td_files.specs.Extracted.{IsExtracted, IsPartMade};
+ghost use Rattle.td_files.specs.Found.{IsStoreOrMemory};
+ghost use Rattle.td_store.specs.declared.refused.OpenFault.TheVariants as open_fault;
+
+use crate::desks::DeskFault;
+use crate::files::{DeskFile, OneFile, open_file};
+use sqlite::{Alter, Connection, FileFrom, FileStore, Start};
+use td_base::{Country, HolderNo};
+use td_desk::Fault;
+use td_extract::extract;
+use td_store::OpenFault;
+use typed_sql::see_settled;
+
+// What a file is refused for in which no desk's file was made.
+fn refused(why: Fault) -> OpenFault
+    ensures cause { IsStoreOrMemory result }
+    ensures store { why ≡ fault.Store → result ≡ open_fault.Store }
+{
+    match why {
+        Fault::Store => OpenFault::Store,
+        Fault::NoMemory => OpenFault::NoMemory,
+    }
+}
+
+impl<N: Start> OneFile<N, FileStore<FileFrom<N>>> {
+    // Makes the file at the path, as `extract` says, with what a desk's file has of the holders of a range.
+    fn make_part<S: Alter>(
+        &mut self,
+        rt: &HostRuntime,
+        country: Country,
+        path: &str,
+        from: &mut Connection<S>,
+        first: HolderNo,
+        last: HolderNo,
+    ) -> Result<(), DeskFault>
+        requires outside { from.old.in_transaction ≡ false }
+        requires tables { HasCleanDisk (state S.Store from.old) → HasNewestTables (state S.Store from.old) }
+        ensures ended { from.new.in_transaction ≡ false }
+        ensures looks { Looks (is_ok result) (state S.Store from.old) (state S.Store from.new) }
+        ensures settled { CrashLeavesShown (state S.Store from.new) }
+        ensures made { IsPartMade (image_at N.Start) country first last (state S.Store from.old) (state S.Store from.new) self.old self.new result }
+    {
+        see_settled(from);
+        let Some(start) = self.start.take() else {
+            return Err(DeskFault::File);
+        };
+        let mut to = match open_file(rt, path, true, start) {
+            Ok(conn) => conn,
+            Err(unopened) => return Err(self.note_unopened(unopened)),
+        };
+        see_settled(&to);
+        let result = extract(rt.alloc(), from, &mut to, country, first, last);
+        self.hold(to);
+        match result {
+            Ok(()) => Ok(()),
+            Err(why) => Err(DeskFault::Refused(refused(why))),
+        }
+    }
+}
+
+impl<S: Start> OneFile<S, FileStore<FileFrom<S>>> {
+    /// Makes a new desk's file at `new_path`, of an office of that country, with the rows of the holders with numbers from `first` to
+    /// `last` alone that the desk's file at `path` has. That one is opened as `open_desk` does it, with the same errors, before the new
+    /// one is; it is only read. Of the new file the errors are those of `make_desk`: `File`: it can't be made or opened, is no database, or
+    /// was opened before; `Refused(Store)`: it has a table, another program has it open, or a store failed; `Refused(NoMemory)`: want of
+    /// memory. With an error the new file is as it was found, and a crash leaves that or the whole.
+    pub fn extract<N: Start>(
+        &mut self,
+        rt: &HostRuntime,
+        country: Country,
+        path: &str,
+        first: HolderNo,
+        last: HolderNo,
+        new: &mut DeskFile<N>,
+        new_path: &str,
+    ) -> Result<(), DeskFault>
+        ensures { IsExtracted (image_at S.Start) (image_at N.Start) country first last self.old self.new new.old new.new result }
+    {
+        let desk = match self.open_desk(rt, country, path) {
+            Ok(desk) => desk,
+            Err(why) => return Err(why),
+        };
+        let mut from = desk.close();
+        let result = new.make_part(rt, country, new_path, &mut from, first, last);
+        self.hold(from);
+        result
+    }
+}

@@ -1,0 +1,7 @@
+mod Put
+mod Contents
+mod Beside
+mod Held
+mod Begun
+mod Apart
+mod Walked
