@@ -18,6 +18,7 @@ sys.path[:0] = [os.path.join(os.path.dirname(os.path.realpath(__file__)), it) fo
 sys.dont_write_bytecode = True
 import proxy_stand  # noqa: E402
 from references import grn_of, lettered  # noqa: E402
+from years import MOST  # noqa: E402
 
 # Requests a second in each hour of a day, from midnight on, ten at the most.
 RATES = (0.5, 0.5, 0.5, 0.5, 0.5, 1, 2, 5, 8, 10, 10, 9, 7, 8, 10, 10, 9, 7, 4, 2, 2, 1, 1, 0.5)
@@ -50,8 +51,8 @@ class Requests:
         return {"office": "office", "holder": "000001", "agent": " ".join(f"{it:06}" for it in self.agents)}
 
     def declaration(self):
-        """Of one to three lines, by the first holder three times in ten."""
-        first, self.lodged = self.dice.random() < 0.3, self.lodged + 1
+        """Of one to three lines, by the first holder three times in ten, as long as there are serials for it."""
+        first, self.lodged = self.dice.random() < 0.3 and self.year.first < MOST, self.lodged + 1
         holder = 1 if first or not self.agents else self.dice.choice(self.agents)
         named = self.dice.sample(range(1, self.year.guarantees[holder > 1] + 1), self.dice.randint(1, 3))
         lines = ",".join('{"grn":"%s","code":"AB12","cents":%d}' % (grn_of(holder, it), self.dice.randint(1, 10**6)) for it in named)
