@@ -1,5 +1,6 @@
 """Sockets of this machine, for the programs that measure and test what `serve` tells."""
 import contextlib
+import random
 import socket
 import threading
 
@@ -7,9 +8,11 @@ SECONDS = 60
 
 
 def free_port():
-    with socket.socket() as it:
-        it.bind(("127.0.0.1", 0))
-        return it.getsockname()[1]
+    """A port that nobody has, below those that the kernel gives to connections: else one of these may take it before a program does."""
+    while True:
+        port = random.randrange(15_000, 32_000)
+        with contextlib.suppress(OSError), socket.create_server(("127.0.0.1", port)):
+            return port
 
 
 def told_over(port, sent):
