@@ -1,12 +1,12 @@
 -- A file that was to be brought to the newest version of the tables, and what was told of it.
 use Rattle.std.specs.Prelude.{◌≡◌, ◌⊎◌, ℕ, List, ◌++◌, codes, Option, Some, Result, Ok, Err}
 use Rattle.std.specs.Fmt.{decimal}
-use Rattle.sqlite_wal.specs.Recovery.{Image}
 use Rattle.counted_io.specs.declared.counted.Counted.{Counted}
 use Rattle.sqlite_disk.specs.declared.Disk.{Ghosts}
 use Rattle.td_files.specs.Found.{FileHeld}
 use Rattle.td_files.specs.Upgraded.{IsUpgraded}
 use Rattle.td_files.specs.declared.desks.DeskFault.{DeskFault}
+use Rattle.td_machine.specs.Drive.{KnownDrive}
 use Rattle.td_cli.specs.Exits.{IsEnded, of_file}
 use Rattle.td_cli.specs.Statuses.{IsPrinted}
 use Rattle.td_cli.specs.declared.exits.Cause.TheVariants.{Of}
@@ -25,9 +25,9 @@ IsMigrationTold contents said out out_left errors errors_left (Ok version) statu
 IsMigrationTold contents said out out_left errors errors_left (Err why) status =
     (out_left ≡ out) × IsEnded said (Some (of_file why)) errors errors_left status
 
--- a file that held this was to be brought to the newest version, and what came of it was told
-abbrev pub IsMigrated : {W E Start S : Type 0} {disk : Ghosts S} → (W → Option (List ℕ)) → (E → Option (List ℕ)) → Image
-    → Counted W → Counted W → Counted E → Counted E → FileHeld Start disk → FileHeld Start disk → ℕ → Type 0
-IsMigrated contents said image out out_left errors errors_left before file status =
-    (end : Result ℕ DeskFault) × IsUpgraded image before file end
+-- the file at the path was to be brought to the newest version, and what came of it was told
+abbrev pub IsMigrated : {W E V S : Type 0} {disk : Ghosts S} → (W → Option (List ℕ)) → (E → Option (List ℕ)) → KnownDrive V S → List ℕ
+    → Counted W → Counted W → Counted E → Counted E → FileHeld V disk → FileHeld V disk → ℕ → Type 0
+IsMigrated contents said drive path out out_left errors errors_left before file status =
+    (end : Result ℕ DeskFault) × IsUpgraded drive path before file end
     × IsMigrationTold contents said out out_left errors errors_left end status

@@ -3,7 +3,6 @@ use Rattle.std.specs.Prelude.{◌≡◌, ◌≢◌, ◌⊎◌, ℕ, ℤ, List, c
 use Rattle.std.specs.IoError.{error_kind}
 use Rattle.std.specs.declared.io.Error.{Error}
 use Rattle.std.specs.declared.io.ErrorKind.TheVariants.{OutOfMemory}
-use Rattle.sqlite_wal.specs.Recovery.{Image}
 use Rattle.counted_io.specs.declared.counted.Counted.{Counted}
 use Rattle.sqlite_disk.specs.declared.Disk.{Ghosts}
 use Rattle.td_files.specs.Found.{FileHeld}
@@ -23,6 +22,7 @@ use Rattle.td_machine.specs.Machine.{Around}
 use Rattle.td_jobs.specs.Jobs.{IsUntouched}
 use Rattle.td_jobs.specs.Listening.{ServesAs}
 use Rattle.td_jobs.specs.Piped.{IsPipedAt}
+use Rattle.td_machine.specs.Drive.{KnownDrive}
 use Rattle.td_cli.specs.AtDesk as desks
 use Rattle.td_cli.specs.Batched.{IsBatched}
 use Rattle.td_cli.specs.Migrated.{IsMigrated}
@@ -35,22 +35,22 @@ use Rattle.td_cli.specs.declared.exits.Word.TheVariants.{NoMemory}
 
 -- What a job leaves that serves one stream at a desk whose records stand there, in this country and at this moment or by
 -- the machine's clock: where there was a desk, the stream was served.
-abbrev pub PipesAs : {M R W Start S : Type 0} {disk : Ghosts S} → (M → ℤ → M → Type 0) → (R → Option (List ℕ)) → (W → Option (List ℕ)) → Image
-    → List ℕ → Option ℤ → Records → Counted R → Counted R → Counted W → Counted W → FileHeld Start disk → FileHeld Start disk
+abbrev pub PipesAs : {M R W V S : Type 0} {disk : Ghosts S} → (M → ℤ → M → Type 0) → (R → Option (List ℕ)) → (W → Option (List ℕ)) → KnownDrive V S
+    → List ℕ → Option ℤ → Records → Counted R → Counted R → Counted W → Counted W → FileHeld V disk → FileHeld V disk
     → M → M → Result StreamEnd DeskFault → Type 0
-PipesAs ticks remaining contents image country at records reader reader_left writer writer_left before file machine machine_left end =
-    desks.AtDesk image country records
+PipesAs ticks remaining contents drive country at records reader reader_left writer writer_left before file machine machine_left end =
+    desks.AtDesk drive country records
     (λ D view opened left end.
     IsPipedAt view opened left remaining contents ticks at reader reader_left writer writer_left machine machine_left end)
     (IsUntouched reader reader_left writer writer_left machine machine_left) before file end
 
 -- What a serving leaves at a desk whose records stand there, in this country and at this moment or by the machine's clock:
 -- the input isn't read, and where there was a desk, this is said of how the serving ended.
-abbrev pub IsServing : {M L Reads Writes R W Start S : Type 0} {disk : Ghosts S} → Around M L Reads Writes → (W → Option (List ℕ)) → Image
-    → List ℕ → Option ℤ → Records → Listening → Counted R → Counted R → Counted W → Counted W → FileHeld Start disk → FileHeld Start disk
+abbrev pub IsServing : {M L Reads Writes R W V S : Type 0} {disk : Ghosts S} → Around M L Reads Writes → (W → Option (List ℕ)) → KnownDrive V S
+    → List ℕ → Option ℤ → Records → Listening → Counted R → Counted R → Counted W → Counted W → FileHeld V disk → FileHeld V disk
     → M → M → Result ServingEnd DeskFault → Type 0
-IsServing around contents image country at records listening reader reader_left writer writer_left before file machine machine_left end =
-    desks.AtDesk image country records
+IsServing around contents drive country at records listening reader reader_left writer writer_left before file machine machine_left end =
+    desks.AtDesk drive country records
     (λ D view opened left end.
     (reader_left ≡ reader) × ServesAs view opened left contents around at listening writer writer_left end machine machine_left)
     (IsUntouched reader reader_left writer writer_left machine machine_left) before file end
@@ -64,64 +64,64 @@ IsCheckTold contents said (Err why) out out_left errors errors_left status =
     (out_left ≡ out) × IsEnded said (Some (of_file why)) errors errors_left status
 
 -- Records were tested: a desk of the country was opened where they stand, and left as it was, or there was none; and that was told.
-abbrev pub IsChecked : {W E Start S : Type 0} {disk : Ghosts S} → (W → Option (List ℕ)) → (E → Option (List ℕ)) → Image → List ℕ → Records
-    → Counted W → Counted W → Counted E → Counted E → FileHeld Start disk → FileHeld Start disk → ℕ → Type 0
-IsChecked contents said image country records out out_left errors errors_left before file status =
+abbrev pub IsChecked : {W E V S : Type 0} {disk : Ghosts S} → (W → Option (List ℕ)) → (E → Option (List ℕ)) → KnownDrive V S → List ℕ → Records
+    → Counted W → Counted W → Counted E → Counted E → FileHeld V disk → FileHeld V disk → ℕ → Type 0
+IsChecked contents said drive country records out out_left errors errors_left before file status =
     (end : Result (Unit {0}) DeskFault)
-    × desks.AtDesk image country records (λ D view opened left end. left ≡ opened) (Unit {0}) before file end
+    × desks.AtDesk drive country records (λ D view opened left end. left ≡ opened) (Unit {0}) before file end
     × IsCheckTold contents said end out out_left errors errors_left status
 
 -- A task was done, in this country and at this moment or by the machine's clock, and how it ended was told: one stream from the
--- input to the first writer; connections, for which the input isn't read; a file of rows; a report; or a file was tested, of which
--- the image is what it held. The file is what a connection to it shows before the task and after it, if one is there. A report and a
+-- input to the first writer; connections, for which the input isn't read; a file of rows; a report; or a file was tested. The file is
+-- the one at the path that the task names, on its drive, and what a connection to it shows before the task and after it, if one is there. A report and a
 -- test ask nothing of the machine.
-abbrev pub IsTaskDone : {M L Reads Writes R W E Start S : Type 0} {disk : Ghosts S} → Around M L Reads Writes → (R → Option (List ℕ))
-    → (W → Option (List ℕ)) → (E → Option (List ℕ)) → Image → Task → List ℕ → Option ℤ → Counted R → Counted R → Counted W → Counted W
-    → Counted E → Counted E → FileHeld Start disk → FileHeld Start disk → M → M → ℕ → Type 0
-IsTaskDone around remaining contents said image (Pipe records) country at reader reader_left writer writer_left errors errors_left before file machine machine_left status =
+abbrev pub IsTaskDone : {M L Reads Writes R W E V S : Type 0} {disk : Ghosts S} → Around M L Reads Writes → (R → Option (List ℕ))
+    → (W → Option (List ℕ)) → (E → Option (List ℕ)) → KnownDrive V S → Task → List ℕ → Option ℤ → Counted R → Counted R → Counted W → Counted W
+    → Counted E → Counted E → FileHeld V disk → FileHeld V disk → M → M → ℕ → Type 0
+IsTaskDone around remaining contents said drive (Pipe records) country at reader reader_left writer writer_left errors errors_left before file machine machine_left status =
     (end : Result StreamEnd DeskFault)
-    × PipesAs around.ticks remaining contents image country at records reader reader_left writer writer_left before file machine machine_left end
+    × PipesAs around.ticks remaining contents drive country at records reader reader_left writer writer_left before file machine machine_left end
     × IsEnded said (of_job of_stream end) errors errors_left status
-IsTaskDone around remaining contents said image (Serve listening records) country at reader reader_left writer writer_left errors errors_left before file machine machine_left status =
+IsTaskDone around remaining contents said drive (Serve listening records) country at reader reader_left writer writer_left errors errors_left before file machine machine_left status =
     (end : Result ServingEnd DeskFault)
-    × IsServing around contents image country at records listening reader reader_left writer writer_left before file machine machine_left end
+    × IsServing around contents drive country at records listening reader reader_left writer writer_left before file machine machine_left end
     × IsEnded said (of_job of_serving end) errors errors_left status
-IsTaskDone around remaining contents said image (Batch which csv path) country at reader reader_left writer writer_left errors errors_left before file machine machine_left status =
+IsTaskDone around remaining contents said drive (Batch which csv path) country at reader reader_left writer writer_left errors errors_left before file machine machine_left status =
     (reader_left ≡ reader)
-    × IsBatched around contents said image country at (File path) which (string_bytes csv) writer writer_left errors errors_left before file machine machine_left status
-IsTaskDone around remaining contents said image (Report kind path) country at reader reader_left writer writer_left errors errors_left before file machine machine_left status =
+    × IsBatched around contents said drive country at (File path) which (string_bytes csv) writer writer_left errors errors_left before file machine machine_left status
+IsTaskDone around remaining contents said drive (Report kind path) country at reader reader_left writer writer_left errors errors_left before file machine machine_left status =
     (reader_left ≡ reader) × (machine_left ≡ machine)
-    × IsReportDone contents said image country kind (File path) writer writer_left errors errors_left before file status
-IsTaskDone around remaining contents said image (Check path) country at reader reader_left writer writer_left errors errors_left before file machine machine_left status =
+    × IsReportDone contents said drive country kind (File path) writer writer_left errors errors_left before file status
+IsTaskDone around remaining contents said drive (Check path) country at reader reader_left writer writer_left errors errors_left before file machine machine_left status =
     (reader_left ≡ reader) × (machine_left ≡ machine)
-    × IsChecked contents said image country (File path) writer writer_left errors errors_left before file status
+    × IsChecked contents said drive country (File path) writer writer_left errors errors_left before file status
 
 -- A job was done: a task at a desk of an office; or a file was brought to the newest version, or rows were put from one file into
 -- another, for which the input isn't read and nothing is asked of the machine. The other file is touched by the last alone.
-abbrev pub IsDone : {M L Reads Writes R W E Start Other S T : Type 0} {disk : Ghosts S} {others : Ghosts T} → Around M L Reads Writes
-    → (R → Option (List ℕ)) → (W → Option (List ℕ)) → (E → Option (List ℕ)) → Image → Image → Job → Counted R → Counted R
-    → Counted W → Counted W → Counted E → Counted E → FileHeld Start disk → FileHeld Start disk → FileHeld Other others → FileHeld Other others
+abbrev pub IsDone : {M L Reads Writes R W E V O S T : Type 0} {disk : Ghosts S} {others : Ghosts T} → Around M L Reads Writes
+    → (R → Option (List ℕ)) → (W → Option (List ℕ)) → (E → Option (List ℕ)) → KnownDrive V S → KnownDrive O T → Job → Counted R → Counted R
+    → Counted W → Counted W → Counted E → Counted E → FileHeld V disk → FileHeld V disk → FileHeld O others → FileHeld O others
     → M → M → ℕ → Type 0
-IsDone around remaining contents said image other_image (AtDesk office task) reader reader_left writer writer_left errors errors_left before file other other_left machine machine_left status =
+IsDone around remaining contents said drive other_drive (AtDesk office task) reader reader_left writer writer_left errors errors_left before file other other_left machine machine_left status =
     (other_left ≡ other)
-    × IsTaskDone around remaining contents said image task office.country office.at reader reader_left writer writer_left errors errors_left before file machine machine_left status
-IsDone around remaining contents said image other_image (Migrate path) reader reader_left writer writer_left errors errors_left before file other other_left machine machine_left status =
+    × IsTaskDone around remaining contents said drive task office.country office.at reader reader_left writer writer_left errors errors_left before file machine machine_left status
+IsDone around remaining contents said drive other_drive (Migrate path) reader reader_left writer writer_left errors errors_left before file other other_left machine machine_left status =
     (reader_left ≡ reader) × (machine_left ≡ machine) × (other_left ≡ other)
-    × IsMigrated contents said image writer writer_left errors errors_left before file status
-IsDone around remaining contents said image other_image (Transfer country what) reader reader_left writer writer_left errors errors_left before file other other_left machine machine_left status =
+    × IsMigrated contents said drive (string_bytes path) writer writer_left errors errors_left before file status
+IsDone around remaining contents said drive other_drive (Transfer country what) reader reader_left writer writer_left errors errors_left before file other other_left machine machine_left status =
     (reader_left ≡ reader) × (machine_left ≡ machine) × (writer_left ≡ writer)
-    × IsTransferred said image other_image what country errors errors_left before file other other_left status
+    × IsTransferred said drive other_drive what country errors errors_left before file other other_left status
 
 -- The words ask for a job, which was done in the machine. Or they were given none, for want of memory, or
 -- since they ask for help, or for no task at all: then nothing was read, no file was opened, nothing was asked of the machine, and they
--- were answered. The images are what the files held that the words name, if they name one, or two.
-abbrev pub IsPerformed : {M L Reads Writes R W E Start Other S T : Type 0} {disk : Ghosts S} {others : Ghosts T} → Around M L Reads Writes
-    → (R → Option (List ℕ)) → (W → Option (List ℕ)) → (E → Option (List ℕ)) → Image → Image → List (List ℕ) → Counted R → Counted R
-    → Counted W → Counted W → Counted E → Counted E → FileHeld Start disk → FileHeld Start disk → FileHeld Other others → FileHeld Other others
+-- were answered. The drives are those on which the files are opened that the words name, if they name one, or two.
+abbrev pub IsPerformed : {M L Reads Writes R W E V O S T : Type 0} {disk : Ghosts S} {others : Ghosts T} → Around M L Reads Writes
+    → (R → Option (List ℕ)) → (W → Option (List ℕ)) → (E → Option (List ℕ)) → KnownDrive V S → KnownDrive O T → List (List ℕ) → Counted R → Counted R
+    → Counted W → Counted W → Counted E → Counted E → FileHeld V disk → FileHeld V disk → FileHeld O others → FileHeld O others
     → M → M → ℕ → Type 0
-IsPerformed around remaining contents said image other_image words reader reader_left writer writer_left errors errors_left before file other other_left machine machine_left status =
+IsPerformed around remaining contents said drive other_drive words reader reader_left writer writer_left errors errors_left before file other other_left machine machine_left status =
     ((job : Job) × AsksFor words job
-    × IsDone around remaining contents said image other_image job reader reader_left writer writer_left errors errors_left before file other other_left machine machine_left status)
+    × IsDone around remaining contents said drive other_drive job reader reader_left writer writer_left errors errors_left before file other other_left machine machine_left status)
     ⊎ ((no_job : NoJob) × IsNoJob words no_job × (reader_left ≡ reader) × (file ≡ before) × (other_left ≡ other) × (machine_left ≡ machine)
     × IsAnswered contents said writer writer_left errors errors_left no_job status)
 

@@ -1,6 +1,5 @@
 -- A report on the records in a file, and what was told of it.
 use Rattle.std.specs.Prelude.{◌≡◌, ℕ, List, is_ok, true, Option, None, Some, Result, Ok, Err}
-use Rattle.sqlite_wal.specs.Recovery.{Image}
 use Rattle.counted_io.specs.declared.counted.Counted.{Counted}
 use Rattle.counted_io.specs.Counted.{calls_of, has_failed, HasCalled}
 use Rattle.sqlite_disk.specs.declared.Disk.{Ghosts}
@@ -17,6 +16,7 @@ use Rattle.td_table_model.specs.Listed.{guarantees_listed, movements_listed}
 use Rattle.td_words.specs.declared.words.Records.{Records}
 use Rattle.td_words.specs.declared.words.ReportKind.{ReportKind}
 use Rattle.td_words.specs.declared.words.ReportKind.TheVariants.{Overdue, Guarantees}
+use Rattle.td_machine.specs.Drive.{KnownDrive}
 use Rattle.td_cli.specs.AtDesk.{AtDesk}
 use Rattle.td_cli.specs.Exits.{IsEnded, of_job, of_report}
 use Rattle.td_cli.specs.declared.exits.Cause.{Cause}
@@ -44,10 +44,10 @@ report_cause (Err why) = Some (of_report why)
 
 -- The records that stand there were reported on, of a desk of this country, or nothing was written, since there was no desk; and what
 -- came of it was told.
-abbrev pub IsReportDone : {W E Start S : Type 0} {disk : Ghosts S} → (W → Option (List ℕ)) → (E → Option (List ℕ)) → Image → List ℕ
-    → ReportKind → Records → Counted W → Counted W → Counted E → Counted E → FileHeld Start disk → FileHeld Start disk → ℕ → Type 0
-IsReportDone contents said image country kind records out out_left errors errors_left before file status =
+abbrev pub IsReportDone : {W E V S : Type 0} {disk : Ghosts S} → (W → Option (List ℕ)) → (E → Option (List ℕ)) → KnownDrive V S → List ℕ
+    → ReportKind → Records → Counted W → Counted W → Counted E → Counted E → FileHeld V disk → FileHeld V disk → ℕ → Type 0
+IsReportDone contents said drive country kind records out out_left errors errors_left before file status =
     (end : Result (Result (Unit {0}) ReportFault) DeskFault)
-    × AtDesk image country records (λ D view opened left end. HasReported view opened left contents kind out out_left end) (out_left ≡ out)
+    × AtDesk drive country records (λ D view opened left end. HasReported view opened left contents kind out out_left end) (out_left ≡ out)
     before file end
     × IsEnded said (of_job report_cause end) errors errors_left status

@@ -1,69 +1,67 @@
 //! Batches: a file of rows, done at a desk.
 ghost use Rattle.std.specs.Prelude.{◌≡◌};
-ghost use Rattle.sqlite.specs.WalFiles.{image_at};
 ghost use Rattle.td_jobs.specs.Batched.{commands_of, kind_of};
 ghost use Rattle.td_cli.specs.Batched.{IsBatchAtDesk, IsBatchTold, IsBatched, IsRunTold};
 
 use crate::at_desk::at_desk;
 use crate::exits::{Cause, DONE, FAULT, Word, fault, of_file, of_read_error, of_rows, of_stop};
-use sqlite::Start;
 use std::alloc::Global;
 use std::io::{Read, Write};
 use td_base::{Counted, write_whole};
 use td_batch::BatchRun;
 use td_files::{DeskFault, DeskFile};
 use td_jobs::Rows;
-use td_machine::{Machine, Surroundings};
+use td_machine::{Drive, Machine, Surroundings};
 use td_words::{BatchKind, Office, Records};
 
 /// Does the rows of the machine's file at the path `csv` at a desk of the office whose records stand there, prints what became
 /// of each, and gives the status. The desk's file isn't opened where the rows can't be read. The input isn't read.
-pub(crate) fn batch<M: Machine, S: Start, R: Read, W: Write, E: Write>(
-    rt: &HostRuntime,
+pub(crate) fn batch<M: Machine, V: Drive, R: Read, W: Write, E: Write>(
+    alloc: Global,
     machine: &mut M,
     office: Office,
     kind: BatchKind,
     csv: &str,
     records: &Records,
-    file: &mut DeskFile<S>,
+    file: &mut DeskFile<V>,
     input: &mut Counted<R>,
     out: &mut Counted<W>,
     errors: &mut Counted<E>,
 ) -> u8
     ensures unread { input.new ≡ input.old }
-    ensures done { IsBatched ⟦<M as Surroundings>⟧.around W.contents E.contents (image_at S.Start) office.country office.at records.now kind
+    ensures done { IsBatched ⟦<M as Surroundings>⟧.around W.contents E.contents V.known office.country office.at records.now kind
         csv.now out.old out.new errors.old errors.new file.old file.new machine.old machine.new result }
 {
-    let bytes = match machine.read_file(rt.alloc(), csv) {
+    let bytes = match machine.read_file(alloc, csv) {
         Ok(bytes) => bytes,
-        Err(why) => return fault(rt.alloc(), of_read_error(why), errors),
+        Err(why) => return fault(alloc, of_read_error(why), errors),
     };
-    match Rows::read(rt.alloc(), kind, &bytes) {
+    match Rows::read(alloc, kind, &bytes) {
         Ok(rows) => do_rows(
-            rt, machine, office, &rows, records, file, input, out, errors,
+            alloc, machine, office, &rows, records, file, input, out, errors,
         ),
-        Err(why) => fault(rt.alloc(), of_rows(why), errors),
+        Err(why) => fault(alloc, of_rows(why), errors),
     }
 }
 
 // Does the rows at the desk, and tells what became of them.
-fn do_rows<M: Machine, S: Start, R: Read, W: Write, E: Write>(
-    rt: &HostRuntime,
+fn do_rows<M: Machine, V: Drive, R: Read, W: Write, E: Write>(
+    alloc: Global,
     machine: &mut M,
     office: Office,
     rows: &Rows,
     records: &Records,
-    file: &mut DeskFile<S>,
+    file: &mut DeskFile<V>,
     input: &mut Counted<R>,
     out: &mut Counted<W>,
     errors: &mut Counted<E>,
 ) -> u8
     ensures unread { input.new ≡ input.old }
-    ensures done { IsBatchAtDesk M.ticks W.contents E.contents (image_at S.Start) office.country office.at records.now (kind_of rows.now) (commands_of rows.now)
+    ensures done { IsBatchAtDesk M.ticks W.contents E.contents V.known office.country office.at records.now (kind_of rows.now) (commands_of rows.now)
         out.old out.new errors.old errors.new file.old file.new machine.old machine.new result }
 {
-    let end = at_desk(rt, machine, office, records, file, rows, input, out);
-    tell_batch(rt.alloc(), end, out, errors)
+    let end = at_desk(alloc, machine, office, records, file, rows, input, out);
+    tell_batch(alloc, end, out, errors)
 }
 
 // Tells what became of the rows, or why there was no desk for them, and gives the status.

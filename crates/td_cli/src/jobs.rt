@@ -1,6 +1,5 @@
 //! The jobs of the program.
 ghost use Rattle.std.specs.Prelude.{◌≡◌, map, string_bytes};
-ghost use Rattle.sqlite.specs.WalFiles.{image_at};
 ghost use Rattle.td_cli.specs.Exits.{of_job, of_serving, of_stream};
 ghost use Rattle.td_cli.specs.Performed.{IsDone, IsPerformed, IsTaskDone};
 ghost use Rattle.td_cli.specs.Statuses.{IsAnswered};
@@ -13,34 +12,33 @@ use crate::migrating::migrate;
 use crate::reporting::report;
 use crate::telling::print;
 use crate::transferring::transfer;
-use sqlite::Start;
 use std::alloc::Global;
 use std::io::{Read, Write};
 use td_base::{Counted, write_whole};
 use td_files::{DeskFault, DeskFile};
 use td_http::StreamEnd;
 use td_jobs::{Piping, ServingEnd};
-use td_machine::{HostMachine, Machine, Surroundings};
+use td_machine::{Drive, HostMachine, Machine, Surroundings};
 use td_words::{Job, NoJob, Office, Records, Task, read_words};
 
 /// Does what the words ask for on the machine that the handle stands for, as `perform_on` does, and gives the program's
 /// status.
-pub fn perform<S: Start, O: Start, R: Read, W: Write, E: Write>(
+pub fn perform<V: Drive, O: Drive, R: Read, W: Write, E: Write>(
     rt: &HostRuntime,
     words: &[String],
-    file: &mut DeskFile<S>,
+    file: &mut DeskFile<V>,
     other: &mut DeskFile<O>,
     input: &mut Counted<R>,
     out: &mut Counted<W>,
     errors: &mut Counted<E>,
 ) -> u8
     ensures { (machine : _) × (machine_left : _)
-        × IsPerformed ⟦<HostMachine<'static> as Surroundings>⟧.around R.remaining W.contents E.contents (image_at S.Start) (image_at O.Start)
+        × IsPerformed ⟦<HostMachine<'static> as Surroundings>⟧.around R.remaining W.contents E.contents V.known O.known
         (map string_bytes words.now) input.old input.new out.old out.new errors.old errors.new
         file.old file.new other.old other.new machine machine_left result }
 {
     let machine = &mut HostMachine { rt };
-    perform_on(rt, machine, words, file, other, input, out, errors)
+    perform_on(rt.alloc(), machine, words, file, other, input, out, errors)
 }
 
 /// Does what the words ask for, and gives the program's status. The first word is the program's name; replies
@@ -48,82 +46,86 @@ pub fn perform<S: Start, O: Start, R: Read, W: Write, E: Write>(
 /// written is dropped. The input is read by a job alone. Of the machine the clock is asked, a file of rows is read and a port is
 /// listened on. The desk's file is the one that the words name, if they name one: a job opens it, and hands back a connection to
 /// it, which the caller closes. The other file is that of `--into` or of `--with`: what is done between two files opens it, too.
-pub fn perform_on<M: Machine, S: Start, O: Start, R: Read, W: Write, E: Write>(
-    rt: &HostRuntime,
+pub fn perform_on<M: Machine, V: Drive, O: Drive, R: Read, W: Write, E: Write>(
+    alloc: Global,
     machine: &mut M,
     words: &[String],
-    file: &mut DeskFile<S>,
+    file: &mut DeskFile<V>,
     other: &mut DeskFile<O>,
     input: &mut Counted<R>,
     out: &mut Counted<W>,
     errors: &mut Counted<E>,
 ) -> u8
-    ensures { IsPerformed ⟦<M as Surroundings>⟧.around R.remaining W.contents E.contents (image_at S.Start) (image_at O.Start)
+    ensures { IsPerformed ⟦<M as Surroundings>⟧.around R.remaining W.contents E.contents V.known O.known
         (map string_bytes words.now) input.old input.new out.old out.new errors.old errors.new
         file.old file.new other.old other.new machine.old machine.new result }
 {
-    match read_words(rt.alloc(), words) {
-        Ok(job) => do_job(rt, machine, job, file, other, input, out, errors),
-        Err(no_job) => tell(rt.alloc(), &no_job, out, errors),
+    match read_words(alloc, words) {
+        Ok(job) => do_job(alloc, machine, job, file, other, input, out, errors),
+        Err(no_job) => tell(alloc, &no_job, out, errors),
     }
 }
 
 // Does the job, tells how it ended, and gives the status.
-fn do_job<M: Machine, S: Start, O: Start, R: Read, W: Write, E: Write>(
-    rt: &HostRuntime,
+fn do_job<M: Machine, V: Drive, O: Drive, R: Read, W: Write, E: Write>(
+    alloc: Global,
     machine: &mut M,
     job: Job,
-    file: &mut DeskFile<S>,
+    file: &mut DeskFile<V>,
     other: &mut DeskFile<O>,
     input: &mut Counted<R>,
     out: &mut Counted<W>,
     errors: &mut Counted<E>,
 ) -> u8
-    ensures { IsDone ⟦<M as Surroundings>⟧.around R.remaining W.contents E.contents (image_at S.Start) (image_at O.Start) job
+    ensures { IsDone ⟦<M as Surroundings>⟧.around R.remaining W.contents E.contents V.known O.known job
         input.old input.new out.old out.new errors.old errors.new
         file.old file.new other.old other.new machine.old machine.new result }
 {
     match job {
-        Job::AtDesk(office, task) => do_task(rt, machine, office, task, file, input, out, errors),
-        Job::Migrate(path) => migrate(rt, &path, file, out, errors),
-        Job::Transfer(country, what) => transfer(rt, country, what, file, other, errors),
+        Job::AtDesk(office, task) => do_task(
+            alloc, machine, office, task, file, input, out, errors,
+        ),
+        Job::Migrate(path) => migrate(alloc, &path, file, out, errors),
+        Job::Transfer(country, what) => transfer(alloc, country, what, file, other, errors),
     }
 }
 
 // Does the task at a desk of the office, tells how it ended, and gives the status.
-fn do_task<M: Machine, S: Start, R: Read, W: Write, E: Write>(
-    rt: &HostRuntime,
+fn do_task<M: Machine, V: Drive, R: Read, W: Write, E: Write>(
+    alloc: Global,
     machine: &mut M,
     office: Office,
     task: Task,
-    file: &mut DeskFile<S>,
+    file: &mut DeskFile<V>,
     input: &mut Counted<R>,
     out: &mut Counted<W>,
     errors: &mut Counted<E>,
 ) -> u8
-    ensures { IsTaskDone ⟦<M as Surroundings>⟧.around R.remaining W.contents E.contents (image_at S.Start) task office.country office.at
+    ensures { IsTaskDone ⟦<M as Surroundings>⟧.around R.remaining W.contents E.contents V.known task office.country office.at
         input.old input.new out.old out.new errors.old errors.new
         file.old file.new machine.old machine.new result }
 {
     match task {
         Task::Serve(listening, records) => {
-            let end = at_desk(rt, machine, office, &records, file, &listening, input, out);
-            exit(rt.alloc(), serving_cause(end), errors)
+            let end = at_desk(
+                alloc, machine, office, &records, file, &listening, input, out,
+            );
+            exit(alloc, serving_cause(end), errors)
         }
         Task::Pipe(records) => {
-            let end = at_desk(rt, machine, office, &records, file, &Piping, input, out);
-            exit(rt.alloc(), stream_cause(end), errors)
+            let end = at_desk(alloc, machine, office, &records, file, &Piping, input, out);
+            exit(alloc, stream_cause(end), errors)
         }
         Task::Batch(kind, csv, path) => {
             let records = Records::File(path);
             batch(
-                rt, machine, office, kind, &csv, &records, file, input, out, errors,
+                alloc, machine, office, kind, &csv, &records, file, input, out, errors,
             )
         }
-        Task::Report(kind, path) => report(rt, office.country, kind, path, file, out, errors),
+        Task::Report(kind, path) => report(alloc, office.country, kind, path, file, out, errors),
         Task::Check(path) => {
             let records = Records::File(path);
-            check(rt, machine, office, &records, file, input, out, errors)
+            check(alloc, machine, office, &records, file, input, out, errors)
         }
     }
 }

@@ -34,5 +34,5 @@ pub use run_laws::{
     runs_over_one_file_are_one_run,
 };
 pub use td_files::DeskFile;
-pub use td_machine::{FixedClock, HostMachine, Machine, MachineClock};
+pub use td_machine::{Drive, FixedClock, HostDrive, HostMachine, Machine, MachineClock};
 pub use work_laws::work_over_one_file_is_one_machines;

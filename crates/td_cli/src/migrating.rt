@@ -1,15 +1,14 @@
 //! Files brought to the newest version of the tables.
 ghost use Rattle.std.specs.Prelude.{◌≡◌, IfOk, string_bytes};
-ghost use Rattle.sqlite.specs.WalFiles.{image_at};
 ghost use Rattle.td_cli.specs.Migrated.{IsMigrated, IsMigrationTold, message_of_version};
 
 use crate::exits::{Cause, Word, fault, of_file};
 use crate::telling::print;
-use sqlite::Start;
 use std::alloc::{AllocError, Global};
 use std::io::Write;
 use td_base::Counted;
 use td_files::{DeskFault, DeskFile};
+use td_machine::Drive;
 
 // What is told of the version that a file is of.
 fn version_line(alloc: Global, version: u32) -> Result<String, AllocError>
@@ -19,18 +18,18 @@ fn version_line(alloc: Global, version: u32) -> Result<String, AllocError>
 }
 
 /// Brings the file at the path to the newest version of the tables, tells that version or why it wasn't, and gives the status.
-pub(crate) fn migrate<S: Start, W: Write, E: Write>(
-    rt: &HostRuntime,
+pub(crate) fn migrate<V: Drive, W: Write, E: Write>(
+    alloc: Global,
     path: &str,
-    file: &mut DeskFile<S>,
+    file: &mut DeskFile<V>,
     out: &mut Counted<W>,
     errors: &mut Counted<E>,
 ) -> u8
-    ensures { IsMigrated W.contents E.contents (image_at S.Start) out.old out.new errors.old errors.new
+    ensures { IsMigrated W.contents E.contents V.known path.now out.old out.new errors.old errors.new
         file.old file.new result }
 {
-    let end = file.upgrade(rt, path);
-    tell_migration(rt.alloc(), end, out, errors)
+    let end = file.upgrade(alloc, path);
+    tell_migration(alloc, end, out, errors)
 }
 
 // Tells the version of the file, or why it isn't of the newest, and gives the status. Where there is no memory for the line, that is

@@ -1,17 +1,15 @@
 //! What a `main` calls: the words of the command line as the machine has them, and the program on them.
 ghost use Rattle.std.specs.Prelude.{◌≡◌, map, string_bytes, MatchResult};
-ghost use Rattle.sqlite.specs.WalFiles.{image_at};
 ghost use Rattle.td_cli.specs.Performed.{IsPerformed, IsUnread};
 
 use crate::jobs::perform;
 use crate::telling::unread_words;
-use sqlite::Start;
 use std::env::Env;
 use std::io::{Read, Write};
 use std::{env, io};
 use td_base::Counted;
 use td_files::DeskFile;
-use td_machine::{HostMachine, Surroundings};
+use td_machine::{Drive, HostMachine, Surroundings};
 
 /// The words of the command line, the program's name first. An error: there was no memory for them, or they
 /// aren't UTF-8 text.
@@ -22,10 +20,10 @@ pub fn words_of(rt: &(impl AllocGlobal + Env)) -> io::Result<Vec<String>> {
 /// The program on words that were read, or not: does what they ask for as `perform` does, or says why they
 /// couldn't be read, and gives the status. Replies go to `out`, and what is wrong to `errors`; the files are those that the
 /// words name, that of `--db` first.
-pub fn run_program<S: Start, O: Start, R: Read, W: Write, E: Write>(
+pub fn run_program<V: Drive, O: Drive, R: Read, W: Write, E: Write>(
     rt: &HostRuntime,
     words: io::Result<Vec<String>>,
-    file: &mut DeskFile<S>,
+    file: &mut DeskFile<V>,
     other: &mut DeskFile<O>,
     input: &mut Counted<R>,
     out: &mut Counted<W>,
@@ -33,7 +31,7 @@ pub fn run_program<S: Start, O: Start, R: Read, W: Write, E: Write>(
 ) -> u8
     ensures { MatchResult words
         (λ words. (machine : _) × (machine_left : _)
-        × IsPerformed ⟦<HostMachine<'static> as Surroundings>⟧.around R.remaining W.contents E.contents (image_at S.Start) (image_at O.Start)
+        × IsPerformed ⟦<HostMachine<'static> as Surroundings>⟧.around R.remaining W.contents E.contents V.known O.known
         (map string_bytes words.items) input.old input.new out.old out.new errors.old errors.new
         file.old file.new other.old other.new machine machine_left result)
         (λ error. (input.new ≡ input.old) × (out.new ≡ out.old) × (file.new ≡ file.old) × (other.new ≡ other.old)

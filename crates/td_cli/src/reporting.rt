@@ -1,6 +1,5 @@
 //! Reports on the records in a file.
 ghost use Rattle.std.specs.Prelude.{◌≡◌, is_ok, Err, true};
-ghost use Rattle.sqlite.specs.WalFiles.{image_at};
 ghost use Rattle.td_words.specs.declared.words.Records.TheVariants.{File};
 ghost use Rattle.td_cli.specs.AtDesk.{AtDesk};
 ghost use Rattle.td_cli.specs.Exits.{of_job};
@@ -11,48 +10,49 @@ ghost use Rattle.td_store.specs.Kept.{sql_view};
 ghost use Rattle.td_store.specs.Looked.{HasLooked};
 
 use crate::exits::{Cause, exit, of_file, of_report};
-use sqlite::{Alter, Start};
+use sqlite::Alter;
 use std::alloc::Global;
 use std::io::Write;
 use td_base::{Counted, Country};
 use td_files::{DeskFault, DeskFile};
+use td_machine::Drive;
 use td_reports::{ReportFault, guarantees, overdue};
 use td_store::SqlDesk;
 use td_words::ReportKind;
 
 /// Writes a report on the records of a desk of that country, which stand in the file at the path, tells the fault that ended it, if
 /// any, or why there was no desk, and gives the status. No row is changed.
-pub(crate) fn report<S: Start, W: Write, E: Write>(
-    rt: &HostRuntime,
+pub(crate) fn report<V: Drive, W: Write, E: Write>(
+    alloc: Global,
     country: Country,
     kind: ReportKind,
     path: String,
-    file: &mut DeskFile<S>,
+    file: &mut DeskFile<V>,
     out: &mut Counted<W>,
     errors: &mut Counted<E>,
 ) -> u8
-    ensures { IsReportDone W.contents E.contents (image_at S.Start) country kind (File path) out.old out.new errors.old errors.new
+    ensures { IsReportDone W.contents E.contents V.known country kind (File path) out.old out.new errors.old errors.new
         file.old file.new result }
 {
-    let end = report_on(rt, country, kind, path, file, out);
-    exit(rt.alloc(), cause(end), errors)
+    let end = report_on(alloc, country, kind, path, file, out);
+    exit(alloc, cause(end), errors)
 }
 
 // Writes it, or answers why there was no desk.
-fn report_on<S: Start, W: Write>(
-    rt: &HostRuntime,
+fn report_on<V: Drive, W: Write>(
+    alloc: Global,
     country: Country,
     kind: ReportKind,
     path: String,
-    file: &mut DeskFile<S>,
+    file: &mut DeskFile<V>,
     out: &mut Counted<W>,
 ) -> Result<Result<(), ReportFault>, DeskFault>
-    ensures { AtDesk (image_at S.Start) country (File path)
+    ensures { AtDesk V.known country (File path)
         (λ D view opened left end. HasReported view opened left W.contents kind out.old out.new end) (out.new ≡ out.old)
         file.old file.new result }
 {
-    let mut desk = file.open_desk(rt, country, &path)?;
-    let end = write_report(rt.alloc(), &mut desk, kind, out);
+    let mut desk = file.open_desk(alloc, country, &path)?;
+    let end = write_report(alloc, &mut desk, kind, out);
     file.keep(desk);
     Ok(end)
 }

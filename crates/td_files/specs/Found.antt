@@ -1,14 +1,17 @@
 -- What contracts see of a desk over a file, what it began with by what the file held, and what of that it was refused for. And what is
 -- left of a file that has no desk over it.
-use Rattle.std.specs.Prelude.{◌≡◌, ◌⊎◌, ℕ, List, IsSome, IsTrue, None, Option, Some}
+use Rattle.std.specs.Prelude.{◌≡◌, ◌⊎◌, ℕ, Bool, true, false, List, IsTrue, Option, Some}
 use Rattle.sqlite_disk.specs.declared.Disk as disk
+use Rattle.sqlite_disk.specs.declared.Files.{Files}
 use Rattle.sqlite_wal.specs.Recovery.{Image}
 use Rattle.sqlite_store.specs.declared.store.FileStore.{FileStore}
 use Rattle.sqlite_trees.specs.Tree.{Trees}
 use Rattle.sqlite.specs.Effect.{Database, IsDatabase}
-use Rattle.sqlite.specs.Files.{HoldsDatabase, AreFoundIn, file_state, over_files}
+use Rattle.sqlite.specs.Files.{HoldsDatabase, AreFoundIn, IsCleanLeft, IsOpened, LeavesFiles, file_state, image_of, over_files}
 use Rattle.sqlite.specs.Held.{Held}
+use Rattle.sqlite.specs.Start.{FindsIn}
 use Rattle.sqlite.specs.State.{HasCleanDisk}
+use Rattle.sqlite.specs.declared.file.Leftover.{Leftover}
 use Rattle.td_desk.specs.Content.{Content, empty_content}
 use Rattle.td_desk.specs.View.{DeskView, LeavesOnly}
 use Rattle.td_schema.specs.Tables.{IsEmptyOf, no_schema}
@@ -19,6 +22,7 @@ use Rattle.td_store.specs.Kept.{sql_view}
 use Rattle.td_store.specs.Opened.{TellsDatabase}
 use Rattle.td_store.specs.declared.refused.OpenFault.{OpenFault}
 use Rattle.td_store.specs.declared.refused.OpenFault.TheVariants.{Store, NoMemory}
+use Rattle.td_machine.specs.Drive.{KnownDrive}
 use Rattle.td_files.specs.declared.desks.DeskFault.{DeskFault}
 use Rattle.td_files.specs.declared.desks.DeskFault.TheVariants.{File, Refused}
 use Rattle.td_files.specs.declared.files.OneFile.{OneFile}
@@ -53,6 +57,10 @@ module _ {D : Type 0} {g : disk.Ghosts D} where
   -- the disk under a connection returned what was written so far, while nobody else wrote
   abbrev pub IsClean : FileSeen g → Type 0
   IsClean c = HasCleanDisk (file_state c)
+
+  -- a connection is to the database in files that held this
+  abbrev pub IsConnected : FileSeen g → Image → Type 0
+  IsConnected c image = IsClean c → IsOpened c × FindsIn image (file_state c)
 
   -- A desk was opened over what the file held: a store's tables of the newest version, which hold sound content of this country.
   -- A crash leaves that desk.
@@ -108,24 +116,34 @@ IsOpeningFault why = (why ≡ File) ⊎ ((why ≡ Refused Store) ⊎ (why ≡ Re
 
 -- a file that a program opens, as contracts see it
 abbrev pub FileHeld : Type 0 → {D : Type 0} → disk.Ghosts D → Type 0
-FileHeld S {D} g = OneFile S (FileStore D g)
+FileHeld V {D} g = OneFile V D g
 
-module _ {S D : Type 0} {g : disk.Ghosts D} where
-  -- A file wasn't opened, for this fault. It was opened before, and is as it was; or an opening failed, which shows so (`Unopened`).
-  abbrev pub IsUnopened : FileHeld S g → FileHeld S g → DeskFault → Type 0
-  IsUnopened old new why =
-      ((old.start ≡ None) × (new ≡ old) × (why ≡ File))
-      ⊎ (IsSome new.unopened × (new.connection ≡ old.connection) × IsOpeningFault why)
+module _ {V D : Type 0} {g : disk.Ghosts D} where
+  -- The file at the path was opened on its drive, where it may have been made if that was asked for; and this is so of what it held.
+  abbrev pub FoundAt : KnownDrive V D → List ℕ → Bool → FileHeld V g → FileHeld V g → (Image → Type 0) → Type 0
+  FoundAt known path make old new Says = (files : Files D) × known.opens old.drive path make files new.drive × Says (image_of g files)
+
+  -- The file at the path wasn't opened, for this fault: its drive refused it. Or it was, and its database wasn't: then what is left of it is
+  -- kept, from which a crash leaves what it could before, unless there was no database.
+  abbrev pub IsUnopened : KnownDrive V D → List ℕ → Bool → FileHeld V g → FileHeld V g → DeskFault → Type 0
+  IsUnopened known path make old new why =
+      IsOpeningFault why × (new.connection ≡ old.connection)
+      × ((known.refuses old.drive path make new.drive × (new.unopened ≡ old.unopened))
+      ⊎ ((files : Files D) × known.opens old.drive path make files new.drive
+      × (left : Leftover D g) × (new.unopened ≡ Some left) × (IsCleanLeft left → LeavesFiles files left)))
 
   -- It was opened, and its connection, which was handed back, shows this of it, where its disk is clean.
-  abbrev pub IsHandedBack : (OpenFault → FileSeen g → Type 0) → FileHeld S g → DeskFault → Type 0
+  abbrev pub IsHandedBack : (OpenFault → FileSeen g → Type 0) → FileHeld V g → DeskFault → Type 0
   IsHandedBack Shows new why =
       (fault : OpenFault) × (why ≡ Refused fault) × (c : FileSeen g) × (new.connection ≡ Some c) × (IsClean c → Shows fault c)
 
-  -- no desk was opened over a file, for this fault
-  abbrev pub HasNoDesk : Image → List ℕ → FileHeld S g → FileHeld S g → DeskFault → Type 0
-  HasNoDesk image country old new why = IsUnopened old new why ⊎ IsHandedBack (IsRefusedFor image country) new why
+  -- no desk was opened over the file at the path, for this fault
+  abbrev pub HasNoDesk : KnownDrive V D → List ℕ → List ℕ → FileHeld V g → FileHeld V g → DeskFault → Type 0
+  HasNoDesk known country path old new why =
+      IsUnopened known path false old new why ⊎ FoundAt known path false old new (λ image. IsHandedBack (IsRefusedFor image country) new why)
 
   -- none was made in it
-  abbrev pub HasNoNewDesk : Image → List ℕ → FileHeld S g → FileHeld S g → DeskFault → Type 0
-  HasNoNewDesk image country old new why = IsUnopened old new why ⊎ IsHandedBack (IsUnmadeFor image (empty_content country)) new why
+  abbrev pub HasNoNewDesk : KnownDrive V D → List ℕ → List ℕ → FileHeld V g → FileHeld V g → DeskFault → Type 0
+  HasNoNewDesk known country path old new why =
+      IsUnopened known path true old new why
+      ⊎ FoundAt known path true old new (λ image. IsHandedBack (IsUnmadeFor image (empty_content country)) new why)

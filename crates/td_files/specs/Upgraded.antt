@@ -1,5 +1,5 @@
--- What a file of the machine shows that was to be brought to the newest version of the tables.
-use Rattle.std.specs.Prelude.{◌≡◌, ◌⊎◌, ℕ, IsTrue, IfErr, OnOk, Some, Result, Ok, Err}
+-- What a file shows that was to be brought to the newest version of the tables.
+use Rattle.std.specs.Prelude.{◌≡◌, ◌⊎◌, ℕ, false, List, IsTrue, IfErr, OnOk, Some, Result, Ok, Err}
 use Rattle.sqlite_disk.specs.declared.Disk as disk
 use Rattle.sqlite_wal.specs.Recovery.{Image}
 use Rattle.sqlite_trees.specs.Tree.{Trees}
@@ -11,7 +11,8 @@ use Rattle.td_store.specs.declared.refused.OpenFault.TheVariants as open_fault
 use Rattle.td_migrate.specs.Upgraded.{LeavesWithFault, MayLeaveUpgraded, TellsUpgrade}
 use Rattle.td_migrate.specs.declared.fault.MigrateFault.{MigrateFault}
 use Rattle.td_migrate.specs.declared.fault.MigrateFault.TheVariants.{Damaged, NoMemory, Store, UnknownVersion}
-use Rattle.td_files.specs.Found.{FileHeld, FileSeen, IsClean, IsFoundIn, IsUnopened}
+use Rattle.td_machine.specs.Drive.{KnownDrive}
+use Rattle.td_files.specs.Found.{FileHeld, FileSeen, FoundAt, IsClean, IsFoundIn, IsUnopened}
 use Rattle.td_files.specs.declared.desks.DeskFault.{DeskFault}
 use Rattle.td_files.specs.declared.desks.DeskFault.TheVariants.{Refused}
 
@@ -35,12 +36,13 @@ module _ {D : Type 0} {g : disk.Ghosts D} where
     pub leaves : (trees : Trees) → (file_state c).may_leave trees → (trees ≡ db.trees) ⊎ MayLeaveUpgraded db trees
     pub settled : CrashLeavesShown (file_state c)
 
-module _ {S D : Type 0} {g : disk.Ghosts D} where
-  abbrev pub ShowsUpgradeAt : Image → FileHeld S g → Result ℕ MigrateFault → Type 0
-  ShowsUpgradeAt image left result = (c : FileSeen g) × (left.connection ≡ Some c) × (IsClean c → ShowsUpgrade image c result)
+module _ {V D : Type 0} {g : disk.Ghosts D} where
+  abbrev pub ShowsUpgradeAt : FileHeld V g → Result ℕ MigrateFault → Image → Type 0
+  ShowsUpgradeAt left result image = (c : FileSeen g) × (left.connection ≡ Some c) × (IsClean c → ShowsUpgrade image c result)
 
-  -- A file was to be brought to the newest version, which was this before and is that after it. Or it wasn't opened.
-  abbrev pub IsUpgraded : Image → FileHeld S g → FileHeld S g → Result ℕ DeskFault → Type 0
-  IsUpgraded image before left (Ok version) = ShowsUpgradeAt image left (Ok version)
-  IsUpgraded image before left (Err why) =
-      IsUnopened before left why ⊎ ((fault : MigrateFault) × (why ≡ Refused (refused_as fault)) × ShowsUpgradeAt image left (Err fault))
+  -- The file at the path was to be brought to the newest version, which was this before and is that after it. Or it wasn't opened.
+  abbrev pub IsUpgraded : KnownDrive V D → List ℕ → FileHeld V g → FileHeld V g → Result ℕ DeskFault → Type 0
+  IsUpgraded known path before left (Ok version) = FoundAt known path false before left (ShowsUpgradeAt left (Ok version))
+  IsUpgraded known path before left (Err why) =
+      IsUnopened known path false before left why
+      ⊎ ((fault : MigrateFault) × (why ≡ Refused (refused_as fault)) × FoundAt known path false before left (ShowsUpgradeAt left (Err fault)))

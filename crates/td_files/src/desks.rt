@@ -1,19 +1,19 @@
 //! Desks over files, made and opened.
-ghost use Rattle.std.specs.Prelude.{◌≡◌, Some, IfOk, IfErr};
-ghost use Rattle.sqlite.specs.WalFiles.{image_at};
-ghost use Rattle.td_files.specs.Found.{HasNoDesk, HasNoNewDesk, IsClean, IsCreatedDesk, IsKeptDesk, IsOpenedDesk, IsOpeningFault};
+ghost use Rattle.std.specs.Prelude.{◌≡◌, true, false, Some, IfOk, IfErr};
+ghost use Rattle.td_files.specs.Found.{FoundAt, HasNoDesk, HasNoNewDesk, IsClean, IsCreatedDesk, IsKeptDesk, IsOpenedDesk, IsOpeningFault};
 ghost use Rattle.td_files.specs.declared.desks.DeskFault.TheVariants as fault;
 
-use crate::connecting::Unopened;
-use crate::files::{OneFile, open_file};
-use sqlite::{Error, ErrorCode, FileFrom, FileStore, Start};
+use crate::files::OneFile;
+use sqlite::{Error, ErrorCode, FileStore};
+use std::alloc::Global;
 use td_base::Country;
+use td_machine::{Drive, OpenFileError};
 use td_store::{OpenFault, Refused, SqlDesk, what_a_crash_leaves_opens};
 use thiserror::Error as AsError;
 use typed_sql::see_settled;
 
-/// A desk over a file of the machine. `S` stands for what the file held as it was opened.
-pub type FileDesk<S> = SqlDesk<FileStore<FileFrom<S>>>;
+/// A desk over a file of a drive.
+pub type FileDesk<V> = SqlDesk<FileStore<<V as Drive>::Disk>>;
 
 /// Why there is no desk over a file. Its line is what the program prints.
 #[derive(Clone, Copy, Debug, PartialEq, Eq, AsError)]
@@ -26,8 +26,19 @@ pub enum DeskFault {
     Refused(OpenFault),
 }
 
-// Why a file wasn't opened.
-fn file_fault(error: &Error) -> DeskFault
+/// Why a drive didn't open a file.
+pub(crate) fn refused_by(error: OpenFileError) -> DeskFault
+    ensures { IsOpeningFault result }
+{
+    match error {
+        OpenFileError::File => DeskFault::File,
+        OpenFileError::Busy => DeskFault::Refused(OpenFault::Store),
+        OpenFileError::NoMemory => DeskFault::Refused(OpenFault::NoMemory),
+    }
+}
+
+/// Why the database in a file wasn't opened.
+pub(crate) fn file_fault(error: &Error) -> DeskFault
     ensures { IsOpeningFault result }
 {
     match error {
@@ -37,22 +48,12 @@ fn file_fault(error: &Error) -> DeskFault
     }
 }
 
-impl<S: Start> OneFile<S, FileStore<FileFrom<S>>> {
-    // Notes that the file wasn't opened, and says why.
-    pub(crate) fn note_unopened(&mut self, unopened: Unopened<S>) -> DeskFault
-        ensures fault { IsOpeningFault result }
-        ensures noted { self.new.unopened ≡ Some unopened }
-        ensures connection { self.new.connection ≡ self.old.connection }
-    {
-        let why = file_fault(unopened.error());
-        self.unopened = Some(unopened);
-        why
-    }
-
+impl<V: Drive> OneFile<V, <V as Drive>::Disk> {
     // Takes a connection back that was refused, and says why it was.
-    fn turn_away(&mut self, refused: Refused<FileStore<FileFrom<S>>>) -> DeskFault
+    fn turn_away(&mut self, refused: Refused<FileStore<<V as Drive>::Disk>>) -> DeskFault
         ensures fault { result ≡ fault.Refused refused.fault }
         ensures handed { self.new.connection ≡ Some refused.connection }
+        ensures drive { self.new.drive ≡ self.old.drive }
     {
         let Refused { fault, connection } = refused;
         self.hold(connection);
@@ -60,54 +61,48 @@ impl<S: Start> OneFile<S, FileStore<FileFrom<S>>> {
     }
 
     /// Opens the desk of an office of that country over the file at the path, which has to be there and have a desk's tables.
-    /// `File`: it isn't there, can't be opened, is no database, or this file was opened before; `Refused`: its database is
+    /// `File`: it isn't there, can't be opened, is no database, or the drive opens no second file; `Refused`: its database is
     /// refused by `SqlDesk::open`, there was no memory, or another program has the file open (`Store`). Where it was opened, the
     /// connection is kept with a refusal, and shows what was found, as does what a crash leaves: no row in the file is changed; a
-    /// file of no bytes becomes a database without tables. Where it couldn't be opened, `unopened` says so.
+    /// file of no bytes becomes a database without tables. Where its database couldn't be opened, `unopened` has what is left of it.
     pub fn open_desk(
         &mut self,
-        rt: &HostRuntime,
+        alloc: Global,
         country: Country,
         path: &str,
-    ) -> Result<FileDesk<S>, DeskFault>
-        ensures kept { IfOk result (λ desk. IsClean desk → IsOpenedDesk (image_at S.Start) country desk) }
-        ensures refused { IfErr result (HasNoDesk (image_at S.Start) country self.old self.new) }
+    ) -> Result<FileDesk<V>, DeskFault>
+        ensures kept { IfOk result (λ desk. FoundAt V.known path.now false self.old self.new (λ image. IsClean desk → IsOpenedDesk image country desk)) }
+        ensures refused { IfErr result (HasNoDesk V.known country path.now self.old self.new) }
     {
-        let Some(start) = self.start.take() else {
-            return Err(DeskFault::File);
-        };
-        let conn = match open_file(rt, path, false, start) {
+        let conn = match self.open(alloc, path, false) {
             Ok(conn) => conn,
-            Err(unopened) => return Err(self.note_unopened(unopened)),
+            Err(why) => return Err(why),
         };
         see_settled(&conn);
-        what_a_crash_leaves_opens::<FileStore<FileFrom<S>>>();
-        match SqlDesk::open(rt.alloc(), conn, country) {
+        what_a_crash_leaves_opens::<FileStore<<V as Drive>::Disk>>();
+        match SqlDesk::open(alloc, conn, country) {
             Ok(desk) => Ok(desk),
             Err(refused) => Err(self.turn_away(refused)),
         }
     }
 
     /// Makes a desk of an office of that country, which has no holders yet, in the file at the path: a new file, or one whose
-    /// database has no table. `File`: it can't be made or opened, is no database, or this file was opened before;
+    /// database has no table. `File`: it can't be made or opened, is no database, or the drive opens no second file;
     /// `Refused(Store)`: it has a table, another program has it open, or the store failed; `Refused(NoMemory)`: want of memory.
     /// Where it was opened, the connection is kept with a refusal, and shows what was found. A crash leaves that; or the empty desk,
-    /// where a fault shut the connection. Where it couldn't be opened, `unopened` says so.
+    /// where a fault shut the connection. Where its database couldn't be opened, `unopened` has what is left of it.
     pub fn make_desk(
         &mut self,
-        rt: &HostRuntime,
+        alloc: Global,
         country: Country,
         path: &str,
-    ) -> Result<FileDesk<S>, DeskFault>
-        ensures made { IfOk result (λ desk. IsClean desk → IsCreatedDesk (image_at S.Start) country desk) }
-        ensures refused { IfErr result (HasNoNewDesk (image_at S.Start) country self.old self.new) }
+    ) -> Result<FileDesk<V>, DeskFault>
+        ensures made { IfOk result (λ desk. FoundAt V.known path.now true self.old self.new (λ image. IsClean desk → IsCreatedDesk image country desk)) }
+        ensures refused { IfErr result (HasNoNewDesk V.known country path.now self.old self.new) }
     {
-        let Some(start) = self.start.take() else {
-            return Err(DeskFault::File);
-        };
-        let conn = match open_file(rt, path, true, start) {
+        let conn = match self.open(alloc, path, true) {
             Ok(conn) => conn,
-            Err(unopened) => return Err(self.note_unopened(unopened)),
+            Err(why) => return Err(why),
         };
         see_settled(&conn);
         match SqlDesk::create(conn, country) {
@@ -118,9 +113,10 @@ impl<S: Start> OneFile<S, FileStore<FileFrom<S>>> {
 
     /// Takes the desk's connection back, once its job is done: it is to a desk's file, as far as its disk is clean and no fault
     /// has shut it.
-    pub fn keep(&mut self, desk: FileDesk<S>)
+    pub fn keep(&mut self, desk: FileDesk<V>)
         ensures there { self.new.connection ≡ Some desk }
         ensures kept { IsKeptDesk desk }
+        ensures drive { self.new.drive ≡ self.old.drive }
     {
         self.hold(desk.close());
     }

@@ -2,7 +2,6 @@
 ghost use Rattle.std.specs.Prelude.{◌≡◌, false, is_ok};
 ghost use Rattle.sqlite.specs.Held.{state};
 ghost use Rattle.sqlite.specs.State.{HasCleanDisk};
-ghost use Rattle.sqlite.specs.WalFiles.{image_at};
 ghost use Rattle.td_desk.specs.declared.fault.Fault.TheVariants as fault;
 ghost use Rattle.td_store_rows.specs.StoreReads.{HasNewestTables};
 ghost use Rattle.typed_sql.specs.Outside.{CrashLeavesShown, Looks};
@@ -11,11 +10,13 @@ ghost use Rattle.td_files.specs.Found.{IsStoreOrMemory};
 ghost use Rattle.td_store.specs.declared.refused.OpenFault.TheVariants as open_fault;
 
 use crate::desks::DeskFault;
-use crate::files::{DeskFile, OneFile, open_file};
-use sqlite::{Alter, Connection, FileFrom, FileStore, Start};
+use crate::files::{DeskFile, OneFile};
+use sqlite::{Alter, Connection};
+use std::alloc::Global;
 use td_base::{Country, HolderNo};
 use td_desk::Fault;
 use td_extract::extract;
+use td_machine::Drive;
 use td_store::OpenFault;
 use typed_sql::see_settled;
 
@@ -30,11 +31,11 @@ fn refused(why: Fault) -> OpenFault
     }
 }
 
-impl<N: Start> OneFile<N, FileStore<FileFrom<N>>> {
+impl<N: Drive> OneFile<N, <N as Drive>::Disk> {
     // Makes the file at the path, as `extract` says, with what a desk's file has of the holders of a range.
     fn make_part<S: Alter>(
         &mut self,
-        rt: &HostRuntime,
+        alloc: Global,
         country: Country,
         path: &str,
         from: &mut Connection<S>,
@@ -46,18 +47,15 @@ impl<N: Start> OneFile<N, FileStore<FileFrom<N>>> {
         ensures ended { from.new.in_transaction ≡ false }
         ensures looks { Looks (is_ok result) (state S.Store from.old) (state S.Store from.new) }
         ensures settled { CrashLeavesShown (state S.Store from.new) }
-        ensures made { IsPartMade (image_at N.Start) country first last (state S.Store from.old) (state S.Store from.new) self.old self.new result }
+        ensures made { IsPartMade N.known country first last path.now (state S.Store from.old) (state S.Store from.new) self.old self.new result }
     {
         see_settled(from);
-        let Some(start) = self.start.take() else {
-            return Err(DeskFault::File);
-        };
-        let mut to = match open_file(rt, path, true, start) {
+        let mut to = match self.open(alloc, path, true) {
             Ok(conn) => conn,
-            Err(unopened) => return Err(self.note_unopened(unopened)),
+            Err(why) => return Err(why),
         };
         see_settled(&to);
-        let result = extract(rt.alloc(), from, &mut to, country, first, last);
+        let result = extract(alloc, from, &mut to, country, first, last);
         self.hold(to);
         match result {
             Ok(()) => Ok(()),
@@ -66,15 +64,15 @@ impl<N: Start> OneFile<N, FileStore<FileFrom<N>>> {
     }
 }
 
-impl<S: Start> OneFile<S, FileStore<FileFrom<S>>> {
+impl<V: Drive> OneFile<V, <V as Drive>::Disk> {
     /// Makes a new desk's file at `new_path`, of an office of that country, with the rows of the holders with numbers from `first` to
     /// `last` alone that the desk's file at `path` has. That one is opened as `open_desk` does it, with the same errors, before the new
     /// one is; it is only read. Of the new file the errors are those of `make_desk`: `File`: it can't be made or opened, is no database, or
-    /// was opened before; `Refused(Store)`: it has a table, another program has it open, or a store failed; `Refused(NoMemory)`: want of
+    /// its drive opens no second file; `Refused(Store)`: it has a table, another program has it open, or a store failed; `Refused(NoMemory)`: want of
     /// memory. With an error the new file is as it was found, and a crash leaves that or the whole.
-    pub fn extract<N: Start>(
+    pub fn extract<N: Drive>(
         &mut self,
-        rt: &HostRuntime,
+        alloc: Global,
         country: Country,
         path: &str,
         first: HolderNo,
@@ -82,14 +80,14 @@ impl<S: Start> OneFile<S, FileStore<FileFrom<S>>> {
         new: &mut DeskFile<N>,
         new_path: &str,
     ) -> Result<(), DeskFault>
-        ensures { IsExtracted (image_at S.Start) (image_at N.Start) country first last self.old self.new new.old new.new result }
+        ensures { IsExtracted V.known N.known country first last path.now new_path.now self.old self.new new.old new.new result }
     {
-        let desk = match self.open_desk(rt, country, path) {
+        let desk = match self.open_desk(alloc, country, path) {
             Ok(desk) => desk,
             Err(why) => return Err(why),
         };
         let mut from = desk.close();
-        let result = new.make_part(rt, country, new_path, &mut from, first, last);
+        let result = new.make_part(alloc, country, new_path, &mut from, first, last);
         self.hold(from);
         result
     }

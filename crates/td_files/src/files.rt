@@ -1,51 +1,89 @@
-//! The file of the machine that a program opens, by its path.
-ghost use Rattle.std.specs.Prelude.{◌≡◌, false, None, Some, IfOk, IfSome, MatchOption};
-ghost use Rattle.sqlite.specs.Files.{IsOpened, file_state};
-ghost use Rattle.sqlite.specs.Start.{FindsIn};
-ghost use Rattle.sqlite.specs.State.{HasCleanDisk};
-ghost use Rattle.sqlite.specs.WalFiles.{image_at};
+//! The file in which a desk's records stand, opened by its path.
+ghost use Rattle.std.specs.Prelude.{◌≡◌, false, None, Some, IfErr, IfOk, IfSome, MatchOption};
 ghost use Rattle.td_files.specs.Closed.{IsClosedFrom};
+ghost use Rattle.td_files.specs.Found.{FoundAt, IsConnected, IsOpeningFault, IsUnopened};
 
-use crate::cache::cached_pages;
-use crate::connecting::{CANNOT_OPEN, FileConnection, Unopened, connect};
-use sqlite::{Alter, Connection, Error, ErrorCode, FileFrom, FileStore, Files, Start};
-use std::fs;
+use crate::desks::{DeskFault, file_fault, refused_by};
+use sqlite::{Connection, Error, ErrorCode, FileStore, Files, Leftover};
+use sqlite_disk::Disk;
+use std::alloc::Global;
+use td_machine::{Drive, OpenedFile};
 
-/// The one file that a program opens, and what is left of it after a job.
+/// One file that a program opens, and what is left of it after a job.
 #[derive(Drop)]
-pub struct OneFile<S, T: Alter> {
-    /// What stands for what it held as it was opened; it is taken then.
-    pub start: Option<S>,
-    /// That it couldn't be opened, where that is so.
-    pub unopened: Option<Unopened<S>>,
+pub struct OneFile<V, D: Disk> {
+    /// What opens it by its path.
+    pub drive: V,
+    /// What is left of it, if it was opened and holds no database that can be opened.
+    pub unopened: Option<Leftover<D>>,
     /// The connection that a job handed back, whether it had a desk over it or was refused one.
-    pub connection: Option<Connection<T>>,
+    pub connection: Option<Connection<FileStore<D>>>,
 }
 
-/// One file of the machine. `S` stands for what it held as it was opened.
-pub type DeskFile<S> = OneFile<S, FileStore<FileFrom<S>>>;
+/// One file of a drive.
+pub type DeskFile<V> = OneFile<V, <V as Drive>::Disk>;
+
+/// A connection to the database in a file of a drive.
+pub type FileConnection<V> = Connection<FileStore<<V as Drive>::Disk>>;
 
 /// What a file that was open is closed to: its log and its database file, or why the one wasn't copied into the other.
-pub type Closed<S> = Result<Files<FileFrom<S>>, (Error, FileStore<FileFrom<S>>)>;
+pub type Closed<D> = Result<Files<D>, (Error, FileStore<D>)>;
 
-impl<S: Start> OneFile<S, FileStore<FileFrom<S>>> {
+impl<V: Drive> OneFile<V, <V as Drive>::Disk> {
     /// A file that isn't opened yet.
-    pub fn new(start: S) -> Self
-        ensures start { result.start ≡ Some start }
+    pub fn new(drive: V) -> Self
+        ensures drive { result.drive ≡ drive }
         ensures unopened { result.unopened ≡ None }
         ensures connection { result.connection ≡ None }
     {
         OneFile {
-            start: Some(start),
+            drive,
             unopened: None,
             connection: None,
         }
     }
 
+    // Opens the database in the file at the path. With `make` a file that isn't there is made; else it has to be there. Beside a file
+    // that is no database no empty log is left that wasn't there.
+    pub(crate) fn open(
+        &mut self,
+        alloc: Global,
+        path: &str,
+        make: bool,
+    ) -> Result<FileConnection<V>, DeskFault>
+        ensures opened { IfOk result (λ conn. FoundAt V.known path.now make self.old self.new (IsConnected conn)) }
+        ensures ended { IfOk result (λ conn. conn.in_transaction ≡ false) }
+        ensures unopened { IfErr result (IsUnopened V.known path.now make self.old self.new) }
+    {
+        let OpenedFile { files, options } = match self.drive.open(path, make) {
+            Ok(opened) => opened,
+            Err(why) => return Err(refused_by(why)),
+        };
+        match Connection::open_files(alloc, files, options) {
+            Ok(conn) => Ok(conn),
+            Err((error, left)) => Err(self.leave(&error, left)),
+        }
+    }
+
+    // Keeps what is left of a file whose database wasn't opened for this error, and says why it wasn't.
+    fn leave(&mut self, error: &Error, left: Leftover<<V as Drive>::Disk>) -> DeskFault
+        ensures fault { IsOpeningFault result }
+        ensures kept { self.new.unopened ≡ Some left }
+        ensures drive { self.new.drive ≡ self.old.drive }
+        ensures connection { self.new.connection ≡ self.old.connection }
+    {
+        if let Error::SqliteFailure(ErrorCode::NotADatabase) = error {
+            self.drive.discard_new_log();
+        }
+        self.unopened = Some(left);
+        file_fault(error)
+    }
+
     // Keeps a connection that is handed back. It lets go of the one before, if there was one, which no other function does: the proof
-    // of that is long at the type of a file of the machine.
-    pub(crate) fn hold(&mut self, connection: FileConnection<S>)
-        ensures { self.new.connection ≡ Some connection }
+    // of that is long at the type of a file of the file system.
+    pub(crate) fn hold(&mut self, connection: FileConnection<V>)
+        ensures connection { self.new.connection ≡ Some connection }
+        ensures drive { self.new.drive ≡ self.old.drive }
     {
         self.connection = Some(connection);
     }
@@ -53,66 +91,18 @@ impl<S: Start> OneFile<S, FileStore<FileFrom<S>>> {
     /// Closes the file, if it is open: what its log holds is copied into it. Whatever was committed is kept, also where that
     /// fails: it is in the log then, and the next open finds it there. It hands back the two files, or why they weren't copied and
     /// the store over them, so that contracts can say what is in them; they are closed as they are dropped.
-    pub fn close(self) -> Option<Closed<S>>
+    pub fn close(self) -> Option<Closed<<V as Drive>::Disk>>
         ensures none { self.connection ≡ None → result ≡ None }
         ensures closed { IfSome self.connection (λ c. MatchOption result ⊥ (IsClosedFrom c)) }
     {
         let OneFile {
-            start: _,
+            drive: _,
             unopened: _,
             connection,
         } = self;
         match connection {
             Some(connection) => Some(connection.close_files()),
             None => None,
-        }
-    }
-}
-
-// The name of the log of the file at the path, where the file is there and has no log.
-fn missing_log(rt: &HostRuntime, path: &str) -> Option<String> {
-    let file = fs::canonicalize(rt, path).ok()?;
-    let log = format!(in rt.alloc(); "{}-wal", file.as_str()).ok()?;
-    match fs::exists(rt, &log) {
-        Ok(false) => Some(log),
-        _ => None,
-    }
-}
-
-// Takes a log away that was made beside a file, if it is empty.
-fn remove_empty(rt: &HostRuntime, log: &str) {
-    if fs::metadata(rt, log).is_ok_and(|log| log.len() == 0) {
-        let _removed = fs::remove_file(rt, log);
-    }
-}
-
-/// Opens the database in the file at the path. With `is_new` a file that isn't there is made; else it has to be there. An error
-/// is want of memory (`OutOfMemory`), another program that has the file open (`DatabaseBusy`), or why the file can't be opened:
-/// beside one that is no database (`NotADatabase`) no empty log is left that wasn't there.
-pub(crate) fn open_file<S: Start>(
-    rt: &HostRuntime,
-    path: &str,
-    is_new: bool,
-    start: S,
-) -> Result<FileConnection<S>, Unopened<S>>
-    ensures open { IfOk result (λ conn. HasCleanDisk (file_state conn) → IsOpened conn) }
-    ensures found { IfOk result (λ conn. HasCleanDisk (file_state conn) → FindsIn (image_at S.Start) (file_state conn)) }
-    ensures ended { IfOk result (λ conn. conn.in_transaction ≡ false) }
-{
-    if !is_new && !fs::exists(rt, path).unwrap_or(false) {
-        return Err(Unopened::given_up(start, CANNOT_OPEN));
-    }
-    let log = missing_log(rt, path);
-    match connect(rt, path, cached_pages(rt, path), start) {
-        Ok(conn) => Ok(conn),
-        Err(unopened) => {
-            if let (Error::SqliteFailure(ErrorCode::NotADatabase), Some(log)) = (
-                unopened.error(),
-                &log,
-            ) {
-                remove_empty(rt, log);
-            }
-            Err(unopened)
         }
     }
 }

@@ -1,15 +1,16 @@
 //! One desk's file put into another.
 ghost use Rattle.std.specs.Prelude.{◌≡◌, false};
 ghost use Rattle.sqlite.specs.Held.{state};
-ghost use Rattle.sqlite.specs.WalFiles.{image_at};
 ghost use Rattle.typed_sql.specs.Outside.{CrashLeavesShown};
 ghost use Rattle.td_files.specs.Joined.{IsJoined, IsPutInto, refused_for};
 
 use crate::desks::DeskFault;
 use crate::files::{DeskFile, OneFile};
-use sqlite::{Alter, Connection, FileFrom, FileStore, Start};
+use sqlite::{Alter, Connection};
+use std::alloc::Global;
 use td_base::{Country, HolderNo};
 use td_join::{JoinFault, join};
+use td_machine::Drive;
 use td_store::OpenFault;
 use typed_sql::see_settled;
 
@@ -33,11 +34,11 @@ fn refused(why: JoinFault) -> JoinRefusal
     }
 }
 
-impl<O: Start> OneFile<O, FileStore<FileFrom<O>>> {
+impl<O: Drive> OneFile<O, <O as Drive>::Disk> {
     // Puts what the desk's file at the path holds into another desk's, as `join` says.
     fn put_into<T: Alter>(
         &mut self,
-        rt: &HostRuntime,
+        alloc: Global,
         country: Country,
         path: &str,
         to: &mut Connection<T>,
@@ -45,15 +46,15 @@ impl<O: Start> OneFile<O, FileStore<FileFrom<O>>> {
         requires outside { to.old.in_transaction ≡ false }
         ensures ended { to.new.in_transaction ≡ false }
         ensures settled { CrashLeavesShown (state T.Store to.new) }
-        ensures put { IsPutInto T.Store (image_at O.Start) country self.old self.new to.old to.new result }
+        ensures put { IsPutInto T.Store O.known country path.now self.old self.new to.old to.new result }
     {
         see_settled(to);
-        let desk = match self.open_desk(rt, country, path) {
+        let desk = match self.open_desk(alloc, country, path) {
             Ok(desk) => desk,
             Err(why) => return Err(JoinRefusal::File(why)),
         };
         let mut from = desk.close();
-        let result = join(rt.alloc(), &mut from, to);
+        let result = join(alloc, &mut from, to);
         self.hold(from);
         match result {
             Ok(()) => Ok(()),
@@ -62,27 +63,27 @@ impl<O: Start> OneFile<O, FileStore<FileFrom<O>>> {
     }
 }
 
-impl<S: Start> OneFile<S, FileStore<FileFrom<S>>> {
+impl<V: Drive> OneFile<V, <V as Drive>::Disk> {
     /// Puts the rows of all holders of the desk's file at `other_path` into the one at `path`, both of offices of that country. They
     /// are opened as `open_desk` does it, with the same errors, the one at `path` first; the other is only read. `HolderExists`: a holder
     /// stands in both, the one with the least number. `Refused(Store)`, too: a store failed; `Refused(NoMemory)`: want of memory. With an
     /// error the file at `path` is as it was, and a crash leaves that or the whole.
-    pub fn join<O: Start>(
+    pub fn join<O: Drive>(
         &mut self,
-        rt: &HostRuntime,
+        alloc: Global,
         country: Country,
         path: &str,
         other: &mut DeskFile<O>,
         other_path: &str,
     ) -> Result<(), JoinRefusal>
-        ensures { IsJoined (image_at S.Start) (image_at O.Start) country self.old self.new other.old other.new result }
+        ensures { IsJoined V.known O.known country path.now other_path.now self.old self.new other.old other.new result }
     {
-        let desk = match self.open_desk(rt, country, path) {
+        let desk = match self.open_desk(alloc, country, path) {
             Ok(desk) => desk,
             Err(why) => return Err(JoinRefusal::File(why)),
         };
         let mut to = desk.close();
-        let result = other.put_into(rt, country, other_path, &mut to);
+        let result = other.put_into(alloc, country, other_path, &mut to);
         self.hold(to);
         result
     }

@@ -1,12 +1,12 @@
 //! Files brought to the newest version of the tables.
 ghost use Rattle.std.specs.Prelude.{◌≡◌};
-ghost use Rattle.sqlite.specs.WalFiles.{image_at};
 ghost use Rattle.td_files.specs.declared.desks.DeskFault.TheVariants as fault;
 ghost use Rattle.td_files.specs.Upgraded.{IsUpgraded, refused_as};
 
 use crate::desks::DeskFault;
-use crate::files::{OneFile, open_file};
-use sqlite::{FileFrom, FileStore, Start};
+use crate::files::OneFile;
+use std::alloc::Global;
+use td_machine::Drive;
 use td_migrate::{MigrateFault, upgrade};
 use td_store::OpenFault;
 use typed_sql::see_settled;
@@ -23,23 +23,20 @@ fn refused(why: MigrateFault) -> DeskFault
     })
 }
 
-impl<S: Start> OneFile<S, FileStore<FileFrom<S>>> {
+impl<V: Drive> OneFile<V, <V as Drive>::Disk> {
     /// Brings the database in the file at the path, which has to be there and have a desk's tables of any version, to the newest
-    /// version, and answers that. `File`: it isn't there, can't be opened, is no database, or this file was opened before; `Refused`:
+    /// version, and answers that. `File`: it isn't there, can't be opened, is no database, or the drive opens no second file; `Refused`:
     /// as `td_migrate::upgrade` says, there was no memory, or another program has the file open (`Store`). The connection is kept: with
     /// a fault it shows what was found, or what the first of two steps made of that, unless the fault shut it.
-    pub fn upgrade(&mut self, rt: &HostRuntime, path: &str) -> Result<u32, DeskFault>
-        ensures { IsUpgraded (image_at S.Start) self.old self.new result }
+    pub fn upgrade(&mut self, alloc: Global, path: &str) -> Result<u32, DeskFault>
+        ensures { IsUpgraded V.known path.now self.old self.new result }
     {
-        let Some(start) = self.start.take() else {
-            return Err(DeskFault::File);
-        };
-        let mut conn = match open_file(rt, path, false, start) {
+        let mut conn = match self.open(alloc, path, false) {
             Ok(conn) => conn,
-            Err(unopened) => return Err(self.note_unopened(unopened)),
+            Err(why) => return Err(why),
         };
         see_settled(&conn);
-        let result = upgrade(rt.alloc(), &mut conn);
+        let result = upgrade(alloc, &mut conn);
         self.hold(conn);
         match result {
             Ok(version) => Ok(version),

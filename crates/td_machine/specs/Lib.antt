@@ -1,3 +1,4 @@
+pub mod Drive
 pub mod Machine
 pub mod Memory
 pub mod Pinned

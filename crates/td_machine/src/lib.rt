@@ -3,15 +3,22 @@
 #![tactic(auto)]
 
 mod around;
+mod cache;
 mod clock;
+mod drive;
 mod host;
+mod host_drive;
 mod laws;
 mod machine;
 mod memory;
+mod memory_drive;
 
 pub use around::Surroundings;
 pub use clock::{FixedClock, MachineClock};
+pub use drive::{Drive, OpenFileError, OpenedFile};
 pub use host::HostMachine;
+pub use host_drive::HostDrive;
 pub use laws::clients_are_served_in_order;
 pub use machine::{ListenError, Machine, ReadError};
 pub use memory::{MemoryFile, MemoryIncoming, MemoryMachine};
+pub use memory_drive::MemoryDrive;

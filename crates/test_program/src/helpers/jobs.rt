@@ -7,7 +7,7 @@ use std::io;
 use std::io::{Read, Write};
 use std::test::Fail;
 use td_base::Counted;
-use td_cli::{DeskFile, run_program};
+use td_cli::{DeskFile, HostDrive, run_program};
 
 /// What a job left: its status, and what it wrote.
 #[derive(Drop)]
@@ -79,8 +79,8 @@ where
     R: Drop,
     W: Drop,
 {
-    let mut file = DeskFile::new(Unknown);
-    let mut other = DeskFile::new(Unknown);
+    let mut file = DeskFile::new(HostDrive::new(rt, Unknown));
+    let mut other = DeskFile::new(HostDrive::new(rt, Unknown));
     let mut input = Counted::new(reader);
     let mut out = Counted::new(writer);
     let mut errors = Counted::new(Vec::new(rt.alloc()));

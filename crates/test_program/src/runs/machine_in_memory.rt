@@ -1,15 +1,15 @@
 //! Runs on a machine in memory, of whose files, clock and connections all is known: what is told to each client, the rows that are
-//! done, and the moment of each.
+//! done, the moment of each, and the desk's files at their paths.
 use crate::helpers::exchanges::REGISTER;
 use crate::helpers::{Done, Due, assert_due, assert_equal, assert_text, words_of};
-use sqlite::Unknown;
+use sqlite::Files;
+use sqlite_disk::Memory;
 use std::alloc::{AllocError, Global};
 use std::collections::VecDeque;
-use std::fs;
 use std::test::Fail;
 use td_base::Counted;
-use td_cli::{DeskFile, Machine, perform_on};
-use td_machine::{MemoryFile, MemoryIncoming, MemoryMachine};
+use td_cli::{DeskFile, Drive, Machine, perform_on};
+use td_machine::{MemoryDrive, MemoryFile, MemoryIncoming, MemoryMachine};
 
 const OPEN: &[u8] =
     b"POST /office/holders/000001/guarantees HTTP/1.1\r\nContent-Length: 46\r\n\r\n{\"reference\":1000000,\"cover\":50,\"code\":\"AB12\"}";
@@ -87,36 +87,86 @@ fn machine(
     })
 }
 
-// What the program leaves on these words on a machine. (It stands for any machine: the proof of each call over a file is dear.)
-fn done_on<M: Machine>(
-    rt: &HostRuntime,
+// What the program leaves on these words on a machine, over these files. (It stands for any machine and any drives: the proof of each
+// call over a file is dear.)
+fn done_over<M: Machine, V: Drive, O: Drive>(
+    alloc: Global,
     machine: &mut M,
     words: &[&str],
+    file: &mut DeskFile<V>,
+    other: &mut DeskFile<O>,
     input: &[u8],
 ) -> Result<Done, AllocError> {
-    let words = words_of(rt.alloc(), words)?;
-    let mut file = DeskFile::new(Unknown);
-    let mut other = DeskFile::new(Unknown);
+    let words = words_of(alloc, words)?;
     let mut input = Counted::new(input);
-    let mut out = Counted::new(Vec::new(rt.alloc()));
-    let mut errors = Counted::new(Vec::new(rt.alloc()));
+    let mut out = Counted::new(Vec::new(alloc));
+    let mut errors = Counted::new(Vec::new(alloc));
     let status = perform_on(
-        rt,
+        alloc,
         machine,
         &words,
-        &mut file,
-        &mut other,
+        file,
+        other,
         &mut input,
         &mut out,
         &mut errors,
     );
-    file.close();
-    other.close();
     Ok(Done {
         status,
         out: out.into_inner(),
         errors: errors.into_inner(),
     })
+}
+
+/// The database files at the two paths of a machine, if they are there.
+#[derive(Drop)]
+struct DriveFiles {
+    first: Option<Files<Memory>>,
+    second: Option<Files<Memory>>,
+}
+
+const NO_FILES: DriveFiles = DriveFiles {
+    first: None,
+    second: None,
+};
+
+// A file at the path of a drive in memory.
+fn file_at(
+    alloc: Global,
+    path: &str,
+    files: Option<Files<Memory>>,
+) -> Result<DeskFile<MemoryDrive>, AllocError> {
+    Ok(DeskFile::new(MemoryDrive {
+        path: String::from_str(alloc, path)?,
+        files,
+        alloc,
+    }))
+}
+
+// What is left at the path of a drive: the file that was opened, once it is closed, or the one that wasn't.
+fn left_of(mut file: DeskFile<MemoryDrive>) -> Option<Files<Memory>> {
+    let unopened = file.drive.files.take();
+    match file.close() {
+        Some(Ok(files)) => Some(files),
+        Some(Err(_)) => None,
+        None => unopened,
+    }
+}
+
+// A run on a machine over the files at its two paths, which it leaves changed.
+fn done_on<M: Machine>(
+    alloc: Global,
+    machine: &mut M,
+    files: &mut DriveFiles,
+    words: &[&str],
+    input: &[u8],
+) -> Result<Done, AllocError> {
+    let mut file = file_at(alloc, PATH, files.first.take())?;
+    let mut other = file_at(alloc, OTHER_PATH, files.second.take())?;
+    let done = done_over(alloc, machine, words, &mut file, &mut other, input)?;
+    files.first = left_of(file);
+    files.second = left_of(other);
+    Ok(done)
 }
 
 // Each client was told this, and nothing else.
@@ -164,7 +214,7 @@ fn each_client_is_told_its_own_replies_at_the_moments_of_the_clock(
     ];
     let clients: Clients<'_> = &[&[REGISTER, OPEN, LODGE], &[LODGE], &[LODGE]];
     let mut machine = machine(rt.alloc(), &ticks, clients)?;
-    let done = done_on(&rt, &mut machine, &SERVE, b"")?;
+    let done = done_on(rt.alloc(), &mut machine, &mut NO_FILES, &SERVE, b"")?;
     let due = Due {
         status: 0,
         out: b"listening 127.0.0.1:8080\nserved 3\n",
@@ -186,7 +236,7 @@ fn with_a_moment_of_the_words_no_clock_is_asked(rt: HostRuntime) -> Result<(), F
     };
     let clients: Clients<'_> = &[&[REGISTER], &[OPEN], &[LODGE]];
     let mut machine = machine(rt.alloc(), &[5], clients)?;
-    let done = done_on(&rt, &mut machine, &words, b"")?;
+    let done = done_on(rt.alloc(), &mut machine, &mut NO_FILES, &words, b"")?;
     assert_equal(&done.status, &0)?;
     let incoming = machine.incoming.as_ref().ok_or("the connections")?;
     assert_told(&incoming.told, &[&[REGISTERED], &[OPENED], &[LODGED]])?;
@@ -197,7 +247,7 @@ fn with_a_moment_of_the_words_no_clock_is_asked(rt: HostRuntime) -> Result<(), F
 fn a_port_that_cannot_be_listened_on_serves_nobody(rt: HostRuntime) -> Result<(), Fail> {
     let mut machine = machine(rt.alloc(), &[], &[&[REGISTER]])?;
     machine.port = 8081;
-    let done = done_on(&rt, &mut machine, &SERVE, b"")?;
+    let done = done_on(rt.alloc(), &mut machine, &mut NO_FILES, &SERVE, b"")?;
     let due = Due {
         status: 1,
         out: b"",
@@ -208,63 +258,84 @@ fn a_port_that_cannot_be_listened_on_serves_nobody(rt: HostRuntime) -> Result<()
     assert_told(&incoming.told, &[&[]])
 }
 
-const PATH: &str = "machine_in_memory.db";
+const PATH: &str = "desk.db";
 
-// A run on a machine whose clock answers this alone, or nothing.
+const OTHER_PATH: &str = "other.db";
+
+// A run over these files on a machine whose clock answers this alone, or nothing.
 fn assert_run(
-    rt: &HostRuntime,
+    alloc: Global,
+    files: &mut DriveFiles,
     ticks: &[i64],
     words: &[&str],
     input: &[u8],
     due: Due<'_>,
 ) -> Result<(), Fail> {
-    let mut machine = machine(rt.alloc(), ticks, &[])?;
-    let mut all = words.to_vec(rt.alloc())?;
-    all.extend_from_slice(&["--country", "CH", "--db", PATH])?;
-    assert_due(&done_on(rt, &mut machine, &all, input)?, due)?;
+    let mut machine = machine(alloc, ticks, &[])?;
+    let done = done_on(alloc, &mut machine, files, words, input)?;
+    assert_due(&done, due)?;
     assert_equal(&machine.ticks.len(), &0)
 }
 
 // Rows of the machine's file, whose result this is.
 fn assert_rows(
-    rt: &HostRuntime,
+    alloc: Global,
+    files: &mut DriveFiles,
     tick: i64,
-    kind: &str,
-    csv: &str,
+    words: [&str; 2],
     status: u8,
     out: &[u8],
 ) -> Result<(), Fail> {
-    let words = ["transit-desk", kind, "--file", csv];
+    let [kind, csv] = words;
+    let words = [
+        "transit-desk",
+        kind,
+        "--file",
+        csv,
+        "--country",
+        "CH",
+        "--db",
+        PATH,
+    ];
     let due = Due {
         status,
         out,
         errors: b"",
     };
-    assert_run(rt, &[tick], &words, b"", due)
+    assert_run(alloc, files, &[tick], &words, b"", due)
 }
 
-fn assert_files_done(rt: &HostRuntime) -> Result<(), Fail> {
-    let requests = [REGISTER, OPEN].concat(rt.alloc())?;
-    let replies = [REGISTERED, OPENED].concat(rt.alloc())?;
+const NEW: [&str; 7] = [
+    "transit-desk",
+    "pipe",
+    "--country",
+    "CH",
+    "--db",
+    PATH,
+    "--new",
+];
+
+// The file of a desk with one holder and one guarantee.
+fn assert_new_desk(alloc: Global, files: &mut DriveFiles) -> Result<(), Fail> {
+    let requests = [REGISTER, OPEN].concat(alloc)?;
+    let replies = [REGISTERED, OPENED].concat(alloc)?;
     let ticks = [1_740_819_600, 1_740_819_600];
-    let words = ["transit-desk", "pipe", "--new"];
-    assert_run(rt, &ticks, &words, &requests, Due::replies(&replies))?;
-    let rows = b"holder,lrn,outcome,mrn\n000001,A1,IE028,25CH000001000001J8\n";
-    assert_rows(rt, 1_740_819_700, "batch", "rows.csv", 0, rows)?;
-    let acts = b"message,mrn,outcome\nIE029,25CH000001000001J8,released\n";
-    assert_rows(rt, 1_740_819_800, "acts", "acts.csv", 0, acts)?;
-    let late = b"holder,lrn,outcome,mrn\n000001,A1,clock-back,\n";
-    assert_rows(rt, 1_740_819_799, "batch", "rows.csv", 1, late)
+    assert_run(alloc, files, &ticks, &NEW, &requests, Due::replies(&replies))
 }
 
 #[test]
 fn rows_are_those_of_the_machines_file_at_one_moment_of_its_clock(
     rt: HostRuntime,
 ) -> Result<(), Fail> {
-    let done = assert_files_done(&rt);
-    let _file = fs::remove_file(&rt, PATH);
-    let _log = fs::remove_file(&rt, "machine_in_memory.db-wal");
-    done
+    let alloc = rt.alloc();
+    let files = &mut NO_FILES;
+    assert_new_desk(alloc, files)?;
+    let rows = b"holder,lrn,outcome,mrn\n000001,A1,IE028,25CH000001000001J8\n";
+    assert_rows(alloc, files, 1_740_819_700, ["batch", "rows.csv"], 0, rows)?;
+    let acts = b"message,mrn,outcome\nIE029,25CH000001000001J8,released\n";
+    assert_rows(alloc, files, 1_740_819_800, ["acts", "acts.csv"], 0, acts)?;
+    let late = b"holder,lrn,outcome,mrn\n000001,A1,clock-back,\n";
+    assert_rows(alloc, files, 1_740_819_799, ["batch", "rows.csv"], 1, late)
 }
 
 #[test]
@@ -274,6 +345,71 @@ fn a_file_that_the_machine_does_not_have_is_told(rt: HostRuntime) -> Result<(), 
         out: b"",
         errors: b"transit-desk: file\n",
     };
-    let words = ["transit-desk", "batch", "--file", "none.csv"];
-    assert_run(&rt, &[], &words, b"", due)
+    let words = [
+        "transit-desk",
+        "batch",
+        "--file",
+        "none.csv",
+        "--country",
+        "CH",
+        "--db",
+        PATH,
+    ];
+    assert_run(rt.alloc(), &mut NO_FILES, &[], &words, b"", due)
+}
+
+// A test of the records at a path, and what it tells.
+fn assert_check(
+    alloc: Global,
+    files: &mut DriveFiles,
+    path: &str,
+    due: Due<'_>,
+) -> Result<(), Fail> {
+    let words = ["transit-desk", "check", "--country", "CH", "--db", path];
+    assert_run(alloc, files, &[], &words, b"", due)
+}
+
+#[test]
+fn the_file_is_the_one_at_the_path_of_the_words(rt: HostRuntime) -> Result<(), Fail> {
+    let alloc = rt.alloc();
+    let files = &mut NO_FILES;
+    let missing = Due {
+        status: 1,
+        out: b"",
+        errors: b"transit-desk: file\n",
+    };
+    assert_check(alloc, files, PATH, missing)?;
+    assert_new_desk(alloc, files)?;
+    assert_check(alloc, files, OTHER_PATH, missing)?;
+    assert_check(alloc, files, PATH, Due::replies(b"sound\n"))?;
+    let again = Due {
+        status: 1,
+        out: b"",
+        errors: b"transit-desk: store\n",
+    };
+    assert_run(alloc, files, &[], &NEW, REGISTER, again)
+}
+
+#[test]
+fn two_files_are_those_at_their_paths(rt: HostRuntime) -> Result<(), Fail> {
+    let alloc = rt.alloc();
+    let files = &mut NO_FILES;
+    assert_new_desk(alloc, files)?;
+    let words = [
+        "transit-desk",
+        "extract",
+        "--country",
+        "CH",
+        "--db",
+        PATH,
+        "--holders",
+        "000001-000001",
+        "--into",
+        OTHER_PATH,
+    ];
+    assert_run(alloc, files, &[], &words, b"", Due::replies(b""))?;
+    files.first = files.second.take();
+    assert_check(alloc, files, PATH, Due::replies(b"sound\n"))?;
+    let rows = b"holder,lrn,outcome,mrn\n000001,A1,IE028,25CH000001000001J8\n";
+    assert_rows(alloc, files, 1_740_819_700, ["batch", "rows.csv"], 0, rows)
 }

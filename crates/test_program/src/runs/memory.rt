@@ -8,7 +8,7 @@ use std::alloc::{AllocError, Global};
 use std::io::ErrorKind;
 use std::test::Fail;
 use td_base::Counted;
-use td_cli::{DeskFile, perform};
+use td_cli::{DeskFile, HostDrive, perform};
 
 // What the program leaves where its words couldn't be read for this cause.
 fn done_unread(rt: &HostRuntime, kind: ErrorKind) -> Done {
@@ -49,8 +49,8 @@ fn unread_words_are_told(rt: HostRuntime) -> Result<(), Fail> {
 
 // The writers have their room before the program is called.
 fn done_with_room(rt: &HostRuntime, words: &[String], room: (Vec<u8>, Vec<u8>)) -> Done {
-    let mut file = DeskFile::new(Unknown);
-    let mut other = DeskFile::new(Unknown);
+    let mut file = DeskFile::new(HostDrive::new(rt, Unknown));
+    let mut other = DeskFile::new(HostDrive::new(rt, Unknown));
     let mut input = Counted::new(REGISTER);
     let mut out = Counted::new(room.0);
     let mut errors = Counted::new(room.1);
