@@ -27,7 +27,7 @@ use Rattle.td_join.specs.declared.fault.JoinFault.TheVariants as join
 use Rattle.td_files.specs.Extracted.{IsReadFrom, ShowsMade}
 use Rattle.td_files.specs.Found.{FileHeld, IsClean, IsFoundIn, IsKeptDesk, IsOpenedDesk, over_file}
 use Rattle.td_files.specs.Joined.{HasJoined, TellsJoin, refused_for}
-use Rattle.td_files.proofs.Opening.{clean_before, leaves_found}
+use Rattle.td_files.proofs.Opening.{clean_before}
 
 module _ {D : Type 0} {g : disk.Ghosts D} where
   -- a file without tables that holds a content now
