@@ -12,7 +12,7 @@ use Rattle.td_table_model.proofs.Following.{same_tables}
 use Rattle.td_schema.specs.Tables.{IsEmptyOf}
 use Rattle.td_schema.specs.Layouts.{desk_schema, newest_layout, newest_version, schema_of}
 use Rattle.td_schema.specs.declared.layout.Layout.{Layout}
-use Rattle.typed_sql.specs.Writing.{HaveIds}
+use Rattle.typed_sql.specs.Writing.{HaveIds, HasSchema}
 use Rattle.typed_sql.specs.Typed.{AreTyped, HasNow, IsTypedRow, Typing, row_of, typed_rows}
 use Rattle.td_store_rows.specs.Columns.{meta_row, meta_typing, holder_typing, guarantee_typing, kept_typing, code_typing, movement_typing, line_typing}
 use Rattle.td_store_rows.specs.MetaTable.{TurnsMeta}
@@ -120,3 +120,8 @@ holds_extract country first last from made_at new is copies c holds at =
         office = has.office ∙ is.office ∙ ap (λ k. meta_row newest_version k ∷ []) (sym at);
       };
     }
+
+-- whatever rows were put into them, their schema is the one they were made with
+pub makes_tables : (country : List ℕ) (first last : ℕ) (from made_at new : State) → AreMade country made_at.now → Copies (of_holders first last) from made_at new
+    → (c : Content) → HoldsContent c from → HasSchema new desk_schema
+makes_tables country first last from made_at new is copies c holds = (copies c holds newest_layout refl (λ _. is.schema) is.typed).schema

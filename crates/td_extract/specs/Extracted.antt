@@ -6,14 +6,21 @@ use Rattle.sqlite.specs.State.{State, HasCleanDisk}
 use Rattle.td_model.specs.declared.holder_row.HolderRow.{HolderRow}
 use Rattle.td_model.specs.Account.{holder_key}
 use Rattle.td_desk.specs.Content.{Content, account_in}
+use Rattle.td_schema.specs.Layouts.{desk_schema}
 use Rattle.td_schema.specs.Tables.{IsEmptyOf, no_schema}
 use Rattle.td_store_rows.specs.StoreTables.{AreTreesOf, HoldsContent}
+use Rattle.typed_sql.specs.Writing.{HasSchema}
 use Rattle.td_extract.specs.Between.{content_between}
 
 -- Where the first file held a content of that country, the other, where it had no table, holds what this has of the holders of the range.
 abbrev pub Extracts : List ℕ → ℕ → ℕ → State → State → State → Type 0
 Extracts country first last from old new =
     (c : Content) → HoldsContent c from → c.country ≡ country → IsEmptyOf no_schema old.now → HoldsContent (content_between first last c) new
+
+-- And its tables, as far as the connection is open, are those of a file that is made at the newest version, and no others.
+abbrev pub MakesTables : List ℕ → State → State → State → Type 0
+MakesTables country from old new =
+    (c : Content) → HoldsContent c from → c.country ≡ country → IsEmptyOf no_schema old.now → HasSchema new desk_schema
 
 -- The connection was open. And where the first file held a content of that country, and its disk was clean to the end, these trees are
 -- a desk's of what it has of the holders of the range, if there was no table.

@@ -6,7 +6,7 @@ ghost use Rattle.typed_sql.specs.Outside.{CrashLeavesShown, Looks};
 ghost use Rattle.typed_sql.specs.Reading.{IsInside, StaysInside};
 ghost use Rattle.td_schema.specs.Tables.{IsEmptyOf, no_schema};
 ghost use Rattle.td_store_rows.specs.StoreReads.{HasNewestTables, ReadsNewest};
-ghost use Rattle.td_extract.specs.Extracted.{Extracts, MayLeaveExtract};
+ghost use Rattle.td_extract.specs.Extracted.{Extracts, MakesTables, MayLeaveExtract};
 
 use crate::fault::fault_of_error;
 use crate::holders::copy_holders;
@@ -43,6 +43,8 @@ fn write_extract<S: Alter, T: Alter>(
     ensures same_target { to.new.conn.ghost_name ≡ to.old.conn.ghost_name }
     ensures written { HasCleanDisk (state S.Store from.new.conn.now) → HasCleanDisk (state T.Store to.new.conn.now)
         → OnOk result (Extracts country first last (state S.Store from.old.conn.now) (state T.Store to.old.conn.now) (state T.Store to.new.conn.now)) }
+    ensures schema { HasCleanDisk (state S.Store from.new.conn.now) → HasCleanDisk (state T.Store to.new.conn.now)
+        → OnOk result (MakesTables country (state S.Store from.old.conn.now) (state T.Store to.old.conn.now) (state T.Store to.new.conn.now)) }
     ensures reads { ReadsNewest (is_ok result) (state S.Store from.old.conn.now) (state S.Store from.new.conn.now) }
     ensures within { StaysInside (is_ok result) (state T.Store to.old.conn.now) (state T.Store to.new.conn.now) }
 {
@@ -68,6 +70,8 @@ fn write_from<S: Alter, T: Alter>(
     ensures same_target { to.new.conn.ghost_name ≡ to.old.conn.ghost_name }
     ensures written { HasCleanDisk (state S.Store from.new) → HasCleanDisk (state T.Store to.new.conn.now)
         → OnOk result (Extracts country first last (state S.Store from.old) (state T.Store to.old.conn.now) (state T.Store to.new.conn.now)) }
+    ensures schema { HasCleanDisk (state S.Store from.new) → HasCleanDisk (state T.Store to.new.conn.now)
+        → OnOk result (MakesTables country (state S.Store from.old) (state T.Store to.old.conn.now) (state T.Store to.new.conn.now)) }
     ensures within { StaysInside (is_ok result) (state T.Store to.old.conn.now) (state T.Store to.new.conn.now) }
 {
     see_settled(from);
@@ -98,6 +102,8 @@ fn write_into<S: Alter, T: Alter>(
         → OnOk result (IsTrue (state T.Store to.old).is_open × IsTrue (state T.Store to.new).is_open) }
     ensures extracted { HasCleanDisk (state S.Store from.new) → HasCleanDisk (state T.Store to.new)
         → OnOk result (Extracts country first last (state S.Store from.old) (state T.Store to.old) (state T.Store to.new)) }
+    ensures schema { HasCleanDisk (state S.Store from.new) → HasCleanDisk (state T.Store to.new)
+        → OnOk result (MakesTables country (state S.Store from.old) (state T.Store to.old) (state T.Store to.new)) }
     ensures err { HasCleanDisk (state T.Store to.new) → IsTrue (state T.Store to.new).is_open
         → OnErr result ((state T.Store to.new).now ≡ (state T.Store to.old).now) }
     ensures crash { Survives (state T.Store to.old) (state T.Store to.new)
@@ -111,11 +117,11 @@ fn write_into<S: Alter, T: Alter>(
 }
 
 /// Makes a desk's file of an office of that country, in a database that has no table, of the holders with numbers from `first` to
-/// `last` alone, each with all rows of a desk's file of the office's; in one transaction. `Store`: there is a table already, and
-/// nothing is read; or one of the databases answered an error other than want of memory, or a row of the first file is none.
-/// `NoMemory`: want of memory. With a fault the second database is as it was. The first file is only read. A crash during the call
-/// leaves of the second file what it could leave before, or the desk's file of those holders; after it exactly what the
-/// connection shows.
+/// `last` alone, each with all rows of a desk's file of the office's; in one transaction. It has the tables of the newest version,
+/// and no others. `Store`: there is a table already, and nothing is read; or one of the databases answered an error other than want
+/// of memory, or a row of the first file is none. `NoMemory`: want of memory. With a fault the second database is as it was. The
+/// first file is only read. A crash during the call leaves of the second file what it could leave before, or the desk's file of
+/// those holders; after it exactly what the connection shows.
 pub fn extract<S: Alter, T: Alter>(
     alloc: Global,
     from: &mut Connection<S>,
@@ -135,6 +141,8 @@ pub fn extract<S: Alter, T: Alter>(
         → OnOk result (IsTrue (state T.Store to.old).is_open × IsTrue (state T.Store to.new).is_open) }
     ensures extracted { HasCleanDisk (state S.Store from.new) → HasCleanDisk (state T.Store to.new)
         → OnOk result (Extracts country first last (state S.Store from.old) (state T.Store to.old) (state T.Store to.new)) }
+    ensures schema { HasCleanDisk (state S.Store from.new) → HasCleanDisk (state T.Store to.new)
+        → OnOk result (MakesTables country (state S.Store from.old) (state T.Store to.old) (state T.Store to.new)) }
     ensures empty { OnOk result (IsEmptyOf no_schema (state T.Store to.old).now) }
     ensures taken { ¬ IsEmptyOf no_schema (state T.Store to.old).now
         → (result ≡ Err Fault.Store) × (from.new ≡ from.old) × (to.new ≡ to.old) }

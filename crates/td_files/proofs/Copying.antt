@@ -11,6 +11,7 @@ use Rattle.sqlite.specs.Held.{Held}
 use Rattle.sqlite.specs.State.{State, HasCleanDisk, Survives}
 use Rattle.td_desk.specs.Content.{Content}
 use Rattle.td_desk.specs.View.{LeavesOnly}
+use Rattle.td_schema.specs.Layouts.{desk_schema}
 use Rattle.td_schema.specs.Tables.{IsEmptyOf, no_schema}
 use Rattle.td_store_rows.specs.StoreReads.{HasNewestTables}
 use Rattle.td_store_rows.specs.StoreTables.{AreTreesOf, HoldsContent}
@@ -18,6 +19,7 @@ use Rattle.td_store_rows.proofs.Holding.{holds_still}
 use Rattle.td_store.specs.Kept.{content_in}
 use Rattle.td_store.specs.Looked.{HasLooked}
 use Rattle.typed_sql.specs.Outside.{CrashLeavesShown, Looks}
+use Rattle.typed_sql.specs.Writing.{HasSchema}
 use Rattle.td_join.specs.Joined.{joined}
 use Rattle.td_join.specs.Joining.{Joins, MayLeaveJoined, TellsWhoStood, WereApart}
 use Rattle.td_join.specs.declared.fault.JoinFault.{JoinFault}
@@ -25,17 +27,19 @@ use Rattle.td_join.specs.declared.fault.JoinFault.TheVariants as join
 use Rattle.td_files.specs.Extracted.{IsReadFrom, ShowsMade}
 use Rattle.td_files.specs.Found.{FileHeld, IsClean, IsFoundIn, IsKeptDesk, IsOpenedDesk, over_file}
 use Rattle.td_files.specs.Joined.{HasJoined, TellsJoin, refused_for}
-use Rattle.td_files.proofs.Opening.{clean_before, leaves_found}
+use Rattle.td_files.proofs.Opening.{clean_before}
 
 module _ {D : Type 0} {g : disk.Ghosts D} where
   -- a file without tables that holds a content now
   pub shows_made : (image : Image) (found : State) (c : Held (FileStore D g)) (made : Content) → IsFoundIn image found.now → IsEmptyOf no_schema found.now
-      → IsTrue (file_state c).is_open → HoldsContent made (file_state c) → CrashLeavesShown (file_state c) → ShowsMade image made c
-  shows_made image found c made is blank live holds settled = record {
+      → IsTrue (file_state c).is_open → HasSchema (file_state c) desk_schema → HoldsContent made (file_state c) → CrashLeavesShown (file_state c)
+      → ShowsMade image made c
+  shows_made image found c made is blank live schema holds settled = record {
     live = live;
     before = found.now;
     found = is;
     blank = blank;
+    schema = schema live;
     holds = holds;
     settled = settled;
   }

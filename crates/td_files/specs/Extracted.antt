@@ -6,6 +6,7 @@ use Rattle.sqlite.specs.Effect.{Database}
 use Rattle.sqlite.specs.Files.{file_state}
 use Rattle.sqlite.specs.State.{State, HasCleanDisk}
 use Rattle.td_desk.specs.Content.{Content}
+use Rattle.td_schema.specs.Layouts.{desk_schema}
 use Rattle.td_schema.specs.Tables.{IsEmptyOf, no_schema}
 use Rattle.td_store_rows.specs.StoreTables.{HoldsContent}
 use Rattle.td_store.specs.Looked.{HasLooked}
@@ -16,12 +17,14 @@ use Rattle.td_files.specs.Found.{FileHeld, FileSeen, FoundAt, HasNoDesk, IsClean
 use Rattle.td_files.specs.declared.desks.DeskFault.{DeskFault}
 
 module _ {D : Type 0} {g : disk.Ghosts D} where
-  -- A desk's file of this content was made: the file held no table, and it holds just the content now. A crash leaves that.
+  -- A desk's file of this content was made: the file held no table. It has the tables of the newest version now, and no others, and
+  -- holds just the content. A crash leaves that.
   pub record ShowsMade (image : Image) (made : Content) (c : FileSeen g) : Type 0 where
     pub live : IsTrue (file_state c).is_open
     pub before : Database
     pub found : IsFoundIn image before
     pub blank : IsEmptyOf no_schema before
+    pub schema : (file_state c).now.schema ≡ desk_schema
     pub holds : HoldsContent made (file_state c)
     pub settled : CrashLeavesShown (file_state c)
 

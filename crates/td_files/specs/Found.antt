@@ -1,6 +1,6 @@
 -- What contracts see of a desk over a file, what it began with by what the file held, and what of that it was refused for. And what is
 -- left of a file that has no desk over it.
-use Rattle.std.specs.Prelude.{◌≡◌, ◌⊎◌, ℕ, Bool, true, false, List, IsTrue, Option, Some}
+use Rattle.std.specs.Prelude.{◌≡◌, ◌⊎◌, ℕ, Bool, true, false, List, IsTrue, Some}
 use Rattle.sqlite_disk.specs.declared.Disk as disk
 use Rattle.sqlite_disk.specs.declared.Files.{Files}
 use Rattle.sqlite_wal.specs.Recovery.{Image}
@@ -14,6 +14,7 @@ use Rattle.sqlite.specs.State.{HasCleanDisk}
 use Rattle.sqlite.specs.declared.file.Leftover.{Leftover}
 use Rattle.td_desk.specs.Content.{Content, empty_content}
 use Rattle.td_desk.specs.View.{DeskView, LeavesOnly}
+use Rattle.td_schema.specs.Layouts.{desk_schema}
 use Rattle.td_schema.specs.Tables.{IsEmptyOf, no_schema}
 use Rattle.td_store_rows.specs.StoreTables.{AreTreesOf, HoldsContent}
 pub use Rattle.td_store.specs.Kept.{content_in}
@@ -71,13 +72,14 @@ module _ {D : Type 0} {g : disk.Ghosts D} where
     pub country_is : (content_in (file_state c).now.trees).country ≡ country
     pub leaves : LeavesOnly over_file c (content_in (file_state c).now.trees)
 
-  -- A desk was made: the file held no table, and has a store's tables of the newest version now, and the office's own row; the desk
-  -- is empty. A crash leaves that desk.
+  -- A desk was made: the file held no table, and has a store's tables of the newest version now, no others, and the office's own row;
+  -- the desk is empty. A crash leaves that desk.
   pub record IsCreatedDesk (image : Image) (country : List ℕ) (c : FileSeen g) : Type 0 where
     pub live : IsTrue (file_state c).is_open
     pub before : Database
     pub found : IsFoundIn image before
     pub blank : IsEmptyOf no_schema before
+    pub schema : (file_state c).now.schema ≡ desk_schema
     pub empty : content_in (file_state c).now.trees ≡ empty_content country
     pub holds : HoldsContent (content_in (file_state c).now.trees) (file_state c)
     pub leaves : LeavesOnly over_file c (content_in (file_state c).now.trees)

@@ -4,8 +4,8 @@ ghost use Rattle.sqlite.specs.Held.{state};
 ghost use Rattle.sqlite.specs.State.{HasCleanDisk, Survives};
 ghost use Rattle.td_desk.specs.Content.{empty_content};
 ghost use Rattle.td_desk.specs.View.{IsSettled};
-ghost use Rattle.td_schema.specs.Tables.{IsEmptyOf};
-ghost use Rattle.td_schema.specs.Tables.{no_schema};
+ghost use Rattle.td_schema.specs.Layouts.{desk_schema};
+ghost use Rattle.td_schema.specs.Tables.{IsEmptyOf, no_schema};
 ghost use Rattle.td_store_rows.specs.StoreTables.{HoldsContent};
 ghost use Rattle.td_store_write.specs.Created.{MayLeaveEmpty};
 ghost use Rattle.td_store.specs.declared.refused.OpenFault.TheVariants as fault;
@@ -30,10 +30,10 @@ fn is_blank<S: Alter>(conn: &Connection<S>) -> bool
 }
 
 impl<S: Alter> SqlDesk<S> {
-    /// Makes a desk of an office of that country, which has no holders yet, in a database that has no table. `Store`: it has a
-    /// table already, or the database answered an error other than want of memory; `NoMemory`: want of memory. With an error the
-    /// connection is handed back, its database as it was. A crash during the call leaves what it could leave before, or the
-    /// file of an empty desk; after it exactly what the connection shows.
+    /// Makes a desk of an office of that country, which has no holders yet, in a database that has no table: the tables of the newest
+    /// version, and no others. `Store`: it has a table already, or the database answered an error other than want of memory;
+    /// `NoMemory`: want of memory. With an error the connection is handed back, its database as it was. A crash during the call
+    /// leaves what it could leave before, or the file of an empty desk; after it exactly what the connection shows.
     pub fn create(mut conn: Connection<S>, country: Country) -> Result<Self, Refused<S>>
         requires { conn.in_transaction ≡ false }
         ensures live { IfOk result (λ desk. HasCleanDisk (state S.Store desk)
@@ -42,6 +42,7 @@ impl<S: Alter> SqlDesk<S> {
             → content_in (state S.Store desk).now.trees ≡ empty_content country) }
         ensures made { IfOk result (λ desk. HasCleanDisk (state S.Store desk)
             → HoldsContent (empty_content country) (state S.Store desk)) }
+        ensures schema { IfOk result (λ desk. HasCleanDisk (state S.Store desk) → (state S.Store desk).now.schema ≡ desk_schema) }
         ensures taken { ¬ IsEmptyOf no_schema (state S.Store conn).now
             → MatchResult result (λ _. ⊥) (λ refused. (refused.fault ≡ OpenFault.Store) × (refused.connection ≡ conn)) }
         ensures fault { IfErr result (λ refused. (refused.fault ≡ OpenFault.Store) ⊎ (refused.fault ≡ OpenFault.NoMemory)) }

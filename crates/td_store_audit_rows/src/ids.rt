@@ -8,7 +8,7 @@ ghost use Rattle.sqlite.specs.Listing.{understood};
 ghost use Rattle.sqlite.specs.State.{HasCleanDisk, IsUnchanged, Survives};
 ghost use Rattle.typed_sql.specs.Walked.{IsLeftAlone};
 ghost use Rattle.td_store_audit_rows.specs.Ids.{IsAbove, ShowsIds};
-ghost use Rattle.td_store_audit_rows.specs.Rising.{HaveRisen};
+ghost use Rattle.td_store_audit_rows.specs.Rising.{TellsRising};
 
 use sqlite::{Connection, Error, ErrorCode, Row};
 use sqlite_trees::store::Alter;
@@ -43,7 +43,7 @@ pub(crate) struct RisingIds {
 impl RisingIds {
     // Of no row yet.
     pub(crate) fn none_yet() -> RisingIds
-        ensures { HaveRisen result.last [] }
+        ensures { TellsRising result.rise result.last [] }
     {
         RisingIds {
             last: None,
@@ -53,10 +53,9 @@ impl RisingIds {
 }
 
 impl Walker for RisingIds {
-    ghost use Rattle.std.specs.Prelude.{IsTrue};
-    ghost use Rattle.td_store_audit_rows.specs.Rising.{HaveRisen};
+    ghost use Rattle.td_store_audit_rows.specs.Rising.{TellsRising};
 
-    ghost Knows = { λ rows ids. IsTrue ids.rise → HaveRisen ids.last rows };
+    ghost Knows = { λ rows ids. TellsRising ids.rise ids.last rows };
 
     fn see(&mut self, row: &Row) {
         self.last = next_id(self.last, row);

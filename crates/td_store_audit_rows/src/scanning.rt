@@ -121,9 +121,9 @@ struct TableScan<T> {
 impl<T: Scanned> Walker for TableScan<T> {
     ghost use Rattle.std.specs.Prelude.{◌↔◌, IsTrue};
     ghost use Rattle.std.specs.List.{AllByRecursion};
-    ghost use Rattle.td_store_audit_rows.specs.Rising.{HaveRisen};
+    ghost use Rattle.td_store_audit_rows.specs.Rising.{TellsRising};
 
-    ghost Knows = { λ rows scan. (IsTrue scan.ids.rise → HaveRisen scan.ids.last rows) × (IsTrue scan.all ↔ AllByRecursion T.AreRead rows) };
+    ghost Knows = { λ rows scan. TellsRising scan.ids.rise scan.ids.last rows × (IsTrue scan.all ↔ AllByRecursion T.AreRead rows) };
 
     fn see(&mut self, row: &Row) {
         self.ids.see(row);

@@ -91,12 +91,18 @@ schema_there : (country : List ℕ) (old new : State) → IsEmptyOf desk_schema 
 schema_there country old new was turns =
     (turns newest_layout (λ is_open. was.schema) (none_typed meta_typing old.now.trees was.empty.0)).schema
 
--- and a connection to them holds the content of the empty desk
+-- and a connection to them holds the content of the empty desk, under that schema
 pub holds_empty : (country : List ℕ) (old made new : State) → IsCountry country → IsEmptyOf desk_schema old.now
     → TurnsMeta (λ rows. meta_row newest_version country ∷ rows) old made → new.now ≡ made.now
-    → HoldsContent (empty_content country) new
+    → HoldsContent (empty_content country) new × (new.now.schema ≡ desk_schema)
 unfolding of_empty_desk
-holds_empty country old made new is was turns same = record {
-  trees = trees_still (empty_content country) made.now new.now same (of_empty_desk country old made is was turns);
-  schema = λ _. ap (λ (d : Database). d.schema) same ∙ schema_there country old made was turns;
-}
+holds_empty country old made new is was turns same = (
+  record {
+    trees = trees_still (empty_content country) made.now new.now same (of_empty_desk country old made is was turns);
+    schema = λ _. there;
+  },
+  there,
+)
+  where
+    there : new.now.schema ≡ desk_schema
+    there = ap (λ (d : Database). d.schema) same ∙ schema_there country old made was turns

@@ -57,10 +57,10 @@ returns-clause-looks g c =
     reads = rw c.transaction-tx.ensures.begun at c.in_ok-write_extract.ensures.reads
 
     ended : Survives m e (λ db. db ≡ m.now.trees)
-    ended = search rules
+    ended = search (rules, c.from-2-1.given.1 (sym (c.see_open.ensures.same_reference ∙ c.write_extract.ensures.same_source ∙ c.transaction-tx.ensures.same_reference)), c.in_ok-commit.ensures.survives)
 
     committed : HasCleanDisk e → IsTrue m.in_transaction × Shows m e m.now m.now false × KeepsCounts m e × (e.marks ≡ [])
-    committed = search rules
+    committed = search (rules, c.from-2-1.given.1 (sym (c.see_open.ensures.same_reference ∙ c.write_extract.ensures.same_source ∙ c.transaction-tx.ensures.same_reference)), c.in_ok-commit.ensures.ok)
 
 pub returns-in_err-see_open-clause-looks : goal.returns-in_err-see_open-clause-looks
 returns-in_err-see_open-clause-looks g c =
@@ -79,3 +79,12 @@ returns-clause-written g c clean clean_to content holds =
     let clean_m : HasCleanDisk m = omega (arith, clean, ended.clean) in
     let clean_l : HasCleanDisk l = omega (arith, clean_m, c.in_ok-see_open.ensures.within.survives.clean) in
     (rw c.transaction-tx.ensures.begun at (c.in_ok-write_extract.ensures.written clean_l clean_to)) content (record { trees = holds.trees; schema = holds.schema })
+
+pub returns-clause-schema : goal.returns-clause-schema
+returns-clause-schema g c clean clean_to content holds =
+    let l : State = state g.S.Store c.write_extract.new.from.conn.now in
+    let m : State = state g.S.Store c.see_open.new.tx.conn.now in
+    let ended : Survives m (state g.S.Store c.from-2-1.given.0) (λ db. db ≡ m.now.trees) = search rules in
+    let clean_m : HasCleanDisk m = omega (arith, clean, ended.clean) in
+    let clean_l : HasCleanDisk l = omega (arith, clean_m, c.in_ok-see_open.ensures.within.survives.clean) in
+    (rw c.transaction-tx.ensures.begun at (c.in_ok-write_extract.ensures.schema clean_l clean_to)) content (record { trees = holds.trees; schema = holds.schema })

@@ -21,6 +21,7 @@ returns-in-Ok-create-clause-made g c =
             before = found.now;
             found = found_there (image_of g.V.Disk.Disk files) found (connected was).0 (connected was).1;
             blank = blank_then found.now (λ taken. made.taken taken);
+            schema = made.schema clean;
             empty = made.empty clean;
             holds = subst (λ x. HoldsContent x desk) (sym (made.empty clean)) (made.made clean);
             leaves = made.leaves clean (made.live clean).1;

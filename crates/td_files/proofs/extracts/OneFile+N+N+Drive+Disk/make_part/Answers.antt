@@ -22,7 +22,7 @@ returns-in-Ok-result-clause-made g c =
             let was = clean_before found (file_state c.extract-result.new.to) may after.crash clean in
             shows_made (image_of g.N.Disk.Disk files) found c.extract-result.new.to (content_between c.args.first c.args.last whole)
             (found_there (image_of g.N.Disk.Disk files) found (connected was).0 (connected was).1) after.empty (after.shown clean).1
-            (after.extracted seen clean whole holds at after.empty) after.settled,
+            (after.schema seen clean whole holds at after.empty) (after.extracted seen clean whole holds at after.empty) after.settled,
       ),
     )
 

@@ -1,4 +1,4 @@
-use Rattle.std.proofs.Common.{arith, inl, inr, refl, subst, sym}
+use Rattle.std.proofs.Common.{inl, inr, refl, subst, sym}
 use Rattle.sqlite.specs.Files.{file_state, image_of}
 use Rattle.sqlite.specs.Held.{state}
 use Rattle.td_files.specs.Found.{IsClean, IsOpenedDesk, over_file}
