@@ -9,3 +9,4 @@ mod Later
 mod BatchesAlike
 mod Parts
 mod GoOn
+mod Upgrades

@@ -11,3 +11,4 @@ pub mod Runs
 pub mod BatchLaws
 pub mod Parts
 pub mod PartLaws
+pub mod UpgradeLaws

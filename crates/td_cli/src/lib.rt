@@ -16,6 +16,7 @@ mod reporting;
 mod run_laws;
 mod telling;
 mod transferring;
+mod upgrade_laws;
 mod work_laws;
 
 pub use batch_laws::{
@@ -35,4 +36,5 @@ pub use run_laws::{
 };
 pub use td_files::DeskFile;
 pub use td_machine::{Drive, FixedClock, HostDrive, HostMachine, Machine, MachineClock};
+pub use upgrade_laws::an_upgraded_file_goes_on_with_its_content;
 pub use work_laws::work_over_one_file_is_one_machines;

@@ -320,7 +320,14 @@ fn assert_new_desk(alloc: Global, files: &mut DriveFiles) -> Result<(), Fail> {
     let requests = [REGISTER, OPEN].concat(alloc)?;
     let replies = [REGISTERED, OPENED].concat(alloc)?;
     let ticks = [1_740_819_600, 1_740_819_600];
-    assert_run(alloc, files, &ticks, &NEW, &requests, Due::replies(&replies))
+    assert_run(
+        alloc,
+        files,
+        &ticks,
+        &NEW,
+        &requests,
+        Due::replies(&replies),
+    )
 }
 
 #[test]
