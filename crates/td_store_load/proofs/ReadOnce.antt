@@ -1,5 +1,5 @@
 -- A line's guarantee, of which the row was read once, by the serial that the line names: its GRN, its terms and the amount in use.
-use Rattle.std.proofs.Common.{◌≡◌, ◌∙◌, ℕ, ◌+◌, Bool, true, false, List, [], ◌∷◌, ◌++◌, filter, map, nat_le, nat_lt, Option, Some, refl, sym, ap, ap₂, subst, arith, IsPermutation}
+use Rattle.std.proofs.Common.{◌≡◌, ◌∙◌, ℕ, ◌+◌, Bool, true, false, List, [], ◌∷◌, ◌++◌, filter, map, nat_le, nat_lt, Some, refl, sym, ap, subst, arith, IsPermutation}
 use Rattle.std.specs.Prelude.{◌==◌, ◌&&◌, filter_map, unwrap_or}
 use Rattle.std.specs.List.{AllByRecursion}
 use Rattle.std.specs.Option.{option_map}

@@ -1,4 +1,4 @@
-use Rattle.std.proofs.Common.{◌≡◌, ◌∙◌, ◌≤◌, ◌++◌, ℕ, ap, arith, map, refl, subst}
+use Rattle.std.proofs.Common.{◌∙◌, ◌≤◌, ◌++◌, ap, arith, map, refl, subst}
 use Rattle.sqlite.specs.Held.{state}
 use Rattle.sqlite.specs.State.{State, HasCleanDisk}
 use Rattle.typed_sql.proofs.OnlyRead.{none_read, stays_nothing}

@@ -6,7 +6,6 @@ use Rattle.td_store_rows.specs.MovementTable.{IsTheMovement, has_mrn, movement_r
 use Rattle.td_store_rows.specs.declared.movements.stored.StoredMovement.{StoredMovement}
 use Rattle.td_table_model.specs.Gathering.{with_lines}
 use Rattle.td_table_model.specs.Looking.{movement_no}
-use Rattle.td_store_load.specs.Needed.{AreTermsOf}
 use Rattle.td_store_load.proofs.Found.{by_mrn}
 use Rattle.td_store_load.proofs.Reading.{held_after, said_before}
 use Rattle.td_store_load.proofs.ReadOnce.{terms_of_holder}
