@@ -2,7 +2,7 @@ mod Begins
 mod Named
 mod Acknowledged
 mod Calls
-mod Holding
+pub mod Holding
 mod Listed
 mod Judged
 mod Leaving
