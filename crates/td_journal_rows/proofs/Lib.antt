@@ -1,0 +1,6 @@
+mod Plain
+mod Readings
+mod Written
+mod Paths
+mod Bodies
+mod ReadBack

@@ -1,0 +1,9 @@
+//! Accepted changes as rows of a journal: the request that asks for a command, in one form, which is read back as just that
+//! command.
+#![tactic(auto)]
+
+mod laws;
+mod requests;
+
+pub use laws::{command_is_typed, days_read_back, request_reads_back, requests_read_back};
+pub use requests::{RequestText, request_of};
