@@ -31,7 +31,7 @@ use Rattle.td_fields.specs.declared.fault.Field.TheVariants as field
 use Rattle.td_fields.specs.declared.fault.WebFault.{WebFault}
 use Rattle.td_fields.specs.declared.fault.WebFault.TheVariants.{BadField}
 use Rattle.td_routes.specs.Bodies.{command_at}
-use Rattle.td_journal_rows.specs.Requests.{HasFormedLines, IsFormedLine, IsLimitRead, later_line, line_text, lines_text, request_body}
+use Rattle.td_journal_rows.specs.Requests.{amendment_text, declaration_text, opening_text, HasFormedLines, IsFormedLine, IsLimitRead, later_line, line_text, lines_text, request_body}
 use Rattle.td_journal_rows.proofs.Paths.{route_for}
 use Rattle.td_journal_rows.proofs.Plain.{IsPlain, is_plain, code_plain, day_plain, eori_plain, lrn_text_plain, office_plain, plain_text, escape_plain, quoted_plain, reference_plain}
 use Rattle.td_journal_rows.proofs.Readings.{cents_read, code_reads, cover_reads, eori_reads, lines_read, lrn_reads, office_reads, reference_is, reference_reads}
@@ -90,7 +90,7 @@ one_text_is k text plain_k plain = object_is _ (one_text k text) (one_text k tex
 abbrev terms_data : ℕ → ℕ → Members → Data
 terms_data reference cover rest = object (member (codes "reference") (number (unsigned reference)) (member (codes "cover") (number (unsigned cover)) rest))
 
-terms_written : (reference cover : ℕ) → compact_text (terms_data reference cover no_members) ≡ codes "{\"reference\":" ++ (decimal reference ++ (codes ",\"cover\":" ++ (decimal cover ++ codes "}")))
+terms_written : (reference cover : ℕ) → compact_text (terms_data reference cover no_members) ≡ amendment_text reference cover
 unfolding serde_json_on_literals
 terms_written reference cover = refl
 
@@ -98,7 +98,7 @@ abbrev terms_found : ℕ → ℕ → Data
 terms_found reference cover = object (member (codes "cover") (number (unsigned cover)) (member (codes "reference") (number (unsigned reference)) no_members))
 
 terms_are : (reference cover : ℕ) → reference < 2 ^ 64 → cover < 2 ^ 64
-    → object_of (codes "{\"reference\":" ++ (decimal reference ++ (codes ",\"cover\":" ++ (decimal cover ++ codes "}")))) ≡ Ok (terms_found reference cover)
+    → object_of (amendment_text reference cover) ≡ Ok (terms_found reference cover)
 terms_are reference cover r c =
     object_is _ (terms_data reference cover no_members) (terms_found reference cover) (terms_written reference cover) (key (codes "reference") refl, r, (key (codes "cover") refl, c, tt)) (omega arith)
     (rw (number_of-decimal reference r, number_of-decimal cover c) refl) refl
@@ -108,7 +108,7 @@ abbrev code_member : List ℕ → Members
 code_member code = member (codes "code") (string code) no_members
 
 opening_written : (reference cover : ℕ) (code : List ℕ) → All IsPlain code
-    → compact_text (terms_data reference cover (code_member code)) ≡ codes "{\"reference\":" ++ (decimal reference ++ (codes ",\"cover\":" ++ (decimal cover ++ (codes ",\"code\":\"" ++ (code ++ codes "\"}")))))
+    → compact_text (terms_data reference cover (code_member code)) ≡ opening_text reference cover code
 unfolding serde_json_on_literals
 opening_written reference cover code plain =
     rw (escape_plain code plain)
@@ -118,7 +118,7 @@ abbrev opening_found : ℕ → ℕ → List ℕ → Data
 opening_found reference cover code = object (member (codes "code") (string code) (member (codes "cover") (number (unsigned cover)) (member (codes "reference") (number (unsigned reference)) no_members)))
 
 opening_is : (reference cover : ℕ) (code : List ℕ) → reference < 2 ^ 64 → cover < 2 ^ 64 → All IsPlain code
-    → object_of (codes "{\"reference\":" ++ (decimal reference ++ (codes ",\"cover\":" ++ (decimal cover ++ (codes ",\"code\":\"" ++ (code ++ codes "\"}")))))) ≡ Ok (opening_found reference cover code)
+    → object_of (opening_text reference cover code) ≡ Ok (opening_found reference cover code)
 opening_is reference cover code r c plain =
     object_is _ (terms_data reference cover (code_member code)) (opening_found reference cover code) (opening_written reference cover code plain) (key (codes "reference") refl, r, (key (codes "cover") refl, c, (key (codes "code") refl, plain, tt))) (omega arith)
     (rw (number_of-decimal reference r, number_of-decimal cover c) refl) refl
@@ -221,10 +221,6 @@ declaration_data lrn departure destination lines =
 abbrev declaration_found : List ℕ → List ℕ → List ℕ → Items → Data
 declaration_found lrn departure destination lines =
     object (member (codes "departure") (string departure) (member (codes "destination") (string destination) (member (codes "lines") (array lines) (member (codes "lrn") (string lrn) no_members))))
-
-abbrev declaration_text : List ℕ → List ℕ → List ℕ → List ℕ → List ℕ
-declaration_text lrn departure destination lines =
-    codes "{\"lrn\":\"" ++ (lrn ++ (codes "\",\"departure\":\"" ++ (departure ++ (codes "\",\"destination\":\"" ++ (destination ++ (codes "\",\"lines\":" ++ (lines ++ codes "}")))))))
 
 declaration_object : (lrn departure destination lines : Data) (lrn' departure' destination' lines' : List ℕ) → compact_text lrn ≡ lrn' → compact_text departure ≡ departure' → compact_text destination ≡ destination' → compact_text lines ≡ lines'
     → compact_text (object (member (codes "lrn") lrn (member (codes "departure") departure (member (codes "destination") destination (member (codes "lines") lines no_members)))))

@@ -71,19 +71,32 @@ abbrev pub lines_text : List (Line × List ℕ) → List ℕ
 lines_text [] = codes "[]"
 lines_text (line ∷ lines) = codes "[" ++ (line_text line ++ (flat_map later_line lines ++ codes "]"))
 
+-- the body of an opening
+abbrev pub opening_text : ℕ → ℕ → List ℕ → List ℕ
+opening_text reference cover code =
+    codes "{\"reference\":" ++ (decimal reference
+    ++ (codes ",\"cover\":" ++ (decimal cover ++ (codes ",\"code\":\"" ++ (code ++ codes "\"}")))))
+
+-- the body of an amendment
+abbrev pub amendment_text : ℕ → ℕ → List ℕ
+amendment_text reference cover =
+    codes "{\"reference\":" ++ (decimal reference ++ (codes ",\"cover\":" ++ (decimal cover ++ codes "}")))
+
+-- the body of a declaration, by the text of its lines
+abbrev pub declaration_text : List ℕ → List ℕ → List ℕ → List ℕ → List ℕ
+declaration_text lrn departure destination lines =
+    codes "{\"lrn\":\"" ++ (lrn ++ (codes "\",\"departure\":\"" ++ (departure
+    ++ (codes "\",\"destination\":\"" ++ (destination
+    ++ (codes "\",\"lines\":" ++ (lines ++ codes "}")))))))
+
 -- the body: nothing, where the operation has no members
 abbrev pub request_body : Command → List ℕ
 request_body (Register holder eori) = codes "{\"eori\":\"" ++ (eori ++ codes "\"}")
-request_body (OpenGuarantee holder reference cover code) =
-    codes "{\"reference\":" ++ (decimal reference
-    ++ (codes ",\"cover\":" ++ (decimal cover ++ (codes ",\"code\":\"" ++ (code ++ codes "\"}")))))
-request_body (Amend grn reference cover) =
-    codes "{\"reference\":" ++ (decimal reference ++ (codes ",\"cover\":" ++ (decimal cover ++ codes "}")))
+request_body (OpenGuarantee holder reference cover code) = opening_text reference cover code
+request_body (Amend grn reference cover) = amendment_text reference cover
 request_body (Revoke grn) = []
 request_body (Ie015 holder lrn departure destination lines) =
-    codes "{\"lrn\":\"" ++ (lrn ++ (codes "\",\"departure\":\"" ++ (departure
-    ++ (codes "\",\"destination\":\"" ++ (destination
-    ++ (codes "\",\"lines\":" ++ (lines_text lines ++ codes "}")))))))
+    declaration_text lrn departure destination (lines_text lines)
 request_body (Ie014 holder mrn) = []
 request_body (AddCode holder grn code) = codes "{\"code\":\"" ++ (code ++ codes "\"}")
 request_body (RemoveCode holder grn code) = codes "{\"code\":\"" ++ (code ++ codes "\"}")

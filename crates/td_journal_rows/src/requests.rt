@@ -1,11 +1,11 @@
 //! Commands as the requests that ask for them.
 ghost use Rattle.std.specs.Prelude.{◌≡◌, ◌++◌, IfOk, Ok, OnOk, string_bytes};
 ghost use Rattle.td_routes.specs.Bodies.{command_of};
-ghost use Rattle.td_journal_rows.specs.Requests.{line_text, lines_text, request_body, request_method, request_path};
+ghost use Rattle.td_journal_rows.specs.Requests.{amendment_text, declaration_text, line_text, lines_text, opening_text, request_body, request_method, request_path};
 
 use crate::laws::request_reads_back;
 use std::alloc::{AllocError, Global};
-use td_base::AccessCode;
+use td_base::{AccessCode, Cover, Lrn, OfficeNo, Reference};
 use td_commands::Command;
 use td_movement::Line;
 
@@ -110,20 +110,12 @@ fn body_of(alloc: Global, command: &Command) -> Result<String, AllocError>
             cover,
             code,
             ..
-        } => format!(in alloc;
-            "{{\"reference\":{},\"cover\":{},\"code\":\"{code}\"}}",
-            reference.get().get(),
-            cover.get()
-        ),
+        } => opening_body(alloc, *reference, *cover, code),
         Command::Amend {
             reference,
             cover,
             ..
-        } => format!(in alloc;
-            "{{\"reference\":{},\"cover\":{}}}",
-            reference.get().get(),
-            cover.get()
-        ),
+        } => amendment_body(alloc, *reference, *cover),
         Command::Ie015 {
             lrn,
             departure,
@@ -132,9 +124,7 @@ fn body_of(alloc: Global, command: &Command) -> Result<String, AllocError>
             ..
         } => {
             let lines = lines_text(alloc, lines.as_slice())?;
-            format!(in alloc;
-                "{{\"lrn\":\"{lrn}\",\"departure\":\"{departure}\",\"destination\":\"{destination}\",\"lines\":{lines}}}"
-            )
+            declaration_body(alloc, lrn, departure, destination, &lines)
         }
         Command::AddCode { code, .. } | Command::RemoveCode { code, .. } => {
             format!(in alloc; "{{\"code\":\"{code}\"}}")
@@ -143,15 +133,43 @@ fn body_of(alloc: Global, command: &Command) -> Result<String, AllocError>
         Command::Ie007 { office, .. } => format!(in alloc; "{{\"office\":\"{office}\"}}"),
         Command::Ie018 { result, .. } => format!(in alloc; "{{\"result\":\"{}\"}}", result.name()),
         Command::Ie045 { ground, .. } => format!(in alloc; "{{\"ground\":\"{}\"}}", ground.name()),
-        Command::Revoke { .. }
-        | Command::Ie014 { .. }
-        | Command::Ie140 { .. }
-        | Command::SeeHolder { .. }
-        | Command::SeeMovement { .. }
-        | Command::SeeMovements { .. }
-        | Command::SeeGuarantee { .. }
-        | Command::SeeGuarantees { .. } => Ok(String::new(alloc)),
+        _ => Ok(String::new(alloc)),
     }
+}
+
+fn opening_body(
+    alloc: Global,
+    reference: Reference,
+    cover: Cover,
+    code: &AccessCode,
+) -> Result<String, AllocError>
+    ensures { IfOk result (λ body. string_bytes body ≡ opening_text reference cover code.now) }
+{
+    let cents = reference.get().get();
+    let percent = cover.get();
+    format!(in alloc; "{{\"reference\":{cents},\"cover\":{percent},\"code\":\"{code}\"}}")
+}
+
+fn amendment_body(alloc: Global, reference: Reference, cover: Cover) -> Result<String, AllocError>
+    ensures { IfOk result (λ body. string_bytes body ≡ amendment_text reference cover) }
+{
+    let cents = reference.get().get();
+    let percent = cover.get();
+    format!(in alloc; "{{\"reference\":{cents},\"cover\":{percent}}}")
+}
+
+fn declaration_body(
+    alloc: Global,
+    lrn: &Lrn,
+    departure: &OfficeNo,
+    destination: &OfficeNo,
+    lines: &str,
+) -> Result<String, AllocError>
+    ensures { IfOk result (λ body. string_bytes body ≡ declaration_text lrn.now departure.now destination.now lines.now) }
+{
+    format!(in alloc;
+        "{{\"lrn\":\"{lrn}\",\"departure\":\"{departure}\",\"destination\":\"{destination}\",\"lines\":{lines}}}"
+    )
 }
 
 // The lines of a declaration, as an array.
