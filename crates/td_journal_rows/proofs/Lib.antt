@@ -4,3 +4,5 @@ mod Written
 mod Paths
 mod Bodies
 mod ReadBack
+mod Lines
+mod RowsBack

@@ -1,0 +1,101 @@
+-- The rows that are read of rows' lines are those rows, also where the last line is torn.
+use Rattle.std.proofs.Common.{◌≡◌, ◌⊎◌, inl, inr, ℕ, suc, ◌+◌, ◌-◌, ◌^◌, ◌<◌, ◌≤◌, ◌==◌, Bool, true, false, cond, List, [], ◌∷◌, ◌++◌, length, map, take, get_or, fold, All, ◌*◌, Option, Some, None, option_map, Result, Ok, Err, decimal, refl, sym, ap, ap₂, subst, ◌∙◌, arith, append_assoc, append-nil, rules}
+use Rattle.std.proofs.lemmas.Bool.{cases_Bool, eqb-true, ne_eqb}
+use Rattle.std.proofs.lemmas.Fmt.{decimal_nonempty, digits_decimal, digits_value-decimal, length-decimal-le}
+use Rattle.std.proofs.lemmas.List.{length-append, take-append-le}
+use Rattle.std.proofs.lemmas.List.Elements.{All-append, All-cons, All-from_get_or, All-head, All-nil, All-tail, All-take, All-weaker}
+use Rattle.std.proofs.lemmas.List.Splits.{slice_split_at, slice_split_none}
+use Rattle.std.proofs.lemmas.Str.Parse.{IsNumeralModel, numerals_by_fold, tells_by_index}
+use Rattle.std.specs.Char.{IsAsciiDigit}
+use Rattle.std.specs.Int.{IsInRange}
+use Rattle.std.specs.List.{AllByRecursion, list_any, slice_split}
+use Rattle.csv.specs.Machine.{next_record}
+use Rattle.csv.specs.Reading.{default_config, strip_bom}
+use Rattle.csv.specs.Writing.{default_writer, escaped, field_text, fields_text, is_blank, needs_byte, row_text}
+use Rattle.csv.specs.declared.parser.State.TheVariants.{StartRecord}
+use Rattle.csv.proofs.RoundTrip.{read-write}
+use Rattle.ascii_text.specs.Digits.{digits_value}
+use Rattle.td_journal_rows.specs.Rows.{HasNoLineFeed, IsRow, RowText, all_but_last, last_of, lines_in, number_read, parts_of, row_fields, row_line, row_of_line, row_read, rows_from, rows_in, rows_text, then_rows, torn_in}
+use Rattle.td_journal_rows.proofs.Lines.{number_is}
+
+-- ---- numbers
+
+own : IsNumeralModel (λ ds. (i : ℕ) → i < length ds → IsInRange 48 57 (get_or ds i 0)) digits_value
+own = numerals_by_fold _ tells_by_index (λ n text. fold (λ n c. 10 * n + (c - 48)) n text) (search rules)
+
+decimal_digits : (n : ℕ) → n < 10 ^ 18 → All IsAsciiDigit (decimal n)
+decimal_digits n small = All-from_get_or IsAsciiDigit (decimal n) 0 (digits_decimal own n (omega (arith, small)))
+
+number_reads : (n : ℕ) → n < 10 ^ 18 → number_read (decimal n) ≡ Some n
+number_reads n small =
+    let value = digits_value-decimal own n (omega (arith, small)) in
+    sym (number_is (decimal n) (Some n) (decimal_nonempty n (omega (arith, small))) (length-decimal-le 18 n (omega arith) small (omega (arith, small))) (decimal_digits n small, sym value))
+
+-- ---- a row's line, up to its line feed
+
+abbrev row_front : RowText → List ℕ
+row_front row =
+    field_text default_writer (decimal row.number) ++ fields_text default_writer (decimal row.at ∷ row.method ∷ row.path ∷ row.body ∷ row.reply ∷ [])
+
+line_is : (row : RowText) → row_line row ≡ row_front row ++ 10 ∷ []
+unfolding is_blank
+line_is row = refl
+
+escaped_line : (text : List ℕ) → HasNoLineFeed text → HasNoLineFeed (escaped default_writer text)
+unfolding escaped
+escaped_line [] none = none
+escaped_line (c ∷ text) none = by (c == 34) (All-cons (λ c. (c == 10) ≡ false) c (escaped default_writer text) (All-head (λ c. (c == 10) ≡ false) c text none) (escaped_line text (All-tail (λ c. (c == 10) ≡ false) c text none)))
+  where
+    by : (b : Bool) → HasNoLineFeed (c ∷ escaped default_writer text) → HasNoLineFeed (cond b (34 ∷ c ∷ escaped default_writer text) (c ∷ escaped default_writer text))
+    by true more = All-cons (λ c. (c == 10) ≡ false) 34 (c ∷ escaped default_writer text) refl more
+    by false more = more
+
+field_line : (text : List ℕ) → HasNoLineFeed text → HasNoLineFeed (field_text default_writer text)
+field_line text none = by (list_any (needs_byte default_writer) text)
+  where
+    quoted : HasNoLineFeed (34 ∷ (escaped default_writer text ++ 34 ∷ []))
+    quoted = All-cons (λ c. (c == 10) ≡ false) 34 (escaped default_writer text ++ 34 ∷ []) refl (All-append (λ c. (c == 10) ≡ false) (escaped default_writer text) (34 ∷ []) (escaped_line text none) (All-cons (λ c. (c == 10) ≡ false) 34 [] refl (All-nil (λ c. (c == 10) ≡ false))))
+
+    by : (b : Bool) → HasNoLineFeed (cond b (34 ∷ (escaped default_writer text ++ 34 ∷ [])) text)
+    by true = quoted
+    by false = none
+
+fields_line : (fields : List (List ℕ)) → AllByRecursion HasNoLineFeed fields → HasNoLineFeed (fields_text default_writer fields)
+unfolding fields_text
+fields_line [] all = All-nil (λ c. (c == 10) ≡ false)
+fields_line (field ∷ fields) all =
+    All-cons (λ c. (c == 10) ≡ false) 44 (field_text default_writer field ++ fields_text default_writer fields) refl
+    (All-append (λ c. (c == 10) ≡ false) (field_text default_writer field) (fields_text default_writer fields) (field_line field all.0) (fields_line fields all.1))
+
+digits_line : (n : ℕ) → n < 10 ^ 18 → HasNoLineFeed (decimal n)
+digits_line n small = All-weaker IsAsciiDigit (λ c. (c == 10) ≡ false) (λ c digit. ne_eqb c 10 (λ e. omega (arith, digit.0))) (decimal n) (decimal_digits n small)
+
+front_line : (row : RowText) → IsRow row → HasNoLineFeed (row_front row)
+front_line row h =
+    All-append (λ c. (c == 10) ≡ false) (field_text default_writer (decimal row.number)) _ (field_line (decimal row.number) (digits_line row.number h.number))
+    (fields_line (decimal row.at ∷ row.method ∷ row.path ∷ row.body ∷ row.reply ∷ []) (digits_line row.at h.at, (h.method, (h.path, (h.body, (h.reply, tt))))))
+
+-- ---- the parts of rows and a torn row
+
+fronts : List RowText → List (List ℕ)
+fronts rows = map row_front rows
+
+parts_of_rows : (rows : List RowText) (torn : List ℕ) → AllByRecursion IsRow rows → HasNoLineFeed torn → parts_of (rows_text rows ++ torn) ≡ map row_front rows ++ torn ∷ []
+parts_of_rows [] torn all none = slice_split_none (λ c. c == 10) torn none
+parts_of_rows (row ∷ rows) torn all none =
+    let text : (row_line row ++ rows_text rows) ++ torn ≡ row_front row ++ 10 ∷ (rows_text rows ++ torn) =
+    append_assoc (row_line row) (rows_text rows) torn ∙ (ap (λ line. line ++ (rows_text rows ++ torn)) (line_is row) ∙ append_assoc (row_front row) (10 ∷ []) (rows_text rows ++ torn)) in
+    ap parts_of text ∙ (slice_split_at (λ c. c == 10) (row_front row) 10 (rows_text rows ++ torn) (front_line row all.0) refl ∙ ap (λ (parts : List (List ℕ)). row_front row ∷ parts) (parts_of_rows rows torn all.1 none))
+
+front_of_last : (xs : List (List ℕ)) (x : List ℕ) → (all_but_last (xs ++ x ∷ []) ≡ xs) × (last_of (xs ++ x ∷ []) ≡ x)
+front_of_last [] x = (refl, refl)
+front_of_last (y ∷ []) x = (refl, refl)
+front_of_last (y ∷ z ∷ xs) x = let more = front_of_last (z ∷ xs) x in (ap (λ (ys : List (List ℕ)). y ∷ ys) more.0, more.1)
+
+-- ---- each line is read as its row
+
+no_bom : (c : ℕ) (text : List ℕ) → c < 128 → strip_bom (c ∷ text) ≡ c ∷ text
+unfolding strip_bom
+no_bom c [] small = refl
+no_bom c (d ∷ []) small = refl
+no_bom c (d ∷ e ∷ text) small = let other : (c == 0xEF) ≡ false = ne_eqb c 0xEF (λ e. omega (arith, small, e)) in rw other refl
