@@ -19,7 +19,7 @@ number_is text r some few h =
 
 -- ---- parts
 
-some_part : (text : List ℕ) → 0 < length (parts_of text)
+pub some_part : (text : List ℕ) → 0 < length (parts_of text)
 some_part text = omega (arith, length-slice_split (λ c. c == 10) text)
 
 before_last : (line : List ℕ) (parts : List (List ℕ)) → 0 < length parts → all_but_last (line ∷ parts) ≡ line ∷ all_but_last parts

@@ -135,3 +135,12 @@ rows_in text = rows_from 1 (lines_in text)
 abbrev pub Tells : Result (List RowText) ℕ → JournalFault → Type 0
 Tells read (BadRow row) = read ≡ Err row
 Tells read NoMemory = ⊤
+
+-- a text has these whole rows, and this torn row behind them
+pub record HasRows (text : List ℕ) (rows : List RowText) (rest : List ℕ) : Type 0 where
+  pub whole : rows_in text ≡ Ok rows
+  pub torn : torn_in text ≡ rest
+
+-- the lines of a text with their line feeds
+abbrev pub ended_lines : List (List ℕ) → List ℕ
+ended_lines lines = flat_map (λ line. line ++ 10 ∷ []) lines

@@ -1,7 +1,9 @@
 //! What holds of the requests that ask for commands: the contracts are laws, and the calls do nothing.
-ghost use Rattle.std.specs.Prelude.{◌≡◌, ℕ, All, Some};
+ghost use Rattle.std.specs.List.{AllByRecursion};
+ghost use Rattle.std.specs.Prelude.{◌≡◌, ◌<◌, ◌++◌, ℕ, All, List, Some, length, take};
 ghost use Rattle.td_base.specs.Days.{IsDay, day_read, day_text};
 ghost use Rattle.td_commands.specs.declared.command.Command.{Command};
+ghost use Rattle.td_journal_rows.specs.Rows.{HasRows, IsRow, RowText, ended_lines, lines_in, row_line, rows_text, torn_in};
 ghost use Rattle.td_journal_rows.specs.Requests.{HasFormedLines, IsFormedLine, IsLimitRead, IsTyped, ReadsBack, request_body, request_method, request_path};
 
 use td_base::{AccessCode, Day, day_reads_back};
@@ -50,6 +52,15 @@ fn day_is_read(day: Day)
 {
     day_reads_back(day);
 }
+
+/// Rows whose lines stand one behind the other are the rows that are read, also where the text ends within a further row,
+/// wherever that is cut: then what there is of it is told as torn. Of no text is anything left out: it is its whole lines
+/// and what stands behind them.
+pub fn rows_read_back()
+    ensures back { (rows : List RowText) (row : RowText) (n : ℕ) → AllByRecursion IsRow rows → IsRow row
+        → n < length (row_line row) → HasRows (rows_text rows ++ take n (row_line row)) rows (take n (row_line row)) }
+    ensures whole { (text : List ℕ) → ended_lines (lines_in text) ++ torn_in text ≡ text }
+{}
 
 /// The parts of a command are in the ranges of their types: a clause over every command ranges over values that no type has,
 /// and this tells that a command isn't one of them.

@@ -1,8 +1,8 @@
-use Rattle.std.proofs.Common.{◌≡◌, ◌+◌, ◌∙◌, ◌++◌, ◌∷◌, [], None, Some, Ok, Err, length, map, option_map, ap, refl, subst, sym, arith, rules, true}
+use Rattle.std.proofs.Common.{◌≡◌, ◌+◌, ◌∙◌, ◌++◌, ◌∷◌, [], None, Some, length, map, rules, true}
 use Rattle.std.proofs.lemmas.List.{map-append, length-append}
 use Rattle.std.specs.Result.{is_ok}
-use Rattle.td_journal_rows.specs.Rows.{lines_in, row_of_line, row_shown, rows_from}
-use Rattle.td_journal_rows.proofs.Lines.{behind, cut_torn, row_refused, row_taken}
+use Rattle.td_journal_rows.specs.Rows.{row_of_line, row_shown}
+use Rattle.td_journal_rows.proofs.Lines.{cut_torn, row_refused, row_taken}
 use Rattle.td_journal_rows.proofs.rows.read_rows.Goals as goal
 
 pub returns-in_default-2-clause-bad : goal.returns-in_default-2-clause-bad
