@@ -1,6 +1,6 @@
 -- The body of each request is read as the rest of its command.
 use Rattle.std.proofs.Common.{◌≡◌, ℕ, ◌^◌, ◌<◌, ◌≤◌, true, List, [], ◌∷◌, ◌++◌, All, Option, Some, Ok, Result, codes, decimal, refl, sym, ap, ap₂, ◌∙◌, arith, inl, inr, append_assoc, option_map}
-use Rattle.std.proofs.lemmas.List.Elements.{All-head, All-tail}
+use Rattle.std.proofs.lemmas.List.Elements.{All-head, All-nil, All-tail}
 use Rattle.std.specs.List.{AllByRecursion, list_all}
 use Rattle.std.specs.Prelude.{flat_map, ok_or, option_and_then}
 use Rattle.json.specs.Tree as tree
@@ -33,9 +33,9 @@ use Rattle.td_fields.specs.declared.fault.WebFault.TheVariants.{BadField}
 use Rattle.td_routes.specs.Bodies.{command_at}
 use Rattle.td_journal_rows.specs.Requests.{amendment_text, declaration_text, opening_text, HasFormedLines, IsFormedLine, IsLimitRead, later_line, line_text, lines_text, request_body}
 use Rattle.td_journal_rows.proofs.Paths.{route_for}
-use Rattle.td_journal_rows.proofs.Plain.{IsPlain, is_plain, code_plain, day_plain, eori_plain, lrn_text_plain, office_plain, plain_text, escape_plain, quoted_plain, reference_plain}
+use Rattle.td_journal_rows.proofs.Plain.{IsShown, IsPlain, is_plain, code_plain, day_plain, eori_plain, lrn_text_plain, office_plain, plain_text, escape_plain, quoted_plain, reference_plain}
 use Rattle.td_journal_rows.proofs.Readings.{cents_read, code_reads, cover_reads, eori_reads, lines_read, lrn_reads, office_reads, reference_is, reference_reads}
-use Rattle.td_journal_rows.proofs.Written.{AreSimple, object_is}
+use Rattle.td_journal_rows.proofs.Written.{AreSimple, IsSimple, object_is, shown_body}
 
 -- ---- steps of a reading
 
@@ -94,13 +94,16 @@ terms_written : (reference cover : ℕ) → compact_text (terms_data reference c
 unfolding serde_json_on_literals
 terms_written reference cover = refl
 
+terms_simple : (reference cover : ℕ) → reference < 2 ^ 64 → cover < 2 ^ 64 → IsSimple (terms_data reference cover no_members)
+terms_simple reference cover r c = (key (codes "reference") refl, r, (key (codes "cover") refl, c, tt))
+
 abbrev terms_found : ℕ → ℕ → Data
 terms_found reference cover = object (member (codes "cover") (number (unsigned cover)) (member (codes "reference") (number (unsigned reference)) no_members))
 
 terms_are : (reference cover : ℕ) → reference < 2 ^ 64 → cover < 2 ^ 64
     → object_of (amendment_text reference cover) ≡ Ok (terms_found reference cover)
 terms_are reference cover r c =
-    object_is _ (terms_data reference cover no_members) (terms_found reference cover) (terms_written reference cover) (key (codes "reference") refl, r, (key (codes "cover") refl, c, tt)) (omega arith)
+    object_is _ (terms_data reference cover no_members) (terms_found reference cover) (terms_written reference cover) (terms_simple reference cover r c) (omega arith)
     (rw (number_of-decimal reference r, number_of-decimal cover c) refl) refl
 
 -- the terms and an access code
@@ -114,13 +117,16 @@ opening_written reference cover code plain =
     rw (escape_plain code plain)
     (ap (λ (rest : List ℕ). codes "{\"reference\":" ++ (decimal reference ++ (codes ",\"cover\":" ++ (decimal cover ++ (codes ",\"code\":\"" ++ rest))))) (append_assoc code (34 ∷ []) (125 ∷ [])))
 
+opening_simple : (reference cover : ℕ) (code : List ℕ) → reference < 2 ^ 64 → cover < 2 ^ 64 → All IsPlain code → IsSimple (terms_data reference cover (code_member code))
+opening_simple reference cover code r c plain = (key (codes "reference") refl, r, (key (codes "cover") refl, c, (key (codes "code") refl, plain, tt)))
+
 abbrev opening_found : ℕ → ℕ → List ℕ → Data
 opening_found reference cover code = object (member (codes "code") (string code) (member (codes "cover") (number (unsigned cover)) (member (codes "reference") (number (unsigned reference)) no_members)))
 
 opening_is : (reference cover : ℕ) (code : List ℕ) → reference < 2 ^ 64 → cover < 2 ^ 64 → All IsPlain code
     → object_of (opening_text reference cover code) ≡ Ok (opening_found reference cover code)
 opening_is reference cover code r c plain =
-    object_is _ (terms_data reference cover (code_member code)) (opening_found reference cover code) (opening_written reference cover code plain) (key (codes "reference") refl, r, (key (codes "cover") refl, c, (key (codes "code") refl, plain, tt))) (omega arith)
+    object_is _ (terms_data reference cover (code_member code)) (opening_found reference cover code) (opening_written reference cover code plain) (opening_simple reference cover code r c plain) (omega arith)
     (rw (number_of-decimal reference r, number_of-decimal cover c) refl) refl
 
 -- the terms that an object has
@@ -234,12 +240,16 @@ declaration_written lrn departure destination lines text l d e same =
     declaration_object (string lrn) (string departure) (string destination) (array lines) _ _ _ _ (quoted_plain lrn l) (quoted_plain departure d) (quoted_plain destination e) same
     ∙ simp append_assoc refl
 
+declaration_simple : (lrn departure destination : List ℕ) (lines : List (Line × List ℕ)) → All IsPlain lrn → All IsPlain departure → All IsPlain destination → AllByRecursion IsWritable lines
+    → IsSimple (declaration_data lrn departure destination (lines_data lines))
+declaration_simple lrn departure destination lines l d e all = (key (codes "lrn") refl, l, (key (codes "departure") refl, d, (key (codes "destination") refl, e, (key (codes "lines") refl, lines_simple lines all, tt))))
+
 declaration_is : (lrn departure destination : List ℕ) (lines : List (Line × List ℕ)) → All IsPlain lrn → All IsPlain departure → All IsPlain destination → AllByRecursion IsWritable lines
     → object_of (declaration_text lrn departure destination (lines_text lines)) ≡ Ok (declaration_found lrn departure destination (lines_data lines))
 declaration_is lrn departure destination lines l d e all =
     object_is _ (declaration_data lrn departure destination (lines_data lines)) (declaration_found lrn departure destination (lines_data lines))
     (declaration_written lrn departure destination (lines_data lines) (lines_text lines) l d e (lines_written lines all))
-    (key (codes "lrn") refl, l, (key (codes "departure") refl, d, (key (codes "destination") refl, e, (key (codes "lines") refl, lines_simple lines all, tt)))) (omega (arith, lines_shallow lines))
+    (declaration_simple lrn departure destination lines l d e all) (omega (arith, lines_shallow lines))
     (rw (lines_json lines all) refl) refl
 
 lines_are : (lrn departure destination : List ℕ) (lines : List (Line × List ℕ)) → AllByRecursion IsWritable lines → lines_of lines ≡ Some lines
@@ -298,3 +308,39 @@ body_reads (command.SeeMovement holder mrn) h forms day = refl
 body_reads (command.SeeMovements holder) h forms day = refl
 body_reads (command.SeeGuarantee holder grn) h forms day = refl
 body_reads (command.SeeGuarantees holder) h forms day = refl
+
+-- ---- no line ends within a body
+
+one_text_shown : (k text : List ℕ) → All IsPlain k → All IsPlain text → All IsShown (123 ∷ (34 ∷ (k ++ 34 ∷ [])) ++ 58 ∷ 34 ∷ (text ++ 34 ∷ 125 ∷ []))
+one_text_shown k text plain_k plain = shown_body _ (one_text k text) (one_text_written k text plain_k plain) (plain_k, plain, tt)
+
+code_shown : (code : List ℕ) → IsAccessCode code → All IsShown (codes "{\"code\":\"" ++ (code ++ codes "\"}"))
+code_shown code h = one_text_shown (codes "code") code (key (codes "code") refl) (code_plain code h)
+
+pub body_shown : (c : Command) → IsProper c → HasFormedLines c → All IsShown (request_body c)
+body_shown (command.Register holder eori) h forms = one_text_shown (codes "eori") eori (key (codes "eori") refl) (eori_plain eori h.1)
+body_shown (command.OpenGuarantee holder reference cover code) h forms =
+    shown_body _ (terms_data reference cover (code_member code)) (opening_written reference cover code (code_plain code h.3)) (opening_simple reference cover code (omega (arith, h.1.1)) (cover_small cover h.2) (code_plain code h.3))
+body_shown (command.Amend grn reference cover) h forms =
+    shown_body _ (terms_data reference cover no_members) (terms_written reference cover) (terms_simple reference cover (omega (arith, h.1.1)) (cover_small cover h.2))
+body_shown (command.Revoke grn) h forms = All-nil IsShown
+body_shown (command.Ie015 holder lrn departure destination lines) h forms =
+    let all = writable lines h.4.amounts forms in
+    let l = lrn_text_plain lrn h.1 in
+    let d = office_plain departure h.2 in
+    let e = office_plain destination h.3 in
+    shown_body _ (declaration_data lrn departure destination (lines_data lines)) (declaration_written lrn departure destination (lines_data lines) (lines_text lines) l d e (lines_written lines all))
+    (declaration_simple lrn departure destination lines l d e all)
+body_shown (command.Ie014 holder mrn) h forms = All-nil IsShown
+body_shown (command.AddCode holder grn code) h forms = code_shown code h.2
+body_shown (command.RemoveCode holder grn code) h forms = code_shown code h.2
+body_shown (command.Ie029 mrn limit) h forms = one_text_shown (codes "limit") (day_text limit) (key (codes "limit") refl) (day_plain limit)
+body_shown (command.Ie007 mrn office) h forms = one_text_shown (codes "office") office (key (codes "office") refl) (office_plain office h.1)
+body_shown (command.Ie018 mrn result) h forms = one_text_shown (codes "result") (control_name result) (key (codes "result") refl) (control_plain result)
+body_shown (command.Ie045 mrn cause) h forms = one_text_shown (codes "ground") (ground_name cause) (key (codes "ground") refl) (ground_plain cause)
+body_shown (command.Ie140 mrn) h forms = All-nil IsShown
+body_shown (command.SeeHolder holder) h forms = All-nil IsShown
+body_shown (command.SeeMovement holder mrn) h forms = All-nil IsShown
+body_shown (command.SeeMovements holder) h forms = All-nil IsShown
+body_shown (command.SeeGuarantee holder grn) h forms = All-nil IsShown
+body_shown (command.SeeGuarantees holder) h forms = All-nil IsShown

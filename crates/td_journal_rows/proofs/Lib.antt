@@ -6,3 +6,4 @@ mod Bodies
 mod ReadBack
 mod Lines
 mod RowsBack
+mod ChangeRows

@@ -1,17 +1,20 @@
 -- The characters of the texts that stand in requests.
-use Rattle.std.proofs.Common.{◌≡◌, ◌≢◌, Bool, true, ◌==◌, ℕ, ◌-◌, ◌/◌, ◌<◌, ◌≤◌, List, [], ◌∷◌, ◌++◌, length, take, drop, All, refl, sym, ap, ap₂, arith, inl, inr}
+use Rattle.std.proofs.Common.{◌≡◌, ◌≢◌, Bool, true, ◌==◌, ℕ, ◌-◌, ◌/◌, ◌<◌, ◌≤◌, List, [], ◌∷◌, ◌++◌, length, take, drop, All, refl, sym, ap, ap₂, arith, inl, inr, ◌*◌, ◌^◌, get_or, fold, decimal, rules, ◌+◌}
 use Rattle.std.proofs.lemmas.Bool.Decides.{Decides-and, Decides-eqb, Decides-like, Decides-not, nat_tests}
+use Rattle.std.proofs.lemmas.Fmt.{digits_decimal, digits_value-decimal}
 use Rattle.std.proofs.lemmas.List.{take-append-drop}
-use Rattle.std.proofs.lemmas.List.Elements.{All-append, All-cons, All-head, All-same, All-tail, All-weaker}
+use Rattle.std.proofs.lemmas.List.Elements.{All-append, All-cons, All-from_get_or, All-head, All-same, All-tail, All-weaker}
 use Rattle.std.proofs.lemmas.Str.{IsUtf8-from_ascii}
 use Rattle.std.specs.Char.{IsAsciiDigit, IsAsciiUppercase}
+use Rattle.std.proofs.lemmas.Str.Parse.{IsNumeralModel, numerals_by_fold, tells_by_index}
 use Rattle.std.specs.Bool.{Decides}
+use Rattle.std.specs.Int.{IsInRange}
 use Rattle.std.specs.List.{list_all}
 use Rattle.std.specs.Prelude.{◌&&◌, nat_le, nat_lt, not}
 use Rattle.std.specs.Str.{IsUtf8}
 use Rattle.json.specs.Print.{escape, quoted}
 use Rattle.json.proofs.Printed.Strings.{escape_byte_plain}
-use Rattle.ascii_text.specs.Digits.{IsMark, fixed_decimal}
+use Rattle.ascii_text.specs.Digits.{IsMark, digits_value, fixed_decimal}
 use Rattle.ascii_text.proofs.Ascii.{IsAscii-from}
 use Rattle.ascii_text.proofs.Decided.{all_decided, le_decided}
 use Rattle.ascii_text.proofs.Decimals.{fixed_decimal_digits}
@@ -54,9 +57,19 @@ escape_plain (c ∷ text) all =
 pub quoted_plain : (text : List ℕ) → All IsPlain text → quoted text ≡ 34 ∷ (text ++ 34 ∷ [])
 quoted_plain text all = ap (λ (s : List ℕ). 34 ∷ (s ++ 34 ∷ [])) (escape_plain text all)
 
--- and is UTF-8
-pub utf8_plain : (text : List ℕ) → All IsPlain text → IsUtf8 text
-utf8_plain text all = IsUtf8-from_ascii text (IsAscii-from IsPlain (λ c h. h.high) text all)
+-- ---- what stands in a request
+
+-- a character that ends no line, in ASCII
+pub record IsShown (c : ℕ) : Type 0 where
+  pub low : 32 ≤ c
+  pub high : c < 128
+
+pub shown_plain : (text : List ℕ) → All IsPlain text → All IsShown text
+shown_plain text all = All-weaker IsPlain IsShown (λ c h. record { low = h.low; high = h.high }) text all
+
+-- a text of such characters is UTF-8
+pub utf8_shown : (text : List ℕ) → All IsShown text → IsUtf8 text
+utf8_shown text all = IsUtf8-from_ascii text (IsAscii-from IsShown (λ c h. h.high) text all)
 
 -- ---- classes of characters
 
@@ -127,3 +140,19 @@ holder_digits n = All-same IsAsciiDigit (holder_text n) (fixed_decimal 6 n) (six
 
 pub holder_marks : (n : ℕ) → All IsMark (holder_text n)
 holder_marks n = All-weaker IsAsciiDigit IsMark (λ c h. inl h) (holder_text n) (holder_digits n)
+
+-- ---- numbers
+
+own : IsNumeralModel (λ ds. (i : ℕ) → i < length ds → IsInRange 48 57 (get_or ds i 0)) digits_value
+own = numerals_by_fold _ tells_by_index (λ n text. fold (λ n c. 10 * n + (c - 48)) n text) (search rules)
+
+-- a number is written in digits
+pub decimal_digits : (n : ℕ) → n < 2 ^ 64 → All IsAsciiDigit (decimal n)
+decimal_digits n small = All-from_get_or IsAsciiDigit (decimal n) 0 (digits_decimal own n small)
+
+-- which show it
+pub decimal_value : (n : ℕ) → n < 2 ^ 64 → digits_value (decimal n) ≡ n
+decimal_value n small = digits_value-decimal own n small
+
+pub shown_decimal : (n : ℕ) → n < 2 ^ 64 → All IsShown (decimal n)
+shown_decimal n small = All-weaker IsAsciiDigit IsShown (λ c h. record { low = omega (arith, h.0); high = omega (arith, h.1) }) (decimal n) (decimal_digits n small)

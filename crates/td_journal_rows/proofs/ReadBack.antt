@@ -8,10 +8,10 @@ use Rattle.td_fields.specs.declared.fault.WebFault.{WebFault}
 use Rattle.td_routes.specs.Bodies.{command_of}
 use Rattle.td_journal_rows.specs.Requests.{HasFormedLines, IsLimitRead, IsTyped, ReadsBack, request_body, request_method, request_path}
 use Rattle.td_journal_rows.proofs.Bodies.{body_reads}
-use Rattle.td_journal_rows.proofs.Paths.{read_at}
+use Rattle.td_journal_rows.proofs.Paths.{path_leads}
 
 pub reads_back : (c : Command) → IsProper c → HasFormedLines c → IsLimitRead c → ReadsBack c
-reads_back c proper formed limit = read_at c proper (request_body c) ∙ body_reads c proper formed limit
+reads_back c proper formed limit = (path_leads c proper).read (request_body c) ∙ body_reads c proper formed limit
 
 -- each day is read of its text
 abbrev pub DaysRead : Type 0

@@ -1,13 +1,11 @@
 -- The rows that are read of rows' lines are those rows, also where the last line is torn.
-use Rattle.std.proofs.Common.{◌≡◌, ℕ, ◌+◌, ◌-◌, ◌^◌, ◌<◌, ◌==◌, Bool, true, false, cond, List, [], ◌∷◌, ◌++◌, length, map, take, get_or, fold, All, ◌*◌, Option, Some, option_and_then, option_map, Result, Ok, decimal, refl, sym, ap, ap₂, subst, ◌∙◌, arith, append_assoc, append-nil, rules}
+use Rattle.std.proofs.Common.{◌≡◌, ℕ, ◌+◌, ◌^◌, ◌<◌, ◌==◌, Bool, true, false, cond, List, [], ◌∷◌, ◌++◌, length, map, take, All, Option, Some, option_and_then, option_map, Result, Ok, decimal, refl, sym, ap, ap₂, subst, ◌∙◌, arith, append_assoc, append-nil}
 use Rattle.std.proofs.lemmas.Bool.{ne_eqb}
-use Rattle.std.proofs.lemmas.Fmt.{decimal_nonempty, digits_decimal, digits_value-decimal, length-decimal-le}
+use Rattle.std.proofs.lemmas.Fmt.{decimal_nonempty, length-decimal-le}
 use Rattle.std.proofs.lemmas.List.{length-append, take-append-le}
-use Rattle.std.proofs.lemmas.List.Elements.{All-append, All-cons, All-from_get_or, All-head, All-nil, All-tail, All-take, All-weaker}
+use Rattle.std.proofs.lemmas.List.Elements.{All-append, All-cons, All-head, All-nil, All-tail, All-take, All-weaker}
 use Rattle.std.proofs.lemmas.List.Splits.{join_with_byte-slice_split, slice_split_at, slice_split_none}
-use Rattle.std.proofs.lemmas.Str.Parse.{IsNumeralModel, numerals_by_fold, tells_by_index}
 use Rattle.std.specs.Char.{IsAsciiDigit}
-use Rattle.std.specs.Int.{IsInRange}
 use Rattle.std.specs.List.{AllByRecursion, join_with_byte, list_any}
 use Rattle.csv.specs.Machine.{Read, next_record}
 use Rattle.csv.specs.Reading.{default_config, strip_bom}
@@ -15,22 +13,16 @@ use Rattle.csv.specs.Records.{field_at}
 use Rattle.csv.specs.Writing.{default_writer, escaped, field_text, fields_text, is_blank, needs_byte}
 use Rattle.csv.specs.declared.parser.State.TheVariants.{StartRecord}
 use Rattle.csv.proofs.RoundTrip.{read-write}
-use Rattle.ascii_text.specs.Digits.{digits_value}
 use Rattle.td_journal_rows.specs.Rows.{HasNoLineFeed, HasRows, IsRow, RowText, all_but_last, ended_lines, last_of, lines_in, number_read, parts_of, row_fields, row_line, row_of_line, row_read, rows_from, rows_text, then_rows, torn_in}
+use Rattle.td_journal_rows.proofs.Plain.{decimal_digits, decimal_value}
 use Rattle.td_journal_rows.proofs.Lines.{number_is, some_part}
 
 -- ---- numbers
 
-own : IsNumeralModel (λ ds. (i : ℕ) → i < length ds → IsInRange 48 57 (get_or ds i 0)) digits_value
-own = numerals_by_fold _ tells_by_index (λ n text. fold (λ n c. 10 * n + (c - 48)) n text) (search rules)
-
-decimal_digits : (n : ℕ) → n < 10 ^ 18 → All IsAsciiDigit (decimal n)
-decimal_digits n small = All-from_get_or IsAsciiDigit (decimal n) 0 (digits_decimal own n (omega (arith, small)))
-
 number_reads : (n : ℕ) → n < 10 ^ 18 → number_read (decimal n) ≡ Some n
 number_reads n small =
-    let value = digits_value-decimal own n (omega (arith, small)) in
-    sym (number_is (decimal n) (Some n) (decimal_nonempty n (omega (arith, small))) (length-decimal-le 18 n (omega arith) small (omega (arith, small))) (decimal_digits n small, sym value))
+    let fits : n < 2 ^ 64 = omega (arith, small) in
+    sym (number_is (decimal n) (Some n) (decimal_nonempty n fits) (length-decimal-le 18 n (omega arith) small fits) (decimal_digits n fits, sym (decimal_value n fits)))
 
 -- ---- a row's line, up to its line feed
 
@@ -69,7 +61,7 @@ fields_line (field ∷ fields) all =
     (All-append (λ c. (c == 10) ≡ false) (field_text default_writer field) (fields_text default_writer fields) (field_line field all.0) (fields_line fields all.1))
 
 digits_line : (n : ℕ) → n < 10 ^ 18 → HasNoLineFeed (decimal n)
-digits_line n small = All-weaker IsAsciiDigit (λ c. (c == 10) ≡ false) (λ c digit. ne_eqb c 10 (λ e. omega (arith, digit.0))) (decimal n) (decimal_digits n small)
+digits_line n small = All-weaker IsAsciiDigit (λ c. (c == 10) ≡ false) (λ c digit. ne_eqb c 10 (λ e. omega (arith, digit.0))) (decimal n) (decimal_digits n (omega (arith, small)))
 
 front_line : (row : RowText) → IsRow row → HasNoLineFeed (row_front row)
 front_line row h =
@@ -111,7 +103,7 @@ line_kept row h =
     let rest = fields_text default_writer (decimal row.at ∷ row.method ∷ row.path ∷ row.body ∷ row.reply ∷ []) in
     let number = decimal row.number in
     let same : row_line row ≡ field_text default_writer number ++ (rest ++ 10 ∷ []) = line_is row ∙ append_assoc (field_text default_writer number) rest (10 ∷ []) in
-    ap strip_bom same ∙ (first_small number (rest ++ 10 ∷ []) (decimal_nonempty row.number (omega (arith, h.number))) (decimal_digits row.number h.number) ∙ sym same)
+    ap strip_bom same ∙ (first_small number (rest ++ 10 ∷ []) (decimal_nonempty row.number (omega (arith, h.number))) (decimal_digits row.number (omega (arith, h.number))) ∙ sym same)
 
 -- a row with other numbers
 abbrev row_with : RowText → ℕ → ℕ → RowText

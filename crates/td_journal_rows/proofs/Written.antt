@@ -1,8 +1,7 @@
 -- The text of data with no space is read as that data, with its members in order.
-use Rattle.std.proofs.Common.{◌≡◌, ℕ, ◌^◌, ◌<◌, ◌≤◌, Bool, true, false, List, [], ◌∷◌, All, Some, Ok, decimal, refl, subst, sym, ap, ◌∙◌, append-nil}
-use Rattle.std.proofs.lemmas.Fmt.{IsAscii-decimal}
-use Rattle.std.proofs.lemmas.Str.{IsUtf8-append, IsUtf8-from_ascii, is_utf8-from_IsUtf8}
-use Rattle.std.specs.List.{list_all}
+use Rattle.std.proofs.Common.{◌≡◌, ℕ, ◌^◌, ◌<◌, ◌≤◌, Bool, true, false, List, [], ◌∷◌, All, Some, Ok, refl, sym, ap, ◌∙◌, append-nil, arith, ◌++◌}
+use Rattle.std.proofs.lemmas.List.Elements.{All-append, All-cons, All-nil, All-same}
+use Rattle.std.proofs.lemmas.Str.{is_utf8-from_IsUtf8}
 use Rattle.std.specs.Prelude.{⊤, is_some, option_and_then}
 use Rattle.json.specs.Print.{quoted}
 use Rattle.std.specs.Str.{IsUtf8}
@@ -12,14 +11,13 @@ use Rattle.json.specs.Tree as tree
 use Rattle.json.proofs.Printed.Decimals.{IsNumber-decimal}
 use Rattle.json.proofs.Printed.Tokens.{tokens-print}
 use Rattle.json.proofs.Printed.Trees.{ArePrintable-json_tokens, value-json_tokens}
-use Rattle.json.proofs.Printed.Utf8.{IsUtf8-quoted}
 use Rattle.serde_json.specs.Data.{Num, unsigned, negative, float, Data, null, boolean, number, string, array, object, Items, no_items, item, Members, no_members, member}
 use Rattle.serde_json.specs.Find.{as_object}
 use Rattle.serde_json.specs.Read.{max_depth, of_json, read}
 use Rattle.serde_json.specs.Written.{comma_if, compact_text, items_outline, items_text, members_outline, members_text, outline}
 use Rattle.serde_json.proofs.Texts.{print-outline}
 use Rattle.td_fields.specs.Bodies.{object_of}
-use Rattle.td_journal_rows.proofs.Plain.{IsPlain, is_plain, plain_text, utf8_plain}
+use Rattle.td_journal_rows.proofs.Plain.{IsPlain, IsShown, quoted_plain, shown_decimal, shown_plain, utf8_shown}
 
 -- ---- data of plain texts and of numbers of 64 bits
 
@@ -65,38 +63,49 @@ mutual
   members_have_numbers no_members h = tt
   members_have_numbers (member k d ms) h = (has_numbers d h.1, members_have_numbers ms h.2)
 
--- its text is UTF-8
-one_byte : (c : ℕ) (text : List ℕ) → IsUtf8 (c ∷ []) → IsUtf8 text → IsUtf8 (c ∷ text)
-one_byte c text first rest = IsUtf8-append (c ∷ []) text first rest
+-- ---- its text
 
--- a sign of JSON, and no text
-sign : (c : ℕ) → list_all is_plain (c ∷ []) ≡ true → IsUtf8 (c ∷ [])
-sign c plain = utf8_plain (c ∷ []) (plain_text (c ∷ []) plain)
+-- a sign of JSON
+sign : (c : ℕ) → 32 ≤ c → c < 128 → IsShown c
+sign c low high = record { low = low; high = high }
 
-comma_utf8 : (later : Bool) → IsUtf8 (comma_if later)
-comma_utf8 true = sign 44 refl
-comma_utf8 false = utf8_plain [] (plain_text [] refl)
+shown_comma : (later : Bool) → All IsShown (comma_if later)
+shown_comma true = All-cons IsShown 44 [] (sign 44 (omega arith) (omega arith)) (All-nil IsShown)
+shown_comma false = All-nil IsShown
+
+shown_quoted : (text : List ℕ) → All IsPlain text → All IsShown (quoted text)
+shown_quoted text plain =
+    let quote = sign 34 (omega arith) (omega arith) in
+    let closed = All-append IsShown text (34 ∷ []) (shown_plain text plain) (All-cons IsShown 34 [] quote (All-nil IsShown)) in
+    All-same IsShown (quoted text) (34 ∷ (text ++ 34 ∷ [])) (quoted_plain text plain) (All-cons IsShown 34 (text ++ 34 ∷ []) quote closed)
 
 mutual
-  utf8_text : (d : Data) → IsSimple d → IsUtf8 (compact_text d)
-  utf8_text null h = absurd h
-  utf8_text (boolean b) h = absurd h
-  utf8_text (number (unsigned n)) h = IsUtf8-from_ascii (decimal n) (IsAscii-decimal n h)
-  utf8_text (number (negative z)) h = absurd h
-  utf8_text (number (float x)) h = absurd h
-  utf8_text (string s) h = IsUtf8-quoted s (utf8_plain s h)
-  utf8_text (array ds) h = one_byte 91 _ (sign 91 refl) (utf8_items false ds h)
-  utf8_text (object ms) h = one_byte 123 _ (sign 123 refl) (utf8_members false ms h)
+  shown_text : (d : Data) → IsSimple d → All IsShown (compact_text d)
+  shown_text null h = absurd h
+  shown_text (boolean b) h = absurd h
+  shown_text (number (unsigned n)) h = shown_decimal n h
+  shown_text (number (negative z)) h = absurd h
+  shown_text (number (float x)) h = absurd h
+  shown_text (string s) h = shown_quoted s h
+  shown_text (array ds) h = All-cons IsShown 91 (items_text false ds) (sign 91 (omega arith) (omega arith)) (shown_items false ds h)
+  shown_text (object ms) h = All-cons IsShown 123 (members_text false ms) (sign 123 (omega arith) (omega arith)) (shown_members false ms h)
 
-  utf8_items : (later : Bool) (ds : Items) → AreSimple ds → IsUtf8 (items_text later ds)
-  utf8_items later no_items h = sign 93 refl
-  utf8_items later (item d ds) h = IsUtf8-append (comma_if later) _ (comma_utf8 later) (IsUtf8-append (compact_text d) _ (utf8_text d h.0) (utf8_items true ds h.1))
+  shown_items : (later : Bool) (ds : Items) → AreSimple ds → All IsShown (items_text later ds)
+  shown_items later no_items h = All-cons IsShown 93 [] (sign 93 (omega arith) (omega arith)) (All-nil IsShown)
+  shown_items later (item d ds) h =
+      All-append IsShown (comma_if later) (compact_text d ++ items_text true ds) (shown_comma later) (All-append IsShown (compact_text d) (items_text true ds) (shown_text d h.0) (shown_items true ds h.1))
 
-  utf8_members : (later : Bool) (ms : Members) → AreSimpleMembers ms → IsUtf8 (members_text later ms)
-  utf8_members later no_members h = sign 125 refl
-  utf8_members later (member k d ms) h =
-      IsUtf8-append (comma_if later) _ (comma_utf8 later) (IsUtf8-append (quoted k) _ (IsUtf8-quoted k (utf8_plain k h.0))
-      (one_byte 58 _ (sign 58 refl) (IsUtf8-append (compact_text d) _ (utf8_text d h.1) (utf8_members true ms h.2))))
+  shown_members : (later : Bool) (ms : Members) → AreSimpleMembers ms → All IsShown (members_text later ms)
+  shown_members later no_members h = All-cons IsShown 125 [] (sign 125 (omega arith) (omega arith)) (All-nil IsShown)
+  shown_members later (member k d ms) h =
+      let behind = All-append IsShown (compact_text d) (members_text true ms) (shown_text d h.1) (shown_members true ms h.2) in
+      let colon = All-cons IsShown 58 (compact_text d ++ members_text true ms) (sign 58 (omega arith) (omega arith)) behind in
+      All-append IsShown (comma_if later) (quoted k ++ 58 ∷ (compact_text d ++ members_text true ms)) (shown_comma later)
+      (All-append IsShown (quoted k) (58 ∷ (compact_text d ++ members_text true ms)) (shown_quoted k h.0) colon)
+
+-- a body that is such a text
+pub shown_body : (body : List ℕ) (d : Data) → compact_text d ≡ body → IsSimple d → All IsShown body
+shown_body body d same simple = All-same IsShown body (compact_text d) (sym same) (shown_text d simple)
 
 -- what is read of its text is its JSON, converted
 pub read_written : (d : Data) → IsSimple d → tree.depth (outline d) ≤ max_depth → read (compact_text d) ≡ of_json (outline d)
@@ -109,6 +118,6 @@ read_written d simple shallow =
 pub object_is : (body : List ℕ) (d found : Data) → compact_text d ≡ body → IsSimple d → tree.depth (outline d) ≤ max_depth → of_json (outline d) ≡ Some found → is_some (as_object found) ≡ true
     → object_of body ≡ Ok found
 object_is body d found same simple shallow converted is_object =
-    let text : IsUtf8 body = subst IsUtf8 same (utf8_text d simple) in
+    let text : IsUtf8 body = utf8_shown body (shown_body body d same simple) in
     let reads : read body ≡ Some found = ap read (sym same) ∙ (read_written d simple shallow ∙ converted) in
     rw (is_utf8-from_IsUtf8 body text, reads) (rw is_object refl)

@@ -8,6 +8,8 @@ use Rattle.csv.specs.Records.{field_at}
 use Rattle.csv.specs.Writing.{default_writer, row_text}
 use Rattle.csv.specs.declared.parser.State.TheVariants.{StartRecord}
 use Rattle.ascii_text.specs.Digits.{digits_value}
+use Rattle.td_commands.specs.declared.command.Command.{Command}
+use Rattle.td_journal_rows.specs.Requests.{request_body, request_method, request_path}
 use Rattle.td_journal_rows.specs.declared.rows.JournalFault.{JournalFault}
 use Rattle.td_journal_rows.specs.declared.rows.JournalFault.TheVariants.{BadRow, NoMemory}
 use Rattle.td_journal_rows.specs.declared.rows.JournalRow.{JournalRow}
@@ -56,6 +58,17 @@ pub record IsRow (row : RowText) : Type 0 where
   pub path : HasNoLineFeed row.path
   pub body : HasNoLineFeed row.body
   pub reply : HasNoLineFeed row.reply
+
+-- the row of an accepted change: its request in the one form, and the body of what was said
+abbrev pub change_row : ℕ → ℕ → Command → List ℕ → RowText
+change_row number at command reply = record {
+  number = number;
+  at = at;
+  method = request_method command;
+  path = request_path command;
+  body = request_body command;
+  reply = reply;
+}
 
 -- ---- reading
 

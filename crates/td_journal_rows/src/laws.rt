@@ -1,9 +1,9 @@
 //! What holds of the requests that ask for commands: the contracts are laws, and the calls do nothing.
 ghost use Rattle.std.specs.List.{AllByRecursion};
-ghost use Rattle.std.specs.Prelude.{◌≡◌, ◌<◌, ◌++◌, ℕ, All, List, Some, length, take};
+ghost use Rattle.std.specs.Prelude.{◌≡◌, ◌^◌, ◌<◌, ◌++◌, ℕ, All, List, Some, length, take};
 ghost use Rattle.td_base.specs.Days.{IsDay, day_read, day_text};
 ghost use Rattle.td_commands.specs.declared.command.Command.{Command};
-ghost use Rattle.td_journal_rows.specs.Rows.{HasRows, IsRow, RowText, ended_lines, lines_in, row_line, rows_text, torn_in};
+ghost use Rattle.td_journal_rows.specs.Rows.{HasNoLineFeed, HasRows, IsRow, RowText, change_row, ended_lines, lines_in, row_line, rows_text, torn_in};
 ghost use Rattle.td_journal_rows.specs.Requests.{HasFormedLines, IsFormedLine, IsLimitRead, IsTyped, ReadsBack, request_body, request_method, request_path};
 
 use td_base::{AccessCode, Day, day_reads_back};
@@ -60,6 +60,12 @@ pub fn rows_read_back()
     ensures back { (rows : List RowText) (row : RowText) (n : ℕ) → AllByRecursion IsRow rows → IsRow row
         → n < length (row_line row) → HasRows (rows_text rows ++ take n (row_line row)) rows (take n (row_line row)) }
     ensures whole { (text : List ℕ) → ended_lines (lines_in text) ++ torn_in text ≡ text }
+{}
+
+/// The row of an accepted change is such a row, where no line ends within the reply's body.
+pub fn changes_are_rows()
+    ensures { (number at : ℕ) (command : Command) (reply : List ℕ) → number < 10 ^ 18 → at < 10 ^ 18 → IsTyped command
+        → HasNoLineFeed reply → IsRow (change_row number at command reply) }
 {}
 
 /// The parts of a command are in the ranges of their types: a clause over every command ranges over values that no type has,

@@ -7,7 +7,8 @@ mod requests;
 mod rows;
 
 pub use laws::{
-    command_is_typed, days_read_back, request_reads_back, requests_read_back, rows_read_back,
+    changes_are_rows, command_is_typed, days_read_back, request_reads_back, requests_read_back,
+    rows_read_back,
 };
 pub use requests::{RequestText, request_of};
-pub use rows::{JournalFault, JournalRow, JournalRows, read_rows, write_row};
+pub use rows::{JournalFault, JournalRow, JournalRows, read_rows, row_of_change, write_row};

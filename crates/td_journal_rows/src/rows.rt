@@ -3,12 +3,14 @@ ghost use Rattle.std.specs.List.{position};
 ghost use Rattle.std.specs.Prelude.{◌≡◌, ◌==◌, ◌∷◌, ◌++◌, [], ◌<◌, IfErr, IfOk, IfSome, List, None, Ok, ℕ, length, map, option_map};
 ghost use Rattle.csv.specs.Records.{fields_of};
 ghost use Rattle.csv.specs.Writing.{default_writer, row_text as csv_text};
-ghost use Rattle.td_journal_rows.specs.Rows.{Tells, number_read, parts_of, row_line, row_of_line, row_read, row_shown, rows_in, text_at, torn_in};
+ghost use Rattle.td_journal_rows.specs.Rows.{Tells, change_row, number_read, parts_of, row_line, row_of_line, row_read, row_shown, rows_in, text_at, torn_in};
 ghost use Rattle.td_journal_rows.specs.declared.rows.JournalFault.TheVariants.{NoMemory};
 
+use crate::requests::request_of;
 use ascii_text::read_digits;
 use csv::{ByteRecord, ReaderBuilder, WriterBuilder};
 use std::alloc::{AllocError, Global};
+use td_commands::Command;
 use thiserror::Error;
 
 /// A row of a journal: an accepted change as its request, and what was said to it.
@@ -51,6 +53,28 @@ pub struct JournalRows {
     pub rows: Vec<JournalRow>,
     /// How many bytes stand behind them: those of a row that was torn off, or none.
     pub torn: usize,
+}
+
+/// The row of an accepted change: its number, its moment, its command as a request in the one form, and the body of the
+/// reply. `AllocError`: want of memory.
+pub fn row_of_change(
+    alloc: Global,
+    number: u64,
+    at: u64,
+    command: &Command,
+    reply: &[u8],
+) -> Result<JournalRow, AllocError>
+    ensures { IfOk result (λ row. row_shown row ≡ change_row number at command.now reply.now) }
+{
+    let request = request_of(alloc, command)?;
+    Ok(JournalRow {
+        number,
+        at,
+        method: Vec::from_slice(alloc, request.method.as_bytes())?,
+        path: request.path.into_bytes(),
+        body: request.body.into_bytes(),
+        reply: Vec::from_slice(alloc, reply)?,
+    })
 }
 
 /// The line of a row. `AllocError`: want of memory.
