@@ -20,6 +20,8 @@ mod guarantees;
 #[cfg(test)]
 mod holder_files;
 #[cfg(test)]
+mod journal;
+#[cfg(test)]
 mod money;
 #[cfg(test)]
 mod movements;

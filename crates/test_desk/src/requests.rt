@@ -2,5 +2,6 @@
 mod acts;
 mod asked;
 mod declarations;
+mod one_form;
 mod openings;
 mod reading;

@@ -1,0 +1,53 @@
+-- The row of a change stands on one line.
+use Rattle.std.proofs.Common.{◌≡◌, ℕ, ◌^◌, ◌<◌, ◌==◌, List, All, false, codes, refl, arith}
+use Rattle.std.proofs.lemmas.Bool.{ne_eqb}
+use Rattle.std.proofs.lemmas.List.Elements.{All-weaker}
+use Rattle.td_commands.specs.declared.command.Command.{Command}
+use Rattle.td_commands.specs.declared.command.Command.TheVariants.{Register, OpenGuarantee, Amend, Revoke, Ie015, Ie014, AddCode, RemoveCode, Ie029, Ie007, Ie018, Ie045, Ie140, SeeHolder, SeeMovement, SeeMovements, SeeGuarantee, SeeGuarantees}
+use Rattle.td_journal_rows.specs.Requests.{IsTyped, request_body, request_method, request_path}
+use Rattle.td_journal_rows.specs.Rows.{HasNoLineFeed, IsRow, change_row}
+use Rattle.td_journal_rows.proofs.Bodies.{body_shown}
+use Rattle.td_journal_rows.proofs.Paths.{path_leads}
+use Rattle.td_journal_rows.proofs.Plain.{IsShown, plain_text, shown_plain}
+
+no_line : (text : List ℕ) → All IsShown text → HasNoLineFeed text
+no_line text shown = All-weaker IsShown (λ c. (c == 10) ≡ false) (λ c h. ne_eqb c 10 (λ e. omega (arith, h.low, e))) text shown
+
+put : All IsShown (codes "PUT")
+put = shown_plain (codes "PUT") (plain_text (codes "PUT") refl)
+
+post : All IsShown (codes "POST")
+post = shown_plain (codes "POST") (plain_text (codes "POST") refl)
+
+get : All IsShown (codes "GET")
+get = shown_plain (codes "GET") (plain_text (codes "GET") refl)
+
+method_shown : (c : Command) → All IsShown (request_method c)
+method_shown (Register holder eori) = put
+method_shown (OpenGuarantee holder reference cover code) = post
+method_shown (Amend grn reference cover) = post
+method_shown (Revoke grn) = post
+method_shown (Ie015 holder lrn departure destination lines) = post
+method_shown (Ie014 holder mrn) = post
+method_shown (AddCode holder grn code) = post
+method_shown (RemoveCode holder grn code) = post
+method_shown (Ie029 mrn limit) = post
+method_shown (Ie007 mrn office) = post
+method_shown (Ie018 mrn result) = post
+method_shown (Ie045 mrn cause) = post
+method_shown (Ie140 mrn) = post
+method_shown (SeeHolder holder) = get
+method_shown (SeeMovement holder mrn) = get
+method_shown (SeeMovements holder) = get
+method_shown (SeeGuarantee holder grn) = get
+method_shown (SeeGuarantees holder) = get
+
+pub change_is_row : (number at : ℕ) (c : Command) (reply : List ℕ) → number < 10 ^ 18 → at < 10 ^ 18 → IsTyped c → HasNoLineFeed reply → IsRow (change_row number at c reply)
+change_is_row number at c reply small small_at typed said = record {
+  number = small;
+  at = small_at;
+  method = no_line (request_method c) (method_shown c);
+  path = no_line (request_path c) (path_leads c typed.0).shown;
+  body = no_line (request_body c) (body_shown c typed.0 typed.1);
+  reply = said;
+}
