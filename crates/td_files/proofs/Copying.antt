@@ -16,6 +16,7 @@ use Rattle.td_schema.specs.Tables.{IsEmptyOf, no_schema}
 use Rattle.td_store_rows.specs.StoreReads.{HasNewestTables}
 use Rattle.td_store_rows.specs.StoreTables.{AreTreesOf, HoldsContent}
 use Rattle.td_store_rows.proofs.Holding.{holds_still}
+use Rattle.td_store.proofs.Holding.{content_held}
 use Rattle.td_store.specs.Kept.{content_in}
 use Rattle.td_store.specs.Looked.{HasLooked}
 use Rattle.typed_sql.specs.Outside.{CrashLeavesShown, Looks}
@@ -40,6 +41,7 @@ module _ {D : Type 0} {g : disk.Ghosts D} where
     found = is;
     blank = blank;
     schema = schema live;
+    content = content_held made (file_state c) holds;
     holds = holds;
     settled = settled;
   }
@@ -114,7 +116,9 @@ module _ (country : List ℕ) (c : Content) (from seen old left : State) (clean 
   pub has_joined : (HasCleanDisk left → IsTrue old.is_open × IsTrue left.is_open) → (HasCleanDisk seen → HasCleanDisk left → Joins from old left)
       → (HasCleanDisk seen → HasCleanDisk left → WereApart from old) → HasJoined country c old left (Ok tt)
   has_joined shown joins apart = record {
-    told = λ clean_left d held is. (apart clean clean_left c d holds held, (shown clean_left).1, joins clean clean_left c d holds held (at ∙ sym is));
+    told = λ clean_left d held is.
+        let both = joins clean clean_left c d holds held (at ∙ sym is) in
+        (apart clean clean_left c d holds held, (shown clean_left).1, both, content_held (joined c d) left both);
     same = λ clean_left live. tt;
     leaves = leaves;
   }

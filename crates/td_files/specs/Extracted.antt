@@ -13,18 +13,19 @@ use Rattle.td_store.specs.Looked.{HasLooked}
 use Rattle.typed_sql.specs.Outside.{CrashLeavesShown}
 use Rattle.td_extract.specs.Between.{content_between}
 use Rattle.td_machine.specs.Drive.{KnownDrive}
-use Rattle.td_files.specs.Found.{FileHeld, FileSeen, FoundAt, HasNoDesk, IsClean, IsFoundIn, IsHandedBack, IsKeptDesk, IsOpenedDesk, IsUnmadeFor, IsUnopened, over_file}
+use Rattle.td_files.specs.Found.{FileHeld, FileSeen, FoundAt, HasNoDesk, IsClean, IsFoundIn, IsHandedBack, IsKeptDesk, IsOpenedDesk, IsUnmadeFor, IsUnopened, content_in, over_file}
 use Rattle.td_files.specs.declared.desks.DeskFault.{DeskFault}
 
 module _ {D : Type 0} {g : disk.Ghosts D} where
   -- A desk's file of this content was made: the file held no table. It has the tables of the newest version now, and no others, and
-  -- holds just the content. A crash leaves that.
+  -- holds just the content, which is the one that an opening finds in its rows. A crash leaves that.
   pub record ShowsMade (image : Image) (made : Content) (c : FileSeen g) : Type 0 where
     pub live : IsTrue (file_state c).is_open
     pub before : Database
     pub found : IsFoundIn image before
     pub blank : IsEmptyOf no_schema before
     pub schema : (file_state c).now.schema ≡ desk_schema
+    pub content : content_in (file_state c).now.trees ≡ made
     pub holds : HoldsContent made (file_state c)
     pub settled : CrashLeavesShown (file_state c)
 

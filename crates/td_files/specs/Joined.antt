@@ -14,7 +14,7 @@ use Rattle.td_join.specs.declared.fault.JoinFault.{JoinFault}
 use Rattle.td_join.specs.declared.fault.JoinFault.TheVariants as join
 use Rattle.td_machine.specs.Drive.{KnownDrive}
 use Rattle.td_files.specs.Extracted.{IsReadFrom}
-use Rattle.td_files.specs.Found.{FileHeld, FileSeen, FoundAt, HasNoDesk, IsClean, IsOpenedDesk, over_file}
+use Rattle.td_files.specs.Found.{FileHeld, FileSeen, FoundAt, HasNoDesk, IsClean, IsOpenedDesk, content_in, over_file}
 use Rattle.td_files.specs.Faults as fault
 use Rattle.td_files.specs.declared.desks.DeskFault.{DeskFault}
 use Rattle.td_files.specs.declared.desks.DeskFault.TheVariants.{Refused}
@@ -27,10 +27,10 @@ refused_for (join.Stands holder) = HolderExists holder
 refused_for join.Store = File (Refused fault.Store)
 refused_for join.NoMemory = File (Refused fault.NoMemory)
 
--- What is told of two contents that were to be in one file, which is left so: they are, and no holder stood in both; this holder stands in
--- both, the one with the least number; or the fault is the store's, or want of memory.
+-- What is told of two contents that were to be in one file, which is left so: they are, no holder stood in both, and an opening finds just
+-- that content in the rows; this holder stands in both, the one with the least number; or the fault is the store's, or want of memory.
 abbrev pub TellsJoin : Content → Content → State → Result (Unit {0}) JoinRefusal → Type 0
-TellsJoin c d left (Ok done) = AreApart c d × IsTrue left.is_open × HoldsContent (joined c d) left
+TellsJoin c d left (Ok done) = AreApart c d × IsTrue left.is_open × HoldsContent (joined c d) left × (content_in left.now.trees ≡ joined c d)
 TellsJoin c d left (Err (HolderExists holder)) = IsFirstOfBoth c d holder
 TellsJoin c d left (Err (File why)) = (why ≡ Refused fault.Store) ⊎ (why ≡ Refused fault.NoMemory)
 
