@@ -1,8 +1,6 @@
 -- The next run over a file that was brought to the newest version.
 use Rattle.std.proofs.Common.{◌≡◌, ◌∙◌, ℕ, List, Ok, ap, inl, inr, subst, sym}
 use Rattle.sqlite_disk.specs.declared.Disk.{Ghosts}
-use Rattle.sqlite_trees.specs.Tree.{Trees}
-use Rattle.sqlite_wal.specs.Recovery.{Image}
 use Rattle.sqlite.specs.Effect.{Database}
 use Rattle.sqlite.specs.Files.{file_state}
 use Rattle.td_desk.specs.Content.{Content}
@@ -11,7 +9,6 @@ use Rattle.td_store.proofs.Holding.{trees_hold}
 use Rattle.td_store_rows.specs.StoreTables.{AreTreesOf}
 use Rattle.td_migrate.specs.Upgraded.{HeldEarlier, TellsUpgrade}
 use Rattle.td_files.specs.Found.{FileSeen, IsOpenedDesk}
-use Rattle.td_files.specs.Upgraded.{ShowsUpgrade}
 use Rattle.td_cli.specs.Runs.{GoesOnFrom}
 use Rattle.td_cli.specs.UpgradeLaws.{BeginsWithWhatWasHeld, HeldContent}
 

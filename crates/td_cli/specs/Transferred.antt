@@ -1,5 +1,5 @@
 -- What was done between two files, and what was told of it.
-use Rattle.std.specs.Prelude.{◌≡◌, ℕ, List, string_bytes, Option, Result}
+use Rattle.std.specs.Prelude.{ℕ, List, string_bytes, Option, Result}
 use Rattle.counted_io.specs.declared.counted.Counted.{Counted}
 use Rattle.sqlite_disk.specs.declared.Disk.{Ghosts}
 use Rattle.td_files.specs.Extracted.{IsExtracted}
