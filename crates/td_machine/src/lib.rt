@@ -1,5 +1,6 @@
-//! The machine that the program stands in: its files, its clock and its sockets, as a trait that generic code is lent; the
-//! machine itself; and one in memory, of which all is known.
+//! The machine that the program stands in: its files, its clock and its sockets, as a trait that generic code is lent; and the
+//! drive on which a database file stands, as another. Of both there is the machine itself, and one in memory, of which all is
+//! known.
 #![tactic(auto)]
 
 mod around;
