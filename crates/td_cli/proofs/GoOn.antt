@@ -13,8 +13,9 @@ use Rattle.td_extract.specs.Laws.{AccountsAreOfTheRange}
 use Rattle.td_files.specs.Found.{FileSeen, over_file}
 use Rattle.td_join.specs.Joined.{joined}
 use Rattle.td_join.specs.Laws.{AccountsAreOfEither}
-use Rattle.td_cli.specs.PartLaws.{JoinedAreTied, PartsAreTied, HoldersGoOnAtAJoin, HoldersGoOnAtAPart, books_between, books_joined}
+use Rattle.td_cli.specs.PartLaws.{JoinedAreTied, PartsAreTied, HoldersGoOnAfterExtract, HoldersGoOnAfterJoin, HoldersGoOnAtAJoin, HoldersGoOnAtAPart, books_between, books_joined}
 use Rattle.td_cli.specs.Parts.{ArePartsTold, IsWork, Part, heard_of, machine_tells, told_of}
+use Rattle.td_cli.proofs.Runs.{found_left}
 
 -- a book of one of two, by a test
 module _ (H : ℕ) (x y : Account) (book other : Book) where
@@ -69,3 +70,12 @@ module _ {S : Type 0} (disk : Ghosts S) where
   pub go_on_at_join : JoinedAreTied → HoldersGoOnAtAJoin disk
   go_on_at_join are_tied country c d books others opened left parts same tied tied_others is work H =
       by_books country opened left parts (joined c d) (books_joined c books others) (are_tied c d books others same tied tied_others) is work H
+
+  -- the next run begins with the content of what `extract` and `join` left
+  pub go_on_after_extract : HoldersGoOnAtAPart disk → HoldersGoOnAfterExtract disk
+  go_on_after_extract go_on country first last whole books found made opened left parts tied shows goes work =
+      go_on country first last whole books opened left parts tied (found_left country made opened goes ∙ shows.content) work
+
+  pub go_on_after_join : HoldersGoOnAtAJoin disk → HoldersGoOnAfterJoin disk
+  go_on_after_join go_on country c d books others both opened left parts same tied tied_others told goes work =
+      go_on country c d books others opened left parts same tied tied_others (found_left country both opened goes ∙ told.3) work

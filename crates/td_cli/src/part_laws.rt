@@ -1,5 +1,5 @@
 //! The headline over files that were split or joined, as contracts of a function that does nothing.
-ghost use Rattle.td_cli.specs.PartLaws.{HoldersGoOnAtAJoin, HoldersGoOnAtAPart, JoinedAreTied, PartsAreTied};
+ghost use Rattle.td_cli.specs.PartLaws.{HoldersGoOnAfterExtract, HoldersGoOnAfterJoin, HoldersGoOnAtAJoin, HoldersGoOnAtAPart, JoinedAreTied, PartsAreTied};
 
 use sqlite_disk::Disk;
 use td_desk::fresh_books_are_tied;
@@ -11,11 +11,14 @@ use td_join::accounts_are_of_either;
 ///
 /// `parts`, `joined`: the books that say what a content has say what its part has, and what two contents have in one. `part`, `join`: so
 /// whatever runs do over such a file tells each holder what the holder's own machine says, from the book that it had before.
+/// `after_extract`, `after_join`: and so do runs that go on from what an extract left of a new file, or a join of a file.
 pub fn holders_go_on_where_their_rows_go<F: Disk>()
     ensures parts { PartsAreTied }
     ensures joined { JoinedAreTied }
     ensures part { HoldersGoOnAtAPart F.Disk }
     ensures join { HoldersGoOnAtAJoin F.Disk }
+    ensures after_extract { HoldersGoOnAfterExtract F.Disk }
+    ensures after_join { HoldersGoOnAfterJoin F.Disk }
 {
     fresh_books_are_tied();
     accounts_are_of_the_range();
