@@ -1,5 +1,5 @@
 -- Books that are tied to a part of a content, or to two contents in one, and what work over a file of it tells.
-use Rattle.std.proofs.Common.{◌≡◌, ◌∙◌, ℕ, Bool, true, false, List, ap, refl, subst, sym}
+use Rattle.std.proofs.Common.{◌≡◌, ◌∙◌, ℕ, Bool, true, false, List, refl, subst, sym}
 use Rattle.std.specs.Prelude.{if◌then◌else◌, is_some}
 use Rattle.sqlite_disk.specs.declared.Disk.{Ghosts}
 use Rattle.td_model.specs.Account.{Account, empty_account}
@@ -14,7 +14,7 @@ use Rattle.td_files.specs.Found.{FileSeen, over_file}
 use Rattle.td_join.specs.Joined.{joined}
 use Rattle.td_join.specs.Laws.{AccountsAreOfEither}
 use Rattle.td_cli.specs.PartLaws.{JoinedAreTied, PartsAreTied, HoldersGoOnAfterExtract, HoldersGoOnAfterJoin, HoldersGoOnAtAJoin, HoldersGoOnAtAPart, books_between, books_joined}
-use Rattle.td_cli.specs.Parts.{ArePartsTold, IsWork, Part, heard_of, machine_tells, told_of}
+use Rattle.td_cli.specs.Parts.{IsWork, Part, heard_of, machine_tells, told_of}
 use Rattle.td_cli.proofs.Runs.{found_left}
 
 -- a book of one of two, by a test

@@ -1,5 +1,5 @@
 -- What holders are told by runs over a file that was split or joined.
-use Rattle.std.specs.Prelude.{◌≡◌, ℕ, Bool, true, List, if◌then◌else◌, is_some, Ok}
+use Rattle.std.specs.Prelude.{◌≡◌, ℕ, true, List, if◌then◌else◌, is_some, Ok}
 use Rattle.sqlite.specs.Files.{file_state}
 use Rattle.sqlite_disk.specs.declared.Disk.{Ghosts}
 use Rattle.sqlite_wal.specs.Recovery.{Image}
