@@ -167,33 +167,33 @@ fn read_row(alloc: Global, line: &[u8]) -> Result<Option<JournalRow>, AllocError
 }
 
 // The row of a record, if it is one.
-fn row_of_record(alloc: Global, record: &ByteRecord) -> Result<Option<JournalRow>, AllocError>
-    ensures { IfOk result (λ row. option_map row_shown row ≡ row_read (fields_of record.now)) }
+fn row_of_record(alloc: Global, columns: &ByteRecord) -> Result<Option<JournalRow>, AllocError>
+    ensures { IfOk result (λ row. option_map row_shown row ≡ row_read (fields_of columns.now)) }
 {
-    if record.len() != 6 {
+    if columns.len() != 6 {
         return Ok(None);
     }
-    let Some(number) = read_number(field(record, 0)) else {
+    let Some(number) = read_number(field(columns, 0)) else {
         return Ok(None);
     };
-    let Some(at) = read_number(field(record, 1)) else {
+    let Some(at) = read_number(field(columns, 1)) else {
         return Ok(None);
     };
     Ok(Some(JournalRow {
         number,
         at,
-        method: Vec::from_slice(alloc, field(record, 2))?,
-        path: Vec::from_slice(alloc, field(record, 3))?,
-        body: Vec::from_slice(alloc, field(record, 4))?,
-        reply: Vec::from_slice(alloc, field(record, 5))?,
+        method: Vec::from_slice(alloc, field(columns, 2))?,
+        path: Vec::from_slice(alloc, field(columns, 3))?,
+        body: Vec::from_slice(alloc, field(columns, 4))?,
+        reply: Vec::from_slice(alloc, field(columns, 5))?,
     }))
 }
 
 // The text of a field, counted from 0; of one that isn't there, no bytes.
-fn field(record: &ByteRecord, place: usize) -> &[u8]
-    ensures { result.now ≡ text_at (fields_of record.now) place }
+fn field(columns: &ByteRecord, place: usize) -> &[u8]
+    ensures { result.now ≡ text_at (fields_of columns.now) place }
 {
-    match record.get(place) {
+    match columns.get(place) {
         Some(text) => text,
         None => &[],
     }
