@@ -1,8 +1,6 @@
 //! Targets of the other forms, with dots, escapes and letters of all kinds: what the desk takes them for.
-use crate::runner::assert_transcript;
-use std::test::Fail;
 
-const CASES: &[u8] = br#"
+pub const CASES: &[u8] = br#"
 == targets of the other forms are no paths of the desk
 $ pipe --country CH --at 1740819600
 > GET http://desk/holders/000002
@@ -421,8 +419,3 @@ $ pipe --country CH --at 1740819600
 >| GET /holders/\xff
 ! 1 transit-desk: stream cut
 "#;
-
-#[test]
-fn the_transcript_is_kept(rt: HostRuntime) -> Result<(), Fail> {
-    assert_transcript(&rt, CASES)
-}
