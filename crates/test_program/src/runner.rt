@@ -1,6 +1,6 @@
 //! Transcripts of runs of the program, as text: cases, each with its runs, and of each run the words or the moment, the
 //! requests, the replies that are due, and how it ends. Each text is a constant of a file below `transcripts`, whose
-//! third line begins it: one of ASCII bytes, since it takes longer to prove that a literal is a `str`. The same files are
+//! fifth line begins it: one of ASCII bytes, since it takes longer to prove that a literal is a `str`. The same files are
 //! read by `tests/transcripts`, which runs the program that was built.
 //!
 //! A line begins with what it is:
@@ -32,4 +32,4 @@ mod cases;
 mod files;
 mod told;
 
-pub use cases::{Transcript, assert_transcripts};
+pub use cases::assert_transcript;

@@ -4,10 +4,9 @@ use crate::helpers::Done;
 use std::alloc::{AllocError, Global};
 use std::test::Fail;
 
-/// A case by the name of its file and its own, and the number of a line in the file.
+/// A case by its name, and the number of a line in the file.
 #[derive(Clone, Copy)]
 pub struct Place<'a> {
-    pub file: &'a str,
     pub case: &'a str,
     pub line: usize,
 }
@@ -16,7 +15,6 @@ impl<'a> Place<'a> {
     /// So many lines below.
     pub fn below(self, lines: usize) -> Place<'a> {
         Place {
-            file: self.file,
             case: self.case,
             line: self.line.saturating_add(lines),
         }
@@ -29,15 +27,12 @@ impl<'a> Place<'a> {
 
     /// This is wrong here.
     pub fn wrong(self, why: &str) -> Fail {
-        let Place { file, case, line } = self;
-        Fail::new(format_args!("{file}, {case}, line {line}: {why}"))
+        Fail::new(format_args!("{}, line {}: {why}", self.case, self.line))
     }
 
     fn differs(self, came: &str, due: &str) -> Fail {
-        let Place { file, case, line } = self;
-        Fail::new(format_args!(
-            "{file}, {case}, line {line}: {came:?} came, where this is due: {due}"
-        ))
+        let Place { case, line } = self;
+        Fail::new(format_args!("{case}, line {line}: {came:?} came, where this is due: {due}"))
     }
 }
 

@@ -1,6 +1,8 @@
 //! Answers and refusals that the other transcripts have not: views, lists, a refusal before the end, and what is free.
+use crate::runner::assert_transcript;
+use std::test::Fail;
 
-pub const CASES: &[u8] = br#"
+const CASES: &[u8] = br#"
 == a movement that has arrived elsewhere is shown
 @ 1740819600 2025-03-01T09:00:00Z
 > PUT /office/holders/000001 {"eori":"CH1234567"}
@@ -113,3 +115,8 @@ $ pipe --country CH --at 1740819600
 > POST /office/movements/25CH000001000002J7/ie029 {"limit":"2025-03-08"}
 < 409 {"error":"over-reference","free":999999,"grn":"25CH0000010000014"}
 "#;
+
+#[test]
+fn the_transcript_is_kept(rt: HostRuntime) -> Result<(), Fail> {
+    assert_transcript(&rt, CASES)
+}

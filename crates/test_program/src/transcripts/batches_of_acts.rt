@@ -1,6 +1,8 @@
 //! Batches of acts, done over the file of the case.
+use crate::runner::assert_transcript;
+use std::test::Fail;
 
-pub const CASES: &[u8] = br#"
+const CASES: &[u8] = br#"
 == an act that comes too early is told, and one that was done is the wrong state
 $ pipe --country CH --at 1740819600 --db FILE --new
 > PUT /office/holders/000001 {"eori":"CH1234567"}
@@ -291,3 +293,8 @@ $ pipe --country CH --at 1740819600 --db FILE
 > GET /holders/000001/movements/25CH000001000001J8
 < 200 {"accepted":"2025-03-01","actual":null,"arrival":null,"departure":"CH001251","destination":"DE005600","limit":null,"lines":[{"cents":400000,"grn":"25CH0000010000014"},{"cents":101,"grn":"25CH0000010000023"}],"lrn":"A1","mrn":"25CH000001000001J8","state":"accepted"}
 "#;
+
+#[test]
+fn the_transcript_is_kept(rt: HostRuntime) -> Result<(), Fail> {
+    assert_transcript(&rt, CASES)
+}

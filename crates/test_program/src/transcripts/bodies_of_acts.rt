@@ -1,6 +1,8 @@
 //! Bodies of acts on guarantees and movements and of changes of codes that cannot be read, and what is told of each.
+use crate::runner::assert_transcript;
+use std::test::Fail;
 
-pub const CASES: &[u8] = br#"
+const CASES: &[u8] = br#"
 == amendments that can't be read
 $ pipe --country CH --at 1740819600
 > POST /office/guarantees/25CH0000010000014/amend {"reference":0,"cover":30}
@@ -86,3 +88,8 @@ $ pipe --country CH --at 1740819600
 > POST /office/movements/25CH000001000001J8/ie045 {"grounds":"proof"}
 < 400 {"error":"bad-field","field":"ground"}
 "#;
+
+#[test]
+fn the_transcript_is_kept(rt: HostRuntime) -> Result<(), Fail> {
+    assert_transcript(&rt, CASES)
+}

@@ -1,6 +1,8 @@
 //! Bodies that declare nothing, and what is told of each.
+use crate::runner::assert_transcript;
+use std::test::Fail;
 
-pub const CASES: &[u8] = br#"
+const CASES: &[u8] = br#"
 == declarations of which the first field that is missing or ill-formed is told
 $ pipe --country CH --at 1740819600
 > POST /holders/000001/movements
@@ -155,3 +157,8 @@ $ pipe --country CH --at 1740819600
 > POST /holders/000001/movements {"lrn":"A1","departure":"CH001251","destination":"DE005600","lines":[{"grn":25,"code":"AB12","cents":500000}]}
 < 400 {"error":"bad-field","field":"lines"}
 "#;
+
+#[test]
+fn the_transcript_is_kept(rt: HostRuntime) -> Result<(), Fail> {
+    assert_transcript(&rt, CASES)
+}

@@ -1,6 +1,8 @@
 //! Bodies that open no guarantee, and what is told of each.
+use crate::runner::assert_transcript;
+use std::test::Fail;
 
-pub const CASES: &[u8] = br#"
+const CASES: &[u8] = br#"
 == openings of which the first field that is missing or ill-formed is told
 $ pipe --country CH --at 1740819600
 > POST /office/holders/000001/guarantees
@@ -108,3 +110,8 @@ $ pipe --country CH --at 1740819600
 > POST /office/holders/000001/guarantees {"reference":1000000,"cover":50,"code":"\u00c4B1"}
 < 400 {"error":"bad-field","field":"code"}
 "#;
+
+#[test]
+fn the_transcript_is_kept(rt: HostRuntime) -> Result<(), Fail> {
+    assert_transcript(&rt, CASES)
+}

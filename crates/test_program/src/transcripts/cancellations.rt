@@ -1,6 +1,8 @@
 //! A declaration that its holder cancels (IE014).
+use crate::runner::assert_transcript;
+use std::test::Fail;
 
-pub const CASES: &[u8] = br#"
+const CASES: &[u8] = br#"
 == a declaration is cancelled
 $ pipe --country CH --at 1740819600
 > POST /holders/000001/movements/25CH000001000001J8/ie014
@@ -78,3 +80,8 @@ $ pipe --country CH --at 1740819600
 > POST /holders/000001/movements/25CH000001000001J8/ie014
 < 409 {"error":"wrong-state","state":"cancelled"}
 "#;
+
+#[test]
+fn the_transcript_is_kept(rt: HostRuntime) -> Result<(), Fail> {
+    assert_transcript(&rt, CASES)
+}

@@ -1,6 +1,8 @@
 //! Another program changes codes of guarantees: what `check` tells, and what the database refuses.
+use crate::runner::assert_transcript;
+use std::test::Fail;
 
-pub const CASES: &[u8] = br#"
+const CASES: &[u8] = br#"
 == changes of codes
 # Holder 1 has two guarantees and three movements: of the first one's 1000000 cents 500000 are in use by movement 1,
 # which is released, and 400000 by movement 2, which has arrived; of the second one's 500000 cents 200000 by movement 1.
@@ -69,3 +71,8 @@ $ check-after INSERT INTO codes VALUES (1, 1, 'X001'), (1, 1, 'X002'), (1, 1, 'X
 $ check --country CH --db FILE
 <| sound\n
 "#;
+
+#[test]
+fn the_transcript_is_kept(rt: HostRuntime) -> Result<(), Fail> {
+    assert_transcript(&rt, CASES)
+}

@@ -1,6 +1,8 @@
 //! Files whose rows another program changed between two runs: no job has a desk over them, and none changes a row.
+use crate::runner::assert_transcript;
+use std::test::Fail;
 
-pub const CASES: &[u8] = br#"
+const CASES: &[u8] = br#"
 # A run that would make a desk only finds that there are tables. The row is as the change left it.
 
 == a reference amount below use is told
@@ -265,3 +267,8 @@ $ pipe --country CH --at 1740819600 --db FILE
 > GET /holders/000002
 < 200 {"eori":"DE7654321","guarantees":1,"holder":"000002","movements":1}
 "#;
+
+#[test]
+fn the_transcript_is_kept(rt: HostRuntime) -> Result<(), Fail> {
+    assert_transcript(&rt, CASES)
+}

@@ -1,6 +1,8 @@
 //! Each kind of change, by the rows that it leaves in a desk's file.
+use crate::runner::assert_transcript;
+use std::test::Fail;
 
-pub const CASES: &[u8] = br#"
+const CASES: &[u8] = br#"
 == what is declared and moved stands in its rows, and amounts are in use from the release to the write-off
 # Day 20148 is 2025-03-01, 20156 the limit 2025-03-09, and 20163 the 16th. The holder's row counts, the movement's row says the state,
 # and the rows of both guarantees what is in use on them.
@@ -107,3 +109,8 @@ $ sql-finds 1 SELECT count(*) FROM codes WHERE holder = 1 AND serial = 1 AND cod
 $ check --country CH --db FILE
 <| sound\n
 "#;
+
+#[test]
+fn the_transcript_is_kept(rt: HostRuntime) -> Result<(), Fail> {
+    assert_transcript(&rt, CASES)
+}

@@ -1,6 +1,8 @@
 //! Access codes that a holder adds and removes.
+use crate::runner::assert_transcript;
+use std::test::Fail;
 
-pub const CASES: &[u8] = br#"
+const CASES: &[u8] = br#"
 == codes are added and removed
 $ pipe --country CH --at 1740819600
 > PUT /office/holders/000001 {"eori":"CH1234567"}
@@ -80,3 +82,8 @@ $ pipe --country CH --at 1740819600
 > GET /holders/000001/guarantees/25CH0000010000014
 < 200 {"codes":["0000","0001","000Z","0A0A","12AB","5555","9999","A000","AAAA","AB10","AB11","AB12","AB13","B001","C3PO","M5M5","QQ00","Z000","ZZ99","ZZZZ"],"cover":50,"ends":null,"free":1000000,"grn":"25CH0000010000014","guaranteed":500000,"reference":1000000,"used":0}
 "#;
+
+#[test]
+fn the_transcript_is_kept(rt: HostRuntime) -> Result<(), Fail> {
+    assert_transcript(&rt, CASES)
+}

@@ -1,6 +1,8 @@
 //! Declarations lodged (IE015), and the MRN allocated to each (IE028).
+use crate::runner::assert_transcript;
+use std::test::Fail;
 
-pub const CASES: &[u8] = br#"
+const CASES: &[u8] = br#"
 == declarations have mrns in order
 $ pipe --country CH --at 1740819600
 > PUT /office/holders/000001 {"eori":"CH1234567"}
@@ -95,3 +97,8 @@ $ pipe --country CH --at 1740819600
 > POST /holders/000001/movements {"lrn":"C2","departure":"CH001251","destination":"DE005600","lines":[{"grn":"25CH0000010000014","code":"AB12","cents":1000000}]}
 < 200 {"lrn":"C2","message":"IE028","mrn":"25CH000001000002J7"}
 "#;
+
+#[test]
+fn the_transcript_is_kept(rt: HostRuntime) -> Result<(), Fail> {
+    assert_transcript(&rt, CASES)
+}

@@ -1,6 +1,8 @@
 //! Desks in a file: one run makes the desk, and the next ones find there what the runs before them left.
+use crate::runner::assert_transcript;
+use std::test::Fail;
 
-pub const CASES: &[u8] = br#"
+const CASES: &[u8] = br#"
 == the next run finds the holder
 $ pipe --country CH --at 1740819600 --db FILE --new
 > PUT /office/holders/000001 {"eori":"CH1234567"}
@@ -109,3 +111,8 @@ $ check --country DE --db FILE
 $ check --country CH --db FILE
 <| sound\n
 "#;
+
+#[test]
+fn the_transcript_is_kept(rt: HostRuntime) -> Result<(), Fail> {
+    assert_transcript(&rt, CASES)
+}

@@ -1,6 +1,8 @@
 //! References, offices and days of movements are changed at version 1: what `migrate` tells, and the database refuses.
+use crate::runner::assert_transcript;
+use std::test::Fail;
 
-pub const CASES: &[u8] = br#"
+const CASES: &[u8] = br#"
 == changes of movements' references at version 1
 # Holder 1 has two guarantees and three movements: of the first one's 1000000 cents 500000 are in use by movement 1,
 # which is released, and 400000 by movement 2, which has arrived; of the second one's 500000 cents 200000 by movement 1.
@@ -177,3 +179,8 @@ $ sql-finds 3 SELECT version FROM meta
 $ sql-finds 5 SELECT count(*) FROM lines3
 $ sql-finds 0 SELECT count(*) FROM lines1
 "#;
+
+#[test]
+fn the_transcript_is_kept(rt: HostRuntime) -> Result<(), Fail> {
+    assert_transcript(&rt, CASES)
+}

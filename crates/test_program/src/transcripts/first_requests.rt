@@ -1,6 +1,8 @@
 //! A holder registered and shown, and what is told beside it.
+use crate::runner::assert_transcript;
+use std::test::Fail;
 
-pub const CASES: &[u8] = br#"
+const CASES: &[u8] = br#"
 == the first requests
 # A registration, and a view of the holder.
 $ pipe --country CH --at 1740819600
@@ -101,3 +103,8 @@ $ pipe --country CH --at 1740819600
 > PUT /office/holders/000003 {"eori":"DE1","eori":"DE2"}
 < 200 {"eori":"DE2","guarantees":0,"holder":"000003","movements":0}
 "#;
+
+#[test]
+fn the_transcript_is_kept(rt: HostRuntime) -> Result<(), Fail> {
+    assert_transcript(&rt, CASES)
+}

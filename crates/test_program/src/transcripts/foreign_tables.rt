@@ -1,6 +1,8 @@
 //! A file with tables of another program is no desk, and none is made in it.
+use crate::runner::assert_transcript;
+use std::test::Fail;
 
-pub const CASES: &[u8] = br#"
+const CASES: &[u8] = br#"
 == no desk is made over a table of another program
 $ sql CREATE TABLE notes (note TEXT NOT NULL) STRICT
 $ sql INSERT INTO notes VALUES ('mine')
@@ -45,3 +47,8 @@ $ sql INSERT INTO meta VALUES (1, 1, 'CH')
 $ check --country CH --db FILE
 ! 1 transit-desk: store
 "#;
+
+#[test]
+fn the_transcript_is_kept(rt: HostRuntime) -> Result<(), Fail> {
+    assert_transcript(&rt, CASES)
+}

@@ -1,6 +1,8 @@
 //! Bodies that are almost JSON, or JSON of another kind than it looks: what serde_json reads of each.
+use crate::runner::assert_transcript;
+use std::test::Fail;
 
-pub const CASES: &[u8] = br#"
+const CASES: &[u8] = br#"
 == each command with fields: 200 brackets, one byte FF, and an object without its fields
 $ pipe --country CH --at 1740819600
 >| PUT /office/holders/000002 HTTP/1.1\r\nContent-Length: 200\r\n\r\n
@@ -648,3 +650,8 @@ $ pipe --country CH --at 1740819600
 >| "eori":"CH1"}
 < 200 {"eori":"CH1","guarantees":0,"holder":"000006","movements":0}
 "#;
+
+#[test]
+fn the_transcript_is_kept(rt: HostRuntime) -> Result<(), Fail> {
+    assert_transcript(&rt, CASES)
+}

@@ -1,6 +1,8 @@
 //! Fields, versions and methods that are sent to be misunderstood: what the rules of framing make of each.
+use crate::runner::assert_transcript;
+use std::test::Fail;
 
-pub const CASES: &[u8] = br#"
+const CASES: &[u8] = br#"
 == names of fields that are no tokens
 $ pipe --country CH --at 1740819600
 >| GET /holders/000002 HTTP/1.1\r\n: a\r\n\r\n
@@ -430,3 +432,8 @@ $ pipe --country CH --at 1740819600
 < 501 Connection: close {"error":"transfer-encoding"}
 ! 1 transit-desk: stream refused
 "#;
+
+#[test]
+fn the_transcript_is_kept(rt: HostRuntime) -> Result<(), Fail> {
+    assert_transcript(&rt, CASES)
+}

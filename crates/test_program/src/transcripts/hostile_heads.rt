@@ -1,6 +1,8 @@
 //! Lines of a head that are cut, joined or padded, and bytes that no head has: what the rules of framing make of each.
+use crate::runner::assert_transcript;
+use std::test::Fail;
 
-pub const CASES: &[u8] = br#"
+const CASES: &[u8] = br#"
 == a line that goes on in the next one, and spaces and tabs where none belong
 $ pipe --country CH --at 1740819600
 >| GET /holders/000002 HTTP/1.1\r\nX: a\r\n b\r\n\r\n
@@ -348,3 +350,8 @@ $ pipe --country CH --at 1740819600
 < 400 Connection: close {"error":"bad-head"}
 ! 1 transit-desk: stream refused
 "#;
+
+#[test]
+fn the_transcript_is_kept(rt: HostRuntime) -> Result<(), Fail> {
+    assert_transcript(&rt, CASES)
+}

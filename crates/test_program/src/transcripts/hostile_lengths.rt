@@ -1,6 +1,8 @@
 //! Bodies whose length is said twice, in two ways, or badly: what the rules of framing make of each.
+use crate::runner::assert_transcript;
+use std::test::Fail;
 
-pub const CASES: &[u8] = br#"
+const CASES: &[u8] = br#"
 == a body of two lengths, of a length and of chunks, and of neither
 # What stands behind the head is never served as a request of its own.
 $ pipe --country CH --at 1740819600
@@ -268,3 +270,8 @@ $ pipe --country CH --at 1740819600
 < 413 Connection: close {"error":"body-too-large"}
 ! 1 transit-desk: stream refused
 "#;
+
+#[test]
+fn the_transcript_is_kept(rt: HostRuntime) -> Result<(), Fail> {
+    assert_transcript(&rt, CASES)
+}

@@ -1,6 +1,8 @@
 //! Targets of the other forms, with dots, escapes and letters of all kinds: what the desk takes them for.
+use crate::runner::assert_transcript;
+use std::test::Fail;
 
-pub const CASES: &[u8] = br#"
+const CASES: &[u8] = br#"
 == targets of the other forms are no paths of the desk
 $ pipe --country CH --at 1740819600
 > GET http://desk/holders/000002
@@ -419,3 +421,8 @@ $ pipe --country CH --at 1740819600
 >| GET /holders/\xff
 ! 1 transit-desk: stream cut
 "#;
+
+#[test]
+fn the_transcript_is_kept(rt: HostRuntime) -> Result<(), Fail> {
+    assert_transcript(&rt, CASES)
+}

@@ -1,6 +1,8 @@
 //! Junk of each kind beside the rows of three holders, in files of each version: it is told, and no row is lost for it.
+use crate::runner::assert_transcript;
+use std::test::Fail;
 
-pub const CASES: &[u8] = br#"
+const CASES: &[u8] = br#"
 == junk of each kind is told, and without it every holder is seen as before
 # Holder 1 has two guarantees and three movements: of the first one's 1000000 cents 500000 are in use by movement 1,
 # which is released, and 400000 by movement 2, which has arrived; of the second one's 500000 cents 200000 by movement 1.
@@ -759,3 +761,8 @@ $ migrate --db FILE
 $ check --country CH --db FILE
 <| sound\n
 "#;
+
+#[test]
+fn the_transcript_is_kept(rt: HostRuntime) -> Result<(), Fail> {
+    assert_transcript(&rt, CASES)
+}

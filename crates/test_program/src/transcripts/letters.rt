@@ -1,6 +1,8 @@
 //! Movements whose references have the letter, and older ones without it: what was there stays, and what comes has it.
+use crate::runner::assert_transcript;
+use std::test::Fail;
 
-pub const CASES: &[u8] = br#"
+const CASES: &[u8] = br#"
 == older references stay, and the next has the letter
 $ pipe --country CH --at 1740819600 --db FILE --new
 $ sql INSERT INTO holders VALUES (1, 'CH1234567', 1740819600, 1, 3)
@@ -102,3 +104,8 @@ $ pipe --country CH --at 1740819600
 > POST /holders/000002/movements/25CH000001000001J8/ie014
 < 404 {"error":"no-movement"}
 "#;
+
+#[test]
+fn the_transcript_is_kept(rt: HostRuntime) -> Result<(), Fail> {
+    assert_transcript(&rt, CASES)
+}

@@ -1,6 +1,8 @@
 //! Lists of all movements and of all guarantees of a holder.
+use crate::runner::assert_transcript;
+use std::test::Fail;
 
-pub const CASES: &[u8] = br#"
+const CASES: &[u8] = br#"
 == all movements and guarantees are listed
 $ pipe --country CH --at 1740819600
 > GET /holders/000001/movements
@@ -70,3 +72,8 @@ $ pipe --country CH --at 1740819600
 > GET /holders/000001/guarantees/25CH0000010000014/codes/add
 < 405 Allow: POST {"error":"no-method"}
 "#;
+
+#[test]
+fn the_transcript_is_kept(rt: HostRuntime) -> Result<(), Fail> {
+    assert_transcript(&rt, CASES)
+}

@@ -1,6 +1,8 @@
 //! Movements from their release to their write-off.
+use crate::runner::assert_transcript;
+use std::test::Fail;
 
-pub const CASES: &[u8] = br#"
+const CASES: &[u8] = br#"
 == a movement is in use until it is written off
 # What is in use falls at the write-off, and at nothing before.
 @ 1740819600 2025-03-01T09:00:00Z
@@ -109,3 +111,8 @@ pub const CASES: &[u8] = br#"
 > GET /holders/000001/guarantees/25CH0000010000014
 < 200 {"codes":["AB12"],"cover":50,"ends":null,"free":1000000,"grn":"25CH0000010000014","guaranteed":500000,"reference":1000000,"used":0}
 "#;
+
+#[test]
+fn the_transcript_is_kept(rt: HostRuntime) -> Result<(), Fail> {
+    assert_transcript(&rt, CASES)
+}

@@ -1,6 +1,8 @@
 //! Many holders at one desk: there is no limit over all of them.
+use crate::runner::assert_transcript;
+use std::test::Fail;
 
-pub const CASES: &[u8] = br#"
+const CASES: &[u8] = br#"
 == each of many holders has first references
 # All register, then all open, then all lodge under one LRN, then all are shown.
 $ pipe --country CH --at 1740819600
@@ -245,3 +247,8 @@ $ pipe --country CH --at 1740819600
 > GET /holders/000003
 < 200 {"eori":"CH1234567","guarantees":1,"holder":"000003","movements":1}
 "#;
+
+#[test]
+fn the_transcript_is_kept(rt: HostRuntime) -> Result<(), Fail> {
+    assert_transcript(&rt, CASES)
+}

@@ -1,6 +1,8 @@
 //! Files of version 1, made by another program: what each job tells of them, and that they are migrated as they were.
+use crate::runner::assert_transcript;
+use std::test::Fail;
 
-pub const CASES: &[u8] = br#"
+const CASES: &[u8] = br#"
 == a file of version 1 is migrated, and is then as it was
 # The guarantee's 1000000 cents are half in use, by the one movement, which is released.
 $ sql CREATE TABLE meta (one INTEGER PRIMARY KEY CHECK (one = 1), version INTEGER NOT NULL, country TEXT NOT NULL) STRICT
@@ -294,3 +296,8 @@ $ pipe --country DE --at 1740819600 --db FILE
 > GET /holders/000001/guarantees/25DE0000010000016
 < 200 {"codes":["AB12"],"cover":50,"ends":null,"free":500000,"grn":"25DE0000010000016","guaranteed":500000,"reference":1000000,"used":500000}
 "#;
+
+#[test]
+fn the_transcript_is_kept(rt: HostRuntime) -> Result<(), Fail> {
+    assert_transcript(&rt, CASES)
+}

@@ -1,6 +1,8 @@
 //! Files that are not migrated: which fault each job tells of them.
+use crate::runner::assert_transcript;
+use std::test::Fail;
 
-pub const CASES: &[u8] = br#"
+const CASES: &[u8] = br#"
 == a version that is not known is told
 # Nothing is changed, and the version that was there is migrated afterwards.
 $ sql CREATE TABLE meta (one INTEGER PRIMARY KEY CHECK (one = 1), version INTEGER NOT NULL, country TEXT NOT NULL) STRICT
@@ -290,3 +292,8 @@ $ migrate --db FILE
 > GET /holders/000001
 <| version 3\n
 "#;
+
+#[test]
+fn the_transcript_is_kept(rt: HostRuntime) -> Result<(), Fail> {
+    assert_transcript(&rt, CASES)
+}

@@ -1,6 +1,8 @@
 //! The moment of a request: its year, the clock's range, and the holder's own last change.
+use crate::runner::assert_transcript;
+use std::test::Fail;
 
-pub const CASES: &[u8] = br#"
+const CASES: &[u8] = br#"
 == a repeat before the last change is refused
 @ 1740819000 2025-03-01T08:50:00Z
 > PUT /office/holders/000001 {"eori":"CH1234567"}
@@ -299,3 +301,8 @@ $ pipe --country CH --at 9223372036854775807
 > GET /holders/000001
 < 200 {"eori":"CH1234567","guarantees":1,"holder":"000001","movements":1}
 "#;
+
+#[test]
+fn the_transcript_is_kept(rt: HostRuntime) -> Result<(), Fail> {
+    assert_transcript(&rt, CASES)
+}

@@ -1,6 +1,8 @@
 //! A movement of nine lines of the greatest amount: its view is the longest one, and they are released together.
+use crate::runner::assert_transcript;
+use std::test::Fail;
 
-pub const CASES: &[u8] = br#"
+const CASES: &[u8] = br#"
 == a movement of nine lines is shown
 $ pipe --country CH --at 1740819600
 > PUT /office/holders/000001 {"eori":"CH1234567"}
@@ -88,3 +90,8 @@ $ pipe --country CH --at 1740819600
 > GET /holders/000001/guarantees/25CH0000010000097
 < 200 {"codes":["AB12"],"cover":50,"ends":null,"free":0,"grn":"25CH0000010000097","guaranteed":500000000000,"reference":1000000000000,"used":1000000000000}
 "#;
+
+#[test]
+fn the_transcript_is_kept(rt: HostRuntime) -> Result<(), Fail> {
+    assert_transcript(&rt, CASES)
+}

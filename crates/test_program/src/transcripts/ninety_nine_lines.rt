@@ -1,6 +1,8 @@
 //! Declarations of ten lines, of ninety-nine and of a hundred, in JSON and in a batch: they are released together, or none is.
+use crate::runner::assert_transcript;
+use std::test::Fail;
 
-pub const CASES: &[u8] = br#"
+const CASES: &[u8] = br#"
 == ten lines are lodged, and a declaration of none, of a hundred or of one guarantee twice is refused
 # Up to ninety-nine lines, each on another guarantee.
 $ pipe --country CH --at 1740819600
@@ -694,3 +696,8 @@ $ sql-finds 99 SELECT count(*) FROM lines3 WHERE serial = 1
 $ sql-finds 10 SELECT count(*) FROM lines3 WHERE serial = 2
 $ sql-finds 9900 SELECT sum(used) FROM guarantees2
 "#;
+
+#[test]
+fn the_transcript_is_kept(rt: HostRuntime) -> Result<(), Fail> {
+    assert_transcript(&rt, CASES)
+}

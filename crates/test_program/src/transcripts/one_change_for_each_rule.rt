@@ -1,6 +1,8 @@
 //! A desk's file after one change for each rule; `first_office` and `changed_files` have those of version 1 alone.
+use crate::runner::assert_transcript;
+use std::test::Fail;
 
-pub const CASES: &[u8] = br#"
+const CASES: &[u8] = br#"
 == one change for each rule
 $ pipe --country CH --at 1740819600 --db FILE --new
 > PUT /office/holders/000001 {"eori":"CH1234567"}
@@ -33,3 +35,8 @@ $ migrate-after DELETE FROM meta
 $ check --country CH --db FILE
 <| sound\n
 "#;
+
+#[test]
+fn the_transcript_is_kept(rt: HostRuntime) -> Result<(), Fail> {
+    assert_transcript(&rt, CASES)
+}

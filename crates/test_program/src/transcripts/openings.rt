@@ -1,6 +1,8 @@
 //! Guarantees opened, and their references.
+use crate::runner::assert_transcript;
+use std::test::Fail;
 
-pub const CASES: &[u8] = br#"
+const CASES: &[u8] = br#"
 == each holder has serials of guarantees
 $ pipe --country CH --at 1740819600
 > PUT /office/holders/000001 {"eori":"CH1234567"}
@@ -98,3 +100,8 @@ $ pipe --country DE --at 1767225600
 > POST /holders/000001/movements {"lrn":"A1","departure":"CH001251","destination":"DE005600","lines":[{"grn":"26DE0000010000018","code":"AB12","cents":500000}]}
 < 200 {"lrn":"A1","message":"IE028","mrn":"26DE000001000001J1"}
 "#;
+
+#[test]
+fn the_transcript_is_kept(rt: HostRuntime) -> Result<(), Fail> {
+    assert_transcript(&rt, CASES)
+}

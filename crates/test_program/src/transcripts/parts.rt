@@ -1,6 +1,8 @@
 //! The rows of some holders copied into a new file, and all rows of a file put into another.
+use crate::runner::assert_transcript;
+use std::test::Fail;
 
-pub const CASES: &[u8] = br#"
+const CASES: &[u8] = br#"
 == the holders of a range go into a new file, and live on there
 $ pipe --country CH --at 1740819600 --db FILE --new
 > PUT /office/holders/000001 {"eori":"CH1234567"}
@@ -94,3 +96,8 @@ $ pipe --country CH --at 1740819600 --db FILE
 $ join --country CH --db FILE --with FILE
 ! 1 transit-desk: store
 "#;
+
+#[test]
+fn the_transcript_is_kept(rt: HostRuntime) -> Result<(), Fail> {
+    assert_transcript(&rt, CASES)
+}

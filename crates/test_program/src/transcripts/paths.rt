@@ -1,6 +1,8 @@
 //! Requests that are no route, whose path has no number or reference in its place, or whose body registers nobody.
+use crate::runner::assert_transcript;
+use std::test::Fail;
 
-pub const CASES: &[u8] = br#"
+const CASES: &[u8] = br#"
 == paths that there are not
 $ pipe --country CH --at 1740819600
 > GET /holders/000001/
@@ -202,3 +204,8 @@ $ pipe --country CH --at 1740819600
 >| PUT /office/holders/000001 HTTP/1.1\r\nContent-Length: 7\r\n\r\n{"\xff":1}
 < 400 {"error":"bad-body"}
 "#;
+
+#[test]
+fn the_transcript_is_kept(rt: HostRuntime) -> Result<(), Fail> {
+    assert_transcript(&rt, CASES)
+}

@@ -1,6 +1,8 @@
 //! What others do isn't seen: their guarantees, numbers that begin alike, and many holders at one desk.
+use crate::runner::assert_transcript;
+use std::test::Fail;
 
-pub const CASES: &[u8] = br#"
+const CASES: &[u8] = br#"
 == a strangers guarantee is as an unknown one
 $ pipe --country CH --at 1740819600
 > PUT /office/holders/000001 {"eori":"CH1234567"}
@@ -111,3 +113,8 @@ $ pipe --country CH --at 1740819600
 > GET /holders/000100
 < 200 {"eori":"CH1234567","guarantees":0,"holder":"000100","movements":0}
 "#;
+
+#[test]
+fn the_transcript_is_kept(rt: HostRuntime) -> Result<(), Fail> {
+    assert_transcript(&rt, CASES)
+}

@@ -1,6 +1,8 @@
 //! Releases for transit (IE029): the amounts in use, and the limit.
+use crate::runner::assert_transcript;
+use std::test::Fail;
 
-pub const CASES: &[u8] = br#"
+const CASES: &[u8] = br#"
 == no cent is released above the reference amount
 $ pipe --country CH --at 1740819600
 > PUT /office/holders/000001 {"eori":"CH1234567"}
@@ -130,3 +132,8 @@ $ pipe --country CH --at 1740819600
 > POST /office/movements/25CH000001000001J8/ie029 {"limit":"2025-03-08"}
 < 200 {"limit":"2025-03-08","message":"IE029","mrn":"25CH000001000001J8","state":"released"}
 "#;
+
+#[test]
+fn the_transcript_is_kept(rt: HostRuntime) -> Result<(), Fail> {
+    assert_transcript(&rt, CASES)
+}

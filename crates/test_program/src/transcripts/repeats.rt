@@ -1,6 +1,8 @@
 //! A declaration lodged again under its LRN.
+use crate::runner::assert_transcript;
+use std::test::Fail;
 
-pub const CASES: &[u8] = br#"
+const CASES: &[u8] = br#"
 == a repeat is told the same
 # The codes aside, the same is told the same; anything else under the LRN is refused, and neither is a movement.
 $ pipe --country CH --at 1740819600
@@ -77,3 +79,8 @@ $ pipe --country CH --at 1740819600
 > POST /holders/000001/movements {"lrn":"A1","departure":"CH001251","destination":"DE005600","lines":[{"grn":"25CH0000010000014","code":"AB12","cents":500000}]}
 < 200 {"lrn":"A1","message":"IE028","mrn":"25CH000001000001J8"}
 "#;
+
+#[test]
+fn the_transcript_is_kept(rt: HostRuntime) -> Result<(), Fail> {
+    assert_transcript(&rt, CASES)
+}

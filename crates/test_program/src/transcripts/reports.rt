@@ -1,6 +1,8 @@
 //! Reports on what is overdue, and on guarantees, as the movements of one holder go on.
+use crate::runner::assert_transcript;
+use std::test::Fail;
 
-pub const CASES: &[u8] = br#"
+const CASES: &[u8] = br#"
 == a desk with nothing, and holders alone
 $ pipe --country CH --at 1740819600 --db FILE --new
 > PUT /office/holders/000001 {"eori":"CH1234567"}
@@ -255,3 +257,8 @@ $ report guarantees --country CH --db FILE
 - 25CH0000010000041 000001  50           1000.00            500.00              0.00           1000.00 2025-03-17
 - TOTAL 4
 "#;
+
+#[test]
+fn the_transcript_is_kept(rt: HostRuntime) -> Result<(), Fail> {
+    assert_transcript(&rt, CASES)
+}

@@ -1,6 +1,8 @@
 //! Reports on the guarantees and movements of several holders, on the widest amounts, and on what is no desk.
+use crate::runner::assert_transcript;
+use std::test::Fail;
 
-pub const CASES: &[u8] = br#"
+const CASES: &[u8] = br#"
 == the amounts of guarantees, from none to the greatest
 $ pipe --country CH --at 1740819600 --db FILE --new
 > PUT /office/holders/000001 {"eori":"CH1234567"}
@@ -273,3 +275,8 @@ $ report guarantees --country CH --db FILE
 $ report overdue --country CH --db FILE --day 2025-03-20
 ! 1 transit-desk: unknown-version
 "#;
+
+#[test]
+fn the_transcript_is_kept(rt: HostRuntime) -> Result<(), Fail> {
+    assert_transcript(&rt, CASES)
+}

@@ -1,6 +1,8 @@
 //! Files of version 2, made by another program: what each job tells of them, and that they are migrated as they were.
+use crate::runner::assert_transcript;
+use std::test::Fail;
 
-pub const CASES: &[u8] = br#"
+const CASES: &[u8] = br#"
 == a file that was made at version 2 is migrated, and is then as it was
 # Holder 1 has ten guarantees; nine are half in use by movement 1, which has a line on each. Movement 2 is accepted, and
 # movement 3 was cancelled. Day 20148 is 2025-03-01.
@@ -305,3 +307,8 @@ $ report guarantees --country CH --db FILE
 - 25CH0000020000010 000002 100              0.01              0.01              0.00              0.01 2025-03-17
 - TOTAL 11
 "#;
+
+#[test]
+fn the_transcript_is_kept(rt: HostRuntime) -> Result<(), Fail> {
+    assert_transcript(&rt, CASES)
+}

@@ -1,6 +1,8 @@
 //! A reference of somebody else is told like one that nobody has.
+use crate::runner::assert_transcript;
+use std::test::Fail;
 
-pub const CASES: &[u8] = br#"
+const CASES: &[u8] = br#"
 == a holder is told nothing of anothers
 $ pipe --country CH --at 1740819600
 > PUT /office/holders/000001 {"eori":"CH1234567"}
@@ -244,3 +246,8 @@ $ pipe --country CH --at 1740819600
 > POST /office/guarantees/25CH0000010000014/amend {"reference":1000000,"cover":50}
 < 200 {"codes":["AB12"],"cover":50,"ends":null,"free":1000000,"grn":"25CH0000010000014","guaranteed":500000,"reference":1000000,"used":0}
 "#;
+
+#[test]
+fn the_transcript_is_kept(rt: HostRuntime) -> Result<(), Fail> {
+    assert_transcript(&rt, CASES)
+}

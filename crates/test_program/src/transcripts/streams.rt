@@ -1,6 +1,8 @@
 //! The framing of a stream and each way in which it ends, through the program.
+use crate::runner::assert_transcript;
+use std::test::Fail;
 
-pub const CASES: &[u8] = br#"
+const CASES: &[u8] = br#"
 == heads at their limits of bytes and of fields, and past them
 $ pipe --country CH --at 1740819600
 >| GET /
@@ -147,3 +149,8 @@ $ pipe --country DE
 == empty input has no reply
 $ pipe --country CH --at 1740819600
 "#;
+
+#[test]
+fn the_transcript_is_kept(rt: HostRuntime) -> Result<(), Fail> {
+    assert_transcript(&rt, CASES)
+}

@@ -1,6 +1,8 @@
 //! Guarantees amended and revoked.
+use crate::runner::assert_transcript;
+use std::test::Fail;
 
-pub const CASES: &[u8] = br#"
+const CASES: &[u8] = br#"
 == a reference amount is not amended below use
 $ pipe --country CH --at 1740819600
 > PUT /office/holders/000001 {"eori":"CH1234567"}
@@ -72,3 +74,8 @@ $ pipe --country CH --at 1740819600
 > POST /holders/000001/guarantees/25CH0000010000014/codes/add {"code":"ZZ99"}
 < 200 {"codes":["AB12","ZZ99"],"cover":30,"ends":"2025-03-17","free":1500001,"grn":"25CH0000010000014","guaranteed":600001,"reference":2000001,"used":500000}
 "#;
+
+#[test]
+fn the_transcript_is_kept(rt: HostRuntime) -> Result<(), Fail> {
+    assert_transcript(&rt, CASES)
+}

@@ -1,6 +1,8 @@
 //! Views of movements and guarantees.
+use crate::runner::assert_transcript;
+use std::test::Fail;
 
-pub const CASES: &[u8] = br#"
+const CASES: &[u8] = br#"
 == movements and guarantees are shown
 $ pipe --country CH --at 1740819600
 > PUT /office/holders/000001 {"eori":"CH1234567"}
@@ -79,3 +81,8 @@ $ pipe --country CH --at 4102444800
 > GET /holders/000001/movements/25CH000001000001J8
 < 503 {"error":"clock-range"}
 "#;
+
+#[test]
+fn the_transcript_is_kept(rt: HostRuntime) -> Result<(), Fail> {
+    assert_transcript(&rt, CASES)
+}

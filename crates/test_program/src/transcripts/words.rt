@@ -1,6 +1,8 @@
 //! Words that are wrong, the line that says what was wrong, help and the version.
+use crate::runner::assert_transcript;
+use std::test::Fail;
 
-pub const CASES: &[u8] = br#"
+const CASES: &[u8] = br#"
 == what was wrong is told
 $
 ! 2 error: 'transit-desk' requires a subcommand but one was not provided [subcommands: serve, pipe, batch, acts, report, check, migrate, extract, join, help]
@@ -464,3 +466,8 @@ $ migrate --help
 <|      or a row was refused\n
 <|   2  Wrong words: one line on standard error tells what was wrong\n
 "#;
+
+#[test]
+fn the_transcript_is_kept(rt: HostRuntime) -> Result<(), Fail> {
+    assert_transcript(&rt, CASES)
+}
