@@ -193,8 +193,15 @@ fn fault_status_of(fault: &WebFault) -> StatusCode
 pub fn reply_bytes(alloc: Global, said: &Said, close: bool) -> Result<Vec<u8>, AllocError>
     ensures { IfOk result (λ v. v.items ≡ said_reply said.now close) }
 {
-    let body = body_of(alloc, said)?;
+    let body = said_body(alloc, said)?;
     json_reply(alloc, status_of(said), None, close, &body)
+}
+
+/// The body of that reply, as JSON. `AllocError`: want of memory for it.
+pub fn said_body(alloc: Global, said: &Said) -> Result<String, AllocError>
+    ensures { IfOk result (λ text. string_bytes text ≡ said_body said.now) }
+{
+    body_of(alloc, said)
 }
 
 // Whether the stream stops after the reply.

@@ -117,17 +117,17 @@ all_tried P (suc n) [] outcomes all = tt
 all_tried P (suc n) (d ∷ rows) [] all = tt
 all_tried P (suc n) (d ∷ rows) (o ∷ outcomes) all = (all.0, all_tried P n rows outcomes all.1)
 
-module _ {D : Type 0} (view : DeskView D) (called : D → Option Fault → D → Type 0) (at : ℤ) where
-  pub clean_back : (list : List (Command × Outcome)) (a b : D) → FoldsTo (IsRowDone view called at) a list b → view.is_clean b → view.is_clean a
+module _ {D : Type 0} (view : DeskView D) (at : ℤ) where
+  pub clean_back : (list : List (Command × Outcome)) (a b : D) → FoldsTo (IsRowDone view at) a list b → view.is_clean b → view.is_clean a
   clean_back [] a b steps clean = subst view.is_clean (sym steps) clean
   clean_back (e ∷ list) a b steps clean = steps.1.clean (clean_back list steps.0 b steps.2 clean)
 
-  pub live_back : (list : List (Command × Outcome)) (a b : D) → FoldsTo (IsRowDone view called at) a list b → view.is_clean b → view.is_live b → view.is_live a
+  pub live_back : (list : List (Command × Outcome)) (a b : D) → FoldsTo (IsRowDone view at) a list b → view.is_clean b → view.is_live b → view.is_live a
   live_back [] a b steps clean live = subst view.is_live (sym steps) live
   live_back (e ∷ list) a b steps clean live = steps.1.live (clean_back list steps.0 b steps.2 clean) (live_back list steps.0 b steps.2 clean live)
 
   -- rows of which none is accepted leave the content
-  stays_by : (c : Content) → IsSound c → (list : List (Command × Outcome)) (a b : D) → FoldsTo (IsRowDone view called at) a list b
+  stays_by : (c : Content) → IsSound c → (list : List (Command × Outcome)) (a b : D) → FoldsTo (IsRowDone view at) a list b
       → AllByRecursion (λ (e : Command × Outcome). is_accepted (owner_account c e.0) at e.0 ≡ false) list
       → view.is_clean b → view.is_live b → view.content a ≡ c → view.content b ≡ c
   stays_by c sound [] a b steps none clean live same = ap view.content (sym steps) ∙ same
@@ -138,8 +138,8 @@ module _ {D : Type 0} (view : DeskView D) (called : D → Option Fault → D →
       (steps.1.unchanged before left (subst IsSound (sym same) sound) (ap (λ x. is_accepted (owner_account x e.0) at e.0) same ∙ none.0) ∙ same)
 
   done_again : (rows : List Command) (first again : BatchRun) (old mid new : D) → AllByRecursion IsDeclaration rows
-      → IsBatchDone view called declaration_result declarations_header at rows first old mid → first.stopped ≡ None
-      → IsBatchDone view called declaration_result declarations_header at rows again mid new
+      → IsBatchDone view declaration_result declarations_header at rows first old mid → first.stopped ≡ None
+      → IsBatchDone view declaration_result declarations_header at rows again mid new
       → view.is_clean new → view.is_live new → IsSound (view.content old) → view.content new ≡ view.content mid
   done_again rows first again old mid new all one whole more clean live sound =
       let same : length one.said ≡ length rows = rw whole at one.ends in
@@ -162,8 +162,8 @@ module _ {D : Type 0} (view : DeskView D) (called : D → Option Fault → D →
       (none_is_accepted (view.content old).country books at rows one.said c all same run)) clean live is ∙ sym is
 
   by_first : (rows : List Command) (first again : BatchRun) (old mid new : D) → AllByRecursion IsDeclaration rows
-      → IsRunOf view called declaration_result declarations_header at rows first old mid → first.stopped ≡ None
-      → IsBatchDone view called declaration_result declarations_header at rows again mid new
+      → IsRunOf view declaration_result declarations_header at rows first old mid → first.stopped ≡ None
+      → IsBatchDone view declaration_result declarations_header at rows again mid new
       → view.is_clean new → view.is_live new → IsSound (view.content old) → view.content new ≡ view.content mid
   by_first rows first again old mid new all (inl none) whole more clean live sound = absurd (stopped none.3 whole)
     where
@@ -172,7 +172,7 @@ module _ {D : Type 0} (view : DeskView D) (called : D → Option Fault → D →
   by_first rows first again old mid new all (inr one) whole more clean live sound =
       done_again rows first again old mid new all one whole more clean live sound
 
-pub again_changes_nothing : {D : Type 0} (view : DeskView D) (called : D → Option Fault → D → Type 0) → AgainChangesNothing view called
-again_changes_nothing view called at rows first again old mid new all one whole (inl none) clean live sound = ap view.content none.0
-again_changes_nothing view called at rows first again old mid new all one whole (inr more) clean live sound =
-    by_first view called at rows first again old mid new all one whole more clean live sound
+pub again_changes_nothing : {D : Type 0} (view : DeskView D) → AgainChangesNothing view
+again_changes_nothing view at rows first again old mid new all one whole (inl none) clean live sound = ap view.content none.0
+again_changes_nothing view at rows first again old mid new all one whole (inr more) clean live sound =
+    by_first view at rows first again old mid new all one whole more clean live sound

@@ -19,20 +19,20 @@ fresh_tied : (c : Content) → IsTied c (λ H. fresh H c)
 fresh_tied c = record { each = λ H. sym (account_fresh H c); grown = λ H. tt }
 
 -- a batch is a run from the books that begin with the rows that were found
-from_found : {D : Type 0} (view : DeskView D) (called : D → Option Fault → D → Type 0) (line : Command → Said → List ℕ) (header : List ℕ) (at : ℤ)
-    (rows : List Command) (r : BatchRun) (old new : D) (country : List ℕ) → (one : IsBatchDone view called line header at rows r old new)
+from_found : {D : Type 0} (view : DeskView D) (line : Command → Said → List ℕ) (header : List ℕ) (at : ℤ)
+    (rows : List Command) (r : BatchRun) (old new : D) (country : List ℕ) → (one : IsBatchDone view line header at rows r old new)
     → view.is_clean new → view.is_live old → IsSound (view.content old) → (view.content old).country ≡ country
     → (c : Content) × IsRun country (λ H. fresh H (view.content old)) (stamped_rows at rows r one.said) (outcomes_of one.said r.stopped) c
-from_found view called line header at rows r old new country one clean live sound here =
+from_found view line header at rows r old new country one clean live sound here =
     let private = one.private clean live sound (λ H. fresh H (view.content old)) (fresh_tied (view.content old)) in
     (private.0, subst (λ k. IsRun k (λ H. fresh H (view.content old)) (stamped_rows at rows r one.said) (outcomes_of one.said r.stopped) private.0) here private.1)
 
-pub told_alike : {D E : Type 0} (view : DeskView D) (called : D → Option Fault → D → Type 0) (other_view : DeskView E) (other_called : E → Option Fault → E → Type 0)
-    → AgreeingBatchesTellTheSame view called other_view other_called
-told_alike view called other_view other_called line other_line header other_header at other_at rows other_rows r other old new other_old other_new country H
+pub told_alike : {D E : Type 0} (view : DeskView D) (other_view : DeskView E)
+    → AgreeingBatchesTellTheSame view other_view
+told_alike view other_view line other_line header other_header at other_at rows other_rows r other old new other_old other_new country H
     one two clean live sound other_clean other_live other_sound here there equal agree failed =
-    let first = from_found view called line header at rows r old new country one clean live sound here in
-    let second = from_found other_view other_called other_line other_header other_at other_rows other other_old other_new country two other_clean other_live other_sound there in
+    let first = from_found view line header at rows r old new country one clean live sound here in
+    let second = from_found other_view other_line other_header other_at other_rows other other_old other_new country two other_clean other_live other_sound there in
     let list = stamped_rows at rows r one.said in
     let other_list = stamped_rows other_at other_rows other two.said in
     let outcomes = outcomes_of one.said r.stopped in

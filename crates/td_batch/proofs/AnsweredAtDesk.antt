@@ -148,13 +148,13 @@ has_said country H at books rows said stopped c d s run place own =
 -- ---- sent again
 
 -- What was answered to a declaration is said to it again by a batch at a desk to which the holder's book led on from there.
-pub said_again : {D : Type 0} (view : DeskView D) (called : D → Option Fault → D → Type 0) (at later : ℤ) (t : ℕ) (others : List Command) (again : BatchRun) (middle new : D)
+pub said_again : {D : Type 0} (view : DeskView D) (at later : ℤ) (t : ℕ) (others : List Command) (again : BatchRun) (middle new : D)
     (H : ℕ) (row : HolderRow) (d : Command) (a : Answer) (s : Said) (book end : Book) (books : ℕ → Book) (between : List Stamped)
     → HasSaid H at d (Answered a) book end → IsTied (view.content middle) books → books H ≡ machine_book H end between → IsSound (view.content middle)
-    → (more : IsBatchDone view called declaration_result declarations_header later others again middle new) → view.is_clean new → view.is_live middle
+    → (more : IsBatchDone view declaration_result declarations_header later others again middle new) → view.is_clean new → view.is_live middle
     → IsDeclaration d → IsSaidTo d s others more.said
     → owner_of (view.content middle).country d ≡ Some H → (account_in H (view.content middle)).holder ≡ Some row → moment_of later ≡ Some t → row.last_at ≤ t → s ≡ Answered a
-said_again view called at later t others again middle new H row d a s book end books between was tied led sound more new_clean middle_live is said_more own holder shown since =
+said_again view at later t others again middle new H row d a s book end books between was tied led sound more new_clean middle_live is said_more own holder shown since =
     let told = more.private new_clean middle_live sound books tied in
     let now = has_said (view.content middle).country H later books others more.said again.stopped told.0 d s told.1 said_more own in
     let first = machine_book H book was.before in
@@ -173,9 +173,9 @@ said_again view called at later t others again middle new H row d a s book end b
     (sym was.says) shown not_before in
     now.says ∙ ap (λ b. verdict H b later d) then_book ∙ answered.0
 
-pub answered_again_at_desk : {D : Type 0} (view : DeskView D) (called : D → Option Fault → D → Type 0) → AnsweredAgain view called
-answered_again_at_desk view called at later t rows others first again old mid middle new H row d a s one more mid_clean mid_live sound came new_clean middle_live is said_one said_more own holder shown since =
-    let old_live = live_back view called at _ old mid one.steps mid_clean mid_live in
+pub answered_again_at_desk : {D : Type 0} (view : DeskView D) → AnsweredAgain view
+answered_again_at_desk view at later t rows others first again old mid middle new H row d a s one more mid_clean mid_live sound came new_clean middle_live is said_one said_more own holder shown since =
+    let old_live = live_back view at _ old mid one.steps mid_clean mid_live in
     let books : ℕ → Book = (λ G. fresh G (view.content old)) in
     let tied : IsTied (view.content old) books = record { each = λ G. sym (account_fresh G (view.content old)); grown = λ G. tt } in
     let told = one.private mid_clean old_live sound books tied in
@@ -184,5 +184,5 @@ answered_again_at_desk view called at later t rows others first again old mid mi
     let tied_mid : IsTied (view.content mid) books_mid = subst (λ c. IsTied c books_mid) (sym (told.2 mid_live)) told.1.tied in
     let later_books = came.books books_mid tied_mid in
     let was = has_said country H at books rows one.said first.stopped told.0 d (Answered a) told.1 said_one (owner_any d (view.content middle).country country H is own) in
-    said_again view called at later t others again middle new H row d a s (books H) (books_mid H) (λ G. machine_book G (books_mid G) (later_books.0 G)) (later_books.0 H)
+    said_again view at later t others again middle new H row d a s (books H) (books_mid H) (λ G. machine_book G (books_mid G) (later_books.0 G)) (later_books.0 H)
     was later_books.1 refl came.sound more new_clean middle_live is said_more own holder shown since

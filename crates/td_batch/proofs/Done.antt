@@ -73,14 +73,14 @@ any_more said words = list_any-append is_refusal said (words ∷ []) ∙ ap (λ 
 
 -- ---- rows of a batch
 
-module _ {D : Type 0} (view : DeskView D) (called : D → Option Fault → D → Type 0) (line : Command → Said → List ℕ) (header : List ℕ) (at : ℤ) (rows : List Command) (old : D) where
+module _ {D : Type 0} (view : DeskView D) (line : Command → Said → List ℕ) (header : List ℕ) (at : ℤ) (rows : List Command) (old : D) where
   -- the first i rows were done
   pub record HasDone (i : ℕ) (text : List ℕ) (refused : Bool) (new : D) : Type 0 where
     pub said : List Said
     pub refused_is : refused ≡ list_any is_refusal said
     pub count : length said ≡ i
     pub text_is : text ≡ header ++ result_rows line (take i rows) said
-    pub steps : FoldsTo (IsRowDone view called at) old (zip (take i rows) (map (λ s. outcome.Said s) said)) new
+    pub steps : FoldsTo (IsRowDone view at) old (zip (take i rows) (map (λ s. outcome.Said s) said)) new
     pub private : IsPrivate view at (take i rows) (map (λ s. outcome.Said s) said) old new
 
   pub begun : (text : List ℕ) → text ≡ header → HasDone 0 text false old
@@ -100,13 +100,13 @@ module _ {D : Type 0} (view : DeskView D) (called : D → Option Fault → D →
     size = was.count ∙ sym (length-take-le i rows (omega (arith, within)))
 
     -- one step more, and one outcome
-    steps_more : (o : Outcome) → IsDone view called at row o mid new
-        → FoldsTo (IsRowDone view called at) old (zip (take (i + 1) rows) (map (λ s. outcome.Said s) was.said ++ o ∷ [])) new
+    steps_more : (o : Outcome) → IsDone view at row o mid new
+        → FoldsTo (IsRowDone view at) old (zip (take (i + 1) rows) (map (λ s. outcome.Said s) was.said ++ o ∷ [])) new
     steps_more o is =
         rw (next, zip_more (take i rows) (map (λ s. outcome.Said s) was.said) row o (length-map was.said (λ s. outcome.Said s) ∙ size))
-        (FoldsTo-push (IsRowDone view called at) old (zip (take i rows) (map (λ s. outcome.Said s) was.said)) mid (row, o) new was.steps is)
+        (FoldsTo-push (IsRowDone view at) old (zip (take i rows) (map (λ s. outcome.Said s) was.said)) mid (row, o) new was.steps is)
 
-    private_more : (o : Outcome) → IsDone view called at row o mid new
+    private_more : (o : Outcome) → IsDone view at row o mid new
         → IsPrivate view at (take (i + 1) rows) (map (λ s. outcome.Said s) was.said ++ o ∷ []) old new
     private_more o is = λ clean live sound books tied.
         let before = was.private (is.clean clean) live sound books tied in
@@ -114,7 +114,7 @@ module _ {D : Type 0} (view : DeskView D) (called : D → Option Fault → D →
         (run_on (view.content old).country books (map (at_moment at) (take i rows)) (map (λ s. outcome.Said s) was.said) (at_moment at row)
         before.0 (view.content mid) (view.content new) (view.is_live mid) (view.is_live new) before.1 before.2 (is.live clean) o (is.performs clean))
 
-    pub done_more : (words : Said) (more : List ℕ) → IsDone view called at row (outcome.Said words) mid new → more ≡ text ++ line row words
+    pub done_more : (words : Said) (more : List ℕ) → IsDone view at row (outcome.Said words) mid new → more ≡ text ++ line row words
         → HasDone (i + 1) more (refused || is_refusal words) new
     done_more words more is text_more = record {
       said = was.said ++ words ∷ [];
@@ -127,8 +127,8 @@ module _ {D : Type 0} (view : DeskView D) (called : D → Option Fault → D →
       private = rw (map-append (λ s. outcome.Said s) was.said (words ∷ [])) (private_more (outcome.Said words) is);
     }
 
-    pub stopped_at : (r : BatchRun) (why : Fault) → IsDone view called at row (outcome.Failed why) mid new → r.done ≡ i → r.text.items ≡ text
-        → r.has_refusal ≡ refused → r.stopped ≡ Some why → IsBatchDone view called line header at rows r old new
+    pub stopped_at : (r : BatchRun) (why : Fault) → IsDone view at row (outcome.Failed why) mid new → r.done ≡ i → r.text.items ≡ text
+        → r.has_refusal ≡ refused → r.stopped ≡ Some why → IsBatchDone view line header at rows r old new
     stopped_at r why is done_is text_is refusal_is stop =
         let outcomes : outcomes_of was.said r.stopped ≡ map (λ s. outcome.Said s) was.said ++ outcome.Failed why ∷ [] = ap (outcomes_of was.said) stop in
         let number : length (map (λ s. outcome.Said s) was.said ++ outcome.Failed why ∷ []) ≡ i + 1 =
@@ -146,7 +146,7 @@ module _ {D : Type 0} (view : DeskView D) (called : D → Option Fault → D →
         }
 
   pub all_done : (r : BatchRun) (i : ℕ) (text : List ℕ) (refused : Bool) (new : D) → HasDone i text refused new → r.done ≡ i → r.text.items ≡ text → r.has_refusal ≡ refused → i ≡ length rows
-      → r.stopped ≡ None → IsBatchDone view called line header at rows r old new
+      → r.stopped ≡ None → IsBatchDone view line header at rows r old new
   all_done r i text refused new was done_is text_is refusal_is all stop =
       let outcomes : outcomes_of was.said r.stopped ≡ map (λ s. outcome.Said s) was.said = ap (outcomes_of was.said) stop in
       let number : length (map (λ s. outcome.Said s) was.said) ≡ i = length-map was.said (λ s. outcome.Said s) ∙ was.count in

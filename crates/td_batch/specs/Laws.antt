@@ -23,11 +23,11 @@ use Rattle.td_batch.specs.Runs.{at_moment, IsBatchDone, IsRunOf, outcomes_of, tr
 -- A batch of declarations that no fault stopped, done again at the same moment with no command between, changes nothing, whether
 -- a fault stops it then or not. (It may be answered otherwise: a row that was refused for its code, under an LRN that a later
 -- row then used, is refused for the LRN.)
-abbrev pub AgainChangesNothing : {D : Type 0} → DeskView D → (D → Option Fault → D → Type 0) → Type 0
-AgainChangesNothing {D} view called = (at : ℤ) (rows : List Command) (first again : BatchRun) (old mid new : D)
+abbrev pub AgainChangesNothing : {D : Type 0} → DeskView D → Type 0
+AgainChangesNothing {D} view = (at : ℤ) (rows : List Command) (first again : BatchRun) (old mid new : D)
     → AllByRecursion IsDeclaration rows
-    → IsRunOf view called declaration_result declarations_header at rows first old mid → first.stopped ≡ None
-    → IsRunOf view called declaration_result declarations_header at rows again mid new
+    → IsRunOf view declaration_result declarations_header at rows first old mid → first.stopped ≡ None
+    → IsRunOf view declaration_result declarations_header at rows again mid new
     → view.is_clean new → view.is_live new → IsSound (view.content old) → view.content new ≡ view.content mid
 
 -- The commands of the rows that were tried, at the moment of their batch.
@@ -37,12 +37,12 @@ stamped_rows at rows r said = map (at_moment at) (tried rows said r.stopped)
 -- The headline of batches. Two batches, of declarations or of acts, at desks of one country, whose contents are equal in H's rows
 -- and as different as one likes in all others': where the rows that were tried agree on H, moments included, and H's failed at the
 -- same places, H was told the same. (A row of the result file is made of its command and of what was said, by `result_rows`.)
-abbrev pub AgreeingBatchesTellTheSame : {D E : Type 0} → DeskView D → (D → Option Fault → D → Type 0) → DeskView E → (E → Option Fault → E → Type 0) → Type 0
-AgreeingBatchesTellTheSame {D} {E} view called other_view other_called = (line other_line : Command → Said → List ℕ)
+abbrev pub AgreeingBatchesTellTheSame : {D E : Type 0} → DeskView D → DeskView E → Type 0
+AgreeingBatchesTellTheSame {D} {E} view other_view = (line other_line : Command → Said → List ℕ)
     (header other_header : List ℕ) (at other_at : ℤ) (rows other_rows : List Command) (r other : BatchRun) (old new : D) (other_old other_new : E)
     (country : List ℕ) (H : ℕ)
-    → (one : IsBatchDone view called line header at rows r old new)
-    → (two : IsBatchDone other_view other_called other_line other_header other_at other_rows other other_old other_new)
+    → (one : IsBatchDone view line header at rows r old new)
+    → (two : IsBatchDone other_view other_line other_header other_at other_rows other other_old other_new)
     → view.is_clean new → view.is_live old → IsSound (view.content old)
     → other_view.is_clean other_new → other_view.is_live other_old → IsSound (other_view.content other_old)
     → (view.content old).country ≡ country → (other_view.content other_old).country ≡ country
@@ -69,11 +69,11 @@ pub record IsLater (before after : Content) : Type 0 where
 -- A declaration of a batch that was answered has the same answer where it is done again in a batch, at any moment in range that
 -- isn't before the holder's own last change then, whatever came between. (So it has the same result row, and the MRN of the
 -- movement that stands; no other movement of the holder has its LRN in a sound content.)
-abbrev pub AnsweredAgain : {D : Type 0} → DeskView D → (D → Option Fault → D → Type 0) → Type 0
-AnsweredAgain {D} view called = (at later : ℤ) (t : ℕ) (rows others : List Command) (first again : BatchRun) (old mid middle new : D)
+abbrev pub AnsweredAgain : {D : Type 0} → DeskView D → Type 0
+AnsweredAgain {D} view = (at later : ℤ) (t : ℕ) (rows others : List Command) (first again : BatchRun) (old mid middle new : D)
     (H : ℕ) (row : HolderRow) (d : Command) (a : Answer) (s : Said)
-    → (one : IsBatchDone view called declaration_result declarations_header at rows first old mid)
-    → (more : IsBatchDone view called declaration_result declarations_header later others again middle new)
+    → (one : IsBatchDone view declaration_result declarations_header at rows first old mid)
+    → (more : IsBatchDone view declaration_result declarations_header later others again middle new)
     → view.is_clean mid → view.is_live mid → IsSound (view.content old) → IsLater (view.content mid) (view.content middle)
     → view.is_clean new → view.is_live middle
     → IsDeclaration d → IsSaidTo d (Answered a) rows one.said → IsSaidTo d s others more.said

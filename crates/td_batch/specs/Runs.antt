@@ -29,12 +29,11 @@ outcome_of (Err why) = outcome.Failed why
 
 -- How a row ended by the calls that it makes of a desk: as a command does, or for want of memory for its result row, at a desk
 -- that weighed it and did no more.
-abbrev pub IsCausedBy : {D : Type 0} → (D → Option Fault → D → Type 0) → D → Outcome → D → Type 0
-IsCausedBy called old o new = IsOutcomeOf called old o new ⊎ ((o ≡ outcome.Failed fault.NoMemory) × called old None new)
+abbrev pub IsCausedBy : {D : Type 0} → DeskView D → D → Stamped → Outcome → D → Type 0
+IsCausedBy view old s o new = IsOutcomeOf view old s o new ⊎ ((o ≡ outcome.Failed fault.NoMemory) × view.weighed old s None new)
 
 -- One row was done at a desk, or failed: all that is promised of a command.
-pub record IsDone {D : Type 0} (view : DeskView D) (called : D → Option Fault → D → Type 0) (at : ℤ)
-    (command : Command) (o : Outcome) (old new : D) : Type 0 where
+pub record IsDone {D : Type 0} (view : DeskView D) (at : ℤ) (command : Command) (o : Outcome) (old new : D) : Type 0 where
   pub clean : view.is_clean new → view.is_clean old
   pub live : view.is_clean new → view.is_live new → view.is_live old
   pub performs : view.is_clean new
@@ -47,12 +46,12 @@ pub record IsDone {D : Type 0} (view : DeskView D) (called : D → Option Fault 
   pub crash : view.is_clean new → LeavesAfter view old (at_moment at command) (is_failed o) new
   pub settled : view.is_clean new → IsSettled view new
   pub store : o ≡ outcome.Failed fault.Store → view.has_store
-  pub calls : IsCausedBy called old o new
+  pub calls : IsCausedBy view old (at_moment at command) o new
   pub proper : IsProper command
 
 -- the same of a row and its outcome
-abbrev pub IsRowDone : {D : Type 0} → DeskView D → (D → Option Fault → D → Type 0) → ℤ → D → Command × Outcome → D → Type 0
-IsRowDone view called at old row new = IsDone view called at row.0 row.1 old new
+abbrev pub IsRowDone : {D : Type 0} → DeskView D → ℤ → D → Command × Outcome → D → Type 0
+IsRowDone view at old row new = IsDone view at row.0 row.1 old new
 
 -- it is no answer
 abbrev pub is_refusal : Said → Bool
@@ -87,19 +86,19 @@ IsPrivate view at commands outcomes old new =
 
 -- The rows were done in order, up to a fault, each from what the one before left: this was said to them, and the result file is
 -- its header and their rows.
-pub record IsBatchDone {D : Type 0} (view : DeskView D) (called : D → Option Fault → D → Type 0)
+pub record IsBatchDone {D : Type 0} (view : DeskView D)
     (line : Command → Said → List ℕ) (header : List ℕ) (at : ℤ) (rows : List Command) (r : BatchRun) (old new : D) : Type 0 where
   pub said : List Said
   pub text : r.text.items ≡ header ++ result_rows line (take (length said) rows) said
   pub done : r.done ≡ length said
   pub ends : Ends rows said r.stopped
   pub refused : has_refusal r ≡ list_any is_refusal said
-  pub steps : FoldsTo (IsRowDone view called at) old (zip (tried rows said r.stopped) (outcomes_of said r.stopped)) new
+  pub steps : FoldsTo (IsRowDone view at) old (zip (tried rows said r.stopped) (outcomes_of said r.stopped)) new
   pub private : IsPrivate view at (tried rows said r.stopped) (outcomes_of said r.stopped) old new
 
 -- nothing was done, for want of memory for the header; or the rows were, up to a fault
-abbrev pub IsRunOf : {D : Type 0} → DeskView D → (D → Option Fault → D → Type 0) → (Command → Said → List ℕ) → List ℕ → ℤ
+abbrev pub IsRunOf : {D : Type 0} → DeskView D → (Command → Said → List ℕ) → List ℕ → ℤ
     → List Command → BatchRun → D → D → Type 0
-IsRunOf view called line header at rows r old new =
+IsRunOf view line header at rows r old new =
     ((new ≡ old) × (r.text.items ≡ []) × (r.done ≡ 0) × (r.stopped ≡ Some fault.NoMemory))
-    ⊎ IsBatchDone view called line header at rows r old new
+    ⊎ IsBatchDone view line header at rows r old new

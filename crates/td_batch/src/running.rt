@@ -93,7 +93,7 @@ fn do_row<D: Desk, R: BatchRow>(
     row: &R,
     text: &mut Vec<u8>,
 ) -> Result<Said, Fault>
-    ensures done { IsDone D.seen D.called at (R.command row.now) (outcome_of result) desk.old desk.new }
+    ensures done { IsDone D.seen at (R.command row.now) (outcome_of result) desk.old desk.new }
     ensures text { IfOk result (λ said. text.new.items ≡ text.old.items ++ R.line (R.command row.now) said) }
     ensures none { OnErr result (text.new.items ≡ text.old.items) }
 {
@@ -133,7 +133,7 @@ fn run_rows<D: Desk, R: BatchRow>(
     header: &str,
     rows: &[R],
 ) -> BatchRun
-    ensures { IsRunOf D.seen D.called R.line header.now at (map R.command rows.now) result desk.old desk.new }
+    ensures { IsRunOf D.seen R.line header.now at (map R.command rows.now) result desk.old desk.new }
 {
     let mut text = Vec::new(alloc);
     if text.extend_from_slice(header.as_bytes()).is_err() {
@@ -178,7 +178,7 @@ pub fn run_declarations<D: Desk>(
     at: i64,
     rows: &[DeclarationRow],
 ) -> BatchRun
-    ensures { IsRunOf D.seen D.called declaration_result declarations_header at rows.now result desk.old desk.new }
+    ensures { IsRunOf D.seen declaration_result declarations_header at rows.now result desk.old desk.new }
 {
     run_rows(alloc, desk, at, "holder,lrn,outcome,mrn\n", rows)
 }
@@ -186,7 +186,7 @@ pub fn run_declarations<D: Desk>(
 /// Does the acts of a batch in order, all at that number of seconds since 1970, up to the first fault. The text is the
 /// result file: its header, `message,mrn,outcome`, and a row for each that was done.
 pub fn run_acts<D: Desk>(alloc: Global, desk: &mut D, at: i64, rows: &[ActRow]) -> BatchRun
-    ensures { IsRunOf D.seen D.called act_result acts_header at rows.now result desk.old desk.new }
+    ensures { IsRunOf D.seen act_result acts_header at rows.now result desk.old desk.new }
 {
     run_rows(alloc, desk, at, "message,mrn,outcome\n", rows)
 }

@@ -8,7 +8,6 @@ use Rattle.td_model.specs.Book.{Book, account_of}
 use Rattle.td_commands.specs.Commands.{owner_of}
 use Rattle.td_model.specs.Table.{said}
 use Rattle.td_model.specs.Machine.{is_accepted, machine_says, machine_book, IsGrown}
-use Rattle.td_desk.specs.declared.fault.Fault.{Fault}
 use Rattle.td_desk.specs.declared.running.Outcome.{Outcome}
 use Rattle.td_desk.specs.declared.running.Outcome.TheVariants as outcome
 use Rattle.td_desk.specs.Content.{Content, account_in, IsSound}
@@ -64,19 +63,21 @@ pub record IsTied (rows : Content) (books : ℕ → Book) : Type 0 where
   pub each : (H : ℕ) → account_in H rows ≡ account_of H (books H)
   pub grown : (H : ℕ) → IsGrown H (books H)
 
--- How a command ended by the two calls that it makes of a desk, where called says how a call ended: by
--- words where neither failed, else by the fault of the one that failed, which was the last.
-abbrev pub IsOutcomeOf : {S : Type 0} → (S → Option Fault → S → Type 0) → S → Outcome → S → Type 0
-IsOutcomeOf {S} called old (outcome.Said words) new =
-    (weighed : S) × called old None weighed × called weighed None new
-IsOutcomeOf {S} called old (outcome.Failed why) new =
-    called old (Some why) new ⊎ ((weighed : S) × called old None weighed × called weighed (Some why) new)
+-- How a command ended by the two calls that it makes of a desk: by words where neither failed, else by the fault of the one
+-- that failed, which was the last.
+abbrev pub IsOutcomeOf : {D : Type 0} → DeskView D → D → Stamped → Outcome → D → Type 0
+IsOutcomeOf {D} view old s (outcome.Said words) new =
+    (weighed : D) × view.weighed old s None weighed × view.carried weighed None new
+IsOutcomeOf {D} view old s (outcome.Failed why) new =
+    view.weighed old s (Some why) new ⊎ ((weighed : D) × view.weighed old s None weighed × view.carried weighed (Some why) new)
 
 -- each outcome is that of its own calls, one command after the other
-abbrev pub AreOutcomesOf : {S : Type 0} → (S → Option Fault → S → Type 0) → S → List Outcome → S → Type 0
-AreOutcomesOf called old [] new = new ≡ old
-AreOutcomesOf {S} called old (o ∷ outcomes) new =
-    (next : S) × IsOutcomeOf called old o next × AreOutcomesOf called next outcomes new
+abbrev pub AreOutcomesOf : {D : Type 0} → DeskView D → D → List Stamped → List Outcome → D → Type 0
+AreOutcomesOf view old [] [] new = new ≡ old
+AreOutcomesOf view old [] (o ∷ outcomes) new = ⊥
+AreOutcomesOf view old (s ∷ list) [] new = ⊥
+AreOutcomesOf {D} view old (s ∷ list) (o ∷ outcomes) new =
+    (next : D) × IsOutcomeOf view old s o next × AreOutcomesOf view next list outcomes new
 
 -- the outcome of one command, and the content after it: what is said is the model's verdict, and a failure
 -- changes nothing

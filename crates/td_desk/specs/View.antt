@@ -1,5 +1,7 @@
 -- What contracts see of a desk, and what a crash leaves of it.
-use Rattle.std.specs.Prelude.{◌≡◌, ◌⊎◌}
+use Rattle.std.specs.Prelude.{◌≡◌, ◌⊎◌, Option}
+use Rattle.td_commands.specs.declared.command.Stamped.{Stamped}
+use Rattle.td_desk.specs.declared.fault.Fault.{Fault}
 use Rattle.td_desk.specs.Content.{Content}
 
 pub record DeskView (D : Type 0) : Type 1 where
@@ -15,6 +17,10 @@ pub record DeskView (D : Type 0) : Type 1 where
   pub may_leave : D → Content → Type 0
   -- it finds a desk, whatever the crash leaves
   pub recovers : D → Type 0
+  -- the command was weighed: that took it from one state to the other, and ended by this fault, or by none
+  pub weighed : D → Stamped → Option Fault → D → Type 0
+  -- the decision that was weighed last was carried, and that ended so
+  pub carried : D → Option Fault → D → Type 0
 
 -- whatever a crash leaves at this moment is a desk of this content
 pub record LeavesOnly {D : Type 0} (view : DeskView D) (d : D) (c : Content) : Type 0 where

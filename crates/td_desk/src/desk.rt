@@ -1,12 +1,13 @@
 //! What a desk promises.
-ghost use Rattle.std.specs.Prelude.{◌≡◌, ◌≢◌, ℤ, Option, IfOk, OnOk, OnErr, IsOk};
+ghost use Rattle.std.specs.Prelude.{◌≡◌, ◌≢◌, ℤ, IfOk, OnOk, OnErr, IsOk};
 ghost use Rattle.std.specs.Result.{result_err};
 ghost use Rattle.td_desk.specs.declared.fault.Fault.{Fault};
+ghost use Rattle.td_acts.specs.declared.rows.Verdict.{Verdict};
 ghost use Rattle.td_acts.specs.declared.rows.Change.TheVariants as change;
 ghost use Rattle.td_commands.specs.declared.command.Stamped.{Stamped};
 ghost use Rattle.td_commands.specs.Commands.{IsProper};
 ghost use Rattle.td_desk.specs.Content.{IsSound, content_after};
-ghost use Rattle.td_desk.specs.Weighing.{IsWeighed, IsDecision, Carries};
+ghost use Rattle.td_desk.specs.Weighing.{IsWeighed, Carries};
 ghost use Rattle.td_desk.specs.View.{AddsAtMost, DeskView, LeavesOnly};
 
 use crate::decision::Decision;
@@ -18,11 +19,12 @@ use td_base::Country;
 /// The desk of a transit office. What is said of values is said where the state after the call is clean,
 /// and, of the content, live.
 pub trait Desk {
-    /// What is seen of it: its content, whether it is clean and live, whether a store stands behind it, and what a crash leaves.
+    /// What is seen of it: its content, whether it is clean and live, whether a store stands behind it, what a crash leaves, and
+    /// what its calls do beside.
     ghost seen: { DeskView Self };
 
-    /// A call took it from one state to the other, and ended by this fault, or by none.
-    ghost called: { Self → Option Fault → Self → Type 0 };
+    /// The decision is one that it may carry as it is: it was weighed at it, and nothing was done since.
+    ghost decided: { Self → Verdict → Type 0 };
 
     /// The country of its office.
     fn country(&self) -> Country
@@ -43,15 +45,15 @@ pub trait Desk {
         ensures crash { seen.is_clean self.new → AddsAtMost seen (λ _. ⊥) self.old self.new }
         ensures settled { seen.is_clean self.new → seen.is_live self.new → LeavesOnly seen self.new (seen.content self.new) }
         ensures store { result ≡ Err Fault.Store → seen.has_store }
-        ensures call { called self.old (result_err result) self.new };
+        ensures decided { IfOk result (decided self.new) }
+        ensures call { seen.weighed self.old (record { at = at; command = command.now }) (result_err result) self.new };
 
     /// Does what was decided on a command over the content as it is, and answers what is said to it. An
     /// `Err` changes nothing that a live desk shows, and the decision is spent; a decision that changes nothing is never an `Err`, and leaves the
     /// very same desk. To what a crash leaves a change adds at most the content with it; and while the desk is live, that is
     /// its content alone.
     fn carry(&mut self, alloc: Global, decision: Decision) -> Result<Said, Fault>
-        requires { seen.is_clean self.old → seen.is_live self.old → IsSound (seen.content self.old)
-            → IsDecision (seen.content self.old) decision }
+        requires { decided self.old decision }
         ensures clean { seen.is_clean self.new → seen.is_clean self.old }
         ensures live { seen.is_clean self.new → seen.is_live self.new → seen.is_live self.old }
         ensures shown { seen.is_clean self.new → decision.change ≢ change.Nothing
@@ -72,5 +74,5 @@ pub trait Desk {
         ensures settled { decision.change ≢ change.Nothing → seen.is_clean self.new → seen.is_live self.new
             → LeavesOnly seen self.new (seen.content self.new) }
         ensures store { result ≡ Err Fault.Store → seen.has_store }
-        ensures call { called self.old (result_err result) self.new };
+        ensures call { seen.carried self.old (result_err result) self.new };
 }

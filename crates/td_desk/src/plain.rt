@@ -40,6 +40,7 @@ impl PlainDesk {
 impl Store for PlainDesk {
     ghost use Rattle.td_desk.specs.declared.fault.Fault.TheVariants as fault;
     ghost use Rattle.td_desk.specs.Plain.{plain_content};
+    ghost use Rattle.std.proofs.lemmas.Option.{none-some};
 
     ghost holds = { record {
       content = plain_content;
@@ -48,9 +49,11 @@ impl Store for PlainDesk {
       has_store = ⊥;
       may_leave = λ _ _. ⊥;
       recovers = λ _. Unit {0};
+      weighed = λ _ _ why _. why ≢ Some fault.Store;
+      carried = λ _ why _. why ≢ Some fault.Store;
     } };
 
-    ghost asked = { λ _ why _. why ≢ Some fault.Store };
+    ghost carries_nothing = { λ _. none-some fault.Store };
 
     fn office(&self) -> Country {
         self.country

@@ -38,7 +38,7 @@ pub fn do_one<D: Desk>(alloc: Global, desk: &mut D, stamped: &Stamped) -> Outcom
     ensures store { result ≡ Outcome.Failed Fault.Store → D.seen.has_store }
     ensures found { D.seen.is_clean desk.new → IsSound (D.seen.content desk.old) → (mrn : List ℕ) (limit : ℕ)
         → stamped.now.command ≡ command.Ie029 mrn limit → result ≢ Outcome.Said (said.Refused refusal.NoGuarantee) }
-    ensures calls { IsOutcomeOf D.called desk.old result desk.new }
+    ensures calls { IsOutcomeOf D.seen desk.old stamped.now result desk.new }
 {
     match desk.weigh(alloc, stamped.at, &stamped.command) {
         Ok(decision) => match desk.carry(alloc, decision) {
@@ -73,7 +73,7 @@ pub fn run<D: Desk>(
         → D.seen.is_live desk.new) }
     ensures store { IfOk result (λ outcomes. All
         (λ o. o ≡ Outcome.Failed Fault.Store → D.seen.has_store) outcomes.items) }
-    ensures calls { IfOk result (λ outcomes. AreOutcomesOf D.called desk.old outcomes.items desk.new) }
+    ensures calls { IfOk result (λ outcomes. AreOutcomesOf D.seen desk.old list.now outcomes.items desk.new) }
 {
     let mut outcomes = Vec::with_capacity(alloc, list.len())?;
     for stamped in list {

@@ -1,9 +1,10 @@
 //! What stands under a desk: rows that are loaded and written. Whatever does this is a desk.
-ghost use Rattle.std.specs.Prelude.{◌≡◌, ◌≢◌, ◌⊎◌, ℕ, Option, Some, None, IfOk, OnOk, OnErr};
+ghost use Rattle.std.specs.Prelude.{◌≡◌, ◌≢◌, ℕ, Some, None, IfOk, OnOk, OnErr};
 ghost use Rattle.std.specs.Result.{result_err};
 ghost use Rattle.td_desk.specs.declared.fault.Fault.{Fault};
 ghost use Rattle.td_acts.specs.Deciding.{IsLoaded};
 ghost use Rattle.td_commands.specs.Commands.{need_said};
+ghost use Rattle.td_commands.specs.declared.command.Stamped.{Stamped};
 ghost use Rattle.td_acts.specs.declared.rows.Change.TheVariants as changes;
 ghost use Rattle.td_desk.specs.Content.{content_after, IsSound};
 ghost use Rattle.td_acts.specs.declared.rows.Verdict.{Verdict};
@@ -24,8 +25,8 @@ pub trait Store {
     /// What is seen of it, as of a desk: `has_store` is that it may answer a fault of its own, `Fault::Store`.
     ghost holds: { DeskView Self };
 
-    /// A call took it from one state to the other, and ended by this fault, or by none.
-    ghost asked: { Self → Option Fault → Self → Type 0 };
+    /// A decision that changes nothing is carried by leaving it alone.
+    ghost carries_nothing: { (store : Self) → holds.carried store None store };
 
     /// The country of the desk's office.
     fn office(&self) -> Country
@@ -50,7 +51,9 @@ pub trait Store {
         ensures crash { holds.is_clean self.new → AddsAtMost holds (λ _. ⊥) self.old self.new }
         ensures settled { holds.is_clean self.new → holds.is_live self.new → LeavesOnly holds self.new (holds.content self.new) }
         ensures store { result ≡ Err Fault.Store → holds.has_store }
-        ensures call { asked self.old (result_err result) self.new };
+        ensures call { (s : Stamped) → holds.weighed self.old s (result_err result) self.new }
+        // Where it ended well there may be no memory for the verdict.
+        ensures unweighed { OnOk result ((s : Stamped) → holds.weighed self.old s (Some Fault.NoMemory) self.new) };
 
     /// Writes a change of one holder's rows, which was decided on over the rows as they are, all of it or, where
     /// it answers `Err`, nothing.
@@ -69,18 +72,15 @@ pub trait Store {
             (λ x. holds.is_live self.old × (x ≡ content_after change (holds.content self.old))) self.old self.new }
         ensures settled { holds.is_clean self.new → holds.is_live self.new → LeavesOnly holds self.new (holds.content self.new) }
         ensures store { result ≡ Err Fault.Store → holds.has_store }
-        ensures call { asked self.old (result_err result) self.new };
+        ensures call { holds.carried self.old (result_err result) self.new };
 }
 
 impl<S: Store> Desk for S {
-    ghost use Rattle.td_desk.specs.declared.fault.Fault.TheVariants as fault;
-
     ghost seen = { S.holds };
 
-    // The store's call ended so; or it ended well, and the verdict on what it loaded found no memory; or
-    // the store was left alone.
-    ghost called = { λ old why new. S.asked old why new
-        ⊎ ((S.asked old None new × (why ≡ Some fault.NoMemory)) ⊎ ((new ≡ old) × (why ≡ None))) };
+    // It is one on some command over the rows as they are.
+    ghost decided = { λ desk verdict. S.holds.is_clean desk → S.holds.is_live desk → IsSound (S.holds.content desk)
+        → IsDecision (S.holds.content desk) verdict };
 
     fn country(&self) -> Country {
         self.office()

@@ -42,6 +42,19 @@ IsReplyTo (outcome.Failed fault.Store) close reply = reply ≡ Store
 abbrev pub IsFaultReply : WebFault → Bool → Reply → Type 0
 IsFaultReply why close reply = (reply ≡ NoMemory) ⊎ ((is_made reply ≡ true) × (bytes_of reply ≡ fault_reply why close))
 
+-- the fixed reply to each fault
+abbrev pub fixed_reply : Fault → Reply
+fixed_reply fault.NoMemory = NoMemory
+fixed_reply fault.Store = Store
+
+-- How the reply to a command came about by the two calls that are made of a desk: bytes where neither failed; the fixed reply of
+-- the fault that the last one ended by; and that of missing memory also where the bytes found none, at a desk that weighed the
+-- command and did no more.
+abbrev pub IsCausedBy : {D : Type 0} → DeskView D → D → Stamped → Reply → D → Type 0
+IsCausedBy view old s (Made bytes) new = (words : Said) × IsOutcomeOf view old s (outcome.Said words) new
+IsCausedBy view old s NoMemory new = IsOutcomeOf view old s (outcome.Failed fault.NoMemory) new ⊎ view.weighed old s None new
+IsCausedBy view old s Store new = IsOutcomeOf view old s (outcome.Failed fault.Store) new
+
 -- What a request does to a desk. A command is one step of the desk, and the reply tells how it ended; a
 -- request that can't be read changes nothing, and its reply depends on the request alone.
 abbrev pub HandledAs : Type 0 → Type 0 → Content → ℤ → Result Command WebFault → Bool → Reply → Content → Type 0
@@ -60,6 +73,10 @@ pub record IsHandled {S D : Type 0} (desk : S → D) (view : DeskView D) (old : 
       (command_in asked) asked.close reply (view.content (desk new))
   pub stays : view.is_clean (desk new) → view.is_live (desk old) → reply ≢ Store → view.is_live (desk new)
   pub unasked : (why : WebFault) → command_in asked ≡ Err why → desk new ≡ desk old
+  -- a fixed reply is the fault that the desk answered, or missing memory at a desk that didn't fail
+  pub calls : (command : Command) → command_in asked ≡ Ok command
+      → IsCausedBy view (desk old) (record { at = at; command = command }) reply (desk new)
+  pub unstored : (why : WebFault) → command_in asked ≡ Err why → reply ≢ Store
   -- what a crash leaves after a command, which failed where the reply is a fixed one
   pub crash : (command : Command) → command_in asked ≡ Ok command → view.is_clean (desk new)
       → LeavesAfter view (desk old) (record { at = at; command = command }) (not (is_made reply)) (desk new)
@@ -114,19 +131,6 @@ FaultsAreTold before [] = Unit {0}
 FaultsAreTold before (e ∷ es) =
     ((why : WebFault) → command_in (question before e.wire) ≡ Err why
     → IsFaultReply why (question before e.wire).close e.reply) × FaultsAreTold (before + 1) es
-
--- the fixed reply to each fault
-abbrev pub fixed_reply : Fault → Reply
-fixed_reply fault.NoMemory = NoMemory
-fixed_reply fault.Store = Store
-
--- How a reply came about by the two calls that are made of a desk, where called says how a call ended: bytes
--- where neither failed; the fixed reply of the fault that the last one ended by; and that of missing memory
--- also where the bytes found none, at a desk that didn't fail.
-abbrev pub IsCausedBy : {S : Type 0} → (S → Option Fault → S → Type 0) → S → Reply → S → Type 0
-IsCausedBy called old (Made bytes) new = (words : Said) × IsOutcomeOf called old (outcome.Said words) new
-IsCausedBy called old NoMemory new = IsOutcomeOf called old (outcome.Failed fault.NoMemory) new ⊎ called old None new
-IsCausedBy called old Store new = IsOutcomeOf called old (outcome.Failed fault.Store) new
 
 -- the reply to each command that nobody owns is what the table says over an account with nothing in it
 abbrev pub NobodysAreTold : List ℕ → ℕ → List Exchange → Type 0

@@ -50,9 +50,10 @@ fn weigh_and_carry<D: Desk>(
     ensures store { result ≡ Err fault.Store → D.seen.has_store }
     // a failure is the desk's own, or of missing memory for the bytes at a desk that didn't fail
     ensures calls { MatchResult result
-        (λ bytes. (words : Said) × IsOutcomeOf D.called desk.old (outcome.Said words) desk.new)
-        (λ why. IsOutcomeOf D.called desk.old (outcome.Failed why) desk.new
-        ⊎ ((why ≡ fault.NoMemory) × D.called desk.old None desk.new)) }
+        (λ bytes. (words : Said)
+        × IsOutcomeOf D.seen desk.old (record { at = at; command = command.now }) (outcome.Said words) desk.new)
+        (λ why. IsOutcomeOf D.seen desk.old (record { at = at; command = command.now }) (outcome.Failed why) desk.new
+        ⊎ ((why ≡ fault.NoMemory) × D.seen.weighed desk.old (record { at = at; command = command.now }) None desk.new)) }
 {
     // no `?`: a decision is large, and `?` would copy it twice more
     let decision = match desk.weigh(alloc, at, command) {
@@ -100,7 +101,7 @@ fn reply_to_command<D: Desk>(
         (record { at = at; command = command.now }) (not (is_made result)) desk.new }
     ensures settled { D.seen.is_clean desk.new → IsSettled D.seen desk.new }
     ensures store { result ≡ Reply.Store → D.seen.has_store }
-    ensures calls { IsCausedBy D.called desk.old result desk.new }
+    ensures calls { IsCausedBy D.seen desk.old (record { at = at; command = command.now }) result desk.new }
 {
     match weigh_and_carry(alloc, desk, at, command, close) {
         Ok(bytes) => Reply::Made(bytes),
@@ -148,9 +149,6 @@ impl<D: Desk> Service<D> {
     pub fn handle(&mut self, alloc: Global, at: i64, request: &Request) -> Reply
         ensures handled { IsHandledBy D.seen self.old at
             (asked request.now) result self.new }
-        // A fixed reply is the fault that the desk answered, or missing memory at a desk that didn't fail.
-        ensures calls { (desk_of self.new ≡ desk_of self.old) × (result ≢ Reply.Store)
-            ⊎ IsCausedBy D.called (desk_of self.old) result (desk_of self.new) }
         ensures alone { IsPrivateAlone D.seen self.old at (asked request.now) result self.new }
     {
         match read_command_by(alloc, &mut self.routes, request) {

@@ -1,3 +1,2 @@
 mod Pipes
 mod ServedConnections
-mod Quiet

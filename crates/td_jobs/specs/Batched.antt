@@ -43,4 +43,4 @@ pub record HasDoneRows {D M : Type 0} (view : DeskView D) (opened left : D) (tic
     (which : BatchKind) (commands : List Command) (machine machine_left : M) (r : BatchRun) : Type 0 where
   pub moment : ℤ
   pub asked : IsMomentBy ticks at machine moment machine_left
-  pub ran : IsRunOf view (λ _ _ _. Unit {0}) (line_of which) (header_of which) moment commands r opened left
+  pub ran : IsRunOf view (line_of which) (header_of which) moment commands r opened left

@@ -1,9 +1,10 @@
 -- Desks at which jobs are done, and the clocks of jobs.
-use Rattle.std.specs.Prelude.{◌≡◌, ℕ, ℤ, List, Option, None, Some}
+use Rattle.std.specs.Prelude.{◌≡◌, ◌≢◌, ℕ, ℤ, List, Option, None, Some}
 use Rattle.td_model.specs.Book.{Book}
 use Rattle.td_desk.specs.Content.{Content, account_in, empty_content, fresh, IsSound}
 use Rattle.td_desk.specs.Plain.{plain_content}
 use Rattle.td_desk.specs.View.{DeskView}
+use Rattle.td_desk.specs.declared.fault.Fault.TheVariants.{Store}
 use Rattle.td_desk.specs.declared.plain.PlainDesk.{PlainDesk}
 use Rattle.td_machine.specs.declared.clock.FixedClock.{FixedClock}
 
@@ -16,6 +17,8 @@ in_memory = record {
   has_store = ⊥;
   may_leave = λ d x. ⊥;
   recovers = λ d. Unit {0};
+  weighed = λ d s why e. why ≢ Some Store;
+  carried = λ d why e. why ≢ Some Store;
 }
 
 -- each holder's book is fresh: it opens with what the content has of the holder

@@ -40,7 +40,7 @@ impl Rows {
     }
 
     fn run<D: Desk>(&self, alloc: Global, desk: &mut D, at: i64) -> BatchRun
-        ensures { IsRunOf D.seen D.called (line_of (kind_of self.now)) (header_of (kind_of self.now)) at (commands_of self.now)
+        ensures { IsRunOf D.seen (line_of (kind_of self.now)) (header_of (kind_of self.now)) at (commands_of self.now)
             result desk.old desk.new }
     {
         match self {

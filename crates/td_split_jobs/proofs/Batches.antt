@@ -65,8 +65,8 @@ pub rows_there : (rows : List Command) (said : List Said) (stopped : Option Faul
 rows_there rows said None ends = omega (arith, ends)
 rows_there rows said (Some why) ends = let all = ends.1 in omega (arith, all)
 
-module _ {D : Type 0} (view : DeskView D) (called : D → Option Fault → D → Type 0) (line : Command → Said → List ℕ) (header : List ℕ) (at : ℤ) (country : List ℕ)
-    (rows : List Command) (r : BatchRun) (said : List Said) (old new : D) (batch : IsBatchAt view called line header at country rows r said old new) where
+module _ {D : Type 0} (view : DeskView D) (line : Command → Said → List ℕ) (header : List ℕ) (at : ℤ) (country : List ℕ)
+    (rows : List Command) (r : BatchRun) (said : List Said) (old new : D) (batch : IsBatchAt view line header at country rows r said old new) where
   pub said_within : length said ≤ length rows
   said_within = rows_there rows said r.stopped (subst (λ s. Ends rows s r.stopped) batch.said_is batch.done.ends)
 
@@ -77,12 +77,12 @@ module _ {D : Type 0} (view : DeskView D) (called : D → Option Fault → D →
   pub beginning_is_run : (m : ℕ) → m ≤ length said
       → (c : Content) × IsRun country (λ H. fresh H (view.content old)) (map (at_moment at) (take m rows)) (all_said (take m said)) c
   beginning_is_run m within =
-      let all = subst (λ s. FoldsTo (IsRowDone view called at) old (zip (tried rows s r.stopped) (outcomes_of s r.stopped)) new) batch.said_is batch.done.steps in
-      let steps = subst (λ o. FoldsTo (IsRowDone view called at) old (zip (take (length o) rows) o) new) (outcomes_are said r.stopped) all in
-      let first = first_steps (IsRowDone view called at) m rows said (end_of r.stopped) old new within steps in
+      let all = subst (λ s. FoldsTo (IsRowDone view at) old (zip (tried rows s r.stopped) (outcomes_of s r.stopped)) new) batch.said_is batch.done.steps in
+      let steps = subst (λ o. FoldsTo (IsRowDone view at) old (zip (take (length o) rows) o) new) (outcomes_are said r.stopped) all in
+      let first = first_steps (IsRowDone view at) m rows said (end_of r.stopped) old new within steps in
       let done = zip (take m rows) (all_said (take m said)) in
-      let run = rows_run view called at country (λ H. fresh H (view.content old)) done old first.0 batch.country_is batch.sound (fresh_tied (view.content old)) first.2
-      (clean_back view called at first.1 first.0 new first.3 batch.clean) in
+      let run = rows_run view at country (λ H. fresh H (view.content old)) done old first.0 batch.country_is batch.sound (fresh_tied (view.content old)) first.2
+      (clean_back view at first.1 first.0 new first.3 batch.clean) in
       let there : length said ≤ length rows = said_within in
       let taken : length (take m rows) ≡ length (take m said) = rw (length-take, length-take) (omega (arith, within, there)) in
       let one_each : length (take m rows) ≡ length (all_said (take m said)) = taken ∙ sym (length-map (take m said) (λ s. outcome.Said s)) in (
@@ -104,11 +104,11 @@ module _ {D : Type 0} (view : DeskView D) (called : D → Option Fault → D →
       )
 
 -- what the calls of a batch promise is such a batch, where there was memory for the header of the result file
-pub batch_at : {D : Type 0} (view : DeskView D) (called : D → Option Fault → D → Type 0) (line : Command → Said → List ℕ) (header : List ℕ) (at : ℤ) (rows : List Command)
-    (r : BatchRun) (old new : D) → IsRunOf view called line header at rows r old new → view.is_clean new → view.is_live old → IsSound (view.content old) → r.text.items ≢ []
-    → (said : List Said) × IsBatchAt view called line header at (view.content old).country rows r said old new
-batch_at view called line header at rows r old new (inl nothing) clean live sound there = absurd (there nothing.1)
-batch_at view called line header at rows r old new (inr done) clean live sound there = (
+pub batch_at : {D : Type 0} (view : DeskView D) (line : Command → Said → List ℕ) (header : List ℕ) (at : ℤ) (rows : List Command)
+    (r : BatchRun) (old new : D) → IsRunOf view line header at rows r old new → view.is_clean new → view.is_live old → IsSound (view.content old) → r.text.items ≢ []
+    → (said : List Said) × IsBatchAt view line header at (view.content old).country rows r said old new
+batch_at view line header at rows r old new (inl nothing) clean live sound there = absurd (there nothing.1)
+batch_at view line header at rows r old new (inr done) clean live sound there = (
   done.said,
   record { country_is = refl; live = live; sound = sound; clean = clean; done = done; said_is = refl },
 )

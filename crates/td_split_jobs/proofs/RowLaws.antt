@@ -153,8 +153,8 @@ module _ (at : ℤ) (country : List ℕ) where
 
 -- ---- the text of a whole batch
 
-module _ {D : Type 0} (view : DeskView D) (called : D → Option Fault → D → Type 0) (line : Command → Said → List ℕ) (header : List ℕ) (at : ℤ) (country : List ℕ)
-    (rows : List Command) (r : BatchRun) (words : List Said) (old new : D) (batch : IsBatchAt view called line header at country rows r words old new) where
+module _ {D : Type 0} (view : DeskView D) (line : Command → Said → List ℕ) (header : List ℕ) (at : ℤ) (country : List ℕ)
+    (rows : List Command) (r : BatchRun) (words : List Said) (old new : D) (batch : IsBatchAt view line header at country rows r words old new) where
   text_of : r.text.items ≡ header ++ concat (result_lines line rows words)
   text_of =
       subst (λ s. r.text.items ≡ header ++ result_rows line (take (length s) rows) s) batch.said_is batch.done.text
@@ -163,7 +163,7 @@ module _ {D : Type 0} (view : DeskView D) (called : D → Option Fault → D →
   -- while no fault has shut the desk, its content is sound, and of its country
   end_is : view.is_live new → ((view.content new).country ≡ country) × IsSound (view.content new)
   end_is still_live =
-      let run = batch_is_run view called line header at country rows r words old new batch in
+      let run = batch_is_run view line header at country rows r words old new batch in
       (ap (λ (c : Content). c.country) (run.2 still_live) ∙ run.1.country_stays, subst IsSound (sym (run.2 still_live)) run.1.sound)
 
   all_said_of : r.stopped ≡ None → length words ≡ length rows
@@ -215,17 +215,17 @@ part_begins at country H n rows =
 
 -- ---- batches that are split
 
-module _ {D E : Type 0} (view : DeskView D) (called : D → Option Fault → D → Type 0) (other : DeskView E) (other_called : E → Option Fault → E → Type 0)
+module _ {D E : Type 0} (view : DeskView D) (other : DeskView E)
     (line : Command → Said → List ℕ) (header : List ℕ) (at : ℤ) (country : List ℕ) (f : ℕ → ℕ) (desks : ℕ) (sent : List SentRow)
     (r : BatchRun) (runs : ℕ → BatchRun) (words : List Said) (answers : ℕ → List Said) (old new : D) (olds news : ℕ → E)
-    (split : IsSplitBatch view called other other_called line header at country f desks sent r runs words answers old new olds news) where
+    (split : IsSplitBatch view other line header at country f desks sent r runs words answers old new olds news) where
   begun_alike : (H : ℕ) → fresh H (view.content old) ≡ fresh H (other.content (olds (f H)))
   begun_alike H =
       same_fresh H (view.content old) (other.content (olds (f H)))
       (split.one.country_is ∙ sym (split.many (f H) (split.placed H)).country_is) (sym (split.begun H))
 
   one_within : length words ≤ length (all_rows sent)
-  one_within = said_within view called line header at country (all_rows sent) r words old new split.one
+  one_within = said_within view line header at country (all_rows sent) r words old new split.one
 
   module _ (n : ℕ) (did : n ≤ length words) (others_did : (i : ℕ) → i < desks → length (rows_for i (take n sent)) ≤ length (answers i)) where
     -- the first rows, at the one desk and at desk i
@@ -248,7 +248,7 @@ module _ {D E : Type 0} (view : DeskView D) (called : D → Option Fault → D �
         omega (arith, number, did_them)
 
     share_within : (i : ℕ) → i < desks → length (answers i) ≤ length (rows_for i sent)
-    share_within i below = said_within other other_called line header at country (rows_for i sent) (runs i) (answers i) (olds i) (news i) (split.many i below)
+    share_within i below = said_within other line header at country (rows_for i sent) (runs i) (answers i) (olds i) (news i) (split.many i below)
 
     -- so many were said
     first_number : length (take n words) ≡ length (take n sent)
@@ -263,13 +263,13 @@ module _ {D E : Type 0} (view : DeskView D) (called : D → Option Fault → D �
     -- a run of the first rows at each
     one_run : (c : Content) × IsRun country (λ H. fresh H (view.content old)) (stamped at (take n sent)) (all_said (take n words)) c
     one_run =
-        let run = beginning_is_run view called line header at country (all_rows sent) r words old new split.one n did in
+        let run = beginning_is_run view line header at country (all_rows sent) r words old new split.one n did in
         (run.0, subst (λ l. IsRun country (λ H. fresh H (view.content old)) (map (at_moment at) l) (all_said (take n words)) run.0) first_rows run.1)
 
     their_run : (i : ℕ) → i < desks → (c : Content)
         × IsRun country (λ H. fresh H (other.content (olds i))) (stamped at (filter (λ s. s.desk == i) (take n sent))) (all_said (take (share i) (answers i))) c
     their_run i below =
-        let run = beginning_is_run other other_called line header at country (rows_for i sent) (runs i) (answers i) (olds i) (news i) (split.many i below) (share i) (share_done i below) in
+        let run = beginning_is_run other line header at country (rows_for i sent) (runs i) (answers i) (olds i) (news i) (split.many i below) (share i) (share_done i below) in
         (run.0, subst (λ l. IsRun country (λ H. fresh H (other.content (olds i))) (map (at_moment at) l) (all_said (take (share i) (answers i))) run.0) (their_rows i) run.1)
 
     -- the result rows for them
@@ -340,25 +340,25 @@ module _ {D E : Type 0} (view : DeskView D) (called : D → Option Fault → D �
             let number = first_number in
             omega (arith, rows, number)
 
-pub rows_are_gathered : {D E : Type 0} (view : DeskView D) (called : D → Option Fault → D → Type 0) (other : DeskView E) (other_called : E → Option Fault → E → Type 0)
-    → RowsAreGathered view called other other_called
-rows_are_gathered view called other other_called line header at country f desks sent r runs words answers old new olds news split n did others_did =
-    first_gathered view called other other_called line header at country f desks sent r runs words answers old new olds news split n
-    (subst (λ m. n ≤ m) (done_is view called line header at country (all_rows sent) r words old new split.one) did)
+pub rows_are_gathered : {D E : Type 0} (view : DeskView D) (other : DeskView E)
+    → RowsAreGathered view other
+rows_are_gathered view other line header at country f desks sent r runs words answers old new olds news split n did others_did =
+    first_gathered view other line header at country f desks sent r runs words answers old new olds news split n
+    (subst (λ m. n ≤ m) (done_is view line header at country (all_rows sent) r words old new split.one) did)
     (λ i below. subst (λ m. length (rows_for i (take n sent)) ≤ m)
-    (done_is other other_called line header at country (rows_for i sent) (runs i) (answers i) (olds i) (news i) (split.many i below)) (others_did i below))
+    (done_is other line header at country (rows_for i sent) (runs i) (answers i) (olds i) (news i) (split.many i below)) (others_did i below))
 
 -- where no fault stopped any of them, each did all of its rows
-module _ {D E : Type 0} (view : DeskView D) (called : D → Option Fault → D → Type 0) (other : DeskView E) (other_called : E → Option Fault → E → Type 0)
+module _ {D E : Type 0} (view : DeskView D) (other : DeskView E)
     (line : Command → Said → List ℕ) (header : List ℕ) (at : ℤ) (country : List ℕ) (f : ℕ → ℕ) (desks : ℕ) (sent : List SentRow)
     (r : BatchRun) (runs : ℕ → BatchRun) (words : List Said) (answers : ℕ → List Said) (old new : D) (olds news : ℕ → E)
-    (split : IsSplitBatch view called other other_called line header at country f desks sent r runs words answers old new olds news)
+    (split : IsSplitBatch view other line header at country f desks sent r runs words answers old new olds news)
     (whole : r.stopped ≡ None) (others_whole : (i : ℕ) → i < desks → (runs i).stopped ≡ None) where
   all_number : length words ≡ length sent
-  all_number = all_said_of view called line header at country (all_rows sent) r words old new split.one whole ∙ length-map sent (λ s. s.command)
+  all_number = all_said_of view line header at country (all_rows sent) r words old new split.one whole ∙ length-map sent (λ s. s.command)
 
   all_their_number : (i : ℕ) → i < desks → length (answers i) ≡ length (rows_for i sent)
-  all_their_number i below = all_said_of other other_called line header at country (rows_for i sent) (runs i) (answers i) (olds i) (news i) (split.many i below) (others_whole i below)
+  all_their_number i below = all_said_of other line header at country (rows_for i sent) (runs i) (answers i) (olds i) (news i) (split.many i below) (others_whole i below)
 
   all_sent : take (length sent) sent ≡ sent
   all_sent = take_all (length sent) sent (omega arith)
@@ -381,7 +381,7 @@ module _ {D E : Type 0} (view : DeskView D) (called : D → Option Fault → D �
   gathered_all : result_lines line (all_rows sent) words ≡ gathered (desks_of sent) (λ i. result_lines line (rows_for i sent) (answers i))
   gathered_all =
       sym all_lines
-      ∙ first_gathered view called other other_called line header at country f desks sent r runs words answers old new olds news split (length sent) one_did all_others_did
+      ∙ first_gathered view other line header at country f desks sent r runs words answers old new olds news split (length sent) one_did all_others_did
       ∙ ap (λ (l : List SentRow). gathered (desks_of l) (λ i. result_lines line (rows_for i sent) (answers i))) all_sent
 
 -- of rows that were all done none failed
@@ -403,24 +403,24 @@ whole_part at country f desks H sent sent_to =
     ∙ ap (stamped at) (mine_at_home desk (owner country) f desks H sent sent_to)
     ∙ sym (part_is at country H (filter (λ s. s.desk == f H) sent))
 
-pub result_is_gathered : {D E : Type 0} (view : DeskView D) (called : D → Option Fault → D → Type 0) (other : DeskView E) (other_called : E → Option Fault → E → Type 0)
-    → ResultIsGathered view called other other_called
-result_is_gathered view called other other_called line header at country f desks sent r runs words answers old new olds news split whole others_whole = (
-  λ i below. text_of other other_called line header at country (rows_for i sent) (runs i) (answers i) (olds i) (news i) (split.many i below),
-  text_of view called line header at country (all_rows sent) r words old new split.one
+pub result_is_gathered : {D E : Type 0} (view : DeskView D) (other : DeskView E)
+    → ResultIsGathered view other
+result_is_gathered view other line header at country f desks sent r runs words answers old new olds news split whole others_whole = (
+  λ i below. text_of other line header at country (rows_for i sent) (runs i) (answers i) (olds i) (news i) (split.many i below),
+  text_of view line header at country (all_rows sent) r words old new split.one
       ∙ ap (λ (l : List (List ℕ)). header ++ concat l)
-      (gathered_all view called other other_called line header at country f desks sent r runs words answers old new olds news split whole others_whole),
-  λ H. unfailed at country H (all_rows sent) r words whole (all_said_of view called line header at country (all_rows sent) r words old new split.one whole)
+      (gathered_all view other line header at country f desks sent r runs words answers old new olds news split whole others_whole),
+  λ H. unfailed at country H (all_rows sent) r words whole (all_said_of view line header at country (all_rows sent) r words old new split.one whole)
       ∙ ap (map (λ _. false)) (whole_part at country f desks H sent split.sent_to)
       ∙ sym (unfailed at country H (rows_for (f H) sent) (runs (f H)) (answers (f H)) (others_whole (f H) (split.placed H))
-      (all_their_number view called other other_called line header at country f desks sent r runs words answers old new olds news split whole others_whole (f H) (split.placed H))),
+      (all_their_number view other line header at country f desks sent r runs words answers old new olds news split whole others_whole (f H) (split.placed H))),
 )
 
 -- what split batches tell H
-module _ {D E : Type 0} (view : DeskView D) (called : D → Option Fault → D → Type 0) (other : DeskView E) (other_called : E → Option Fault → E → Type 0)
+module _ {D E : Type 0} (view : DeskView D) (other : DeskView E)
     (line : Command → Said → List ℕ) (header : List ℕ) (at : ℤ) (country : List ℕ) (f : ℕ → ℕ) (desks : ℕ) (sent : List SentRow)
     (r : BatchRun) (runs : ℕ → BatchRun) (words : List Said) (answers : ℕ → List Said) (old new : D) (olds news : ℕ → E)
-    (split : IsSplitBatch view called other other_called line header at country f desks sent r runs words answers old new olds news)
+    (split : IsSplitBatch view other line header at country f desks sent r runs words answers old new olds news)
     (H : ℕ) (failed : failures_in country H at (all_rows sent) r words ≡ failures_in country H at (rows_for (f H) sent) (runs (f H)) (answers (f H))) where
   abbrev list : List Stamped
   list = stamped_rows at (all_rows sent) r words
@@ -435,11 +435,11 @@ module _ {D E : Type 0} (view : DeskView D) (called : D → Option Fault → D �
   their_outcomes = outcomes_of (answers (f H)) (runs (f H)).stopped
 
   one_batch : (c : Content) × IsRun country (λ G. fresh G (view.content old)) list outcomes c × (view.is_live new → view.content new ≡ c)
-  one_batch = batch_is_run view called line header at country (all_rows sent) r words old new split.one
+  one_batch = batch_is_run view line header at country (all_rows sent) r words old new split.one
 
   their_batch : (c : Content) × IsRun country (λ G. fresh G (other.content (olds (f H)))) their_list their_outcomes c × (other.is_live (news (f H)) → other.content (news (f H)) ≡ c)
   their_batch =
-      batch_is_run other other_called line header at country (rows_for (f H) sent) (runs (f H)) (answers (f H)) (olds (f H)) (news (f H)) (split.many (f H) (split.placed H))
+      batch_is_run other line header at country (rows_for (f H) sent) (runs (f H)) (answers (f H)) (olds (f H)) (news (f H)) (split.many (f H) (split.placed H))
 
   -- as many of them were tried
   same_number : length (part country H list) ≡ length (part country H their_list)
@@ -473,17 +473,17 @@ module _ {D E : Type 0} (view : DeskView D) (called : D → Option Fault → D �
   rows_alike : view.is_live new → other.is_live (news (f H)) → rows_of H (other.content (news (f H))) ≡ rows_of H (view.content new)
   rows_alike live other_live = ap (rows_of H) (their_batch.2 other_live) ∙ sym both.1 ∙ ap (rows_of H) (sym (one_batch.2 live))
 
-pub batches_tell_as_one : {D E : Type 0} (view : DeskView D) (called : D → Option Fault → D → Type 0) (other : DeskView E) (other_called : E → Option Fault → E → Type 0)
-    → BatchesTellAsOne view called other other_called
-batches_tell_as_one view called other other_called line header at country f desks sent r runs words answers old new olds news split H failed = (
-  lines_alike view called other other_called line header at country f desks sent r runs words answers old new olds news split H failed,
-  rows_alike view called other other_called line header at country f desks sent r runs words answers old new olds news split H failed,
+pub batches_tell_as_one : {D E : Type 0} (view : DeskView D) (other : DeskView E)
+    → BatchesTellAsOne view other
+batches_tell_as_one view other line header at country f desks sent r runs words answers old new olds news split H failed = (
+  lines_alike view other line header at country f desks sent r runs words answers old new olds news split H failed,
+  rows_alike view other line header at country f desks sent r runs words answers old new olds news split H failed,
 )
 
-pub batches_hold_as_one : UnionIsOneContent → {D E : Type 0} (view : DeskView D) (called : D → Option Fault → D → Type 0) (other : DeskView E) (other_called : E → Option Fault → E → Type 0)
-    → BatchesHoldAsOne view called other other_called
-batches_hold_as_one law view called other other_called line header at country f desks sent r runs words answers old new olds news split failed live others_live =
-    let held = end_is view called line header at country (all_rows sent) r words old new split.one live in
+pub batches_hold_as_one : UnionIsOneContent → {D E : Type 0} (view : DeskView D) (other : DeskView E)
+    → BatchesHoldAsOne view other
+batches_hold_as_one law view other line header at country f desks sent r runs words answers old new olds news split failed live others_live =
+    let held = end_is view line header at country (all_rows sent) r words old new split.one live in
     union_is_content law country f desks (view.content new) (λ i. other.content (news i)) held.0 held.1 split.placed
-    (λ i below. end_is other other_called line header at country (rows_for i sent) (runs i) (answers i) (olds i) (news i) (split.many i below) (others_live i below))
-    (λ H. rows_alike view called other other_called line header at country f desks sent r runs words answers old new olds news split H (failed H) live (others_live (f H) (split.placed H)))
+    (λ i below. end_is other line header at country (rows_for i sent) (runs i) (answers i) (olds i) (news i) (split.many i below) (others_live i below))
+    (λ H. rows_alike view other line header at country f desks sent r runs words answers old new olds news split H (failed H) live (others_live (f H) (split.placed H)))

@@ -53,25 +53,25 @@ failures_in country H at rows r said = failures country H (stamped_rows at rows 
 
 -- A batch was done at a desk of that country, and this was said to its rows. No fault had shut the desk, its content was sound, and
 -- in the end its disk is clean.
-pub record IsBatchAt {D : Type 0} (view : DeskView D) (called : D → Option Fault → D → Type 0)
+pub record IsBatchAt {D : Type 0} (view : DeskView D)
     (line : Command → Said → List ℕ) (header : List ℕ) (at : ℤ) (country : List ℕ)
     (rows : List Command) (r : BatchRun) (said : List Said) (old new : D) : Type 0 where
   pub country_is : (view.content old).country ≡ country
   pub live : view.is_live old
   pub sound : IsSound (view.content old)
   pub clean : view.is_clean new
-  pub done : IsBatchDone view called line header at rows r old new
+  pub done : IsBatchDone view line header at rows r old new
   pub said_is : done.said ≡ said
 
 -- The rows of a file were split among so many desks by f: one desk did all of them, and each of the others those that were sent to
 -- it, all at one moment. In the beginning each of these had the one desk's rows of its own holders.
-pub record IsSplitBatch {D E : Type 0} (view : DeskView D) (called : D → Option Fault → D → Type 0)
-    (other : DeskView E) (other_called : E → Option Fault → E → Type 0)
+pub record IsSplitBatch {D E : Type 0} (view : DeskView D)
+    (other : DeskView E)
     (line : Command → Said → List ℕ) (header : List ℕ) (at : ℤ) (country : List ℕ) (f : ℕ → ℕ) (desks : ℕ) (sent : List SentRow)
     (r : BatchRun) (runs : ℕ → BatchRun) (said : List Said) (answers : ℕ → List Said) (old new : D) (olds news : ℕ → E) : Type 0 where
   pub placed : (H : ℕ) → f H < desks
   pub sent_to : AllByRecursion (IsRowSentTo country f desks) sent
-  pub one : IsBatchAt view called line header at country (all_rows sent) r said old new
+  pub one : IsBatchAt view line header at country (all_rows sent) r said old new
   pub many : (i : ℕ) → i < desks
-      → IsBatchAt other other_called line header at country (rows_for i sent) (runs i) (answers i) (olds i) (news i)
+      → IsBatchAt other line header at country (rows_for i sent) (runs i) (answers i) (olds i) (news i)
   pub begun : (H : ℕ) → rows_of H (other.content (olds (f H))) ≡ rows_of H (view.content old)

@@ -1,5 +1,7 @@
 -- What a desk over a store's file keeps, and what contracts see of it.
-use Rattle.std.specs.Prelude.{◌≡◌, ℕ, Bool, true, false, List, IsTrue, codes, filter}
+use Rattle.std.specs.Prelude.{◌≡◌, refl, ℕ, Bool, true, false, List, IsTrue, codes, filter}
+use Rattle.std.proofs.Common.{inl}
+use Rattle.std.proofs.Math.Nat.{le_refl}
 use Rattle.std.specs.List.{list_any}
 use Rattle.std.specs.Str.{bytes_eq}
 use Rattle.sqlite_catalog.specs.Listing.{is_table_row}
@@ -8,7 +10,7 @@ use Rattle.sqlite_value.specs.Order.{column}
 use Rattle.sqlite_trees.specs.declared.store.Store.{Ghosts}
 use Rattle.sqlite_trees.specs.Tree.{Trees}
 use Rattle.sqlite.specs.Held.{Held, state}
-use Rattle.sqlite.specs.State.{State, HasCleanDisk, Survives}
+use Rattle.sqlite.specs.State.{State, HasCleanDisk, Survives, doubt}
 use Rattle.td_desk.specs.Content.{Content}
 use Rattle.td_desk.specs.View.{DeskView}
 use Rattle.td_table_model.specs.Gathering.{content_of}
@@ -45,6 +47,21 @@ abbrev pub IsDeskOf : List ℕ → State → Type 0
 IsDeskOf country s =
     HasCleanDisk s → IsTrue s.is_open → (c : Content) × HoldsContent c s × (c.country ≡ country)
 
+-- No fault is forgotten, and only a fault that is counted shuts the connection. (What a crash leaves is said by the view.)
+abbrev pub CountsFaults : State → State → Type 0
+CountsFaults old new = Survives old new (λ _. Unit {0})
+
+-- a connection that is left alone has forgotten none
+pub counts_none : (s : State) → CountsFaults s s
+counts_none s = record {
+  clean = le_refl (doubt s.is_clean);
+  shield = λ is. is;
+  counts = le_refl s.faults;
+  limit = refl;
+  closes = λ clean is. inl is;
+  crash = λ clean trees may. inl may;
+}
+
 -- A desk over a file, by its connection: its content is that of the tables, and it is live while no fault has shut the
 -- connection. What a crash leaves is a desk's where its trees are, with everything that the next opening asks of them.
 abbrev pub sql_view : {S : Type 0} → Ghosts S → DeskView (Held S)
@@ -55,8 +72,6 @@ sql_view g = record {
   has_store = Unit {0};
   may_leave = λ d c. (trees : Trees) × (state g d).may_leave trees × AreTreesOf c trees;
   recovers = λ d. (trees : Trees) → (state g d).may_leave trees → (c : Content) × AreTreesOf c trees;
+  weighed = λ old s why new. CountsFaults (state g old) (state g new);
+  carried = λ old why new. CountsFaults (state g old) (state g new);
 }
-
--- No fault is forgotten, and only a fault that is counted shuts the connection. (What a crash leaves is said by the view.)
-abbrev pub CountsFaults : State → State → Type 0
-CountsFaults old new = Survives old new (λ _. Unit {0})

@@ -119,12 +119,11 @@ impl<S: Alter> SqlDesk<S> {
 
 impl<S: Alter> Store for SqlDesk<S> {
     ghost use Rattle.sqlite.specs.Held.{state};
-    ghost use Rattle.td_store.specs.Kept.{CountsFaults, sql_view};
+    ghost use Rattle.td_store.specs.Kept.{counts_none, sql_view};
 
     ghost holds = { sql_view S.Store };
 
-    // No fault is forgotten, and only one that is counted shuts the desk.
-    ghost asked = { λ old _ new. CountsFaults (state S.Store old) (state S.Store new) };
+    ghost carries_nothing = { λ desk. counts_none (state S.Store desk) };
 
     fn office(&self) -> Country {
         self.country

@@ -56,7 +56,8 @@ impl FaultyStore {
 }
 
 impl Store for FaultyStore {
-    ghost use Rattle.std.specs.Prelude.{◌≡◌, IsTrue, false, Some};
+    ghost use Rattle.std.specs.Prelude.{◌≡◌, ◌⊎◌, IsTrue, false, None, Some, refl};
+    ghost use Rattle.std.proofs.Common.{inl};
     ghost use Rattle.td_desk.specs.Plain.{plain_content};
     ghost use Rattle.td_desk.specs.declared.fault.Fault.TheVariants as fault;
 
@@ -67,11 +68,14 @@ impl Store for FaultyStore {
       has_store = Unit {0};
       may_leave = λ s x. x ≡ plain_content s.rows;
       recovers = λ _. Unit {0};
+      // A call that finds the store shut, or shuts it, and no other call, is the store's fault.
+      weighed = λ _ _ why new. (why ≡ Some fault.Store → new.serving ≡ false) × (new.serving ≡ false → why ≡ Some fault.Store);
+      // So is one that writes; a decision that changes nothing asks nothing.
+      carried = λ old why new. ((new ≡ old) × (why ≡ None))
+          ⊎ ((why ≡ Some fault.Store → new.serving ≡ false) × (new.serving ≡ false → why ≡ Some fault.Store));
     } };
 
-    // A call that finds the store shut, or shuts it, and no other call, is the store's fault.
-    ghost asked = { λ _ why new. (why ≡ Some fault.Store → new.serving ≡ false)
-        × (new.serving ≡ false → why ≡ Some fault.Store) };
+    ghost carries_nothing = { λ _. inl (refl, refl) };
 
     fn office(&self) -> Country {
         self.rows.office()

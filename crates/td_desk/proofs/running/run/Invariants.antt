@@ -16,7 +16,7 @@ invariant-loop-stamped g l =
       room : length l.list ≤ vec_capacity l.outcomes;
       one_each : vec_len l.outcomes ≡ l.stamped-index;
       stored : All (λ o. o ≡ outcome.Failed fault.Store → g.D.Desk.seen.has_store) l.outcomes.items;
-      calls : AreOutcomesOf g.D.Desk.called l.fn.desk l.outcomes.items l.desk;
+      calls : AreOutcomesOf g.D.Desk.seen l.fn.desk (take l.stamped-index l.list) l.outcomes.items l.desk;
       stays : is_clean l.desk → is_live l.fn.desk → All (λ o. o ≢ outcome.Failed fault.Store) l.outcomes.items → is_live l.desk;
       clean : is_clean l.desk → is_clean l.fn.desk;
       live : is_clean l.desk → is_live l.desk → is_live l.fn.desk;

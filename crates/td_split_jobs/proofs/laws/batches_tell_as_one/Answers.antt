@@ -2,4 +2,4 @@ use Rattle.td_split_jobs.proofs.RowLaws.{batches_tell_as_one}
 use Rattle.td_split_jobs.proofs.laws.batches_tell_as_one.Goals as goal
 
 pub returns : goal.returns
-returns g c = batches_tell_as_one g.D.Desk.seen g.D.Desk.called g.E.Desk.seen g.E.Desk.called
+returns g c = batches_tell_as_one g.D.Desk.seen g.E.Desk.seen

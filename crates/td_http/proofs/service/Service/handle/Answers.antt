@@ -12,6 +12,8 @@ returns-in-Err-clause-handled g c = record {
   handled = λ clean. unread_handled (g.D.Desk.seen.is_live c.args.self.now.desk) (g.D.Desk.seen.is_live c.args.self.now.desk) (g.D.Desk.seen.content c.args.self.now.desk) c.args.at (command_in (asked c.args.request.now)) c.args.request.now.close c.in-Err.fault c.reply_to_unread.result c.in-Err.ensures c.reply_to_unread.ensures.memory c.reply_to_unread.ensures.told;
   stays = λ clean live other. live;
   unasked = λ why bad. refl;
+  calls = λ command is. absurd (read_or_not (command_in (asked c.args.request.now)) command c.in-Err.fault is c.in-Err.ensures);
+  unstored = λ why bad h. absurd (unread_stores_nothing c.in-Err.fault c.args.request.now.close c.reply_to_unread.result c.reply_to_unread.ensures.told h);
   crash = λ command is clean. unread_left g.D.Desk.seen c.args.self.now.desk (record { at = c.args.at; command = command }) (command_in (asked c.args.request.now))
       c.in-Err.fault c.reply_to_unread.result command c.in-Err.ensures c.reply_to_unread.ensures.memory is;
   settled = λ clean before. before;

@@ -51,5 +51,6 @@ returns g c =
       crash = looked.crash;
       settled = looked.settled;
       store = λ _. tt;
-      call = counts_faults a (state g.S.Store c.told.new.conn) (λ _. ⊥) all.crash;
+      call = λ s. counts_faults a (state g.S.Store c.told.new.conn) (λ _. ⊥) all.crash;
+      unweighed = shown_well c.told.result (λ _ s. counts_faults a (state g.S.Store c.told.new.conn) (λ _. ⊥) all.crash);
     }
