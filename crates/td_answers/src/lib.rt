@@ -7,7 +7,5 @@ mod lists;
 mod objects;
 mod refusals;
 
-pub use answers::{
-    answer_is_told_in, fault_bytes, fault_is_told_in, reply_bytes, said_body,
-};
+pub use answers::{answer_is_told_in, fault_bytes, fault_is_told_in, reply_bytes, said_body};
 pub use refusals::refusal_is_told_in;

@@ -1,9 +1,8 @@
 -- Two batches that agree on a holder.
-use Rattle.std.proofs.Common.{◌≡◌, ℕ, ℤ, List, Option, ap, subst, sym}
+use Rattle.std.proofs.Common.{◌≡◌, ℕ, ℤ, List, ap, subst, sym}
 use Rattle.td_commands.specs.declared.command.Command.{Command}
 use Rattle.td_commands.specs.declared.said.Said.{Said}
 use Rattle.td_model.specs.Book.{fresh_book}
-use Rattle.td_desk.specs.declared.fault.Fault.{Fault}
 use Rattle.td_desk.specs.Content.{Content, fresh, IsSound}
 use Rattle.td_desk.specs.Runs.{IsRun, IsTied}
 use Rattle.td_desk.specs.View.{DeskView}

@@ -1,5 +1,5 @@
 -- Rows that were done so far, and one more.
-use Rattle.std.proofs.Common.{◌≡◌, ◌≢◌, ◌||◌, Bool, false, ℕ, ℤ, ◌+◌, ◌-◌, ◌<◌, List, [], ◌∷◌, ◌++◌, length, map, take, Option, Some, None, refl, sym, ◌∙◌, ap, arith, rules}
+use Rattle.std.proofs.Common.{◌≡◌, ◌≢◌, ◌||◌, Bool, false, ℕ, ℤ, ◌+◌, ◌-◌, ◌<◌, List, [], ◌∷◌, ◌++◌, length, map, take, Some, None, refl, sym, ◌∙◌, ap, arith, rules}
 use Rattle.std.specs.Prelude.{zip}
 use Rattle.std.specs.List.{FoldsTo, list_any}
 use Rattle.std.proofs.lemmas.Fn.{FoldsTo-push}

@@ -1,5 +1,5 @@
 -- What batches tell a holder, and what a batch of declarations does that is sent again.
-use Rattle.std.specs.Prelude.{◌≡◌, ℕ, ◌≤◌, ℤ, List, ◌∷◌, ◌++◌, length, map, Option, Some, None}
+use Rattle.std.specs.Prelude.{◌≡◌, ℕ, ◌≤◌, ℤ, List, ◌∷◌, ◌++◌, length, map, Some, None}
 use Rattle.std.specs.List.{AllByRecursion}
 use Rattle.td_base.specs.Days.{moment_of}
 use Rattle.td_commands.specs.Commands.{owner_of}
@@ -11,7 +11,6 @@ use Rattle.td_commands.specs.declared.said.Said.TheVariants.{Answered}
 use Rattle.td_model.specs.declared.holder_row.HolderRow.{HolderRow}
 use Rattle.td_model.specs.Book.{Book}
 use Rattle.td_model.specs.Machine.{machine_book}
-use Rattle.td_desk.specs.declared.fault.Fault.{Fault}
 use Rattle.td_desk.specs.Content.{Content, account_in, IsSound}
 use Rattle.td_desk.specs.Runs.{Agree, failures, IsTied, told}
 use Rattle.td_desk.specs.View.{DeskView}

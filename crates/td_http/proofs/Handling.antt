@@ -48,3 +48,9 @@ unread_left view d s asked e reply command (inl none) memory is =
     let same : reply ≡ NoMemory = memory (cc) in
     subst (λ (r : Reply). LeavesAfter view d s (not (is_made r)) d) (sym same) (adds_more view _ d d (adds_none view d))
 unread_left view d s asked e reply command (inr same) memory is = cc
+
+-- and where it asks a command that there was no memory to read, that is told
+pub unread_unasked : (asked : Result Command WebFault) (e : WebFault) (reply : Reply) (command : Command)
+    → OrNoMemory (Err e) asked → (e ≡ why.NoMemory → reply ≡ NoMemory) → asked ≡ Ok command → reply ≡ NoMemory
+unread_unasked asked e reply command (inl none) memory is = memory (cc)
+unread_unasked asked e reply command (inr same) memory is = cc

@@ -1,6 +1,6 @@
 -- What the desk's service does with a request, and what a stream of requests tells each holder.
 -- A desk's service as a handler of requests, and what a stream at a desk tells each holder.
-use Rattle.std.specs.Prelude.{◌≡◌, ◌≢◌, not, ℕ, ℤ, ◌+◌, ◌⊎◌, Bool, true, false, if◌then◌else◌, List, [], ◌∷◌, ◌++◌, map, None, Option, Result, Ok, Err, option_and_then, option_map}
+use Rattle.std.specs.Prelude.{◌≡◌, ◌≢◌, not, ℕ, ℤ, ◌+◌, ◌⊎◌, Bool, true, false, if◌then◌else◌, List, [], ◌∷◌, ◌++◌, map, None, Result, Ok, Err, option_and_then, option_map}
 use Rattle.td_commands.specs.declared.command.Command.{Command}
 use Rattle.td_commands.specs.declared.command.Stamped.{Stamped}
 use Rattle.td_model.specs.Account.{empty_account}
@@ -73,9 +73,9 @@ pub record IsHandled {S D : Type 0} (desk : S → D) (view : DeskView D) (old : 
       (command_in asked) asked.close reply (view.content (desk new))
   pub stays : view.is_clean (desk new) → view.is_live (desk old) → reply ≢ Store → view.is_live (desk new)
   pub unasked : (why : WebFault) → command_in asked ≡ Err why → desk new ≡ desk old
-  -- a fixed reply is the fault that the desk answered, or missing memory at a desk that didn't fail
-  pub calls : (command : Command) → command_in asked ≡ Ok command
-      → IsCausedBy view (desk old) (record { at = at; command = command }) reply (desk new)
+  -- A fixed reply is the fault that the desk answered, or missing memory at a desk that didn't fail, or at one that wasn't asked.
+  pub calls : (command : Command) → command_in asked ≡ Ok command → ((desk new ≡ desk old) × (reply ≡ NoMemory))
+      ⊎ IsCausedBy view (desk old) (record { at = at; command = command }) reply (desk new)
   pub unstored : (why : WebFault) → command_in asked ≡ Err why → reply ≢ Store
   -- what a crash leaves after a command, which failed where the reply is a fixed one
   pub crash : (command : Command) → command_in asked ≡ Ok command → view.is_clean (desk new)

@@ -53,7 +53,7 @@ returns-in-Ok-carry-clause-done g c =
           settled_said view c.weigh.new.self c.carry.new.self c.in-Ok.decision.change (c.weigh.ensures.settled (carrying.clean clean))
           (λ some. c.carry.ensures.settled some clean) c.carry.ensures.still;
       store = λ is. cc;
-      calls = inl (c.weigh.new.self, weighing.call, carrying.call);
+      calls = inl (c.weigh.new.self, rw (to_z-of_z w64 c.args.at c.ranges.at, c.command.ensures) at weighing.call, carrying.call);
       proper = rw c.command.ensures at weighing.proper;
     }
 
@@ -84,6 +84,6 @@ returns-clause-done g c =
           settled_said view c.weigh.new.self c.carry.new.self c.in-Ok.decision.change (c.weigh.ensures.settled (carrying.clean clean))
           (λ some. c.carry.ensures.settled some clean) c.carry.ensures.still;
       store = λ is. carrying.store (ap Err (same_fault c.in-Err-carry.fault fault.Store is));
-      calls = inl (inr (c.weigh.new.self, weighing.call, carrying.call));
+      calls = inl (inr (c.weigh.new.self, rw (to_z-of_z w64 c.args.at c.ranges.at, c.command.ensures) at weighing.call, carrying.call));
       proper = rw c.command.ensures at weighing.proper;
     }

@@ -1,8 +1,8 @@
-use Rattle.std.proofs.Common.{refl, rules}
+use Rattle.std.proofs.Common.{inl, refl, rules}
 use Rattle.http_wire.specs.Wire.{asked}
 use Rattle.td_http.specs.Serving.{command_in}
 use Rattle.td_http.proofs.Alone.{handled_alone}
-use Rattle.td_http.proofs.Handling.{unread_handled, unread_left, unread_stores_nothing}
+use Rattle.td_http.proofs.Handling.{unread_handled, unread_left, unread_stores_nothing, unread_unasked}
 use Rattle.td_http.proofs.service.Service.handle.Goals as goal
 
 pub returns-in-Err-clause-handled : goal.returns-in-Err-clause-handled
@@ -12,7 +12,7 @@ returns-in-Err-clause-handled g c = record {
   handled = λ clean. unread_handled (g.D.Desk.seen.is_live c.args.self.now.desk) (g.D.Desk.seen.is_live c.args.self.now.desk) (g.D.Desk.seen.content c.args.self.now.desk) c.args.at (command_in (asked c.args.request.now)) c.args.request.now.close c.in-Err.fault c.reply_to_unread.result c.in-Err.ensures c.reply_to_unread.ensures.memory c.reply_to_unread.ensures.told;
   stays = λ clean live other. live;
   unasked = λ why bad. refl;
-  calls = λ command is. absurd (read_or_not (command_in (asked c.args.request.now)) command c.in-Err.fault is c.in-Err.ensures);
+  calls = λ command is. inl (refl, unread_unasked (command_in (asked c.args.request.now)) c.in-Err.fault c.reply_to_unread.result command c.in-Err.ensures c.reply_to_unread.ensures.memory is);
   unstored = λ why bad h. absurd (unread_stores_nothing c.in-Err.fault c.args.request.now.close c.reply_to_unread.result c.reply_to_unread.ensures.told h);
   crash = λ command is clean. unread_left g.D.Desk.seen c.args.self.now.desk (record { at = c.args.at; command = command }) (command_in (asked c.args.request.now))
       c.in-Err.fault c.reply_to_unread.result command c.in-Err.ensures c.reply_to_unread.ensures.memory is;
