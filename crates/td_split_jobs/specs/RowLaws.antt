@@ -1,9 +1,8 @@
 -- Laws of rows that are split among desks by holder.
-use Rattle.std.specs.Prelude.{◌≡◌, ℕ, ◌<◌, ◌≤◌, ℤ, List, ◌++◌, length, take, None, Option}
+use Rattle.std.specs.Prelude.{◌≡◌, ℕ, ◌<◌, ◌≤◌, ℤ, List, ◌++◌, length, take, None}
 use Rattle.std.specs.List.{concat}
 use Rattle.td_commands.specs.declared.command.Command.{Command}
 use Rattle.td_commands.specs.declared.said.Said.{Said}
-use Rattle.td_desk.specs.declared.fault.Fault.{Fault}
 use Rattle.td_desk.specs.Content.{rows_of}
 use Rattle.td_desk.specs.View.{DeskView}
 use Rattle.td_split.specs.Union.{union}

@@ -1,10 +1,9 @@
 -- Rows of a file that are split among desks by holder, and the batches that the desks do of them.
-use Rattle.std.specs.Prelude.{◌≡◌, ℕ, ◌<◌, ◌==◌, ℤ, Bool, List, [], ◌∷◌, map, filter, if◌then◌else◌, IfSome, Option}
+use Rattle.std.specs.Prelude.{◌≡◌, ℕ, ◌<◌, ◌==◌, ℤ, Bool, List, [], ◌∷◌, map, filter, if◌then◌else◌, IfSome}
 use Rattle.std.specs.List.{AllByRecursion}
 use Rattle.td_commands.specs.declared.command.Command.{Command}
 use Rattle.td_commands.specs.declared.said.Said.{Said}
 use Rattle.td_commands.specs.Commands.{owner_of}
-use Rattle.td_desk.specs.declared.fault.Fault.{Fault}
 use Rattle.td_desk.specs.Content.{IsSound, rows_of}
 use Rattle.td_desk.specs.Runs.{is_holder, failures}
 use Rattle.td_desk.specs.View.{DeskView}
