@@ -1,0 +1,2 @@
+-- Rattle proofs of this crate.
+mod Prefixes

@@ -1,0 +1,3 @@
+pub mod Journal
+pub mod Texts
+pub mod Journaled
