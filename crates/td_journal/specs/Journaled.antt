@@ -43,7 +43,8 @@ weighed_at view old s None new = IsWaiting view old s new
 weighed_at view old s (Some why) new = new.journal ≡ old.journal
 
 -- A decision was carried: the row that waited stands behind the others, if there was one.
-pub record IsWritten {D F : Type 0} {g : Ghosts F} (old new : JournaledDesk D F g) : Type 0 where
+pub record IsWritten {D F : Type 0} {g : Ghosts F} (view : DeskView D) (old new : JournaledDesk D F g) : Type 0 where
+  pub clean : view.is_clean new.desk → view.is_clean old.desk
   pub text : text_of new.journal ≡ text_of old.journal ++ written (waiting old)
   pub next : next_number new.journal ≡ next_number old.journal + rows_in (waiting old)
   pub tight : IsTight old.journal → IsTight new.journal
@@ -60,7 +61,7 @@ pub record IsTakenBack {D F : Type 0} {g : Ghosts F} (view : DeskView D) (old ne
       → (x ≡ view.content old.desk) ⊎ HasBehind (written (waiting old)) old.journal bytes
 
 abbrev pub carried_at : {D F : Type 0} {g : Ghosts F} → DeskView D → JournaledDesk D F g → Option Fault → JournaledDesk D F g → Type 0
-carried_at view old None new = IsWritten old new
+carried_at view old None new = IsWritten view old new
 carried_at view old (Some why) new = IsTakenBack view old new
 
 -- What is seen of it is what is seen of the desk behind it, which is live as long as rows can be written.

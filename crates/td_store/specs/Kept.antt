@@ -10,7 +10,7 @@ use Rattle.sqlite_value.specs.Order.{column}
 use Rattle.sqlite_trees.specs.declared.store.Store.{Ghosts}
 use Rattle.sqlite_trees.specs.Tree.{Trees}
 use Rattle.sqlite.specs.Held.{Held, state}
-use Rattle.sqlite.specs.State.{State, HasCleanDisk, Survives, doubt}
+use Rattle.sqlite.specs.State.{State, HasCleanDisk, Survives}
 use Rattle.td_desk.specs.Content.{Content}
 use Rattle.td_desk.specs.View.{DeskView}
 use Rattle.td_table_model.specs.Gathering.{content_of}
@@ -54,7 +54,7 @@ CountsFaults old new = Survives old new (λ _. Unit {0})
 -- a connection that is left alone has forgotten none
 pub counts_none : (s : State) → CountsFaults s s
 counts_none s = record {
-  clean = le_refl (doubt s.is_clean);
+  clean = le_refl _;
   shield = λ is. is;
   counts = le_refl s.faults;
   limit = refl;
