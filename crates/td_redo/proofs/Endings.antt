@@ -16,7 +16,7 @@ use Rattle.td_desk.specs.Content.{Content, content_after, IsSound}
 use Rattle.td_desk.specs.Weighing.{owner_account, Carries}
 use Rattle.td_desk.proofs.Carrying.{carries}
 use Rattle.td_redo.specs.Endings.{Ends, IsSaidAgain}
-use Rattle.td_redo.specs.Laws.{EndsAsRedone, OneEnding, RedoneTwiceIsRedoneOnce, RowThatIsDueIsCarried, RowThatStandsIsTold}
+use Rattle.td_redo.specs.Laws.{EndsAsRedone, OneEnding, RedoneTwiceIsRedoneOnce, RowIsSaidAgain, RowThatIsDueIsCarried, RowThatStandsIsTold}
 use Rattle.td_redo.specs.Redo.{said_over, IsRedone}
 use Rattle.td_redo.specs.Replies.{body_text}
 use Rattle.td_redo.specs.declared.redoing.Redone.{Redone}
@@ -66,6 +66,9 @@ never_foreign : (ending : Redone) (s : Stamped) (reply : List ℕ) (old new : Co
 never_foreign Carried s reply old new again ends = λ same. cc
 never_foreign Stands s reply old new again ends = λ same. cc
 never_foreign Foreign s reply old new again ends = λ same. ends.0.1 again
+
+pub row_is_said_again : RowIsSaidAgain
+row_is_said_again begin done row sound last = told_again begin done row.stamped row.shown sound last.proper last.accepted last.told last.carried
 
 pub row_that_stands_is_told : RowThatStandsIsTold
 row_that_stands_is_told begin done new row ending sound last ends = (

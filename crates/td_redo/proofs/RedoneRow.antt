@@ -1,8 +1,7 @@
 -- What a desk did to the row that it redid.
-use Rattle.std.proofs.Common.{◌≡◌, ◌≢◌, ℕ, Bool, true, List, subst, inl, inr}
+use Rattle.std.proofs.Common.{◌≡◌, ◌≢◌, ◌⊎◌, ℕ, Bool, true, List, None, Ok, subst, inl, inr}
 use Rattle.td_commands.specs.declared.command.Stamped.{Stamped}
 use Rattle.td_commands.specs.declared.said.Said.{Said}
-use Rattle.td_commands.specs.Commands.{IsProper}
 use Rattle.td_acts.specs.declared.rows.Change.{Change}
 use Rattle.td_acts.specs.declared.rows.Change.TheVariants as change
 use Rattle.td_acts.specs.declared.rows.Verdict.{Verdict}
@@ -11,8 +10,8 @@ use Rattle.td_model.specs.Machine.{is_accepted}
 use Rattle.td_desk.specs.Content.{Content, IsSound}
 use Rattle.td_desk.specs.Runs.{LeavesAfter}
 use Rattle.td_desk.specs.View.{AddsAtMost, DeskView}
-use Rattle.td_desk.specs.Weighing.{IsWeighed, Carries, owner_account}
-use Rattle.td_redo.specs.Endings.{Ends, IsEnding}
+use Rattle.td_desk.specs.Weighing.{IsWeighed, owner_account}
+use Rattle.td_redo.specs.Endings.{Ends, IsEnding, IsRedoneBy}
 use Rattle.td_redo.specs.Redo.{said_over}
 use Rattle.td_redo.specs.declared.redoing.Redone.{Redone}
 use Rattle.td_redo.specs.declared.redoing.Redone.TheVariants.{Carried, Stands, Foreign}
@@ -25,21 +24,23 @@ ending_over ending old s v reply weighed is =
     subst (λ (b : Bool). IsEnding ending s.command reply b (said_over old s)) weighed.changes
     (subst (λ (w : Said). IsEnding ending s.command reply (is_change v.change) w) weighed.said is)
 
-pub row_stands : (old mid : Content) (s : Stamped) (v : Verdict) (reply : List ℕ) → IsWeighed old s.at s.command v
-    → IsEnding Stands s.command reply (is_change v.change) v.said → mid ≡ old → Ends Stands s reply old mid
-row_stands old mid s v reply weighed is stays = (ending_over Stands old s v reply weighed is, stays)
+-- a row that isn't carried
+abbrev pub IsWaived : Redone → Type 0
+IsWaived ending = (ending ≡ Stands) ⊎ (ending ≡ Foreign)
 
-pub row_foreign : (old mid : Content) (s : Stamped) (v : Verdict) (reply : List ℕ) → IsWeighed old s.at s.command v
-    → IsEnding Foreign s.command reply (is_change v.change) v.said → mid ≡ old → Ends Foreign s reply old mid
-row_foreign old mid s v reply weighed is stays = (ending_over Foreign old s v reply weighed is, stays)
+pub row_left : (ending : Redone) (old mid : Content) (s : Stamped) (v : Verdict) (reply : List ℕ) → IsWaived ending → IsWeighed old s.at s.command v
+    → IsEnding ending s.command reply (is_change v.change) v.said → mid ≡ old → Ends ending s reply old mid
+row_left Carried old mid s v reply (inl other) weighed is stays = cc
+row_left Carried old mid s v reply (inr other) weighed is stays = cc
+row_left Stands old mid s v reply waived weighed is stays = (ending_over Stands old s v reply weighed is, stays)
+row_left Foreign old mid s v reply waived weighed is stays = (ending_over Foreign old s v reply weighed is, stays)
 
-pub row_carried : (old mid new : Content) (s : Stamped) (v : Verdict) (reply : List ℕ) → IsSound old → IsProper s.command → IsWeighed old s.at s.command v
-    → IsEnding Carried s.command reply (is_change v.change) v.said → mid ≡ old
-    → (IsSound mid → (s : Stamped) → IsProper s.command → IsWeighed mid s.at s.command v → Carries mid s new) → Ends Carried s reply old new
-row_carried old mid new s v reply sound proper weighed is stays carried =
-    let over : IsSound old → (s : Stamped) → IsProper s.command → IsWeighed old s.at s.command v → Carries old s new =
-    subst (λ (c : Content). IsSound c → (s : Stamped) → IsProper s.command → IsWeighed c s.at s.command v → Carries c s new) stays carried in
-    (ending_over Carried old s v reply weighed is, over sound s proper weighed)
+pub row_weighed : {D : Type 0} (view : DeskView D) (ending : Redone) (old new : D) (s : Stamped) → IsWaived ending → view.weighed old s None new
+    → IsRedoneBy view old s (Ok ending) new
+row_weighed view Carried old new s (inl other) weighed = cc
+row_weighed view Carried old new s (inr other) weighed = cc
+row_weighed view Stands old new s waived weighed = weighed
+row_weighed view Foreign old new s waived weighed = weighed
 
 -- what a crash may leave of a row that was carried, or that was to be
 pub adds_row : {D : Type 0} (view : DeskView D) (old new : D) (s : Stamped) (v : Verdict) (reply : List ℕ)

@@ -16,7 +16,7 @@ use Rattle.td_desk.specs.Content.{Content, IsSound}
 use Rattle.td_desk.specs.View.{DeskView}
 use Rattle.td_desk.specs.Weighing.{Carries}
 use Rattle.td_redo.specs.Crashes.{IsCommandAt}
-use Rattle.td_redo.specs.Endings.{Ends}
+use Rattle.td_redo.specs.Endings.{Ends, IsSaidAgain}
 use Rattle.td_redo.specs.Redo.{account_done, said_over, opened_by, TellsOpenings, Row, IsDone, AreDone, IsRedone}
 use Rattle.td_redo.specs.Replies.{body_text}
 use Rattle.td_redo.specs.Second.{IsAnotherOpening}
@@ -64,6 +64,12 @@ RedoneOverItsEnd X =
     (shown : Said → X) → TellsOpenings shown
     → (begin done new : Content) (s : Stamped) → IsSound begin → IsProper s.command → Carries begin s done
     → IsRedone shown s (shown (said_over begin s)) done new → new ≡ done
+
+-- What is said to a row's command where its change stands is what is said to such a change the second time.
+abbrev pub RowIsSaidAgain : Type 0
+RowIsSaidAgain =
+    (begin done : Content) (row : Row (List ℕ)) → IsSound begin → IsDone body_text begin row done
+    → IsSaidAgain row.stamped.command row.shown (said_over done row.stamped)
 
 -- A row that stands in a content is told so, or is carried to the same content: it is never foreign.
 abbrev pub RowThatStandsIsTold : Type 0

@@ -15,6 +15,7 @@ ghost use Rattle.td_redo.specs.Laws.{
   RedoneOverItsBeginning,
   RedoneOverItsEnd,
   RedoneTwiceIsRedoneOnce,
+  RowIsSaidAgain,
   RowThatIsDueIsCarried,
   RowThatStandsIsTold,
   StartAfterCrashIsWhole,
@@ -63,6 +64,11 @@ pub fn ends_as_redone()
 /// A redo over one content ends in one way, and leaves one content.
 pub fn one_ending()
     ensures { OneEnding }
+{}
+
+/// What is said to the command of a row that stands is what is said to such a change the second time.
+pub fn row_is_said_again()
+    ensures { RowIsSaidAgain }
 {}
 
 /// A row that can be done is carried.

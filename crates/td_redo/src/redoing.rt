@@ -150,13 +150,9 @@ pub fn redo_row<D: Desk>(
             let _said = desk.carry(alloc, decision)?;
             Ok(Redone::Carried)
         }
-        Redone::Stands => {
+        Redone::Stands | Redone::Foreign => {
             decision.waive();
-            Ok(Redone::Stands)
-        }
-        Redone::Foreign => {
-            decision.waive();
-            Ok(Redone::Foreign)
+            Ok(ending)
         }
     }
 }

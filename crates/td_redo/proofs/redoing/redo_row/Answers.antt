@@ -8,7 +8,7 @@ use Rattle.td_desk.proofs.Leaving.{left_failed}
 use Rattle.td_redo.specs.Endings.{IsEnding}
 use Rattle.td_redo.specs.declared.redoing.Redone.{Redone}
 use Rattle.td_redo.specs.declared.redoing.Redone.TheVariants.{Carried}
-use Rattle.td_redo.proofs.RedoneRow.{adds_row, is_something}
+use Rattle.td_redo.proofs.RedoneRow.{adds_row, is_something, row_left, row_weighed}
 use Rattle.td_redo.proofs.redoing.redo_row.Goals as goal
 
 -- the decision leads to what the ending says
@@ -56,3 +56,20 @@ returns-in_ok-_said-in-Carried-clause-calls g c =
     let weighed : view.weighed c.args.desk.now c.args.stamped.now None c.weigh.new.self =
     subst (λ (at : ℤ). view.weighed c.args.desk.now (record { at = at; command = c.args.stamped.now.command }) None c.weigh.new.self) same c.in_ok-decision.ensures.call in
     (c.weigh.new.self, weighed, c.in_ok-_said-in-Carried.ensures.call)
+
+pub returns-in-Stands-clause-ends : goal.returns-in-Stands-clause-ends
+returns-in-Stands-clause-ends g c = λ clean sound.
+    let view = g.D.Desk.seen in
+    let shown = c.in_ok-decision.ensures.shown clean in
+    let decided : view.is_clean c.weigh.new.self → view.is_live c.args.desk.now → IsSound (view.content c.args.desk.now)
+    → IsWeighed (view.content c.args.desk.now) c.args.stamped.now.at c.args.stamped.now.command c.in_ok-decision.decision = search rules in
+    row_left c.in-Ok.ending (view.content c.args.desk.now) (view.content c.weigh.new.self) c.args.stamped.now c.in_ok-decision.decision c.args.reply.now
+    c.in-Stands.is (decided clean shown.0 sound) c.in-Ok.ensures (c.weigh.ensures.same clean shown.1)
+
+pub returns-in-Stands-clause-calls : goal.returns-in-Stands-clause-calls
+returns-in-Stands-clause-calls g c =
+    let view = g.D.Desk.seen in
+    let same : to_z w64 (of_z w64 c.args.stamped.now.at) ≡ c.args.stamped.now.at = search rules in
+    let weighed : view.weighed c.args.desk.now c.args.stamped.now None c.weigh.new.self =
+    subst (λ (at : ℤ). view.weighed c.args.desk.now (record { at = at; command = c.args.stamped.now.command }) None c.weigh.new.self) same c.in_ok-decision.ensures.call in
+    row_weighed view c.in-Ok.ending c.args.desk.now c.weigh.new.self c.args.stamped.now c.in-Stands.is weighed
