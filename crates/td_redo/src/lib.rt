@@ -12,4 +12,4 @@ pub use laws::{
     row_that_is_due_is_carried, row_that_stands_is_told, said_the_second_time, stands_is_told,
     start_after_crash_is_whole, start_is_whole, start_may_begin_again, twice_at_a_desk,
 };
-pub use redoing::{Redone, redo_row};
+pub use redoing::{Redone, redo_row, said_is_told_in};

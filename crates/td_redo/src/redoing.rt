@@ -4,6 +4,7 @@ ghost use Rattle.td_commands.specs.declared.said.Refusal.TheVariants.{WrongState
 ghost use Rattle.td_commands.specs.declared.said.Said.TheVariants.{Refused};
 ghost use Rattle.td_commands.specs.Commands.{IsProper};
 ghost use Rattle.td_acts.specs.Changes.{is_change};
+ghost use Rattle.td_answers.specs.Answers.{said_body};
 ghost use Rattle.td_desk.specs.Content.{IsSound};
 ghost use Rattle.td_desk.specs.View.{AddsAtMost, IsSettled};
 ghost use Rattle.td_desk.specs.declared.fault.Fault.{Fault};
@@ -82,14 +83,21 @@ fn is_opened_again(said: &Said, same: bool) -> bool
     }
 }
 
-// The body of the reply that tells it: nothing in it is escaped. `AllocError`: want of memory for it.
-fn body_of(alloc: Global, said: &Said) -> Result<String, AllocError>
-    ensures { IfOk result (λ text. string_bytes text ≡ body_text said.now) }
+/// The body of the reply that tells it is the text that rows show: nothing in it is escaped.
+pub fn said_is_told_in(said: &Said)
+    ensures { said_body said.now ≡ body_text said.now }
 {
     match said {
         Said::Answered(answer) => answer_is_told_in(answer),
         Said::Refused(refusal) => refusal_is_told_in(*refusal),
     }
+}
+
+// That body. `AllocError`: want of memory for it.
+fn body_of(alloc: Global, said: &Said) -> Result<String, AllocError>
+    ensures { IfOk result (λ text. string_bytes text ≡ body_text said.now) }
+{
+    said_is_told_in(said);
     said_body(alloc, said)
 }
 
@@ -115,9 +123,10 @@ fn ending_of(
     Ok(Redone::Foreign)
 }
 
-/// Redoes the last row of a journal at the desk of its file: the row's command at its moment, where it is an accepted change
-/// that is told by the body of the row's reply. Else it changes nothing, and tells whether the row stands already. `reply`: that
-/// body. The faults are the desk's own; `NoMemory` also means want of memory for the body that is compared.
+/// Redoes the last row of a journal at the desk of its file. The row's command is carried, at its moment, where it is an accepted
+/// change that is told by `reply`, the body of the reply in the row. Else nothing is changed, and whether the row stands already
+/// is told. `NoMemory` is want of memory, also for the body that is compared, and `Store` a fault of the store; neither changes
+/// what a live desk shows.
 pub fn redo_row<D: Desk>(
     alloc: Global,
     desk: &mut D,
