@@ -25,17 +25,18 @@ use Rattle.td_redo.specs.declared.redoing.Redone.TheVariants.{Carried, Stands, F
 abbrev pub IsOpening : Said → Type 0
 IsOpening words = (grn : List ℕ) × (words ≡ Answered (Opened grn))
 
--- what is said to an opening the second time: that no serial is left, or a GRN, and not the same one
+-- what is said to an opening the second time: that no serial is left, or a GRN, and not in the same reply
 abbrev pub IsOpenedAgain : Type 0 → Said → Type 0
 IsOpenedAgain same words = (words ≡ Refused SerialsSpent) ⊎ (IsOpening words × (same → ⊥))
 
--- what is said to a control the second time
+-- what is said to a control the second time, by its result
 abbrev pub IsJudgedAgain : Control → Type 0 → Said → Type 0
 IsJudgedAgain A1 same words = words ≡ Refused (WrongState Cleared)
 IsJudgedAgain A2 same words = words ≡ Refused (WrongState Cleared)
 IsJudgedAgain B1 same words = same
 
--- What is said to a change the second time, command by command. The same: the reply has the body of the first one.
+-- What is said to a change the second time, command by command; `same` is that the reply has the body of the first one.
+-- A change that is named here by no refusal is answered again as it was.
 abbrev pub IsSecond : Command → Type 0 → Said → Type 0
 IsSecond (Register holder eori) same words = words ≡ Refused HolderKnown
 IsSecond (OpenGuarantee holder reference cover code) same words = IsOpenedAgain same words
@@ -50,11 +51,12 @@ IsSecond (Ie045 mrn cause) same words = words ≡ Refused (WrongState WrittenOff
 IsSecond (Ie140 mrn) same words = words ≡ Refused (WrongState Enquired)
 IsSecond command same words = same
 
--- what is said to a row's command is said to a change the second time that was told by this body the first time
+-- what is said to a row's command is what is said the second time to a change that was told by this body the first time
 abbrev pub IsSaidAgain : Command → List ℕ → Said → Type 0
 IsSaidAgain command reply words = IsSecond command (body_text words ≡ reply) words
 
--- Which ending it is, by whether the row's command is an accepted change now, and by what is said to it.
+-- Which ending it is, by what is said to the row's command and by whether that is an accepted change now; just one holds. An
+-- accepted change that is told as in the row is carried. Else the row stands where this is said again, and is foreign where not.
 abbrev pub IsEnding : Redone → Command → List ℕ → Bool → Said → Type 0
 IsEnding Carried command reply accepted words = (accepted ≡ true) × (body_text words ≡ reply)
 IsEnding Stands command reply accepted words =

@@ -1,5 +1,5 @@
-//! The last change of a journal, done again: laws of commands that are asked again at their moment, and the call that redoes a
-//! row.
+//! The last change of a journal, done again: laws of commands that are asked again at their moment, and the call that redoes
+//! a row.
 #![tactic(auto)]
 
 mod laws;
