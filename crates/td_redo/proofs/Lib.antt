@@ -1,0 +1,14 @@
+mod Twice
+mod OtherGrn
+mod Answered
+mod SameRows
+mod Contents
+mod Endings
+mod Journals
+mod AfterCrash
+mod LastButOne
+mod BodyTells
+mod SecondTime
+mod Told
+mod RedoneRow
+mod DeclaredOnce
