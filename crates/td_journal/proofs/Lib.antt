@@ -1,2 +1,4 @@
--- Rattle proofs of this crate.
 mod Prefixes
+mod Growing
+mod Streamed
+mod Batched

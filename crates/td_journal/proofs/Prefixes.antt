@@ -1,6 +1,6 @@
 -- What the calls of a disk leave of the bytes before the place where they write.
 use Rattle.std.proofs.Common.{◌≡◌, ℕ, ◌<◌, ◌≤◌, List, length, take, sym, ◌∙◌, ap, arith}
-use Rattle.std.specs.Prelude.{min, slice_index}
+use Rattle.std.specs.Prelude.{slice_index}
 use Rattle.std.proofs.lemmas.List.{ext_get_or, get_or-take}
 use Rattle.std.proofs.lemmas.Grind.{common_steps}
 use Rattle.sqlite_disk.specs.Disk.{Cut, Follows, Torn}

@@ -1,18 +1,21 @@
 -- What a journal has of the commands that were answered while it was kept.
-use Rattle.std.specs.Prelude.{◌≡◌, ℕ, ◌+◌, ℤ, Bool, true, false, List, [], ◌∷◌, ◌++◌, length, map, take, Option, Result, Ok, Err}
+use Rattle.std.specs.Prelude.{◌≡◌, ℕ, ◌+◌, ℤ, Bool, true, false, List, [], ◌∷◌, ◌++◌, zip, Option, Result, Ok, Err}
 use Rattle.http_wire.specs.ReplyText.{is_made}
 use Rattle.http_wire.specs.Stream.{Chain, Exchange, question}
 use Rattle.sqlite_disk.specs.declared.Disk.{Ghosts}
-use Rattle.td_batch.specs.Runs.{IsBatchDone, at_moment}
+use Rattle.td_batch.specs.Runs.{IsBatchDone, at_moment, outcomes_of, tried}
 use Rattle.td_batch.specs.declared.running.BatchRun.{BatchRun}
 use Rattle.td_commands.specs.declared.command.Command.{Command}
 use Rattle.td_commands.specs.declared.command.Stamped.{Stamped}
-use Rattle.td_commands.specs.declared.said.Said.{Said}
+use Rattle.td_commands.specs.declared.said.Said as words
 use Rattle.td_desk.specs.Content.{Content, IsSound}
+use Rattle.td_desk.specs.declared.running.Outcome.{Outcome}
+use Rattle.td_desk.specs.declared.running.Outcome.TheVariants.{Failed, Said}
 use Rattle.td_desk.specs.View.{DeskView}
 use Rattle.td_desk.specs.Weighing.{Carries}
 use Rattle.td_fields.specs.declared.fault.WebFault.{WebFault}
-use Rattle.td_http.specs.Serving.{IsHandled, command_in}
+use Rattle.td_http.specs.Serving.{IsHandledBy, command_in, desk_of}
+use Rattle.td_http.specs.declared.service.Service.{Service}
 use Rattle.td_journal.specs.Journal.{IsTight, next_number, text_of}
 use Rattle.td_journal.specs.Journaled.{journaled, rows_in, written}
 use Rattle.td_journal.specs.Texts.{IsNoted}
@@ -46,17 +49,22 @@ answered before [] = []
 answered before (e ∷ es) = answered_by (command_in (question before e.wire)) e.at (is_made e.reply) ++ answered (before + 1) es
 
 -- Requests that were handled one after the other, at a service of a desk that keeps a journal.
-abbrev pub StreamIsJournaled : {D F : Type 0} {g : Ghosts F} → DeskView D → Type 1
-StreamIsJournaled {D} {F} {g} view =
-    {C S : Type 0} (ticks : C → ℤ → C → Type 0) (desk : S → JournaledDesk D F g) (before : ℕ) (es : List Exchange) (old new : C × S)
-    → Chain ticks (IsHandled desk (journaled view)) before old es new
-    → view.is_clean (desk new.1).desk → (journaled view).is_live (desk new.1) → IsSound (view.content (desk old.1).desk)
-    → HasGrown view (answered before es) (desk old.1) (desk new.1)
+abbrev pub StreamIsJournaled : {D F C : Type 0} (g : Ghosts F) → DeskView D → (C → ℤ → C → Type 0) → Type 0
+StreamIsJournaled {D} {F} {C} g view ticks =
+    (before : ℕ) (es : List Exchange) (old new : C × Service (JournaledDesk D F g)) → Chain ticks (IsHandledBy (journaled view)) before old es new
+    → view.is_clean (desk_of new.1).desk → (journaled view).is_live (desk_of new.1) → IsSound (view.content (desk_of old.1).desk)
+    → HasGrown view (answered before es) (desk_of old.1) (desk_of new.1)
+
+-- the commands of the rows that were answered, of those that were tried, all at one moment
+abbrev pub answered_rows : ℤ → List (Command × Outcome) → List Stamped
+answered_rows at [] = []
+answered_rows at ((command, Said words) ∷ rows) = at_moment at command ∷ answered_rows at rows
+answered_rows at ((command, Failed why) ∷ rows) = answered_rows at rows
 
 -- Rows of a batch that were done at such a desk.
-abbrev pub BatchIsJournaled : {D F : Type 0} {g : Ghosts F} → DeskView D → Type 1
-BatchIsJournaled {D} {F} {g} view =
-    (line : Command → Said → List ℕ) (header : List ℕ) (at : ℤ) (rows : List Command) (r : BatchRun) (old new : JournaledDesk D F g)
+abbrev pub BatchIsJournaled : {D F : Type 0} (g : Ghosts F) → DeskView D → Type 0
+BatchIsJournaled {D} {F} g view =
+    (line : Command → words.Said → List ℕ) (header : List ℕ) (at : ℤ) (rows : List Command) (r : BatchRun) (old new : JournaledDesk D F g)
     → (done : IsBatchDone (journaled view) line header at rows r old new)
     → view.is_clean new.desk → (journaled view).is_live new → IsSound (view.content old.desk)
-    → HasGrown view (map (at_moment at) (take (length done.said) rows)) old new
+    → HasGrown view (answered_rows at (zip (tried rows done.said r.stopped) (outcomes_of done.said r.stopped))) old new

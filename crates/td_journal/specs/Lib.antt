@@ -1,3 +1,4 @@
 pub mod Journal
 pub mod Texts
 pub mod Journaled
+pub mod Growth

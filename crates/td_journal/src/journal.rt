@@ -1,5 +1,5 @@
 //! The file in which a journal stands.
-ghost use Rattle.std.specs.Prelude.{◌≡◌, ◌+◌, ◌++◌, ◌≤◌, IfSome, IsTrue, OnOk, false, length, take};
+ghost use Rattle.std.specs.Prelude.{◌≡◌, ◌+◌, ◌++◌, ◌≤◌, IfSome, IsTrue, OnOk, false, length, take, true};
 ghost use Rattle.std.proofs.Math.Bridge.{le_prop};
 
 use sqlite_disk::Disk;
@@ -28,6 +28,30 @@ pub(crate) struct Written {
 
 impl<F: Disk> Journal<F> {
     ghost use Rattle.td_journal.specs.Journal.{IsBehind, IsDurable, IsSafe, IsTight, file_of, is_open, next_number, text_of};
+
+    /// The journal in a file, of which the first `end` bytes are the rows that stand, whose next row has this number.
+    pub fn new(file: F, end: usize, next: u64) -> Self
+        requires { end ≤ length (F.Disk.seen file) }
+        ensures file { result.file ≡ file }
+        ensures text { text_of result ≡ take end (F.Disk.seen file) }
+        ensures tight { length (F.Disk.seen file) ≡ end → IsTight result }
+        ensures next { next_number result ≡ next }
+        ensures open { is_open result ≡ true }
+    {
+        Journal {
+            file,
+            end,
+            next,
+            is_open: true,
+        }
+    }
+
+    /// The file.
+    pub fn into_file(self) -> F
+        ensures { result ≡ self.file }
+    {
+        self.file
+    }
 
     /// Whether a row can be written.
     pub fn is_open(&self) -> bool
@@ -93,7 +117,7 @@ impl<F: Disk> Journal<F> {
     }
 
     /// Cuts off what stands behind the text, and answers whether that was done; else no further row is written.
-    pub(crate) fn cut(&mut self) -> bool
+    pub fn cut(&mut self) -> bool
         ensures text { text_of self.new ≡ text_of self.old }
         ensures next { next_number self.new ≡ next_number self.old }
         ensures open { is_open self.new ≡ result }

@@ -3,6 +3,8 @@
 
 mod desk;
 mod journal;
+mod laws;
 
 pub use desk::JournaledDesk;
 pub use journal::Journal;
+pub use laws::{a_batch_is_journaled, a_stream_is_journaled};

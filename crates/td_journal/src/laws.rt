@@ -1,0 +1,17 @@
+//! What a journal has of the commands that were answered while it was kept: the contracts are laws, and the calls do nothing.
+ghost use Rattle.td_journal.specs.Growth.{BatchIsJournaled, StreamIsJournaled};
+
+use http_wire::Clock;
+use sqlite_disk::Disk;
+use td_desk::Desk;
+
+/// A stream of requests: the journal of a desk that is clean and live in the end has the rows of its accepted changes, in their
+/// order, and none of any other request.
+pub fn a_stream_is_journaled<D: Desk, F: Disk, C: Clock>()
+    ensures { StreamIsJournaled F.Disk D.seen C.ticks }
+{}
+
+/// The same of the rows of a batch.
+pub fn a_batch_is_journaled<D: Desk, F: Disk>()
+    ensures { BatchIsJournaled F.Disk D.seen }
+{}
