@@ -1,4 +1,5 @@
 mod Prefixes
 mod Growing
 mod Streamed
+mod Served
 mod Batched

@@ -19,7 +19,7 @@ use Rattle.td_journal.proofs.Growing.{grown_on, nothing_grown, replied}
 
 module _ {D F : Type 0} (g : Ghosts F) (view : DeskView D) where
   -- a chain that ends live was live all along
-  chain_live : (C S : Type 0) (ticks : C → ℤ → C → Type 0) (desk : S → JournaledDesk D F g) (es : List Exchange) (before : ℕ) (old new : C × S)
+  pub chain_live : (C S : Type 0) (ticks : C → ℤ → C → Type 0) (desk : S → JournaledDesk D F g) (es : List Exchange) (before : ℕ) (old new : C × S)
       → Chain ticks (IsHandled desk (journaled view)) before old es new → view.is_clean (desk new.1).desk → (journaled view).is_live (desk new.1)
       → (journaled view).is_live (desk old.1)
   chain_live C S ticks desk [] before old new chain clean live = subst (λ (x : C × S). (journaled view).is_live (desk x.1)) chain live
@@ -56,20 +56,22 @@ module _ {D F : Type 0} (g : Ghosts F) (view : DeskView D) where
     pub exchange_grown : Grown (command_in (question before e.wire))
     exchange_grown = by_reading (command_in (question before e.wire)) refl (handled.handled clean)
 
-  chain_grown : (C S : Type 0) (ticks : C → ℤ → C → Type 0) (desk : S → JournaledDesk D F g) (before : ℕ) (es : List Exchange) (old new : C × S)
+  pub chain_grown : (C S : Type 0) (ticks : C → ℤ → C → Type 0) (desk : S → JournaledDesk D F g) (before : ℕ) (es : List Exchange) (old new : C × S)
       → Chain ticks (IsHandled desk (journaled view)) before old es new
       → view.is_clean (desk new.1).desk → (journaled view).is_live (desk new.1) → IsSound (view.content (desk old.1).desk)
-      → HasGrown view (answered before es) (desk old.1) (desk new.1)
-  chain_grown C S ticks desk before [] old new chain clean live sound =
-      subst (λ (x : C × S). HasGrown view [] (desk old.1) (desk x.1)) (sym chain) (nothing_grown view (desk old.1) (desk old.1) refl refl refl (λ tight. tight))
+      → HasGrown view (answered before es) (desk old.1) (desk new.1) × IsSound (view.content (desk new.1).desk)
+  chain_grown C S ticks desk before [] old new chain clean live sound = (
+    subst (λ (x : C × S). HasGrown view [] (desk old.1) (desk x.1)) (sym chain) (nothing_grown view (desk old.1) (desk old.1) refl refl refl (λ tight. tight)),
+    subst (λ (x : C × S). IsSound (view.content (desk x.1).desk)) (sym chain) sound,
+  )
   chain_grown C S ticks desk before (e ∷ es) old new chain clean live sound =
       let mid : C × S = (chain.0, chain.1) in
       let mid_clean = chain_clean ticks desk (journaled view) es (before + 1) mid new chain.4 clean in
       let mid_live = chain_live C S ticks desk es (before + 1) mid new chain.4 clean live in
       let first = exchange_grown S desk before e old.1 chain.1 chain.3 mid_clean mid_live sound in
-      grown_on view _ (answered (before + 1) es) (desk old.1) (desk chain.1) (desk new.1) first.0
-      (chain_grown C S ticks desk (before + 1) es mid new chain.4 clean live first.1)
+      let rest = chain_grown C S ticks desk (before + 1) es mid new chain.4 clean live first.1 in
+      (grown_on view _ (answered (before + 1) es) (desk old.1) (desk chain.1) (desk new.1) first.0 rest.0, rest.1)
 
   pub stream_grown : {C : Type 0} (ticks : C → ℤ → C → Type 0) → StreamIsJournaled g view ticks
   stream_grown {C} ticks before es old new chain clean live sound =
-      chain_grown C (Service (JournaledDesk D F g)) ticks desk_of before es old new chain clean live sound
+      (chain_grown C (Service (JournaledDesk D F g)) ticks desk_of before es old new chain clean live sound).0

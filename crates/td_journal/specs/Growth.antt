@@ -1,5 +1,6 @@
 -- What a journal has of the commands that were answered while it was kept.
-use Rattle.std.specs.Prelude.{◌≡◌, ℕ, ◌+◌, ℤ, Bool, true, false, List, [], ◌∷◌, ◌++◌, zip, Option, Result, Ok, Err}
+use Rattle.std.specs.Prelude.{◌≡◌, ℕ, ◌+◌, ℤ, Bool, true, false, List, [], ◌∷◌, ◌++◌, map, zip, Option, Result, Ok, Err}
+use Rattle.std.specs.declared.io.Error.{Error}
 use Rattle.http_wire.specs.ReplyText.{is_made}
 use Rattle.http_wire.specs.Stream.{Chain, Exchange, question}
 use Rattle.sqlite_disk.specs.declared.Disk.{Ghosts}
@@ -14,7 +15,8 @@ use Rattle.td_desk.specs.declared.running.Outcome.TheVariants.{Failed, Said}
 use Rattle.td_desk.specs.View.{DeskView}
 use Rattle.td_desk.specs.Weighing.{Carries}
 use Rattle.td_fields.specs.declared.fault.WebFault.{WebFault}
-use Rattle.td_http.specs.Serving.{IsHandledBy, command_in, desk_of}
+use Rattle.td_http.specs.Connections.{Between, ServesConnections}
+use Rattle.td_http.specs.Serving.{IsHandledBy, IsHeadHandledBy, command_in, desk_of}
 use Rattle.td_http.specs.declared.service.Service.{Service}
 use Rattle.td_journal.specs.Journal.{IsTight, next_number, text_of}
 use Rattle.td_journal.specs.Journaled.{journaled, rows_in, written}
@@ -54,6 +56,20 @@ StreamIsJournaled {D} {F} {C} g view ticks =
     (before : ℕ) (es : List Exchange) (old new : C × Service (JournaledDesk D F g)) → Chain ticks (IsHandledBy (journaled view)) before old es new
     → view.is_clean (desk_of new.1).desk → (journaled view).is_live (desk_of new.1) → IsSound (view.content (desk_of old.1).desk)
     → HasGrown view (answered before es) (desk_of old.1) (desk_of new.1)
+
+-- those of connections, one after the other
+abbrev pub answered_over : List (List Exchange) → List Stamped
+answered_over [] = []
+answered_over (es ∷ streams) = answered 0 es ++ answered_over streams
+
+-- Connections that were served one after the other, at such a service.
+abbrev pub ServingIsJournaled : {D F R W L C : Type 0} (g : Ghosts F) → DeskView D → (R → Option (List ℕ)) → (W → Option (List ℕ))
+    → (L → R → W → L → Type 0) → (L → R → W → L → Type 0) → (L → Error → L → Type 0) → (C → ℤ → C → Type 0) → Type 0
+ServingIsJournaled {D} {F} {L = L} {C = C} g view remaining contents gives takes refuses ticks =
+    (old new : Between L C (Service (JournaledDesk D F g))) (count : ℕ) (answer : Result Unit Error)
+    → (served : ServesConnections remaining contents gives takes refuses ticks (IsHandledBy (journaled view)) IsHeadHandledBy old new count answer)
+    → view.is_clean (desk_of new.handler).desk → (journaled view).is_live (desk_of new.handler) → IsSound (view.content (desk_of old.handler).desk)
+    → HasGrown view (answered_over (map (λ connection. connection.exchanges) served.all_served)) (desk_of old.handler) (desk_of new.handler)
 
 -- the commands of the rows that were answered, of those that were tried, all at one moment
 abbrev pub answered_rows : ℤ → List (Command × Outcome) → List Stamped
