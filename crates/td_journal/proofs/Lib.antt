@@ -3,3 +3,4 @@ mod Growing
 mod Streamed
 mod Served
 mod Batched
+mod Parts

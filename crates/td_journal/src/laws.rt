@@ -1,5 +1,6 @@
 //! What a journal has of the commands that were answered while it was kept: the contracts are laws, and the calls do nothing.
 ghost use Rattle.td_journal.specs.Growth.{BatchIsJournaled, ServingIsJournaled, StreamIsJournaled};
+ghost use Rattle.td_journal.specs.Parts.{PartTellsTheSame};
 
 use http_wire::Clock;
 use sqlite_disk::Disk;
@@ -20,4 +21,10 @@ pub fn a_serving_is_journaled<D: Desk, F: Disk, L: Connections, C: Clock>()
 /// The same of the rows of a batch.
 pub fn a_batch_is_journaled<D: Desk, F: Disk>()
     ensures { BatchIsJournaled F.Disk D.seen }
+{}
+
+/// A holder's part of the commands, done by itself at a desk that has the same of that holder, has the replies that the holder's
+/// commands had among all others: the rows of one holder are told the same without the rows of any other.
+pub fn a_part_tells_the_same()
+    ensures { PartTellsTheSame }
 {}

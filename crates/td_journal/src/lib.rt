@@ -7,4 +7,6 @@ mod laws;
 
 pub use desk::JournaledDesk;
 pub use journal::Journal;
-pub use laws::{a_batch_is_journaled, a_serving_is_journaled, a_stream_is_journaled};
+pub use laws::{
+    a_batch_is_journaled, a_part_tells_the_same, a_serving_is_journaled, a_stream_is_journaled,
+};

@@ -19,10 +19,7 @@ const THIRD: &[u8] =
 const A_ROW: u64 = 2;
 
 /// A desk of CH without holders, whose journal is this file, which is empty.
-fn journaled<F: Disk>(
-    rt: &(impl AllocGlobal + Abort),
-    file: F,
-) -> JournaledDesk<PlainDesk, F> {
+fn journaled<F: Disk>(rt: &(impl AllocGlobal + Abort), file: F) -> JournaledDesk<PlainDesk, F> {
     let desk = PlainDesk::new(rt.alloc(), country(rt)).expect(rt, "memory");
     JournaledDesk::new(desk, Journal::new(file, 0, 1))
 }
@@ -82,7 +79,10 @@ fn accepted_changes_alone_are_written(rt: HostRuntime) {
     let (_desk, journal) = desk.into_parts();
     assert!(rt; journal.is_open() && journal.next() == 4);
     let file = journal.into_file();
-    let rest = file.bytes().strip_prefix(FIRST).expect(&rt, "the first row");
+    let rest = file
+        .bytes()
+        .strip_prefix(FIRST)
+        .expect(&rt, "the first row");
     let rest = rest.strip_prefix(SECOND).expect(&rt, "the second row");
     assert!(rt; rest == THIRD);
 }
@@ -94,7 +94,10 @@ fn a_change_whose_row_cannot_be_written_is_not_done(rt: HostRuntime) {
         assert!(rt; is_answered(&rt, &mut desk, register(&rt)), "{calls}");
         assert!(rt; is_store(&rt, &mut desk, open(&rt)), "{calls}");
         let holder = holder(&rt, 1);
-        assert!(rt; is_store(&rt, &mut desk, Command::SeeHolder { holder }), "{calls}");
+        assert!(rt;
+            is_store(&rt, &mut desk, Command::SeeHolder { holder }),
+            "{calls}"
+        );
         let (_desk, journal) = desk.into_parts();
         assert!(rt; !journal.is_open() && journal.next() == 2, "{calls}");
         let file = journal.into_file();
