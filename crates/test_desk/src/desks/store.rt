@@ -61,6 +61,8 @@ impl Store for FaultyStore {
     ghost use Rattle.td_desk.specs.Plain.{plain_content};
     ghost use Rattle.td_desk.specs.declared.fault.Fault.TheVariants as fault;
 
+    // A call that finds the store shut, or shuts it, and no other call, is the store's fault. A decision that changes nothing asks
+    // nothing.
     ghost holds = { record {
       content = λ s. plain_content s.rows;
       is_clean = λ _. Unit {0};
@@ -68,9 +70,7 @@ impl Store for FaultyStore {
       has_store = Unit {0};
       may_leave = λ s x. x ≡ plain_content s.rows;
       recovers = λ _. Unit {0};
-      // A call that finds the store shut, or shuts it, and no other call, is the store's fault.
       weighed = λ _ _ why new. (why ≡ Some fault.Store → new.serving ≡ false) × (new.serving ≡ false → why ≡ Some fault.Store);
-      // So is one that writes; a decision that changes nothing asks nothing.
       carried = λ old why new. ((new ≡ old) × (why ≡ None))
           ⊎ ((why ≡ Some fault.Store → new.serving ≡ false) × (new.serving ≡ false → why ≡ Some fault.Store));
     } };
