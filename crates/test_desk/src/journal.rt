@@ -1,5 +1,6 @@
 //! Rows of a journal: their lines, and what is read of a text that ends within one.
 mod kept;
+mod redone;
 
 use crate::examples::{AT, eori, holder};
 use std::process::Abort;
