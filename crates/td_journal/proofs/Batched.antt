@@ -38,7 +38,7 @@ module _ {D F : Type 0} (g : Ghosts F) (view : DeskView D) (at : ℤ) where
     by_outcome (outcome.Failed why) (inl (inl weighed)) step =
         (weighed_alone view old new (at_moment at command) (Some why) weighed (step live), subst IsSound (sym (step live)) sound)
     by_outcome (outcome.Failed why) (inl (inr (mid, weighed, carried))) step =
-        (taken_back view old mid new (at_moment at command) weighed carried live (step live), subst IsSound (sym (step live)) sound)
+        (taken_back view old mid new (at_moment at command) why weighed carried live (step live), subst IsSound (sym (step live)) sound)
     by_outcome (outcome.Failed why) (inr memory) step =
         (weighed_alone view old new (at_moment at command) None memory.1 (step live), subst IsSound (sym (step live)) sound)
 

@@ -87,12 +87,12 @@ module _ {D F : Type 0} {g : Ghosts F} (view : DeskView D) where
   pub weighed_alone : (old new : JournaledDesk D F g) (s : Stamped) (why : Option Fault) → weighed_at view old s why new
       → view.content new.desk ≡ view.content old.desk → HasGrown view [] old new
   weighed_alone old new s None waits same = left_alone old new waits.journal same
-  weighed_alone old new s (Some why) journal same = left_alone old new journal same
+  weighed_alone old new s (Some why) unweighed same = left_alone old new unweighed.journal same
 
   -- it failed as it was carried
-  pub taken_back : (old mid new : JournaledDesk D F g) (s : Stamped) → IsWaiting view old s mid → IsTakenBack view mid new
+  pub taken_back : (old mid new : JournaledDesk D F g) (s : Stamped) (why : Fault) → IsWaiting view old s mid → IsTakenBack view mid why new
       → (journaled view).is_live new → view.content new.desk ≡ view.content old.desk → HasGrown view [] old new
-  taken_back old mid new s waits back live same =
+  taken_back old mid new s why waits back live same =
       nothing_grown old new (back.text ∙ ap text_of waits.journal) (back.next ∙ ap next_number waits.journal) same (λ tight. back.tight live.1)
 
   -- the reply to a command, by what the desk did
@@ -140,7 +140,7 @@ module _ {D F : Type 0} {g : Ghosts F} (view : DeskView D) where
         failed NoMemory refl same (weighed_alone old new s (Some fault.NoMemory) weighed same)
     replied NoMemory (inl (inr (mid, weighed, carried))) handled =
         let same = same_by handled.0 NoMemory refl handled.1 handled.2 in
-        failed NoMemory refl same (taken_back old mid new s weighed carried live same)
+        failed NoMemory refl same (taken_back old mid new s fault.NoMemory weighed carried live same)
     replied NoMemory (inr weighed) handled =
         let same = same_by handled.0 NoMemory refl handled.1 handled.2 in
         failed NoMemory refl same (weighed_alone old new s None weighed same)
@@ -149,4 +149,4 @@ module _ {D F : Type 0} {g : Ghosts F} (view : DeskView D) where
         failed Store refl same (weighed_alone old new s (Some fault.Store) weighed same)
     replied Store (inr (mid, weighed, carried)) handled =
         let same = same_by handled.0 Store refl handled.1 handled.2 in
-        failed Store refl same (taken_back old mid new s weighed carried live same)
+        failed Store refl same (taken_back old mid new s fault.Store weighed carried live same)

@@ -1,5 +1,6 @@
 -- The file in which a journal stands.
-use Rattle.std.specs.Prelude.{◌≡◌, ◌+◌, ◌++◌, ◌≤◌, ℕ, Bool, List, length, take}
+use Rattle.std.specs.Prelude.{◌≡◌, ◌⊎◌, ◌+◌, ◌^◌, ◌++◌, ◌≤◌, ℕ, Bool, false, List, length, take}
+use Rattle.sqlite_disk.specs.Disk.{MoreFaults}
 use Rattle.sqlite_disk.specs.declared.Disk.{Ghosts}
 use Rattle.td_journal.specs.declared.journal.Journal.{Journal}
 
@@ -22,6 +23,22 @@ IsDurable {g = g} j = (bytes : List ℕ) → g.may_leave j.file bytes → bytes 
 -- a crash leaves the rows that stand, whatever it leaves behind them
 abbrev pub IsSafe : {F : Type 0} {g : Ghosts F} → Journal F g → Type 0
 IsSafe {g = g} j = (bytes : List ℕ) → g.may_leave j.file bytes → take j.end bytes ≡ text_of j
+
+-- a call of its file failed since, or a sync of it before
+abbrev pub FileFailed : {F : Type 0} {g : Ghosts F} → Journal F g → Journal F g → Type 0
+FileFailed {g = g} old new = (g.is_usable old.file ≡ false) ⊎ MoreFaults (g.faults old.file) (g.faults new.file)
+
+-- so many bytes more, or one number more, have no place
+abbrev pub IsFull : {F : Type 0} {g : Ghosts F} → ℕ → Journal F g → Type 0
+IsFull size j = (2 ^ 64 ≤ j.end + size) ⊎ (2 ^ 64 ≤ j.next + 1)
+
+-- its count of calls that failed
+abbrev pub faults_of : {F : Type 0} {g : Ghosts F} → Journal F g → ℕ
+faults_of {g = g} j = g.faults j.file
+
+-- no sync of it has failed
+abbrev pub is_usable : {F : Type 0} {g : Ghosts F} → Journal F g → Bool
+is_usable {g = g} j = g.is_usable j.file
 
 -- the number of the next row
 abbrev pub next_number : {F : Type 0} {g : Ghosts F} → Journal F g → ℕ

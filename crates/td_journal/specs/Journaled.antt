@@ -1,13 +1,15 @@
 -- A desk that keeps a journal, and what its calls do to the journal.
-use Rattle.std.specs.Prelude.{◌≡◌, ◌≢◌, ◌⊎◌, ℕ, ◌+◌, List, [], ◌++◌, Option, None, Some, IsTrue, IsSome, option_map}
+use Rattle.std.specs.Prelude.{◌≡◌, ◌≢◌, ◌⊎◌, ℕ, ◌+◌, false, List, [], ◌++◌, Option, None, Some, IsTrue, IsSome, length, option_map}
 use Rattle.sqlite_disk.specs.declared.Disk.{Ghosts}
 use Rattle.td_acts.specs.declared.rows.Change.TheVariants.{Nothing}
 use Rattle.td_acts.specs.declared.rows.Verdict.{Verdict}
+use Rattle.td_base.specs.Days.{moment_of}
 use Rattle.td_commands.specs.declared.command.Stamped.{Stamped}
 use Rattle.td_desk.specs.Content.{Content, IsSound}
 use Rattle.td_desk.specs.declared.fault.Fault.{Fault}
+use Rattle.td_desk.specs.declared.fault.Fault.TheVariants.{Store}
 use Rattle.td_desk.specs.View.{DeskView, LeavesOnly}
-use Rattle.td_journal.specs.Journal.{HasBehind, IsDurable, IsSafe, IsTight, is_open, next_number, text_of}
+use Rattle.td_journal.specs.Journal.{FileFailed, HasBehind, IsDurable, IsFull, IsSafe, IsTight, is_open, next_number, text_of}
 use Rattle.td_journal.specs.Texts.{IsNoted}
 use Rattle.td_journal.specs.declared.desk.JournaledDesk.{JournaledDesk}
 
@@ -38,9 +40,15 @@ pub record IsWaiting {D F : Type 0} {g : Ghosts F} (view : DeskView D) (old : Jo
   pub row : view.is_clean new.desk → IsSound (view.content old.desk)
       → IsNoted (next_number old.journal) (view.content old.desk) s (waiting new)
 
+-- It couldn't be weighed: the journal is as it was. A fault of the store is one of the desk behind it, or the journal is shut, or the
+-- moment is out of range.
+pub record IsUnweighed {D F : Type 0} {g : Ghosts F} (view : DeskView D) (old : JournaledDesk D F g) (s : Stamped) (why : Fault) (new : JournaledDesk D F g) : Type 0 where
+  pub journal : new.journal ≡ old.journal
+  pub store : why ≡ Store → (is_open old.journal ≡ false) ⊎ (view.weighed old.desk s (Some Store) new.desk ⊎ (moment_of s.at ≡ None))
+
 abbrev pub weighed_at : {D F : Type 0} {g : Ghosts F} → DeskView D → JournaledDesk D F g → Stamped → Option Fault → JournaledDesk D F g → Type 0
 weighed_at view old s None new = IsWaiting view old s new
-weighed_at view old s (Some why) new = new.journal ≡ old.journal
+weighed_at view old s (Some why) new = IsUnweighed view old s why new
 
 -- A decision was carried: the row that waited stands behind the others, if there was one.
 pub record IsWritten {D F : Type 0} {g : Ghosts F} (view : DeskView D) (old new : JournaledDesk D F g) : Type 0 where
@@ -52,17 +60,20 @@ pub record IsWritten {D F : Type 0} {g : Ghosts F} (view : DeskView D) (old new 
 
 -- It wasn't: the text is as it was, and as long as the journal is open nothing stands behind it. The row was written ahead of the
 -- change: a crash leaves the content as it was, or a journal that has the row.
-pub record IsTakenBack {D F : Type 0} {g : Ghosts F} (view : DeskView D) (old new : JournaledDesk D F g) : Type 0 where
+pub record IsTakenBack {D F : Type 0} {g : Ghosts F} (view : DeskView D) (old : JournaledDesk D F g) (why : Fault) (new : JournaledDesk D F g) : Type 0 where
   pub text : text_of new.journal ≡ text_of old.journal
   pub next : next_number new.journal ≡ next_number old.journal
   pub tight : IsTrue (is_open new.journal) → IsTight new.journal
   pub safe : IsSafe old.journal → IsSafe new.journal
   pub ahead : view.is_clean new.desk → view.is_live old.desk → (bytes : List ℕ) (x : Content) → g.may_leave new.journal.file bytes → view.may_leave new.desk x
       → (x ≡ view.content old.desk) ⊎ HasBehind (written (waiting old)) old.journal bytes
+  -- a fault of the store is one of the desk behind it, or of the journal's file, or the journal is full
+  pub store : why ≡ Store → view.carried old.desk (Some Store) new.desk
+      ⊎ (FileFailed old.journal new.journal ⊎ IsFull (length (written (waiting old))) old.journal)
 
 abbrev pub carried_at : {D F : Type 0} {g : Ghosts F} → DeskView D → JournaledDesk D F g → Option Fault → JournaledDesk D F g → Type 0
 carried_at view old None new = IsWritten view old new
-carried_at view old (Some why) new = IsTakenBack view old new
+carried_at view old (Some why) new = IsTakenBack view old why new
 
 -- What is seen of it is what is seen of the desk behind it, which is live as long as rows can be written.
 abbrev pub journaled : {D F : Type 0} {g : Ghosts F} → DeskView D → DeskView (JournaledDesk D F g)

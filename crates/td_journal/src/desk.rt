@@ -1,5 +1,7 @@
 //! A desk around another, that writes the row of each accepted change before it is carried.
-ghost use Rattle.std.specs.Prelude.{◌≡◌, IfOk};
+ghost use Rattle.std.specs.Prelude.{◌≡◌, Err, IfOk, None};
+ghost use Rattle.td_base.specs.Days.{moment_of};
+ghost use Rattle.td_desk.specs.declared.fault.Fault.{Fault};
 ghost use Rattle.td_journal.specs.Texts.{IsLineOf};
 
 use crate::journal::Journal;
@@ -51,7 +53,8 @@ fn line_of(
     command: &Command,
     said: &Said,
 ) -> Result<Vec<u8>, Fault>
-    ensures { IfOk result (λ line. IsLineOf number at command.now said.now line.items) }
+    ensures line { IfOk result (λ line. IsLineOf number at command.now said.now line.items) }
+    ensures store { result ≡ Err Fault.Store → moment_of at ≡ None }
 {
     let Ok(moment) = Moment::new(at) else {
         return Err(Fault::Store);

@@ -7,5 +7,6 @@ returns-in_default-write_behind-clause-call g c = record {
   next = c.cut-is_cut.ensures.next ∙ c.write_behind.ensures.next;
   tight = λ opened. c.cut-is_cut.ensures.tight (search rules);
   safe = λ safe. c.cut-is_cut.ensures.safe (c.write_behind.ensures.safe safe);
+  store = λ is. search rules;
   ahead = λ clean live bytes x may left. inl ((c.requires.settled clean live).only x left);
 }
