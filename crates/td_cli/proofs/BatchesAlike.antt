@@ -33,7 +33,7 @@ module _ {S : Type 0} {disk : Ghosts S} where
   -- a batch is a run from the books that begin with the rows that were found
   pub from_opened : (line : Command → Said → List ℕ) (header : List ℕ) (image : Image) (country : List ℕ) (at : ℤ) (rows : List Command) (r : BatchRun)
       (opened left : FileSeen disk) → BeginsKept image country opened → IsClean left
-      → (ran : IsRunOf over_file (λ _ _ _. Unit {0}) line header at rows r opened left)
+      → (ran : IsRunOf over_file line header at rows r opened left)
       → (c : Content) × IsRun country (fresh_books (over_file.content opened)) (commands_tried at rows r ran) (outcomes_tried at rows r ran) c
   from_opened line header image country at rows r opened left begins clean (inl nothing) =
       let was = batch_clean line header at rows r opened left (inl nothing) clean in

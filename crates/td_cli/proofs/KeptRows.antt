@@ -1,11 +1,10 @@
 -- What a crash leaves of a batch is kept from row to row.
-use Rattle.std.proofs.Common.{◌≡◌, ◌⊎◌, ◌∙◌, ℕ, ℤ, true, List, [], ◌∷◌, ◌++◌, map, Option, refl, sym, ap, subst, inl, inr}
+use Rattle.std.proofs.Common.{◌≡◌, ◌⊎◌, ◌∙◌, ℕ, ℤ, true, List, [], ◌∷◌, ◌++◌, map, refl, sym, ap, subst, inl, inr}
 use Rattle.std.specs.List.{FoldsTo}
 use Rattle.td_commands.specs.declared.command.Command.{Command}
 use Rattle.td_commands.specs.declared.command.Stamped.{Stamped}
 use Rattle.td_model.specs.Book.{Book}
 use Rattle.td_model.specs.Machine.{machine_book}
-use Rattle.td_desk.specs.declared.fault.Fault.{Fault}
 use Rattle.td_desk.specs.declared.running.Outcome.{Outcome}
 use Rattle.td_desk.specs.declared.running.Outcome.TheVariants as outcome
 use Rattle.td_desk.specs.Content.{Content, IsSound}
@@ -35,14 +34,14 @@ steps_split R (x ∷ xs) ys p q steps =
     let rest = steps_split R xs ys steps.0 q steps.2 in
     (rest.0, (steps.0, steps.1, rest.1), rest.2)
 
-module _ {D : Type 0} (view : DeskView D) (called : D → Option Fault → D → Type 0) (country : List ℕ) (at : ℤ) where
+module _ {D : Type 0} (view : DeskView D) (country : List ℕ) (at : ℤ) where
   -- one row more
   abbrev After : (Stamped → Type 0) → (ℕ → Book) → TriedRow → D → Type 0
   After Failed books row d =
       Keeps view country (λ s. Failed s ⊎ ((s ≡ at_moment at row.0) × (is_failed row.1 ≡ true))) (books_after_rows country books at (row ∷ [])) d
 
   keeps_one : (Failed : Stamped → Type 0) (books : ℕ → Book) (command : Command) (o : Outcome) (old new : D) → Keeps view country Failed books old
-      → IsDone view called at command o old new → view.is_clean new → After Failed books (command, o) new
+      → IsDone view at command o old new → view.is_clean new → After Failed books (command, o) new
   keeps_one Failed books command (outcome.Said words) old new keeps is clean =
       let s = at_moment at command in
       let step = is.performs clean in
@@ -76,13 +75,13 @@ module _ {D : Type 0} (view : DeskView D) (called : D → Option Fault → D →
       }
 
   pub keeps_rows : (rows : List TriedRow) (Failed : Stamped → Type 0) (books : ℕ → Book) (old new : D) → Keeps view country Failed books old
-      → FoldsTo (IsRowDone view called at) old rows new → view.is_clean new
+      → FoldsTo (IsRowDone view at) old rows new → view.is_clean new
       → Keeps view country (λ s. Failed s ⊎ HasFailedAmong at rows s) (books_after_rows country books at rows) new
   keeps_rows [] Failed books old new keeps steps clean =
       keeps_as view country Failed (λ s. Failed s ⊎ HasFailedAmong at [] s) books books new (λ H. refl) (λ s is. inl is)
       (subst (Keeps view country Failed books) steps keeps)
   keeps_rows (row ∷ rows) Failed books old new keeps steps clean =
-      let one = keeps_one Failed books row.0 row.1 old steps.0 keeps steps.1 (clean_back view called at rows steps.0 new steps.2 clean) in
+      let one = keeps_one Failed books row.0 row.1 old steps.0 keeps steps.1 (clean_back view at rows steps.0 new steps.2 clean) in
       keeps_as view country _ (λ s. Failed s ⊎ HasFailedAmong at (row ∷ rows) s) _ (books_after_rows country books at (row ∷ rows)) new
       (books_more country books at row rows)
       (λ s is. elim is [ inl (inl was) ↦ inl was | inl (inr now) ↦ inr (inl now) | inr later ↦ inr (inr later) ])
@@ -90,11 +89,11 @@ module _ {D : Type 0} (view : DeskView D) (called : D → Option Fault → D →
 
   -- between any rows of a batch that leaves the desk clean
   pub kept_between_rows : (books : ℕ → Book) (rows first others : List TriedRow) (old new : D) → Keeps view country (λ s. ⊥) books old
-      → FoldsTo (IsRowDone view called at) old rows new → view.is_clean new → rows ≡ first ++ others
-      → IsKeptBetweenRows view called country books at first others old new
+      → FoldsTo (IsRowDone view at) old rows new → view.is_clean new → rows ≡ first ++ others
+      → IsKeptBetweenRows view country books at first others old new
   kept_between_rows books rows first others old new start steps clean are =
-      let split = steps_split (IsRowDone view called at) first others old new (subst (λ l. FoldsTo (IsRowDone view called at) old l new) are steps) in
-      let keeps = keeps_rows first (λ s. ⊥) books old split.0 start split.1 (clean_back view called at others split.0 new split.2 clean) in
+      let split = steps_split (IsRowDone view at) first others old new (subst (λ l. FoldsTo (IsRowDone view at) old l new) are steps) in
+      let keeps = keeps_rows first (λ s. ⊥) books old split.0 start split.1 (clean_back view at others split.0 new split.2 clean) in
       let only = keeps_as view country _ (HasFailedAmong at first) _ (books_after_rows country books at first) split.0 (λ H. refl)
       (λ s is. elim is [ inl none ↦ absurd none | inr now ↦ now ]) keeps in
       record {

@@ -82,14 +82,14 @@ module _ {S : Type 0} {disk : Ghosts S} where
 
   -- a batch that leaves the desk clean found it clean
   pub batch_clean : (line : Command → Said → List ℕ) (header : List ℕ) (at : ℤ) (rows : List Command) (r : BatchRun) (opened left : FileSeen disk)
-      → IsRunOf over_file (λ _ _ _. Unit {0}) line header at rows r opened left → IsClean left → IsClean opened
+      → IsRunOf over_file line header at rows r opened left → IsClean left → IsClean opened
   batch_clean line header at rows r opened left (inl none) clean = subst IsClean none.0 clean
-  batch_clean line header at rows r opened left (inr is) clean = clean_back over_file (λ _ _ _. Unit {0}) at _ opened left is.steps clean
+  batch_clean line header at rows r opened left (inr is) clean = clean_back over_file at _ opened left is.steps clean
 
   -- a batch
   pub later_by_batch : (line : Command → Said → List ℕ) (header : List ℕ) (at : ℤ) (rows : List Command) (r : BatchRun) (opened left : FileSeen disk)
       → IsTrue (file_state opened).is_open → IsSound (over_file.content opened) → IsClean left → IsTrue (file_state left).is_open
-      → IsRunOf over_file (λ _ _ _. Unit {0}) line header at rows r opened left → IsLater (over_file.content opened) (over_file.content left)
+      → IsRunOf over_file line header at rows r opened left → IsLater (over_file.content opened) (over_file.content left)
   later_by_batch line header at rows r opened left was_live sound clean live (inl none) =
       subst (λ (d : FileSeen disk). IsLater (over_file.content opened) (over_file.content d)) (sym none.0) (as_late (over_file.content opened) sound)
   later_by_batch line header at rows r opened left was_live sound clean live (inr is) =
@@ -111,12 +111,12 @@ module _ {S : Type 0} {disk : Ghosts S} where
   pub later_by_crash : (country : List ℕ) (at : ℤ) (first : List TriedRow) (opened between : FileSeen disk) (x : Content)
       → (over_file.content opened).country ≡ country
       → ((books : ℕ → Book) → IsTied (over_file.content opened) books → Keeps over_file country (λ s. ⊥) books opened)
-      → FoldsTo (IsRowDone over_file (λ _ _ _. Unit {0}) at) opened first between → IsClean between → over_file.may_leave between x
+      → FoldsTo (IsRowDone over_file at) opened first between → IsClean between → over_file.may_leave between x
       → IsLater (over_file.content opened) x
   later_by_crash country at first opened between x same begins led clean may =
       kept_later country (λ H. heard country H (map (at_moment at) (map (λ (r : TriedRow). r.0) first)) (map (λ (r : TriedRow). r.1) first))
       (λ s. ⊥ ⊎ HasFailedAmong at first s) (over_file.content opened) x same
-      (λ books tied. (keeps_rows over_file (λ _ _ _. Unit {0}) country at first (λ s. ⊥) books opened between (begins books tied) led clean).left x may)
+      (λ books tied. (keeps_rows over_file country at first (λ s. ⊥) books opened between (begins books tied) led clean).left x may)
 
   -- what is opened after a crash is what the crash may leave
   pub opened_after_crash : (country : List ℕ) (crashed next : FileSeen disk) → OpensAfterCrash country crashed next → over_file.may_leave crashed (over_file.content next)

@@ -151,7 +151,7 @@ module _ {S : Type 0} {disk : Ghosts S} where
   -- a batch
   pub batch_work : (line : Command → Said → List ℕ) (header : List ℕ) (image : Image) (country : List ℕ) (at : ℤ) (commands : List Command) (r : BatchRun)
       (opened left : FileSeen disk) → BeginsKept image country opened → IsClean left → IsTrue (file_state left).is_open
-      → (ran : IsRunOf over_file (λ _ _ _. Unit {0}) line header at commands r opened left)
+      → (ran : IsRunOf over_file line header at commands r opened left)
       → IsWork country opened (rows (commands_tried at commands r ran) (outcomes_tried at commands r ran) ∷ []) left
   batch_work line header image country at commands r opened left begins clean live (inl nothing) =
       let was = batch_clean line header at commands r opened left (inl nothing) clean in

@@ -1,6 +1,6 @@
 -- What a crash leaves of a batch, and what becomes of a batch of declarations that it cut short.
 use Rattle.std.proofs.Common.{inl, inr}
-use Rattle.std.specs.Prelude.{◌≡◌, ◌⊎◌, ℕ, ◌≤◌, ℤ, true, List, [], ◌∷◌, ◌++◌, map, Option, Some}
+use Rattle.std.specs.Prelude.{◌≡◌, ◌⊎◌, ℕ, ◌≤◌, ℤ, true, List, [], ◌∷◌, ◌++◌, map, Some}
 use Rattle.std.specs.List.{FoldsTo}
 use Rattle.td_base.specs.Days.{moment_of}
 use Rattle.td_commands.specs.Commands.{owner_of}
@@ -12,7 +12,6 @@ use Rattle.td_commands.specs.declared.said.Said.TheVariants.{Answered}
 use Rattle.td_model.specs.declared.holder_row.HolderRow.{HolderRow}
 use Rattle.td_model.specs.Book.{Book}
 use Rattle.td_model.specs.Machine.{machine_book}
-use Rattle.td_desk.specs.declared.fault.Fault.{Fault}
 use Rattle.td_desk.specs.declared.running.Outcome.{Outcome}
 use Rattle.td_desk.specs.declared.running.Outcome.TheVariants as outcome
 use Rattle.td_desk.specs.Content.{Content, account_in, IsSound}
@@ -47,11 +46,11 @@ IsKeptAfterRows country books at rows x = IsKeptIn country (HasFailedAmong at ro
 -- Between some rows of a batch and those after them there was a moment, to which the first led and from which the others lead.
 -- The desk then had sound content, so that each guarantee is covered, while no fault had shut it; and whatever a crash leaves
 -- then is a desk, whose content is one after the first rows.
-pub record IsKeptBetweenRows {D : Type 0} (view : DeskView D) (called : D → Option Fault → D → Type 0) (country : List ℕ) (books : ℕ → Book)
+pub record IsKeptBetweenRows {D : Type 0} (view : DeskView D) (country : List ℕ) (books : ℕ → Book)
     (at : ℤ) (first others : List TriedRow) (old new : D) : Type 0 where
   pub between : D
-  pub led : FoldsTo (IsRowDone view called at) old first between
-  pub leads : FoldsTo (IsRowDone view called at) between others new
+  pub led : FoldsTo (IsRowDone view at) old first between
+  pub leads : FoldsTo (IsRowDone view at) between others new
   pub sound : view.is_live between → IsSound (view.content between)
   pub recovers : view.recovers between
   pub kept : (x : Content) → view.may_leave between x → IsKeptAfterRows country books at first x
@@ -63,25 +62,25 @@ IsAnsweredAmong d a rows = (before after : List TriedRow) × (rows ≡ before ++
 -- A declaration among the first rows of a batch, which was answered, and which is done again in another batch over what a crash left
 -- after them, whatever came between: at any moment in range that isn't before the holder's own last change then, it has the same
 -- answer. (So it has the same result row, and the MRN of the movement that stands.)
-abbrev pub IsAnsweredAfterCrash : {D E : Type 0} → DeskView D → DeskView E → (E → Option Fault → E → Type 0) → List TriedRow → D → Type 0
-IsAnsweredAfterCrash {E = E} view other called first between =
+abbrev pub IsAnsweredAfterCrash : {D E : Type 0} → DeskView D → DeskView E → List TriedRow → D → Type 0
+IsAnsweredAfterCrash {E = E} view other first between =
     (later : ℤ) (t : ℕ) (rows : List Command) (again : BatchRun) (middle new : E) (x : Content)
     (H : ℕ) (row : HolderRow) (d : Command) (a : Answer) (s : Said)
     → view.may_leave between x → IsLater x (other.content middle)
-    → (more : IsBatchDone other called declaration_result declarations_header later rows again middle new)
+    → (more : IsBatchDone other declaration_result declarations_header later rows again middle new)
     → other.is_clean new → other.is_live middle
     → IsDeclaration d → IsAnsweredAmong d a first → IsSaidTo d s rows more.said
     → owner_of (other.content middle).country d ≡ Some H → (account_in H (other.content middle)).holder ≡ Some row
     → moment_of later ≡ Some t → row.last_at ≤ t → s ≡ Answered a
 
-module _ {D : Type 0} {view : DeskView D} {called : D → Option Fault → D → Type 0} {line : Command → Said → List ℕ} {header : List ℕ} {old new : D} where
+module _ {D : Type 0} {view : DeskView D} {line : Command → Said → List ℕ} {header : List ℕ} {old new : D} where
   -- the commands of the rows that a batch tried, at its moment; where nothing was done there are none
-  abbrev pub commands_tried : (at : ℤ) (rows : List Command) (r : BatchRun) → IsRunOf view called line header at rows r old new → List Stamped
+  abbrev pub commands_tried : (at : ℤ) (rows : List Command) (r : BatchRun) → IsRunOf view line header at rows r old new → List Stamped
   commands_tried at rows r (inl nothing) = []
   commands_tried at rows r (inr done) = stamped_rows at rows r done.said
 
   -- and how they ended
-  abbrev pub outcomes_tried : (at : ℤ) (rows : List Command) (r : BatchRun) → IsRunOf view called line header at rows r old new → List Outcome
+  abbrev pub outcomes_tried : (at : ℤ) (rows : List Command) (r : BatchRun) → IsRunOf view line header at rows r old new → List Outcome
   outcomes_tried at rows r (inl nothing) = []
   outcomes_tried at rows r (inr done) = outcomes_of done.said r.stopped
 

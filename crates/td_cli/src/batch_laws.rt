@@ -51,9 +51,9 @@ pub fn acknowledged_rows_are_kept_in_the_file<F: Disk>()
     ensures { (country : List ℕ) (image : Image) (which : BatchKind) (at : ℤ) (rows : List Command) (r : BatchRun)
         (opened left : FileSeen F.Disk) (first others : List TriedRow)
         → BeginsKept image country opened → IsClean left
-        → (one : IsBatchDone over_file (λ _ _ _. Unit {0}) (line_of which) (header_of which) at rows r opened left)
+        → (one : IsBatchDone over_file (line_of which) (header_of which) at rows r opened left)
         → zip (tried rows one.said r.stopped) (outcomes_of one.said r.stopped) ≡ first ++ others
-        → IsKeptBetweenRows over_file (λ _ _ _. Unit {0}) country (fresh_books (over_file.content opened)) at first others opened left }
+        → IsKeptBetweenRows over_file country (fresh_books (over_file.content opened)) at first others opened left }
 {}
 
 /// A batch of declarations that a crash cut short may be sent again. Whatever the crash left after a first part of its rows, and
@@ -63,8 +63,8 @@ pub fn acknowledged_rows_are_kept_in_the_file<F: Disk>()
 pub fn a_batch_cut_short_is_sent_again<F: Disk, OtherF: Disk>()
     ensures { (country : List ℕ) (image : Image) (at : ℤ) (opened left : FileSeen F.Disk) (first others : List TriedRow)
         → BeginsKept image country opened → IsClean left
-        → (kept : IsKeptBetweenRows over_file (λ _ _ _. Unit {0}) country (fresh_books (over_file.content opened)) at first others opened left)
-        → IsAnsweredAfterCrash over_file (over_file {g = OtherF.Disk}) (λ _ _ _. Unit {0}) first kept.between }
+        → (kept : IsKeptBetweenRows over_file country (fresh_books (over_file.content opened)) at first others opened left)
+        → IsAnsweredAfterCrash over_file (over_file {g = OtherF.Disk}) first kept.between }
 {}
 
 /// Whatever is done over a file leads from the content that was opened to a later one, as a batch that is sent again asks of what
@@ -80,11 +80,11 @@ pub fn runs_over_one_file_lead_on<F: Disk>()
     ensures batch { (country : List ℕ) (image : Image) (which : BatchKind) (at : ℤ) (rows : List Command) (r : BatchRun)
         (opened left : FileSeen F.Disk)
         → BeginsKept image country opened → IsClean left → IsTrue (file_state left).is_open
-        → IsRunOf over_file (λ _ _ _. Unit {0}) (line_of which) (header_of which) at rows r opened left
+        → IsRunOf over_file (line_of which) (header_of which) at rows r opened left
         → IsLater (over_file.content opened) (over_file.content left) }
     ensures crash { (country : List ℕ) (image : Image) (at : ℤ) (opened left : FileSeen F.Disk) (first others : List TriedRow) (x : Content)
         → BeginsKept image country opened → IsClean left
-        → (kept : IsKeptBetweenRows over_file (λ _ _ _. Unit {0}) country (fresh_books (over_file.content opened)) at first others opened left)
+        → (kept : IsKeptBetweenRows over_file country (fresh_books (over_file.content opened)) at first others opened left)
         → over_file.may_leave kept.between x → IsLater (over_file.content opened) x }
     ensures nothing { (country : List ℕ) (image : Image) (opened : FileSeen F.Disk)
         → BeginsKept image country opened → IsClean opened → IsLater (over_file.content opened) (over_file.content opened) }

@@ -10,6 +10,6 @@ use Rattle.td_cli.proofs.batch_laws.acknowledged_rows_are_kept_in_the_file.Goals
 pub returns : goal.returns
 returns g c = λ country image which at rows r opened left first others begins clean one are.
     let content = over_file.content opened in
-    let was = clean_back over_file (λ _ _ _. Unit {0}) at _ opened left one.steps clean in
-    kept_between_rows over_file (λ _ _ _. Unit {0}) country at (fresh_books content) _ first others opened left
+    let was = clean_back over_file at _ opened left one.steps clean in
+    kept_between_rows over_file country at (fresh_books content) _ first others opened left
     (begun_keeps false image country (fresh_books content) opened begins was (fresh_tied content)) one.steps clean are

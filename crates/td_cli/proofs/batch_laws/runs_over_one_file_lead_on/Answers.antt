@@ -18,8 +18,8 @@ returns-clause-batch g c = λ country image which at rows r opened left begins c
 
 pub returns-clause-crash : goal.returns-clause-crash
 returns-clause-crash g c = λ country image at opened left first others x begins clean kept may.
-    let then_clean = clean_back over_file (λ _ _ _. Unit {0}) at others kept.between left kept.leads clean in
-    let was = clean_back over_file (λ _ _ _. Unit {0}) at first opened kept.between kept.led then_clean in
+    let then_clean = clean_back over_file at others kept.between left kept.leads clean in
+    let was = clean_back over_file at first opened kept.between kept.led then_clean in
     later_by_crash country at first opened kept.between x (begun_country false image country opened begins was)
     (λ books tied. begun_keeps false image country books opened begins was tied) kept.led then_clean may
 
