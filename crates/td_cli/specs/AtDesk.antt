@@ -12,6 +12,7 @@ use Rattle.td_words.specs.declared.words.Records.TheVariants.{Memory, File, NewF
 use Rattle.td_jobs.specs.Desks.{BeginsEmpty, in_memory}
 use Rattle.td_machine.specs.Drive.{KnownDrive}
 use Rattle.td_cli.specs.Desks.{BeginsKept, BeginsMade}
+use Rattle.td_cli.specs.declared.at_desk.Undone.{Undone}
 
 -- What a job leaves whose desk's records stand there, in this country, and of the file that was lent to it. It was done at a desk that
 -- was opened over the file at the path on its drive, or made in it, and the file's connection shows what the desk left, which is a desk's
@@ -33,3 +34,8 @@ AtDesk drive country (File path) did untouched before file (Err why) =
     untouched × HasNoDesk drive country (string_bytes path) before file why
 AtDesk drive country (NewFile path) did untouched before file (Err why) =
     untouched × HasNoNewDesk drive country (string_bytes path) before file why
+
+-- how a job ended, or why there was no desk for it
+abbrev pub without_job : {End J : Type 0} → Result End (Undone J) → Result End DeskFault
+without_job (Ok end) = Ok end
+without_job (Err undone) = Err undone.why

@@ -19,14 +19,16 @@ use Rattle.td_files.specs.declared.desks.DeskFault.{DeskFault}
 use Rattle.td_files.specs.declared.desks.DeskFault.TheVariants as desk
 use Rattle.td_files.specs.declared.joins.JoinRefusal.{JoinRefusal}
 use Rattle.td_files.specs.declared.joins.JoinRefusal.TheVariants as join
+use Rattle.td_journal_start.specs.declared.starting.StartFault.{StartFault}
+use Rattle.td_journal_start.specs.declared.starting.StartFault.TheVariants as start
 use Rattle.td_machine.specs.declared.machine.ReadError.{ReadError}
 use Rattle.td_machine.specs.declared.machine.ReadError.TheVariants as read_error
 use Rattle.td_jobs.specs.declared.serving.ServingEnd.{ServingEnd}
 use Rattle.td_jobs.specs.declared.serving.ServingEnd.TheVariants as serving
 use Rattle.td_cli.specs.declared.exits.Cause.{Cause}
-use Rattle.td_cli.specs.declared.exits.Cause.TheVariants.{BadCsv, HolderExists, NeedsMigration, Of}
+use Rattle.td_cli.specs.declared.exits.Cause.TheVariants.{BadCsv, ForeignRow, HolderExists, NeedsMigration, Of}
 use Rattle.td_cli.specs.declared.exits.Word.{Word}
-use Rattle.td_cli.specs.declared.exits.Word.TheVariants.{File, UnknownVersion, OtherCountry, Damaged, Store, NoMemory, Write, Socket, StreamRefused, StreamCut, ReadsSpent, ReadFault, WriteFault, StreamFailed}
+use Rattle.td_cli.specs.declared.exits.Word.TheVariants.{File, UnknownVersion, OtherCountry, Damaged, Journal, Store, NoMemory, Write, Socket, StreamRefused, StreamCut, ReadsSpent, ReadFault, WriteFault, StreamFailed}
 
 -- the words of the causes whose lines are fixed
 abbrev pub word_text : Word → List ℕ
@@ -34,6 +36,7 @@ word_text File = codes "file"
 word_text UnknownVersion = codes "unknown-version"
 word_text OtherCountry = codes "other-country"
 word_text (Damaged rule) = codes "damaged " ++ refused.rule_name rule
+word_text Journal = codes "journal"
 word_text Store = codes "store"
 word_text NoMemory = codes "no-memory"
 word_text Write = codes "write"
@@ -53,6 +56,7 @@ abbrev pub line_of : Cause → List ℕ
 line_of (BadCsv row column) = codes "transit-desk: bad csv row " ++ (decimal row ++ (codes " column " ++ (decimal column ++ codes "\n")))
 line_of (NeedsMigration version) = codes "transit-desk: needs-migration " ++ (decimal version ++ codes "\n")
 line_of (HolderExists holder) = codes "transit-desk: holder-exists " ++ (holder_text holder ++ codes "\n")
+line_of (ForeignRow row) = codes "transit-desk: journal " ++ (decimal row ++ codes "\n")
 line_of (Of word) = word_line word
 
 -- the text was written, or as much of it as the writer took
@@ -69,6 +73,8 @@ IsCauseTold said errors errors_left (NeedsMigration version) =
     IsTold said errors errors_left (line_of (NeedsMigration version)) ⊎ IsTold said errors errors_left (word_line NoMemory)
 IsCauseTold said errors errors_left (HolderExists holder) =
     IsTold said errors errors_left (line_of (HolderExists holder)) ⊎ IsTold said errors errors_left (word_line NoMemory)
+IsCauseTold said errors errors_left (ForeignRow row) =
+    IsTold said errors errors_left (line_of (ForeignRow row)) ⊎ IsTold said errors errors_left (word_line NoMemory)
 
 -- A job ended well, with status 0 and no line; or by a cause, with status 1 and its line.
 abbrev pub IsEnded : {E : Type 0} → (E → Option (List ℕ)) → Option Cause → Counted E → Counted E → ℕ → Type 0
@@ -84,6 +90,15 @@ of_file (desk.Refused refused.OtherCountry) = Of OtherCountry
 of_file (desk.Refused (refused.Damaged rule)) = Of (Damaged rule)
 of_file (desk.Refused refused.Store) = Of Store
 of_file (desk.Refused refused.NoMemory) = Of NoMemory
+of_file desk.BadJournal = Of Journal
+of_file (desk.ForeignRow row) = ForeignRow row
+
+-- why a journal wasn't begun
+abbrev pub of_start : StartFault → DeskFault
+of_start start.BadJournal = desk.BadJournal
+of_start (start.ForeignRow row) = desk.ForeignRow row
+of_start start.NoMemory = desk.Refused refused.NoMemory
+of_start start.Store = desk.Refused refused.Store
 
 -- why a stream ended otherwise than at the end of the input, by a request to close, or after its last request
 abbrev pub of_stream : StreamEnd → Option Cause

@@ -1,9 +1,9 @@
 //! One way to a desk for every job: its records stand in memory, in a file or in a new file.
-ghost use Rattle.std.specs.Prelude.{◌≡◌, Some};
+ghost use Rattle.std.specs.Prelude.{◌≡◌, IfErr, Some};
 ghost use Rattle.td_files.specs.Found.{IsKeptDesk, over_file};
 ghost use Rattle.td_jobs.specs.Desks.{IsReady};
 ghost use Rattle.td_jobs.specs.Jobs.{IsUntouched};
-ghost use Rattle.td_cli.specs.AtDesk.{AtDesk};
+ghost use Rattle.td_cli.specs.AtDesk.{AtDesk, without_job};
 
 use std::alloc::Global;
 use std::io::{Read, Write};
@@ -13,36 +13,47 @@ use td_jobs::{DeskJob, in_memory};
 use td_machine::{Drive, Machine, Surroundings};
 use td_words::{Office, Records};
 
-/// Does a job at a desk of the office whose records stand there, and answers how it ended. An error: why there was no
-/// desk.
+/// A job that wasn't done, and why there was no desk for it.
+#[derive(Drop)]
+pub(crate) struct Undone<J> {
+    pub why: DeskFault,
+    pub job: J,
+}
+
+/// Does a job at a desk of the office whose records stand there, and answers how it ended. An error: why there was no desk, and the
+/// job, which wasn't done.
 pub(crate) fn at_desk<M: Machine, V: Drive, R: Read, W: Write, J: DeskJob>(
     alloc: Global,
     machine: &mut M,
     office: Office,
     records: &Records,
     file: &mut DeskFile<V>,
-    job: &J,
+    job: J,
     input: &mut Counted<R>,
     out: &mut Counted<W>,
-) -> Result<J::End, DeskFault>
-    ensures { AtDesk V.known office.country records.now
-        (λ D view opened left end. J.does D _ _ _ _ _ _ view opened left R.remaining W.contents ⟦<M as Surroundings>⟧.around office.at job.now
+) -> Result<J::End, Undone<J>>
+    ensures done { AtDesk V.known office.country records.now
+        (λ D view opened left end. J.does D _ _ _ _ _ _ view opened left R.remaining W.contents ⟦<M as Surroundings>⟧.around office.at job
         input.old input.new out.old out.new machine.old machine.new end)
-        (IsUntouched input.old input.new out.old out.new machine.old machine.new) file.old file.new result }
+        (IsUntouched input.old input.new out.old out.new machine.old machine.new) file.old file.new (without_job result) }
+    ensures job { IfErr result (λ undone. undone.job ≡ job) }
 {
     match records {
         Records::Memory => match in_memory(alloc, machine, office, job, input, out) {
             Ok(end) => Ok(end),
-            Err(_) => Err(DeskFault::Refused(OpenFault::NoMemory)),
+            Err(job) => Err(Undone {
+                why: DeskFault::Refused(OpenFault::NoMemory),
+                job,
+            }),
         },
-        Records::File(path) => {
-            let desk = file.open_desk(alloc, office.country, path)?;
-            Ok(over_file(alloc, machine, desk, office.at, file, job, input, out))
-        }
-        Records::NewFile(path) => {
-            let desk = file.make_desk(alloc, office.country, path)?;
-            Ok(over_file(alloc, machine, desk, office.at, file, job, input, out))
-        }
+        Records::File(path) => match file.open_desk(alloc, office.country, path) {
+            Ok(desk) => Ok(over_file(alloc, machine, desk, office.at, file, job, input, out)),
+            Err(why) => Err(Undone { why, job }),
+        },
+        Records::NewFile(path) => match file.make_desk(alloc, office.country, path) {
+            Ok(desk) => Ok(over_file(alloc, machine, desk, office.at, file, job, input, out)),
+            Err(why) => Err(Undone { why, job }),
+        },
     }
 }
 
@@ -53,12 +64,12 @@ fn over_file<M: Machine, V: Drive, R: Read, W: Write, J: DeskJob>(
     desk: FileDesk<V>,
     at: Option<i64>,
     file: &mut DeskFile<V>,
-    job: &J,
+    job: J,
     input: &mut Counted<R>,
     out: &mut Counted<W>,
 ) -> J::End
     ensures done { IsReady over_file desk → (left : _) × (file.new.connection ≡ Some left) × IsKeptDesk left
-        × J.does _ _ _ _ _ _ _ over_file desk left R.remaining W.contents ⟦<M as Surroundings>⟧.around at job.now
+        × J.does _ _ _ _ _ _ _ over_file desk left R.remaining W.contents ⟦<M as Surroundings>⟧.around at job
         input.old input.new out.old out.new machine.old machine.new result }
     ensures drive { file.new.drive ≡ file.old.drive }
 {

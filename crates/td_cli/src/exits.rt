@@ -1,7 +1,7 @@
 //! How a job ends: well, with status 0 and no word, or by a cause, with status 1 and one line on standard error. Each cause is a row.
 ghost use Rattle.std.specs.Prelude.{◌≡◌, Some, IfOk, MatchResult, string_bytes};
-ghost use Rattle.td_cli.specs.Exits.{IsEnded, IsTold, line_of, of_file, of_join, of_report, of_rows, of_serving, of_stop, of_stream, of_read_error, word_line};
-ghost use Rattle.td_cli.specs.declared.exits.Cause.TheVariants.{BadCsv, HolderExists, NeedsMigration};
+ghost use Rattle.td_cli.specs.Exits.{IsEnded, IsTold, line_of, of_file, of_join, of_report, of_rows, of_serving, of_start, of_stop, of_stream, of_read_error, word_line};
+ghost use Rattle.td_cli.specs.declared.exits.Cause.TheVariants.{BadCsv, ForeignRow, HolderExists, NeedsMigration};
 ghost use Rattle.td_cli.specs.declared.exits.Word.TheVariants.{Damaged, NoMemory};
 
 use std::alloc::{AllocError, Global};
@@ -12,6 +12,7 @@ use td_desk::Fault;
 use td_files::{DeskFault, JoinRefusal, OpenFault};
 use td_http::StreamEnd;
 use td_jobs::ServingEnd;
+use td_journal_jobs::StartFault;
 use td_machine::ReadError;
 use td_reports::ReportFault;
 use td_table_model::Rule;
@@ -32,6 +33,8 @@ pub enum Cause {
     NeedsMigration(u32),
     /// A file that rows are put into has this holder already.
     HolderExists(HolderNo),
+    /// The last row of a journal, which has this number, isn't of the desk.
+    ForeignRow(u64),
     /// A cause whose line is fixed.
     Of(Word),
 }
@@ -47,6 +50,8 @@ pub enum Word {
     OtherCountry,
     /// The rows of a file break this rule first.
     Damaged(Rule),
+    /// The last line of a journal is no row of a change.
+    Journal,
     /// The database answered an error.
     Store,
     /// Want of memory.
@@ -81,6 +86,20 @@ pub(crate) fn of_file(why: DeskFault) -> Cause
         DeskFault::Refused(OpenFault::Damaged(rule)) => Cause::Of(Word::Damaged(rule)),
         DeskFault::Refused(OpenFault::Store) => Cause::Of(Word::Store),
         DeskFault::Refused(OpenFault::NoMemory) => Cause::Of(Word::NoMemory),
+        DeskFault::BadJournal => Cause::Of(Word::Journal),
+        DeskFault::ForeignRow(row) => Cause::ForeignRow(row),
+    }
+}
+
+/// Why a journal wasn't begun.
+pub(crate) fn of_start(why: StartFault) -> DeskFault
+    ensures { result ≡ of_start why }
+{
+    match why {
+        StartFault::BadJournal => DeskFault::BadJournal,
+        StartFault::ForeignRow { row } => DeskFault::ForeignRow(row),
+        StartFault::NoMemory => DeskFault::Refused(OpenFault::NoMemory),
+        StartFault::Store => DeskFault::Refused(OpenFault::Store),
     }
 }
 
@@ -188,6 +207,7 @@ impl Word {
             Word::UnknownVersion => "transit-desk: unknown-version\n",
             Word::OtherCountry => "transit-desk: other-country\n",
             Word::Damaged(rule) => rule_line(rule),
+            Word::Journal => "transit-desk: journal\n",
             Word::Store => "transit-desk: store\n",
             Word::NoMemory => "transit-desk: no-memory\n",
             Word::Write => "transit-desk: write\n",
@@ -238,6 +258,12 @@ fn holder_exists_line(alloc: Global, holder: HolderNo) -> Result<String, AllocEr
     format!(in alloc; "transit-desk: holder-exists {holder}\n")
 }
 
+fn foreign_row_line(alloc: Global, row: u64) -> Result<String, AllocError>
+    ensures { IfOk result (λ line. string_bytes line ≡ line_of (ForeignRow row)) }
+{
+    format!(in alloc; "transit-desk: journal {row}\n")
+}
+
 /// Tells the cause, and gives its status.
 pub(crate) fn fault<E: Write>(alloc: Global, cause: Cause, errors: &mut Counted<E>) -> u8
     ensures { IsEnded E.contents (Some cause) errors.old errors.new result }
@@ -246,6 +272,7 @@ pub(crate) fn fault<E: Write>(alloc: Global, cause: Cause, errors: &mut Counted<
         Cause::BadCsv { row, column } => tell_made(bad_csv_line(alloc, row, column), errors),
         Cause::NeedsMigration(version) => tell_made(needs_migration_line(alloc, version), errors),
         Cause::HolderExists(holder) => tell_made(holder_exists_line(alloc, holder), errors),
+        Cause::ForeignRow(row) => tell_made(foreign_row_line(alloc, row), errors),
         Cause::Of(word) => tell(word.line(), errors),
     }
     FAULT

@@ -149,3 +149,20 @@ module _ {V D : Type 0} {g : disk.Ghosts D} where
   HasNoNewDesk known country path old new why =
       IsUnopened known path true old new why
       ⊎ FoundAt known path true old new (λ image. IsHandedBack (IsUnmadeFor image (empty_content country)) new why)
+
+  -- The file at the path was opened as it is on its drive, for a journal: it was made, if it wasn't there.
+  pub record IsJournalAt (known : KnownDrive V D) (path : List ℕ) (old new : FileHeld V g) (file : D) : Type 0 where
+    pub files : Files D
+    pub opens : known.opens old.drive path true files new.drive
+    pub is : file ≡ files.db
+    pub connection : new.connection ≡ old.connection
+    pub unopened : new.unopened ≡ old.unopened
+    pub journal : new.journal ≡ old.journal
+
+  -- It wasn't, for this fault: its drive refused it.
+  pub record HasNoJournal (known : KnownDrive V D) (path : List ℕ) (old new : FileHeld V g) (why : DeskFault) : Type 0 where
+    pub fault : IsOpeningFault why
+    pub refuses : known.refuses old.drive path true new.drive
+    pub connection : new.connection ≡ old.connection
+    pub unopened : new.unopened ≡ old.unopened
+    pub journal : new.journal ≡ old.journal

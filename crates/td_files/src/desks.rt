@@ -24,6 +24,12 @@ pub enum DeskFault {
     /// Its database was refused. `Store`, too, where another program has the file open.
     #[error("{0}")]
     Refused(OpenFault),
+    /// The last line of its journal is no row of a change.
+    #[error("journal")]
+    BadJournal,
+    /// The last row of its journal, which has this number, isn't of the desk.
+    #[error("journal {0}")]
+    ForeignRow(u64),
 }
 
 /// Why a drive didn't open a file.

@@ -1,7 +1,7 @@
 //! The file in which a desk's records stand, opened by its path.
-ghost use Rattle.std.specs.Prelude.{◌≡◌, false, None, Some, IfErr, IfOk, IfSome, MatchOption};
+ghost use Rattle.std.specs.Prelude.{◌≡◌, false, true, None, Some, IfErr, IfOk, IfSome, MatchOption};
 ghost use Rattle.td_files.specs.Closed.{IsClosedFrom};
-ghost use Rattle.td_files.specs.Found.{FoundAt, IsConnected, IsOpeningFault, IsUnopened};
+ghost use Rattle.td_files.specs.Found.{FoundAt, HasNoJournal, IsConnected, IsJournalAt, IsOpeningFault, IsUnopened};
 
 use crate::desks::{DeskFault, file_fault, refused_by};
 use sqlite::{Connection, Error, ErrorCode, FileStore, Files, Leftover};
@@ -18,6 +18,8 @@ pub struct OneFile<V, D: Disk> {
     pub unopened: Option<Leftover<D>>,
     /// The connection that a job handed back, whether it had a desk over it or was refused one.
     pub connection: Option<Connection<FileStore<D>>>,
+    /// The file as a job handed it back that kept a journal in it.
+    pub journal: Option<D>,
 }
 
 /// One file of a drive.
@@ -35,11 +37,13 @@ impl<V: Drive> OneFile<V, <V as Drive>::Disk> {
         ensures drive { result.drive ≡ drive }
         ensures unopened { result.unopened ≡ None }
         ensures connection { result.connection ≡ None }
+        ensures journal { result.journal ≡ None }
     {
         OneFile {
             drive,
             unopened: None,
             connection: None,
+            journal: None,
         }
     }
 
@@ -88,6 +92,33 @@ impl<V: Drive> OneFile<V, <V as Drive>::Disk> {
         self.connection = Some(connection);
     }
 
+    /// Opens the file at the path as it is, with no database over it, for a journal. A file that isn't there is made. `File`: it can't be
+    /// opened or made, or the drive opens no second file; `Refused(Store)`: another program has it open; `Refused(NoMemory)`: want of
+    /// memory.
+    pub fn open_journal(&mut self, path: &str) -> Result<<V as Drive>::Disk, DeskFault>
+        ensures opened { IfOk result (IsJournalAt V.known path.now self.old self.new) }
+        ensures usable { IfOk result (λ file. V.Disk.Disk.is_usable file ≡ true) }
+        ensures refused { IfErr result (HasNoJournal V.known path.now self.old self.new) }
+    {
+        let OpenedFile { files, options: _ } = match self.drive.open(path, true) {
+            Ok(opened) => opened,
+            Err(why) => return Err(refused_by(why)),
+        };
+        self.drive.discard_new_log();
+        let Files { log: _, db } = files;
+        Ok(db)
+    }
+
+    /// Takes the file of a journal back, once its job is done.
+    pub fn keep_journal(&mut self, file: <V as Drive>::Disk)
+        ensures journal { self.new.journal ≡ Some file }
+        ensures drive { self.new.drive ≡ self.old.drive }
+        ensures connection { self.new.connection ≡ self.old.connection }
+        ensures unopened { self.new.unopened ≡ self.old.unopened }
+    {
+        self.journal = Some(file);
+    }
+
     /// Closes the file, if it is open: what its log holds is copied into it. Whatever was committed is kept, also where that
     /// fails: it is in the log then, and the next open finds it there. It hands back the two files, or why they weren't copied and
     /// the store over them, so that contracts can say what is in them; they are closed as they are dropped.
@@ -99,6 +130,7 @@ impl<V: Drive> OneFile<V, <V as Drive>::Disk> {
             drive: _,
             unopened: _,
             connection,
+            journal: _,
         } = self;
         match connection {
             Some(connection) => Some(connection.close_files()),

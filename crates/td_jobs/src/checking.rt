@@ -10,6 +10,7 @@ use td_desk::Desk;
 use td_machine::Machine;
 
 /// The job that leaves a desk as it was opened. It reads and prints nothing, and asks no clock.
+#[derive(Drop)]
 pub struct Checking;
 
 impl DeskJob for Checking {
@@ -19,7 +20,7 @@ impl DeskJob for Checking {
         IsUntouched reader reader_left writer writer_left machine machine_left × (left ≡ opened) };
 
     fn on<D: Desk, M: Machine, R: Read, W: Write>(
-        &self,
+        self,
         _alloc: Global,
         desk: D,
         _machine: &mut M,

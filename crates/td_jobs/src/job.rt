@@ -4,7 +4,7 @@ ghost use Rattle.td_desk.specs.declared.plain.PlainDesk.{PlainDesk};
 ghost use Rattle.td_jobs.specs.Desks.{BeginsEmpty, IsReady, in_memory};
 ghost use Rattle.td_jobs.specs.Jobs.{Doing, IsUntouched};
 
-use std::alloc::{AllocError, Global};
+use std::alloc::Global;
 use std::io::{Read, Write};
 use td_base::Counted;
 use td_desk::{Desk, PlainDesk};
@@ -12,7 +12,7 @@ use td_machine::{Machine, Surroundings};
 use td_words::Office;
 
 /// A job that is done at a desk, wherever its records stand.
-pub trait DeskJob {
+pub trait DeskJob: Drop {
     /// How it ended.
     type End;
 
@@ -22,7 +22,7 @@ pub trait DeskJob {
     /// Does it at a desk, which is handed back: at this moment, in seconds since 1970, or by the machine's clock where none
     /// is given.
     fn on<D: Desk, M: Machine, R: Read, W: Write>(
-        &self,
+        self,
         alloc: Global,
         desk: D,
         machine: &mut M,
@@ -31,27 +31,29 @@ pub trait DeskJob {
         out: &mut Counted<W>,
     ) -> (Self::End, D)
         ensures { IsReady D.seen desk
-            → does _ _ _ _ _ _ _ D.seen desk result.1 R.remaining W.contents ⟦<M as Surroundings>⟧.around at self.now
+            → does _ _ _ _ _ _ _ D.seen desk result.1 R.remaining W.contents ⟦<M as Surroundings>⟧.around at self
             input.old input.new out.old out.new machine.old machine.new result.0 };
 }
 
-/// Does a job at a new desk of the office in memory, which is gone after it, and answers how the job ended. `AllocError`:
-/// there was no memory for the desk, and nothing was read, written, or asked of the machine.
+/// Does a job at a new desk of the office in memory, which is gone after it, and answers how the job ended. An error: there was no
+/// memory for the desk, and the job wasn't done; nothing was read, written, or asked of the machine.
 pub fn in_memory<M: Machine, R: Read, W: Write, J: DeskJob>(
     alloc: Global,
     machine: &mut M,
     office: Office,
-    job: &J,
+    job: J,
     input: &mut Counted<R>,
     out: &mut Counted<W>,
-) -> Result<J::End, AllocError>
+) -> Result<J::End, J>
     ensures { MatchResult result
         (λ end. (opened left : PlainDesk) × BeginsEmpty office.country opened
-        × J.does _ _ _ _ _ _ _ in_memory opened left R.remaining W.contents ⟦<M as Surroundings>⟧.around office.at job.now
+        × J.does _ _ _ _ _ _ _ in_memory opened left R.remaining W.contents ⟦<M as Surroundings>⟧.around office.at job
         input.old input.new out.old out.new machine.old machine.new end)
-        (λ why. IsUntouched input.old input.new out.old out.new machine.old machine.new) }
+        (λ undone. (undone ≡ job) × IsUntouched input.old input.new out.old out.new machine.old machine.new) }
 {
-    let desk = PlainDesk::new(alloc, office.country)?;
+    let Ok(desk) = PlainDesk::new(alloc, office.country) else {
+        return Err(job);
+    };
     let (end, _desk) = job.on(alloc, desk, machine, office.at, input, out);
     Ok(end)
 }

@@ -12,6 +12,7 @@ use td_http::{Service, StreamEnd, serve_stream};
 use td_machine::{FixedClock, Machine, Surroundings};
 
 /// The job that serves one stream, and answers how it ended. It asks nothing of the machine but its clock.
+#[derive(Drop)]
 pub struct Piping;
 
 impl DeskJob for Piping {
@@ -21,7 +22,7 @@ impl DeskJob for Piping {
         IsPipedAt view opened left remaining contents around.ticks at reader reader_left writer writer_left machine machine_left end };
 
     fn on<D: Desk, M: Machine, R: Read, W: Write>(
-        &self,
+        self,
         alloc: Global,
         desk: D,
         machine: &mut M,

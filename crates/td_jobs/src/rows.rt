@@ -70,7 +70,7 @@ impl DeskJob for Rows {
         × HasDoneRows view opened left around.ticks at (kind_of job) (commands_of job) machine machine_left run };
 
     fn on<D: Desk, M: Machine, R: Read, W: Write>(
-        &self,
+        self,
         alloc: Global,
         mut desk: D,
         machine: &mut M,

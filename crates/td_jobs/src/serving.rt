@@ -57,7 +57,7 @@ impl DeskJob for Listening {
         (reader_left ≡ reader) × ServesAs view opened left contents around at job writer writer_left end machine machine_left };
 
     fn on<D: Desk, M: Machine, R: Read, W: Write>(
-        &self,
+        self,
         alloc: Global,
         desk: D,
         machine: &mut M,
@@ -66,7 +66,7 @@ impl DeskJob for Listening {
         out: &mut Counted<W>,
     ) -> (ServingEnd, D) {
         let mut service = Service::new(desk);
-        let end = serve_printing(alloc, *self, machine, at, &mut service, out);
+        let end = serve_printing(alloc, self, machine, at, &mut service, out);
         (end, service.into_desk())
     }
 }

@@ -55,18 +55,18 @@ two_flags value without with_it = cc
 
 -- the letter that the name of a task's command begins with, and so no text is the name of two commands
 abbrev first_letter : Task → ℕ
-first_letter (Serve l r) = 115
-first_letter (Pipe r) = 112
-first_letter (Batch Declarations file db) = 98
-first_letter (Batch Acts file db) = 97
+first_letter (Serve l r j) = 115
+first_letter (Pipe r j) = 112
+first_letter (Batch Declarations file db j) = 98
+first_letter (Batch Acts file db j) = 97
 first_letter (Report report path) = 114
 first_letter (Check path) = 99
 
 letter_is : (name : Text) (rows : List Row) (task : Task) → IsTask name rows task → slice_index name 0 ≡ first_letter task
-letter_is name rows (Serve l r) is = ap (λ t. slice_index t 0) is.0
-letter_is name rows (Pipe r) is = ap (λ t. slice_index t 0) is.0
-letter_is name rows (Batch Declarations file db) is = ap (λ t. slice_index t 0) is.0
-letter_is name rows (Batch Acts file db) is = ap (λ t. slice_index t 0) is.0
+letter_is name rows (Serve l r j) is = ap (λ t. slice_index t 0) is.0
+letter_is name rows (Pipe r j) is = ap (λ t. slice_index t 0) is.0
+letter_is name rows (Batch Declarations file db j) is = ap (λ t. slice_index t 0) is.0
+letter_is name rows (Batch Acts file db j) is = ap (λ t. slice_index t 0) is.0
 letter_is name rows (Report report path) is = ap (λ t. slice_index t 0) is.0
 letter_is name rows (Check path) is = ap (λ t. slice_index t 0) is.0
 
@@ -85,54 +85,55 @@ records_once (NewFile path) (File there) db new is other = two_flags new other.1
 records_once (NewFile path) (NewFile there) db new is other = same_value db _ _ is.0 other.0
 
 task_once : (name : Text) (rows : List Row) (task other : Task) → IsTask name rows task → IsTask name rows other → IsSameTask task other
-task_once name rows (Serve l r) (Serve m s) is other = (
+task_once name rows (Serve l r j) (Serve m s k) is other = (
   number_once _ _ _ _ _ is.1.port other.1.port,
   number_once _ _ _ _ _ is.1.connections other.1.connections,
   idle_once _ _ _ is.1.idle other.1.idle,
   records_once r s _ _ is.2 other.2,
+  is.3 ∙ sym other.3,
 )
-task_once name rows (Serve l r) (Pipe s) is other = absurd (omega (arith, clash name rows (Serve l r) (Pipe s) is other))
-task_once name rows (Serve l r) (Batch Declarations there records) is other = absurd (omega (arith, clash name rows (Serve l r) (Batch Declarations there records) is other))
-task_once name rows (Serve l r) (Batch Acts there records) is other = absurd (omega (arith, clash name rows (Serve l r) (Batch Acts there records) is other))
-task_once name rows (Serve l r) (Report kind there) is other = absurd (omega (arith, clash name rows (Serve l r) (Report kind there) is other))
-task_once name rows (Serve l r) (Check there) is other = absurd (omega (arith, clash name rows (Serve l r) (Check there) is other))
-task_once name rows (Pipe r) (Serve m s) is other = absurd (omega (arith, clash name rows (Pipe r) (Serve m s) is other))
-task_once name rows (Pipe r) (Pipe s) is other = records_once r s _ _ is.1 other.1
-task_once name rows (Pipe r) (Batch Declarations there records) is other = absurd (omega (arith, clash name rows (Pipe r) (Batch Declarations there records) is other))
-task_once name rows (Pipe r) (Batch Acts there records) is other = absurd (omega (arith, clash name rows (Pipe r) (Batch Acts there records) is other))
-task_once name rows (Pipe r) (Report kind there) is other = absurd (omega (arith, clash name rows (Pipe r) (Report kind there) is other))
-task_once name rows (Pipe r) (Check there) is other = absurd (omega (arith, clash name rows (Pipe r) (Check there) is other))
-task_once name rows (Batch Declarations file db) (Serve m s) is other = absurd (omega (arith, clash name rows (Batch Declarations file db) (Serve m s) is other))
-task_once name rows (Batch Declarations file db) (Pipe s) is other = absurd (omega (arith, clash name rows (Batch Declarations file db) (Pipe s) is other))
-task_once name rows (Batch Declarations file db) (Batch Declarations there records) is other = (refl, same_value _ _ _ is.1 other.1, same_value _ _ _ is.2 other.2)
-task_once name rows (Batch Declarations file db) (Batch Acts there records) is other = absurd (omega (arith, clash name rows (Batch Declarations file db) (Batch Acts there records) is other))
-task_once name rows (Batch Declarations file db) (Report kind there) is other = absurd (omega (arith, clash name rows (Batch Declarations file db) (Report kind there) is other))
-task_once name rows (Batch Declarations file db) (Check there) is other = absurd (omega (arith, clash name rows (Batch Declarations file db) (Check there) is other))
-task_once name rows (Batch Acts file db) (Serve m s) is other = absurd (omega (arith, clash name rows (Batch Acts file db) (Serve m s) is other))
-task_once name rows (Batch Acts file db) (Pipe s) is other = absurd (omega (arith, clash name rows (Batch Acts file db) (Pipe s) is other))
-task_once name rows (Batch Acts file db) (Batch Declarations there records) is other = absurd (omega (arith, clash name rows (Batch Acts file db) (Batch Declarations there records) is other))
-task_once name rows (Batch Acts file db) (Batch Acts there records) is other = (refl, same_value _ _ _ is.1 other.1, same_value _ _ _ is.2 other.2)
-task_once name rows (Batch Acts file db) (Report kind there) is other = absurd (omega (arith, clash name rows (Batch Acts file db) (Report kind there) is other))
-task_once name rows (Batch Acts file db) (Check there) is other = absurd (omega (arith, clash name rows (Batch Acts file db) (Check there) is other))
-task_once name rows (Report report path) (Serve m s) is other = absurd (omega (arith, clash name rows (Report report path) (Serve m s) is other))
-task_once name rows (Report report path) (Pipe s) is other = absurd (omega (arith, clash name rows (Report report path) (Pipe s) is other))
-task_once name rows (Report report path) (Batch Declarations there records) is other = absurd (omega (arith, clash name rows (Report report path) (Batch Declarations there records) is other))
-task_once name rows (Report report path) (Batch Acts there records) is other = absurd (omega (arith, clash name rows (Report report path) (Batch Acts there records) is other))
+task_once name rows (Serve l r j) (Pipe s k) is other = absurd (omega (arith, clash name rows (Serve l r j) (Pipe s k) is other))
+task_once name rows (Serve l r j) (Batch Declarations there records k) is other = absurd (omega (arith, clash name rows (Serve l r j) (Batch Declarations there records k) is other))
+task_once name rows (Serve l r j) (Batch Acts there records k) is other = absurd (omega (arith, clash name rows (Serve l r j) (Batch Acts there records k) is other))
+task_once name rows (Serve l r j) (Report kind there) is other = absurd (omega (arith, clash name rows (Serve l r j) (Report kind there) is other))
+task_once name rows (Serve l r j) (Check there) is other = absurd (omega (arith, clash name rows (Serve l r j) (Check there) is other))
+task_once name rows (Pipe r j) (Serve m s k) is other = absurd (omega (arith, clash name rows (Pipe r j) (Serve m s k) is other))
+task_once name rows (Pipe r j) (Pipe s k) is other = (records_once r s _ _ is.1 other.1, is.2 ∙ sym other.2)
+task_once name rows (Pipe r j) (Batch Declarations there records k) is other = absurd (omega (arith, clash name rows (Pipe r j) (Batch Declarations there records k) is other))
+task_once name rows (Pipe r j) (Batch Acts there records k) is other = absurd (omega (arith, clash name rows (Pipe r j) (Batch Acts there records k) is other))
+task_once name rows (Pipe r j) (Report kind there) is other = absurd (omega (arith, clash name rows (Pipe r j) (Report kind there) is other))
+task_once name rows (Pipe r j) (Check there) is other = absurd (omega (arith, clash name rows (Pipe r j) (Check there) is other))
+task_once name rows (Batch Declarations file db j) (Serve m s k) is other = absurd (omega (arith, clash name rows (Batch Declarations file db j) (Serve m s k) is other))
+task_once name rows (Batch Declarations file db j) (Pipe s k) is other = absurd (omega (arith, clash name rows (Batch Declarations file db j) (Pipe s k) is other))
+task_once name rows (Batch Declarations file db j) (Batch Declarations there records k) is other = (refl, same_value _ _ _ is.1 other.1, same_value _ _ _ is.2 other.2, is.3 ∙ sym other.3)
+task_once name rows (Batch Declarations file db j) (Batch Acts there records k) is other = absurd (omega (arith, clash name rows (Batch Declarations file db j) (Batch Acts there records k) is other))
+task_once name rows (Batch Declarations file db j) (Report kind there) is other = absurd (omega (arith, clash name rows (Batch Declarations file db j) (Report kind there) is other))
+task_once name rows (Batch Declarations file db j) (Check there) is other = absurd (omega (arith, clash name rows (Batch Declarations file db j) (Check there) is other))
+task_once name rows (Batch Acts file db j) (Serve m s k) is other = absurd (omega (arith, clash name rows (Batch Acts file db j) (Serve m s k) is other))
+task_once name rows (Batch Acts file db j) (Pipe s k) is other = absurd (omega (arith, clash name rows (Batch Acts file db j) (Pipe s k) is other))
+task_once name rows (Batch Acts file db j) (Batch Declarations there records k) is other = absurd (omega (arith, clash name rows (Batch Acts file db j) (Batch Declarations there records k) is other))
+task_once name rows (Batch Acts file db j) (Batch Acts there records k) is other = (refl, same_value _ _ _ is.1 other.1, same_value _ _ _ is.2 other.2, is.3 ∙ sym other.3)
+task_once name rows (Batch Acts file db j) (Report kind there) is other = absurd (omega (arith, clash name rows (Batch Acts file db j) (Report kind there) is other))
+task_once name rows (Batch Acts file db j) (Check there) is other = absurd (omega (arith, clash name rows (Batch Acts file db j) (Check there) is other))
+task_once name rows (Report report path) (Serve m s k) is other = absurd (omega (arith, clash name rows (Report report path) (Serve m s k) is other))
+task_once name rows (Report report path) (Pipe s k) is other = absurd (omega (arith, clash name rows (Report report path) (Pipe s k) is other))
+task_once name rows (Report report path) (Batch Declarations there records k) is other = absurd (omega (arith, clash name rows (Report report path) (Batch Declarations there records k) is other))
+task_once name rows (Report report path) (Batch Acts there records k) is other = absurd (omega (arith, clash name rows (Report report path) (Batch Acts there records k) is other))
 task_once name rows (Report report path) (Report kind there) is other = (report_once _ _ report kind is.1 other.1, same_value _ _ _ is.2 other.2)
 task_once name rows (Report report path) (Check there) is other = absurd (omega (arith, clash name rows (Report report path) (Check there) is other))
-task_once name rows (Check path) (Serve m s) is other = absurd (omega (arith, clash name rows (Check path) (Serve m s) is other))
-task_once name rows (Check path) (Pipe s) is other = absurd (omega (arith, clash name rows (Check path) (Pipe s) is other))
-task_once name rows (Check path) (Batch Declarations there records) is other = absurd (omega (arith, clash name rows (Check path) (Batch Declarations there records) is other))
-task_once name rows (Check path) (Batch Acts there records) is other = absurd (omega (arith, clash name rows (Check path) (Batch Acts there records) is other))
+task_once name rows (Check path) (Serve m s k) is other = absurd (omega (arith, clash name rows (Check path) (Serve m s k) is other))
+task_once name rows (Check path) (Pipe s k) is other = absurd (omega (arith, clash name rows (Check path) (Pipe s k) is other))
+task_once name rows (Check path) (Batch Declarations there records k) is other = absurd (omega (arith, clash name rows (Check path) (Batch Declarations there records k) is other))
+task_once name rows (Check path) (Batch Acts there records k) is other = absurd (omega (arith, clash name rows (Check path) (Batch Acts there records k) is other))
 task_once name rows (Check path) (Report kind there) is other = absurd (omega (arith, clash name rows (Check path) (Report kind there) is other))
 task_once name rows (Check path) (Check there) is other = same_value _ _ _ is.1 other.1
 
 -- no task's command begins with the letter of `migrate`, of `extract` or of `join`
 task_letters : (task : Task) → (first_letter task ≢ 109) × (first_letter task ≢ 101) × (first_letter task ≢ 106)
-task_letters (Serve l r) = (λ e. omega (arith, e), λ e. omega (arith, e), λ e. omega (arith, e))
-task_letters (Pipe r) = (λ e. omega (arith, e), λ e. omega (arith, e), λ e. omega (arith, e))
-task_letters (Batch Declarations file db) = (λ e. omega (arith, e), λ e. omega (arith, e), λ e. omega (arith, e))
-task_letters (Batch Acts file db) = (λ e. omega (arith, e), λ e. omega (arith, e), λ e. omega (arith, e))
+task_letters (Serve l r j) = (λ e. omega (arith, e), λ e. omega (arith, e), λ e. omega (arith, e))
+task_letters (Pipe r j) = (λ e. omega (arith, e), λ e. omega (arith, e), λ e. omega (arith, e))
+task_letters (Batch Declarations file db j) = (λ e. omega (arith, e), λ e. omega (arith, e), λ e. omega (arith, e))
+task_letters (Batch Acts file db j) = (λ e. omega (arith, e), λ e. omega (arith, e), λ e. omega (arith, e))
 task_letters (Report report path) = (λ e. omega (arith, e), λ e. omega (arith, e), λ e. omega (arith, e))
 task_letters (Check path) = (λ e. omega (arith, e), λ e. omega (arith, e), λ e. omega (arith, e))
 

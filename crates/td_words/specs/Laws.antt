@@ -1,5 +1,5 @@
 -- What words ask for is one job.
-use Rattle.std.specs.Prelude.{◌≡◌, List, string_bytes, ⊤}
+use Rattle.std.specs.Prelude.{◌≡◌, List, Option, option_map, string_bytes, String, ⊤}
 use Rattle.clap.specs.Words.{Text}
 use Rattle.td_words.specs.Words.{AsksFor}
 use Rattle.td_words.specs.declared.words.Job.{Job}
@@ -18,14 +18,18 @@ AreSameRecords (File path) (File other) = string_bytes path ≡ string_bytes oth
 AreSameRecords (NewFile path) (NewFile other) = string_bytes path ≡ string_bytes other
 AreSameRecords _ _ = ⊥
 
+-- the journal is kept in the same file, or none is
+abbrev pub IsSameJournal : {A : Type 0} → Option (String A) → Option (String A) → Type 0
+IsSameJournal journal other = option_map string_bytes journal ≡ option_map string_bytes other
+
 -- two tasks are the same: the paths of files are compared as texts
 abbrev pub IsSameTask : Task → Task → Type 0
-IsSameTask (Serve listening records) (Serve other others) =
+IsSameTask (Serve listening records journal) (Serve other others other_journal) =
     (listening.port ≡ other.port) × (listening.connections ≡ other.connections) × (listening.idle ≡ other.idle)
-    × AreSameRecords records others
-IsSameTask (Pipe records) (Pipe others) = AreSameRecords records others
-IsSameTask (Batch kind file db) (Batch other there records) =
-    (kind ≡ other) × (string_bytes file ≡ string_bytes there) × (string_bytes db ≡ string_bytes records)
+    × AreSameRecords records others × IsSameJournal journal other_journal
+IsSameTask (Pipe records journal) (Pipe others other_journal) = AreSameRecords records others × IsSameJournal journal other_journal
+IsSameTask (Batch kind file db journal) (Batch other there records other_journal) =
+    (kind ≡ other) × (string_bytes file ≡ string_bytes there) × (string_bytes db ≡ string_bytes records) × IsSameJournal journal other_journal
 IsSameTask (Report report path) (Report other there) = (report ≡ other) × (string_bytes path ≡ string_bytes there)
 IsSameTask (Check path) (Check other) = string_bytes path ≡ string_bytes other
 IsSameTask _ _ = ⊥

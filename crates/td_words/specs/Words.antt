@@ -1,5 +1,5 @@
 -- What the words of the command line ask for.
-use Rattle.std.specs.Prelude.{◌≡◌, ◌≢◌, ◌⊎◌, ℕ, ◌≤◌, ℤ, pos, List, [], ◌∷◌, length, All, codes, drop, slice_get, take, true, string_bytes, Option, None, Some, ⊤}
+use Rattle.std.specs.Prelude.{◌≡◌, ◌≢◌, ◌⊎◌, ℕ, ◌≤◌, ℤ, pos, List, [], ◌∷◌, length, All, codes, drop, slice_get, take, true, string_bytes, String, Option, None, Some, option_map, ⊤}
 use Rattle.std.specs.Char.{IsAsciiDigit}
 use Rattle.ascii_text.specs.Digits.{digits_value}
 use Rattle.clap.specs.Words.{App, IsAmong, Row, Rule, Text, fault_of, first_of, new_app, new_rule, subcommand_of, with_rule, with_subcommand}
@@ -43,11 +43,13 @@ new_file_rule =
 abbrev pub with_country : App → App
 with_country app = with_rule app (required_rule (codes "country"))
 
--- and those of the commands that serve requests: where the records stand, and perhaps the moment of all requests
+-- and those of the commands that serve requests: where the records stand, and perhaps the moment of all requests and a journal
 abbrev pub with_office : App → App
 with_office app =
-    with_rule (with_rule (with_rule (with_country app) (option_rule (codes "db"))) new_file_rule)
-    (option_rule (codes "at"))
+    with_rule
+    (with_rule (with_rule (with_rule (with_country app) (option_rule (codes "db"))) new_file_rule)
+    (option_rule (codes "at")))
+    (option_rule (codes "journal"))
 
 -- the commands of the program, and the program that has them
 abbrev pub serve_app : App
@@ -66,9 +68,11 @@ abbrev pub batch_app : Text → App
 batch_app name =
     with_rule
     (with_rule
+    (with_rule
     (with_rule (with_country (new_app name)) (required_rule (codes "db")))
     (required_rule (codes "file")))
-    (option_rule (codes "at"))
+    (option_rule (codes "at")))
+    (option_rule (codes "journal"))
 
 abbrev pub batch_name : BatchKind → Text
 batch_name Declarations = codes "batch"
@@ -161,6 +165,10 @@ AreRecordsBy (NewFile path) db new = (db ≡ Some (string_bytes path)) × (new �
 abbrev pub AreRecords : List Row → Records → Type 0
 AreRecords rows records = AreRecordsBy records (first_of (codes "db") rows) (first_of (codes "new") rows)
 
+-- the path of the journal, if one is kept
+abbrev pub IsJournal : {A : Type 0} → List Row → Option (String A) → Type 0
+IsJournal rows journal = option_map string_bytes journal ≡ first_of (codes "journal") rows
+
 -- The most seconds that a read of a connection waits, from 1 to 3,600; where the option isn't there, 2.
 abbrev pub IsIdleOf : Option Text → ℕ → Type 0
 IsIdleOf None n = n ≡ 2
@@ -208,16 +216,16 @@ IsTransfer name rows (Join into from) =
     (name ≡ codes "join") × (first_of (codes "db") rows ≡ Some (string_bytes into))
     × (first_of (codes "with") rows ≡ Some (string_bytes from))
 
--- The task of this name, with the values of its own options: where the records stand, of `serve` a port, a number of
--- connections and perhaps an idle limit, of `batch` and `acts` the file with the rows, of `report` which it is, and of it and of
--- `check` the file.
+-- The task of this name, with the values of its own options: where the records stand and perhaps a journal, of `serve` a port, a
+-- number of connections and perhaps an idle limit, of `batch` and `acts` the file with the rows, of `report` which it is, and of it
+-- and of `check` the file.
 abbrev pub IsTask : Text → List Row → Task → Type 0
-IsTask name rows (Pipe records) = (name ≡ codes "pipe") × AreRecords rows records
-IsTask name rows (Serve listening records) =
-    (name ≡ codes "serve") × IsListening rows listening × AreRecords rows records
-IsTask name rows (Batch kind file db) =
+IsTask name rows (Pipe records journal) = (name ≡ codes "pipe") × AreRecords rows records × IsJournal rows journal
+IsTask name rows (Serve listening records journal) =
+    (name ≡ codes "serve") × IsListening rows listening × AreRecords rows records × IsJournal rows journal
+IsTask name rows (Batch kind file db journal) =
     (name ≡ batch_name kind) × (first_of (codes "file") rows ≡ Some (string_bytes file))
-    × (first_of (codes "db") rows ≡ Some (string_bytes db))
+    × (first_of (codes "db") rows ≡ Some (string_bytes db)) × IsJournal rows journal
 IsTask name rows (Report report path) =
     (name ≡ codes "report") × IsReport rows report × (first_of (codes "db") rows ≡ Some (string_bytes path))
 IsTask name rows (Check path) =

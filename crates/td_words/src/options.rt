@@ -34,6 +34,8 @@ pub(crate) const INTO: &str = "into";
 
 pub(crate) const WITH: &str = "with";
 
+pub(crate) const JOURNAL: &str = "journal";
+
 const SERVE: &str = "serve";
 
 const PIPE: &str = "pipe";
@@ -61,15 +63,18 @@ const RECORDS: &str = "The file with the records, an SQLite database";
 /// How the jobs are asked for, each alone and all.
 const SERVE_USAGE: &str =
     "transit-desk serve --country <CC> --port <N> --connections <K> [--idle <SECONDS>]
-         [--db <FILE> [--new]] [--at <SECONDS>]";
+         [--db <FILE> [--new]] [--journal <CSV>] [--at <SECONDS>]";
 
-const PIPE_USAGE: &str = "transit-desk pipe --country <CC> [--db <FILE> [--new]] [--at <SECONDS>]";
+const PIPE_USAGE: &str =
+    "transit-desk pipe --country <CC> [--db <FILE> [--new]] [--journal <CSV>] [--at <SECONDS>]";
 
 const BATCH_USAGE: &str =
-    "transit-desk batch --country <CC> --db <FILE> --file <CSV> [--at <SECONDS>]";
+    "transit-desk batch --country <CC> --db <FILE> --file <CSV> [--journal <CSV>]
+         [--at <SECONDS>]";
 
 const ACTS_USAGE: &str =
-    "transit-desk acts --country <CC> --db <FILE> --file <CSV> [--at <SECONDS>]";
+    "transit-desk acts --country <CC> --db <FILE> --file <CSV> [--journal <CSV>]
+         [--at <SECONDS>]";
 
 const REPORT_USAGE: &str = "transit-desk report <KIND> --country <CC> --db <FILE> [--day <D>]";
 
@@ -84,10 +89,13 @@ const JOIN_USAGE: &str = "transit-desk join --country <CC> --db <FILE> --with <F
 
 const USAGE: &str =
     "transit-desk serve --country <CC> --port <N> --connections <K> [--idle <SECONDS>]
-         [--db <FILE> [--new]] [--at <SECONDS>]
-       transit-desk pipe --country <CC> [--db <FILE> [--new]] [--at <SECONDS>]
-       transit-desk batch --country <CC> --db <FILE> --file <CSV> [--at <SECONDS>]
-       transit-desk acts --country <CC> --db <FILE> --file <CSV> [--at <SECONDS>]
+         [--db <FILE> [--new]] [--journal <CSV>] [--at <SECONDS>]
+       transit-desk pipe --country <CC> [--db <FILE> [--new]] [--journal <CSV>]
+         [--at <SECONDS>]
+       transit-desk batch --country <CC> --db <FILE> --file <CSV> [--journal <CSV>]
+         [--at <SECONDS>]
+       transit-desk acts --country <CC> --db <FILE> --file <CSV> [--journal <CSV>]
+         [--at <SECONDS>]
        transit-desk report <KIND> --country <CC> --db <FILE> [--day <D>]
        transit-desk check --country <CC> --db <FILE>
        transit-desk migrate --db <FILE>
@@ -98,6 +106,8 @@ const USAGE: &str =
 const NOTES: &str =
     "Without --db the desk starts empty, and it is gone when the program ends. With --db its
 records stand in that file, an SQLite database; --new makes the desk's tables in it first.
+With --journal a row of each accepted change is written to that file, and is on the disk
+before the change is done; a file that isn't there is made.
 Moments are from 2000 to 2099: a request at any other is told clock-range.
 
 Examples:
@@ -215,6 +225,19 @@ fn moment_option<'a>(alloc: Global) -> Arg<'a>
     )
 }
 
+// The file of the journal.
+fn journal_option<'a>(alloc: Global) -> Arg<'a>
+    ensures rule { rule_of result ≡ option_rule (codes "journal") }
+    ensures local { result.global ≡ false }
+{
+    option(
+        alloc,
+        JOURNAL,
+        "CSV",
+        "The file of the journal of accepted changes; else none is kept",
+    )
+}
+
 // A command of that name that serves requests, with the options that each of those has.
 fn job_command<'a>(
     alloc: Global,
@@ -232,7 +255,7 @@ fn job_command<'a>(
     );
     let command = with_arg(country_command(alloc, name, about, usage), records);
     let command = with_arg(command, new_option(alloc));
-    with_arg(command, moment_option(alloc))
+    with_arg(with_arg(command, moment_option(alloc)), journal_option(alloc))
 }
 
 fn serve_command<'a>(alloc: Global) -> Result<Command<'a>, AllocError>
@@ -285,7 +308,8 @@ fn batch_command<'a>(
     let records = required_option(alloc, DB, "FILE", RECORDS);
     let rows = required_option(alloc, FILE, "CSV", "The file with the rows, as CSV");
     let command = with_arg(country_command(alloc, name, about, usage), records);
-    with_arg(with_arg(command, rows), moment_option(alloc))
+    let command = with_arg(with_arg(command, rows), moment_option(alloc));
+    with_arg(command, journal_option(alloc))
 }
 
 fn declarations_command<'a>(alloc: Global) -> Result<Command<'a>, AllocError>

@@ -5,10 +5,11 @@ ghost use Rattle.clap.specs.Values.{kind_of};
 ghost use Rattle.clap.specs.Words.{first_of, found_of, rows_of};
 ghost use Rattle.td_words.specs.declared.words.HolderRange.{HolderRange};
 ghost use Rattle.td_words.specs.declared.words.NoJob.TheVariants.{NoMemory};
-ghost use Rattle.td_words.specs.Words.{AreRecords, AskForHelpOfHelp, AsksFor, IsCountryIn, IsDayOf, IsDecimal, IsIdleOf, IsJob, IsListening, IsMomentOf, IsNoJob, IsNoneSuch, IsNumberOf, IsOffice, IsRange, IsRangeOf, IsReport, IsTask, IsTold, IsTransfer, batch_name};
+ghost use Rattle.td_words.specs.Words.{AreRecords, AskForHelpOfHelp, AsksFor, IsCountryIn, IsDayOf, IsDecimal, IsIdleOf, IsJob, IsJournal, IsListening, IsMomentOf, IsNoJob, IsNoneSuch, IsNumberOf, IsOffice, IsRange, IsRangeOf, IsReport, IsTask, IsTold, IsTransfer, batch_name};
 
 use crate::options::{
-    AT, CONNECTIONS, COUNTRY, DAY, DB, FILE, HOLDERS, IDLE, INTO, KIND, NEW, PORT, WITH, program,
+    AT, CONNECTIONS, COUNTRY, DAY, DB, FILE, HOLDERS, IDLE, INTO, JOURNAL, KIND, NEW, PORT, WITH,
+    program,
 };
 use ascii_text::is_digits;
 use clap::ArgMatches;
@@ -56,16 +57,29 @@ pub enum ReportKind {
     Guarantees,
 }
 
-/// What is done with a desk.
+/// What is done with a desk. The journal of one that makes changes is the file at this path; with none, it keeps none.
 #[derive(Debug, PartialEq, Eq, Drop)]
 pub enum Task {
     /// Connections are served.
-    Serve(Listening, Records),
+    Serve {
+        listening: Listening,
+        records: Records,
+        journal: Option<String>,
+    },
     /// One stream of requests is served, from standard input to standard output.
-    Pipe(Records),
-    /// The rows of a file are done, one after another: what they are, the file with them (CSV), and the file with the
-    /// records.
-    Batch(BatchKind, String, String),
+    Pipe {
+        records: Records,
+        journal: Option<String>,
+    },
+    /// The rows of a file are done, one after another.
+    Batch {
+        kind: BatchKind,
+        /// The file with the rows (CSV).
+        rows: String,
+        /// The file with the records.
+        records: String,
+        journal: Option<String>,
+    },
     /// A report on the records in the file at this path is printed.
     Report(ReportKind, String),
     /// The file at this path is tested: whether a desk of the country can be opened over it.
@@ -384,9 +398,19 @@ fn task_in(alloc: Global, name: &str, matches: &ArgMatches<'_>) -> Result<Task, 
     match name {
         "serve" => {
             let records = records_in(alloc, matches)?;
-            Ok(Task::Serve(listening_in(alloc, matches)?, records))
+            let listening = listening_in(alloc, matches)?;
+            let journal = journal_in(alloc, matches)?;
+            Ok(Task::Serve {
+                listening,
+                records,
+                journal,
+            })
         }
-        "pipe" => Ok(Task::Pipe(records_in(alloc, matches)?)),
+        "pipe" => {
+            let records = records_in(alloc, matches)?;
+            let journal = journal_in(alloc, matches)?;
+            Ok(Task::Pipe { records, journal })
+        }
         "batch" => batch_in(alloc, matches, BatchKind::Declarations),
         "acts" => batch_in(alloc, matches, BatchKind::Acts),
         "report" => {
@@ -422,8 +446,12 @@ fn batch_in(alloc: Global, matches: &ArgMatches<'_>, kind: BatchKind) -> Result<
     ensures task { IfOk result (IsTask (batch_name kind) (rows_of (found_of matches.now))) }
     ensures memory { IfErr result (λ e. e ≡ NoMemory) }
 {
-    let file = file_in(alloc, matches, FILE)?;
-    Ok(Task::Batch(kind, file, file_in(alloc, matches, DB)?))
+    Ok(Task::Batch {
+        kind,
+        rows: file_in(alloc, matches, FILE)?,
+        records: file_in(alloc, matches, DB)?,
+        journal: journal_in(alloc, matches)?,
+    })
 }
 
 // The report that is asked for.
@@ -520,6 +548,17 @@ fn file_in(alloc: Global, matches: &ArgMatches<'_>, name: &str) -> Result<String
     match value_of(matches, name) {
         Some(path) => Ok(String::from_str(alloc, path)?),
         None => Err(NoJob::NoMemory),
+    }
+}
+
+// The path of the journal, if one is kept.
+fn journal_in(alloc: Global, matches: &ArgMatches<'_>) -> Result<Option<String>, NoJob>
+    ensures journal { IfOk result (IsJournal (rows_of (found_of matches.now))) }
+    ensures memory { IfErr result (λ e. e ≡ NoMemory) }
+{
+    match value_of(matches, JOURNAL) {
+        Some(path) => Ok(Some(String::from_str(alloc, path)?)),
+        None => Ok(None),
     }
 }
 

@@ -8,5 +8,7 @@ returns c =
     let bare = with_country (new_app c.args.name.now) in
     let records = option_rule (codes "db") in
     let first = c.with_arg-command.ensures bare records c.country_command.ensures c.option-records.ensures.rule c.option-records.ensures.local in
+    let at = option_rule (codes "at") in
     let second = c.with_arg-command-2.ensures (with_rule bare records) new_file_rule first c.new_option.ensures.rule c.new_option.ensures.local in
-    c.with_arg.ensures (with_rule (with_rule bare records) new_file_rule) (option_rule (codes "at")) second c.moment_option.ensures.rule c.moment_option.ensures.local
+    let third = c.with_arg.ensures (with_rule (with_rule bare records) new_file_rule) at second c.moment_option.ensures.rule c.moment_option.ensures.local in
+    c.with_arg-2.ensures (with_rule (with_rule (with_rule bare records) new_file_rule) at) (option_rule (codes "journal")) third c.journal_option.ensures.rule c.journal_option.ensures.local

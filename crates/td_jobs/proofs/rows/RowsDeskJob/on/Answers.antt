@@ -6,7 +6,7 @@ use Rattle.td_jobs.proofs.rows.RowsDeskJob.on.Goals as goal
 
 pub returns : goal.returns
 returns g c = λ ready.
-    let rows = c.args.self.now in
+    let rows = c.args.self in
     let moment = c.moment_by-moment.result in
     let fits : SFits w64 moment = search rules in (
       refl,
