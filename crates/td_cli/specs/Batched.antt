@@ -19,7 +19,7 @@ use Rattle.td_jobs.specs.Batched.{HasDoneRows, rows_in}
 use Rattle.td_machine.specs.Machine.{Around, HasRead, IsNotRead}
 use Rattle.td_machine.specs.declared.machine.ReadError.{ReadError}
 use Rattle.td_machine.specs.Drive.{KnownDrive}
-use Rattle.td_cli.specs.AtDesk.{AtDesk}
+use Rattle.td_cli.specs.Journaled.{WithJournal}
 use Rattle.td_cli.specs.Exits.{IsEnded, IsTold, of_file, of_rows, of_stop, of_read_error}
 use Rattle.td_cli.specs.declared.exits.Cause.TheVariants.{Of}
 use Rattle.td_cli.specs.declared.exits.Word.TheVariants as word
@@ -47,36 +47,36 @@ IsBatchTold contents said (Ok r) out out_left errors errors_left status = IsRunT
 IsBatchTold contents said (Err why) out out_left errors errors_left status =
     (out_left ≡ out) × IsEnded said (Some (of_file why)) errors errors_left status
 
--- Rows were done at a desk whose records stand there, in this country, at this moment or at one of the machine's clock, and what
--- became of them was told; or there was no desk, and the clock wasn't asked.
-abbrev pub IsBatchAtDesk : {M W E V S : Type 0} {disk : Ghosts S} → (M → ℤ → M → Type 0) → (W → Option (List ℕ)) → (E → Option (List ℕ)) → KnownDrive V S
-    → List ℕ → Option ℤ → Records → BatchKind → List Command → Counted W → Counted W → Counted E → Counted E
-    → FileHeld V disk → FileHeld V disk → M → M → ℕ → Type 0
-IsBatchAtDesk ticks contents said drive country at records which commands out out_left errors errors_left before file machine machine_left status =
+-- Rows were done at a desk whose records stand there, and which keeps this journal, if one is named; in this country, at this moment or
+-- at one of the machine's clock. What became of them was told; or there was no desk, and the clock wasn't asked.
+abbrev pub IsBatchAtDesk : {M W E V S O T : Type 0} {disk : Ghosts S} {others : Ghosts T} → (M → ℤ → M → Type 0) → (W → Option (List ℕ)) → (E → Option (List ℕ))
+    → KnownDrive V S → KnownDrive O T → List ℕ → Option ℤ → Records → Option (List ℕ) → BatchKind → List Command
+    → Counted W → Counted W → Counted E → Counted E → FileHeld V disk → FileHeld V disk → FileHeld O others → FileHeld O others → M → M → ℕ → Type 0
+IsBatchAtDesk ticks contents said drive other_drive country at records journal which commands out out_left errors errors_left before file other other_left machine machine_left status =
     (end : Result BatchRun DeskFault)
-    × AtDesk drive country records
+    × WithJournal drive other_drive country records journal
     (λ D view opened left r. HasDoneRows view opened left ticks at which commands machine machine_left r)
-    (machine_left ≡ machine) before file end
+    (machine_left ≡ machine) before file other other_left end
     × IsBatchTold contents said end out out_left errors errors_left status
 
--- What came of the bytes of a file. They aren't wholly rows: then nothing was printed, the clock wasn't asked, and the desk's file
--- wasn't opened. Or they are these rows, which were done at the desk.
-abbrev pub AreRowsBatched : {M W E V S : Type 0} {disk : Ghosts S} → (M → ℤ → M → Type 0) → (W → Option (List ℕ)) → (E → Option (List ℕ)) → KnownDrive V S
-    → List ℕ → Option ℤ → Records → BatchKind → List ℕ → Counted W → Counted W → Counted E → Counted E
-    → FileHeld V disk → FileHeld V disk → M → M → ℕ → Type 0
-AreRowsBatched ticks contents said drive country at records which bytes out out_left errors errors_left before file machine machine_left status =
+-- What came of the bytes of a file. They aren't wholly rows: then nothing was printed, the clock wasn't asked, and neither the desk's file
+-- nor the other was opened. Or they are these rows, which were done at the desk.
+abbrev pub AreRowsBatched : {M W E V S O T : Type 0} {disk : Ghosts S} {others : Ghosts T} → (M → ℤ → M → Type 0) → (W → Option (List ℕ)) → (E → Option (List ℕ))
+    → KnownDrive V S → KnownDrive O T → List ℕ → Option ℤ → Records → Option (List ℕ) → BatchKind → List ℕ
+    → Counted W → Counted W → Counted E → Counted E → FileHeld V disk → FileHeld V disk → FileHeld O others → FileHeld O others → M → M → ℕ → Type 0
+AreRowsBatched ticks contents said drive other_drive country at records journal which bytes out out_left errors errors_left before file other other_left machine machine_left status =
     ((why : BatchFault) × Tells (rows_in which bytes) why × (machine_left ≡ machine)
-    × (out_left ≡ out) × (file ≡ before) × IsEnded said (Some (of_rows why)) errors errors_left status)
+    × (out_left ≡ out) × (file ≡ before) × (other_left ≡ other) × IsEnded said (Some (of_rows why)) errors errors_left status)
     ⊎ ((commands : List Command) × (rows_in which bytes ≡ Ok commands)
-    × IsBatchAtDesk ticks contents said drive country at records which commands out out_left errors errors_left before file machine machine_left status)
+    × IsBatchAtDesk ticks contents said drive other_drive country at records journal which commands out out_left errors errors_left before file other other_left machine machine_left status)
 
--- The file of rows at this path was done. It couldn't be read: then nothing was printed, and the desk's file wasn't opened. Or these
+-- The file of rows at this path was done. It couldn't be read: then nothing was printed, and no other file was opened. Or these
 -- are its bytes, and this came of them.
-abbrev pub IsBatched : {M L Reads Writes W E V S : Type 0} {disk : Ghosts S} → Around M L Reads Writes → (W → Option (List ℕ)) → (E → Option (List ℕ))
-    → KnownDrive V S → List ℕ → Option ℤ → Records → BatchKind → List ℕ → Counted W → Counted W → Counted E → Counted E
-    → FileHeld V disk → FileHeld V disk → M → M → ℕ → Type 0
-IsBatched {M} around contents said drive country at records which csv out out_left errors errors_left before file machine machine_left status =
+abbrev pub IsBatched : {M L Reads Writes W E V S O T : Type 0} {disk : Ghosts S} {others : Ghosts T} → Around M L Reads Writes → (W → Option (List ℕ))
+    → (E → Option (List ℕ)) → KnownDrive V S → KnownDrive O T → List ℕ → Option ℤ → Records → Option (List ℕ) → BatchKind → List ℕ
+    → Counted W → Counted W → Counted E → Counted E → FileHeld V disk → FileHeld V disk → FileHeld O others → FileHeld O others → M → M → ℕ → Type 0
+IsBatched {M} around contents said drive other_drive country at records journal which csv out out_left errors errors_left before file other other_left machine machine_left status =
     ((why : ReadError) × IsNotRead around.known csv machine machine_left why
-    × (out_left ≡ out) × (file ≡ before) × IsEnded said (Some (of_read_error why)) errors errors_left status)
+    × (out_left ≡ out) × (file ≡ before) × (other_left ≡ other) × IsEnded said (Some (of_read_error why)) errors errors_left status)
     ⊎ ((bytes : List ℕ) × (read : M) × HasRead around.known csv machine bytes read
-    × AreRowsBatched around.ticks contents said drive country at records which bytes out out_left errors errors_left before file read machine_left status)
+    × AreRowsBatched around.ticks contents said drive other_drive country at records journal which bytes out out_left errors errors_left before file other other_left read machine_left status)

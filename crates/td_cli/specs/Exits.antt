@@ -19,8 +19,8 @@ use Rattle.td_files.specs.declared.desks.DeskFault.{DeskFault}
 use Rattle.td_files.specs.declared.desks.DeskFault.TheVariants as desk
 use Rattle.td_files.specs.declared.joins.JoinRefusal.{JoinRefusal}
 use Rattle.td_files.specs.declared.joins.JoinRefusal.TheVariants as join
-use Rattle.td_journal_start.specs.declared.starting.StartFault.{StartFault}
-use Rattle.td_journal_start.specs.declared.starting.StartFault.TheVariants as start
+use Rattle.td_journal_start.specs.declared.refused.StartFault.{StartFault}
+use Rattle.td_journal_start.specs.declared.refused.StartFault.TheVariants as start
 use Rattle.td_machine.specs.declared.machine.ReadError.{ReadError}
 use Rattle.td_machine.specs.declared.machine.ReadError.TheVariants as read_error
 use Rattle.td_jobs.specs.declared.serving.ServingEnd.{ServingEnd}

@@ -6,7 +6,7 @@ use Rattle.td_files.specs.Found.{FileHeld, HasNoJournal, IsJournalAt}
 use Rattle.td_files.specs.declared.desks.DeskFault.{DeskFault}
 use Rattle.td_journal_jobs.specs.Journaling.{HasJournaled}
 use Rattle.td_journal_jobs.specs.declared.journaling.Journaled.{Journaled}
-use Rattle.td_journal_start.specs.declared.starting.StartFault.{StartFault}
+use Rattle.td_journal_start.specs.declared.refused.StartFault.{StartFault}
 use Rattle.td_machine.specs.Drive.{KnownDrive}
 use Rattle.td_words.specs.declared.words.Records.{Records}
 use Rattle.td_cli.specs.AtDesk.{AtDesk}

@@ -2,6 +2,7 @@ pub mod Exits
 pub mod Statuses
 pub mod Desks
 pub mod AtDesk
+pub mod Journaled
 pub mod Batched
 pub mod Migrated
 pub mod Reported

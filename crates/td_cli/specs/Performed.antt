@@ -1,5 +1,5 @@
 -- What the program does with its words, its input and its outputs.
-use Rattle.std.specs.Prelude.{◌≡◌, ◌≢◌, ◌⊎◌, ℕ, ℤ, List, codes, string_bytes, Option, Some, Result, Ok, Err}
+use Rattle.std.specs.Prelude.{◌≡◌, ◌≢◌, ◌⊎◌, ℕ, ℤ, List, codes, string_bytes, Option, Some, option_map, Result, Ok, Err}
 use Rattle.std.specs.IoError.{error_kind}
 use Rattle.std.specs.declared.io.Error.{Error}
 use Rattle.std.specs.declared.io.ErrorKind.TheVariants.{OutOfMemory}
@@ -25,6 +25,7 @@ use Rattle.td_jobs.specs.Piped.{IsPipedAt}
 use Rattle.td_machine.specs.Drive.{KnownDrive}
 use Rattle.td_cli.specs.AtDesk as desks
 use Rattle.td_cli.specs.Batched.{IsBatched}
+use Rattle.td_cli.specs.Journaled.{WithJournal}
 use Rattle.td_cli.specs.Migrated.{IsMigrated}
 use Rattle.td_cli.specs.Reported.{IsReportDone}
 use Rattle.td_cli.specs.Exits.{IsEnded, IsTold, of_file, of_job, of_serving, of_stream}
@@ -33,27 +34,27 @@ use Rattle.td_cli.specs.Transferred.{IsTransferred}
 use Rattle.td_cli.specs.declared.exits.Cause.TheVariants.{Of}
 use Rattle.td_cli.specs.declared.exits.Word.TheVariants.{NoMemory}
 
--- What a job leaves that serves one stream at a desk whose records stand there, in this country and at this moment or by
--- the machine's clock: where there was a desk, the stream was served.
-abbrev pub PipesAs : {M R W V S : Type 0} {disk : Ghosts S} → (M → ℤ → M → Type 0) → (R → Option (List ℕ)) → (W → Option (List ℕ)) → KnownDrive V S
-    → List ℕ → Option ℤ → Records → Counted R → Counted R → Counted W → Counted W → FileHeld V disk → FileHeld V disk
-    → M → M → Result StreamEnd DeskFault → Type 0
-PipesAs ticks remaining contents drive country at records reader reader_left writer writer_left before file machine machine_left end =
-    desks.AtDesk drive country records
+-- What a job leaves that serves one stream at a desk whose records stand there, and which keeps this journal, if one is named; in this
+-- country and at this moment or by the machine's clock. Where there was a desk, the stream was served.
+abbrev pub PipesAs : {M R W V S O T : Type 0} {disk : Ghosts S} {others : Ghosts T} → (M → ℤ → M → Type 0) → (R → Option (List ℕ)) → (W → Option (List ℕ))
+    → KnownDrive V S → KnownDrive O T → List ℕ → Option ℤ → Records → Option (List ℕ) → Counted R → Counted R → Counted W → Counted W
+    → FileHeld V disk → FileHeld V disk → FileHeld O others → FileHeld O others → M → M → Result StreamEnd DeskFault → Type 0
+PipesAs ticks remaining contents drive other_drive country at records journal reader reader_left writer writer_left before file other other_left machine machine_left end =
+    WithJournal drive other_drive country records journal
     (λ D view opened left end.
     IsPipedAt view opened left remaining contents ticks at reader reader_left writer writer_left machine machine_left end)
-    (IsUntouched reader reader_left writer writer_left machine machine_left) before file end
+    (IsUntouched reader reader_left writer writer_left machine machine_left) before file other other_left end
 
--- What a serving leaves at a desk whose records stand there, in this country and at this moment or by the machine's clock:
--- the input isn't read, and where there was a desk, this is said of how the serving ended.
-abbrev pub IsServing : {M L Reads Writes R W V S : Type 0} {disk : Ghosts S} → Around M L Reads Writes → (W → Option (List ℕ)) → KnownDrive V S
-    → List ℕ → Option ℤ → Records → Listening → Counted R → Counted R → Counted W → Counted W → FileHeld V disk → FileHeld V disk
-    → M → M → Result ServingEnd DeskFault → Type 0
-IsServing around contents drive country at records listening reader reader_left writer writer_left before file machine machine_left end =
-    desks.AtDesk drive country records
+-- What a serving leaves at a desk whose records stand there, and which keeps this journal, if one is named; in this country and at this
+-- moment or by the machine's clock: the input isn't read, and where there was a desk, this is said of how the serving ended.
+abbrev pub IsServing : {M L Reads Writes R W V S O T : Type 0} {disk : Ghosts S} {others : Ghosts T} → Around M L Reads Writes → (W → Option (List ℕ))
+    → KnownDrive V S → KnownDrive O T → List ℕ → Option ℤ → Records → Option (List ℕ) → Listening → Counted R → Counted R → Counted W → Counted W
+    → FileHeld V disk → FileHeld V disk → FileHeld O others → FileHeld O others → M → M → Result ServingEnd DeskFault → Type 0
+IsServing around contents drive other_drive country at records journal listening reader reader_left writer writer_left before file other other_left machine machine_left end =
+    WithJournal drive other_drive country records journal
     (λ D view opened left end.
     (reader_left ≡ reader) × ServesAs view opened left contents around at listening writer writer_left end machine machine_left)
-    (IsUntouched reader reader_left writer writer_left machine machine_left) before file end
+    (IsUntouched reader reader_left writer writer_left machine machine_left) before file other other_left end
 
 -- what was found was told: sound where a desk was opened, or why there was none
 abbrev pub IsCheckTold : {W E : Type 0} → (W → Option (List ℕ)) → (E → Option (List ℕ)) → Result (Unit {0}) DeskFault
@@ -73,38 +74,38 @@ IsChecked contents said drive country records out out_left errors errors_left be
 
 -- A task was done, in this country and at this moment or by the machine's clock, and how it ended was told: one stream from the
 -- input to the first writer; connections, for which the input isn't read; a file of rows; a report; or a file was tested. The file is
--- the one at the path that the task names, on its drive, and what a connection to it shows before the task and after it, if one is there. A report and a
--- test ask nothing of the machine.
-abbrev pub IsTaskDone : {M L Reads Writes R W E V S : Type 0} {disk : Ghosts S} → Around M L Reads Writes → (R → Option (List ℕ))
-    → (W → Option (List ℕ)) → (E → Option (List ℕ)) → KnownDrive V S → Task → List ℕ → Option ℤ → Counted R → Counted R → Counted W → Counted W
-    → Counted E → Counted E → FileHeld V disk → FileHeld V disk → M → M → ℕ → Type 0
-IsTaskDone around remaining contents said drive (Pipe records) country at reader reader_left writer writer_left errors errors_left before file machine machine_left status =
+-- the one at the path that the task names, on its drive, and what a connection to it shows before the task and after it, if one is there.
+-- The other is that of a journal. A report and a test ask nothing of the machine, and keep no journal.
+abbrev pub IsTaskDone : {M L Reads Writes R W E V S O T : Type 0} {disk : Ghosts S} {others : Ghosts T} → Around M L Reads Writes → (R → Option (List ℕ))
+    → (W → Option (List ℕ)) → (E → Option (List ℕ)) → KnownDrive V S → KnownDrive O T → Task → List ℕ → Option ℤ → Counted R → Counted R → Counted W → Counted W
+    → Counted E → Counted E → FileHeld V disk → FileHeld V disk → FileHeld O others → FileHeld O others → M → M → ℕ → Type 0
+IsTaskDone around remaining contents said drive other_drive (Pipe records journal) country at reader reader_left writer writer_left errors errors_left before file other other_left machine machine_left status =
     (end : Result StreamEnd DeskFault)
-    × PipesAs around.ticks remaining contents drive country at records reader reader_left writer writer_left before file machine machine_left end
+    × PipesAs around.ticks remaining contents drive other_drive country at records (option_map string_bytes journal) reader reader_left writer writer_left before file other other_left machine machine_left end
     × IsEnded said (of_job of_stream end) errors errors_left status
-IsTaskDone around remaining contents said drive (Serve listening records) country at reader reader_left writer writer_left errors errors_left before file machine machine_left status =
+IsTaskDone around remaining contents said drive other_drive (Serve listening records journal) country at reader reader_left writer writer_left errors errors_left before file other other_left machine machine_left status =
     (end : Result ServingEnd DeskFault)
-    × IsServing around contents drive country at records listening reader reader_left writer writer_left before file machine machine_left end
+    × IsServing around contents drive other_drive country at records (option_map string_bytes journal) listening reader reader_left writer writer_left before file other other_left machine machine_left end
     × IsEnded said (of_job of_serving end) errors errors_left status
-IsTaskDone around remaining contents said drive (Batch which csv path) country at reader reader_left writer writer_left errors errors_left before file machine machine_left status =
+IsTaskDone around remaining contents said drive other_drive (Batch which csv path journal) country at reader reader_left writer writer_left errors errors_left before file other other_left machine machine_left status =
     (reader_left ≡ reader)
-    × IsBatched around contents said drive country at (File path) which (string_bytes csv) writer writer_left errors errors_left before file machine machine_left status
-IsTaskDone around remaining contents said drive (Report kind path) country at reader reader_left writer writer_left errors errors_left before file machine machine_left status =
-    (reader_left ≡ reader) × (machine_left ≡ machine)
+    × IsBatched around contents said drive other_drive country at (File path) (option_map string_bytes journal) which (string_bytes csv) writer writer_left errors errors_left before file other other_left machine machine_left status
+IsTaskDone around remaining contents said drive other_drive (Report kind path) country at reader reader_left writer writer_left errors errors_left before file other other_left machine machine_left status =
+    (reader_left ≡ reader) × (machine_left ≡ machine) × (other_left ≡ other)
     × IsReportDone contents said drive country kind (File path) writer writer_left errors errors_left before file status
-IsTaskDone around remaining contents said drive (Check path) country at reader reader_left writer writer_left errors errors_left before file machine machine_left status =
-    (reader_left ≡ reader) × (machine_left ≡ machine)
+IsTaskDone around remaining contents said drive other_drive (Check path) country at reader reader_left writer writer_left errors errors_left before file other other_left machine machine_left status =
+    (reader_left ≡ reader) × (machine_left ≡ machine) × (other_left ≡ other)
     × IsChecked contents said drive country (File path) writer writer_left errors errors_left before file status
 
 -- A job was done: a task at a desk of an office; or a file was brought to the newest version, or rows were put from one file into
--- another, for which the input isn't read and nothing is asked of the machine. The other file is touched by the last alone.
+-- another, for which the input isn't read and nothing is asked of the machine. The other file is touched by the last, and by a task that
+-- keeps a journal.
 abbrev pub IsDone : {M L Reads Writes R W E V O S T : Type 0} {disk : Ghosts S} {others : Ghosts T} → Around M L Reads Writes
     → (R → Option (List ℕ)) → (W → Option (List ℕ)) → (E → Option (List ℕ)) → KnownDrive V S → KnownDrive O T → Job → Counted R → Counted R
     → Counted W → Counted W → Counted E → Counted E → FileHeld V disk → FileHeld V disk → FileHeld O others → FileHeld O others
     → M → M → ℕ → Type 0
 IsDone around remaining contents said drive other_drive (AtDesk office task) reader reader_left writer writer_left errors errors_left before file other other_left machine machine_left status =
-    (other_left ≡ other)
-    × IsTaskDone around remaining contents said drive task office.country office.at reader reader_left writer writer_left errors errors_left before file machine machine_left status
+    IsTaskDone around remaining contents said drive other_drive task office.country office.at reader reader_left writer writer_left errors errors_left before file other other_left machine machine_left status
 IsDone around remaining contents said drive other_drive (Migrate path) reader reader_left writer writer_left errors errors_left before file other other_left machine machine_left status =
     (reader_left ≡ reader) × (machine_left ≡ machine) × (other_left ≡ other)
     × IsMigrated contents said drive (string_bytes path) writer writer_left errors errors_left before file status

@@ -1,10 +1,10 @@
 //! Batches: a file of rows, done at a desk.
-ghost use Rattle.std.specs.Prelude.{◌≡◌};
+ghost use Rattle.std.specs.Prelude.{◌≡◌, option_map, string_bytes};
 ghost use Rattle.td_jobs.specs.Batched.{commands_of, kind_of};
 ghost use Rattle.td_cli.specs.Batched.{IsBatchAtDesk, IsBatchTold, IsBatched, IsRunTold};
 
-use crate::at_desk::at_desk;
 use crate::exits::{Cause, DONE, FAULT, Word, fault, of_file, of_read_error, of_rows, of_stop};
+use crate::journaling::with_journal;
 use std::alloc::Global;
 use std::io::{Read, Write};
 use td_base::{Counted, write_whole};
@@ -15,22 +15,24 @@ use td_machine::{Drive, Machine, Surroundings};
 use td_words::{BatchKind, Office, Records};
 
 /// Does the rows of the machine's file at the path `csv` at a desk of the office whose records stand there, prints what became
-/// of each, and gives the status. The desk's file isn't opened where the rows can't be read. The input isn't read.
-pub(crate) fn batch<M: Machine, V: Drive, R: Read, W: Write, E: Write>(
+/// of each, and gives the status; where a journal is named, that desk keeps it. No desk's file is opened where the rows can't be read. The input isn't read.
+pub(crate) fn batch<M: Machine, V: Drive, O: Drive, R: Read, W: Write, E: Write>(
     alloc: Global,
     machine: &mut M,
     office: Office,
     kind: BatchKind,
     csv: &str,
     records: &Records,
+    journal: &Option<String>,
     file: &mut DeskFile<V>,
+    other: &mut DeskFile<O>,
     input: &mut Counted<R>,
     out: &mut Counted<W>,
     errors: &mut Counted<E>,
 ) -> u8
     ensures unread { input.new ≡ input.old }
-    ensures done { IsBatched ⟦<M as Surroundings>⟧.around W.contents E.contents V.known office.country office.at records.now kind
-        csv.now out.old out.new errors.old errors.new file.old file.new machine.old machine.new result }
+    ensures done { IsBatched ⟦<M as Surroundings>⟧.around W.contents E.contents V.known O.known office.country office.at records.now
+        (option_map string_bytes journal.now) kind csv.now out.old out.new errors.old errors.new file.old file.new other.old other.new machine.old machine.new result }
 {
     let bytes = match machine.read_file(alloc, csv) {
         Ok(bytes) => bytes,
@@ -38,29 +40,33 @@ pub(crate) fn batch<M: Machine, V: Drive, R: Read, W: Write, E: Write>(
     };
     match Rows::read(alloc, kind, &bytes) {
         Ok(rows) => do_rows(
-            alloc, machine, office, &rows, records, file, input, out, errors,
+            alloc, machine, office, rows, records, journal, file, other, input, out, errors,
         ),
         Err(why) => fault(alloc, of_rows(why), errors),
     }
 }
 
 // Does the rows at the desk, and tells what became of them.
-fn do_rows<M: Machine, V: Drive, R: Read, W: Write, E: Write>(
+fn do_rows<M: Machine, V: Drive, O: Drive, R: Read, W: Write, E: Write>(
     alloc: Global,
     machine: &mut M,
     office: Office,
-    rows: &Rows,
+    rows: Rows,
     records: &Records,
+    journal: &Option<String>,
     file: &mut DeskFile<V>,
+    other: &mut DeskFile<O>,
     input: &mut Counted<R>,
     out: &mut Counted<W>,
     errors: &mut Counted<E>,
 ) -> u8
     ensures unread { input.new ≡ input.old }
-    ensures done { IsBatchAtDesk M.ticks W.contents E.contents V.known office.country office.at records.now (kind_of rows.now) (commands_of rows.now)
-        out.old out.new errors.old errors.new file.old file.new machine.old machine.new result }
+    ensures done { IsBatchAtDesk M.ticks W.contents E.contents V.known O.known office.country office.at records.now (option_map string_bytes journal.now)
+        (kind_of rows) (commands_of rows) out.old out.new errors.old errors.new file.old file.new other.old other.new machine.old machine.new result }
 {
-    let end = at_desk(alloc, machine, office, records, file, rows, input, out);
+    let end = with_journal(
+        alloc, machine, office, records, journal, file, other, rows, input, out,
+    );
     tell_batch(alloc, end, out, errors)
 }
 

@@ -1,6 +1,6 @@
 //! Whether there is a desk where records stand.
 ghost use Rattle.std.specs.Prelude.{◌≡◌};
-ghost use Rattle.td_cli.specs.Performed.{IsCheckTold, IsChecked};
+ghost use Rattle.td_cli.specs.Performed.{IsChecked};
 
 use crate::at_desk::at_desk;
 use crate::exits::{fault, of_file};
@@ -8,7 +8,7 @@ use crate::telling::print;
 use std::alloc::Global;
 use std::io::{Read, Write};
 use td_base::Counted;
-use td_files::{DeskFault, DeskFile};
+use td_files::DeskFile;
 use td_jobs::Checking;
 use td_machine::{Drive, Machine};
 use td_words::{Office, Records};
@@ -30,21 +30,8 @@ pub(crate) fn check<M: Machine, V: Drive, R: Read, W: Write, E: Write>(
     ensures checked { IsChecked W.contents E.contents V.known office.country records.now out.old out.new errors.old errors.new
         file.old file.new result }
 {
-    let end = at_desk(alloc, machine, office, records, file, &Checking, input, out);
-    tell_check(alloc, end, out, errors)
-}
-
-// Says that there was a desk, or why there was none, and gives the status.
-fn tell_check<W: Write, E: Write>(
-    alloc: Global,
-    end: Result<(), DeskFault>,
-    out: &mut Counted<W>,
-    errors: &mut Counted<E>,
-) -> u8
-    ensures { IsCheckTold W.contents E.contents end out.old out.new errors.old errors.new result }
-{
-    match end {
+    match at_desk(alloc, machine, office, records, file, Checking, input, out) {
         Ok(()) => print(alloc, "sound\n", out, errors),
-        Err(why) => fault(alloc, of_file(why), errors),
+        Err(undone) => fault(alloc, of_file(undone.why), errors),
     }
 }

@@ -4,10 +4,10 @@ ghost use Rattle.td_cli.specs.Exits.{of_job, of_serving, of_stream};
 ghost use Rattle.td_cli.specs.Performed.{IsDone, IsPerformed, IsTaskDone};
 ghost use Rattle.td_cli.specs.Statuses.{IsAnswered};
 
-use crate::at_desk::at_desk;
 use crate::batching::batch;
 use crate::checking::check;
 use crate::exits::{Cause, WRONG_WORDS, Word, exit, fault, of_file, of_serving, of_stream};
+use crate::journaling::with_journal;
 use crate::migrating::migrate;
 use crate::reporting::report;
 use crate::telling::print;
@@ -45,7 +45,8 @@ pub fn perform<V: Drive, O: Drive, R: Read, W: Write, E: Write>(
 /// go to `out`, and the text of wrong words, or one message for a fault, to `errors`. A text that can't be
 /// written is dropped. The input is read by a job alone. Of the machine the clock is asked, a file of rows is read and a port is
 /// listened on. The desk's file is the one that the words name, if they name one: a job opens it, and hands back a connection to
-/// it, which the caller closes. The other file is that of `--into` or of `--with`: what is done between two files opens it, too.
+/// it, which the caller closes. The other file is that of `--into`, of `--with` or of `--journal`: what is done between two files opens
+/// it, too, and a job that keeps a journal, which hands back the file of that.
 pub fn perform_on<M: Machine, V: Drive, O: Drive, R: Read, W: Write, E: Write>(
     alloc: Global,
     machine: &mut M,
@@ -83,7 +84,7 @@ fn do_job<M: Machine, V: Drive, O: Drive, R: Read, W: Write, E: Write>(
 {
     match job {
         Job::AtDesk(office, task) => do_task(
-            alloc, machine, office, task, file, input, out, errors,
+            alloc, machine, office, task, file, other, input, out, errors,
         ),
         Job::Migrate(path) => migrate(alloc, &path, file, out, errors),
         Job::Transfer(country, what) => transfer(alloc, country, what, file, other, errors),
@@ -91,35 +92,48 @@ fn do_job<M: Machine, V: Drive, O: Drive, R: Read, W: Write, E: Write>(
 }
 
 // Does the task at a desk of the office, tells how it ended, and gives the status.
-fn do_task<M: Machine, V: Drive, R: Read, W: Write, E: Write>(
+fn do_task<M: Machine, V: Drive, O: Drive, R: Read, W: Write, E: Write>(
     alloc: Global,
     machine: &mut M,
     office: Office,
     task: Task,
     file: &mut DeskFile<V>,
+    other: &mut DeskFile<O>,
     input: &mut Counted<R>,
     out: &mut Counted<W>,
     errors: &mut Counted<E>,
 ) -> u8
-    ensures { IsTaskDone ⟦<M as Surroundings>⟧.around R.remaining W.contents E.contents V.known task office.country office.at
+    ensures { IsTaskDone ⟦<M as Surroundings>⟧.around R.remaining W.contents E.contents V.known O.known task office.country office.at
         input.old input.new out.old out.new errors.old errors.new
-        file.old file.new machine.old machine.new result }
+        file.old file.new other.old other.new machine.old machine.new result }
 {
     match task {
-        Task::Serve(listening, records) => {
-            let end = at_desk(
-                alloc, machine, office, &records, file, &listening, input, out,
+        Task::Serve {
+            listening,
+            records,
+            journal,
+        } => {
+            let end = with_journal(
+                alloc, machine, office, &records, &journal, file, other, listening, input, out,
             );
             exit(alloc, serving_cause(end), errors)
         }
-        Task::Pipe(records) => {
-            let end = at_desk(alloc, machine, office, &records, file, &Piping, input, out);
+        Task::Pipe { records, journal } => {
+            let end = with_journal(
+                alloc, machine, office, &records, &journal, file, other, Piping, input, out,
+            );
             exit(alloc, stream_cause(end), errors)
         }
-        Task::Batch(kind, csv, path) => {
-            let records = Records::File(path);
+        Task::Batch {
+            kind,
+            rows,
+            records,
+            journal,
+        } => {
+            let records = Records::File(records);
             batch(
-                alloc, machine, office, kind, &csv, &records, file, input, out, errors,
+                alloc, machine, office, kind, &rows, &records, &journal, file, other, input, out,
+                errors,
             )
         }
         Task::Report(kind, path) => report(alloc, office.country, kind, path, file, out, errors),

@@ -8,6 +8,7 @@ mod batching;
 mod checking;
 mod exits;
 mod jobs;
+mod journaling;
 mod laws;
 mod migrating;
 mod part_laws;

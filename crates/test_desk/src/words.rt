@@ -66,6 +66,23 @@ fn assert_job(rt: &(impl AllocGlobal + Abort), words: &[&str], task: Task, at: O
     assert!(rt; is_asked(rt, words, &wanted));
 }
 
+/// A stream at a desk that keeps no journal.
+fn piped(records: Records) -> Task {
+    Task::Pipe {
+        records,
+        journal: None,
+    }
+}
+
+/// Connections to a desk that keeps no journal.
+fn served(listening: Listening, records: Records) -> Task {
+    Task::Serve {
+        listening,
+        records,
+        journal: None,
+    }
+}
+
 /// A file's name as the words have it.
 fn path(rt: &(impl AllocGlobal + Abort), name: &str) -> String {
     name.to_string(rt.alloc()).expect(rt, "memory")
@@ -74,7 +91,7 @@ fn path(rt: &(impl AllocGlobal + Abort), name: &str) -> String {
 #[test]
 fn a_stream_is_asked_for(rt: HostRuntime) {
     for (words, at) in &STREAMS {
-        assert_job(&rt, words, Task::Pipe(Records::Memory), *at);
+        assert_job(&rt, words, piped(Records::Memory), *at);
     }
 }
 
@@ -92,7 +109,7 @@ fn connections_are_asked_for(rt: HostRuntime) {
             connections: *connections,
             idle: 2,
         };
-        let task = Task::Serve(listening, Records::Memory);
+        let task = served(listening, Records::Memory);
         assert_job(&rt, &serve_words(words, more), task, None);
     }
 }
@@ -124,7 +141,7 @@ fn an_idle_limit_is_asked_for(rt: HostRuntime) {
             connections: 1,
             idle: *idle,
         };
-        let task = Task::Serve(listening, Records::Memory);
+        let task = served(listening, Records::Memory);
         assert_job(&rt, &idle_words(word), task, None);
     }
 }
@@ -145,7 +162,7 @@ const KEPT: [(&[&str], &str); 3] = [
 #[test]
 fn a_kept_file_is_asked_for(rt: HostRuntime) {
     for (words, name) in &KEPT {
-        let task = Task::Pipe(Records::File(path(&rt, name)));
+        let task = piped(Records::File(path(&rt, name)));
         assert_job(&rt, words, task, None);
     }
 }
@@ -178,7 +195,7 @@ const MADE: [&[&str]; 2] = [
 #[test]
 fn a_new_file_is_asked_for(rt: HostRuntime) {
     for words in &MADE {
-        let task = Task::Pipe(Records::NewFile(path(&rt, "desk.db")));
+        let task = piped(Records::NewFile(path(&rt, "desk.db")));
         assert_job(&rt, words, task, Some(7));
     }
 }
@@ -205,9 +222,9 @@ fn connections_to_a_file_are_asked_for(rt: HostRuntime) {
         connections: 1,
         idle: 2,
     };
-    let made = Task::Serve(listening, Records::NewFile(path(&rt, "desk.db")));
+    let made = served(listening, Records::NewFile(path(&rt, "desk.db")));
     assert_job(&rt, &SERVED_FILE, made, None);
-    let kept = Task::Serve(listening, Records::File(path(&rt, "desk.db")));
+    let kept = served(listening, Records::File(path(&rt, "desk.db")));
     assert_job(&rt, &SERVED_FILE[..10], kept, None);
 }
 
@@ -270,7 +287,91 @@ fn a_batch_is_asked_for(rt: HostRuntime) {
         (&BATCH, BatchKind::Declarations, None),
         (&ACTS, BatchKind::Acts, Some(7)),
     ] {
-        let task = Task::Batch(kind, path(&rt, "rows.csv"), path(&rt, "desk.db"));
+        let task = Task::Batch {
+            kind,
+            rows: path(&rt, "rows.csv"),
+            records: path(&rt, "desk.db"),
+            journal: None,
+        };
         assert_job(&rt, words, task, at);
     }
+}
+
+/// Words of a desk that keeps a journal.
+const JOURNALED: [&[&str]; 2] = [
+    &[
+        "transit-desk",
+        "pipe",
+        "--country",
+        "CH",
+        "--journal",
+        "books.csv",
+    ],
+    &[
+        "transit-desk",
+        "pipe",
+        "--journal=books.csv",
+        "--country=CH",
+    ],
+];
+
+#[test]
+fn a_journal_is_asked_for(rt: HostRuntime) {
+    for words in &JOURNALED {
+        let task = Task::Pipe {
+            records: Records::Memory,
+            journal: Some(path(&rt, "books.csv")),
+        };
+        assert_job(&rt, words, task, None);
+    }
+}
+
+#[test]
+fn a_journal_of_connections_is_asked_for(rt: HostRuntime) {
+    let words = [
+        "transit-desk",
+        "serve",
+        "--country",
+        "CH",
+        "--port",
+        "80",
+        "--connections",
+        "1",
+        "--journal",
+        "books.csv",
+    ];
+    let listening = Listening {
+        port: 80,
+        connections: 1,
+        idle: 2,
+    };
+    let task = Task::Serve {
+        listening,
+        records: Records::Memory,
+        journal: Some(path(&rt, "books.csv")),
+    };
+    assert_job(&rt, &words, task, None);
+}
+
+#[test]
+fn a_journal_of_acts_is_asked_for(rt: HostRuntime) {
+    let words = [
+        "transit-desk",
+        "acts",
+        "--country",
+        "CH",
+        "--db",
+        "desk.db",
+        "--file",
+        "rows.csv",
+        "--journal",
+        "books.csv",
+    ];
+    let task = Task::Batch {
+        kind: BatchKind::Acts,
+        rows: path(&rt, "rows.csv"),
+        records: path(&rt, "desk.db"),
+        journal: Some(path(&rt, "books.csv")),
+    };
+    assert_job(&rt, &words, task, None);
 }

@@ -224,10 +224,13 @@ $ --help
 <| The desk of a national transit office under the Common Transit Convention\n
 <| \n
 <| Usage: transit-desk serve --country <CC> --port <N> --connections <K> [--idle <SECONDS>]\n
-<|          [--db <FILE> [--new]] [--at <SECONDS>]\n
-<|        transit-desk pipe --country <CC> [--db <FILE> [--new]] [--at <SECONDS>]\n
-<|        transit-desk batch --country <CC> --db <FILE> --file <CSV> [--at <SECONDS>]\n
-<|        transit-desk acts --country <CC> --db <FILE> --file <CSV> [--at <SECONDS>]\n
+<|          [--db <FILE> [--new]] [--journal <CSV>] [--at <SECONDS>]\n
+<|        transit-desk pipe --country <CC> [--db <FILE> [--new]] [--journal <CSV>]\n
+<|          [--at <SECONDS>]\n
+<|        transit-desk batch --country <CC> --db <FILE> --file <CSV> [--journal <CSV>]\n
+<|          [--at <SECONDS>]\n
+<|        transit-desk acts --country <CC> --db <FILE> --file <CSV> [--journal <CSV>]\n
+<|          [--at <SECONDS>]\n
 <|        transit-desk report <KIND> --country <CC> --db <FILE> [--day <D>]\n
 <|        transit-desk check --country <CC> --db <FILE>\n
 <|        transit-desk migrate --db <FILE>\n
@@ -252,6 +255,8 @@ $ --help
 <| \n
 <| Without --db the desk starts empty, and it is gone when the program ends. With --db its\n
 <| records stand in that file, an SQLite database; --new makes the desk's tables in it first.\n
+<| With --journal a row of each accepted change is written to that file, and is on the disk\n
+<| before the change is done; a file that isn't there is made.\n
 <| Moments are from 2000 to 2099: a request at any other is told clock-range.\n
 <| \n
 <| Examples:\n
@@ -280,13 +285,14 @@ $ serve --help
 <| Serves connections to a port of this machine, one after another\n
 <| \n
 <| Usage: transit-desk serve --country <CC> --port <N> --connections <K> [--idle <SECONDS>]\n
-<|          [--db <FILE> [--new]] [--at <SECONDS>]\n
+<|          [--db <FILE> [--new]] [--journal <CSV>] [--at <SECONDS>]\n
 <| \n
 <| Options:\n
 <|       --country <CC>     The country of the office, two capital letters\n
 <|       --db <FILE>        The file with the records, an SQLite database; else they are in memory\n
 <|       --new              Makes the desk's tables in the file first\n
 <|       --at <SECONDS>     The moment of all requests, in seconds since 1970; else the clock is asked\n
+<|       --journal <CSV>    The file of the journal of accepted changes; else none is kept\n
 <|       --port <N>         The port of 127.0.0.1 that is listened on, from 1 to 65535\n
 <|       --connections <K>  How many connections are served, from 1 to 1000000\n
 <|       --idle <SECONDS>   The most seconds that a connection is waited for, from 1 to 3600; else 2\n
@@ -294,6 +300,8 @@ $ serve --help
 <| \n
 <| Without --db the desk starts empty, and it is gone when the program ends. With --db its\n
 <| records stand in that file, an SQLite database; --new makes the desk's tables in it first.\n
+<| With --journal a row of each accepted change is written to that file, and is on the disk\n
+<| before the change is done; a file that isn't there is made.\n
 <| Moments are from 2000 to 2099: a request at any other is told clock-range.\n
 <| \n
 <| Examples:\n
@@ -321,17 +329,20 @@ $ serve --help
 $ pipe --help
 <| Serves one stream of HTTP requests, from standard input to standard output\n
 <| \n
-<| Usage: transit-desk pipe --country <CC> [--db <FILE> [--new]] [--at <SECONDS>]\n
+<| Usage: transit-desk pipe --country <CC> [--db <FILE> [--new]] [--journal <CSV>] [--at <SECONDS>]\n
 <| \n
 <| Options:\n
-<|       --country <CC>  The country of the office, two capital letters\n
-<|       --db <FILE>     The file with the records, an SQLite database; else they are in memory\n
-<|       --new           Makes the desk's tables in the file first\n
-<|       --at <SECONDS>  The moment of all requests, in seconds since 1970; else the clock is asked\n
-<|   -h, --help          Print help\n
+<|       --country <CC>   The country of the office, two capital letters\n
+<|       --db <FILE>      The file with the records, an SQLite database; else they are in memory\n
+<|       --new            Makes the desk's tables in the file first\n
+<|       --at <SECONDS>   The moment of all requests, in seconds since 1970; else the clock is asked\n
+<|       --journal <CSV>  The file of the journal of accepted changes; else none is kept\n
+<|   -h, --help           Print help\n
 <| \n
 <| Without --db the desk starts empty, and it is gone when the program ends. With --db its\n
 <| records stand in that file, an SQLite database; --new makes the desk's tables in it first.\n
+<| With --journal a row of each accepted change is written to that file, and is on the disk\n
+<| before the change is done; a file that isn't there is made.\n
 <| Moments are from 2000 to 2099: a request at any other is told clock-range.\n
 <| \n
 <| Examples:\n
@@ -372,6 +383,8 @@ $ report --help
 <| \n
 <| Without --db the desk starts empty, and it is gone when the program ends. With --db its\n
 <| records stand in that file, an SQLite database; --new makes the desk's tables in it first.\n
+<| With --journal a row of each accepted change is written to that file, and is on the disk\n
+<| before the change is done; a file that isn't there is made.\n
 <| Moments are from 2000 to 2099: a request at any other is told clock-range.\n
 <| \n
 <| Examples:\n
@@ -408,6 +421,8 @@ $ check --help
 <| \n
 <| Without --db the desk starts empty, and it is gone when the program ends. With --db its\n
 <| records stand in that file, an SQLite database; --new makes the desk's tables in it first.\n
+<| With --journal a row of each accepted change is written to that file, and is on the disk\n
+<| before the change is done; a file that isn't there is made.\n
 <| Moments are from 2000 to 2099: a request at any other is told clock-range.\n
 <| \n
 <| Examples:\n
@@ -443,6 +458,8 @@ $ migrate --help
 <| \n
 <| Without --db the desk starts empty, and it is gone when the program ends. With --db its\n
 <| records stand in that file, an SQLite database; --new makes the desk's tables in it first.\n
+<| With --journal a row of each accepted change is written to that file, and is on the disk\n
+<| before the change is done; a file that isn't there is made.\n
 <| Moments are from 2000 to 2099: a request at any other is told clock-range.\n
 <| \n
 <| Examples:\n
