@@ -1,1 +1,2 @@
 pub mod Journaling
+pub mod Kept

@@ -3,7 +3,7 @@
 use crate::helpers::exchanges::REGISTER;
 use crate::helpers::{Done, Due, assert_due, assert_equal, assert_text, words_of};
 use sqlite::Files;
-use sqlite_disk::Memory;
+use sqlite_disk::{Disk, Memory};
 use std::alloc::{AllocError, Global};
 use std::collections::VecDeque;
 use std::test::Fail;
@@ -143,8 +143,13 @@ fn file_at(
     }))
 }
 
-// What is left at the path of a drive: the file that was opened, once it is closed, or the one that wasn't.
+// What is left at the path of a drive: the file that was opened, once it is closed, or the one that wasn't. A journal stands in a file
+// without a log.
 fn left_of(mut file: DeskFile<MemoryDrive>) -> Option<Files<Memory>> {
+    if let Some(db) = file.journal.take() {
+        let log = Memory::new(file.drive.alloc);
+        return Some(Files { log, db });
+    }
     let unopened = file.drive.files.take();
     match file.close() {
         Some(Ok(files)) => Some(files),
@@ -419,4 +424,112 @@ fn two_files_are_those_at_their_paths(rt: HostRuntime) -> Result<(), Fail> {
     assert_check(alloc, files, PATH, Due::replies(b"sound\n"))?;
     let rows = b"holder,lrn,outcome,mrn\n000001,A1,IE028,25CH000001000001J8\n";
     assert_rows(alloc, files, 1_740_819_700, ["batch", "rows.csv"], 0, rows)
+}
+
+/// The rows of the registration, of the guarantee and of the declaration, at one moment.
+const JOURNAL_ROWS: [&[u8]; 3] = [
+    b"1,1740819600,PUT,/office/holders/000001,\"{\"\"eori\"\":\"\"CH1234567\"\"}\",\"{\"\"eori\"\":\"\"CH1234567\"\",\"\"guarantees\"\":0,\"\"holder\"\":\"\"000001\"\",\"\"movements\"\":0}\"\n",
+    b"2,1740819600,POST,/office/holders/000001/guarantees,\"{\"\"reference\"\":1000000,\"\"cover\"\":50,\"\"code\"\":\"\"AB12\"\"}\",\"{\"\"grn\"\":\"\"25CH0000010000014\"\"}\"\n",
+    b"3,1740819600,POST,/holders/000001/movements,\"{\"\"lrn\"\":\"\"A1\"\",\"\"departure\"\":\"\"CH001251\"\",\"\"destination\"\":\"\"DE005600\"\",\"\"lines\"\":[{\"\"cents\"\":500000,\"\"code\"\":\"\"AB12\"\",\"\"grn\"\":\"\"25CH0000010000014\"\"}]}\",\"{\"\"lrn\"\":\"\"A1\"\",\"\"message\"\":\"\"IE028\"\",\"\"mrn\"\":\"\"25CH000001000001J8\"\"}\"\n",
+];
+
+// Requests to a desk that keeps its journal at the second path, and what they are told.
+fn assert_journaled(
+    alloc: Global,
+    files: &mut DriveFiles,
+    records: &[&str],
+    requests: &[&[u8]],
+    due: Due<'_>,
+) -> Result<(), Fail> {
+    let mut words = ["transit-desk", "pipe", "--country", "CH"].to_vec(alloc)?;
+    words.extend_from_slice(&["--at", "1740819600", "--journal", OTHER_PATH])?;
+    words.extend_from_slice(records)?;
+    assert_run(alloc, files, &[], &words, &requests.concat(alloc)?, due)
+}
+
+// The journal is these rows, and nothing else.
+fn assert_journal(alloc: Global, files: &DriveFiles, rows: &[&[u8]]) -> Result<(), Fail> {
+    let journal = files.second.as_ref().ok_or("the journal")?;
+    assert_text(journal.db.bytes(), &rows.concat(alloc)?)
+}
+
+const KEPT_RECORDS: [&str; 2] = ["--db", PATH];
+
+const NEW_RECORDS: [&str; 3] = ["--db", PATH, "--new"];
+
+// A new desk of one holder with one guarantee, whose journal has the rows of both.
+fn assert_new_journal(alloc: Global, files: &mut DriveFiles) -> Result<(), Fail> {
+    let replies = [REGISTERED, OPENED].concat(alloc)?;
+    let due = Due::replies(&replies);
+    assert_journaled(alloc, files, &NEW_RECORDS, &[REGISTER, OPEN], due)?;
+    assert_journal(alloc, files, &JOURNAL_ROWS[..2])
+}
+
+#[test]
+fn a_journal_has_each_accepted_change_once(rt: HostRuntime) -> Result<(), Fail> {
+    let alloc = rt.alloc();
+    let files = &mut NO_FILES;
+    assert_new_journal(alloc, files)?;
+    let replies = [LODGED, LODGED].concat(alloc)?;
+    let due = Due::replies(&replies);
+    assert_journaled(alloc, files, &KEPT_RECORDS, &[LODGE, LODGE], due)?;
+    assert_journal(alloc, files, &JOURNAL_ROWS)?;
+    assert_journaled(alloc, files, &KEPT_RECORDS, &[], Due::replies(b""))?;
+    assert_journal(alloc, files, &JOURNAL_ROWS)
+}
+
+#[test]
+fn a_desk_in_memory_keeps_a_journal(rt: HostRuntime) -> Result<(), Fail> {
+    let alloc = rt.alloc();
+    let files = &mut NO_FILES;
+    let replies = [REGISTERED, OPENED, LODGED].concat(alloc)?;
+    let due = Due::replies(&replies);
+    assert_journaled(alloc, files, &[], &[REGISTER, OPEN, LODGE], due)?;
+    assert_journal(alloc, files, &JOURNAL_ROWS)
+}
+
+// Puts bytes behind what the journal has.
+fn put_behind(files: &mut DriveFiles, bytes: &[u8]) -> Result<(), Fail> {
+    let journal = files.second.as_mut().ok_or("the journal")?;
+    let end = journal.db.bytes().len();
+    journal.db.write_at(end, bytes)?;
+    Ok(journal.db.sync()?)
+}
+
+#[test]
+fn a_journal_that_is_one_row_ahead_is_done(rt: HostRuntime) -> Result<(), Fail> {
+    let alloc = rt.alloc();
+    let files = &mut NO_FILES;
+    assert_new_journal(alloc, files)?;
+    put_behind(files, JOURNAL_ROWS[2])?;
+    put_behind(files, b"4,17")?;
+    assert_journaled(alloc, files, &KEPT_RECORDS, &[], Due::replies(b""))?;
+    assert_journal(alloc, files, &JOURNAL_ROWS)?;
+    let rows = b"holder,lrn,outcome,mrn\n000001,A1,IE028,25CH000001000001J8\n";
+    assert_rows(alloc, files, 1_740_819_700, ["batch", "rows.csv"], 0, rows)
+}
+
+// The desk isn't served beside this journal: that is told so, and the journal is left as it is.
+fn assert_refused(alloc: Global, rows: &[&[u8]], errors: &[u8]) -> Result<(), Fail> {
+    let files = &mut NO_FILES;
+    files.second = Some(Files {
+        log: Memory::new(alloc),
+        db: Memory::new(alloc),
+    });
+    put_behind(files, &rows.concat(alloc)?)?;
+    let due = Due {
+        status: 1,
+        out: b"",
+        errors,
+    };
+    assert_journaled(alloc, files, &[], &[REGISTER], due)?;
+    assert_journal(alloc, files, rows)
+}
+
+#[test]
+fn a_journal_that_is_not_the_desks_is_told(rt: HostRuntime) -> Result<(), Fail> {
+    let alloc = rt.alloc();
+    assert_refused(alloc, &[ROWS], b"transit-desk: journal\n")?;
+    assert_refused(alloc, &[JOURNAL_ROWS[0], b"\n"], b"transit-desk: journal\n")?;
+    assert_refused(alloc, &JOURNAL_ROWS, b"transit-desk: journal 3\n")
 }
