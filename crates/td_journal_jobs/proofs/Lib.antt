@@ -1,1 +1,2 @@
 mod Ready
+mod Kept

@@ -98,6 +98,8 @@ $ pipe --country CH --db a --new --new
 ! 2 error: the argument '--new' cannot be used multiple times
 $ pipe --country CH --db
 ! 2 error: a value is required for '--db <FILE>' but none was supplied
+$ pipe --country CH --journal
+! 2 error: a value is required for '--journal <CSV>' but none was supplied
 $ pipe --country CH --db F --new x
 ! 2 error: unexpected argument 'x' found
 $ check --country CH
@@ -124,6 +126,10 @@ $ migrate --db
 ! 2 error: a value is required for '--db <FILE>' but none was supplied
 $ migrate F
 ! 2 error: unexpected argument 'F' found
+$ migrate --db F --journal F
+! 2 error: unexpected argument '--journal' found
+$ check --country CH --db F --journal F
+! 2 error: unexpected argument '--journal' found
 
 == what was wrong on a batch is told
 $ batch --country CH --db F
@@ -134,6 +140,10 @@ $ batch --country CH --db F --file F --new
 ! 2 error: unexpected argument '--new' found
 $ acts --country CH --db F --file F --at one
 ! 2 error: invalid value 'one' for '--at <SECONDS>': it must be a whole number of seconds from 0 to 9223372036854775807
+$ acts --country CH --db F --file F --journal
+! 2 error: a value is required for '--journal <CSV>' but none was supplied
+$ batch --country CH --db F --file F --journal F --journal F
+! 2 error: the argument '--journal <CSV>' cannot be used multiple times
 
 == what was wrong on a report is told
 $ report
