@@ -3,14 +3,14 @@ ghost use Rattle.std.specs.Prelude.{◌≡◌, Some, option_map, string_bytes};
 ghost use Rattle.td_jobs.specs.Jobs.{IsUntouched};
 ghost use Rattle.td_cli.specs.Journaled.{HasKeptJournal, WithJournal, begun};
 
-use crate::at_desk::at_desk;
+use crate::at_desk::{Undone, at_desk};
 use crate::exits::of_start;
 use std::alloc::Global;
 use std::io::{Read, Write};
 use td_base::Counted;
 use td_files::{DeskFault, DeskFile};
 use td_jobs::DeskJob;
-use td_journal_jobs::{Journaling, StartFault};
+use td_journal_jobs::{Journaled, Journaling, StartFault};
 use td_machine::{Drive, Machine, Surroundings};
 use td_words::{Office, Records};
 
@@ -68,13 +68,14 @@ fn journaled<M: Machine, V: Drive, O: Drive, R: Read, W: Write, J: DeskJob>(
     };
     let job = Journaling { job, file: journal };
     match at_desk(alloc, machine, office, records, file, job, input, out) {
-        Ok(ended) => {
-            other.keep_journal(ended.file);
-            of_begun(ended.end)
+        Ok(Journaled { end, file: kept }) => {
+            other.keep_journal(kept);
+            of_begun(end)
         }
-        Err(undone) => {
-            other.keep_journal(undone.job.file);
-            Err(undone.why)
+        Err(Undone { why, job }) => {
+            let Journaling { job: _, file: kept } = job;
+            other.keep_journal(kept);
+            Err(why)
         }
     }
 }

@@ -1,6 +1,5 @@
 -- The desk that keeps a journal is ready, where the one was around which it stands.
 use Rattle.std.proofs.Common.{sym, subst, List, ℕ, None, Some, Option}
-use Rattle.std.specs.Bool.{IsTrue}
 use Rattle.sqlite_disk.specs.declared.Disk.{Ghosts}
 use Rattle.td_commands.specs.declared.command.Stamped.{Stamped}
 use Rattle.td_desk.specs.Content.{Content, IsSound}
@@ -30,4 +29,4 @@ pub begun_ready : {D F : Type 0} {g : Ghosts F} (view : DeskView D) (opened : D)
     → BeginsJournal view opened file begun → IsReady view opened → IsReady (journaled view) begun
 begun_ready view opened file begun begins ready = λ clean.
     let taken = taken_ready view opened begun.desk begins.started.last begins.started.desk_is ready clean in
-    ((taken.0, subst IsTrue (sym begins.open_is) tt), taken.1)
+    ((taken.0, begins.open_is), taken.1)

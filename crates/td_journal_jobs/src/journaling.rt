@@ -29,7 +29,7 @@ pub struct Journaled<End, F> {
     pub file: F,
 }
 
-impl<J: DeskJob, F: Disk> DeskJob for Journaling<J, F> {
+impl<J: DeskJob, F: Disk + Drop> DeskJob for Journaling<J, F> {
     type End = Journaled<J::End, F>;
 
     ghost does = { λ D R W M L Reads Writes view opened left remaining contents around at job reader reader_left writer writer_left machine machine_left ended.
