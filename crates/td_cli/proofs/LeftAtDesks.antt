@@ -37,3 +37,11 @@ module _ {V S End : Type 0} {disk : Ghosts S} (drive : KnownDrive V S) (country 
   left_as did said untouched other Memory (Err why) says also at = (also at.0, at.1, at.2)
   left_as did said untouched other (File path) (Err why) says also at = (also at.0, at.1)
   left_as did said untouched other (NewFile path) (Err why) says also at = (also at.0, at.1)
+
+  -- what is done says this beside something else, which holds without a desk, too
+  pub left_parted : (did said : (D : Type 0) → DeskView D → D → D → End → Type 0) (beside untouched other : Type 0) (records : Records) (end : Result End DeskFault)
+      → ((D : Type 0) (view : DeskView D) (opened left : D) (end : End) → did D view opened left end → beside × said D view opened left end) → (untouched → beside × other)
+      → AtDesk drive country records did untouched before file end → beside × AtDesk drive country records said other before file end
+  left_parted did said beside untouched other records end says also at =
+      left_alone said beside other records end
+      (left_as did (λ D view opened left end. beside × said D view opened left end) untouched (beside × other) records end says also at)

@@ -3,6 +3,7 @@ mod Agreeing
 mod Runs
 mod Batches
 mod LeftAtDesks
+mod LeftWithJournal
 mod KeptRows
 mod SentAgain
 mod Later

@@ -9,6 +9,7 @@ returns-in-Err-clause-done g c = inl (
   not_read g.M.Machine.known c.args.csv.now c.args.machine.now c.read_file.new.self c.in-Err.why c.in-Err.ensures.unread c.read_file.ensures.stays,
   refl,
   refl,
+  refl,
   rw c.of_read_error.ensures at c.fault.ensures,
 )
 

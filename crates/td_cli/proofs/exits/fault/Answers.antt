@@ -14,5 +14,9 @@ pub returns-in-HolderExists : goal.returns-in-HolderExists
 returns-in-HolderExists g c =
     rw c.in-HolderExists.is (refl, told_made g.E.Write.contents _ _ _ _ string_bytes c.holder_exists_line.result c.holder_exists_line.ensures c.tell_made-in-HolderExists.ensures)
 
+pub returns-in-ForeignRow : goal.returns-in-ForeignRow
+returns-in-ForeignRow g c =
+    rw c.in-ForeignRow.is (refl, told_made g.E.Write.contents _ _ _ _ string_bytes c.foreign_row_line.result c.foreign_row_line.ensures c.tell_made-in-ForeignRow.ensures)
+
 pub returns-in-Of : goal.returns-in-Of
 returns-in-Of g c = rw c.in-Of.is (refl, rw c.line.ensures at c.tell.ensures)
