@@ -1,13 +1,14 @@
 -- The last bytes of a file.
-use Rattle.std.specs.Prelude.{◌≡◌, ℕ, ◌+◌, ◌^◌, ◌<◌, List, ◌++◌, length, take}
+use Rattle.std.specs.Prelude.{◌≡◌, ℕ, ◌+◌, ◌^◌, ◌<◌, ◌≤◌, List, ◌++◌, length, take}
 use Rattle.td_journal_start.specs.Lines.{IsJournal, next_after, tail}
 use Rattle.td_journal_start.specs.Rows.{last_seen}
 use Rattle.td_journal_start.specs.declared.tail.Found.{Found}
 use Rattle.td_journal_start.specs.declared.tail.Tail.{Tail}
 
 -- so many as are read, or all of them
-abbrev pub IsFull : Tail → Type 0
-IsFull t = 0 < t.before → length t.bytes.items ≡ tail
+pub record IsFull (t : Tail) : Type 0 where
+  pub most : length t.bytes.items ≤ tail
+  pub full : 0 < t.before → length t.bytes.items ≡ tail
 
 -- their places in the file are numbers of the machine
 abbrev pub Fits : Tail → Type 0

@@ -16,7 +16,7 @@ pub record IsOneLine (line : List ℕ) : Type 0 where
 pub record Splits (bytes text torn : List ℕ) : Type 0 where
   pub bytes_are : bytes ≡ text ++ torn
   pub whole : IsWhole text
-  pub torn : HasNoLineFeed torn
+  pub none : HasNoLineFeed torn
 
 -- the last whole line of bytes, what stands before it and what stands behind it; where no line ends, nothing is before
 pub record HasLast (bytes before line torn : List ℕ) : Type 0 where

@@ -1,5 +1,5 @@
 //! The row of a change, read of its line.
-ghost use Rattle.std.specs.Prelude.{◌≡◌, IfOk, IfSome, None, Ok, Some, pos};
+ghost use Rattle.std.specs.Prelude.{◌≡◌, ◌≢◌, IfOk, IfSome, None, Ok, Some, pos};
 ghost use Rattle.td_base.specs.Days.{moment_of};
 ghost use Rattle.td_commands.specs.declared.command.Command.{Command};
 ghost use Rattle.td_journal_rows.specs.Requests.{ReadsBack};
@@ -8,7 +8,8 @@ ghost use Rattle.td_journal_start.specs.Rows.{numbered};
 ghost use Rattle.td_journal_start.specs.Texts.{IsOneLine};
 ghost use Rattle.td_routes.specs.Bodies.{command_of};
 
-use http::{Method, MethodError};
+use http::Method;
+use http::method::MethodError;
 use http_wire::Request;
 use std::alloc::{AllocError, Global};
 use td_base::Moment;
@@ -92,7 +93,16 @@ fn command_in(alloc: Global, row: &JournalRow) -> Result<Option<Command>, AllocE
     };
     match read_command(alloc, &request) {
         Ok(command) => Ok(Some(command)),
-        Err(WebFault::NoMemory) => Err(AllocError),
-        Err(_) => Ok(None),
+        Err(fault) => unread(&fault),
+    }
+}
+
+// What a request is read as that couldn't be read, unless memory was missing: no command.
+fn unread(fault: &WebFault) -> Result<Option<Command>, AllocError>
+    ensures { IfOk result (λ found. (found ≡ None) × (fault.now ≢ WebFault.NoMemory)) }
+{
+    match fault {
+        WebFault::NoMemory => Err(AllocError),
+        _ => Ok(None),
     }
 }

@@ -1,0 +1,7 @@
+mod Splitting
+mod Reading
+mod Tails
+mod LastLine
+mod Held
+mod Requests
+mod Taken
