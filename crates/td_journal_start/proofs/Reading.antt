@@ -18,7 +18,7 @@ pub moment_is : (at : ℤ) (seconds : ℕ) → moment_of at ≡ Some seconds →
 moment_is (pos n) seconds is = ap pos (cond_some _ n seconds is).1
 moment_is (negsuc n) seconds is = cc
 
-same_command : (r : Result Command WebFault) (a b : Command) → r ≡ Ok a → r ≡ Ok b → a ≡ b
+pub same_command : (r : Result Command WebFault) (a b : Command) → r ≡ Ok a → r ≡ Ok b → a ≡ b
 same_command r a b is_a is_b = cc
 
 -- commands with one request are one
@@ -30,12 +30,12 @@ one_command a b is_a is_b methods paths bodies =
     same_command (command_of (request_method a) (request_path a) (request_body a)) a b is_a (method ∙ path ∙ body ∙ is_b)
 
 -- the row that a line is read as
-reads : (r : Numbered) (line : List ℕ) (is : IsLine r line) → row_of_line line ≡ Some (change_row r.number is.seconds r.row.stamped.command r.row.shown)
+pub reads : (r : Numbered) (line : List ℕ) (is : IsLine r line) → row_of_line line ≡ Some (change_row r.number is.seconds r.row.stamped.command r.row.shown)
 reads r line is =
     let row = change_row r.number is.seconds r.row.stamped.command r.row.shown in
     ap row_of_line (is.line_is ∙ line_is row) ∙ line_reads row is.is_row
 
-same_row : (o : Option RowText) (a b : RowText) → o ≡ Some a → o ≡ Some b → a ≡ b
+pub same_row : (o : Option RowText) (a b : RowText) → o ≡ Some a → o ≡ Some b → a ≡ b
 same_row o a b is_a is_b = cc
 
 abbrev numbered_at : ℕ → ℤ → Command → List ℕ → Numbered

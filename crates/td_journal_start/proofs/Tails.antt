@@ -49,6 +49,9 @@ module _ (t : Tail) (bytes : List ℕ) (full : IsFull t) (end : IsEndOf t bytes)
   line_near (inl some) = let most = full.most in inl (omega (arith, parts, some, most))
   line_near (inr none) = let most = full.most in inr (omega (arith, sizes, none, most))
 
+  pub row_end : (place : ℕ) → place ≡ length before + length line → t.before + place ≤ length bytes
+  row_end place is = omega (arith, sizes, parts, is)
+
   -- its row
   pub found_row : (r : Numbered) (place : ℕ) → place ≡ length before + length line → Begins → IsLine r line → IsJournal bytes (take (t.before + place) bytes) (Some r)
   found_row r place is begins of_row = record {

@@ -25,5 +25,6 @@ abbrev pub HasNext : Found → Type 0
 HasNext found = found.next ≡ next_after (last_seen found.last)
 
 -- bytes are a journal with this end of its text, and this last row
-abbrev pub IsFound : List ℕ → Found → Type 0
-IsFound bytes found = IsJournal bytes (take found.end bytes) (last_seen found.last)
+pub record IsFound (bytes : List ℕ) (found : Found) : Type 0 where
+  pub within : found.end ≤ length bytes
+  pub journal : IsJournal bytes (take found.end bytes) (last_seen found.last)
