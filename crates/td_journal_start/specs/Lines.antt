@@ -61,5 +61,5 @@ pub record IsJournal (bytes text : List ℕ) (last : Option Numbered) : Type 0 w
   pub near : (length line + length torn < tail) ⊎ (length bytes ≤ tail)
 
 -- they are none
-abbrev pub IsNone : List ℕ → Type 0
-IsNone bytes = (text : List ℕ) (last : Option Numbered) → IsJournal bytes text last → ⊥
+abbrev pub IsNoJournal : List ℕ → Type 0
+IsNoJournal bytes = (text : List ℕ) (last : Option Numbered) → IsJournal bytes text last → ⊥
