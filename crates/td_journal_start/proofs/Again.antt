@@ -65,10 +65,6 @@ module _ {D F : Type 0} (view : DeskView D) (g : Ghosts F) (desk again : D) (fil
       let both = redone_twice (view.content desk) (view.content one.desk) new q.row.stamped q.row.shown first ending sound asked.proper ended again_q in
       (both.0, λ foreign. other (both.1 foreign))
 
-  no_row : (last other : Option Numbered) (new : D) → IsTaken view again other new → other ≡ last → last ≡ None → view.content new ≡ view.content one.desk
-  no_row last None new taken same none = ap view.content taken ∙ left.content
-  no_row last (Some r) new taken same none = (let bad : Some r ≡ None = same ∙ none in cc)
-
   taken_again : (last other : Option Numbered) (new : D) → IsTaken view desk last one.desk → other ≡ last → view.is_clean new → IsTaken view again other new → view.content new ≡ view.content one.desk
   taken_again last None new taken same is next = ap view.content next ∙ left.content
   taken_again last (Some r) new taken same is (ending, other, asked) =

@@ -27,6 +27,7 @@ pub record IsAsked {D : Type 0} (view : DeskView D) (old : D) (row : Row (List �
       → IfOk result (λ ending. Ends ending row.stamped row.shown (view.content old) (view.content new))
   pub err : view.is_clean new → view.is_live new → OnErr result (view.content new ≡ view.content old)
   pub memory : view.is_clean new → result ≡ Err fault.NoMemory → view.is_live new
+  pub store : result ≡ Err fault.Store → view.has_store
   -- a crash leaves what it could leave before, or the content with the row's change
   pub crash : view.is_clean new → AddsAtMost view
       (λ x. view.is_live old × (IsSound (view.content old) → Ends Carried row.stamped row.shown (view.content old) x)) old new
