@@ -107,11 +107,15 @@ def agree(room, books):
     due("the views", [books.ask(at, it)[1] for it in views], room.pipe(at, views))
 
 
+def replayed(room, rows, *words):
+    """What is left of these rows done again, into the file again.db."""
+    return room.run([sys.executable, f"{ROOT}/office/journal-replay", "--country", "CH", "--program", room.program, "--into",
+                     f"{room.folder}/again.db", *words, rows])
+
+
 def done_again(room):
     """The journal's rows make the same tables at a new file."""
-    words = [sys.executable, f"{ROOT}/office/journal-replay", "--country", "CH", "--program", room.program, "--into",
-             f"{room.folder}/again.db", room.journal]
-    status, told, line = room.run(words)
+    status, told, line = replayed(room, room.journal)
     due(f"how the rows are done again ({line.decode()[-300:]})", (0, b"%d rows: each is told what it has\n" % room.text().count(b"\n")),
         (status, told))
     due("the tables", tables(room.files[FILE]), tables(f"{room.folder}/again.db"))
