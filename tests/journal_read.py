@@ -1,12 +1,12 @@
 """A second reading of a desk's journal, written from the requirements and over tests/second_reading.py: the row of an accepted change, and
 what rows mean. `tests/journal` and `tests/feeds` compare with it what the program that was built and the tools write."""
 import collections
+import contextlib
 import csv
 import io
 import json
 import os
 import sqlite3
-import contextlib
 
 from second_reading import Desk, act_in, asked, command_in, declaration_in, route_of
 
@@ -21,8 +21,12 @@ class Differs(Exception):
 
 
 def due(what, wanted, got):
-    if wanted != got:
-        raise Differs(f"{what}: {str(got)[:300]} came, and {str(wanted)[:300]} is due")
+    if wanted == got:
+        return
+    if isinstance(wanted, bytes) and isinstance(got, bytes):  # the first line in which they differ
+        begin = wanted.rfind(b"\n", 0, len(os.path.commonprefix([wanted, got]))) + 1
+        what, wanted, got = f"{what}, from byte {begin} on", wanted[begin:], got[begin:]
+    raise Differs(f"{what}: {str(got)[:300]} came, and {str(wanted)[:300]} is due")
 
 
 def text_of(value):
