@@ -33,16 +33,18 @@ module _ {End : Type 0} (did said : (D : Type 0) → DeskView D → D → D → 
         let parted = also left in (parted.0, inl (why, is, none, parted.1, same))
     with_parted records (Some path) end (inr at) =
         let parted = left_parted drive country before file _ _ beside untouched other_untouched records at.ended
-            (λ D view opened left ended done. journaled_parted others view opened left at.journal ended.file ended.end done) also at.done in
-        (parted.0, inr (record {
-          journal = at.journal;
-          opened = at.opened;
-          at = at.at;
-          ended = at.ended;
-          done = parted.1;
-          file_is = at.file_is;
-          drive_is = at.drive_is;
-          connection = at.connection;
-          unopened = at.unopened;
-          end_is = at.end_is;
-        }))
+        (λ D view opened left ended done. journaled_parted others view opened left at.journal ended.file ended.end done) also at.done in (
+          parted.0,
+          inr (record {
+            journal = at.journal;
+            opened = at.opened;
+            at = at.at;
+            ended = at.ended;
+            done = parted.1;
+            file_is = at.file_is;
+            drive_is = at.drive_is;
+            connection = at.connection;
+            unopened = at.unopened;
+            end_is = at.end_is;
+          }),
+        )

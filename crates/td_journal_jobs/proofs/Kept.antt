@@ -20,7 +20,7 @@ module _ {D F : Type 0} (g : Ghosts F) (view : DeskView D) where
       let run = piped.served.run in
       let grown = answered 0 run.exchanges in
       let same : stopped ≡ desk_of run.handler =
-          sym piped.left_is ∙ ending_stays run.handler piped.service_left run.rest run.ending piped.served.ending in
+      sym piped.left_is ∙ ending_stays run.handler piped.service_left run.rest run.ending piped.served.ending in
       subst (λ (d : JournaledDesk D F g). HasGrown view grown d stopped) piped.opened_is
       (subst (λ (d : JournaledDesk D F g). HasGrown view grown (desk_of piped.service) d) (sym same)
       (law 0 run.exchanges (clock, piped.service) (clock_left, run.handler) piped.served.chain

@@ -264,7 +264,10 @@ fn job_command<'a>(
     );
     let command = with_arg(country_command(alloc, name, about, usage), records);
     let command = with_arg(command, new_option(alloc));
-    with_arg(with_arg(command, moment_option(alloc)), journal_option(alloc))
+    with_arg(
+        with_arg(command, moment_option(alloc)),
+        journal_option(alloc),
+    )
 }
 
 fn serve_command<'a>(alloc: Global) -> Result<Command<'a>, AllocError>

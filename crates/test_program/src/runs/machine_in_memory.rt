@@ -437,7 +437,7 @@ const JOURNAL_ROWS: [&[u8]; 3] = [
 fn assert_journaled(
     alloc: Global,
     files: &mut DriveFiles,
-    records: &[&str],
+    records: &[&'static str],
     requests: &[&[u8]],
     due: Due<'_>,
 ) -> Result<(), Fail> {
@@ -492,6 +492,9 @@ fn a_desk_in_memory_keeps_a_journal(rt: HostRuntime) -> Result<(), Fail> {
 fn put_behind(files: &mut DriveFiles, bytes: &[u8]) -> Result<(), Fail> {
     let journal = files.second.as_mut().ok_or("the journal")?;
     let end = journal.db.bytes().len();
+    if !journal.db.may_be_used() {
+        return Err("a sync has failed".into());
+    }
     journal.db.write_at(end, bytes)?;
     Ok(journal.db.sync()?)
 }
