@@ -9,8 +9,7 @@ ghost use Rattle.td_words.specs.Words.{AreRecords, AskForHelpOfHelp, AsksFor, Is
 
 use crate::options::{
     AT, CONNECTIONS, COUNTRY, DAY, DB, FILE, HOLDERS, IDLE, INTO, JOURNAL, KIND, NEW, PART, PORT,
-    WITH,
-    program,
+    WITH, program,
 };
 use ascii_text::is_digits;
 use clap::ArgMatches;
