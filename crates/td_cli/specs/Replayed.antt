@@ -40,12 +40,6 @@ IsUnreadFor part bytes cause =
     ⊎ ((rows : List Numbered) × (torn : ℕ) × (number : ℕ) × HasChanges bytes rows torn × IsFirstNot (AreInOrder part) rows number
     × (cause ≡ ForeignRow number))
 
--- Why a replay ended otherwise than well: by the fault that stopped it; or a row was told something else than it has.
-abbrev pub replay_cause : Option Fault → Option ℕ → Option Cause
-replay_cause (Some why) differs = Some (of_stop why)
-replay_cause None (Some row) = Some (Differs row)
-replay_cause None None = None
-
 -- The result file was printed, and how the replay ended was told; or that the file couldn't be printed was told. Where a fault stopped
 -- the replay its text is printed, or as much of it as was taken.
 abbrev pub IsReplayText : {W E : Type 0} → (W → Option (List ℕ)) → (E → Option (List ℕ)) → List ℕ → Option Fault → Option ℕ
