@@ -39,7 +39,9 @@ pub(crate) fn replay<M: Machine, V: Drive, R: Read, W: Write, E: Write>(
         Err(why) => return fault(alloc, of_read_error(why), errors),
     };
     match rows_of(alloc, part, &bytes) {
-        Ok(rows) => do_rows(alloc, machine, office, rows, records, file, input, out, errors),
+        Ok(rows) => do_rows(
+            alloc, machine, office, rows, records, file, input, out, errors,
+        ),
         Err(cause) => fault(alloc, cause, errors),
     }
 }

@@ -145,6 +145,18 @@ $ acts --country CH --db F --file F --journal
 $ batch --country CH --db F --file F --journal F --journal F
 ! 2 error: the argument '--journal <CSV>' cannot be used multiple times
 
+== what was wrong on a replay is told
+$ replay --country CH
+! 2 error: the following required arguments were not provided: --file <CSV>
+$ replay --country CH --file F --new
+! 2 error: the following required arguments were not provided: --db <FILE>
+$ replay --country CH --file F --part --part
+! 2 error: the argument '--part' cannot be used multiple times
+$ replay --country CH --file F --at 5
+! 2 error: unexpected argument '--at' found
+$ replay --country CH --file F --journal F
+! 2 error: unexpected argument '--journal' found
+
 == what was wrong on a report is told
 $ report
 ! 2 error: the following required arguments were not provided: --country <CC> --db <FILE> <KIND>

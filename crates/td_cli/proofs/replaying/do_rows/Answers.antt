@@ -14,8 +14,8 @@ returns-in-Ok g c =
     let rows = map numbered c.args.rows.items in
     let end : Result ReplayRun DeskFault = Ok c.in-Ok.run in
     let at = left_parted g.V.Drive.known c.args.office.country c.args.file.now c.at_desk.new.file
-        (λ D view opened left run. untouched × IsReplayOf view rows run opened left) (λ D view opened left run. IsReplayOf view rows run opened left)
-        untouched untouched (Unit {0}) c.args.records.now end (λ D view opened left run is. is) (λ is. (is, tt)) c.in-Ok.ensures.done in
+    (λ D view opened left run. untouched × IsReplayOf view rows run opened left) (λ D view opened left run. IsReplayOf view rows run opened left)
+    untouched untouched (Unit {0}) c.args.records.now end (λ D view opened left run is. is) (λ is. (is, tt)) c.in-Ok.ensures.done in
     record {
       unread = at.0.0;
       unasked = at.0.2;
@@ -28,8 +28,8 @@ returns-in-Err g c =
     let rows = map numbered c.args.rows.items in
     let end : Result ReplayRun DeskFault = Err c.in-Err.undone.why in
     let at = left_parted g.V.Drive.known c.args.office.country c.args.file.now c.at_desk.new.file
-        (λ D view opened left run. untouched × IsReplayOf view rows run opened left) (λ D view opened left run. IsReplayOf view rows run opened left)
-        untouched untouched (Unit {0}) c.args.records.now end (λ D view opened left run is. is) (λ is. (is, tt)) c.in-Err.ensures.done in
+    (λ D view opened left run. untouched × IsReplayOf view rows run opened left) (λ D view opened left run. IsReplayOf view rows run opened left)
+    untouched untouched (Unit {0}) c.args.records.now end (λ D view opened left run is. is) (λ is. (is, tt)) c.in-Err.ensures.done in
     record {
       unread = at.0.0;
       unasked = at.0.2;
