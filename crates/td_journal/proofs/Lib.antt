@@ -1,4 +1,4 @@
-mod Prefixes
+pub mod Prefixes
 mod Growing
 mod Streamed
 mod Served

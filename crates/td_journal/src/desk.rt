@@ -24,10 +24,13 @@ pub struct JournaledDesk<D: Desk, F: Disk> {
 }
 
 impl<D: Desk, F: Disk> JournaledDesk<D, F> {
+    ghost use Rattle.td_journal.specs.Journaled.{waiting};
+
     /// The desk with this journal, in which the rows of its further changes are written.
     pub fn new(desk: D, journal: Journal<F>) -> Self
         ensures desk { result.desk ≡ desk }
         ensures journal { result.journal ≡ journal }
+        ensures waiting { waiting result ≡ None }
     {
         JournaledDesk {
             desk,

@@ -5,5 +5,6 @@ mod Paths
 mod Bodies
 mod ReadBack
 mod Lines
-mod RowsBack
+pub mod RowsBack
 mod ChangeRows
+pub mod OneLine

@@ -143,7 +143,7 @@ holder_marks n = All-weaker IsAsciiDigit IsMark (λ c h. inl h) (holder_text n) 
 
 -- ---- numbers
 
-own : IsNumeralModel (λ ds. (i : ℕ) → i < length ds → IsInRange 48 57 (get_or ds i 0)) digits_value
+pub own : IsNumeralModel (λ ds. (i : ℕ) → i < length ds → IsInRange 48 57 (get_or ds i 0)) digits_value
 own = numerals_by_fold _ tells_by_index (λ n text. fold (λ n c. 10 * n + (c - 48)) n text) (search rules)
 
 -- a number is written in digits

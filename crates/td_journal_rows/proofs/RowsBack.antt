@@ -26,11 +26,11 @@ number_reads n small =
 
 -- ---- a row's line, up to its line feed
 
-abbrev row_front : RowText → List ℕ
+abbrev pub row_front : RowText → List ℕ
 row_front row =
     field_text default_writer (decimal row.number) ++ fields_text default_writer (decimal row.at ∷ row.method ∷ row.path ∷ row.body ∷ row.reply ∷ [])
 
-line_is : (row : RowText) → row_line row ≡ row_front row ++ 10 ∷ []
+pub line_is : (row : RowText) → row_line row ≡ row_front row ++ 10 ∷ []
 unfolding is_blank
 line_is row = refl
 
@@ -63,7 +63,7 @@ fields_line (field ∷ fields) all =
 digits_line : (n : ℕ) → n < 10 ^ 18 → HasNoLineFeed (decimal n)
 digits_line n small = All-weaker IsAsciiDigit (λ c. (c == 10) ≡ false) (λ c digit. ne_eqb c 10 (λ e. omega (arith, digit.0))) (decimal n) (decimal_digits n (omega (arith, small)))
 
-front_line : (row : RowText) → IsRow row → HasNoLineFeed (row_front row)
+pub front_line : (row : RowText) → IsRow row → HasNoLineFeed (row_front row)
 front_line row h =
     All-append (λ c. (c == 10) ≡ false) (field_text default_writer (decimal row.number)) _ (field_line (decimal row.number) (digits_line row.number h.number))
     (fields_line (decimal row.at ∷ row.method ∷ row.path ∷ row.body ∷ row.reply ∷ []) (digits_line row.at h.at, (h.method, (h.path, (h.body, (h.reply, tt))))))
@@ -114,7 +114,7 @@ unfolding field_at
 fields_read row h =
     ap₂ (λ (number at : Option ℕ). option_and_then (λ number. option_map (λ at. row_with row number at) at) number) (number_reads row.number h.number) (number_reads row.at h.at)
 
-line_reads : (row : RowText) → IsRow row → row_of_line (row_front row ++ 10 ∷ []) ≡ Some row
+pub line_reads : (row : RowText) → IsRow row → row_of_line (row_front row ++ 10 ∷ []) ≡ Some row
 line_reads row h =
     let line : strip_bom (row_front row ++ 10 ∷ []) ≡ row_line row ++ [] = ap strip_bom (sym (line_is row)) ∙ (line_kept row h ∙ sym (append-nil (row_line row))) in
     ap (λ text. option_and_then row_read (option_map (λ read. read.0) (next_record default_config StartRecord [] [] text))) line

@@ -11,4 +11,6 @@ pub use laws::{
     rows_read_back,
 };
 pub use requests::{RequestText, request_of};
-pub use rows::{JournalFault, JournalRow, JournalRows, read_rows, row_of_change, write_row};
+pub use rows::{
+    JournalFault, JournalRow, JournalRows, read_row, read_rows, row_of_change, write_row,
+};

@@ -151,8 +151,8 @@ fn line_end(text: &[u8]) -> Option<usize>
     text.iter().position(|c| *c == b'\n')
 }
 
-// The row of a line with its line feed, if it is one.
-fn read_row(alloc: Global, line: &[u8]) -> Result<Option<JournalRow>, AllocError>
+/// The row of a line with its line feed, if it is one. `AllocError`: want of memory.
+pub fn read_row(alloc: Global, line: &[u8]) -> Result<Option<JournalRow>, AllocError>
     ensures { IfOk result (λ row. option_map row_shown row ≡ row_of_line line.now) }
 {
     let mut reader = ReaderBuilder::new()

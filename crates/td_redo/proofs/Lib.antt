@@ -3,8 +3,8 @@ mod OtherGrn
 mod Answered
 mod SameRows
 mod Contents
-mod Endings
-mod Journals
+pub mod Endings
+pub mod Journals
 mod AfterCrash
 mod LastButOne
 mod BodyTells

@@ -1,0 +1,10 @@
+mod Splitting
+mod Reading
+mod Tails
+mod LastLine
+mod Rows
+mod Places
+mod Cutting
+mod Held
+mod Requests
+mod Taken

@@ -1,0 +1,65 @@
+-- The rows of a journal as its lines, and the last of them in a file.
+use Rattle.std.specs.Prelude.{◌≡◌, ◌⊎◌, ℕ, ◌+◌, ◌<◌, ◌≤◌, List, [], ◌∷◌, ◌++◌, length, Option, None, Some}
+use Rattle.td_base.specs.Days.{moment_of}
+use Rattle.td_commands.specs.declared.command.Command.{Command}
+use Rattle.td_journal_rows.specs.Requests.{ReadsBack, request_body, request_method, request_path}
+use Rattle.td_journal_rows.specs.declared.rows.JournalRow.{JournalRow}
+use Rattle.td_journal_rows.specs.Rows.{HasNoLineFeed, IsRow, change_row, row_line}
+use Rattle.td_journal_start.specs.Texts.{IsWhole}
+use Rattle.td_redo.specs.Redo.{Row}
+
+-- a row with its number: a command at its moment, and the body of the reply to it
+pub record Numbered : Type 0 where
+  pub number : ℕ
+  pub row : Row (List ℕ)
+
+-- a row has the request of this command
+pub record HasRequestOf (c : Command) (row : JournalRow) : Type 0 where
+  pub method : row.method.items ≡ request_method c
+  pub path : row.path.items ≡ request_path c
+  pub body : row.body.items ≡ request_body c
+
+-- It is this line, exactly: that of a change, whose request is read back as its command, and whose moment is in range.
+pub record IsLine (r : Numbered) (line : List ℕ) : Type 0 where
+  pub seconds : ℕ
+  pub moment : moment_of r.row.stamped.at ≡ Some seconds
+  pub line_is : line ≡ row_line (change_row r.number seconds r.row.stamped.command r.row.shown)
+  -- no line ends within it, and its numbers have at most 18 digits
+  pub is_row : IsRow (change_row r.number seconds r.row.stamped.command r.row.shown)
+  pub reads_back : ReadsBack r.row.stamped.command
+
+-- the text is the lines of these rows, with numbers that rise by one from the first on
+abbrev pub AreLines : ℕ → List (Row (List ℕ)) → List ℕ → Type 0
+AreLines first [] text = text ≡ []
+AreLines first (row ∷ rows) text =
+    (line : List ℕ) × (rest : List ℕ) × IsLine (record { number = first; row = row }) line × (text ≡ line ++ rest) × AreLines (first + 1) rows rest
+
+-- a line, behind whole lines, is that of the last row; a text of no line has none
+abbrev pub IsLast : List ℕ → List ℕ → Option Numbered → Type 0
+IsLast before line None = (before ≡ []) × (line ≡ [])
+IsLast before line (Some r) = IsWhole before × IsLine r line
+
+-- the number of the row behind it
+abbrev pub next_after : Option Numbered → ℕ
+next_after None = 1
+next_after (Some r) = r.number + 1
+
+-- how many bytes at its end are read of a file
+abbrev pub tail : ℕ
+tail = 65536
+
+-- The bytes of a file are a journal: this text, which ends with its last row, and behind it a torn row, or nothing. What is read of
+-- its end has that row whole.
+pub record IsJournal (bytes text : List ℕ) (last : Option Numbered) : Type 0 where
+  pub before : List ℕ
+  pub line : List ℕ
+  pub torn : List ℕ
+  pub bytes_are : bytes ≡ text ++ torn
+  pub text_is : text ≡ before ++ line
+  pub last_is : IsLast before line last
+  pub torn_is : HasNoLineFeed torn
+  pub near : (length line + length torn < tail) ⊎ (length bytes ≤ tail)
+
+-- they are none
+abbrev pub IsNone : List ℕ → Type 0
+IsNone bytes = (text : List ℕ) (last : Option Numbered) → IsJournal bytes text last → ⊥
