@@ -2,6 +2,7 @@
 ghost use Rattle.td_replay.specs.Laws.{ChangedReplyIsTold, DeskIsRebuilt, PartDiffersNowhere, ReadInOneWay};
 
 use td_desk::Desk;
+use td_journal::a_part_tells_the_same;
 
 /// Bytes are the lines of one list of rows, with one torn rest.
 pub fn changes_are_read_in_one_way()
@@ -16,7 +17,9 @@ pub fn desk_is_rebuilt<D: Desk>()
 /// The rows of one holder alone, replayed at a desk that has the same of that holder as the journal's had, differ nowhere.
 pub fn part_differs_nowhere<D: Desk>()
     ensures { PartDiffersNowhere D.seen }
-{}
+{
+    a_part_tells_the_same();
+}
 
 /// Where the reply of one row was changed, the replay tells that row.
 pub fn changed_reply_is_told<D: Desk>()
