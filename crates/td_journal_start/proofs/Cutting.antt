@@ -1,5 +1,5 @@
 -- A file that was cut to a text, or was to be.
-use Rattle.std.proofs.Common.{◌≡◌, ℕ, ◌≤◌, List, length, take, Err, Ok, Option, None, Some, inl, inr, refl, sym, ap, subst, ◌∙◌, arith}
+use Rattle.std.proofs.Common.{◌≡◌, ℕ, List, length, take, Option, None, Some, inl, inr, sym, ap, subst, ◌∙◌, arith}
 use Rattle.std.specs.Prelude.{IsTrue}
 use Rattle.std.proofs.lemmas.List.{length-take-le, take_all}
 use Rattle.sqlite_disk.specs.Disk.{Cut, Follows}

@@ -8,3 +8,5 @@ mod Cutting
 mod Held
 mod Requests
 mod Taken
+mod Again
+mod Whole

@@ -1,16 +1,15 @@
 -- A line is that of one row, and bytes are a journal with one text and one last row.
-use Rattle.std.proofs.Common.{◌≡◌, ◌⊎◌, ℕ, ℤ, pos, negsuc, List, [], ◌∷◌, ◌++◌, length, Option, None, Some, Ok, Result, inl, inr, refl, sym, ap, subst, ◌∙◌, arith, append_assoc, length-append}
+use Rattle.std.proofs.Common.{◌≡◌, ◌⊎◌, ℕ, ℤ, pos, negsuc, List, [], ◌++◌, length, Option, None, Some, Ok, Result, inl, inr, refl, sym, ap, subst, ◌∙◌, arith}
 use Rattle.std.proofs.lemmas.Option.{cond_some}
 use Rattle.td_base.specs.Days.{moment_of}
 use Rattle.td_commands.specs.declared.command.Command.{Command}
 use Rattle.td_fields.specs.declared.fault.WebFault.{WebFault}
 use Rattle.td_journal_rows.specs.Requests.{ReadsBack, request_body, request_method, request_path}
-use Rattle.td_journal_rows.specs.Rows.{IsRow, RowText, change_row, row_line, row_of_line}
+use Rattle.td_journal_rows.specs.Rows.{RowText, change_row, row_of_line}
 use Rattle.td_journal_rows.proofs.RowsBack.{front_line, line_is, line_reads, row_front}
 use Rattle.td_journal_start.specs.Lines.{IsJournal, IsLast, IsLine, Numbered}
 use Rattle.td_journal_start.specs.Texts.{HasLast, IsOneLine, IsWhole}
 use Rattle.td_journal_start.proofs.Splitting.{last_once, line_whole, some_line}
-use Rattle.td_redo.specs.Redo.{Row}
 use Rattle.td_routes.specs.Bodies.{command_of}
 
 -- the seconds of a moment
@@ -83,7 +82,7 @@ journal_last bytes text last j =
       line_is = is.2;
     }
 
-same_last : (one two : Option Numbered) (b c line : List ℕ) → IsLast b line one → IsLast c line two → one ≡ two
+pub same_last : (one two : Option Numbered) (b c line : List ℕ) → IsLast b line one → IsLast c line two → one ≡ two
 same_last None None b c line is other = refl
 same_last None (Some r) b c line is other =
     let none : length line ≡ 0 = ap length is.1 in absurd (omega (arith, none, some_line line (line_one r line other.1)))

@@ -1,5 +1,5 @@
 -- Requests that are read as no command are those of none.
-use Rattle.std.proofs.Common.{◌≡◌, ◌≢◌, ◌⊎◌, ℕ, List, codes, inl, inr, Ok, Err, Result, refl, sym, ap, subst, ◌∙◌, arith}
+use Rattle.std.proofs.Common.{◌≡◌, ◌≢◌, ℕ, List, codes, inl, inr, Ok, Err, Result, refl, ap, subst, ◌∙◌, arith}
 use Rattle.http_header.specs.Token.{IsToken, is_token_byte}
 use Rattle.http_header.proofs.TokenLemmas.{AllPass-from_test}
 use Rattle.td_commands.specs.declared.command.Command.{Command}
@@ -7,7 +7,7 @@ use Rattle.td_commands.specs.declared.command.Command.TheVariants.{Register, Ope
 use Rattle.td_fields.specs.Faults.{OrNoMemory}
 use Rattle.td_fields.specs.declared.fault.WebFault.{WebFault}
 use Rattle.td_fields.specs.declared.fault.WebFault.TheVariants.{NoMemory}
-use Rattle.td_journal_rows.specs.Requests.{ReadsBack, request_body, request_method, request_path}
+use Rattle.td_journal_rows.specs.Requests.{ReadsBack, request_method, request_path}
 use Rattle.td_journal_rows.specs.declared.rows.JournalRow.{JournalRow}
 use Rattle.td_journal_start.specs.Lines.{HasRequestOf}
 use Rattle.td_routes.specs.Bodies.{command_of}

@@ -1,13 +1,12 @@
 -- A row that was read, and the line that it was read of.
-use Rattle.std.proofs.Common.{◌≡◌, ℕ, ℤ, pos, negsuc, ◌^◌, ◌<◌, ◌≤◌, List, ◌∷◌, ◌++◌, [], Option, None, Some, option_map, Ok, Result, refl, sym, ap, subst, ◌∙◌, arith}
+use Rattle.std.proofs.Common.{◌≡◌, ℕ, ℤ, pos, negsuc, ◌^◌, ◌<◌, ◌≤◌, List, Option, None, Some, option_map, Ok, sym, ap, subst, ◌∙◌, arith}
 use Rattle.std.proofs.lemmas.Bool.{and_parts, leb-true}
 use Rattle.std.proofs.lemmas.Option.{cond_some}
 use Rattle.std.specs.Prelude.{nat_le}
 use Rattle.td_base.specs.Days.{moment_of}
 use Rattle.td_commands.specs.declared.command.Command.{Command}
 use Rattle.td_commands.specs.declared.command.Stamped.{Stamped}
-use Rattle.td_fields.specs.declared.fault.WebFault.{WebFault}
-use Rattle.td_journal_rows.specs.Requests.{ReadsBack, request_body, request_method, request_path}
+use Rattle.td_journal_rows.specs.Requests.{request_method, request_path}
 use Rattle.td_journal_rows.specs.Rows.{IsRow, RowText, change_row, row_line, row_of_line, row_shown}
 use Rattle.td_journal_rows.specs.declared.rows.JournalRow.{JournalRow}
 use Rattle.td_journal_rows.proofs.OneLine.{row_back, row_small}
@@ -15,7 +14,6 @@ use Rattle.td_journal_rows.proofs.RowsBack.{line_is, line_reads}
 use Rattle.td_journal_start.specs.Lines.{HasRequestOf, IsLine, Numbered}
 use Rattle.td_journal_start.specs.Texts.{IsOneLine}
 use Rattle.td_journal_start.proofs.Reading.{moment_is, reads, same_command, same_row}
-use Rattle.td_redo.specs.Redo.{Row}
 use Rattle.td_routes.specs.Bodies.{command_of}
 
 -- a line that isn't read is that of no row

@@ -1,12 +1,12 @@
 -- The last row in the end of a file is the file's.
-use Rattle.std.proofs.Common.{◌≡◌, ◌⊎◌, ℕ, ◌+◌, ◌<◌, ◌≤◌, List, [], ◌∷◌, ◌++◌, length, take, drop, Option, None, Some, inl, inr, refl, sym, ap, subst, ◌∙◌, arith, append_assoc, append-nil, length-append}
+use Rattle.std.proofs.Common.{◌≡◌, ◌⊎◌, ℕ, ◌+◌, ◌<◌, ◌≤◌, List, [], ◌∷◌, ◌++◌, length, take, drop, Option, None, Some, inl, inr, refl, sym, ap, subst, ◌∙◌, arith, append_assoc, length-append}
 use Rattle.std.proofs.lemmas.List.{append_cancel_left, take-append-drop, take-append-le, take_at}
 use Rattle.td_journal_rows.specs.Rows.{HasNoLineFeed}
-use Rattle.td_journal_start.specs.Lines.{IsJournal, IsLast, IsLine, IsNone, Numbered, tail}
+use Rattle.td_journal_start.specs.Lines.{IsJournal, IsLast, IsLine, IsNoJournal, Numbered, tail}
 use Rattle.td_journal_start.specs.Tails.{IsEndOf, IsFull}
 use Rattle.td_journal_start.specs.Texts.{HasLast, IsOneLine, IsWhole}
 use Rattle.td_journal_start.specs.declared.tail.Tail.{Tail}
-use Rattle.td_journal_start.proofs.Reading.{journal_last, line_one}
+use Rattle.td_journal_start.proofs.Reading.{journal_last}
 use Rattle.td_journal_start.proofs.Splitting.{last_once, line_whole, some_line}
 
 no_bytes : (text : List ℕ) → length text ≡ 0 → text ≡ []
@@ -83,7 +83,7 @@ module _ (t : Tail) (bytes : List ℕ) (full : IsFull t) (end : IsEndOf t bytes)
   }
 
   -- where it is no row the file is no journal
-  pub no_row : Begins → IsOneLine line → ((r : Numbered) → IsLine r line → ⊥) → IsNone bytes
+  pub no_row : Begins → IsOneLine line → ((r : Numbered) → IsLine r line → ⊥) → IsNoJournal bytes
   no_row begins one none text row journal =
       let same = last_once bytes (end.front ++ before) line torn journal.before journal.line journal.torn (whole_last begins one) (journal_last bytes text row journal) in
       by row journal.before (subst (λ (x : List ℕ). IsLast journal.before x row) (sym same.1) journal.last_is)
@@ -131,7 +131,7 @@ rest_whole front rest (inr (lines, is)) some =
     inr (cut.0, cut.2)
 
 -- where the last line begins before what was read the file is no journal
-pub too_far : (t : Tail) (bytes : List ℕ) → IsFull t → IsEndOf t bytes → (line torn : List ℕ) → HasLast t.bytes.items [] line torn → 0 < t.before → IsNone bytes
+pub too_far : (t : Tail) (bytes : List ℕ) → IsFull t → IsEndOf t bytes → (line torn : List ℕ) → HasLast t.bytes.items [] line torn → 0 < t.before → IsNoJournal bytes
 too_far t bytes full end line torn last some text row journal = by journal.near
   where
     size : length bytes ≡ t.before + tail

@@ -1,12 +1,12 @@
 -- Laws of starts.
-use Rattle.std.specs.Prelude.{◌≡◌, ◌⊎◌, ℕ, ◌+◌, List, [], ◌∷◌, ◌++◌, IsTrue, length}
+use Rattle.std.specs.Prelude.{◌≡◌, ◌⊎◌, ℕ, ◌+◌, ◌<◌, List, [], ◌∷◌, ◌++◌, IsTrue, length}
 use Rattle.sqlite_disk.specs.declared.Disk.{Ghosts}
 use Rattle.td_desk.specs.Content.{Content, IsSound}
 use Rattle.td_desk.specs.View.{DeskView}
 use Rattle.td_journal.specs.Journal.{IsTight, file_of, next_number, text_of}
 use Rattle.td_journal.specs.declared.desk.JournaledDesk.{JournaledDesk}
 use Rattle.td_journal_rows.specs.Rows.{HasNoLineFeed}
-use Rattle.td_journal_start.specs.Lines.{AreLines}
+use Rattle.td_journal_start.specs.Lines.{AreLines, IsLine, tail}
 use Rattle.td_journal_start.specs.Starts.{IsRefused, IsStarted}
 use Rattle.td_journal_start.specs.declared.refused.StartFault.TheVariants.{BadJournal, ForeignRow}
 use Rattle.td_redo.specs.Redo.{AreDone, IsDone, Row}
@@ -67,3 +67,11 @@ NoRowIsForeign {D} {F} view g =
     (begin before after : Content) (rows : List (Row (List ℕ))) (row : Row (List ℕ)) (first : ℕ) (text torn : List ℕ) (desk new : D) (file left : F) (number : ℕ)
     → IsJournaled view g begin before after rows row first text torn desk file → IsClean view g new left
     → IsRefused view g desk file (ForeignRow number) new left → ⊥
+
+-- Nor is the file none of a journal, where the last line and what is torn behind it are less than what is read of a file.
+abbrev pub JournalIsRead : {D F : Type 0} → DeskView D → Ghosts F → Type 0
+JournalIsRead {D} {F} view g =
+    (begin before after : Content) (rows : List (Row (List ℕ))) (row : Row (List ℕ)) (first : ℕ) (text torn : List ℕ) (desk new : D) (file left : F)
+    → IsJournaled view g begin before after rows row first text torn desk file
+    → ((line : List ℕ) → IsLine (record { number = first + length rows; row = row }) line → length line + length torn < tail)
+    → IsClean view g new left → IsRefused view g desk file BadJournal new left → ⊥

@@ -1,5 +1,5 @@
 -- The last row, as the code has it.
-use Rattle.std.specs.Prelude.{ℕ, ◌+◌, Option, None, Some, option_map}
+use Rattle.std.specs.Prelude.{Option, option_map}
 use Rattle.td_journal_start.specs.Lines.{Numbered}
 use Rattle.td_journal_start.specs.declared.last_row.LastRow.{LastRow}
 

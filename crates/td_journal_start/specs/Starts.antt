@@ -1,5 +1,5 @@
 -- What a start does to a desk and to the file of its journal.
-use Rattle.std.specs.Prelude.{◌≡◌, ◌≢◌, ◌⊎◌, ℕ, Bool, false, List, Option, None, Some, Result, Ok, Err, IfOk, IsTrue, OnErr, OnOk, length, take}
+use Rattle.std.specs.Prelude.{◌≡◌, ◌≢◌, ◌⊎◌, ℕ, false, List, Option, None, Some, Result, Ok, Err, IfOk, IsTrue, OnErr, OnOk, length, take}
 use Rattle.sqlite_disk.specs.Disk.{MoreFaults}
 use Rattle.sqlite_disk.specs.declared.Disk.{Ghosts}
 use Rattle.td_commands.specs.Commands.{IsProper}
@@ -7,9 +7,9 @@ use Rattle.td_desk.specs.Content.{IsSound}
 use Rattle.td_desk.specs.View.{AddsAtMost, DeskView, IsSettled}
 use Rattle.td_desk.specs.declared.fault.Fault.{Fault}
 use Rattle.td_desk.specs.declared.fault.Fault.TheVariants as fault
-use Rattle.td_journal.specs.Journal.{file_of, next_number, text_of}
+use Rattle.td_journal.specs.Journal.{next_number, text_of}
 use Rattle.td_journal.specs.declared.desk.JournaledDesk.{JournaledDesk}
-use Rattle.td_journal_start.specs.Lines.{IsJournal, IsNone, Numbered, next_after}
+use Rattle.td_journal_start.specs.Lines.{IsJournal, IsNoJournal, Numbered, next_after}
 use Rattle.td_journal_start.specs.declared.refused.StartFault.{StartFault}
 use Rattle.td_journal_start.specs.declared.refused.StartFault.TheVariants.{BadJournal, ForeignRow, NoMemory, Store}
 use Rattle.td_redo.specs.Endings.{Ends, IsRedoneBy}
@@ -27,6 +27,7 @@ pub record IsAsked {D : Type 0} (view : DeskView D) (old : D) (row : Row (List �
       → IfOk result (λ ending. Ends ending row.stamped row.shown (view.content old) (view.content new))
   pub err : view.is_clean new → view.is_live new → OnErr result (view.content new ≡ view.content old)
   pub memory : view.is_clean new → result ≡ Err fault.NoMemory → view.is_live new
+  pub store : result ≡ Err fault.Store → view.has_store
   -- a crash leaves what it could leave before, or the content with the row's change
   pub crash : view.is_clean new → AddsAtMost view
       (λ x. view.is_live old × (IsSound (view.content old) → Ends Carried row.stamped row.shown (view.content old) x)) old new
@@ -86,7 +87,7 @@ pub record IsUnasked {D F : Type 0} (g : Ghosts F) (desk : D) (file : F) (new : 
 
 -- Why there was no start, and what is left of the desk and of the file.
 abbrev pub IsRefused : {D F : Type 0} → DeskView D → Ghosts F → D → F → StartFault → D → F → Type 0
-IsRefused view g desk file BadJournal new left = IsUnasked g desk file new left × (IsTrue (g.is_clean left) → IsNone (g.seen file))
+IsRefused view g desk file BadJournal new left = IsUnasked g desk file new left × (IsTrue (g.is_clean left) → IsNoJournal (g.seen file))
 IsRefused view g desk file (ForeignRow row) new left =
     (r : Numbered) × (r.number ≡ row) × IsRefusedAt view g desk file r (Ok Foreign) new left
 IsRefused view g desk file NoMemory new left =

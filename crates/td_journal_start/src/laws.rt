@@ -1,5 +1,5 @@
 //! Laws of starts, as contracts of functions that do nothing.
-ghost use Rattle.td_journal_start.specs.Laws.{NoRowIsForeign, NotRefusedAgain, StartIsWhole, StartedTwice};
+ghost use Rattle.td_journal_start.specs.Laws.{JournalIsRead, NoRowIsForeign, NotRefusedAgain, StartIsWhole, StartedTwice};
 
 use sqlite_disk::Disk;
 use td_desk::Desk;
@@ -23,4 +23,9 @@ pub fn start_is_whole<D: Desk, F: Disk>()
 /// And there the last row isn't told as foreign.
 pub fn no_row_is_foreign<D: Desk, F: Disk>()
     ensures { NoRowIsForeign D.seen F.Disk }
+{}
+
+/// And, where the last row with what is torn behind it isn't too long for what is read of a file, the file is taken for a journal.
+pub fn journal_is_read<D: Desk, F: Disk>()
+    ensures { JournalIsRead D.seen F.Disk }
 {}

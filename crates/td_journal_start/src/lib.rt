@@ -7,6 +7,8 @@ mod refused;
 mod starting;
 mod tail;
 
-pub use laws::{no_row_is_foreign, not_refused_again, start_is_whole, started_twice};
+pub use laws::{
+    journal_is_read, no_row_is_foreign, not_refused_again, start_is_whole, started_twice,
+};
 pub use refused::{Refused, StartFault};
 pub use starting::start_journal;

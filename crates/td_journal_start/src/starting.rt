@@ -42,11 +42,7 @@ pub fn start_journal<D: Desk, F: Disk>(
 }
 
 // Takes the last row at the desk, and cuts off what stands behind the text.
-fn begin<D: Desk, F: Disk>(
-    alloc: Global,
-    desk: &mut D,
-    file: &mut F,
-) -> Result<Found, StartFault>
+fn begin<D: Desk, F: Disk>(alloc: Global, desk: &mut D, file: &mut F) -> Result<Found, StartFault>
     ensures begun { IfOk result (λ found. IsBegun D.seen F.Disk desk.old file.old found desk.new file.new) }
     ensures refused { IfErr result (λ why. IsRefused D.seen F.Disk desk.old file.old why desk.new file.new) }
 {
@@ -61,11 +57,7 @@ fn begin<D: Desk, F: Disk>(
 }
 
 // Asks the last row again at the desk, if there is one.
-fn take_last<D: Desk>(
-    alloc: Global,
-    desk: &mut D,
-    last: &Option<LastRow>,
-) -> Result<(), StartFault>
+fn take_last<D: Desk>(alloc: Global, desk: &mut D, last: &Option<LastRow>) -> Result<(), StartFault>
     ensures taken { OnOk result (IsTaken D.seen desk.old (last_seen last.now) desk.new) }
     ensures refused { IfErr result (λ why. IsUntaken D.seen desk.old (last_seen last.now) why desk.new) }
 {

@@ -1,7 +1,7 @@
 //! The end of a journal's file, and the last row in it.
 ghost use Rattle.std.specs.Prelude.{◌≡◌, ◌+◌, ◌-◌, ◌≤◌, ℕ, Err, IfOk, IfSome, IsTrue, List, None, Ok, OnOk, drop, length, slice_range, take};
 ghost use Rattle.td_desk.specs.declared.fault.Fault.{Fault};
-ghost use Rattle.td_journal_start.specs.Lines.{IsNone};
+ghost use Rattle.td_journal_start.specs.Lines.{IsNoJournal};
 ghost use Rattle.td_journal_start.specs.Starts.{HasFailed, IsAsFound};
 ghost use Rattle.td_journal_start.specs.Tails.{Fits, HasNext, IsEndOf, IsFound, IsFull};
 ghost use Rattle.td_journal_start.specs.Texts.{HasLast, Splits};
@@ -36,7 +36,7 @@ pub(crate) fn find_last<F: Disk>(alloc: Global, file: &mut F) -> Result<Option<F
     ensures faults { OnOk result (F.Disk.faults file.new ≡ F.Disk.faults file.old) }
     ensures next { IfOk result (λ found. IfSome found HasNext) }
     ensures found { IfOk result (λ found. IsTrue (F.Disk.is_clean file.new) → IfSome found (IsFound (F.Disk.seen file.old))) }
-    ensures none { IfOk result (λ found. IsTrue (F.Disk.is_clean file.new) → found ≡ None → IsNone (F.Disk.seen file.old)) }
+    ensures none { IfOk result (λ found. IsTrue (F.Disk.is_clean file.new) → found ≡ None → IsNoJournal (F.Disk.seen file.old)) }
     ensures store { result ≡ Err Fault.Store → HasFailed F.Disk file.old file.new }
 {
     let tail = read_tail(alloc, file)?;
@@ -73,7 +73,7 @@ fn found_in(alloc: Global, tail: &Tail) -> Result<Option<Found>, AllocError>
     requires { Fits tail.now }
     ensures next { IfOk result (λ found. IfSome found HasNext) }
     ensures found { IfOk result (λ found. IfSome found (λ f. (bytes : List ℕ) → IsFull tail.now → IsEndOf tail.now bytes → IsFound bytes f)) }
-    ensures none { IfOk result (λ found. found ≡ None → (bytes : List ℕ) → IsFull tail.now → IsEndOf tail.now bytes → IsNone bytes) }
+    ensures none { IfOk result (λ found. found ≡ None → (bytes : List ℕ) → IsFull tail.now → IsEndOf tail.now bytes → IsNoJournal bytes) }
 {
     let (begin, end) = last_line(&tail.bytes);
     if begin == 0 && tail.before > 0 {

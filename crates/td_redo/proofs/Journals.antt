@@ -12,7 +12,7 @@ use Rattle.td_redo.proofs.Contents.{carried_alike}
 use Rattle.td_redo.proofs.Endings.{row_that_is_due_is_carried, row_that_stands_is_told}
 
 -- what they make of a sound content is sound
-sound_done : (X : Type 0) (shown : Said → X) (begin end : Content) (rows : List (Row X)) → IsSound begin → AreDone shown begin rows end → IsSound end
+pub sound_done : (X : Type 0) (shown : Said → X) (begin end : Content) (rows : List (Row X)) → IsSound begin → AreDone shown begin rows end → IsSound end
 sound_done X shown begin end [] sound done = subst IsSound (sym done) sound
 sound_done X shown begin end (row ∷ rows) sound done = sound_done X shown done.0 end rows done.1.carried.sound done.2
 

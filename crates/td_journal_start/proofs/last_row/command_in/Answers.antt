@@ -1,4 +1,4 @@
-use Rattle.std.proofs.Common.{◌≡◌, ◌∙◌, List, ℕ, Err, ap, rules, subst, sym}
+use Rattle.std.proofs.Common.{◌∙◌, Err, ap, rules, subst, sym}
 use Rattle.std.proofs.lemmas.Result.{IfOk-weaker}
 use Rattle.http_header.specs.Token.{IsToken}
 use Rattle.td_journal_start.proofs.Requests.{method_token, not_read}

@@ -1,4 +1,4 @@
-use Rattle.std.proofs.Common.{◌≡◌, inl, inr, length, refl, rules, subst, sym, take}
+use Rattle.std.proofs.Common.{◌≡◌, inr, length, refl, rules, subst, take}
 use Rattle.std.proofs.lemmas.Result.{err_from_is_err_and}
 use Rattle.std.specs.Prelude.{IsTrue}
 use Rattle.sqlite_disk.specs.Disk.{MoreFaults}

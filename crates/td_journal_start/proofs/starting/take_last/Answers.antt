@@ -1,4 +1,4 @@
-use Rattle.std.proofs.Common.{◌≡◌, Option, Some, Err, rules, sym, subst}
+use Rattle.std.proofs.Common.{Option, Err, rules, sym, subst}
 use Rattle.td_journal_start.specs.Begun.{IsUntaken}
 use Rattle.td_journal_start.specs.Rows.{last_seen, numbered}
 use Rattle.td_journal_start.specs.Starts.{IsAsked}

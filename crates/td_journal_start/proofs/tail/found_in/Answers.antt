@@ -1,4 +1,4 @@
-use Rattle.std.proofs.Common.{◌≡◌, ◌⊎◌, ◌<◌, ◌≤◌, ℕ, List, [], arith, drop, inl, inr, length, rules, subst, sym, take, ◌∙◌}
+use Rattle.std.proofs.Common.{◌≡◌, ◌⊎◌, ◌<◌, ◌≤◌, ℕ, List, [], arith, drop, inl, inr, length, rules, subst, sym, take}
 use Rattle.std.specs.Prelude.{slice_range}
 use Rattle.td_journal_start.specs.Lines.{IsLine, Numbered}
 use Rattle.td_journal_start.specs.Rows.{numbered}
