@@ -4,7 +4,7 @@ use Rattle.std.specs.Prelude.{not}
 use Rattle.std.specs.Option.{SomeIff, option_eq}
 use Rattle.std.proofs.lemmas.List.{map-append, take-append-drop}
 use Rattle.td_journal_lines.specs.Lines.{Numbered}
-use Rattle.td_replay.specs.Numbers.{AreAbove, AreCounted}
+use Rattle.td_replay.specs.Numbers.{AreAbove, AreCounted, AreRising, IsFirstNot}
 
 pub counted_more : (n : ℕ) (rows : List Numbered) (r : Numbered) → AreCounted n rows → r.number ≡ n + length rows → AreCounted n (rows ++ r ∷ [])
 counted_more n [] r none is = (omega (arith, is), tt)
@@ -13,6 +13,30 @@ counted_more n (q ∷ rows) r are is = (are.0, counted_more (n + 1) rows r are.1
 pub counted_last : (n : ℕ) (rows : List Numbered) (r : Numbered) → AreCounted n (rows ++ r ∷ []) → r.number ≡ n + length rows
 counted_last n [] r are = omega (arith, are.0)
 counted_last n (q ∷ rows) r are = let rest = counted_last (n + 1) rows r are.1 in omega (arith, rest)
+
+-- what holds of rows holds of those at their front
+pub counted_front : (n : ℕ) (rows more : List Numbered) → AreCounted n (rows ++ more) → AreCounted n rows
+counted_front n [] more are = tt
+counted_front n (r ∷ rows) more are = (are.0, counted_front (n + 1) rows more are.1)
+
+pub above_front : (n : ℕ) (rows more : List Numbered) → AreAbove n (rows ++ more) → AreAbove n rows
+above_front n [] more are = tt
+above_front n (r ∷ rows) more are = (are.0, above_front r.number rows more are.1)
+
+rising_front : (rows more : List Numbered) → AreRising (rows ++ more) → AreRising rows
+rising_front [] more are = tt
+rising_front (r ∷ rows) more are = above_front r.number rows more are
+
+-- so rows with a first one with which they aren't so aren't so
+not_all : (so : List Numbered → Type 0) → ((rows more : List Numbered) → so (rows ++ more) → so rows) → (rows : List Numbered) (number : ℕ) → IsFirstNot so rows number → so rows → ⊥
+not_all so front rows number is are =
+    is.no_more (front (is.before ++ is.row ∷ []) is.after (subst so (is.rows_are ∙ sym (append_assoc is.before (is.row ∷ []) is.after)) are))
+
+pub not_counted : (rows : List Numbered) (number : ℕ) → IsFirstNot (AreCounted 1) rows number → AreCounted 1 rows → ⊥
+not_counted rows number is are = not_all (AreCounted 1) (λ rows more. counted_front 1 rows more) rows number is are
+
+pub not_rising : (rows : List Numbered) (number : ℕ) → IsFirstNot AreRising rows number → AreRising rows → ⊥
+not_rising rows number is are = not_all AreRising rising_front rows number is are
 
 -- the number of the last row, if there is one
 abbrev pub last_number : ℕ → List Numbered → ℕ

@@ -1,11 +1,11 @@
 -- A text is cut behind its first line in one way, and so is read in one way.
-use Rattle.std.proofs.Common.{◌≡◌, ℕ, ◌+◌, ◌==◌, List, [], ◌∷◌, ◌++◌, length, false, refl, sym, ap, subst, ◌∙◌, append_assoc, append-nil}
+use Rattle.std.proofs.Common.{◌≡◌, ℕ, ◌==◌, List, [], ◌∷◌, ◌++◌, length, false, refl, sym, ap, subst, ◌∙◌, append_assoc, append-nil}
 use Rattle.std.proofs.lemmas.List.Elements.{All-head, All-tail}
 use Rattle.td_journal_lines.specs.Lines.{AreLinesOf, IsLine, Numbered}
 use Rattle.td_journal_lines.proofs.Reading.{line_of_one, line_one}
 use Rattle.td_journal_rows.specs.Rows.{HasNoLineFeed, IsOneLine}
 use Rattle.td_replay.specs.Laws.{ReadInOneWay}
-use Rattle.td_replay.specs.Reading.{HasBadLine, HasChanges, HasNone}
+use Rattle.td_replay.specs.Reading.{HasBadLine, HasNone}
 
 abbrev IsNone : ℕ → Type 0
 IsNone c = (c == 10) ≡ false

@@ -1,6 +1,6 @@
 -- Rows that were replayed over the content that they came from.
-use Rattle.std.proofs.Common.{◌≡◌, ◌≢◌, ℕ, ◌+◌, Bool, true, false, List, [], ◌∷◌, ◌++◌, All, length, map, take, Option, Some, None, inl, inr, refl, sym, ap, subst, ◌∙◌, arith}
-use Rattle.std.specs.Prelude.{filter, if◌then◌else◌, zip}
+use Rattle.std.proofs.Common.{◌≡◌, ◌≢◌, ℕ, Bool, true, false, List, [], ◌∷◌, ◌++◌, All, length, map, Option, Some, None, inl, inr, refl, sym, ap, subst, ◌∙◌, arith}
+use Rattle.std.specs.Prelude.{if◌then◌else◌, zip}
 use Rattle.std.specs.List.{FoldsTo}
 use Rattle.std.proofs.lemmas.List.{length-map, take_all}
 use Rattle.std.proofs.lemmas.List.Elements.{All-head, All-tail}
@@ -12,17 +12,16 @@ use Rattle.td_desk.specs.Content.{Content, IsSound}
 use Rattle.td_desk.specs.Runs.{is_holder, part}
 use Rattle.td_desk.specs.View.{DeskView}
 use Rattle.td_desk.specs.Weighing.{Carries}
-use Rattle.td_desk.specs.declared.fault.Fault.{Fault}
 use Rattle.td_desk.specs.declared.fault.Fault.TheVariants as fault
 use Rattle.td_desk.specs.declared.running.Outcome.{Outcome}
-use Rattle.td_journal.specs.Parts.{AreTold, PartTellsTheSame, own_replies, reply_over}
+use Rattle.td_journal.specs.Parts.{AreTold, PartTellsTheSame, own_replies}
 use Rattle.td_journal_lines.specs.Lines.{Numbered}
 use Rattle.td_redo.proofs.Journals.{journal_makes_one_content}
 use Rattle.td_redo.specs.Redo.{AreDone, IsDone, Row, said_over}
 use Rattle.td_redo.specs.Replies.{body_text}
 use Rattle.td_replay.proofs.RowsDone.{words_said}
 use Rattle.td_replay.specs.Laws.{ChangedReplyIsTold, DeskIsRebuilt, IsReplayedOver, PartDiffersNowhere, replies_of, rows_of, rows_owned, with_reply}
-use Rattle.td_replay.specs.Replays.{AreEnded, IsDoneAt, IsEachDone, IsFirstDifference, IsNotBegun, IsPlain, IsReplayDone, IsReplayOf, IsSame, stamped_of, tried}
+use Rattle.td_replay.specs.Replays.{AreEnded, IsEachDone, IsFirstDifference, IsPlain, IsReplayOf, IsSame, stamped_of, tried}
 use Rattle.td_replay.specs.declared.replaying.ReplayRun.{ReplayRun}
 
 -- ---- replies
@@ -106,8 +105,7 @@ module _ {D : Type 0} (view : DeskView D) where
       let performs = (step.performs (clean_back (zip (map stamped_of rows) (words_said said)) mid new more clean)).2 (subst IsSound (sym is) sound) in
       let told : words ≡ said_over begin r.row.stamped = performs.0 ∙ ap (λ (c : Content). said_over c r.row.stamped) is in
       let carries : Carries begin r.row.stamped (view.content mid) = subst (λ (c : Content). Carries c r.row.stamped (view.content mid)) is performs.1 in
-      let rest = rebuilt rows said next end mid new (omega (arith, size)) first.carried.sound (one_left begin next (view.content mid) r.row first carries) others more clean in
-      (
+      let rest = rebuilt rows said next end mid new (omega (arith, size)) first.carried.sound (one_left begin next (view.content mid) r.row first carries) others more clean in (
         ap (λ (t : List ℕ). t ∷ map body_text said) (ap body_text told ∙ first.told) ∙ ap (λ (ts : List (List ℕ)). r.row.shown ∷ ts) rest.0,
         rest.1,
       )
@@ -146,8 +144,7 @@ module _ {D : Type 0} (view : DeskView D) where
   told_all [] (words ∷ said) old new size sound steps clean = absurd (omega (arith, size))
   told_all (r ∷ rows) [] old new size sound steps clean = absurd (omega (arith, size))
   told_all (r ∷ rows) (words ∷ said) old new size sound (mid, step, more) clean =
-      let performs = (step.performs (clean_back (zip (map stamped_of rows) (words_said said)) mid new more clean)).2 sound in
-      (
+      let performs = (step.performs (clean_back (zip (map stamped_of rows) (words_said said)) mid new more clean)).2 sound in (
         view.content mid,
         map said_body said,
         ap (λ (t : List ℕ). t ∷ map said_body said) (ap said_body performs.0),

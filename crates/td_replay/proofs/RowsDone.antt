@@ -1,11 +1,10 @@
 -- Rows that were done so far, and one more.
-use Rattle.std.proofs.Common.{◌≡◌, ◌⊎◌, ℕ, ◌+◌, ◌<◌, ◌≤◌, Bool, true, false, List, [], ◌∷◌, ◌++◌, All, length, map, take, Option, Some, None, inl, inr, refl, sym, ap, subst, ◌∙◌, arith, rules, append_assoc}
+use Rattle.std.proofs.Common.{◌≡◌, ℕ, ◌+◌, ◌<◌, Bool, true, false, List, [], ◌∷◌, ◌++◌, All, length, map, take, Option, Some, None, inl, inr, refl, sym, ap, subst, ◌∙◌, arith, rules, append_assoc}
 use Rattle.std.specs.Prelude.{◌↔◌, IsTrue, zip}
 use Rattle.std.specs.List.{FoldsTo}
 use Rattle.std.proofs.lemmas.Fn.{FoldsTo-push}
-use Rattle.std.proofs.lemmas.List.{append-nil, length-append, length-map, length-take-le, map-append, take_all}
+use Rattle.std.proofs.lemmas.List.{append-nil, length-append, length-map, length-take-le, map-append}
 use Rattle.std.proofs.lemmas.List.Elements.{All-nil, All-push}
-use Rattle.td_commands.specs.declared.command.Stamped.{Stamped}
 use Rattle.td_commands.specs.declared.said.Said.{Said}
 use Rattle.td_desk.specs.declared.fault.Fault.{Fault}
 use Rattle.td_desk.specs.declared.running.Outcome.{Outcome}
@@ -15,7 +14,7 @@ use Rattle.td_desk.specs.View.{DeskView}
 use Rattle.td_desk.proofs.Calls.{one_outcome_more}
 use Rattle.td_desk.proofs.Turns.{run_on}
 use Rattle.td_journal_lines.specs.Lines.{Numbered}
-use Rattle.td_replay.specs.Replays.{IsDoneAt, IsEachDone, IsFirstDifference, IsLast, IsPlain, IsPrivate, IsReplayDone, IsSame, IsStopped, IsTold, difference_with, replies_header, reply_line, reply_lines, stamped_of, tried}
+use Rattle.td_replay.specs.Replays.{IsDoneAt, IsEachDone, IsFirstDifference, IsPlain, IsPrivate, IsReplayDone, IsSame, IsStopped, IsTold, difference_with, replies_header, reply_line, reply_lines, stamped_of}
 use Rattle.td_replay.specs.declared.replaying.ReplayRun.{ReplayRun}
 
 zip_more : {X Y : Type 0} (xs : List X) (ys : List Y) (x : X) (y : Y) → length ys ≡ length xs → zip (xs ++ x ∷ []) (ys ++ y ∷ []) ≡ zip xs ys ++ (x, y) ∷ []

@@ -26,12 +26,7 @@ pub struct ReplayRun {
 }
 
 // Writes the line of a row, to which that is said now, behind the text, and answers whether the row has this reply.
-fn tell(
-    alloc: Global,
-    row: &ChangeRow,
-    said: &Said,
-    text: &mut Vec<u8>,
-) -> Result<bool, AllocError>
+fn tell(alloc: Global, row: &ChangeRow, said: &Said, text: &mut Vec<u8>) -> Result<bool, AllocError>
     ensures text { OnOk result (text.new.items ≡ text.old.items ++ reply_line row.now.number said.now) }
     ensures none { OnErr result (text.new.items ≡ text.old.items) }
     ensures same { IfOk result (λ same. IsTrue same ↔ said_body said.now ≡ row.now.reply.items) }

@@ -1,9 +1,9 @@
-use Rattle.std.proofs.Common.{◌≡◌, ◌+◌, ◌<◌, ◌∙◌, ◌∷◌, ◌++◌, [], length, map, take, ap, rules, sym, refl, subst, List, arith}
+use Rattle.std.proofs.Common.{◌≡◌, ◌+◌, ◌<◌, ◌∙◌, ◌∷◌, ◌++◌, [], map, take, ap, rules, sym, refl, subst, List, arith}
 use Rattle.std.proofs.lemmas.List.{take_all, take_more}
 use Rattle.td_journal_lines.specs.Lines.{Numbered}
 use Rattle.td_journal_lines.specs.Rows.{numbered}
-use Rattle.td_replay.specs.Numbers.{AreAbove, AreRising}
-use Rattle.td_replay.proofs.Counting.{above_last, above_more, around, first_more, last_more, last_number}
+use Rattle.td_replay.specs.Numbers.{AreAbove}
+use Rattle.td_replay.proofs.Counting.{above_last, above_more, around, first_more, last_more, last_number, not_rising}
 use Rattle.td_replay.proofs.numbers.first_fall.Goals as goal
 
 pub loop-row-init : goal.loop-row-init
@@ -27,6 +27,10 @@ returns-then-row-before-clause-fall c =
       number_is = refl;
     }
 
+pub returns-then-row-before-clause-none : goal.returns-then-row-before-clause-none
+returns-then-row-before-clause-none c =
+    (λ none. cc, λ are. absurd (not_rising (map numbered c.args.rows.now) c.row-item.result.number (returns-then-row-before-clause-fall c) are))
+
 pub loop-row-preserved : goal.loop-row-preserved
 loop-row-preserved c =
     let first = c.in_ok-first.first.now in
@@ -42,7 +46,7 @@ loop-row-preserved c =
     })
 
 pub returns-clause-none : goal.returns-clause-none
-returns-clause-none c = λ none.
+returns-clause-none c =
     let rows = c.in_ok-first.others.now in
     let all : take c.loop-row.row-index rows ≡ rows = take_all c.loop-row.row-index rows (search rules) in
-    rw c.in_ok-first.ensures.cases.0 (subst (λ (l : List _). AreAbove c.in_ok-first.first.now.number (map numbered l)) all c.loop-row.invariant.above)
+    (λ none. rw c.in_ok-first.ensures.cases.0 (subst (λ (l : List _). AreAbove c.in_ok-first.first.now.number (map numbered l)) all c.loop-row.invariant.above), λ are. refl)

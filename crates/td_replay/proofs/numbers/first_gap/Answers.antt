@@ -1,7 +1,7 @@
-use Rattle.std.proofs.Common.{◌≡◌, ◌+◌, ◌∙◌, ◌∷◌, ◌++◌, [], length, map, take, ap, rules, sym, refl, arith}
+use Rattle.std.proofs.Common.{◌≡◌, ◌+◌, ◌∙◌, ◌∷◌, ◌++◌, [], length, map, take, ap, sym, refl, arith}
 use Rattle.std.proofs.lemmas.List.{length-map, length-take-le, take_more}
 use Rattle.td_journal_lines.specs.Rows.{numbered}
-use Rattle.td_replay.proofs.Counting.{around, counted_last, counted_more, first_more, is_next, not_next}
+use Rattle.td_replay.proofs.Counting.{around, counted_last, counted_more, first_more, is_next, not_counted, not_next}
 use Rattle.td_replay.proofs.numbers.first_gap.Goals as goal
 
 pub returns-then-ne-clause-gap : goal.returns-then-ne-clause-gap
@@ -23,6 +23,10 @@ returns-then-ne-clause-gap c =
       no_more = λ are. other (counted_last 1 (map numbered (take i rows)) (numbered row) are ∙ one);
       number_is = refl;
     }
+
+pub returns-then-ne-clause-none : goal.returns-then-ne-clause-none
+returns-then-ne-clause-none c =
+    (λ none. cc, λ are. absurd (not_counted (map numbered c.args.rows.now) c.row-item.result.number (returns-then-ne-clause-gap c) are))
 
 pub loop-row-preserved : goal.loop-row-preserved
 loop-row-preserved c =

@@ -1,7 +1,7 @@
-use Rattle.std.proofs.Common.{◌≡◌, ◌+◌, ◌∙◌, ◌++◌, ◌∷◌, [], None, Some, length, map, rules, true, refl, sym, ap}
-use Rattle.std.proofs.lemmas.List.{append_assoc, length-append, length-map, map-append}
+use Rattle.std.proofs.Common.{◌≡◌, ◌+◌, ◌∙◌, ◌++◌, ◌∷◌, [], length, map, rules, true, sym, ap}
+use Rattle.std.proofs.lemmas.List.{append_assoc, length-map, map-append}
 use Rattle.std.specs.Result.{is_ok}
-use Rattle.td_journal_lines.specs.Lines.{AreLinesOf, IsLine, Numbered}
+use Rattle.td_journal_lines.specs.Lines.{IsLine}
 use Rattle.td_journal_lines.specs.Rows.{numbered}
 use Rattle.td_replay.specs.Reading.{HasBadLine}
 use Rattle.td_replay.proofs.FirstLines.{bad_is_none, lines_more}
@@ -31,8 +31,7 @@ loop-line-preserved c =
     let row = c.in-Some-2.row in
     let good : is_ok c.push.result ≡ true = search rules in
     let items : c.push.new.self.items ≡ c.loop-line.rows.items ++ row ∷ [] = rw good at c.push.ensures.items in
-    let is : IsLine (numbered row) c.in-Some.line.now = search rules in
-    (
+    let is : IsLine (numbered row) c.in-Some.line.now = search rules in (
       text ++ c.in-Some.line.now,
       rw (items, map-append numbered c.loop-line.rows.items (row ∷ [])) (lines_more (map numbered c.loop-line.rows.items) text (numbered row) c.in-Some.line.now are is),
       bytes ∙ (ap (λ t. text ++ t) c.in-Some.ensures.text ∙ sym (append_assoc text c.in-Some.line.now c.in-Some.behind.now)),
