@@ -12,7 +12,7 @@ pub returns-in-Ok : goal.returns-in-Ok
 returns-in-Ok g c =
     let untouched = IsUntouched c.args.input.now c.at_desk.new.input c.args.out.now c.at_desk.new.out c.args.machine.now c.at_desk.new.machine in
     let rows = map numbered c.args.rows.items in
-    let end : Result ReplayRun DeskFault = Ok c.in-Ok.run in
+    let end : Result ReplayRun DeskFault = Ok c.in-Ok.run' in
     let at = left_parted g.V.Drive.known c.args.office.country c.args.file.now c.at_desk.new.file
     (λ D view opened left run. untouched × IsReplayOf view rows run opened left) (λ D view opened left run. IsReplayOf view rows run opened left)
     untouched untouched (Unit {0}) c.args.records.now end (λ D view opened left run is. is) (λ is. (is, tt)) c.in-Ok.ensures.done in

@@ -24,8 +24,8 @@ returns-in-Ok-rows_of-clause-done g c = inr (
   ),
 )
 
-pub returns-in-Err-rows_of-clause-done : goal.returns-in-Err-rows_of-clause-done
-returns-in-Err-rows_of-clause-done g c = inr (
+pub returns-clause-done : goal.returns-clause-done
+returns-clause-done g c = inr (
   c.in-Ok.bytes.items,
   record { held = c.in-Ok.ensures.bytes; reads = c.read_file.ensures.stays },
   inl (c.in-Err-rows_of.cause, rw c.deref.ensures.value at c.in-Err-rows_of.ensures.unread, refl, refl, c.fault-in-Err-rows_of.ensures),
