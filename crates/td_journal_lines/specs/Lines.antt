@@ -18,7 +18,7 @@ pub record HasRequestOf (c : Command) (row : JournalRow) : Type 0 where
   pub path : row.path.items ≡ request_path c
   pub body : row.body.items ≡ request_body c
 
--- It is this line, exactly: that of a change, whose request is read back as its command, and whose moment is in range.
+-- This is exactly the line of the row: that of a change, whose request is read back as its command, at a moment in range.
 pub record IsLine (r : Numbered) (line : List ℕ) : Type 0 where
   pub seconds : ℕ
   pub moment : moment_of r.row.stamped.at ≡ Some seconds
