@@ -34,7 +34,7 @@ nothing_written (Some t) a command other = by_test (is_accepted_at a t command) 
     by_test true c other = cc
     by_test false c other = refl
 
-left_as_it_is : (old : Content) (s : Stamped) → IsSound old → IsProper s.command → is_accepted (owner_account old s.command) s.at s.command ≡ false → Carries old s old
+pub left_as_it_is : (old : Content) (s : Stamped) → IsSound old → IsProper s.command → is_accepted (owner_account old s.command) s.at s.command ≡ false → Carries old s old
 left_as_it_is old s sound proper other =
     subst (λ (c : Change). Carries old s (content_after c old)) (nothing_written (moment_of s.at) (owner_account old s.command) s.command other) (carries old s sound proper)
 

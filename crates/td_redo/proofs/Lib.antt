@@ -2,7 +2,7 @@ mod Twice
 mod OtherGrn
 mod Answered
 mod SameRows
-mod Contents
+pub mod Contents
 pub mod Endings
 pub mod Journals
 mod AfterCrash

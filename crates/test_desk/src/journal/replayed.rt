@@ -94,7 +94,7 @@ fn replayed(rt: &(impl AllocGlobal + Abort), rows: &[ChangeRow]) -> ReplayRun {
 }
 
 /// What is found of a journal of this text.
-fn found(rt: &(impl AllocGlobal + Abort), parts: &[&[u8]]) -> Option<Found> {
+fn told_of(rt: &(impl AllocGlobal + Abort), parts: &[&[u8]]) -> Option<Found> {
     match read_changes(rt.alloc(), &joined(rt, parts)) {
         Err(JournalFault::BadRow { row }) => Some(Found::Bad(row)),
         Err(JournalFault::NoMemory) => None,
@@ -128,23 +128,23 @@ fn a_journal_is_replayed(rt: HostRuntime) {
 fn a_change_of_a_field_is_found(rt: HostRuntime) {
     for (number, old, new, what) in CHANGES {
         let text = with_row(&rt, number, old, new);
-        assert!(rt; found(&rt, &[&text]) == Some(what), "{what:?}");
+        assert!(rt; told_of(&rt, &[&text]) == Some(what), "{what:?}");
     }
 }
 
 #[test]
 fn rows_in_another_order_are_found(rt: HostRuntime) {
-    assert!(rt; found(&rt, &[FIRST, SECOND, THIRD]).is_none());
-    assert!(rt; found(&rt, &[SECOND, FIRST, THIRD]) == Some(Found::Gap(2)));
-    assert!(rt; found(&rt, &[FIRST, THIRD]) == Some(Found::Gap(3)));
-    assert!(rt; found(&rt, &[FIRST, SECOND, SECOND, THIRD]) == Some(Found::Gap(2)));
+    assert!(rt; told_of(&rt, &[FIRST, SECOND, THIRD]).is_none());
+    assert!(rt; told_of(&rt, &[SECOND, FIRST, THIRD]) == Some(Found::Gap(2)));
+    assert!(rt; told_of(&rt, &[FIRST, THIRD]) == Some(Found::Gap(3)));
+    assert!(rt; told_of(&rt, &[FIRST, SECOND, SECOND, THIRD]) == Some(Found::Gap(2)));
 }
 
 #[test]
 fn a_part_is_replayed_by_itself(rt: HostRuntime) {
     let third = changed(&rt, SECOND, b"2,", b"3,");
     let fourth = changed(&rt, THIRD, b"3,", b"4,");
-    assert!(rt; found(&rt, &[FIRST, OTHER, &third, &fourth]).is_none());
+    assert!(rt; told_of(&rt, &[FIRST, OTHER, &third, &fourth]).is_none());
     let own = part(&rt, &[FIRST, &third, &fourth]);
     assert!(rt; first_gap(&own) == Some(3) && first_fall(&own).is_none());
     let run = replayed(&rt, &own);
