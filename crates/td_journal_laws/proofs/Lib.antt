@@ -1,0 +1,6 @@
+mod Plain
+mod Characters
+mod Bodies
+mod Accepted
+mod Rows
+mod Joined
