@@ -4,12 +4,12 @@ use Rattle.std.proofs.lemmas.Bool.{and_parts, not-true}
 use Rattle.std.proofs.lemmas.Slice.Eq.{bytes_eq-Decides}
 use Rattle.std.specs.List.{AllByRecursion}
 use Rattle.std.specs.Option.{is_some}
-use Rattle.std.specs.Prelude.{IfSome, find, length, ◌&&◌, not, nat_le, nat_lt}
+use Rattle.std.specs.Prelude.{IfSome, find, length, ◌&&◌, not, nat_le}
 use Rattle.std.specs.Str.{bytes_eq}
 use Rattle.keyed_rows.proofs.Putting.{All-row_at}
 use Rattle.td_base.specs.Codes.{IsAccessCode, IsCountry}
-use Rattle.td_base.specs.Days.{day_of_moment, moment_of}
-use Rattle.td_base.specs.References.{IsGrn, IsMrn, grn_text, mrn_text}
+use Rattle.td_base.specs.Days.{moment_of}
+use Rattle.td_base.specs.References.{IsGrn, IsMrn}
 use Rattle.td_base.proofs.MadeReferences.{lettered_form, made_is_reference}
 use Rattle.td_commands.specs.Commands.{is_changing, owner_of}
 use Rattle.td_commands.specs.declared.command.Command.{Command}
@@ -18,7 +18,7 @@ use Rattle.td_commands.specs.declared.command.Stamped.{Stamped}
 use Rattle.td_commands.specs.declared.said.Refusal.{Refusal}
 use Rattle.td_commands.specs.declared.said.Refusal.TheVariants.{ClockBack, CodeKnown, CodesFull, LastCode, NoCode, NoGuarantee, SerialsSpent, NoMovement, WrongState}
 use Rattle.td_commands.specs.declared.said.Said.{Said}
-use Rattle.td_commands.specs.declared.said.Said.TheVariants.{Answered, Refused}
+use Rattle.td_commands.specs.declared.said.Said.TheVariants.{Refused}
 use Rattle.td_desk.specs.Content.{Content, IsSound, rows_of}
 use Rattle.td_desk.specs.Weighing.{kept_for, owner_account}
 use Rattle.td_desk.proofs.Fresh.{owner_account_is_kept}
@@ -30,7 +30,7 @@ use Rattle.td_journal.specs.Texts.{is_change_at}
 use Rattle.td_journal_rows.specs.Requests.{IsTyped}
 use Rattle.td_journal_laws.proofs.Bodies.{IsTold, arrival_told, cancellation_told, control_told, declaration_told, enquiry_told, guarantee_told, holder_told, opening_told, release_told, revocation_told, write_off_told}
 use Rattle.td_model.specs.Account.{Account, HolderRows, account_with, coded, guarantee_by_grn, holder_key, movement_by_lrn, movement_by_mrn, uncoded}
-use Rattle.td_model.specs.Effects.{amended, end_after, greatest_grn_given, judged, year2_at}
+use Rattle.td_model.specs.Effects.{amended, greatest_grn_given, judged, year2_at}
 use Rattle.td_model.specs.Machine.{has_known_lrn, is_accepted_at, is_accepted_in, is_answer}
 use Rattle.td_model.specs.Sound.{AllNumbered, AreHolderRows, IsGuaranteeRow}
 use Rattle.td_model.specs.Table.{if_lrn_new, if_not_refused, is_back, is_spent, on_guarantee, on_movement, or_refuse, refuse_if, said_at, said_in, stands}

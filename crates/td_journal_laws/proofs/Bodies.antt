@@ -1,11 +1,11 @@
 -- The bodies of what is said of accepted changes: they are as they are shown, and stand on one line.
-use Rattle.std.proofs.Common.{◌≡◌, ℕ, Bool, List, [], ◌∷◌, ◌++◌, All, map, Option, None, Some, refl, sym, ap, ap₂, subst, ◌∙◌, arith, append_assoc, true}
+use Rattle.std.proofs.Common.{◌≡◌, ℕ, Bool, List, [], ◌∷◌, ◌++◌, All, map, Option, None, Some, refl, sym, ap, subst, ◌∙◌, arith, append_assoc, true}
 use Rattle.std.proofs.lemmas.List.Elements.{All-head, All-tail}
 use Rattle.std.specs.Prelude.{codes, decimal, flat_map}
 use Rattle.serde_json.specs.Data.{Data, member, no_members, number, object, string, unsigned}
 use Rattle.serde_json.specs.View.{items_of}
 use Rattle.td_answers.specs.Answers.{said_body, said_data}
-use Rattle.td_answers.specs.Objects.{codes_data, day_body, day_data, guarantee_body, guarantee_data}
+use Rattle.td_answers.specs.Objects.{codes_data, day_body, day_data}
 use Rattle.td_answers.specs.Unescaped.{in_brackets, in_quotes}
 use Rattle.td_base.specs.Codes.{IsAccessCode, IsEori, IsLrn}
 use Rattle.td_base.specs.References.{IsGrn, IsMrn}
@@ -17,7 +17,6 @@ use Rattle.td_journal_rows.specs.Rows.{HasNoLineFeed}
 use Rattle.td_journal_laws.proofs.Characters.{code_plain, day_plain, eori_plain, holder_plain, lrn_plain, reference_plain, state_plain}
 use Rattle.td_journal_laws.proofs.Plain.{ArePlain, IsPlain, items_shown, one_line, shown, written}
 use Rattle.td_movement.specs.declared.state.State.{State}
-use Rattle.td_movement.specs.declared.state.State.TheVariants.{Cancelled, Enquired, Released, WrittenOff}
 use Rattle.td_redo.specs.Replies.{body_text}
 
 pub record IsTold (words : Said) : Type 0 where

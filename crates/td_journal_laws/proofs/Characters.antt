@@ -1,11 +1,10 @@
 -- The texts that stand in what is said of changes: JSON escapes nothing in them.
-use Rattle.std.proofs.Common.{◌≡◌, ℕ, ◌+◌, ◌-◌, ◌/◌, ◌%◌, ◌≤◌, List, [], ◌∷◌, ◌++◌, length, take, drop, All, true, refl, sym, arith, inl, inr}
+use Rattle.std.proofs.Common.{◌≡◌, ℕ, ◌+◌, ◌-◌, ◌/◌, ◌%◌, ◌≤◌, List, [], ◌∷◌, length, take, drop, All, true, refl, sym, arith, inl, inr}
 use Rattle.std.proofs.lemmas.List.{take-append-drop}
 use Rattle.std.proofs.lemmas.List.Elements.{All-append, All-head, All-same, All-tail, All-weaker}
 use Rattle.std.specs.Char.{IsAsciiDigit, IsAsciiUppercase}
 use Rattle.std.specs.List.{list_all}
 use Rattle.ascii_text.specs.Digits.{IsMark, fixed_decimal}
-use Rattle.ascii_text.proofs.Decimals.{fixed_decimal_digits}
 use Rattle.td_answers.specs.Unescaped.{is_unescaped}
 use Rattle.td_answers.proofs.Texts.{between, beyond}
 use Rattle.td_base.specs.Codes.{IsAccessCode, IsEori, IsLrn, IsLrnCharacter, holder_text}

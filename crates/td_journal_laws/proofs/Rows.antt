@@ -1,5 +1,5 @@
 -- What a journal has grown by is rows that were done.
-use Rattle.std.proofs.Common.{◌≡◌, ◌⊎◌, ℕ, ℤ, pos, negsuc, ◌+◌, ◌^◌, ◌<◌, ◌≤◌, Bool, true, false, List, [], ◌∷◌, ◌++◌, length, Option, None, Some, inl, inr, refl, sym, ap, subst, ◌∙◌, arith, append_assoc}
+use Rattle.std.proofs.Common.{◌≡◌, ℕ, ℤ, pos, negsuc, ◌+◌, ◌^◌, ◌<◌, ◌≤◌, Bool, true, false, List, [], ◌∷◌, ◌++◌, Option, None, Some, inl, refl, sym, ap, subst, ◌∙◌, arith}
 use Rattle.std.proofs.lemmas.Bool.{and_parts, leb-true}
 use Rattle.std.proofs.lemmas.Option.{cond_some}
 use Rattle.std.specs.Prelude.{nat_le, if◌then◌else◌}
@@ -7,26 +7,24 @@ use Rattle.td_acts.specs.Deciding.{change_in, change_of, decision_on}
 use Rattle.td_acts.specs.declared.rows.Change.{Change}
 use Rattle.td_acts.specs.declared.rows.Change.TheVariants as change
 use Rattle.td_base.specs.Days.{moment_of}
-use Rattle.td_commands.specs.Commands.{IsProper}
 use Rattle.td_commands.specs.declared.command.Command.{Command}
 use Rattle.td_commands.specs.declared.command.Stamped.{Stamped}
 use Rattle.td_desk.specs.Content.{Content, IsSound, content_after}
 use Rattle.td_desk.specs.Weighing.{Carries, owner_account}
 use Rattle.td_desk.proofs.Carrying.{carries}
 use Rattle.td_journal.specs.Growth.{AreJournaled}
-use Rattle.td_journal.specs.Journaled.{rows_in, written}
-use Rattle.td_journal.specs.Texts.{IsNoted, IsRowOf, is_change_at}
+use Rattle.td_journal.specs.Journaled.{written}
+use Rattle.td_journal.specs.Texts.{IsRowOf, is_change_at}
 use Rattle.td_journal_rows.specs.Requests.{IsTyped, ReadsBack}
 use Rattle.td_journal_rows.specs.Rows.{HasNoLineFeed, IsRow, change_row, row_line}
-use Rattle.td_journal_start.specs.Lines.{AreLines, IsLine}
-use Rattle.td_journal_laws.specs.Crashes.{rows_for}
+use Rattle.td_journal_start.specs.Lines.{IsLine}
 use Rattle.td_journal_laws.specs.Kept.{IsKept}
-use Rattle.td_journal_laws.specs.Laws.{AreTyped, RowsAreDone}
+use Rattle.td_journal_laws.specs.Laws.{RowsAreDone}
 use Rattle.td_journal_laws.proofs.Accepted.{change_told}
 use Rattle.td_model.specs.Account.{Account}
 use Rattle.td_model.specs.Machine.{is_accepted_at, is_accepted_in}
 use Rattle.td_redo.specs.Laws.{RedoneOverItsBeginning}
-use Rattle.td_redo.specs.Redo.{AreDone, IsDone, Row, said_over}
+use Rattle.td_redo.specs.Redo.{IsDone, Row, said_over}
 use Rattle.td_redo.specs.Replies.{body_text}
 
 -- what the laws of rows say, by which those of journals go
