@@ -96,5 +96,5 @@ guarantee_object a b a' b' grn cover free guaranteed reference used same_a same_
 
 pub guarantee_told : (g : Guarantee) (used : ℕ) → IsGrn g.grn → All IsAccessCode g.codes → IsTold (Answered (answer.Guarantee g used))
 guarantee_told g used grn codes =
-    told_by _ (refl, are_plain g.codes codes, (refl, tt, (refl, day_is_plain g.ends, (refl, tt, (refl, reference_plain 17 g.grn (omega arith) grn, (refl, tt, (refl, tt, (refl, tt, tt)))))))) 
+    told_by _ (refl, are_plain g.codes codes, (refl, tt, (refl, day_is_plain g.ends, (refl, tt, (refl, reference_plain 17 g.grn (omega arith) grn, (refl, tt, (refl, tt, (refl, tt, tt))))))))
     (guarantee_object (codes_data g.codes) (day_data g.ends) _ _ g.grn _ _ _ _ _ (codes_shown g.codes) (day_shown g.ends))

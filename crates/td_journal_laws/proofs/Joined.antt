@@ -44,9 +44,11 @@ kept_on begin mid end rows more first number next t u one two = record {
 pub run_is_whole : {D F : Type 0} (view : DeskView D) (g : Ghosts F) → RowsAreDone → ARunIsWhole view g
 run_is_whole view g rows_done begin rows first list old new kept typed most grown =
     let sound = kept_sound begin (view.content old.desk) rows first _ _ kept in
-    let more = rows_done _ _ (view.content old.desk) (view.content new.desk) list grown.rows sound typed most grown.are in
-    (more.0, subst (λ (t : List ℕ). IsKept begin (rows ++ more.0) first (next_number new.journal) t (view.content new.desk)) (sym grown.text)
-    (kept_on begin (view.content old.desk) (view.content new.desk) rows more.0 first _ (next_number new.journal) (text_of old.journal) grown.rows kept more.1))
+    let more = rows_done _ _ (view.content old.desk) (view.content new.desk) list grown.rows sound typed most grown.are in (
+      more.0,
+      subst (λ (t : List ℕ). IsKept begin (rows ++ more.0) first (next_number new.journal) t (view.content new.desk)) (sym grown.text)
+          (kept_on begin (view.content old.desk) (view.content new.desk) rows more.0 first _ (next_number new.journal) (text_of old.journal) grown.rows kept more.1),
+    )
 
 -- ---- the last of rows
 

@@ -4,3 +4,6 @@ mod Bodies
 mod Accepted
 mod Rows
 mod Joined
+mod Starting
+mod Torn
+mod Crashing

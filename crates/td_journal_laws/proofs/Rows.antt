@@ -99,7 +99,7 @@ module _ (laws : RowLaws) where
       }
 
   -- a row before others
-  row_before : (number next : ℕ) (c after end : Content) (s : Stamped) (line rest : List ℕ) → IsSound c → IsTyped s.command → next ≤ 10 ^ 18 → is_change_at c s ≡ true
+  pub row_before : (number next : ℕ) (c after end : Content) (s : Stamped) (line rest : List ℕ) → IsSound c → IsTyped s.command → next ≤ 10 ^ 18 → is_change_at c s ≡ true
       → IsRowOf number c s line → Carries c s after → (rows : List (Row (List ℕ))) → IsKept after rows (number + 1) next rest end
       → IsKept c (row_over c s ∷ rows) number next (line ++ rest) end
   row_before number next c after end s line rest sound typed most accepted is carried rows kept =
@@ -112,16 +112,21 @@ module _ (laws : RowLaws) where
       }
 
   pub rows_are_done : RowsAreDone
-  rows_are_done number next c end [] text sound typed most (none, same, stays) = ([], record {
-    sound = sound;
-    done = stays;
-    lines = none;
-    numbers = omega (arith, same);
-  })
+  rows_are_done number next c end [] text sound typed most (none, same, stays) = (
+    [],
+    record {
+      sound = sound;
+      done = stays;
+      lines = none;
+      numbers = omega (arith, same);
+    },
+  )
   rows_are_done number next c end (s ∷ list) text sound typed most (Some line, after, rest, noted, carried, text_is, more) =
-      let others = rows_are_done (number + 1) next after end list rest carried.sound typed.1 most more in
-      (row_over c s ∷ others.0, subst (λ (t : List ℕ). IsKept c (row_over c s ∷ others.0) number next t end) (sym text_is)
-      (row_before number next c after end s line rest sound typed.0 most noted.0 noted.1 carried others.0 others.1))
+      let others = rows_are_done (number + 1) next after end list rest carried.sound typed.1 most more in (
+        row_over c s ∷ others.0,
+        subst (λ (t : List ℕ). IsKept c (row_over c s ∷ others.0) number next t end) (sym text_is)
+            (row_before number next c after end s line rest sound typed.0 most noted.0 noted.1 carried others.0 others.1),
+      )
   rows_are_done number next c end (s ∷ list) text sound typed most (None, after, rest, noted, carried, text_is, more) =
       let same : after ≡ c = left_alone c after s sound typed.0 noted carried in
       let here : number + 0 ≡ number = omega arith in

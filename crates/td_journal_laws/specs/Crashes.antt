@@ -27,11 +27,11 @@ pub record IsAtRest {D F : Type 0} {g : Ghosts F} (view : DeskView D) (begin : C
   pub durable : IsDurable j.journal
 
 -- A command was weighed at such a desk, and its decision was carried, or this fault ended that. So much the two calls promise of a
--- desk that is clean in the end, and was live when the command was weighed.
-pub record IsCarriedAt {D F : Type 0} {g : Ghosts F} (view : DeskView D) (old : JournaledDesk D F g) (s : Stamped) (fault : Option Fault) (new : JournaledDesk D F g) : Type 0 where
+-- desk that is clean in the end, and live once the command was weighed.
+pub record IsCarriedAt {D F : Type 0} {g : Ghosts F} (view : DeskView D) (old : JournaledDesk D F g) (s : Stamped) (mid : JournaledDesk D F g) (fault : Option Fault) (new : JournaledDesk D F g) : Type 0 where
   pub clean : view.is_clean new.desk
-  pub mid : JournaledDesk D F g
   pub weighed : (journaled view).weighed old s None mid
+  pub mid_clean : view.is_clean mid.desk
   pub live : view.is_live mid.desk
   pub same : view.content mid.desk ≡ view.content old.desk
   pub carried : (journaled view).carried mid fault new
@@ -49,7 +49,7 @@ pub record IsLeftBy {D F : Type 0} (view : DeskView D) (g : Ghosts F) (crashed :
   pub bytes : g.may_leave crashed.journal.file (g.seen file)
 
 -- These bytes are a beginning of the text with the row that waited behind it, which is what a process leaves that is killed as it
--- writes the row. A power cut may leave other bytes behind the text: docs/DECISIONS.md says what is done then.
+-- writes the row. A power cut may leave other bytes behind the text: docs/DECISIONS.md, "A journal", says what is done then.
 abbrev pub AreABeginning : List ℕ → List ℕ → List ℕ → Type 0
 AreABeginning text row bytes = (n : ℕ) × (bytes ≡ take n (text ++ row))
 
@@ -65,20 +65,20 @@ IsMadeGood view begin rows first c s (Some why) j = IsKeptAt view begin rows fir
 -- So it is after a crash that comes once a decision was carried, or failed to be.
 abbrev pub ACrashIsMadeGood : {D F : Type 0} → DeskView D → Ghosts F → Type 0
 ACrashIsMadeGood {D} {F} view g =
-    (begin : Content) (rows : List (Row (List ℕ))) (first : ℕ) (old new j : JournaledDesk D F g) (s : Stamped) (fault : Option Fault) (desk : D) (file : F)
+    (begin : Content) (rows : List (Row (List ℕ))) (first : ℕ) (old mid new j : JournaledDesk D F g) (s : Stamped) (fault : Option Fault) (desk : D) (file : F)
     → IsAtRest view begin rows first old → IsTyped s.command → next_number old.journal < 10 ^ 18
-    → (done : IsCarriedAt view old s fault new) → IsLeftBy view g new desk file
-    → AreABeginning (text_of old.journal) (written (waiting done.mid)) (g.seen file)
+    → IsCarriedAt view old s mid fault new → IsLeftBy view g new desk file
+    → AreABeginning (text_of old.journal) (written (waiting mid)) (g.seen file)
     → IsStarted view desk file j → IsClean view g j.desk j.journal.file
     → IsMadeGood view begin rows first (view.content old.desk) s fault j
 
 -- And the start isn't refused for a row of another desk.
 abbrev pub NoCrashIsForeign : {D F : Type 0} → DeskView D → Ghosts F → Type 0
 NoCrashIsForeign {D} {F} view g =
-    (begin : Content) (rows : List (Row (List ℕ))) (first number : ℕ) (old new : JournaledDesk D F g) (s : Stamped) (fault : Option Fault) (desk after : D) (file left : F)
+    (begin : Content) (rows : List (Row (List ℕ))) (first number : ℕ) (old mid new : JournaledDesk D F g) (s : Stamped) (fault : Option Fault) (desk after : D) (file left : F)
     → IsAtRest view begin rows first old → IsTyped s.command → next_number old.journal < 10 ^ 18
-    → (done : IsCarriedAt view old s fault new) → IsLeftBy view g new desk file
-    → AreABeginning (text_of old.journal) (written (waiting done.mid)) (g.seen file)
+    → IsCarriedAt view old s mid fault new → IsLeftBy view g new desk file
+    → AreABeginning (text_of old.journal) (written (waiting mid)) (g.seen file)
     → IsClean view g after left → IsRefused view g desk file (ForeignRow number) after left → ⊥
 
 -- A crash before that, or between commands, costs nothing.

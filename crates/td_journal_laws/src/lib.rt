@@ -3,4 +3,7 @@
 
 mod laws;
 
-pub use laws::{a_run_is_whole, rows_are_done};
+pub use laws::{
+    a_crash_between_is_made_good, a_crash_is_made_good, a_run_is_whole, a_start_is_whole,
+    no_start_is_foreign, rows_are_done,
+};
