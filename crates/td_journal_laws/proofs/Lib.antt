@@ -1,0 +1,9 @@
+mod Plain
+mod Characters
+mod Bodies
+mod Accepted
+mod Rows
+mod Joined
+mod Starting
+mod Torn
+mod Crashing

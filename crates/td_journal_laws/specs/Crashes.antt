@@ -1,0 +1,96 @@
+-- What a crash leaves of a desk that keeps a journal, and what the next start makes of it.
+use Rattle.std.specs.Prelude.{◌≡◌, ◌⊎◌, ℕ, ◌^◌, ◌<◌, List, [], ◌∷◌, ◌++◌, take, Option, None, Some, if◌then◌else◌}
+use Rattle.std.specs.Option.{is_some}
+use Rattle.sqlite_disk.specs.declared.Disk.{Ghosts}
+use Rattle.td_commands.specs.declared.command.Stamped.{Stamped}
+use Rattle.td_desk.specs.Content.{Content}
+use Rattle.td_desk.specs.View.{AddsAtMost, DeskView, LeavesOnly}
+use Rattle.td_desk.specs.declared.fault.Fault.{Fault}
+use Rattle.td_journal.specs.Journal.{IsDurable, IsTight, next_number, text_of}
+use Rattle.td_journal.specs.Journaled.{journaled, waiting, written}
+use Rattle.td_journal.specs.Texts.{is_change_at}
+use Rattle.td_journal.specs.declared.desk.JournaledDesk.{JournaledDesk}
+use Rattle.td_journal_laws.specs.Kept.{BeginsAt, IsKeptAt}
+use Rattle.td_journal_rows.specs.Requests.{IsTyped}
+use Rattle.td_journal_start.specs.Laws.{IsClean}
+use Rattle.td_journal_start.specs.Starts.{IsRefused, IsStarted}
+use Rattle.td_journal_start.specs.declared.refused.StartFault.TheVariants.{ForeignRow}
+use Rattle.td_redo.specs.Crashes.{IsCommandAt}
+use Rattle.td_redo.specs.Redo.{Row, said_over}
+use Rattle.td_redo.specs.Replies.{body_text}
+
+-- A desk whose journal's rows make its content, and whose journal is on the disk, with nothing behind its rows: as a start leaves it.
+pub record IsAtRest {D F : Type 0} {g : Ghosts F} (view : DeskView D) (begin : Content) (rows : List (Row (List ℕ))) (first : ℕ) (j : JournaledDesk D F g) : Type 0 where
+  pub kept : IsKeptAt view begin rows first j
+  pub begins : BeginsAt first rows
+  pub tight : IsTight j.journal
+  pub durable : IsDurable j.journal
+
+-- A command was weighed at such a desk, and its decision was carried, or this fault ended that. So much the two calls promise of a
+-- desk that is clean in the end, and live once the command was weighed.
+pub record IsCarriedAt {D F : Type 0} {g : Ghosts F} (view : DeskView D) (old : JournaledDesk D F g) (s : Stamped) (mid : JournaledDesk D F g) (fault : Option Fault) (new : JournaledDesk D F g) : Type 0 where
+  pub clean : view.is_clean new.desk
+  pub weighed : (journaled view).weighed old s None mid
+  pub mid_clean : view.is_clean mid.desk
+  pub live : view.is_live mid.desk
+  pub same : view.content mid.desk ≡ view.content old.desk
+  pub carried : (journaled view).carried mid fault new
+  pub leaves : IsCommandAt (journaled view) mid s (is_some fault) new
+
+-- Nothing was carried since: the journal is as it was, and a crash leaves no content more. So it is of a desk that nobody called, and of
+-- one at which a command was weighed, also where that failed.
+pub record IsUncarried {D F : Type 0} {g : Ghosts F} (view : DeskView D) (old new : JournaledDesk D F g) : Type 0 where
+  pub journal : new.journal ≡ old.journal
+  pub leaves : AddsAtMost view (λ _. ⊥) old.desk new.desk
+
+-- A crash left what a start comes to: the desk's content, and the bytes of the journal's file.
+pub record IsLeftBy {D F : Type 0} (view : DeskView D) (g : Ghosts F) (crashed : JournaledDesk D F g) (desk : D) (file : F) : Type 0 where
+  pub content : view.may_leave crashed.desk (view.content desk)
+  pub bytes : g.may_leave crashed.journal.file (g.seen file)
+
+-- These bytes are a beginning of the text with the row that waited behind it, which is what a process leaves that is killed as it
+-- writes the row. A power cut may leave other bytes behind the text: docs/DECISIONS.md, "A journal", says what is done then.
+abbrev pub AreABeginning : List ℕ → List ℕ → List ℕ → Type 0
+AreABeginning text row bytes = (n : ℕ) × (bytes ≡ take n (text ++ row))
+
+-- the row of a command that a desk of this content accepts as a change, and of any other command none
+abbrev pub rows_for : Content → Stamped → List (Row (List ℕ))
+rows_for c s = if is_change_at c s then record { stamped = s; shown = body_text (said_over c s) } ∷ [] else []
+
+-- The content after the next start is that of the rows before and of the command's row; if the command failed, perhaps without that.
+abbrev pub IsMadeGood : {D F : Type 0} {g : Ghosts F} → DeskView D → Content → List (Row (List ℕ)) → ℕ → Content → Stamped → Option Fault → JournaledDesk D F g → Type 0
+IsMadeGood view begin rows first c s None j = IsKeptAt view begin (rows ++ rows_for c s) first j
+IsMadeGood view begin rows first c s (Some why) j = IsKeptAt view begin rows first j ⊎ IsKeptAt view begin (rows ++ rows_for c s) first j
+
+-- So it is after a crash that comes once a decision was carried, or failed to be.
+abbrev pub ACrashIsMadeGood : {D F : Type 0} → DeskView D → Ghosts F → Type 0
+ACrashIsMadeGood {D} {F} view g =
+    (begin : Content) (rows : List (Row (List ℕ))) (first : ℕ) (old mid new j : JournaledDesk D F g) (s : Stamped) (fault : Option Fault) (desk : D) (file : F)
+    → IsAtRest view begin rows first old → IsTyped s.command → next_number old.journal < 10 ^ 18
+    → IsCarriedAt view old s mid fault new → IsLeftBy view g new desk file
+    → AreABeginning (text_of old.journal) (written (waiting mid)) (g.seen file)
+    → IsStarted view desk file j → IsClean view g j.desk j.journal.file
+    → IsMadeGood view begin rows first (view.content old.desk) s fault j
+
+-- And the start isn't refused for a row of another desk.
+abbrev pub NoCrashIsForeign : {D F : Type 0} → DeskView D → Ghosts F → Type 0
+NoCrashIsForeign {D} {F} view g =
+    (begin : Content) (rows : List (Row (List ℕ))) (first number : ℕ) (old mid new : JournaledDesk D F g) (s : Stamped) (fault : Option Fault) (desk after : D) (file left : F)
+    → IsAtRest view begin rows first old → IsTyped s.command → next_number old.journal < 10 ^ 18
+    → IsCarriedAt view old s mid fault new → IsLeftBy view g new desk file
+    → AreABeginning (text_of old.journal) (written (waiting mid)) (g.seen file)
+    → IsClean view g after left → IsRefused view g desk file (ForeignRow number) after left → ⊥
+
+-- A crash before that, or between commands, costs nothing.
+abbrev pub ACrashBetweenIsMadeGood : {D F : Type 0} → DeskView D → Ghosts F → Type 0
+ACrashBetweenIsMadeGood {D} {F} view g =
+    (begin : Content) (rows : List (Row (List ℕ))) (first : ℕ) (old new j : JournaledDesk D F g) (desk : D) (file : F)
+    → IsAtRest view begin rows first old → LeavesOnly view old.desk (view.content old.desk) → IsUncarried view old new
+    → IsLeftBy view g new desk file → IsStarted view desk file j → IsClean view g j.desk j.journal.file
+    → IsKeptAt view begin rows first j
+
+abbrev pub NoCrashBetweenIsForeign : {D F : Type 0} → DeskView D → Ghosts F → Type 0
+NoCrashBetweenIsForeign {D} {F} view g =
+    (begin : Content) (rows : List (Row (List ℕ))) (first number : ℕ) (old new : JournaledDesk D F g) (desk after : D) (file left : F)
+    → IsAtRest view begin rows first old → LeavesOnly view old.desk (view.content old.desk) → IsUncarried view old new
+    → IsLeftBy view g new desk file → IsClean view g after left → IsRefused view g desk file (ForeignRow number) after left → ⊥
