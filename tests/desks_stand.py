@@ -111,8 +111,8 @@ class Front:
                          ("/var/log/nginx/transit-desk.log", f"{folder}/access.log"), ("/run/nginx-transit-desk", f"{folder}/cache")]:
             due(f"places of {old!r} in the site", 1, site.count(old))
             site = site.replace(old, new)
-        site, count = re.subn(r"        if \(\$transit_desk_(?:origin|caller|allowed) = .*\n", "", site)
-        due("questions to a caller in the site", 3, count)
+        site, count = re.subn(r"        if \(\$transit_desk_(?:origin|caller|allowed|feed) += .*\n", "", site)
+        due("questions to a caller in the site", 6, count)
         files = {"site": site, "transit-desk/callers.map": "", "nginx.conf": self.configuration()}
         if desks_map is not None:
             files["transit-desk/desks.map"] = desks_map

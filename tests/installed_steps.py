@@ -267,7 +267,7 @@ def removed(walk):
     walk.types("apt remove transit-desk", what="the package is removed")
     walk.types(f"! systemctl is-active --quiet transit-desk && ! curl -s {DESK}", what="nothing runs, and nobody answers")
     walk.types("find /etc/systemd -name 'transit-desk*' | wc -l", "0", what="nothing is enabled")
-    words = ("/etc/default/transit-desk /etc/default/transit-desk-timers /etc/nftables.d/transit-desk.nft "
+    words = ("/etc/default/transit-desk /etc/default/transit-desk-timers /etc/default/transit-desk-feeds /etc/nftables.d/transit-desk.nft "
              "/etc/nginx/sites-available/transit-desk /etc/nginx/transit-desk/callers.map")
     walk.types(f"ls {words}", what="its words are kept")
     walk.types("apt purge transit-desk", what="the package is purged")

@@ -19,6 +19,8 @@ use Rattle.td_files.specs.declared.desks.DeskFault.{DeskFault}
 use Rattle.td_files.specs.declared.desks.DeskFault.TheVariants as desk
 use Rattle.td_files.specs.declared.joins.JoinRefusal.{JoinRefusal}
 use Rattle.td_files.specs.declared.joins.JoinRefusal.TheVariants as join
+use Rattle.td_journal_rows.specs.declared.rows.JournalFault.{JournalFault}
+use Rattle.td_journal_rows.specs.declared.rows.JournalFault.TheVariants as journal
 use Rattle.td_journal_start.specs.declared.refused.StartFault.{StartFault}
 use Rattle.td_journal_start.specs.declared.refused.StartFault.TheVariants as start
 use Rattle.td_machine.specs.declared.machine.ReadError.{ReadError}
@@ -26,7 +28,7 @@ use Rattle.td_machine.specs.declared.machine.ReadError.TheVariants as read_error
 use Rattle.td_jobs.specs.declared.serving.ServingEnd.{ServingEnd}
 use Rattle.td_jobs.specs.declared.serving.ServingEnd.TheVariants as serving
 use Rattle.td_cli.specs.declared.exits.Cause.{Cause}
-use Rattle.td_cli.specs.declared.exits.Cause.TheVariants.{BadCsv, ForeignRow, HolderExists, NeedsMigration, Of}
+use Rattle.td_cli.specs.declared.exits.Cause.TheVariants.{BadCsv, BadRow, Differs, ForeignRow, HolderExists, NeedsMigration, Of}
 use Rattle.td_cli.specs.declared.exits.Word.{Word}
 use Rattle.td_cli.specs.declared.exits.Word.TheVariants.{File, UnknownVersion, OtherCountry, Damaged, Journal, Store, NoMemory, Write, Socket, StreamRefused, StreamCut, ReadsSpent, ReadFault, WriteFault, StreamFailed}
 
@@ -57,6 +59,8 @@ line_of (BadCsv row column) = codes "transit-desk: bad csv row " ++ (decimal row
 line_of (NeedsMigration version) = codes "transit-desk: needs-migration " ++ (decimal version ++ codes "\n")
 line_of (HolderExists holder) = codes "transit-desk: holder-exists " ++ (holder_text holder ++ codes "\n")
 line_of (ForeignRow row) = codes "transit-desk: journal " ++ (decimal row ++ codes "\n")
+line_of (BadRow row) = codes "transit-desk: bad journal row " ++ (decimal row ++ codes "\n")
+line_of (Differs row) = codes "transit-desk: differs " ++ (decimal row ++ codes "\n")
 line_of (Of word) = word_line word
 
 -- the text was written, or as much of it as the writer took
@@ -75,6 +79,10 @@ IsCauseTold said errors errors_left (HolderExists holder) =
     IsTold said errors errors_left (line_of (HolderExists holder)) ⊎ IsTold said errors errors_left (word_line NoMemory)
 IsCauseTold said errors errors_left (ForeignRow row) =
     IsTold said errors errors_left (line_of (ForeignRow row)) ⊎ IsTold said errors errors_left (word_line NoMemory)
+IsCauseTold said errors errors_left (BadRow row) =
+    IsTold said errors errors_left (line_of (BadRow row)) ⊎ IsTold said errors errors_left (word_line NoMemory)
+IsCauseTold said errors errors_left (Differs row) =
+    IsTold said errors errors_left (line_of (Differs row)) ⊎ IsTold said errors errors_left (word_line NoMemory)
 
 -- A job ended well, with status 0 and no line; or by a cause, with status 1 and its line.
 abbrev pub IsEnded : {E : Type 0} → (E → Option (List ℕ)) → Option Cause → Counted E → Counted E → ℕ → Type 0
@@ -92,6 +100,11 @@ of_file (desk.Refused refused.Store) = Of Store
 of_file (desk.Refused refused.NoMemory) = Of NoMemory
 of_file desk.BadJournal = Of Journal
 of_file (desk.ForeignRow row) = ForeignRow row
+
+-- why the lines of a journal weren't read as rows
+abbrev pub of_journal : JournalFault → Cause
+of_journal (journal.BadRow row) = BadRow row
+of_journal journal.NoMemory = Of NoMemory
 
 -- why a journal wasn't begun
 abbrev pub of_start : StartFault → DeskFault

@@ -4,6 +4,7 @@ pub mod Desks
 pub mod AtDesk
 pub mod Journaled
 pub mod Batched
+pub mod Replayed
 pub mod Migrated
 pub mod Reported
 pub mod Transferred

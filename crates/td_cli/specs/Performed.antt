@@ -15,7 +15,7 @@ use Rattle.td_words.specs.declared.words.NoJob.{NoJob}
 use Rattle.td_words.specs.declared.words.Records.{Records}
 use Rattle.td_words.specs.declared.words.Records.TheVariants.{File}
 use Rattle.td_words.specs.declared.words.Task.{Task}
-use Rattle.td_words.specs.declared.words.Task.TheVariants.{Serve, Pipe, Batch, Report, Check}
+use Rattle.td_words.specs.declared.words.Task.TheVariants.{Serve, Pipe, Batch, Replay, Report, Check}
 use Rattle.td_words.specs.Words.{AsksFor, IsNoJob}
 use Rattle.td_jobs.specs.declared.serving.ServingEnd.{ServingEnd}
 use Rattle.td_machine.specs.Machine.{Around}
@@ -27,6 +27,7 @@ use Rattle.td_cli.specs.AtDesk as desks
 use Rattle.td_cli.specs.Batched.{IsBatched}
 use Rattle.td_cli.specs.Journaled.{WithJournal}
 use Rattle.td_cli.specs.Migrated.{IsMigrated}
+use Rattle.td_cli.specs.Replayed.{IsReplayDone}
 use Rattle.td_cli.specs.Reported.{IsReportDone}
 use Rattle.td_cli.specs.Exits.{IsEnded, IsTold, of_file, of_job, of_serving, of_stream}
 use Rattle.td_cli.specs.Statuses.{IsAnswered, IsPrinted}
@@ -73,7 +74,7 @@ IsChecked contents said drive country records out out_left errors errors_left be
     × IsCheckTold contents said end out out_left errors errors_left status
 
 -- A task was done, in this country and at this moment or by the machine's clock, and how it ended was told: one stream from the
--- input to the first writer; connections, for which the input isn't read; a file of rows; a report; or a file was tested. The file is
+-- input to the first writer; connections, for which the input isn't read; a file of rows; a journal again; a report; or a file was tested. The file is
 -- the one at the path that the task names, on its drive, and what a connection to it shows before the task and after it, if one is there.
 -- The other is that of a journal. A report and a test ask nothing of the machine, and keep no journal.
 abbrev pub IsTaskDone : {M L Reads Writes R W E V S O T : Type 0} {disk : Ghosts S} {others : Ghosts T} → Around M L Reads Writes → (R → Option (List ℕ))
@@ -90,6 +91,9 @@ IsTaskDone around remaining contents said drive other_drive (Serve listening rec
 IsTaskDone around remaining contents said drive other_drive (Batch which csv path journal) country at reader reader_left writer writer_left errors errors_left before file other other_left machine machine_left status =
     (reader_left ≡ reader)
     × IsBatched around contents said drive other_drive country at (File path) (option_map string_bytes journal) which (string_bytes csv) writer writer_left errors errors_left before file other other_left machine machine_left status
+IsTaskDone around remaining contents said drive other_drive (Replay csv part records) country at reader reader_left writer writer_left errors errors_left before file other other_left machine machine_left status =
+    (reader_left ≡ reader) × (other_left ≡ other)
+    × IsReplayDone around contents said drive country records (string_bytes csv) part writer writer_left errors errors_left before file machine machine_left status
 IsTaskDone around remaining contents said drive other_drive (Report kind path) country at reader reader_left writer writer_left errors errors_left before file other other_left machine machine_left status =
     (reader_left ≡ reader) × (machine_left ≡ machine) × (other_left ≡ other)
     × IsReportDone contents said drive country kind (File path) writer writer_left errors errors_left before file status

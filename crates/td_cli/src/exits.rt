@@ -1,7 +1,7 @@
 //! How a job ends: well, with status 0 and no word, or by a cause, with status 1 and one line on standard error. Each cause is a row.
 ghost use Rattle.std.specs.Prelude.{◌≡◌, Some, IfOk, MatchResult, string_bytes};
-ghost use Rattle.td_cli.specs.Exits.{IsEnded, IsTold, line_of, of_file, of_join, of_report, of_rows, of_serving, of_start, of_stop, of_stream, of_read_error, word_line};
-ghost use Rattle.td_cli.specs.declared.exits.Cause.TheVariants.{BadCsv, ForeignRow, HolderExists, NeedsMigration};
+ghost use Rattle.td_cli.specs.Exits.{IsEnded, IsTold, line_of, of_file, of_join, of_journal, of_report, of_rows, of_serving, of_start, of_stop, of_stream, of_read_error, word_line};
+ghost use Rattle.td_cli.specs.declared.exits.Cause.TheVariants.{BadCsv, BadRow, Differs, ForeignRow, HolderExists, NeedsMigration};
 ghost use Rattle.td_cli.specs.declared.exits.Word.TheVariants.{Damaged, NoMemory};
 
 use std::alloc::{AllocError, Global};
@@ -13,6 +13,7 @@ use td_files::{DeskFault, JoinRefusal, OpenFault};
 use td_http::StreamEnd;
 use td_jobs::ServingEnd;
 use td_journal_jobs::StartFault;
+use td_journal_rows::JournalFault;
 use td_machine::ReadError;
 use td_reports::ReportFault;
 use td_table_model::Rule;
@@ -33,8 +34,12 @@ pub enum Cause {
     NeedsMigration(u32),
     /// A file that rows are put into has this holder already.
     HolderExists(HolderNo),
-    /// The last row of a journal, which has this number, isn't of the desk.
+    /// The row of a journal with this number isn't of the desk, or isn't the one behind the row before it.
     ForeignRow(u64),
+    /// The line of a journal with this number, counted from 1, is no row of a change.
+    BadRow(u64),
+    /// What is said to the row of a journal with this number isn't what it has.
+    Differs(u64),
     /// A cause whose line is fixed.
     Of(Word),
 }
@@ -100,6 +105,16 @@ pub(crate) fn of_start(why: StartFault) -> DeskFault
         StartFault::ForeignRow { row } => DeskFault::ForeignRow(row),
         StartFault::NoMemory => DeskFault::Refused(OpenFault::NoMemory),
         StartFault::Store => DeskFault::Refused(OpenFault::Store),
+    }
+}
+
+/// Why the lines of a journal weren't read as rows.
+pub(crate) fn of_journal(why: JournalFault) -> Cause
+    ensures { result ≡ of_journal why }
+{
+    match why {
+        JournalFault::BadRow { row } => Cause::BadRow(row),
+        JournalFault::NoMemory => Cause::Of(Word::NoMemory),
     }
 }
 
@@ -264,6 +279,18 @@ fn foreign_row_line(alloc: Global, row: u64) -> Result<String, AllocError>
     format!(in alloc; "transit-desk: journal {row}\n")
 }
 
+fn bad_row_line(alloc: Global, row: u64) -> Result<String, AllocError>
+    ensures { IfOk result (λ line. string_bytes line ≡ line_of (BadRow row)) }
+{
+    format!(in alloc; "transit-desk: bad journal row {row}\n")
+}
+
+fn differs_line(alloc: Global, row: u64) -> Result<String, AllocError>
+    ensures { IfOk result (λ line. string_bytes line ≡ line_of (Differs row)) }
+{
+    format!(in alloc; "transit-desk: differs {row}\n")
+}
+
 /// Tells the cause, and gives its status.
 pub(crate) fn fault<E: Write>(alloc: Global, cause: Cause, errors: &mut Counted<E>) -> u8
     ensures { IsEnded E.contents (Some cause) errors.old errors.new result }
@@ -273,6 +300,8 @@ pub(crate) fn fault<E: Write>(alloc: Global, cause: Cause, errors: &mut Counted<
         Cause::NeedsMigration(version) => tell_made(needs_migration_line(alloc, version), errors),
         Cause::HolderExists(holder) => tell_made(holder_exists_line(alloc, holder), errors),
         Cause::ForeignRow(row) => tell_made(foreign_row_line(alloc, row), errors),
+        Cause::BadRow(row) => tell_made(bad_row_line(alloc, row), errors),
+        Cause::Differs(row) => tell_made(differs_line(alloc, row), errors),
         Cause::Of(word) => tell(word.line(), errors),
     }
     FAULT

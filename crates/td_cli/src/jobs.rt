@@ -9,6 +9,7 @@ use crate::checking::check;
 use crate::exits::{Cause, WRONG_WORDS, Word, exit, fault, of_file, of_serving, of_stream};
 use crate::journaling::with_journal;
 use crate::migrating::migrate;
+use crate::replaying::replay;
 use crate::reporting::report;
 use crate::telling::print;
 use crate::transferring::transfer;
@@ -136,6 +137,13 @@ fn do_task<M: Machine, V: Drive, O: Drive, R: Read, W: Write, E: Write>(
                 errors,
             )
         }
+        Task::Replay {
+            rows,
+            part,
+            records,
+        } => replay(
+            alloc, machine, office, &rows, part, &records, file, input, out, errors,
+        ),
         Task::Report(kind, path) => report(alloc, office.country, kind, path, file, out, errors),
         Task::Check(path) => {
             let records = Records::File(path);

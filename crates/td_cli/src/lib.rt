@@ -13,6 +13,7 @@ mod laws;
 mod migrating;
 mod part_laws;
 mod program;
+mod replaying;
 mod reporting;
 mod run_laws;
 mod telling;

@@ -7,7 +7,7 @@ use Rattle.td_desk.specs.View.{DeskView}
 use Rattle.td_jobs.specs.Desks.{IsReady}
 use Rattle.td_journal.specs.Journaled.{journaled}
 use Rattle.td_journal.specs.declared.desk.JournaledDesk.{JournaledDesk}
-use Rattle.td_journal_start.specs.Lines.{Numbered}
+use Rattle.td_journal_lines.specs.Lines.{Numbered}
 use Rattle.td_journal_start.specs.Starts.{IsTaken}
 use Rattle.td_redo.specs.Endings.{Ends}
 use Rattle.td_redo.specs.declared.redoing.Redone.{Redone}

@@ -17,7 +17,7 @@ use Rattle.td_journal.specs.Journaled.{written}
 use Rattle.td_journal.specs.Texts.{IsRowOf, is_change_at}
 use Rattle.td_journal_rows.specs.Requests.{IsTyped, ReadsBack}
 use Rattle.td_journal_rows.specs.Rows.{HasNoLineFeed, IsRow, change_row, row_line}
-use Rattle.td_journal_start.specs.Lines.{IsLine}
+use Rattle.td_journal_lines.specs.Lines.{IsLine}
 use Rattle.td_journal_laws.specs.Kept.{IsKept}
 use Rattle.td_journal_laws.specs.Laws.{RowsAreDone}
 use Rattle.td_journal_laws.proofs.Accepted.{change_told}

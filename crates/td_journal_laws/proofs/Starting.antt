@@ -7,10 +7,11 @@ use Rattle.td_desk.specs.Content.{Content}
 use Rattle.td_desk.specs.View.{DeskView}
 use Rattle.td_journal.specs.Journal.{next_number, text_of}
 use Rattle.td_journal.specs.declared.desk.JournaledDesk.{JournaledDesk}
-use Rattle.td_journal_rows.specs.Rows.{HasNoLineFeed, change_row}
-use Rattle.td_journal_rows.proofs.RowsBack.{line_is, row_front}
+use Rattle.td_journal_rows.specs.Rows.{HasNoLineFeed}
 use Rattle.td_journal_start.specs.Laws.{IsClean, IsJournaled, NoRowIsForeign, StartIsWhole}
-use Rattle.td_journal_start.specs.Lines.{AreLines, IsJournal, IsLast, IsLine, Numbered, next_after}
+use Rattle.td_journal_lines.specs.Lines.{IsLine, Numbered}
+use Rattle.td_journal_lines.proofs.Reading.{line_one}
+use Rattle.td_journal_start.specs.Lines.{AreLines, IsJournal, IsLast, next_after}
 use Rattle.td_journal_start.specs.Starts.{IsRefused, IsStarted, IsTaken}
 use Rattle.td_journal_start.specs.declared.refused.StartFault.TheVariants.{ForeignRow}
 use Rattle.td_journal_laws.specs.Kept.{IsKeptAt, IsToBeStarted, LacksTheLast}
@@ -28,11 +29,11 @@ IsNone c = (c == 10) ≡ false
 -- a row's line ends with a line feed, so it is within no torn one
 line_feeds : (r : Numbered) (line before torn : List ℕ) → IsLine r line → HasNoLineFeed ((before ++ line) ++ torn) → ⊥
 line_feeds r line before torn is none =
-    let row = change_row r.number is.seconds r.row.stamped.command r.row.shown in
+    let one = line_one r line is in
     let text : HasNoLineFeed (before ++ line) = subst HasNoLineFeed (take_at (before ++ line) torn (length (before ++ line)) refl) (All-take IsNone (length (before ++ line)) ((before ++ line) ++ torn) none) in
     let inner : HasNoLineFeed line = subst HasNoLineFeed (drop_at before line (length before) refl) (All-drop IsNone (length before) (before ++ line) text) in
-    let ended : HasNoLineFeed (row_front row ++ 10 ∷ []) = subst HasNoLineFeed (is.line_is ∙ line_is row) inner in
-    let feed : HasNoLineFeed (10 ∷ []) = subst HasNoLineFeed (drop_at (row_front row) (10 ∷ []) (length (row_front row)) refl) (All-drop IsNone (length (row_front row)) (row_front row ++ 10 ∷ []) ended) in
+    let ended : HasNoLineFeed (one.front ++ 10 ∷ []) = subst HasNoLineFeed one.line_is inner in
+    let feed : HasNoLineFeed (10 ∷ []) = subst HasNoLineFeed (drop_at one.front (10 ∷ []) (length one.front) refl) (All-drop IsNone (length one.front) (one.front ++ 10 ∷ []) ended) in
     let bad : (10 == 10) ≡ false = All-head IsNone 10 [] feed in
     cc
 

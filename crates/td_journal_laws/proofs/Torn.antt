@@ -4,9 +4,9 @@ use Rattle.std.proofs.Math.Seq.{take-append-add}
 use Rattle.std.proofs.lemmas.Bool.{cases_lt}
 use Rattle.std.proofs.lemmas.List.{length-take-le, take-append-le, take_all}
 use Rattle.std.proofs.lemmas.List.Elements.{All-take}
-use Rattle.td_journal_rows.specs.Rows.{HasNoLineFeed, change_row}
-use Rattle.td_journal_rows.proofs.RowsBack.{front_line, line_is, row_front}
-use Rattle.td_journal_start.specs.Lines.{IsLine, Numbered}
+use Rattle.td_journal_lines.specs.Lines.{IsLine, Numbered}
+use Rattle.td_journal_lines.proofs.Reading.{line_one}
+use Rattle.td_journal_rows.specs.Rows.{HasNoLineFeed}
 
 -- a text doesn't begin with more than it is
 pub within : (n : ℕ) (bytes : List ℕ) → length (take n bytes) ≤ length bytes
@@ -48,8 +48,7 @@ not_whole text row k m short has =
 -- and it has no line feed
 pub torn_line : (r : Numbered) (line : List ℕ) (m : ℕ) → IsLine r line → m < length line → HasNoLineFeed (take m line)
 torn_line r line m is short =
-    let row = change_row r.number is.seconds r.row.stamped.command r.row.shown in
-    let same : line ≡ row_front row ++ 10 ∷ [] = is.line_is ∙ line_is row in
-    let long : length line ≡ length (row_front row) + 1 = ap length same ∙ length-append (row_front row) (10 ∷ []) in
-    let front : take m line ≡ take m (row_front row) = ap (take m) same ∙ take-append-le m (row_front row) (10 ∷ []) (omega (arith, short, long)) in
-    subst HasNoLineFeed (sym front) (All-take (λ c. (c == 10) ≡ false) m (row_front row) (front_line row is.is_row))
+    let one = line_one r line is in
+    let long : length line ≡ length one.front + 1 = ap length one.line_is ∙ length-append one.front (10 ∷ []) in
+    let front : take m line ≡ take m one.front = ap (take m) one.line_is ∙ take-append-le m one.front (10 ∷ []) (omega (arith, short, long)) in
+    subst HasNoLineFeed (sym front) (All-take (λ c. (c == 10) ≡ false) m one.front one.none)

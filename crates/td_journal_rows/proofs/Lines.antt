@@ -1,7 +1,7 @@
 -- The lines of a journal's text, and the rows that are read of them one by one.
-use Rattle.std.proofs.Common.{◌≡◌, ℕ, ◌+◌, ◌<◌, ◌≤◌, ◌==◌, List, [], ◌∷◌, ◌++◌, length, take, drop, get_or, All, Bool, true, false, cond, Option, Some, None, Result, Ok, Err, refl, sym, ap, ◌∙◌, arith, append_assoc, append-nil, rules}
+use Rattle.std.proofs.Common.{◌≡◌, ℕ, ◌+◌, ◌<◌, ◌≤◌, ◌==◌, List, [], ◌∷◌, ◌++◌, length, take, drop, get_or, All, Bool, true, false, cond, Option, Some, None, Result, Ok, Err, refl, sym, ap, subst, ◌∙◌, arith, append_assoc, append-nil, rules}
 use Rattle.std.proofs.lemmas.Bool.{eqb-true, ltb-false, ltb-true}
-use Rattle.std.proofs.lemmas.List.{take_more}
+use Rattle.std.proofs.lemmas.List.{get_or-take, length-take-le, take_more}
 use Rattle.std.proofs.lemmas.List.Splits.{length-slice_split, slice_split_first, slice_split_none}
 use Rattle.std.proofs.lemmas.List.Sums.{fails_before_first, passes_at_first}
 use Rattle.std.specs.Char.{IsAsciiDigit, is_ascii_digit}
@@ -92,7 +92,7 @@ found_at text end found =
     let told = by_test (nat_lt (position_or_len (λ c. c == 10) text) (length text)) (position_or_len (λ c. c == 10) text) end found in
     (told.0, ltb-true _ _ told.1)
 
-nowhere : (text : List ℕ) → position (λ c. c == 10) text ≡ None → All (λ c. (c == 10) ≡ false) text
+pub nowhere : (text : List ℕ) → position (λ c. c == 10) text ≡ None → All (λ c. (c == 10) ≡ false) text
 nowhere text none k d within =
     let far : length text ≤ position_or_len (λ c. c == 10) text = ltb-false _ _ (by_none (nat_lt (position_or_len (λ c. c == 10) text) (length text)) (position_or_len (λ c. c == 10) text) none) in
     fails_before_first (λ c. c == 10) text k d (omega (arith, far, within))
@@ -106,6 +106,14 @@ pub cut_parts : (text : List ℕ) (end : ℕ) → position (λ c. c == 10) text 
 cut_parts text end found =
     let place = found_at text end found in
     slice_split_first (λ c. c == 10) text 0 place.1 ∙ ap (λ n. take n text ∷ parts_of (drop (n + 1) text)) place.0
+
+-- which has none
+pub none_before : (text : List ℕ) (end : ℕ) → position (λ c. c == 10) text ≡ Some end → All (λ c. (c == 10) ≡ false) (take end text)
+none_before text end found k d within =
+    let place = found_at text end found in
+    let size : length (take end text) ≡ end = length-take-le end text (omega (arith, place.0, place.1)) in
+    let inside : k < end = omega (arith, size, within) in
+    subst (λ (n : ℕ). (n == 10) ≡ false) (sym (get_or-take end text k d inside)) (fails_before_first (λ c. c == 10) text k d (omega (arith, inside, place.0)))
 
 -- and the line feed ends it
 pub cut_text : (text : List ℕ) (end : ℕ) → position (λ c. c == 10) text ≡ Some end → take (end + 1) text ≡ take end text ++ 10 ∷ []

@@ -50,6 +50,12 @@ rows_text rows = flat_map row_line rows
 abbrev pub HasNoLineFeed : List ℕ → Type 0
 HasNoLineFeed text = All (λ c. (c == 10) ≡ false) text
 
+-- one line, with the line feed that ends it
+pub record IsOneLine (line : List ℕ) : Type 0 where
+  pub front : List ℕ
+  pub line_is : line ≡ front ++ 10 ∷ []
+  pub none : HasNoLineFeed front
+
 -- a row that stands on one line, with numbers of at most 18 digits
 pub record IsRow (row : RowText) : Type 0 where
   pub number : row.number < 10 ^ 18

@@ -12,5 +12,6 @@ pub use laws::{
 };
 pub use requests::{RequestText, request_of};
 pub use rows::{
-    JournalFault, JournalRow, JournalRows, read_row, read_rows, row_of_change, write_row,
+    JournalFault, JournalRow, JournalRows, csv_line, first_line, read_row, read_rows,
+    row_of_change, write_row,
 };

@@ -3,7 +3,7 @@ ghost use Rattle.std.specs.List.{position};
 ghost use Rattle.std.specs.Prelude.{◌≡◌, ◌==◌, ◌∷◌, ◌++◌, [], ◌<◌, IfErr, IfOk, IfSome, List, None, Ok, ℕ, length, map, option_map};
 ghost use Rattle.csv.specs.Records.{fields_of};
 ghost use Rattle.csv.specs.Writing.{default_writer, row_text as csv_text};
-ghost use Rattle.td_journal_rows.specs.Rows.{Tells, change_row, number_read, parts_of, row_line, row_of_line, row_read, row_shown, rows_in, text_at, torn_in};
+ghost use Rattle.td_journal_rows.specs.Rows.{HasNoLineFeed, IsOneLine, Tells, change_row, number_read, parts_of, row_line, row_of_line, row_read, row_shown, rows_in, text_at, torn_in};
 ghost use Rattle.td_journal_rows.specs.declared.rows.JournalFault.TheVariants.{NoMemory};
 
 use crate::requests::request_of;
@@ -94,8 +94,8 @@ pub fn write_row(alloc: Global, row: &JournalRow) -> Result<Vec<u8>, AllocError>
     csv_line(alloc, &fields)
 }
 
-// The line of these fields.
-fn csv_line(alloc: Global, fields: &[&[u8]]) -> Result<Vec<u8>, AllocError>
+/// The line of these fields: one with a comma, a quote or the end of a line in it stands in quotes. `AllocError`: want of memory.
+pub fn csv_line(alloc: Global, fields: &[&[u8]]) -> Result<Vec<u8>, AllocError>
     ensures { IfOk result (λ line. line.items ≡ csv_text default_writer (map (λ f. f.now) fields.now)) }
 {
     let mut writer = WriterBuilder::new().from_writer(Vec::new(alloc));
@@ -134,8 +134,11 @@ pub fn read_rows(alloc: Global, bytes: &[u8]) -> Result<JournalRows, JournalFaul
     })
 }
 
-// The first line of a text with its line feed, and what stands behind it.
-fn first_line(text: &[u8]) -> Option<(&[u8], &[u8])>
+/// The first line of a text with its line feed, and what stands behind it; `None`: no line ends in it.
+pub fn first_line(text: &[u8]) -> Option<(&[u8], &[u8])>
+    ensures text { IfSome result (λ cut. text.now ≡ cut.0.now ++ cut.1.now) }
+    ensures one { IfSome result (λ cut. IsOneLine cut.0.now) }
+    ensures torn { result ≡ None → HasNoLineFeed text.now }
     ensures line { IfSome result (λ cut. (line : List ℕ) × (cut.0.now ≡ line ++ 10 ∷ []) × (parts_of text.now ≡ line ∷ parts_of cut.1.now)) }
     ensures shorter { IfSome result (λ cut. length cut.1.now < length text.now) }
     ensures none { result ≡ None → parts_of text.now ≡ text.now ∷ [] }

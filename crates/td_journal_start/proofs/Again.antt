@@ -10,7 +10,8 @@ use Rattle.td_desk.specs.View.{DeskView}
 use Rattle.td_journal.specs.Journal.{file_of, text_of}
 use Rattle.td_journal.specs.declared.desk.JournaledDesk.{JournaledDesk}
 use Rattle.td_journal_start.specs.Laws.{IsClean, IsLeft, NotRefusedAgain, StartedTwice}
-use Rattle.td_journal_start.specs.Lines.{IsJournal, Numbered, next_after, tail}
+use Rattle.td_journal_lines.specs.Lines.{Numbered}
+use Rattle.td_journal_start.specs.Lines.{IsJournal, next_after, tail}
 use Rattle.td_journal_start.specs.Starts.{IsStarted, IsTaken}
 use Rattle.td_journal_start.proofs.Reading.{journal_once}
 use Rattle.td_redo.specs.Endings.{Ends}

@@ -7,7 +7,8 @@ use Rattle.sqlite_disk.specs.declared.Disk.{Ghosts}
 use Rattle.td_desk.specs.View.{DeskView}
 use Rattle.td_journal.proofs.Prefixes.{cut_prefix, safe_cut}
 use Rattle.td_journal_start.specs.Begun.{IsUntaken}
-use Rattle.td_journal_start.specs.Lines.{IsJournal, Numbered}
+use Rattle.td_journal_lines.specs.Lines.{Numbered}
+use Rattle.td_journal_start.specs.Lines.{IsJournal}
 use Rattle.td_journal_start.specs.Rows.{last_seen}
 use Rattle.td_journal_start.specs.Starts.{IsAsFound, IsKept, IsRefused}
 use Rattle.td_journal_start.specs.Tails.{IsFound}

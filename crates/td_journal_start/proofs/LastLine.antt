@@ -2,7 +2,8 @@
 use Rattle.std.proofs.Common.{◌≡◌, ℕ, ◌+◌, ◌-◌, ◌<◌, ◌≤◌, List, [], ◌∷◌, ◌++◌, length, take, drop, inl, inr, refl, sym, ap, subst, ◌∙◌, arith, append_assoc, length-append}
 use Rattle.std.proofs.lemmas.List.{drop-append-le, drop-take, length-take-le, take-append-drop, take-append-le, take_at}
 use Rattle.std.specs.Prelude.{slice_range}
-use Rattle.td_journal_start.specs.Texts.{HasLast, IsOneLine, IsWhole, Splits}
+use Rattle.td_journal_rows.specs.Rows.{IsOneLine}
+use Rattle.td_journal_start.specs.Texts.{HasLast, IsWhole, Splits}
 use Rattle.td_journal_start.proofs.Splitting.{line_whole}
 
 module _ (text : List ℕ) (begin end : ℕ) (some : 0 < end) (within : end ≤ length text) (below : begin + 1 ≤ end) (outer : Splits text (take end text) (drop end text))

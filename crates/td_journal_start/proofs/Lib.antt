@@ -2,11 +2,9 @@ mod Splitting
 mod Reading
 mod Tails
 mod LastLine
-mod Rows
 mod Places
 mod Cutting
 mod Held
-mod Requests
 mod Taken
 mod Again
 mod Whole

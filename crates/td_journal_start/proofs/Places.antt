@@ -2,7 +2,8 @@
 use Rattle.std.proofs.Common.{◌≡◌, ◌⊎◌, ℕ, ◌+◌, ◌-◌, ◌≤◌, List, [], length, take, drop, inl, inr, ap, arith}
 use Rattle.std.proofs.lemmas.List.{length-drop, length-take-le}
 use Rattle.std.specs.Prelude.{slice_range}
-use Rattle.td_journal_start.specs.Texts.{HasLast, IsOneLine}
+use Rattle.td_journal_rows.specs.Rows.{IsOneLine}
+use Rattle.td_journal_start.specs.Texts.{HasLast}
 
 module _ (text : List ℕ) (begin end : ℕ) (below : begin ≤ end) (within : end ≤ length text) where
   pub before_size : length (take begin text) ≡ begin

@@ -4,7 +4,8 @@ use Rattle.std.proofs.lemmas.Bool.{cases_lt}
 use Rattle.std.proofs.lemmas.List.{append_cancel_right, drop_at, get_or-append-add, get_or-append_right, take_at}
 use Rattle.std.proofs.lemmas.List.Elements.{All-get_or}
 use Rattle.td_journal_rows.specs.Rows.{HasNoLineFeed}
-use Rattle.td_journal_start.specs.Texts.{HasLast, IsOneLine, IsWhole}
+use Rattle.td_journal_rows.specs.Rows.{IsOneLine}
+use Rattle.td_journal_start.specs.Texts.{HasLast, IsWhole}
 
 -- whole lines end with a line feed
 last_feed : (a b : List ℕ) → IsWhole a → 0 < length a → get_or (a ++ b) (length a - 1) 0 ≡ 10

@@ -2,9 +2,11 @@
 use Rattle.std.proofs.Common.{◌≡◌, ◌⊎◌, ℕ, ◌+◌, ◌<◌, ◌≤◌, List, [], ◌∷◌, ◌++◌, length, take, drop, Option, None, Some, inl, inr, refl, sym, ap, subst, ◌∙◌, arith, append_assoc, length-append}
 use Rattle.std.proofs.lemmas.List.{append_cancel_left, take-append-drop, take-append-le, take_at}
 use Rattle.td_journal_rows.specs.Rows.{HasNoLineFeed}
-use Rattle.td_journal_start.specs.Lines.{IsJournal, IsLast, IsLine, IsNoJournal, Numbered, tail}
+use Rattle.td_journal_lines.specs.Lines.{IsLine, Numbered}
+use Rattle.td_journal_start.specs.Lines.{IsJournal, IsLast, IsNoJournal, tail}
 use Rattle.td_journal_start.specs.Tails.{IsEndOf, IsFull}
-use Rattle.td_journal_start.specs.Texts.{HasLast, IsOneLine, IsWhole}
+use Rattle.td_journal_rows.specs.Rows.{IsOneLine}
+use Rattle.td_journal_start.specs.Texts.{HasLast, IsWhole}
 use Rattle.td_journal_start.specs.declared.tail.Tail.{Tail}
 use Rattle.td_journal_start.proofs.Reading.{journal_last}
 use Rattle.td_journal_start.proofs.Splitting.{last_once, line_whole, some_line}

@@ -5,7 +5,7 @@ use Rattle.td_desk.specs.declared.fault.Fault.{Fault}
 use Rattle.td_desk.specs.declared.fault.Fault.TheVariants.{NoMemory, Store}
 use Rattle.td_journal_start.specs.Begun.{IsUntaken}
 use Rattle.td_journal_start.specs.Faults.{fault_told}
-use Rattle.td_journal_start.specs.Lines.{Numbered}
+use Rattle.td_journal_lines.specs.Lines.{Numbered}
 use Rattle.td_journal_start.specs.Starts.{IsAsked}
 use Rattle.td_journal_start.specs.declared.refused.StartFault.{StartFault}
 

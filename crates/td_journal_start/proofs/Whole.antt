@@ -6,10 +6,12 @@ use Rattle.td_desk.specs.View.{DeskView}
 use Rattle.td_journal.specs.Journal.{text_of}
 use Rattle.td_journal_rows.specs.Rows.{HasNoLineFeed}
 use Rattle.td_journal_start.specs.Laws.{IsJournaled, JournalIsRead, NoRowIsForeign, StartIsWhole}
-use Rattle.td_journal_start.specs.Lines.{AreLines, IsJournal, IsLast, IsLine, Numbered, next_after}
+use Rattle.td_journal_lines.specs.Lines.{IsLine, Numbered}
+use Rattle.td_journal_start.specs.Lines.{AreLines, IsJournal, IsLast, next_after}
 use Rattle.td_journal_start.specs.Starts.{IsTaken}
 use Rattle.td_journal_start.specs.Texts.{HasLast, IsWhole}
-use Rattle.td_journal_start.proofs.Reading.{journal_last, line_one, same_last}
+use Rattle.td_journal_lines.proofs.Reading.{line_one}
+use Rattle.td_journal_start.proofs.Reading.{journal_last, same_last}
 use Rattle.td_journal_start.proofs.Splitting.{last_once, line_whole}
 use Rattle.td_redo.specs.Endings.{Ends}
 use Rattle.td_redo.specs.Redo.{AreDone, Row}

@@ -4,7 +4,8 @@ use Rattle.sqlite_disk.specs.Disk.{Only}
 use Rattle.sqlite_disk.specs.declared.Disk.{Ghosts}
 use Rattle.td_desk.specs.View.{DeskView}
 use Rattle.td_desk.specs.declared.fault.Fault.TheVariants as fault
-use Rattle.td_journal_start.specs.Lines.{IsJournal, Numbered}
+use Rattle.td_journal_lines.specs.Lines.{Numbered}
+use Rattle.td_journal_start.specs.Lines.{IsJournal}
 use Rattle.td_journal_start.specs.Rows.{last_seen}
 use Rattle.td_journal_start.specs.Starts.{IsAsked, IsTaken}
 use Rattle.td_journal_start.specs.Tails.{HasNext}

@@ -6,7 +6,8 @@ use Rattle.td_desk.specs.View.{DeskView}
 use Rattle.td_journal.specs.Journal.{IsTight, file_of, next_number, text_of}
 use Rattle.td_journal.specs.declared.desk.JournaledDesk.{JournaledDesk}
 use Rattle.td_journal_rows.specs.Rows.{HasNoLineFeed}
-use Rattle.td_journal_start.specs.Lines.{AreLines, IsLine, tail}
+use Rattle.td_journal_lines.specs.Lines.{IsLine}
+use Rattle.td_journal_start.specs.Lines.{AreLines, tail}
 use Rattle.td_journal_start.specs.Starts.{IsRefused, IsStarted}
 use Rattle.td_journal_start.specs.declared.refused.StartFault.TheVariants.{BadJournal, ForeignRow}
 use Rattle.td_redo.specs.Redo.{AreDone, IsDone, Row}

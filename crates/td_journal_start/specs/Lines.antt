@@ -1,32 +1,9 @@
 -- The rows of a journal as its lines, and the last of them in a file.
 use Rattle.std.specs.Prelude.{◌≡◌, ◌⊎◌, ℕ, ◌+◌, ◌<◌, ◌≤◌, List, [], ◌∷◌, ◌++◌, length, Option, None, Some}
-use Rattle.td_base.specs.Days.{moment_of}
-use Rattle.td_commands.specs.declared.command.Command.{Command}
-use Rattle.td_journal_rows.specs.Requests.{ReadsBack, request_body, request_method, request_path}
-use Rattle.td_journal_rows.specs.declared.rows.JournalRow.{JournalRow}
-use Rattle.td_journal_rows.specs.Rows.{HasNoLineFeed, IsRow, change_row, row_line}
+use Rattle.td_journal_lines.specs.Lines.{IsLine, Numbered}
+use Rattle.td_journal_rows.specs.Rows.{HasNoLineFeed}
 use Rattle.td_journal_start.specs.Texts.{IsWhole}
 use Rattle.td_redo.specs.Redo.{Row}
-
--- a row with its number: a command at its moment, and the body of the reply to it
-pub record Numbered : Type 0 where
-  pub number : ℕ
-  pub row : Row (List ℕ)
-
--- a row has the request of this command
-pub record HasRequestOf (c : Command) (row : JournalRow) : Type 0 where
-  pub method : row.method.items ≡ request_method c
-  pub path : row.path.items ≡ request_path c
-  pub body : row.body.items ≡ request_body c
-
--- This is exactly the line of the row: that of a change, whose request is read back as its command, at a moment in range.
-pub record IsLine (r : Numbered) (line : List ℕ) : Type 0 where
-  pub seconds : ℕ
-  pub moment : moment_of r.row.stamped.at ≡ Some seconds
-  pub line_is : line ≡ row_line (change_row r.number seconds r.row.stamped.command r.row.shown)
-  -- no line ends within it, and its numbers have at most 18 digits
-  pub is_row : IsRow (change_row r.number seconds r.row.stamped.command r.row.shown)
-  pub reads_back : ReadsBack r.row.stamped.command
 
 -- the text is the lines of these rows, with numbers that rise by one from the first on
 abbrev pub AreLines : ℕ → List (Row (List ℕ)) → List ℕ → Type 0

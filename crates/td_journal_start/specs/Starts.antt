@@ -9,7 +9,8 @@ use Rattle.td_desk.specs.declared.fault.Fault.{Fault}
 use Rattle.td_desk.specs.declared.fault.Fault.TheVariants as fault
 use Rattle.td_journal.specs.Journal.{next_number, text_of}
 use Rattle.td_journal.specs.declared.desk.JournaledDesk.{JournaledDesk}
-use Rattle.td_journal_start.specs.Lines.{IsJournal, IsNoJournal, Numbered, next_after}
+use Rattle.td_journal_lines.specs.Lines.{Numbered}
+use Rattle.td_journal_start.specs.Lines.{IsJournal, IsNoJournal, next_after}
 use Rattle.td_journal_start.specs.declared.refused.StartFault.{StartFault}
 use Rattle.td_journal_start.specs.declared.refused.StartFault.TheVariants.{BadJournal, ForeignRow, NoMemory, Store}
 use Rattle.td_redo.specs.Endings.{Ends, IsRedoneBy}

@@ -1,16 +1,10 @@
 -- Texts that end with a line feed, and what stands behind it.
 use Rattle.std.specs.Prelude.{◌≡◌, ◌⊎◌, ℕ, List, [], ◌∷◌, ◌++◌}
-use Rattle.td_journal_rows.specs.Rows.{HasNoLineFeed}
+use Rattle.td_journal_rows.specs.Rows.{HasNoLineFeed, IsOneLine}
 
 -- whole lines, or nothing
 abbrev pub IsWhole : List ℕ → Type 0
 IsWhole text = (text ≡ []) ⊎ ((before : List ℕ) × (text ≡ before ++ 10 ∷ []))
-
--- one line, with the line feed that ends it
-pub record IsOneLine (line : List ℕ) : Type 0 where
-  pub front : List ℕ
-  pub line_is : line ≡ front ++ 10 ∷ []
-  pub none : HasNoLineFeed front
 
 -- bytes are whole lines, and then what stands behind the last line feed
 pub record Splits (bytes text torn : List ℕ) : Type 0 where

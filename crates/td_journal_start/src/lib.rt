@@ -1,7 +1,6 @@
 //! The start of a desk that keeps a journal: its last row is asked again, and a torn one behind it is cut off.
 #![tactic(auto)]
 
-mod last_row;
 mod laws;
 mod refused;
 mod starting;

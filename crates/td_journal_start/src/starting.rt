@@ -7,7 +7,6 @@ ghost use Rattle.td_journal_start.specs.Begun.{IsBegun, IsUntaken};
 ghost use Rattle.td_journal_start.specs.Rows.{last_seen};
 ghost use Rattle.td_journal_start.specs.Starts.{IsRefused, IsStarted, IsTaken};
 
-use crate::last_row::LastRow;
 use crate::refused::{Refused, StartFault};
 use crate::tail::{Found, find_last};
 use sqlite_disk::Disk;
@@ -15,6 +14,7 @@ use std::alloc::Global;
 use std::io;
 use td_desk::Desk;
 use td_journal::{Journal, JournaledDesk};
+use td_journal_lines::ChangeRow;
 use td_redo::{Redone, redo_row};
 
 /// The desk with the journal in this file. The journal may be one row ahead of the desk's records: so its last row is asked again at
@@ -57,7 +57,11 @@ fn begin<D: Desk, F: Disk>(alloc: Global, desk: &mut D, file: &mut F) -> Result<
 }
 
 // Asks the last row again at the desk, if there is one.
-fn take_last<D: Desk>(alloc: Global, desk: &mut D, last: &Option<LastRow>) -> Result<(), StartFault>
+fn take_last<D: Desk>(
+    alloc: Global,
+    desk: &mut D,
+    last: &Option<ChangeRow>,
+) -> Result<(), StartFault>
     ensures taken { OnOk result (IsTaken D.seen desk.old (last_seen last.now) desk.new) }
     ensures refused { IfErr result (λ why. IsUntaken D.seen desk.old (last_seen last.now) why desk.new) }
 {

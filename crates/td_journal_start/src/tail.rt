@@ -6,10 +6,10 @@ ghost use Rattle.td_journal_start.specs.Starts.{HasFailed, IsAsFound};
 ghost use Rattle.td_journal_start.specs.Tails.{Fits, HasNext, IsEndOf, IsFound, IsFull};
 ghost use Rattle.td_journal_start.specs.Texts.{HasLast, Splits};
 
-use crate::last_row::{LastRow, row_of};
 use sqlite_disk::Disk;
 use std::alloc::{AllocError, Global};
 use td_desk::Fault;
+use td_journal_lines::{ChangeRow, row_of};
 
 /// How many bytes at the end of a journal's file are read. A row has some 20,000 at most, and so has a torn one behind it.
 const TAIL: usize = 65_536;
@@ -26,7 +26,7 @@ struct Tail {
 pub(crate) struct Found {
     pub(crate) end: usize,
     pub(crate) next: u64,
-    pub(crate) last: Option<LastRow>,
+    pub(crate) last: Option<ChangeRow>,
 }
 
 /// The text in a journal's file, and its last row; `None`: the file is no journal.

@@ -39,10 +39,13 @@ fn error_of(refused: OpenError) -> OpenFileError {
     }
 }
 
-// The name of the log of the file at the path, where the file is there and has no log.
+// The name of the log of the file at the path, where there is none. (The name of a file that isn't there yet is the path.)
 fn missing_log(rt: &HostRuntime, path: &str) -> Option<String> {
-    let file = fs::canonicalize(rt, path).ok()?;
-    let log = format!(in rt.alloc(); "{}-wal", file.as_str()).ok()?;
+    let log = match fs::canonicalize(rt, path) {
+        Ok(file) => format!(in rt.alloc(); "{}-wal", file.as_str()),
+        Err(_) => format!(in rt.alloc(); "{path}-wal"),
+    };
+    let log = log.ok()?;
     match fs::exists(rt, &log) {
         Ok(false) => Some(log),
         _ => None,

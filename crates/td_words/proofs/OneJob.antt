@@ -1,5 +1,5 @@
 -- Words ask for at most one job.
-use Rattle.std.proofs.Common.{◌≡◌, ◌≢◌, ◌∙◌, ap, refl, sym, subst, ℕ, ℤ, pos, List, Option, None, Some, codes, slice_index, arith}
+use Rattle.std.proofs.Common.{◌≡◌, ◌≢◌, ◌∙◌, ◌↔◌, ◌+◌, Bool, true, false, ap, refl, sym, subst, ℕ, ℤ, pos, List, Option, None, Some, codes, slice_index, arith}
 use Rattle.clap.specs.Words.{Row, Text}
 use Rattle.td_words.specs.Laws.{AreSameRecords, IsSameJob, IsSameTask, IsSameTransfer, WordsAskForOneJob}
 use Rattle.td_words.specs.Words.{AreRecordsBy, IsDayOf, IsIdleOf, IsJob, IsMomentOf, IsNumberOf, IsRangeOf, IsReportBy, IsTask, IsTransfer}
@@ -12,7 +12,7 @@ use Rattle.td_words.specs.declared.words.Records.TheVariants.{Memory, File, NewF
 use Rattle.td_words.specs.declared.words.ReportKind.{ReportKind}
 use Rattle.td_words.specs.declared.words.ReportKind.TheVariants.{Overdue, Guarantees}
 use Rattle.td_words.specs.declared.words.Task.{Task}
-use Rattle.td_words.specs.declared.words.Task.TheVariants.{Serve, Pipe, Batch, Report, Check}
+use Rattle.td_words.specs.declared.words.Task.TheVariants.{Serve, Pipe, Batch, Replay, Report, Check}
 use Rattle.td_words.specs.declared.words.Transfer as transfer
 use Rattle.td_words.specs.declared.words.Transfer.TheVariants.{Extract, Join}
 use Rattle.td_words.proofs.Asked.{same_met}
@@ -53,22 +53,28 @@ report_once kind day Guarantees Guarantees is other = refl
 two_flags : (value : Option Text) → value ≡ Some (codes "false") → value ≡ Some (codes "true") → ⊥
 two_flags value without with_it = cc
 
--- the letter that the name of a task's command begins with, and so no text is the name of two commands
-abbrev first_letter : Task → ℕ
-first_letter (Serve l r j) = 115
-first_letter (Pipe r j) = 112
-first_letter (Batch Declarations file db j) = 98
-first_letter (Batch Acts file db j) = 97
-first_letter (Report report path) = 114
-first_letter (Check path) = 99
+-- two letters of a text, added up
+abbrev letters : Text → ℕ
+letters text = slice_index text 0 + slice_index text 3
 
-letter_is : (name : Text) (rows : List Row) (task : Task) → IsTask name rows task → slice_index name 0 ≡ first_letter task
-letter_is name rows (Serve l r j) is = ap (λ t. slice_index t 0) is.0
-letter_is name rows (Pipe r j) is = ap (λ t. slice_index t 0) is.0
-letter_is name rows (Batch Declarations file db j) is = ap (λ t. slice_index t 0) is.0
-letter_is name rows (Batch Acts file db j) is = ap (λ t. slice_index t 0) is.0
-letter_is name rows (Report report path) is = ap (λ t. slice_index t 0) is.0
-letter_is name rows (Check path) is = ap (λ t. slice_index t 0) is.0
+-- those of the name of a task's command, which tell it: so no text is the name of two commands
+abbrev first_letter : Task → ℕ
+first_letter (Serve l r j) = 233
+first_letter (Pipe r j) = 213
+first_letter (Batch Declarations file db j) = 197
+first_letter (Batch Acts file db j) = 212
+first_letter (Replay file part r) = 222
+first_letter (Report report path) = 225
+first_letter (Check path) = 198
+
+letter_is : (name : Text) (rows : List Row) (task : Task) → IsTask name rows task → letters name ≡ first_letter task
+letter_is name rows (Serve l r j) is = ap letters is.0
+letter_is name rows (Pipe r j) is = ap letters is.0
+letter_is name rows (Batch Declarations file db j) is = ap letters is.0
+letter_is name rows (Batch Acts file db j) is = ap letters is.0
+letter_is name rows (Replay file part r) is = ap letters is.0
+letter_is name rows (Report report path) is = ap letters is.0
+letter_is name rows (Check path) is = ap letters is.0
 
 clash : (name : Text) (rows : List Row) (a b : Task) → IsTask name rows a → IsTask name rows b → first_letter a ≡ first_letter b
 clash name rows a b is other = sym (letter_is name rows a is) ∙ letter_is name rows b other
@@ -84,6 +90,12 @@ records_once (NewFile path) Memory db new is other = no_value db _ other.0 is.0
 records_once (NewFile path) (File there) db new is other = two_flags new other.1 is.1
 records_once (NewFile path) (NewFile there) db new is other = same_value db _ _ is.0 other.0
 
+same_flag : (A : Type 0) (a b : Bool) → (a ≡ true) ↔ A → (b ≡ true) ↔ A → a ≡ b
+same_flag A true true is other = refl
+same_flag A true false is other = sym (other.1 (is.0 refl))
+same_flag A false true is other = is.1 (other.0 refl)
+same_flag A false false is other = refl
+
 task_once : (name : Text) (rows : List Row) (task other : Task) → IsTask name rows task → IsTask name rows other → IsSameTask task other
 task_once name rows (Serve l r j) (Serve m s k) is other = (
   number_once _ _ _ _ _ is.1.port other.1.port,
@@ -95,52 +107,66 @@ task_once name rows (Serve l r j) (Serve m s k) is other = (
 task_once name rows (Serve l r j) (Pipe s k) is other = absurd (omega (arith, clash name rows (Serve l r j) (Pipe s k) is other))
 task_once name rows (Serve l r j) (Batch Declarations there records k) is other = absurd (omega (arith, clash name rows (Serve l r j) (Batch Declarations there records k) is other))
 task_once name rows (Serve l r j) (Batch Acts there records k) is other = absurd (omega (arith, clash name rows (Serve l r j) (Batch Acts there records k) is other))
+task_once name rows (Serve l r j) (Replay there other_part s) is other = absurd (omega (arith, clash name rows (Serve l r j) (Replay there other_part s) is other))
 task_once name rows (Serve l r j) (Report kind there) is other = absurd (omega (arith, clash name rows (Serve l r j) (Report kind there) is other))
 task_once name rows (Serve l r j) (Check there) is other = absurd (omega (arith, clash name rows (Serve l r j) (Check there) is other))
 task_once name rows (Pipe r j) (Serve m s k) is other = absurd (omega (arith, clash name rows (Pipe r j) (Serve m s k) is other))
 task_once name rows (Pipe r j) (Pipe s k) is other = (records_once r s _ _ is.1 other.1, is.2 ∙ sym other.2)
 task_once name rows (Pipe r j) (Batch Declarations there records k) is other = absurd (omega (arith, clash name rows (Pipe r j) (Batch Declarations there records k) is other))
 task_once name rows (Pipe r j) (Batch Acts there records k) is other = absurd (omega (arith, clash name rows (Pipe r j) (Batch Acts there records k) is other))
+task_once name rows (Pipe r j) (Replay there other_part s) is other = absurd (omega (arith, clash name rows (Pipe r j) (Replay there other_part s) is other))
 task_once name rows (Pipe r j) (Report kind there) is other = absurd (omega (arith, clash name rows (Pipe r j) (Report kind there) is other))
 task_once name rows (Pipe r j) (Check there) is other = absurd (omega (arith, clash name rows (Pipe r j) (Check there) is other))
 task_once name rows (Batch Declarations file db j) (Serve m s k) is other = absurd (omega (arith, clash name rows (Batch Declarations file db j) (Serve m s k) is other))
 task_once name rows (Batch Declarations file db j) (Pipe s k) is other = absurd (omega (arith, clash name rows (Batch Declarations file db j) (Pipe s k) is other))
 task_once name rows (Batch Declarations file db j) (Batch Declarations there records k) is other = (refl, same_value _ _ _ is.1 other.1, same_value _ _ _ is.2 other.2, is.3 ∙ sym other.3)
 task_once name rows (Batch Declarations file db j) (Batch Acts there records k) is other = absurd (omega (arith, clash name rows (Batch Declarations file db j) (Batch Acts there records k) is other))
+task_once name rows (Batch Declarations file db j) (Replay there other_part s) is other = absurd (omega (arith, clash name rows (Batch Declarations file db j) (Replay there other_part s) is other))
 task_once name rows (Batch Declarations file db j) (Report kind there) is other = absurd (omega (arith, clash name rows (Batch Declarations file db j) (Report kind there) is other))
 task_once name rows (Batch Declarations file db j) (Check there) is other = absurd (omega (arith, clash name rows (Batch Declarations file db j) (Check there) is other))
 task_once name rows (Batch Acts file db j) (Serve m s k) is other = absurd (omega (arith, clash name rows (Batch Acts file db j) (Serve m s k) is other))
 task_once name rows (Batch Acts file db j) (Pipe s k) is other = absurd (omega (arith, clash name rows (Batch Acts file db j) (Pipe s k) is other))
 task_once name rows (Batch Acts file db j) (Batch Declarations there records k) is other = absurd (omega (arith, clash name rows (Batch Acts file db j) (Batch Declarations there records k) is other))
 task_once name rows (Batch Acts file db j) (Batch Acts there records k) is other = (refl, same_value _ _ _ is.1 other.1, same_value _ _ _ is.2 other.2, is.3 ∙ sym other.3)
+task_once name rows (Batch Acts file db j) (Replay there other_part s) is other = absurd (omega (arith, clash name rows (Batch Acts file db j) (Replay there other_part s) is other))
 task_once name rows (Batch Acts file db j) (Report kind there) is other = absurd (omega (arith, clash name rows (Batch Acts file db j) (Report kind there) is other))
 task_once name rows (Batch Acts file db j) (Check there) is other = absurd (omega (arith, clash name rows (Batch Acts file db j) (Check there) is other))
+task_once name rows (Replay file part r) (Serve m s k) is other = absurd (omega (arith, clash name rows (Replay file part r) (Serve m s k) is other))
+task_once name rows (Replay file part r) (Pipe s k) is other = absurd (omega (arith, clash name rows (Replay file part r) (Pipe s k) is other))
+task_once name rows (Replay file part r) (Batch Declarations there records k) is other = absurd (omega (arith, clash name rows (Replay file part r) (Batch Declarations there records k) is other))
+task_once name rows (Replay file part r) (Batch Acts there records k) is other = absurd (omega (arith, clash name rows (Replay file part r) (Batch Acts there records k) is other))
+task_once name rows (Replay file part r) (Replay there other_part s) is other = (same_value _ _ _ is.1 other.1, same_flag _ _ _ is.2 other.2, records_once r s _ _ is.3 other.3)
+task_once name rows (Replay file part r) (Report kind there) is other = absurd (omega (arith, clash name rows (Replay file part r) (Report kind there) is other))
+task_once name rows (Replay file part r) (Check there) is other = absurd (omega (arith, clash name rows (Replay file part r) (Check there) is other))
 task_once name rows (Report report path) (Serve m s k) is other = absurd (omega (arith, clash name rows (Report report path) (Serve m s k) is other))
 task_once name rows (Report report path) (Pipe s k) is other = absurd (omega (arith, clash name rows (Report report path) (Pipe s k) is other))
 task_once name rows (Report report path) (Batch Declarations there records k) is other = absurd (omega (arith, clash name rows (Report report path) (Batch Declarations there records k) is other))
 task_once name rows (Report report path) (Batch Acts there records k) is other = absurd (omega (arith, clash name rows (Report report path) (Batch Acts there records k) is other))
+task_once name rows (Report report path) (Replay there other_part s) is other = absurd (omega (arith, clash name rows (Report report path) (Replay there other_part s) is other))
 task_once name rows (Report report path) (Report kind there) is other = (report_once _ _ report kind is.1 other.1, same_value _ _ _ is.2 other.2)
 task_once name rows (Report report path) (Check there) is other = absurd (omega (arith, clash name rows (Report report path) (Check there) is other))
 task_once name rows (Check path) (Serve m s k) is other = absurd (omega (arith, clash name rows (Check path) (Serve m s k) is other))
 task_once name rows (Check path) (Pipe s k) is other = absurd (omega (arith, clash name rows (Check path) (Pipe s k) is other))
 task_once name rows (Check path) (Batch Declarations there records k) is other = absurd (omega (arith, clash name rows (Check path) (Batch Declarations there records k) is other))
 task_once name rows (Check path) (Batch Acts there records k) is other = absurd (omega (arith, clash name rows (Check path) (Batch Acts there records k) is other))
+task_once name rows (Check path) (Replay there other_part s) is other = absurd (omega (arith, clash name rows (Check path) (Replay there other_part s) is other))
 task_once name rows (Check path) (Report kind there) is other = absurd (omega (arith, clash name rows (Check path) (Report kind there) is other))
 task_once name rows (Check path) (Check there) is other = same_value _ _ _ is.1 other.1
 
--- no task's command begins with the letter of `migrate`, of `extract` or of `join`
-task_letters : (task : Task) → (first_letter task ≢ 109) × (first_letter task ≢ 101) × (first_letter task ≢ 106)
+-- no task's command has the letters of `migrate`, of `extract` or of `join`
+task_letters : (task : Task) → (first_letter task ≢ 223) × (first_letter task ≢ 215) × (first_letter task ≢ 216)
 task_letters (Serve l r j) = (λ e. omega (arith, e), λ e. omega (arith, e), λ e. omega (arith, e))
 task_letters (Pipe r j) = (λ e. omega (arith, e), λ e. omega (arith, e), λ e. omega (arith, e))
 task_letters (Batch Declarations file db j) = (λ e. omega (arith, e), λ e. omega (arith, e), λ e. omega (arith, e))
 task_letters (Batch Acts file db j) = (λ e. omega (arith, e), λ e. omega (arith, e), λ e. omega (arith, e))
+task_letters (Replay file part r) = (λ e. omega (arith, e), λ e. omega (arith, e), λ e. omega (arith, e))
 task_letters (Report report path) = (λ e. omega (arith, e), λ e. omega (arith, e), λ e. omega (arith, e))
 task_letters (Check path) = (λ e. omega (arith, e), λ e. omega (arith, e), λ e. omega (arith, e))
 
--- the name of a task's command is no other text whose first letter no task has
+-- the name of a task's command is no other text whose letters no task has
 module _ (name : Text) (rows : List Row) where
-  letter_by : (other : Text) (task : Task) → IsTask name rows task → name ≡ other → first_letter task ≡ slice_index other 0
-  letter_by other task is named = sym (letter_is name rows task is) ∙ ap (λ t. slice_index t 0) named
+  letter_by : (other : Text) (task : Task) → IsTask name rows task → name ≡ other → first_letter task ≡ letters other
+  letter_by other task is named = sym (letter_is name rows task is) ∙ ap letters named
 
   no_migrate : (task : Task) → IsTask name rows task → name ≡ codes "migrate" → ⊥
   no_migrate task is named = (task_letters task).0 (letter_by (codes "migrate") task is named)

@@ -7,7 +7,7 @@ use Rattle.td_words.specs.declared.words.Job.TheVariants.{AtDesk, Migrate, Trans
 use Rattle.td_words.specs.declared.words.Records.{Records}
 use Rattle.td_words.specs.declared.words.Records.TheVariants.{Memory, File, NewFile}
 use Rattle.td_words.specs.declared.words.Task.{Task}
-use Rattle.td_words.specs.declared.words.Task.TheVariants.{Serve, Pipe, Batch, Report, Check}
+use Rattle.td_words.specs.declared.words.Task.TheVariants.{Serve, Pipe, Batch, Replay, Report, Check}
 use Rattle.td_words.specs.declared.words.Transfer as transfer
 use Rattle.td_words.specs.declared.words.Transfer.TheVariants.{Extract, Join}
 
@@ -30,6 +30,8 @@ IsSameTask (Serve listening records journal) (Serve other others other_journal) 
 IsSameTask (Pipe records journal) (Pipe others other_journal) = AreSameRecords records others × IsSameJournal journal other_journal
 IsSameTask (Batch kind file db journal) (Batch other there records other_journal) =
     (kind ≡ other) × (string_bytes file ≡ string_bytes there) × (string_bytes db ≡ string_bytes records) × IsSameJournal journal other_journal
+IsSameTask (Replay file part records) (Replay there other others) =
+    (string_bytes file ≡ string_bytes there) × (part ≡ other) × AreSameRecords records others
 IsSameTask (Report report path) (Report other there) = (report ≡ other) × (string_bytes path ≡ string_bytes there)
 IsSameTask (Check path) (Check other) = string_bytes path ≡ string_bytes other
 IsSameTask _ _ = ⊥

@@ -1,5 +1,5 @@
 -- What the words of the command line ask for.
-use Rattle.std.specs.Prelude.{◌≡◌, ◌≢◌, ◌⊎◌, ℕ, ◌≤◌, ℤ, pos, List, [], ◌∷◌, length, All, codes, drop, slice_get, take, true, string_bytes, String, Option, None, Some, option_map, ⊤}
+use Rattle.std.specs.Prelude.{◌≡◌, ◌≢◌, ◌⊎◌, ◌↔◌, ℕ, Bool, ◌≤◌, ℤ, pos, List, [], ◌∷◌, length, All, codes, drop, slice_get, take, true, string_bytes, String, Option, None, Some, option_map, ⊤}
 use Rattle.std.specs.Char.{IsAsciiDigit}
 use Rattle.ascii_text.specs.Digits.{digits_value}
 use Rattle.clap.specs.Words.{App, IsAmong, Row, Rule, Text, fault_of, first_of, new_app, new_rule, subcommand_of, with_rule, with_subcommand}
@@ -22,7 +22,7 @@ use Rattle.td_words.specs.declared.words.Records.TheVariants.{Memory, File, NewF
 use Rattle.td_words.specs.declared.words.ReportKind.{ReportKind}
 use Rattle.td_words.specs.declared.words.ReportKind.TheVariants.{Overdue, Guarantees}
 use Rattle.td_words.specs.declared.words.Task.{Task}
-use Rattle.td_words.specs.declared.words.Task.TheVariants.{Serve, Pipe, Batch, Report, Check}
+use Rattle.td_words.specs.declared.words.Task.TheVariants.{Serve, Pipe, Batch, Replay, Report, Check}
 use Rattle.td_words.specs.declared.words.Transfer as transfer
 use Rattle.td_words.specs.declared.words.Transfer.TheVariants.{Extract, Join}
 
@@ -78,6 +78,18 @@ abbrev pub batch_name : BatchKind → Text
 batch_name Declarations = codes "batch"
 batch_name Acts = codes "acts"
 
+-- the flag `--part`, and the command that does the rows of a journal again
+abbrev pub part_rule : Rule
+part_rule = record (new_rule (codes "part")) { long = Some (codes "part"); action = Some SetTrue }
+
+abbrev pub replay_app : App
+replay_app =
+    with_rule
+    (with_rule
+    (with_rule (with_rule (with_country (new_app (codes "replay"))) (option_rule (codes "db"))) new_file_rule)
+    (required_rule (codes "file")))
+    part_rule
+
 -- the one that says which report by a word of its own
 abbrev pub kind_rule : Rule
 kind_rule = record (new_rule (codes "kind")) { action = Some Set; value_names = 1; required = true }
@@ -127,8 +139,10 @@ program_app =
     (with_subcommand
     (with_subcommand
     (with_subcommand
+    (with_subcommand
     (with_subcommand (with_subcommand (with_subcommand bare_app serve_app.top) pipe_app.top) (batch_app (codes "batch")).top)
     (batch_app (codes "acts")).top)
+    replay_app.top)
     report_app.top)
     check_app.top)
     migrate_app.top)
@@ -164,6 +178,10 @@ AreRecordsBy (NewFile path) db new = (db ≡ Some (string_bytes path)) × (new �
 
 abbrev pub AreRecords : List Row → Records → Type 0
 AreRecords rows records = AreRecordsBy records (first_of (codes "db") rows) (first_of (codes "new") rows)
+
+-- Numbers may be left out, by the first value of `--part`: clap gives it "true" where it is there, and "false" where it isn't.
+abbrev pub IsPart : List Row → Bool → Type 0
+IsPart rows part = (part ≡ true) ↔ (first_of (codes "part") rows ≡ Some (codes "true"))
 
 -- the path of the journal, if one is kept
 abbrev pub IsJournal : {A : Type 0} → List Row → Option (String A) → Type 0
@@ -217,8 +235,8 @@ IsTransfer name rows (Join into from) =
     × (first_of (codes "with") rows ≡ Some (string_bytes from))
 
 -- The task of this name, with the values of its own options: where the records stand and perhaps a journal, of `serve` a port, a
--- number of connections and perhaps an idle limit, of `batch` and `acts` the file with the rows, of `report` which it is, and of it
--- and of `check` the file.
+-- number of connections and perhaps an idle limit, of `batch`, `acts` and `replay` the file with the rows, of `replay` whether they are
+-- a part, of `report` which it is, and of it and of `check` the file.
 abbrev pub IsTask : Text → List Row → Task → Type 0
 IsTask name rows (Pipe records journal) = (name ≡ codes "pipe") × AreRecords rows records × IsJournal rows journal
 IsTask name rows (Serve listening records journal) =
@@ -226,6 +244,8 @@ IsTask name rows (Serve listening records journal) =
 IsTask name rows (Batch kind file db journal) =
     (name ≡ batch_name kind) × (first_of (codes "file") rows ≡ Some (string_bytes file))
     × (first_of (codes "db") rows ≡ Some (string_bytes db)) × IsJournal rows journal
+IsTask name rows (Replay file part records) =
+    (name ≡ codes "replay") × (first_of (codes "file") rows ≡ Some (string_bytes file)) × IsPart rows part × AreRecords rows records
 IsTask name rows (Report report path) =
     (name ≡ codes "report") × IsReport rows report × (first_of (codes "db") rows ≡ Some (string_bytes path))
 IsTask name rows (Check path) =

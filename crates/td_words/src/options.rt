@@ -3,7 +3,7 @@ ghost use Rattle.std.specs.Prelude.{◌≡◌, codes, false, IfOk, true};
 ghost use Rattle.clap.specs.Words.{App, Rule, app_of, new_app, rule_of, with_rule, with_subcommand};
 ghost use Rattle.clap.specs.declared.Command.TheViews.{out-Command};
 ghost use Rattle.td_words.specs.Commands.{IsCommand};
-ghost use Rattle.td_words.specs.Words.{bare_app, batch_app, check_app, extract_app, join_app, kind_rule, migrate_app, new_file_rule, option_rule, pipe_app, program_app, report_app, required_rule, serve_app, with_country, with_office};
+ghost use Rattle.td_words.specs.Words.{bare_app, batch_app, check_app, extract_app, join_app, kind_rule, migrate_app, new_file_rule, option_rule, part_rule, pipe_app, program_app, replay_app, report_app, required_rule, serve_app, with_country, with_office};
 
 use clap::{Arg, ArgAction, Command};
 use std::alloc::{AllocError, Global};
@@ -36,6 +36,8 @@ pub(crate) const WITH: &str = "with";
 
 pub(crate) const JOURNAL: &str = "journal";
 
+pub(crate) const PART: &str = "part";
+
 const SERVE: &str = "serve";
 
 const PIPE: &str = "pipe";
@@ -43,6 +45,8 @@ const PIPE: &str = "pipe";
 const BATCH: &str = "batch";
 
 const ACTS: &str = "acts";
+
+const REPLAY: &str = "replay";
 
 const REPORT: &str = "report";
 
@@ -76,6 +80,9 @@ const ACTS_USAGE: &str =
     "transit-desk acts --country <CC> --db <FILE> --file <CSV> [--journal <CSV>]
          [--at <SECONDS>]";
 
+const REPLAY_USAGE: &str =
+    "transit-desk replay --country <CC> --file <CSV> [--part] [--db <FILE> [--new]]";
+
 const REPORT_USAGE: &str = "transit-desk report <KIND> --country <CC> --db <FILE> [--day <D>]";
 
 const CHECK_USAGE: &str = "transit-desk check --country <CC> --db <FILE>";
@@ -96,6 +103,7 @@ const USAGE: &str =
          [--at <SECONDS>]
        transit-desk acts --country <CC> --db <FILE> --file <CSV> [--journal <CSV>]
          [--at <SECONDS>]
+       transit-desk replay --country <CC> --file <CSV> [--part] [--db <FILE> [--new]]
        transit-desk report <KIND> --country <CC> --db <FILE> [--day <D>]
        transit-desk check --country <CC> --db <FILE>
        transit-desk migrate --db <FILE>
@@ -116,6 +124,7 @@ Examples:
   transit-desk serve --country CH --port 8080 --connections 1000 --db desk.db --new
   transit-desk batch --country CH --db desk.db --file declarations.csv > result.csv
   transit-desk acts --country CH --db desk.db --file acts.csv > result.csv
+  transit-desk replay --country CH --file journal.csv --db again.db --new > replies.csv
   transit-desk report overdue --country CH --db desk.db --day 2025-03-20
   transit-desk report guarantees --country CH --db desk.db
   transit-desk check --country CH --db desk.db
@@ -337,6 +346,34 @@ fn acts_command<'a>(alloc: Global) -> Result<Command<'a>, AllocError>
     )
 }
 
+// The flag by which numbers may be left out.
+fn part_option<'a>(alloc: Global) -> Arg<'a>
+    ensures rule { rule_of result ≡ part_rule }
+    ensures local { result.global ≡ false }
+{
+    Arg::new(alloc, PART)
+        .long(PART)
+        .help("The rows are a part of a journal, as one holder's: numbers may be left out")
+        .action(ArgAction::SetTrue)
+}
+
+// The one that does the rows of a journal again.
+fn replay_command<'a>(alloc: Global) -> Result<Command<'a>, AllocError>
+    ensures { IsCommand replay_app result }
+{
+    let about = "Does the rows of a journal again, each at its moment, and prints the replies";
+    let records = option(
+        alloc,
+        DB,
+        "FILE",
+        "The file with the records, an SQLite database; else they are in memory",
+    );
+    let rows = required_option(alloc, FILE, "CSV", "The journal");
+    let command = with_arg(country_command(alloc, REPLAY, about, REPLAY_USAGE), records);
+    let command = with_arg(with_arg(command, new_option(alloc)), rows);
+    with_arg(command, part_option(alloc))
+}
+
 fn report_command<'a>(alloc: Global) -> Result<Command<'a>, AllocError>
     ensures { IsCommand report_app result }
 {
@@ -440,6 +477,7 @@ pub(crate) fn program<'a>(alloc: Global) -> Result<Command<'a>, AllocError>
     let program = with_job(program, pipe_command(alloc));
     let program = with_job(program, declarations_command(alloc));
     let program = with_job(program, acts_command(alloc));
+    let program = with_job(program, replay_command(alloc));
     let program = with_job(program, report_command(alloc));
     let program = with_job(program, check_command(alloc));
     let program = with_job(program, migrate_command(alloc));

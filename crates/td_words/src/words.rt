@@ -5,11 +5,11 @@ ghost use Rattle.clap.specs.Values.{kind_of};
 ghost use Rattle.clap.specs.Words.{first_of, found_of, rows_of};
 ghost use Rattle.td_words.specs.declared.words.HolderRange.{HolderRange};
 ghost use Rattle.td_words.specs.declared.words.NoJob.TheVariants.{NoMemory};
-ghost use Rattle.td_words.specs.Words.{AreRecords, AskForHelpOfHelp, AsksFor, IsCountryIn, IsDayOf, IsDecimal, IsIdleOf, IsJob, IsJournal, IsListening, IsMomentOf, IsNoJob, IsNoneSuch, IsNumberOf, IsOffice, IsRange, IsRangeOf, IsReport, IsTask, IsTold, IsTransfer, batch_name};
+ghost use Rattle.td_words.specs.Words.{AreRecords, AskForHelpOfHelp, AsksFor, IsCountryIn, IsDayOf, IsDecimal, IsIdleOf, IsJob, IsJournal, IsListening, IsMomentOf, IsNoJob, IsNoneSuch, IsNumberOf, IsOffice, IsPart, IsRange, IsRangeOf, IsReport, IsTask, IsTold, IsTransfer, batch_name};
 
 use crate::options::{
-    AT, CONNECTIONS, COUNTRY, DAY, DB, FILE, HOLDERS, IDLE, INTO, JOURNAL, KIND, NEW, PORT, WITH,
-    program,
+    AT, CONNECTIONS, COUNTRY, DAY, DB, FILE, HOLDERS, IDLE, INTO, JOURNAL, KIND, NEW, PART, PORT,
+    WITH, program,
 };
 use ascii_text::is_digits;
 use clap::ArgMatches;
@@ -79,6 +79,14 @@ pub enum Task {
         /// The file with the records.
         records: String,
         journal: Option<String>,
+    },
+    /// The rows of a journal are done again, each at its own moment.
+    Replay {
+        /// The file with the rows (CSV).
+        rows: String,
+        /// They are a part of a journal: numbers may be left out.
+        part: bool,
+        records: Records,
     },
     /// A report on the records in the file at this path is printed.
     Report(ReportKind, String),
@@ -413,6 +421,11 @@ fn task_in(alloc: Global, name: &str, matches: &ArgMatches<'_>) -> Result<Task, 
         }
         "batch" => batch_in(alloc, matches, BatchKind::Declarations),
         "acts" => batch_in(alloc, matches, BatchKind::Acts),
+        "replay" => Ok(Task::Replay {
+            rows: file_in(alloc, matches, FILE)?,
+            part: is_part(matches),
+            records: records_in(alloc, matches)?,
+        }),
         "report" => {
             let report = report_in(alloc, matches)?;
             Ok(Task::Report(report, file_in(alloc, matches, DB)?))
@@ -549,6 +562,13 @@ fn file_in(alloc: Global, matches: &ArgMatches<'_>, name: &str) -> Result<String
         Some(path) => Ok(String::from_str(alloc, path)?),
         None => Err(NoJob::NoMemory),
     }
+}
+
+// Whether numbers may be left out. `clap` has "false" for a `--part` that isn't there.
+fn is_part(matches: &ArgMatches<'_>) -> bool
+    ensures { IsPart (rows_of (found_of matches.now)) result }
+{
+    value_of(matches, PART) == Some("true")
 }
 
 // The path of the journal, if one is kept.

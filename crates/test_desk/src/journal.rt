@@ -1,6 +1,8 @@
 //! Rows of a journal: their lines, and what is read of a text that ends within one.
 mod kept;
 mod redone;
+mod replayed;
+mod started;
 
 use crate::examples::{AT, eori, holder};
 use std::process::Abort;

@@ -9,22 +9,25 @@ use td_desk::{Fault, Outcome, PlainDesk, Stamped, do_one};
 use td_journal::{Journal, JournaledDesk};
 
 /// The rows behind the registration's: a guarantee, and a declaration on it.
-const SECOND: &[u8] =
+pub(super) const SECOND: &[u8] =
     b"2,1740819600,POST,/office/holders/000001/guarantees,\"{\"\"reference\"\":1000000,\"\"cover\"\":50,\"\"code\"\":\"\"AB12\"\"}\",\"{\"\"grn\"\":\"\"25CH0000010000014\"\"}\"\n";
 
-const THIRD: &[u8] =
+pub(super) const THIRD: &[u8] =
     b"3,1740819600,POST,/holders/000001/movements,\"{\"\"lrn\"\":\"\"A1\"\",\"\"departure\"\":\"\"CH001251\"\",\"\"destination\"\":\"\"DE005600\"\",\"\"lines\"\":[{\"\"cents\"\":100,\"\"code\"\":\"\"AB12\"\",\"\"grn\"\":\"\"25CH0000010000014\"\"}]}\",\"{\"\"lrn\"\":\"\"A1\"\",\"\"message\"\":\"\"IE028\"\",\"\"mrn\"\":\"\"25CH000001000001J8\"\"}\"\n";
 
 /// Calls of a file that a row takes: a write and a sync.
 const A_ROW: u64 = 2;
 
 /// A desk of CH without holders, whose journal is this file, which is empty.
-fn journaled<F: Disk>(rt: &(impl AllocGlobal + Abort), file: F) -> JournaledDesk<PlainDesk, F> {
+pub(super) fn journaled<F: Disk>(
+    rt: &(impl AllocGlobal + Abort),
+    file: F,
+) -> JournaledDesk<PlainDesk, F> {
     let desk = PlainDesk::new(rt.alloc(), country(rt)).expect(rt, "memory");
     JournaledDesk::new(desk, Journal::new(file, 0, 1))
 }
 
-fn register(rt: &impl Abort) -> Command {
+pub(super) fn register(rt: &impl Abort) -> Command {
     Command::Register {
         holder: holder(rt, 1),
         eori: eori(rt, b"CH1234567"),
@@ -32,7 +35,7 @@ fn register(rt: &impl Abort) -> Command {
 }
 
 /// Opens a guarantee of 10,000.00 at half cover, with the code AB12.
-fn open(rt: &impl Abort) -> Command {
+pub(super) fn open(rt: &impl Abort) -> Command {
     Command::OpenGuarantee {
         holder: holder(rt, 1),
         reference: Reference::new(1_000_000).expect(rt, "an amount"),
@@ -42,7 +45,7 @@ fn open(rt: &impl Abort) -> Command {
 }
 
 /// Whether the desk says something to a command, and doesn't fail.
-fn is_answered<F: Disk>(
+pub(super) fn is_answered<F: Disk>(
     rt: &impl AllocGlobal,
     desk: &mut JournaledDesk<PlainDesk, F>,
     command: Command,

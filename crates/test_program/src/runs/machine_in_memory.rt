@@ -62,7 +62,7 @@ fn incoming(alloc: Global, clients: Clients<'_>) -> Result<MemoryIncoming, Alloc
     })
 }
 
-// A machine with the two files of rows, whose clock will answer so, and to whose port 8080 these clients come, where the idle limit
+// A machine with files of rows, whose clock will answer so, and to whose port 8080 these clients come, where the idle limit
 // is seven seconds.
 fn machine(
     alloc: Global,
@@ -70,7 +70,14 @@ fn machine(
     clients: Clients<'_>,
 ) -> Result<MemoryMachine, AllocError> {
     let mut files = Vec::new(alloc);
-    for (path, bytes) in [("other.csv", ACTS), ("rows.csv", ROWS), ("acts.csv", ACTS)] {
+    let journal = JOURNAL_ROWS.concat(alloc)?;
+    for (path, bytes) in [
+        ("other.csv", ACTS),
+        ("rows.csv", ROWS),
+        ("acts.csv", ACTS),
+        ("journal.csv", &journal),
+        ("part.csv", JOURNAL_ROWS[1]),
+    ] {
         files.push(MemoryFile {
             path: String::from_str(alloc, path)?,
             bytes: Vec::from_slice(alloc, bytes)?,
@@ -535,4 +542,73 @@ fn a_journal_that_is_not_the_desks_is_told(rt: HostRuntime) -> Result<(), Fail> 
     assert_refused(alloc, &[ROWS], b"transit-desk: journal\n")?;
     assert_refused(alloc, &[JOURNAL_ROWS[0], b"\n"], b"transit-desk: journal\n")?;
     assert_refused(alloc, &JOURNAL_ROWS, b"transit-desk: journal 3\n")
+}
+
+/// What is printed of the journal's rows, done again.
+const REPLIES: &[u8] =
+    b"number,reply\n1,\"{\"\"eori\"\":\"\"CH1234567\"\",\"\"guarantees\"\":0,\"\"holder\"\":\"\"000001\"\",\"\"movements\"\":0}\"\n2,\"{\"\"grn\"\":\"\"25CH0000010000014\"\"}\"\n3,\"{\"\"lrn\"\":\"\"A1\"\",\"\"message\"\":\"\"IE028\"\",\"\"mrn\"\":\"\"25CH000001000001J8\"\"}\"\n";
+
+// A journal that is done again at a desk with these records, and what is told of it.
+fn assert_replay(
+    alloc: Global,
+    files: &mut DriveFiles,
+    journal: &'static str,
+    more: &[&'static str],
+    due: Due<'_>,
+) -> Result<(), Fail> {
+    let mut words = ["transit-desk", "replay", "--country", "CH"].to_vec(alloc)?;
+    words.extend_from_slice(&["--file", journal])?;
+    words.extend_from_slice(more)?;
+    assert_run(alloc, files, &[], &words, b"", due)
+}
+
+#[test]
+fn a_journal_is_done_again(rt: HostRuntime) -> Result<(), Fail> {
+    let alloc = rt.alloc();
+    let files = &mut NO_FILES;
+    assert_replay(
+        alloc,
+        files,
+        "journal.csv",
+        &NEW_RECORDS,
+        Due::replies(REPLIES),
+    )?;
+    let rows = b"holder,lrn,outcome,mrn\n000001,A1,IE028,25CH000001000001J8\n";
+    assert_rows(alloc, files, 1_740_819_700, ["batch", "rows.csv"], 0, rows)?;
+    assert_replay(
+        alloc,
+        files,
+        "journal.csv",
+        &["--part"],
+        Due::replies(REPLIES),
+    )
+}
+
+#[test]
+fn a_row_of_a_journal_that_is_told_something_else_is_told(rt: HostRuntime) -> Result<(), Fail> {
+    let differs = Due {
+        status: 1,
+        out: b"number,reply\n2,\"{\"\"error\"\":\"\"no-holder\"\"}\"\n",
+        errors: b"transit-desk: differs 2\n",
+    };
+    let files = &mut NO_FILES;
+    assert_replay(rt.alloc(), files, "part.csv", &["--part"], differs)
+}
+
+#[test]
+fn what_is_no_journal_is_not_done(rt: HostRuntime) -> Result<(), Fail> {
+    let told = [
+        ("part.csv", "transit-desk: journal 2\n"),
+        ("rows.csv", "transit-desk: bad journal row 1\n"),
+        ("none.csv", "transit-desk: file\n"),
+    ];
+    for (path, errors) in told {
+        let due = Due {
+            status: 1,
+            out: b"",
+            errors: errors.as_bytes(),
+        };
+        assert_replay(rt.alloc(), &mut NO_FILES, path, &NEW_RECORDS, due)?;
+    }
+    Ok(())
 }

@@ -5,7 +5,7 @@ use std::test::Fail;
 const CASES: &[u8] = br#"
 == what was wrong is told
 $
-! 2 error: 'transit-desk' requires a subcommand but one was not provided [subcommands: serve, pipe, batch, acts, report, check, migrate, extract, join, help]
+! 2 error: 'transit-desk' requires a subcommand but one was not provided [subcommands: serve, pipe, batch, acts, replay, report, check, migrate, extract, join, help]
 $ release --country CH
 ! 2 error: unrecognized subcommand 'release'
 $ help nosuch
@@ -145,6 +145,18 @@ $ acts --country CH --db F --file F --journal
 $ batch --country CH --db F --file F --journal F --journal F
 ! 2 error: the argument '--journal <CSV>' cannot be used multiple times
 
+== what was wrong on a replay is told
+$ replay --country CH
+! 2 error: the following required arguments were not provided: --file <CSV>
+$ replay --country CH --file F --new
+! 2 error: the following required arguments were not provided: --db <FILE>
+$ replay --country CH --file F --part --part
+! 2 error: the argument '--part' cannot be used multiple times
+$ replay --country CH --file F --at 5
+! 2 error: unexpected argument '--at' found
+$ replay --country CH --file F --journal F
+! 2 error: unexpected argument '--journal' found
+
 == what was wrong on a report is told
 $ report
 ! 2 error: the following required arguments were not provided: --country <CC> --db <FILE> <KIND>
@@ -211,7 +223,7 @@ $ join --country CH --db F --with F --with F
 # The request is not served, whatever the words ask for.
 $
 > GET /holders/000001
-! 2 error: 'transit-desk' requires a subcommand but one was not provided [subcommands: serve, pipe, batch, acts, report, check, migrate, extract, join, help]
+! 2 error: 'transit-desk' requires a subcommand but one was not provided [subcommands: serve, pipe, batch, acts, replay, report, check, migrate, extract, join, help]
 $ pipe --country ch
 > GET /holders/000001
 ! 2 error: invalid value 'ch' for '--country <CC>': it must be two capital letters
@@ -241,6 +253,7 @@ $ --help
 <|          [--at <SECONDS>]\n
 <|        transit-desk acts --country <CC> --db <FILE> --file <CSV> [--journal <CSV>]\n
 <|          [--at <SECONDS>]\n
+<|        transit-desk replay --country <CC> --file <CSV> [--part] [--db <FILE> [--new]]\n
 <|        transit-desk report <KIND> --country <CC> --db <FILE> [--day <D>]\n
 <|        transit-desk check --country <CC> --db <FILE>\n
 <|        transit-desk migrate --db <FILE>\n
@@ -252,6 +265,7 @@ $ --help
 <|   pipe     Serves one stream of HTTP requests, from standard input to standard output\n
 <|   batch    Does the declarations of a file, and prints what became of each\n
 <|   acts     Does the acts of an office in a file, and prints what became of each\n
+<|   replay   Does the rows of a journal again, each at its moment, and prints the replies\n
 <|   report   Prints what is overdue on a day, or all guarantees\n
 <|   check    Tests whether a desk of the country can be opened over a file\n
 <|   migrate  Brings the tables of a file to the newest version\n
@@ -275,6 +289,7 @@ $ --help
 <|   transit-desk serve --country CH --port 8080 --connections 1000 --db desk.db --new\n
 <|   transit-desk batch --country CH --db desk.db --file declarations.csv > result.csv\n
 <|   transit-desk acts --country CH --db desk.db --file acts.csv > result.csv\n
+<|   transit-desk replay --country CH --file journal.csv --db again.db --new > replies.csv\n
 <|   transit-desk report overdue --country CH --db desk.db --day 2025-03-20\n
 <|   transit-desk report guarantees --country CH --db desk.db\n
 <|   transit-desk check --country CH --db desk.db\n
@@ -320,6 +335,7 @@ $ serve --help
 <|   transit-desk serve --country CH --port 8080 --connections 1000 --db desk.db --new\n
 <|   transit-desk batch --country CH --db desk.db --file declarations.csv > result.csv\n
 <|   transit-desk acts --country CH --db desk.db --file acts.csv > result.csv\n
+<|   transit-desk replay --country CH --file journal.csv --db again.db --new > replies.csv\n
 <|   transit-desk report overdue --country CH --db desk.db --day 2025-03-20\n
 <|   transit-desk report guarantees --country CH --db desk.db\n
 <|   transit-desk check --country CH --db desk.db\n
@@ -361,6 +377,7 @@ $ pipe --help
 <|   transit-desk serve --country CH --port 8080 --connections 1000 --db desk.db --new\n
 <|   transit-desk batch --country CH --db desk.db --file declarations.csv > result.csv\n
 <|   transit-desk acts --country CH --db desk.db --file acts.csv > result.csv\n
+<|   transit-desk replay --country CH --file journal.csv --db again.db --new > replies.csv\n
 <|   transit-desk report overdue --country CH --db desk.db --day 2025-03-20\n
 <|   transit-desk report guarantees --country CH --db desk.db\n
 <|   transit-desk check --country CH --db desk.db\n
@@ -403,6 +420,7 @@ $ report --help
 <|   transit-desk serve --country CH --port 8080 --connections 1000 --db desk.db --new\n
 <|   transit-desk batch --country CH --db desk.db --file declarations.csv > result.csv\n
 <|   transit-desk acts --country CH --db desk.db --file acts.csv > result.csv\n
+<|   transit-desk replay --country CH --file journal.csv --db again.db --new > replies.csv\n
 <|   transit-desk report overdue --country CH --db desk.db --day 2025-03-20\n
 <|   transit-desk report guarantees --country CH --db desk.db\n
 <|   transit-desk check --country CH --db desk.db\n
@@ -441,6 +459,7 @@ $ check --help
 <|   transit-desk serve --country CH --port 8080 --connections 1000 --db desk.db --new\n
 <|   transit-desk batch --country CH --db desk.db --file declarations.csv > result.csv\n
 <|   transit-desk acts --country CH --db desk.db --file acts.csv > result.csv\n
+<|   transit-desk replay --country CH --file journal.csv --db again.db --new > replies.csv\n
 <|   transit-desk report overdue --country CH --db desk.db --day 2025-03-20\n
 <|   transit-desk report guarantees --country CH --db desk.db\n
 <|   transit-desk check --country CH --db desk.db\n
@@ -478,6 +497,7 @@ $ migrate --help
 <|   transit-desk serve --country CH --port 8080 --connections 1000 --db desk.db --new\n
 <|   transit-desk batch --country CH --db desk.db --file declarations.csv > result.csv\n
 <|   transit-desk acts --country CH --db desk.db --file acts.csv > result.csv\n
+<|   transit-desk replay --country CH --file journal.csv --db again.db --new > replies.csv\n
 <|   transit-desk report overdue --country CH --db desk.db --day 2025-03-20\n
 <|   transit-desk report guarantees --country CH --db desk.db\n
 <|   transit-desk check --country CH --db desk.db\n

@@ -18,5 +18,13 @@ pub returns-in-ForeignRow : goal.returns-in-ForeignRow
 returns-in-ForeignRow g c =
     rw c.in-ForeignRow.is (refl, told_made g.E.Write.contents _ _ _ _ string_bytes c.foreign_row_line.result c.foreign_row_line.ensures c.tell_made-in-ForeignRow.ensures)
 
+pub returns-in-BadRow : goal.returns-in-BadRow
+returns-in-BadRow g c =
+    rw c.in-BadRow.is (refl, told_made g.E.Write.contents _ _ _ _ string_bytes c.bad_row_line.result c.bad_row_line.ensures c.tell_made-in-BadRow.ensures)
+
+pub returns-in-Differs : goal.returns-in-Differs
+returns-in-Differs g c =
+    rw c.in-Differs.is (refl, told_made g.E.Write.contents _ _ _ _ string_bytes c.differs_line.result c.differs_line.ensures c.tell_made-in-Differs.ensures)
+
 pub returns-in-Of : goal.returns-in-Of
 returns-in-Of g c = rw c.in-Of.is (refl, rw c.line.ensures at c.tell.ensures)

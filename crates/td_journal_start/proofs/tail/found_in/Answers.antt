@@ -1,7 +1,7 @@
 use Rattle.std.proofs.Common.{◌≡◌, ◌⊎◌, ◌<◌, ◌≤◌, ℕ, List, [], arith, drop, inl, inr, length, rules, subst, sym, take}
 use Rattle.std.specs.Prelude.{slice_range}
-use Rattle.td_journal_start.specs.Lines.{IsLine, Numbered}
-use Rattle.td_journal_start.specs.Rows.{numbered}
+use Rattle.td_journal_lines.specs.Lines.{IsLine, Numbered}
+use Rattle.td_journal_lines.specs.Rows.{numbered}
 use Rattle.td_journal_start.specs.Texts.{HasLast}
 use Rattle.td_journal_start.proofs.Places.{before_size, one_at, place_is}
 use Rattle.td_journal_start.proofs.Tails.{found_row, no_row, row_end, too_far}

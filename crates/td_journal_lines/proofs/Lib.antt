@@ -1,0 +1,3 @@
+pub mod Reading
+mod Requests
+mod Rows

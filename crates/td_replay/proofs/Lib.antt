@@ -1,0 +1,4 @@
+mod FirstLines
+mod Counting
+mod RowsDone
+mod Rebuilding

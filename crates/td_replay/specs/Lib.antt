@@ -1,0 +1,4 @@
+pub mod Reading
+pub mod Numbers
+pub mod Replays
+pub mod Laws
