@@ -27,6 +27,8 @@ START, SECONDS = 1_740_819_600, 300
 FILE, JOURNAL = "--db", "--journal"
 BOTH = FILE, JOURNAL
 GRN = grn_of(1, 1)
+# So many bytes has a log that holds no change. Each start writes it anew.
+NO_CHANGE = 41
 # Changes one after another: a holder, a guarantee, declarations.
 REGISTER = "PUT", "/office/holders/000001", '{"eori":"CH1234567"}'
 OPENING = "POST", "/office/holders/000001/guarantees", '{"reference":1000000000,"cover":50,"code":"AB12"}'
@@ -96,7 +98,8 @@ class Room:
         before = self.all()
         words = self.words("pipe", "--at", str(START), *more, keeps=keeps)
         due("how a start ends", (1, b"", f"transit-desk: {line}\n".encode()), self.run(words, sent(REGISTER)))
-        due("files that were changed", [], [name for name, data in self.all().items() if data != before.get(name)])
+        changed = {name: data for name, data in self.all().items() if data != before.get(name)}
+        due("files that were changed", [], [it for it, data in changed.items() if not it.endswith("-wal") or len(data) > NO_CHANGE])
 
 
 def agree(room, books):
