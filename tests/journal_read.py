@@ -110,7 +110,7 @@ def row_in(line):
         command_in(method, path, body)
     except (ValueError, KeyError, TypeError, csv.Error, Unread):
         return None
-    return row if FIRST_MOMENT <= row.at <= LAST_MOMENT and line_of(row) == line else None
+    return row if len(number) <= 18 and FIRST_MOMENT <= row.at <= LAST_MOMENT and line_of(row) == line else None
 
 
 def result_of(rows):
