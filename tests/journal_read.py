@@ -1,5 +1,6 @@
-"""A second reading of a desk's journal, written from the requirements and over tests/second_reading.py: the row of an accepted change, and
-what rows mean. `tests/journal` and `tests/feeds` compare with it what the program that was built and the tools write."""
+"""A second reading of a desk's journal, written from the requirements and over tests/second_reading.py: the row of an accepted change, what
+rows mean, and what is told of rows that are done again. `tests/journal`, `tests/replay` and `tests/feeds` compare with it what the program
+that was built and the tools write."""
 import collections
 import contextlib
 import csv
@@ -8,7 +9,7 @@ import json
 import os
 import sqlite3
 
-from second_reading import Desk, act_in, asked, command_in, declaration_in, route_of
+from second_reading import FIRST_MOMENT, LAST_MOMENT, Desk, Unread, act_in, asked, command_in, declaration_in, route_of
 
 VALUES = {"IE029": "limit", "IE007": "office", "IE018": "result", "IE045": "ground"}
 
@@ -33,6 +34,10 @@ def text_of(value):
     return json.dumps(value, separators=(",", ":"))
 
 
+def body_of(answer):
+    return json.dumps(answer, sort_keys=True, separators=(",", ":"))
+
+
 def line_of(row):
     """The line of a row: the two texts that may have quotes or commas in them stand in quotes."""
     body, reply = ('"{}"'.format(it.replace('"', '""')) if '"' in it else it for it in (row.body, row.reply))
@@ -47,8 +52,7 @@ def row_of(number, at, request, answer):
     members = {name: read[name] for name in names}
     if "lines" in members:
         members["lines"] = [{key: line[key] for key in ("cents", "code", "grn")} for line in members["lines"]]
-    reply = json.dumps(answer, sort_keys=True, separators=(",", ":"))
-    return Row(number, at, method, target.split("?")[0], text_of(members) if names else "", reply)
+    return Row(number, at, method, target.split("?")[0], text_of(members) if names else "", body_of(answer))
 
 
 def request_of(is_acts, row):
@@ -96,6 +100,38 @@ def rows_in(text):
     due("whole rows", b"\n", text[-1:] or b"\n")
     records = csv.reader(io.StringIO(text.decode(), newline=""), strict=True)
     return [Row(int(number), int(at), *rest) for number, at, *rest in records]
+
+
+def row_in(line):
+    """The row that is just this line, if there is one. A view has one too, which no desk writes."""
+    try:
+        number, at, method, path, body, reply = next(csv.reader([line.decode()], strict=True))
+        row = row_of(int(number), int(at), (method, path, body), {})._replace(reply=reply)
+        command_in(method, path, body)
+    except (ValueError, KeyError, TypeError, csv.Error, Unread):
+        return None
+    return row if len(number) <= 18 and FIRST_MOMENT <= row.at <= LAST_MOMENT and line_of(row) == line else None
+
+
+def result_of(rows):
+    """The result file of rows that are told these replies."""
+    return b"number,reply\n" + b"".join(b'%d,"%b"\n' % (row.number, row.reply.replace('"', '""').encode()) for row in rows)
+
+
+def replay_of(text, is_part=False, books=None):
+    """What is due where this text is done again: the status, the result file and the line."""
+    rows = [row_in(line + b"\n") for line in whole(text).split(b"\n")[:-1]]
+    if None in rows:
+        return 1, b"", b"transit-desk: bad journal row %d\n" % (rows.index(None) + 1)
+    before = None if is_part else 0
+    for row in rows:
+        if before is not None and not (row.number > before if is_part else row.number == before + 1):
+            return 1, b"", b"transit-desk: journal %d\n" % row.number
+        before = row.number
+    books = books or Books()
+    told = [row._replace(reply=body_of(books.ask(row.at, (row.method, row.path, row.body))[1])) for row in rows]
+    differs = next((row.number for row, now in zip(rows, told) if row != now), None)
+    return (1, result_of(told), b"transit-desk: differs %d\n" % differs) if differs is not None else (0, result_of(told), b"")
 
 
 def whole(text):

@@ -1,5 +1,5 @@
-"""What tests/journal and tests/feeds stand on: a folder with a desk's file and its journal, the requests of a short life, and that journal,
-views and tables agree."""
+"""What tests/journal, tests/replay and tests/feeds stand on: a folder with a desk's file and its journal, the requests of a short life, and
+that journal, views and tables agree."""
 import importlib.machinery
 import importlib.util
 import json
@@ -7,7 +7,7 @@ import os
 import subprocess
 import sys
 
-from journal_read import content, due, tables
+from journal_read import content, due, result_of, rows_in, tables
 from references import grn_of
 
 ROOT = os.path.dirname(os.path.dirname(os.path.realpath(__file__)))
@@ -111,14 +111,14 @@ def agree(room, books):
 
 
 def replayed(room, rows, *words):
-    """What is left of these rows done again, into the file again.db."""
-    return room.run([sys.executable, f"{ROOT}/office/journal-replay", "--country", "CH", "--program", room.program, "--into",
-                     f"{room.folder}/again.db", *words, rows])
+    """What is left of these rows done again."""
+    return room.run([room.program, "replay", "--country", room.country, "--file", rows, *words])
 
 
 def done_again(room):
-    """The journal's rows make the same tables at a new file."""
-    status, told, line = replayed(room, room.journal)
-    due(f"how the rows are done again ({line.decode()[-300:]})", (0, b"%d rows: each is told what it has\n" % room.text().count(b"\n")),
-        (status, told))
-    due("the tables", tables(room.files[FILE]), tables(f"{room.folder}/again.db"))
+    """The journal's rows are told what they were, in memory and at a new file, whose tables are the same then."""
+    again, wanted = f"{room.folder}/again.db", (0, result_of(rows_in(room.text())), b"")
+    due("how the rows are done again in memory", wanted, replayed(room, room.journal))
+    due("how they are at a new file", wanted, replayed(room, room.journal, "--db", again, "--new"))
+    due("the check of that", (0, b"sound\n", b""), room.run([room.program, "check", "--country", room.country, "--db", again]))
+    due("the tables", tables(room.files[FILE]), tables(again))
