@@ -6,6 +6,8 @@ use Rattle.td_commands.specs.declared.command.Stamped.{Stamped}
 use Rattle.td_desk.specs.Content.{Content}
 use Rattle.td_desk.specs.View.{AddsAtMost, DeskView, LeavesOnly}
 use Rattle.td_desk.specs.declared.fault.Fault.{Fault}
+use Rattle.td_desk.specs.declared.running.Outcome.{Outcome}
+use Rattle.td_desk.specs.declared.running.Outcome.TheVariants.{Failed, Said}
 use Rattle.td_journal.specs.Journal.{IsDurable, IsTight, next_number, text_of}
 use Rattle.td_journal.specs.Journaled.{journaled, waiting, written}
 use Rattle.td_journal.specs.Texts.{is_change_at}
@@ -42,6 +44,13 @@ pub record IsCarriedAt {D F : Type 0} {g : Ghosts F} (view : DeskView D) (old : 
 pub record IsUncarried {D F : Type 0} {g : Ghosts F} (view : DeskView D) (old new : JournaledDesk D F g) : Type 0 where
   pub journal : new.journal ≡ old.journal
   pub leaves : AddsAtMost view (λ _. ⊥) old.desk new.desk
+
+-- A command ended so at such a desk: where something was said to it, its decision was carried; where it failed, that was, or it was
+-- carried no further than to be weighed.
+abbrev pub IsDoneAt : {D F : Type 0} {g : Ghosts F} → DeskView D → JournaledDesk D F g → Stamped → Outcome → JournaledDesk D F g → Type 0
+IsDoneAt {D} {F} {g} view old s (Said words) new = (mid : JournaledDesk D F g) × IsCarriedAt view old s mid None new
+IsDoneAt {D} {F} {g} view old s (Failed why) new =
+    IsUncarried view old new ⊎ ((mid : JournaledDesk D F g) × IsCarriedAt view old s mid (Some why) new)
 
 -- A crash left what a start comes to: the desk's content, and the bytes of the journal's file.
 pub record IsLeftBy {D F : Type 0} (view : DeskView D) (g : Ghosts F) (crashed : JournaledDesk D F g) (desk : D) (file : F) : Type 0 where
