@@ -45,12 +45,13 @@ pub record IsUncarried {D F : Type 0} {g : Ghosts F} (view : DeskView D) (old ne
   pub journal : new.journal ≡ old.journal
   pub leaves : AddsAtMost view (λ _. ⊥) old.desk new.desk
 
--- A command ended so at such a desk: where something was said to it, its decision was carried; where it failed, that was, or it was
--- carried no further than to be weighed.
+-- A command ended so at such a desk: it was told what the desk says to it, and its decision was carried; or this fault ended the
+-- weighing, or the carrying.
 abbrev pub IsDoneAt : {D F : Type 0} {g : Ghosts F} → DeskView D → JournaledDesk D F g → Stamped → Outcome → JournaledDesk D F g → Type 0
-IsDoneAt {D} {F} {g} view old s (Said words) new = (mid : JournaledDesk D F g) × IsCarriedAt view old s mid None new
+IsDoneAt {D} {F} {g} view old s (Said words) new =
+    (words ≡ said_over (view.content old.desk) s) × (mid : JournaledDesk D F g) × IsCarriedAt view old s mid None new
 IsDoneAt {D} {F} {g} view old s (Failed why) new =
-    IsUncarried view old new ⊎ ((mid : JournaledDesk D F g) × IsCarriedAt view old s mid (Some why) new)
+    ((journaled view).weighed old s (Some why) new × IsUncarried view old new) ⊎ ((mid : JournaledDesk D F g) × IsCarriedAt view old s mid (Some why) new)
 
 -- A crash left what a start comes to: the desk's content, and the bytes of the journal's file.
 pub record IsLeftBy {D F : Type 0} (view : DeskView D) (g : Ghosts F) (crashed : JournaledDesk D F g) (desk : D) (file : F) : Type 0 where

@@ -1,4 +1,4 @@
-use Rattle.std.proofs.Common.{◌≡◌, ℤ, None, inr, of_z, refl, rules, subst, sym, to_z, w64}
+use Rattle.std.proofs.Common.{◌≡◌, ◌∙◌, ℤ, None, inr, of_z, refl, rules, subst, sym, to_z, w64}
 use Rattle.td_desk.specs.Content.{Content, IsSound}
 use Rattle.td_desk.specs.Weighing.{IsWeighed}
 use Rattle.td_desk.proofs.Leaving.{adds_none, left_failed, left_said}
@@ -20,6 +20,7 @@ returns-in-Ok-carry g c = λ clean sound.
     let weighed : view.weighed c.args.desk.now c.args.stamped.now None c.weigh.new.self =
     subst (λ (at : ℤ). view.weighed c.args.desk.now (record { at = at; command = c.args.stamped.now.command }) None c.weigh.new.self) moment c.in-Ok.ensures.call in
     let live = c.in-Ok-carry.ensures.stays clean shown.1 in (
+      c.in-Ok-carry.ensures.said ∙ (first before shown.0 sound).said,
       c.weigh.new.self,
       record {
         clean = clean;
