@@ -7,3 +7,4 @@ mod Joined
 mod Starting
 mod Torn
 mod Crashing
+mod Answered

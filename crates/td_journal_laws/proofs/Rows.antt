@@ -1,5 +1,5 @@
 -- What a journal has grown by is rows that were done.
-use Rattle.std.proofs.Common.{◌≡◌, ℕ, ℤ, pos, negsuc, ◌+◌, ◌^◌, ◌<◌, ◌≤◌, Bool, true, false, List, [], ◌∷◌, ◌++◌, Option, None, Some, inl, refl, sym, ap, subst, ◌∙◌, arith}
+use Rattle.std.proofs.Common.{append-nil, ◌≡◌, ℕ, ℤ, pos, negsuc, ◌+◌, ◌^◌, ◌<◌, ◌≤◌, Bool, true, false, List, [], ◌∷◌, ◌++◌, Option, None, Some, inl, refl, sym, ap, subst, ◌∙◌, arith}
 use Rattle.std.proofs.lemmas.Bool.{and_parts, leb-true}
 use Rattle.std.proofs.lemmas.Option.{cond_some}
 use Rattle.std.specs.Prelude.{nat_le, if◌then◌else◌}
@@ -99,7 +99,7 @@ module _ (laws : RowLaws) where
       }
 
   -- a row before others
-  pub row_before : (number next : ℕ) (c after end : Content) (s : Stamped) (line rest : List ℕ) → IsSound c → IsTyped s.command → next ≤ 10 ^ 18 → is_change_at c s ≡ true
+  row_before : (number next : ℕ) (c after end : Content) (s : Stamped) (line rest : List ℕ) → IsSound c → IsTyped s.command → next ≤ 10 ^ 18 → is_change_at c s ≡ true
       → IsRowOf number c s line → Carries c s after → (rows : List (Row (List ℕ))) → IsKept after rows (number + 1) next rest end
       → IsKept c (row_over c s ∷ rows) number next (line ++ rest) end
   row_before number next c after end s line rest sound typed most accepted is carried rows kept =
@@ -110,6 +110,14 @@ module _ (laws : RowLaws) where
         lines = (line, rest, row_lines number c s line small sound typed accepted is, refl, kept.lines);
         numbers = omega (arith, kept.numbers);
       }
+
+  -- a row alone
+  pub one_row : (number : ℕ) (c after : Content) (s : Stamped) (line : List ℕ) → IsSound c → IsTyped s.command → number < 10 ^ 18 → is_change_at c s ≡ true → IsRowOf number c s line → Carries c s after
+      → IsKept c (row_over c s ∷ []) number (number + 1) line after
+  one_row number c after s line sound typed small accepted is carried =
+      subst (λ (t : List ℕ). IsKept c (row_over c s ∷ []) number (number + 1) t after) (append-nil line)
+      (row_before number (number + 1) c after after s line [] sound typed (omega (arith, small)) accepted is carried []
+      (record { sound = carried.sound; done = refl; lines = refl; numbers = omega arith }))
 
   pub rows_are_done : RowsAreDone
   rows_are_done number next c end [] text sound typed most (none, same, stays) = (

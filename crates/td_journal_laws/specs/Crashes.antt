@@ -5,10 +5,13 @@ use Rattle.sqlite_disk.specs.declared.Disk.{Ghosts}
 use Rattle.td_commands.specs.declared.command.Stamped.{Stamped}
 use Rattle.td_desk.specs.Content.{Content}
 use Rattle.td_desk.specs.View.{AddsAtMost, DeskView, LeavesOnly}
+use Rattle.td_desk.specs.Weighing.{Carries}
 use Rattle.td_desk.specs.declared.fault.Fault.{Fault}
+use Rattle.td_desk.specs.declared.running.Outcome.{Outcome}
+use Rattle.td_desk.specs.declared.running.Outcome.TheVariants.{Failed, Said}
 use Rattle.td_journal.specs.Journal.{IsDurable, IsTight, next_number, text_of}
 use Rattle.td_journal.specs.Journaled.{journaled, waiting, written}
-use Rattle.td_journal.specs.Texts.{is_change_at}
+use Rattle.td_journal.specs.Texts.{IsNoted, is_change_at}
 use Rattle.td_journal.specs.declared.desk.JournaledDesk.{JournaledDesk}
 use Rattle.td_journal_laws.specs.Kept.{BeginsAt, IsKeptAt}
 use Rattle.td_journal_rows.specs.Requests.{IsTyped}
@@ -43,6 +46,14 @@ pub record IsUncarried {D F : Type 0} {g : Ghosts F} (view : DeskView D) (old ne
   pub journal : new.journal ≡ old.journal
   pub leaves : AddsAtMost view (λ _. ⊥) old.desk new.desk
 
+-- A command ended so at such a desk: it was told what the desk says to it, and its decision was carried; or this fault ended the
+-- weighing, or the carrying.
+abbrev pub IsDoneAt : {D F : Type 0} {g : Ghosts F} → DeskView D → JournaledDesk D F g → Stamped → Outcome → JournaledDesk D F g → Type 0
+IsDoneAt {D} {F} {g} view old s (Said words) new =
+    (words ≡ said_over (view.content old.desk) s) × (mid : JournaledDesk D F g) × IsCarriedAt view old s mid None new
+IsDoneAt {D} {F} {g} view old s (Failed why) new =
+    ((journaled view).weighed old s (Some why) new × IsUncarried view old new) ⊎ ((mid : JournaledDesk D F g) × IsCarriedAt view old s mid (Some why) new)
+
 -- A crash left what a start comes to: the desk's content, and the bytes of the journal's file.
 pub record IsLeftBy {D F : Type 0} (view : DeskView D) (g : Ghosts F) (crashed : JournaledDesk D F g) (desk : D) (file : F) : Type 0 where
   pub content : view.may_leave crashed.desk (view.content desk)
@@ -56,6 +67,29 @@ AreABeginning text row bytes = (n : ℕ) × (bytes ≡ take n (text ++ row))
 -- the row of a command that a desk of this content accepts as a change, and of any other command none
 abbrev pub rows_for : Content → Stamped → List (Row (List ℕ))
 rows_for c s = if is_change_at c s then record { stamped = s; shown = body_text (said_over c s) } ∷ [] else []
+
+-- What is left where a row is written before its change is carried, also by a crash between: the text and a beginning of the row,
+-- and a desk of the content as it was, or, once the row stands whole, of that with the change.
+pub record IsRowFirst (c : Content) (s : Stamped) (text row : List ℕ) (content : Content) (bytes : List ℕ) : Type 0 where
+  pub torn : (m : ℕ) × (bytes ≡ text ++ take m row)
+  pub ahead : (content ≡ c) ⊎ ((bytes ≡ text ++ row) × Carries c s content)
+
+-- Whatever of this a start finds, it comes to the rows as before, or to those with the command's row.
+abbrev pub ARowFirstIsMadeGood : {D F : Type 0} → DeskView D → Ghosts F → Type 0
+ARowFirstIsMadeGood {D} {F} view g =
+    (begin : Content) (rows : List (Row (List ℕ))) (first : ℕ) (old j : JournaledDesk D F g) (s : Stamped) (row : Option (List ℕ)) (desk : D) (file : F)
+    → IsAtRest view begin rows first old → IsTyped s.command → next_number old.journal < 10 ^ 18
+    → IsNoted (next_number old.journal) (view.content old.desk) s row
+    → IsRowFirst (view.content old.desk) s (text_of old.journal) (written row) (view.content desk) (g.seen file)
+    → IsStarted view desk file j → IsClean view g j.desk j.journal.file
+    → IsKeptAt view begin rows first j ⊎ IsKeptAt view begin (rows ++ rows_for (view.content old.desk) s) first j
+
+-- A desk whose command was answered is at rest again, with the command's row.
+abbrev pub AnAnswerIsAtRest : {D F : Type 0} → DeskView D → Ghosts F → Type 0
+AnAnswerIsAtRest {D} {F} view g =
+    (begin : Content) (rows : List (Row (List ℕ))) (first : ℕ) (old mid new : JournaledDesk D F g) (s : Stamped)
+    → IsAtRest view begin rows first old → IsTyped s.command → next_number old.journal < 10 ^ 18 → IsCarriedAt view old s mid None new
+    → IsAtRest view begin (rows ++ rows_for (view.content old.desk) s) first new
 
 -- The content after the next start is that of the rows before and of the command's row; if the command failed, perhaps without that.
 abbrev pub IsMadeGood : {D F : Type 0} {g : Ghosts F} → DeskView D → Content → List (Row (List ℕ)) → ℕ → Content → Stamped → Option Fault → JournaledDesk D F g → Type 0

@@ -1,6 +1,6 @@
 //! What a journal's rows make, whatever a crash leaves of its desk: the contracts are laws, and the calls do nothing but call the
 //! laws below them.
-ghost use Rattle.td_journal_laws.specs.Crashes.{ACrashBetweenIsMadeGood, ACrashIsMadeGood, NoCrashBetweenIsForeign, NoCrashIsForeign};
+ghost use Rattle.td_journal_laws.specs.Crashes.{ACrashBetweenIsMadeGood, ACrashIsMadeGood, ARowFirstIsMadeGood, AnAnswerIsAtRest, NoCrashBetweenIsForeign, NoCrashIsForeign};
 ghost use Rattle.td_journal_laws.specs.Laws.{ARunIsWhole, AStartIsWhole, NoStartIsForeign, RowsAreDone};
 
 use sqlite_disk::Disk;
@@ -40,9 +40,19 @@ pub fn no_start_is_foreign<D: Desk, F: Disk>()
     no_row_is_foreign::<D, F>();
 }
 
+/// A desk at rest is at rest again once a command was answered, with the command's row.
+pub fn an_answer_is_at_rest<D: Desk, F: Disk>()
+    ensures { AnAnswerIsAtRest D.seen F.Disk }
+{
+    requests_read_back();
+    changes_are_rows();
+    redone_over_its_beginning::<()>();
+}
+
 /// And they do so after a start that follows a crash, where a decision was carried or failed. An answered change is among them.
 pub fn a_crash_is_made_good<D: Desk, F: Disk>()
     ensures good { ACrashIsMadeGood D.seen F.Disk }
+    ensures within { ARowFirstIsMadeGood D.seen F.Disk }
     ensures own { NoCrashIsForeign D.seen F.Disk }
 {
     requests_read_back();
