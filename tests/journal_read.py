@@ -1,6 +1,6 @@
 """A second reading of a desk's journal, written from the requirements and over tests/second_reading.py: the row of an accepted change, what
-rows mean, and what is told of rows that are done again. `tests/journal`, `tests/replay` and `tests/feeds` compare with it what the program
-that was built and the tools write."""
+rows mean, and what is told of rows that are done again. `tests/journal`, `tests/replay`, `tests/feeds` and `tests/standby` compare
+with it what the program that was built and the tools write."""
 import collections
 import contextlib
 import csv

@@ -1,5 +1,5 @@
-"""What tests/journal, tests/replay and tests/feeds stand on: a folder with a desk's file and its journal, the requests of a short life, and
-that journal, views and tables agree."""
+"""What tests/journal, tests/replay, tests/feeds and tests/standby stand on: a folder with a desk's file and its journal, the requests of a
+short life, and that journal, views and tables agree."""
 import importlib.machinery
 import importlib.util
 import json

@@ -23,6 +23,8 @@ use Rattle.td_journal_rows.specs.declared.rows.JournalFault.{JournalFault}
 use Rattle.td_journal_rows.specs.declared.rows.JournalFault.TheVariants as journal
 use Rattle.td_journal_start.specs.declared.refused.StartFault.{StartFault}
 use Rattle.td_journal_start.specs.declared.refused.StartFault.TheVariants as start
+use Rattle.td_replay.specs.declared.following.FollowFault.{FollowFault}
+use Rattle.td_replay.specs.declared.following.FollowFault.TheVariants as follow
 use Rattle.td_machine.specs.declared.machine.ReadError.{ReadError}
 use Rattle.td_machine.specs.declared.machine.ReadError.TheVariants as read_error
 use Rattle.td_jobs.specs.declared.serving.ServingEnd.{ServingEnd}
@@ -131,6 +133,19 @@ of_serving serving.Done = None
 of_serving serving.NoMemory = Some (Of NoMemory)
 of_serving serving.Socket = Some (Of Socket)
 of_serving serving.Write = Some (Of Write)
+
+-- why a journal that came by the input wasn't followed to its end, and how a standby desk ended otherwise than well
+abbrev pub of_follow : FollowFault → Cause
+of_follow (follow.BadRow row) = BadRow row
+of_follow (follow.Misplaced row) = ForeignRow row
+of_follow (follow.Differs row) = Differs row
+of_follow follow.Unread = Of ReadFault
+of_follow (follow.Failed stop.NoMemory) = Of NoMemory
+of_follow (follow.Failed stop.Store) = Of Store
+
+abbrev pub of_standby : Result ServingEnd FollowFault → Option Cause
+of_standby (Ok end) = of_serving end
+of_standby (Err why) = Some (of_follow why)
 
 -- why a file of rows wasn't read, why its bytes aren't rows, and why a batch stopped at a row
 abbrev pub of_read_error : ReadError → Cause

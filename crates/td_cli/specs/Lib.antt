@@ -8,6 +8,7 @@ pub mod Replayed
 pub mod Migrated
 pub mod Reported
 pub mod Transferred
+pub mod Served
 pub mod Performed
 pub mod Runs
 pub mod BatchLaws

@@ -10,17 +10,14 @@ use Rattle.td_files.specs.declared.desks.DeskFault.{DeskFault}
 use Rattle.http_wire.specs.declared.stream.StreamEnd.{StreamEnd}
 use Rattle.td_words.specs.declared.words.Job.{Job}
 use Rattle.td_words.specs.declared.words.Job.TheVariants.{AtDesk, Migrate, Transfer}
-use Rattle.td_words.specs.declared.words.Listening.{Listening}
 use Rattle.td_words.specs.declared.words.NoJob.{NoJob}
 use Rattle.td_words.specs.declared.words.Records.{Records}
 use Rattle.td_words.specs.declared.words.Records.TheVariants.{File}
 use Rattle.td_words.specs.declared.words.Task.{Task}
 use Rattle.td_words.specs.declared.words.Task.TheVariants.{Serve, Pipe, Batch, Replay, Report, Check}
 use Rattle.td_words.specs.Words.{AsksFor, IsNoJob}
-use Rattle.td_jobs.specs.declared.serving.ServingEnd.{ServingEnd}
 use Rattle.td_machine.specs.Machine.{Around}
 use Rattle.td_jobs.specs.Jobs.{IsUntouched}
-use Rattle.td_jobs.specs.Listening.{ServesAs}
 use Rattle.td_jobs.specs.Piped.{IsPipedAt}
 use Rattle.td_machine.specs.Drive.{KnownDrive}
 use Rattle.td_cli.specs.AtDesk as desks
@@ -29,7 +26,8 @@ use Rattle.td_cli.specs.Journaled.{WithJournal}
 use Rattle.td_cli.specs.Migrated.{IsMigrated}
 use Rattle.td_cli.specs.Replayed.{IsReplayDone}
 use Rattle.td_cli.specs.Reported.{IsReportDone}
-use Rattle.td_cli.specs.Exits.{IsEnded, IsTold, of_file, of_job, of_serving, of_stream}
+use Rattle.td_cli.specs.Served.{IsServingDone}
+use Rattle.td_cli.specs.Exits.{IsEnded, IsTold, of_file, of_job, of_stream}
 use Rattle.td_cli.specs.Statuses.{IsAnswered, IsPrinted}
 use Rattle.td_cli.specs.Transferred.{IsTransferred}
 use Rattle.td_cli.specs.declared.exits.Cause.TheVariants.{Of}
@@ -44,17 +42,6 @@ PipesAs ticks remaining contents drive other_drive country at records journal re
     WithJournal drive other_drive country records journal
     (λ D view opened left end.
     IsPipedAt view opened left remaining contents ticks at reader reader_left writer writer_left machine machine_left end)
-    (IsUntouched reader reader_left writer writer_left machine machine_left) before file other other_left end
-
--- What a serving leaves at a desk whose records stand there, and which keeps this journal, if one is named; in this country and at this
--- moment or by the machine's clock: the input isn't read, and where there was a desk, this is said of how the serving ended.
-abbrev pub IsServing : {M L Reads Writes R W V S O T : Type 0} {disk : Ghosts S} {others : Ghosts T} → Around M L Reads Writes → (W → Option (List ℕ))
-    → KnownDrive V S → KnownDrive O T → List ℕ → Option ℤ → Records → Option (List ℕ) → Listening → Counted R → Counted R → Counted W → Counted W
-    → FileHeld V disk → FileHeld V disk → FileHeld O others → FileHeld O others → M → M → Result ServingEnd DeskFault → Type 0
-IsServing around contents drive other_drive country at records journal listening reader reader_left writer writer_left before file other other_left machine machine_left end =
-    WithJournal drive other_drive country records journal
-    (λ D view opened left end.
-    (reader_left ≡ reader) × ServesAs view opened left contents around at listening writer writer_left end machine machine_left)
     (IsUntouched reader reader_left writer writer_left machine machine_left) before file other other_left end
 
 -- what was found was told: sound where a desk was opened, or why there was none
@@ -74,7 +61,7 @@ IsChecked contents said drive country records out out_left errors errors_left be
     × IsCheckTold contents said end out out_left errors errors_left status
 
 -- A task was done, in this country and at this moment or by the machine's clock, and how it ended was told: one stream from the
--- input to the first writer; connections, for which the input isn't read; a file of rows; a journal again; a report; or a file was tested. The file is
+-- input to the first writer; connections, for which the input is read only by a standby desk; a file of rows; a journal again; a report; or a file was tested. The file is
 -- the one at the path that the task names, on its drive, and what a connection to it shows before the task and after it, if one is there.
 -- The other is that of a journal. A report and a test ask nothing of the machine, and keep no journal.
 abbrev pub IsTaskDone : {M L Reads Writes R W E V S O T : Type 0} {disk : Ghosts S} {others : Ghosts T} → Around M L Reads Writes → (R → Option (List ℕ))
@@ -84,10 +71,8 @@ IsTaskDone around remaining contents said drive other_drive (Pipe records journa
     (end : Result StreamEnd DeskFault)
     × PipesAs around.ticks remaining contents drive other_drive country at records (option_map string_bytes journal) reader reader_left writer writer_left before file other other_left machine machine_left end
     × IsEnded said (of_job of_stream end) errors errors_left status
-IsTaskDone around remaining contents said drive other_drive (Serve listening records journal) country at reader reader_left writer writer_left errors errors_left before file other other_left machine machine_left status =
-    (end : Result ServingEnd DeskFault)
-    × IsServing around contents drive other_drive country at records (option_map string_bytes journal) listening reader reader_left writer writer_left before file other other_left machine machine_left end
-    × IsEnded said (of_job of_serving end) errors errors_left status
+IsTaskDone around remaining contents said drive other_drive (Serve listening records journal first) country at reader reader_left writer writer_left errors errors_left before file other other_left machine machine_left status =
+    IsServingDone around remaining contents said drive other_drive first country at records (option_map string_bytes journal) listening reader reader_left writer writer_left errors errors_left before file other other_left machine machine_left status
 IsTaskDone around remaining contents said drive other_drive (Batch which csv path journal) country at reader reader_left writer writer_left errors errors_left before file other other_left machine machine_left status =
     (reader_left ≡ reader)
     × IsBatched around contents said drive other_drive country at (File path) (option_map string_bytes journal) which (string_bytes csv) writer writer_left errors errors_left before file other other_left machine machine_left status

@@ -1,6 +1,6 @@
 //! How a job ends: well, with status 0 and no word, or by a cause, with status 1 and one line on standard error. Each cause is a row.
 ghost use Rattle.std.specs.Prelude.{◌≡◌, Some, IfOk, MatchResult, string_bytes};
-ghost use Rattle.td_cli.specs.Exits.{IsEnded, IsTold, line_of, of_file, of_join, of_journal, of_report, of_rows, of_serving, of_start, of_stop, of_stream, of_read_error, word_line};
+ghost use Rattle.td_cli.specs.Exits.{IsEnded, IsTold, line_of, of_file, of_follow, of_join, of_journal, of_report, of_rows, of_serving, of_standby, of_start, of_stop, of_stream, of_read_error, word_line};
 ghost use Rattle.td_cli.specs.declared.exits.Cause.TheVariants.{BadCsv, BadRow, Differs, ForeignRow, HolderExists, NeedsMigration};
 ghost use Rattle.td_cli.specs.declared.exits.Word.TheVariants.{Damaged, NoMemory};
 
@@ -12,7 +12,7 @@ use td_desk::Fault;
 use td_files::{DeskFault, JoinRefusal, OpenFault};
 use td_http::StreamEnd;
 use td_jobs::ServingEnd;
-use td_journal_jobs::StartFault;
+use td_journal_jobs::{FollowFault, StartFault};
 use td_journal_rows::JournalFault;
 use td_machine::ReadError;
 use td_reports::ReportFault;
@@ -142,6 +142,30 @@ pub(crate) fn of_serving(end: ServingEnd) -> Option<Cause>
         ServingEnd::NoMemory => Some(Cause::Of(Word::NoMemory)),
         ServingEnd::Socket => Some(Cause::Of(Word::Socket)),
         ServingEnd::Write => Some(Cause::Of(Word::Write)),
+    }
+}
+
+/// Why a journal that came by the input wasn't followed to its end.
+fn of_follow(why: FollowFault) -> Cause
+    ensures { result ≡ of_follow why }
+{
+    match why {
+        FollowFault::BadRow(row) => Cause::BadRow(row),
+        FollowFault::Misplaced(row) => Cause::ForeignRow(row),
+        FollowFault::Differs(row) => Cause::Differs(row),
+        FollowFault::Unread => Cause::Of(Word::ReadFault),
+        FollowFault::Failed(Fault::NoMemory) => Cause::Of(Word::NoMemory),
+        FollowFault::Failed(Fault::Store) => Cause::Of(Word::Store),
+    }
+}
+
+/// Why a standby desk ended otherwise than well.
+pub(crate) fn of_standby(end: Result<ServingEnd, FollowFault>) -> Option<Cause>
+    ensures { result ≡ of_standby end }
+{
+    match end {
+        Ok(end) => of_serving(end),
+        Err(why) => Some(of_follow(why)),
     }
 }
 

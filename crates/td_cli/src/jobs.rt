@@ -1,16 +1,17 @@
 //! The jobs of the program.
 ghost use Rattle.std.specs.Prelude.{◌≡◌, map, string_bytes};
-ghost use Rattle.td_cli.specs.Exits.{of_job, of_serving, of_stream};
+ghost use Rattle.td_cli.specs.Exits.{of_job, of_stream};
 ghost use Rattle.td_cli.specs.Performed.{IsDone, IsPerformed, IsTaskDone};
 ghost use Rattle.td_cli.specs.Statuses.{IsAnswered};
 
 use crate::batching::batch;
 use crate::checking::check;
-use crate::exits::{Cause, WRONG_WORDS, Word, exit, fault, of_file, of_serving, of_stream};
+use crate::exits::{Cause, WRONG_WORDS, Word, exit, fault, of_file, of_stream};
 use crate::journaling::with_journal;
 use crate::migrating::migrate;
 use crate::replaying::replay;
 use crate::reporting::report;
+use crate::serving::serve;
 use crate::telling::print;
 use crate::transferring::transfer;
 use std::alloc::Global;
@@ -18,7 +19,7 @@ use std::io::{Read, Write};
 use td_base::{Counted, write_whole};
 use td_files::{DeskFault, DeskFile};
 use td_http::StreamEnd;
-use td_jobs::{Piping, ServingEnd};
+use td_jobs::Piping;
 use td_machine::{Drive, HostMachine, Machine, Surroundings};
 use td_words::{Job, NoJob, Office, Records, Task, read_words};
 
@@ -44,7 +45,7 @@ pub fn perform<V: Drive, O: Drive, R: Read, W: Write, E: Write>(
 
 /// Does what the words ask for, and gives the program's status. The first word is the program's name; replies
 /// go to `out`, and the text of wrong words, or one message for a fault, to `errors`. A text that can't be
-/// written is dropped. The input is read by a job alone. Of the machine the clock is asked, a file of rows is read and a port is
+/// written is dropped. The input is read by a job alone: a stream, and a standby desk, which follows a journal by it. Of the machine the clock is asked, a file of rows is read and a port is
 /// listened on. The desk's file is the one that the words name, if they name one: a job opens it, and hands back a connection to
 /// it, which the caller closes. The other file is that of `--into`, of `--with` or of `--journal`: what is done between two files opens
 /// it, too, and a job that keeps a journal, which hands back the file of that.
@@ -113,12 +114,11 @@ fn do_task<M: Machine, V: Drive, O: Drive, R: Read, W: Write, E: Write>(
             listening,
             records,
             journal,
-        } => {
-            let end = with_journal(
-                alloc, machine, office, &records, &journal, file, other, listening, input, out,
-            );
-            exit(alloc, serving_cause(end), errors)
-        }
+            first,
+        } => serve(
+            alloc, machine, office, listening, first, &records, &journal, file, other, input, out,
+            errors,
+        ),
         Task::Pipe { records, journal } => {
             let end = with_journal(
                 alloc, machine, office, &records, &journal, file, other, Piping, input, out,
@@ -158,16 +158,6 @@ fn stream_cause(end: Result<StreamEnd, DeskFault>) -> Option<Cause>
 {
     match end {
         Ok(end) => of_stream(end),
-        Err(why) => Some(of_file(why)),
-    }
-}
-
-// The same of a serving.
-fn serving_cause(end: Result<ServingEnd, DeskFault>) -> Option<Cause>
-    ensures { result ≡ of_job of_serving end }
-{
-    match end {
-        Ok(end) => of_serving(end),
         Err(why) => Some(of_file(why)),
     }
 }

@@ -16,6 +16,7 @@ mod program;
 mod replaying;
 mod reporting;
 mod run_laws;
+mod serving;
 mod telling;
 mod transferring;
 mod upgrade_laws;

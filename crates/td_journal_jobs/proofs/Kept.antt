@@ -1,7 +1,6 @@
 -- What a journal has after a job, by what it has after the commands of the job.
 use Rattle.std.proofs.Common.{◌≡◌, ◌∙◌, sym, subst, ℤ, List, ℕ, Option}
 use Rattle.std.specs.Prelude.{map}
-use Rattle.std.specs.declared.io.Error.{Error}
 use Rattle.sqlite_disk.specs.declared.Disk.{Ghosts}
 use Rattle.td_desk.specs.Content.{IsSound}
 use Rattle.td_desk.specs.View.{DeskView}

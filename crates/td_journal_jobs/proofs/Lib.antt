@@ -1,2 +1,3 @@
 mod Ready
+mod Followed
 mod Kept

@@ -1,2 +1,4 @@
 pub mod Journaling
+pub mod Following
 pub mod Kept
+pub mod Standby

@@ -1,5 +1,6 @@
-//! What a journal has after a job: the contracts are laws, and the calls do nothing.
+//! What a journal has after a job, and what a standby desk tells: the contracts are laws, and the calls do nothing.
 ghost use Rattle.td_journal_jobs.specs.Kept.{BatchIsKept, ServingIsKept, StreamIsKept};
+ghost use Rattle.td_journal_jobs.specs.Standby.{StandbyGoesOn};
 
 use http_wire::Clock;
 use sqlite_disk::Disk;
@@ -29,3 +30,9 @@ pub fn a_batchs_changes_are_kept<D: Desk, F: Disk, M: Machine>()
 {
     a_batch_is_journaled::<D, F>();
 }
+
+/// A standby desk that followed a journal to its end, and then served connections, told each holder what the holder's own machine says:
+/// the replies of the rows, and then those of the serving from where the rows left it.
+pub fn a_standby_goes_on<D: Desk, R: Read, M: Machine, C: Clock>()
+    ensures { StandbyGoesOn D.seen R.remaining ⟦<M as Surroundings>⟧.around C.ticks }
+{}

@@ -1,4 +1,5 @@
 mod FirstLines
+mod Followed
 mod Counting
 mod RowsDone
 mod Rebuilding

@@ -17,7 +17,7 @@ use Rattle.td_journal_lines.specs.Lines.{Numbered}
 use Rattle.td_replay.specs.Replays.{IsDoneAt, IsEachDone, IsFirstDifference, IsPlain, IsPrivate, IsReplayDone, IsSame, IsStopped, IsTold, difference_with, replies_header, reply_line, reply_lines, stamped_of}
 use Rattle.td_replay.specs.declared.replaying.ReplayRun.{ReplayRun}
 
-zip_more : {X Y : Type 0} (xs : List X) (ys : List Y) (x : X) (y : Y) → length ys ≡ length xs → zip (xs ++ x ∷ []) (ys ++ y ∷ []) ≡ zip xs ys ++ (x, y) ∷ []
+pub zip_more : {X Y : Type 0} (xs : List X) (ys : List Y) (x : X) (y : Y) → length ys ≡ length xs → zip (xs ++ x ∷ []) (ys ++ y ∷ []) ≡ zip xs ys ++ (x, y) ∷ []
 zip_more [] [] x y same = refl
 zip_more [] (b ∷ ys) x y same = absurd (omega (arith, same))
 zip_more (a ∷ xs) [] x y same = absurd (omega (arith, same))

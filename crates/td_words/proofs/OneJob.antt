@@ -59,7 +59,7 @@ letters text = slice_index text 0 + slice_index text 3
 
 -- those of the name of a task's command, which tell it: so no text is the name of two commands
 abbrev first_letter : Task → ℕ
-first_letter (Serve l r j) = 233
+first_letter (Serve l r j f) = 233
 first_letter (Pipe r j) = 213
 first_letter (Batch Declarations file db j) = 197
 first_letter (Batch Acts file db j) = 212
@@ -68,7 +68,7 @@ first_letter (Report report path) = 225
 first_letter (Check path) = 198
 
 letter_is : (name : Text) (rows : List Row) (task : Task) → IsTask name rows task → letters name ≡ first_letter task
-letter_is name rows (Serve l r j) is = ap letters is.0
+letter_is name rows (Serve l r j f) is = ap letters is.0
 letter_is name rows (Pipe r j) is = ap letters is.0
 letter_is name rows (Batch Declarations file db j) is = ap letters is.0
 letter_is name rows (Batch Acts file db j) is = ap letters is.0
@@ -97,55 +97,56 @@ same_flag A false true is other = is.1 (other.0 refl)
 same_flag A false false is other = refl
 
 task_once : (name : Text) (rows : List Row) (task other : Task) → IsTask name rows task → IsTask name rows other → IsSameTask task other
-task_once name rows (Serve l r j) (Serve m s k) is other = (
+task_once name rows (Serve l r j f) (Serve m s k g) is other = (
   number_once _ _ _ _ _ is.1.port other.1.port,
   number_once _ _ _ _ _ is.1.connections other.1.connections,
   idle_once _ _ _ is.1.idle other.1.idle,
   records_once r s _ _ is.2 other.2,
   is.3 ∙ sym other.3,
+  same_flag _ f g is.4 other.4,
 )
-task_once name rows (Serve l r j) (Pipe s k) is other = absurd (omega (arith, clash name rows (Serve l r j) (Pipe s k) is other))
-task_once name rows (Serve l r j) (Batch Declarations there records k) is other = absurd (omega (arith, clash name rows (Serve l r j) (Batch Declarations there records k) is other))
-task_once name rows (Serve l r j) (Batch Acts there records k) is other = absurd (omega (arith, clash name rows (Serve l r j) (Batch Acts there records k) is other))
-task_once name rows (Serve l r j) (Replay there other_part s) is other = absurd (omega (arith, clash name rows (Serve l r j) (Replay there other_part s) is other))
-task_once name rows (Serve l r j) (Report kind there) is other = absurd (omega (arith, clash name rows (Serve l r j) (Report kind there) is other))
-task_once name rows (Serve l r j) (Check there) is other = absurd (omega (arith, clash name rows (Serve l r j) (Check there) is other))
-task_once name rows (Pipe r j) (Serve m s k) is other = absurd (omega (arith, clash name rows (Pipe r j) (Serve m s k) is other))
+task_once name rows (Serve l r j f) (Pipe s k) is other = absurd (omega (arith, clash name rows (Serve l r j f) (Pipe s k) is other))
+task_once name rows (Serve l r j f) (Batch Declarations there records k) is other = absurd (omega (arith, clash name rows (Serve l r j f) (Batch Declarations there records k) is other))
+task_once name rows (Serve l r j f) (Batch Acts there records k) is other = absurd (omega (arith, clash name rows (Serve l r j f) (Batch Acts there records k) is other))
+task_once name rows (Serve l r j f) (Replay there other_part s) is other = absurd (omega (arith, clash name rows (Serve l r j f) (Replay there other_part s) is other))
+task_once name rows (Serve l r j f) (Report kind there) is other = absurd (omega (arith, clash name rows (Serve l r j f) (Report kind there) is other))
+task_once name rows (Serve l r j f) (Check there) is other = absurd (omega (arith, clash name rows (Serve l r j f) (Check there) is other))
+task_once name rows (Pipe r j) (Serve m s k g) is other = absurd (omega (arith, clash name rows (Pipe r j) (Serve m s k g) is other))
 task_once name rows (Pipe r j) (Pipe s k) is other = (records_once r s _ _ is.1 other.1, is.2 ∙ sym other.2)
 task_once name rows (Pipe r j) (Batch Declarations there records k) is other = absurd (omega (arith, clash name rows (Pipe r j) (Batch Declarations there records k) is other))
 task_once name rows (Pipe r j) (Batch Acts there records k) is other = absurd (omega (arith, clash name rows (Pipe r j) (Batch Acts there records k) is other))
 task_once name rows (Pipe r j) (Replay there other_part s) is other = absurd (omega (arith, clash name rows (Pipe r j) (Replay there other_part s) is other))
 task_once name rows (Pipe r j) (Report kind there) is other = absurd (omega (arith, clash name rows (Pipe r j) (Report kind there) is other))
 task_once name rows (Pipe r j) (Check there) is other = absurd (omega (arith, clash name rows (Pipe r j) (Check there) is other))
-task_once name rows (Batch Declarations file db j) (Serve m s k) is other = absurd (omega (arith, clash name rows (Batch Declarations file db j) (Serve m s k) is other))
+task_once name rows (Batch Declarations file db j) (Serve m s k g) is other = absurd (omega (arith, clash name rows (Batch Declarations file db j) (Serve m s k g) is other))
 task_once name rows (Batch Declarations file db j) (Pipe s k) is other = absurd (omega (arith, clash name rows (Batch Declarations file db j) (Pipe s k) is other))
 task_once name rows (Batch Declarations file db j) (Batch Declarations there records k) is other = (refl, same_value _ _ _ is.1 other.1, same_value _ _ _ is.2 other.2, is.3 ∙ sym other.3)
 task_once name rows (Batch Declarations file db j) (Batch Acts there records k) is other = absurd (omega (arith, clash name rows (Batch Declarations file db j) (Batch Acts there records k) is other))
 task_once name rows (Batch Declarations file db j) (Replay there other_part s) is other = absurd (omega (arith, clash name rows (Batch Declarations file db j) (Replay there other_part s) is other))
 task_once name rows (Batch Declarations file db j) (Report kind there) is other = absurd (omega (arith, clash name rows (Batch Declarations file db j) (Report kind there) is other))
 task_once name rows (Batch Declarations file db j) (Check there) is other = absurd (omega (arith, clash name rows (Batch Declarations file db j) (Check there) is other))
-task_once name rows (Batch Acts file db j) (Serve m s k) is other = absurd (omega (arith, clash name rows (Batch Acts file db j) (Serve m s k) is other))
+task_once name rows (Batch Acts file db j) (Serve m s k g) is other = absurd (omega (arith, clash name rows (Batch Acts file db j) (Serve m s k g) is other))
 task_once name rows (Batch Acts file db j) (Pipe s k) is other = absurd (omega (arith, clash name rows (Batch Acts file db j) (Pipe s k) is other))
 task_once name rows (Batch Acts file db j) (Batch Declarations there records k) is other = absurd (omega (arith, clash name rows (Batch Acts file db j) (Batch Declarations there records k) is other))
 task_once name rows (Batch Acts file db j) (Batch Acts there records k) is other = (refl, same_value _ _ _ is.1 other.1, same_value _ _ _ is.2 other.2, is.3 ∙ sym other.3)
 task_once name rows (Batch Acts file db j) (Replay there other_part s) is other = absurd (omega (arith, clash name rows (Batch Acts file db j) (Replay there other_part s) is other))
 task_once name rows (Batch Acts file db j) (Report kind there) is other = absurd (omega (arith, clash name rows (Batch Acts file db j) (Report kind there) is other))
 task_once name rows (Batch Acts file db j) (Check there) is other = absurd (omega (arith, clash name rows (Batch Acts file db j) (Check there) is other))
-task_once name rows (Replay file part r) (Serve m s k) is other = absurd (omega (arith, clash name rows (Replay file part r) (Serve m s k) is other))
+task_once name rows (Replay file part r) (Serve m s k g) is other = absurd (omega (arith, clash name rows (Replay file part r) (Serve m s k g) is other))
 task_once name rows (Replay file part r) (Pipe s k) is other = absurd (omega (arith, clash name rows (Replay file part r) (Pipe s k) is other))
 task_once name rows (Replay file part r) (Batch Declarations there records k) is other = absurd (omega (arith, clash name rows (Replay file part r) (Batch Declarations there records k) is other))
 task_once name rows (Replay file part r) (Batch Acts there records k) is other = absurd (omega (arith, clash name rows (Replay file part r) (Batch Acts there records k) is other))
 task_once name rows (Replay file part r) (Replay there other_part s) is other = (same_value _ _ _ is.1 other.1, same_flag _ _ _ is.2 other.2, records_once r s _ _ is.3 other.3)
 task_once name rows (Replay file part r) (Report kind there) is other = absurd (omega (arith, clash name rows (Replay file part r) (Report kind there) is other))
 task_once name rows (Replay file part r) (Check there) is other = absurd (omega (arith, clash name rows (Replay file part r) (Check there) is other))
-task_once name rows (Report report path) (Serve m s k) is other = absurd (omega (arith, clash name rows (Report report path) (Serve m s k) is other))
+task_once name rows (Report report path) (Serve m s k g) is other = absurd (omega (arith, clash name rows (Report report path) (Serve m s k g) is other))
 task_once name rows (Report report path) (Pipe s k) is other = absurd (omega (arith, clash name rows (Report report path) (Pipe s k) is other))
 task_once name rows (Report report path) (Batch Declarations there records k) is other = absurd (omega (arith, clash name rows (Report report path) (Batch Declarations there records k) is other))
 task_once name rows (Report report path) (Batch Acts there records k) is other = absurd (omega (arith, clash name rows (Report report path) (Batch Acts there records k) is other))
 task_once name rows (Report report path) (Replay there other_part s) is other = absurd (omega (arith, clash name rows (Report report path) (Replay there other_part s) is other))
 task_once name rows (Report report path) (Report kind there) is other = (report_once _ _ report kind is.1 other.1, same_value _ _ _ is.2 other.2)
 task_once name rows (Report report path) (Check there) is other = absurd (omega (arith, clash name rows (Report report path) (Check there) is other))
-task_once name rows (Check path) (Serve m s k) is other = absurd (omega (arith, clash name rows (Check path) (Serve m s k) is other))
+task_once name rows (Check path) (Serve m s k g) is other = absurd (omega (arith, clash name rows (Check path) (Serve m s k g) is other))
 task_once name rows (Check path) (Pipe s k) is other = absurd (omega (arith, clash name rows (Check path) (Pipe s k) is other))
 task_once name rows (Check path) (Batch Declarations there records k) is other = absurd (omega (arith, clash name rows (Check path) (Batch Declarations there records k) is other))
 task_once name rows (Check path) (Batch Acts there records k) is other = absurd (omega (arith, clash name rows (Check path) (Batch Acts there records k) is other))
@@ -155,7 +156,7 @@ task_once name rows (Check path) (Check there) is other = same_value _ _ _ is.1 
 
 -- no task's command has the letters of `migrate`, of `extract` or of `join`
 task_letters : (task : Task) → (first_letter task ≢ 223) × (first_letter task ≢ 215) × (first_letter task ≢ 216)
-task_letters (Serve l r j) = (λ e. omega (arith, e), λ e. omega (arith, e), λ e. omega (arith, e))
+task_letters (Serve l r j f) = (λ e. omega (arith, e), λ e. omega (arith, e), λ e. omega (arith, e))
 task_letters (Pipe r j) = (λ e. omega (arith, e), λ e. omega (arith, e), λ e. omega (arith, e))
 task_letters (Batch Declarations file db j) = (λ e. omega (arith, e), λ e. omega (arith, e), λ e. omega (arith, e))
 task_letters (Batch Acts file db j) = (λ e. omega (arith, e), λ e. omega (arith, e), λ e. omega (arith, e))

@@ -24,9 +24,9 @@ IsSameJournal journal other = option_map string_bytes journal ≡ option_map str
 
 -- two tasks are the same: the paths of files are compared as texts
 abbrev pub IsSameTask : Task → Task → Type 0
-IsSameTask (Serve listening records journal) (Serve other others other_journal) =
+IsSameTask (Serve listening records journal first) (Serve other others other_journal other_first) =
     (listening.port ≡ other.port) × (listening.connections ≡ other.connections) × (listening.idle ≡ other.idle)
-    × AreSameRecords records others × IsSameJournal journal other_journal
+    × AreSameRecords records others × IsSameJournal journal other_journal × (first ≡ other_first)
 IsSameTask (Pipe records journal) (Pipe others other_journal) = AreSameRecords records others × IsSameJournal journal other_journal
 IsSameTask (Batch kind file db journal) (Batch other there records other_journal) =
     (kind ≡ other) × (string_bytes file ≡ string_bytes there) × (string_bytes db ≡ string_bytes records) × IsSameJournal journal other_journal

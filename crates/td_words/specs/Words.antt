@@ -51,14 +51,20 @@ with_office app =
     (option_rule (codes "at")))
     (option_rule (codes "journal"))
 
+-- the flag `--first`, by which a serving does the rows of a journal before its port is opened
+abbrev pub first_rule : Rule
+first_rule = record (new_rule (codes "first")) { long = Some (codes "first"); action = Some SetTrue }
+
 -- the commands of the program, and the program that has them
 abbrev pub serve_app : App
 serve_app =
     with_rule
     (with_rule
+    (with_rule
     (with_rule (with_office (new_app (codes "serve"))) (required_rule (codes "port")))
     (required_rule (codes "connections")))
-    (option_rule (codes "idle"))
+    (option_rule (codes "idle")))
+    first_rule
 
 abbrev pub pipe_app : App
 pipe_app = with_office (new_app (codes "pipe"))
@@ -179,9 +185,9 @@ AreRecordsBy (NewFile path) db new = (db ≡ Some (string_bytes path)) × (new �
 abbrev pub AreRecords : List Row → Records → Type 0
 AreRecords rows records = AreRecordsBy records (first_of (codes "db") rows) (first_of (codes "new") rows)
 
--- Numbers may be left out, by the first value of `--part`: clap gives it "true" where it is there, and "false" where it isn't.
-abbrev pub IsPart : List Row → Bool → Type 0
-IsPart rows part = (part ≡ true) ↔ (first_of (codes "part") rows ≡ Some (codes "true"))
+-- The flag of this name is there or not, by its first value: clap gives it "true" where it is there, and "false" where it isn't.
+abbrev pub IsFlag : Text → List Row → Bool → Type 0
+IsFlag name rows there = (there ≡ true) ↔ (first_of name rows ≡ Some (codes "true"))
 
 -- the path of the journal, if one is kept
 abbrev pub IsJournal : {A : Type 0} → List Row → Option (String A) → Type 0
@@ -235,17 +241,17 @@ IsTransfer name rows (Join into from) =
     × (first_of (codes "with") rows ≡ Some (string_bytes from))
 
 -- The task of this name, with the values of its own options: where the records stand and perhaps a journal, of `serve` a port, a
--- number of connections and perhaps an idle limit, of `batch`, `acts` and `replay` the file with the rows, of `replay` whether they are
+-- number of connections, perhaps an idle limit, and whether the rows of a journal come first, of `batch`, `acts` and `replay` the file with the rows, of `replay` whether they are
 -- a part, of `report` which it is, and of it and of `check` the file.
 abbrev pub IsTask : Text → List Row → Task → Type 0
 IsTask name rows (Pipe records journal) = (name ≡ codes "pipe") × AreRecords rows records × IsJournal rows journal
-IsTask name rows (Serve listening records journal) =
-    (name ≡ codes "serve") × IsListening rows listening × AreRecords rows records × IsJournal rows journal
+IsTask name rows (Serve listening records journal first) =
+    (name ≡ codes "serve") × IsListening rows listening × AreRecords rows records × IsJournal rows journal × IsFlag (codes "first") rows first
 IsTask name rows (Batch kind file db journal) =
     (name ≡ batch_name kind) × (first_of (codes "file") rows ≡ Some (string_bytes file))
     × (first_of (codes "db") rows ≡ Some (string_bytes db)) × IsJournal rows journal
 IsTask name rows (Replay file part records) =
-    (name ≡ codes "replay") × (first_of (codes "file") rows ≡ Some (string_bytes file)) × IsPart rows part × AreRecords rows records
+    (name ≡ codes "replay") × (first_of (codes "file") rows ≡ Some (string_bytes file)) × IsFlag (codes "part") rows part × AreRecords rows records
 IsTask name rows (Report report path) =
     (name ≡ codes "report") × IsReport rows report × (first_of (codes "db") rows ≡ Some (string_bytes path))
 IsTask name rows (Check path) =

@@ -3,7 +3,7 @@ ghost use Rattle.std.specs.Prelude.{◌≡◌, codes, false, IfOk, true};
 ghost use Rattle.clap.specs.Words.{App, Rule, app_of, new_app, rule_of, with_rule, with_subcommand};
 ghost use Rattle.clap.specs.declared.Command.TheViews.{out-Command};
 ghost use Rattle.td_words.specs.Commands.{IsCommand};
-ghost use Rattle.td_words.specs.Words.{bare_app, batch_app, check_app, extract_app, join_app, kind_rule, migrate_app, new_file_rule, option_rule, part_rule, pipe_app, program_app, replay_app, report_app, required_rule, serve_app, with_country, with_office};
+ghost use Rattle.td_words.specs.Words.{bare_app, batch_app, check_app, extract_app, first_rule, join_app, kind_rule, migrate_app, new_file_rule, option_rule, part_rule, pipe_app, program_app, replay_app, report_app, required_rule, serve_app, with_country, with_office};
 
 use clap::{Arg, ArgAction, Command};
 use std::alloc::{AllocError, Global};
@@ -38,6 +38,8 @@ pub(crate) const JOURNAL: &str = "journal";
 
 pub(crate) const PART: &str = "part";
 
+pub(crate) const FIRST: &str = "first";
+
 const SERVE: &str = "serve";
 
 const PIPE: &str = "pipe";
@@ -67,7 +69,7 @@ const RECORDS: &str = "The file with the records, an SQLite database";
 /// How the jobs are asked for, each alone and all.
 const SERVE_USAGE: &str =
     "transit-desk serve --country <CC> --port <N> --connections <K> [--idle <SECONDS>]
-         [--db <FILE> [--new]] [--journal <CSV>] [--at <SECONDS>]";
+         [--first] [--db <FILE> [--new]] [--journal <CSV>] [--at <SECONDS>]";
 
 const PIPE_USAGE: &str =
     "transit-desk pipe --country <CC> [--db <FILE> [--new]] [--journal <CSV>] [--at <SECONDS>]";
@@ -96,7 +98,7 @@ const JOIN_USAGE: &str = "transit-desk join --country <CC> --db <FILE> --with <F
 
 const USAGE: &str =
     "transit-desk serve --country <CC> --port <N> --connections <K> [--idle <SECONDS>]
-         [--db <FILE> [--new]] [--journal <CSV>] [--at <SECONDS>]
+         [--first] [--db <FILE> [--new]] [--journal <CSV>] [--at <SECONDS>]
        transit-desk pipe --country <CC> [--db <FILE> [--new]] [--journal <CSV>]
          [--at <SECONDS>]
        transit-desk batch --country <CC> --db <FILE> --file <CSV> [--journal <CSV>]
@@ -116,12 +118,15 @@ const NOTES: &str =
 records stand in that file, an SQLite database; --new makes the desk's tables in it first.
 With --journal a row of each accepted change is written to that file, and is on the disk
 before the change is done; a file that isn't there is made.
+With --first the rows of a journal that come by standard input are done as they come, and
+the port is opened where the input ends: a standby desk, which so takes over.
 Moments are from 2000 to 2099: a request at any other is told clock-range.
 
 Examples:
   transit-desk pipe --country CH --at 1740819600 < examples/first.http
   transit-desk serve --country CH --port 8080 --connections 1000
   transit-desk serve --country CH --port 8080 --connections 1000 --db desk.db --new
+  transit-desk serve --country CH --port 8081 --connections 1000 --first < journal.csv
   transit-desk batch --country CH --db desk.db --file declarations.csv > result.csv
   transit-desk acts --country CH --db desk.db --file acts.csv > result.csv
   transit-desk replay --country CH --file journal.csv --db again.db --new > replies.csv
@@ -270,6 +275,17 @@ fn job_command<'a>(
     )
 }
 
+// The flag by which the rows of a journal are done before the port is opened.
+fn first_option<'a>(alloc: Global) -> Arg<'a>
+    ensures rule { rule_of result ≡ first_rule }
+    ensures local { result.global ≡ false }
+{
+    Arg::new(alloc, FIRST)
+        .long(FIRST)
+        .help("Does the rows of a journal from standard input before the port is opened")
+        .action(ArgAction::SetTrue)
+}
+
 fn serve_command<'a>(alloc: Global) -> Result<Command<'a>, AllocError>
     ensures { IsCommand serve_app result }
 {
@@ -293,8 +309,8 @@ fn serve_command<'a>(alloc: Global) -> Result<Command<'a>, AllocError>
         "The most seconds that a connection is waited for, from 1 to 3600; else 2",
     );
     let command = job_command(alloc, SERVE, about, SERVE_USAGE);
-    let command = with_arg(command, port);
-    with_arg(with_arg(command, connections), idle)
+    let command = with_arg(with_arg(command, port), connections);
+    with_arg(with_arg(command, idle), first_option(alloc))
 }
 
 fn pipe_command<'a>(alloc: Global) -> Result<Command<'a>, AllocError>

@@ -5,11 +5,11 @@ ghost use Rattle.clap.specs.Values.{kind_of};
 ghost use Rattle.clap.specs.Words.{first_of, found_of, rows_of};
 ghost use Rattle.td_words.specs.declared.words.HolderRange.{HolderRange};
 ghost use Rattle.td_words.specs.declared.words.NoJob.TheVariants.{NoMemory};
-ghost use Rattle.td_words.specs.Words.{AreRecords, AskForHelpOfHelp, AsksFor, IsCountryIn, IsDayOf, IsDecimal, IsIdleOf, IsJob, IsJournal, IsListening, IsMomentOf, IsNoJob, IsNoneSuch, IsNumberOf, IsOffice, IsPart, IsRange, IsRangeOf, IsReport, IsTask, IsTold, IsTransfer, batch_name};
+ghost use Rattle.td_words.specs.Words.{AreRecords, AskForHelpOfHelp, AsksFor, IsCountryIn, IsDayOf, IsDecimal, IsFlag, IsIdleOf, IsJob, IsJournal, IsListening, IsMomentOf, IsNoJob, IsNoneSuch, IsNumberOf, IsOffice, IsRange, IsRangeOf, IsReport, IsTask, IsTold, IsTransfer, batch_name};
 
 use crate::options::{
-    AT, CONNECTIONS, COUNTRY, DAY, DB, FILE, HOLDERS, IDLE, INTO, JOURNAL, KIND, NEW, PART, PORT,
-    WITH, program,
+    AT, CONNECTIONS, COUNTRY, DAY, DB, FILE, FIRST, HOLDERS, IDLE, INTO, JOURNAL, KIND, NEW, PART,
+    PORT, WITH, program,
 };
 use ascii_text::is_digits;
 use clap::ArgMatches;
@@ -65,6 +65,8 @@ pub enum Task {
         listening: Listening,
         records: Records,
         journal: Option<String>,
+        /// The rows of a journal that come by standard input are done first, as they come; the port is opened where it ends.
+        first: bool,
     },
     /// One stream of requests is served, from standard input to standard output.
     Pipe {
@@ -412,6 +414,7 @@ fn task_in(alloc: Global, name: &str, matches: &ArgMatches<'_>) -> Result<Task, 
                 listening,
                 records,
                 journal,
+                first: has_flag(matches, FIRST),
             })
         }
         "pipe" => {
@@ -423,7 +426,7 @@ fn task_in(alloc: Global, name: &str, matches: &ArgMatches<'_>) -> Result<Task, 
         "acts" => batch_in(alloc, matches, BatchKind::Acts),
         "replay" => Ok(Task::Replay {
             rows: file_in(alloc, matches, FILE)?,
-            part: is_part(matches),
+            part: has_flag(matches, PART),
             records: records_in(alloc, matches)?,
         }),
         "report" => {
@@ -564,11 +567,11 @@ fn file_in(alloc: Global, matches: &ArgMatches<'_>, name: &str) -> Result<String
     }
 }
 
-// Whether numbers may be left out. `clap` has "false" for a `--part` that isn't there.
-fn is_part(matches: &ArgMatches<'_>) -> bool
-    ensures { IsPart (rows_of (found_of matches.now)) result }
+// Whether the flag of that name is there. `clap` has "false" for one that isn't.
+fn has_flag(matches: &ArgMatches<'_>, name: &str) -> bool
+    ensures { IsFlag name.now (rows_of (found_of matches.now)) result }
 {
-    value_of(matches, PART) == Some("true")
+    value_of(matches, name) == Some("true")
 }
 
 // The path of the journal, if one is kept.

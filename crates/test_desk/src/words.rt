@@ -1,4 +1,4 @@
-//! What the words ask for. (Wrong words, help and the version stand in the transcripts of test_program.)
+//! What the words ask for. (Wrong words, help and the version stand in the transcripts.)
 use crate::examples::country;
 use std::process::Abort;
 use td_words::{BatchKind, Job, Listening, Office, Records, Task, read_words};
@@ -80,6 +80,7 @@ fn served(listening: Listening, records: Records) -> Task {
         listening,
         records,
         journal: None,
+        first: false,
     }
 }
 
@@ -327,7 +328,7 @@ fn a_journal_is_asked_for(rt: HostRuntime) {
 }
 
 #[test]
-fn a_journal_of_connections_is_asked_for(rt: HostRuntime) {
+fn a_journal_of_a_standby_is_asked_for(rt: HostRuntime) {
     let words = [
         "transit-desk",
         "serve",
@@ -337,6 +338,7 @@ fn a_journal_of_connections_is_asked_for(rt: HostRuntime) {
         "80",
         "--connections",
         "1",
+        "--first",
         "--journal",
         "books.csv",
     ];
@@ -349,6 +351,7 @@ fn a_journal_of_connections_is_asked_for(rt: HostRuntime) {
         listening,
         records: Records::Memory,
         journal: Some(path(&rt, "books.csv")),
+        first: true,
     };
     assert_job(&rt, &words, task, None);
 }

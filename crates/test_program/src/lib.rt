@@ -1,6 +1,6 @@
-//! Runs of the program. Most are transcripts, as text; the others stand beside devices, ports and want of memory. The
-//! crate has tests alone: for its tests a crate is proved again, whole, and these need none of the program's private
-//! names.
+//! Runs of the program: the worked rows of the requirements, as transcripts, which are text; and runs beside devices,
+//! ports and want of memory. The crate has tests alone: for its tests a crate is proved again, whole, and these need none
+//! of the program's private names.
 #![tactic(auto)]
 
 #[cfg(test)]

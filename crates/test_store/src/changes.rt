@@ -1,5 +1,5 @@
 //! The tables are made once, and nothing is left of a change that can't be carried, in a store in memory. (What each kind of
-//! change leaves in the tables stands in the transcripts of test_program, in changes.rt.)
+//! change leaves in the tables stands in the transcripts, in changes.txt.)
 use crate::examples::{GRN, MRN, country, guarantee, holder, line, movement, mrn, row};
 use sqlite::{Connection, Error, ErrorCode, MemStore};
 use std::alloc::Global;

@@ -1,12 +1,14 @@
-//! The rows of a journal done again at a desk in memory that has nothing, and what is found of a journal that was changed.
+//! The rows of a journal done again at a desk in memory that has nothing, all at once or as they come, and what is found of a journal
+//! that was changed.
 use super::kept::{SECOND, THIRD};
 use crate::examples::country;
 use crate::journal::FIRST;
 use std::process::Abort;
+use td_base::Counted;
 use td_desk::PlainDesk;
 use td_journal_lines::ChangeRow;
 use td_journal_rows::JournalFault;
-use td_replay::{ReplayRun, first_fall, first_gap, read_changes, replay};
+use td_replay::{FollowFault, ReplayRun, first_fall, first_gap, follow, read_changes, replay};
 
 /// The result file of the three rows.
 const REPLIES: &[u8] =
@@ -108,6 +110,23 @@ fn what_is_found(rt: &(impl AllocGlobal + Abort), parts: &[&[u8]]) -> Option<Fou
     }
 }
 
+/// The rows that come by this text followed at a desk of CH without holders.
+fn followed(rt: &(impl AllocGlobal + Abort), parts: &[&[u8]]) -> Result<u64, FollowFault> {
+    let text = joined(rt, parts);
+    let mut desk = PlainDesk::new(rt.alloc(), country(rt)).expect(rt, "memory");
+    follow(rt.alloc(), &mut desk, &mut Counted::new(text.as_slice()))
+}
+
+/// The same of a journal that was changed, as it is found where its rows are followed.
+fn what_stops(rt: &(impl AllocGlobal + Abort), parts: &[&[u8]]) -> Option<Found> {
+    match followed(rt, parts) {
+        Err(FollowFault::BadRow(row)) => Some(Found::Bad(row)),
+        Err(FollowFault::Misplaced(row)) => Some(Found::Gap(row)),
+        Err(FollowFault::Differs(row)) => Some(Found::Differs(row)),
+        _ => None,
+    }
+}
+
 /// The rows of this text, which is a part of a journal.
 fn part(rt: &(impl AllocGlobal + Abort), parts: &[&[u8]]) -> Vec<ChangeRow> {
     let read = read_changes(rt.alloc(), &joined(rt, parts));
@@ -125,10 +144,17 @@ fn a_journal_is_replayed(rt: HostRuntime) {
 }
 
 #[test]
+fn a_journal_is_followed(rt: HostRuntime) {
+    assert!(rt; followed(&rt, &[FIRST, SECOND, THIRD, b"4,17"]) == Ok(3));
+    assert!(rt; followed(&rt, &[b""]) == Ok(0));
+}
+
+#[test]
 fn a_change_of_a_field_is_found(rt: HostRuntime) {
     for (number, old, new, what) in CHANGES {
         let text = with_row(&rt, number, old, new);
         assert!(rt; what_is_found(&rt, &[&text]) == Some(what), "{what:?}");
+        assert!(rt; what_stops(&rt, &[&text]) == Some(what), "{what:?}");
     }
 }
 

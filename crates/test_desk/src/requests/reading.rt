@@ -1,5 +1,5 @@
 //! Requests, and the command that each of them is read as; and faults of requests that no stream sends. (Others stand
-//! in the transcripts of test_program.)
+//! in the transcripts.)
 use super::asked::{is_asked, is_told, request};
 use crate::examples::{GRN, MRN, grn, holder, mrn};
 use http::Method;

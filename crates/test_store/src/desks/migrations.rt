@@ -1,5 +1,5 @@
 //! Files of version 1 and of version 2, whose tables and rows are made by hand: they are told as that, audited, and brought to
-//! the newest version. (What they are refused for, and what they hold then, stands in the transcripts of test_program.)
+//! the newest version. (What they are refused for, and what they hold then, stands in the transcripts.)
 use super::rows::push_rows;
 use crate::examples::{fill, with_layout};
 use sqlite::{Alter, Connection, MemStore};

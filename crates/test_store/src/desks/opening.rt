@@ -1,5 +1,5 @@
 //! A desk is closed and opened again, and refused over what is none. (What it is refused for after changes by hand stands in the
-//! transcripts of test_program.)
+//! transcripts.)
 use super::rows::tables;
 use super::{database, made};
 use crate::examples::{country, holder};

@@ -1,5 +1,4 @@
-//! Reports into a writer that fails, and how many writes a long one takes. (The rows of reports stand in the transcripts
-//! of test_program.)
+//! Reports into a writer that fails, and how many writes a long one takes. (The rows of reports stand in the transcripts.)
 use super::accepted::{accept, lodge, open, register, release};
 use super::made;
 use crate::examples::{GRN, MRN, country, grn, holder, mrn};
