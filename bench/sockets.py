@@ -1,16 +1,20 @@
 """Sockets of this machine, for the programs that measure and test what `serve` tells."""
 import contextlib
+import os
 import random
 import socket
 import threading
 
 SECONDS = 60
+# Processes that began one after another draw from different ports, so that none is given to two at once.
+STRIPES = 16
+DICE = random.SystemRandom()
 
 
 def free_port():
     """A port that nobody has, below those that the kernel gives to connections: else one of these may take it before a program does."""
     while True:
-        port = random.randrange(15_000, 32_000)
+        port = DICE.randrange(15_000 + os.getpid() % STRIPES, 32_000, STRIPES)
         with contextlib.suppress(OSError), socket.create_server(("127.0.0.1", port)):
             return port
 

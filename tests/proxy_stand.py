@@ -3,18 +3,21 @@ it, which is the program, or a server that keeps the bytes it gets."""
 import contextlib
 import json
 import os
-import random
 import re
 import shutil
 import signal
 import socket
 import ssl
 import subprocess
+import sys
 import tempfile
 import threading
 import time
 
 ROOT = os.path.dirname(os.path.dirname(os.path.realpath(__file__)))
+sys.path.insert(0, f"{ROOT}/bench")
+from sockets import free_port  # noqa: E402
+
 SITE = f"{ROOT}/package/root/etc/nginx/sites-available/transit-desk"
 MOMENT = 1740819600  # 2025-03-01T09:00:00Z
 GRN = "25CH0000010000014"
@@ -30,14 +33,6 @@ def due(what, wanted, got):
 def within(what, seconds, taken):
     if taken > seconds:
         raise AssertionError(f"{what} took {taken:.1f} s, and {seconds} are due")
-
-
-def free_port():
-    """A port that nobody has, below those that the kernel gives to connections."""
-    while True:
-        port = random.randrange(15_000, 32_000)
-        with contextlib.suppress(OSError), socket.create_server(("127.0.0.1", port)):
-            return port
 
 
 def output(words, **more):
