@@ -7,7 +7,7 @@ import threading
 
 SECONDS = 60
 # Processes that began one after another draw from different ports, so that none is given to two at once.
-STRIPES = 16
+STRIPES = 4
 DICE = random.SystemRandom()
 
 
