@@ -103,14 +103,14 @@ def rows_in(text):
 
 
 def row_in(line):
-    """The row that is just this line, if there is one. A view has one too, which no desk writes."""
+    """The row that is just this line, if there is one. A view has none."""
     try:
         number, at, method, path, body, reply = next(csv.reader([line.decode()], strict=True))
         row = row_of(int(number), int(at), (method, path, body), {})._replace(reply=reply)
-        command_in(method, path, body)
+        is_view = command_in(method, path, body)[0].startswith("see_")
     except (ValueError, KeyError, TypeError, csv.Error, Unread):
         return None
-    return row if len(number) <= 18 and FIRST_MOMENT <= row.at <= LAST_MOMENT and line_of(row) == line else None
+    return row if not is_view and len(number) <= 18 and FIRST_MOMENT <= row.at <= LAST_MOMENT and line_of(row) == line else None
 
 
 def result_of(rows):

@@ -25,7 +25,7 @@ use Rattle.typed_sql.specs.Outside.{CrashLeavesShown}
 use Rattle.td_store.specs.Opened.{AreDamaged, IsOfAnother, IsOfEarlier, IsOfUnknownVersion, IsStoreSchema, TellsDatabase}
 use Rattle.td_store.specs.declared.refused.OpenFault.{OpenFault}
 use Rattle.td_store.specs.declared.refused.OpenFault.TheVariants.{UnknownVersion, NeedsMigration, OtherCountry, Damaged, Store, NoMemory}
-use Rattle.td_migrate.specs.Upgraded.{LeavesWithFault, MayLeaveUpgraded, TellsUpgrade}
+use Rattle.td_migrate.specs.Upgraded.{LeavesReached, LeavesShown, LeavesWithFault, TellsUpgrade}
 use Rattle.td_migrate.specs.declared.fault.MigrateFault.{MigrateFault}
 use Rattle.td_files.specs.Upgraded.{ShowsUpgrade}
 use Rattle.td_files.specs.Found.{CommitsDesk, IsClean, IsFoundIn, IsRefusedFor, IsUnmadeFor, IsStoreOrMemory}
@@ -150,14 +150,15 @@ pub shows_upgrade : {D : Type 0} {g : disk.Ghosts D} (image : Image) (found : St
     → (HasCleanDisk (file_state c) → OnOk result (IsTrue (file_state c).is_open))
     → (HasCleanDisk (file_state c) → TellsUpgrade found.now (file_state c) result)
     → (HasCleanDisk (file_state c) → IsTrue (file_state c).is_open → IfErr result (LeavesWithFault found.now (file_state c).now))
-    → Survives found (file_state c) (MayLeaveUpgraded found.now) → CrashLeavesShown (file_state c) → HasCleanDisk (file_state c)
+    → (HasCleanDisk (file_state c) → LeavesShown found → LeavesReached found.now (file_state c).may_leave)
+    → CrashLeavesShown (file_state c) → HasCleanDisk (file_state c)
     → ShowsUpgrade image c result
-shows_upgrade image found c result is is_open before shown told left crash settled clean = record {
+shows_upgrade image found c result is is_open before shown told left reached settled clean = record {
   db = found.now;
   found = is;
   shown = shown clean;
   told = told clean;
   left = left clean;
-  leaves = λ trees may. elim (crash.crash clean trees may) [ inl was ↦ inl ((before is_open trees).0 was) | inr grown ↦ inr grown ];
+  leaves = reached clean (λ trees. (before is_open trees).0);
   settled = settled;
 }

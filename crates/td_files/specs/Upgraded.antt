@@ -2,13 +2,12 @@
 use Rattle.std.specs.Prelude.{◌≡◌, ◌⊎◌, ℕ, false, List, IsTrue, IfErr, OnOk, Some, Result, Ok, Err}
 use Rattle.sqlite_disk.specs.declared.Disk as disk
 use Rattle.sqlite_wal.specs.Recovery.{Image}
-use Rattle.sqlite_trees.specs.Tree.{Trees}
 use Rattle.sqlite.specs.Effect.{Database}
 use Rattle.sqlite.specs.Files.{file_state}
 use Rattle.typed_sql.specs.Outside.{CrashLeavesShown}
 use Rattle.td_store.specs.declared.refused.OpenFault.{OpenFault}
 use Rattle.td_store.specs.declared.refused.OpenFault.TheVariants as open_fault
-use Rattle.td_migrate.specs.Upgraded.{LeavesWithFault, MayLeaveUpgraded, TellsUpgrade}
+use Rattle.td_migrate.specs.Upgraded.{LeavesReached, LeavesWithFault, TellsUpgrade}
 use Rattle.td_migrate.specs.declared.fault.MigrateFault.{MigrateFault}
 use Rattle.td_migrate.specs.declared.fault.MigrateFault.TheVariants.{Damaged, NoMemory, Store, UnknownVersion}
 use Rattle.td_machine.specs.Drive.{KnownDrive}
@@ -26,14 +25,14 @@ refused_as NoMemory = open_fault.NoMemory
 module _ {D : Type 0} {g : disk.Ghosts D} where
   -- A connection shows what came of an upgrade of what the file held. Without a fault it is open; with one it shows what
   -- was found, or what a first step made of that, as far as it is open. And a crash leaves what was found, or the file of
-  -- the next version, or of the newest, with the same content.
+  -- the next version, or of the newest, with the same content; and no version before one that was reached.
   pub record ShowsUpgrade (image : Image) (c : FileSeen g) (result : Result ℕ MigrateFault) : Type 0 where
     pub db : Database
     pub found : IsFoundIn image db
     pub shown : OnOk result (IsTrue (file_state c).is_open)
     pub told : TellsUpgrade db (file_state c) result
     pub left : IsTrue (file_state c).is_open → IfErr result (LeavesWithFault db (file_state c).now)
-    pub leaves : (trees : Trees) → (file_state c).may_leave trees → (trees ≡ db.trees) ⊎ MayLeaveUpgraded db trees
+    pub leaves : LeavesReached db (file_state c).may_leave
     pub settled : CrashLeavesShown (file_state c)
 
 module _ {V D : Type 0} {g : disk.Ghosts D} where

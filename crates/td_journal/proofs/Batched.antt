@@ -52,7 +52,7 @@ module _ {D F : Type 0} (g : Ghosts F) (view : DeskView D) (at : ℤ) where
   rows_grown : (rows : List (Command × Outcome)) (old new : JournaledDesk D F g) → FoldsTo (IsRowDone (journaled view) at) old rows new
       → view.is_clean new.desk → (journaled view).is_live new → IsSound (view.content old.desk) → HasGrown view (answered_rows at rows) old new
   rows_grown [] old new steps clean live sound =
-      subst (λ (d : JournaledDesk D F g). HasGrown view [] old d) steps (nothing_grown view old old refl refl refl (λ tight. tight))
+      subst (λ (d : JournaledDesk D F g). HasGrown view [] old d) steps (nothing_grown view old old refl refl refl (λ tight. tight) (λ durable. durable))
   rows_grown ((command, o) ∷ rows) old new steps clean live sound =
       let mid = steps.0 in
       let mid_clean = clean_back (journaled view) at rows mid new steps.2 clean in

@@ -17,7 +17,7 @@ use Rattle.td_desk.specs.declared.running.Outcome.{Outcome}
 use Rattle.td_desk.specs.declared.running.Outcome.TheVariants as outcome
 use Rattle.td_http.specs.Serving.{HandledAs, IsCausedBy, IsReplyTo}
 use Rattle.td_journal.specs.Growth.{AreJournaled, HasGrown, answered_by}
-use Rattle.td_journal.specs.Journal.{IsTight, next_number, text_of}
+use Rattle.td_journal.specs.Journal.{IsDurable, IsTight, next_number, text_of}
 use Rattle.td_journal.specs.Journaled.{IsTakenBack, IsWaiting, IsWritten, journaled, rows_in, waiting, weighed_at, written}
 use Rattle.td_journal.specs.declared.desk.JournaledDesk.{JournaledDesk}
 
@@ -41,12 +41,14 @@ rows_on (s ∷ list) more n m k c d e t u (row, after, rest, noted, carries, tex
 module _ {D F : Type 0} {g : Ghosts F} (view : DeskView D) where
   -- nothing was written
   pub nothing_grown : (old new : JournaledDesk D F g) → text_of new.journal ≡ text_of old.journal → next_number new.journal ≡ next_number old.journal
-      → view.content new.desk ≡ view.content old.desk → (IsTight old.journal → IsTight new.journal) → HasGrown view [] old new
-  nothing_grown old new text next same tight = record {
+      → view.content new.desk ≡ view.content old.desk → (IsTight old.journal → IsTight new.journal)
+      → (IsDurable old.journal → IsDurable new.journal) → HasGrown view [] old new
+  nothing_grown old new text next same tight durable = record {
     rows = [];
     text = text ∙ sym (append-nil (text_of old.journal));
     are = (refl, next, same);
     tight = tight;
+    durable = durable;
   }
 
   -- what was written, and what was written behind it
@@ -57,6 +59,7 @@ module _ {D F : Type 0} {g : Ghosts F} (view : DeskView D) where
     text = two.text ∙ ap (λ t. t ++ two.rows) one.text ∙ append_assoc (text_of old.journal) one.rows two.rows;
     are = rows_on list more _ _ _ _ _ _ _ _ one.are two.are;
     tight = λ tight. two.tight (one.tight tight);
+    durable = λ durable. two.durable (one.durable durable);
   }
 
   -- a command was answered
@@ -77,12 +80,14 @@ module _ {D F : Type 0} {g : Ghosts F} (view : DeskView D) where
       (refl, writes.next ∙ ap (λ n. n + rows_in (waiting mid)) (ap next_number waits.journal), refl),
     );
     tight = λ tight. writes.tight (subst IsTight (sym waits.journal) tight);
+    durable = λ durable. writes.durable (subst IsDurable (sym waits.journal) durable);
   }
 
   -- a command failed as it was weighed, or was weighed and no more
   left_alone : (old new : JournaledDesk D F g) → new.journal ≡ old.journal → view.content new.desk ≡ view.content old.desk → HasGrown view [] old new
   left_alone old new journal same =
       nothing_grown old new (ap text_of journal) (ap next_number journal) same (λ tight. subst IsTight (sym journal) tight)
+      (λ durable. subst IsDurable (sym journal) durable)
 
   pub weighed_alone : (old new : JournaledDesk D F g) (s : Stamped) (why : Option Fault) → weighed_at view old s why new
       → view.content new.desk ≡ view.content old.desk → HasGrown view [] old new
@@ -94,6 +99,7 @@ module _ {D F : Type 0} {g : Ghosts F} (view : DeskView D) where
       → (journaled view).is_live new → view.content new.desk ≡ view.content old.desk → HasGrown view [] old new
   taken_back old mid new s why waits back live same =
       nothing_grown old new (back.text ∙ ap text_of waits.journal) (back.next ∙ ap next_number waits.journal) same (λ tight. back.tight live.1)
+      (λ durable. back.durable live.1)
 
   -- the reply to a command, by what the desk did
   module _ (old new : JournaledDesk D F g) (s : Stamped) (close : Bool) (clean : view.is_clean new.desk) (live : (journaled view).is_live new)

@@ -69,7 +69,7 @@ module _ {D F R W L C : Type 0} (g : Ghosts F) (view : DeskView D) (remaining : 
       → IsSound (view.content (desk old).desk)
       → HasGrown view (answered_over (map (λ connection. connection.exchanges) all_served)) (desk old) (desk new)
   connections_grown [] old new were is sound =
-      subst (λ (b : State). HasGrown view [] (desk old) (desk b)) were (nothing_grown view (desk old) (desk old) refl refl refl (λ tight. tight))
+      subst (λ (b : State). HasGrown view [] (desk old) (desk b)) were (nothing_grown view (desk old) (desk old) refl refl refl (λ tight. tight) (λ durable. durable))
   connections_grown (connection ∷ all_served) old new were is sound =
       let mid = live_back all_served were.0 new were.2 is in
       let one = connection_grown connection old were.0 were.1 mid sound in

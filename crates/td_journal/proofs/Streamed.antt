@@ -34,7 +34,7 @@ module _ {D F : Type 0} (g : Ghosts F) (view : DeskView D) where
     Grown r = HasGrown view (answered_by r e.at (is_made e.reply)) (desk old) (desk new) × IsSound (view.content (desk new).desk)
 
     same : (desk new ≡ desk old) → HasGrown view [] (desk old) (desk new)
-    same is = subst (λ (d : JournaledDesk D F g). HasGrown view [] (desk old) d) (sym is) (nothing_grown view (desk old) (desk old) refl refl refl (λ tight. tight))
+    same is = subst (λ (d : JournaledDesk D F g). HasGrown view [] (desk old) d) (sym is) (nothing_grown view (desk old) (desk old) refl refl refl (λ tight. tight) (λ durable. durable))
 
     by_reading : (r : Result Command WebFault) → command_in (question before e.wire) ≡ r
         → HandledAs ((journaled view).is_live (desk old)) ((journaled view).is_live (desk new)) (view.content (desk old).desk) e.at r (question before e.wire).close e.reply (view.content (desk new).desk)
@@ -61,7 +61,7 @@ module _ {D F : Type 0} (g : Ghosts F) (view : DeskView D) where
       → view.is_clean (desk new.1).desk → (journaled view).is_live (desk new.1) → IsSound (view.content (desk old.1).desk)
       → HasGrown view (answered before es) (desk old.1) (desk new.1) × IsSound (view.content (desk new.1).desk)
   chain_grown C S ticks desk before [] old new chain clean live sound = (
-    subst (λ (x : C × S). HasGrown view [] (desk old.1) (desk x.1)) (sym chain) (nothing_grown view (desk old.1) (desk old.1) refl refl refl (λ tight. tight)),
+    subst (λ (x : C × S). HasGrown view [] (desk old.1) (desk x.1)) (sym chain) (nothing_grown view (desk old.1) (desk old.1) refl refl refl (λ tight. tight) (λ durable. durable)),
     subst (λ (x : C × S). IsSound (view.content (desk x.1).desk)) (sym chain) sound,
   )
   chain_grown C S ticks desk before (e ∷ es) old new chain clean live sound =

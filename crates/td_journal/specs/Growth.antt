@@ -18,7 +18,7 @@ use Rattle.td_fields.specs.declared.fault.WebFault.{WebFault}
 use Rattle.td_http.specs.Connections.{Between, ServesConnections}
 use Rattle.td_http.specs.Serving.{IsHandledBy, IsHeadHandledBy, command_in, desk_of}
 use Rattle.td_http.specs.declared.service.Service.{Service}
-use Rattle.td_journal.specs.Journal.{IsTight, next_number, text_of}
+use Rattle.td_journal.specs.Journal.{IsDurable, IsTight, next_number, text_of}
 use Rattle.td_journal.specs.Journaled.{journaled, rows_in, written}
 use Rattle.td_journal.specs.Texts.{IsNoted}
 use Rattle.td_journal.specs.declared.desk.JournaledDesk.{JournaledDesk}
@@ -36,8 +36,9 @@ pub record HasGrown {D F : Type 0} {g : Ghosts F} (view : DeskView D) (list : Li
   pub rows : List ℕ
   pub text : text_of new.journal ≡ text_of old.journal ++ rows
   pub are : AreJournaled (next_number old.journal) (view.content old.desk) list rows (next_number new.journal) (view.content new.desk)
-  -- and nothing stands behind them
+  -- nothing stands behind them, and a crash leaves them
   pub tight : IsTight old.journal → IsTight new.journal
+  pub durable : IsDurable old.journal → IsDurable new.journal
 
 -- the command of a request that was answered
 abbrev pub answered_by : Result Command WebFault → ℤ → Bool → List Stamped

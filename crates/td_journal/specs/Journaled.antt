@@ -58,12 +58,13 @@ pub record IsWritten {D F : Type 0} {g : Ghosts F} (view : DeskView D) (old new 
   pub tight : IsTight old.journal → IsTight new.journal
   pub durable : IsDurable old.journal → IsDurable new.journal
 
--- It wasn't: the text is as it was, and as long as the journal is open nothing stands behind it. The row was written ahead of the
--- change: a crash leaves the content as it was, or a journal that has the row.
+-- It wasn't: the text is as it was, and as long as the journal is open nothing stands behind it, and a crash leaves that. The row was
+-- written ahead of the change: a crash leaves the content as it was, or a journal that has the row.
 pub record IsTakenBack {D F : Type 0} {g : Ghosts F} (view : DeskView D) (old : JournaledDesk D F g) (why : Fault) (new : JournaledDesk D F g) : Type 0 where
   pub text : text_of new.journal ≡ text_of old.journal
   pub next : next_number new.journal ≡ next_number old.journal
   pub tight : IsTrue (is_open new.journal) → IsTight new.journal
+  pub durable : IsTrue (is_open new.journal) → IsDurable new.journal
   pub safe : IsSafe old.journal → IsSafe new.journal
   pub ahead : view.is_clean new.desk → view.is_live old.desk → (bytes : List ℕ) (x : Content) → g.may_leave new.journal.file bytes → view.may_leave new.desk x
       → (x ≡ view.content old.desk) ⊎ HasBehind (written (waiting old)) old.journal bytes

@@ -158,6 +158,16 @@ module _ (a : Account) (t : ℕ) (formed : IsFormed a) where
       let both = and_parts (is_changing command) (is_answer (said_at a t command)) parts.0 in
       fine_at command typed both.0 (not-true _ parts.1) both.1
 
+-- what is accepted is no view
+changing_in : (m : Option ℕ) (a : Account) (command : Command) → is_accepted_in m a command ≡ true → is_changing command ≡ true
+changing_in None a command accepted = cc
+changing_in (Some t) a command accepted =
+    let parts = and_parts (is_changing command && is_answer (said_at a t command)) (not (has_known_lrn a command)) accepted in
+    (and_parts (is_changing command) (is_answer (said_at a t command)) parts.0).0
+
+pub change_is_changing : (c : Content) (s : Stamped) → is_change_at c s ≡ true → is_changing s.command ≡ true
+change_is_changing c s accepted = changing_in (moment_of s.at) (owner_account c s.command) s.command accepted
+
 told_in : (m : Option ℕ) (a : Account) (command : Command) → IsFormed a → IsTyped command → is_accepted_in m a command ≡ true → IsTold (said_in m a command)
 told_in None a command formed typed accepted = cc
 told_in (Some t) a command formed typed accepted = told_at a t formed command typed accepted

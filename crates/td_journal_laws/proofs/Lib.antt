@@ -8,3 +8,4 @@ mod Starting
 mod Torn
 mod Crashing
 mod Answered
+mod Running

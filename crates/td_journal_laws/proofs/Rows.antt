@@ -20,7 +20,7 @@ use Rattle.td_journal_rows.specs.Rows.{HasNoLineFeed, IsRow, change_row, row_lin
 use Rattle.td_journal_lines.specs.Lines.{IsLine}
 use Rattle.td_journal_laws.specs.Kept.{IsKept}
 use Rattle.td_journal_laws.specs.Laws.{RowsAreDone}
-use Rattle.td_journal_laws.proofs.Accepted.{change_told}
+use Rattle.td_journal_laws.proofs.Accepted.{change_is_changing, change_told}
 use Rattle.td_model.specs.Account.{Account}
 use Rattle.td_model.specs.Machine.{is_accepted_at, is_accepted_in}
 use Rattle.td_redo.specs.Laws.{RedoneOverItsBeginning}
@@ -96,6 +96,7 @@ module _ (laws : RowLaws) where
         line_is = is.line_is ∙ ap (λ (reply : List ℕ). row_line (change_row number is.seconds s.command reply)) told.same;
         is_row = laws.one_line number is.seconds s.command (body_text (said_over c s)) small (moment_small s.at is.seconds is.moment) typed told.line;
         reads_back = laws.back s.command typed;
+        changing = change_is_changing c s accepted;
       }
 
   -- a row before others

@@ -1,5 +1,5 @@
 -- What a crash leaves of a desk that keeps a journal, and what the next start makes of it.
-use Rattle.std.specs.Prelude.{◌≡◌, ◌⊎◌, ℕ, ◌^◌, ◌<◌, List, [], ◌∷◌, ◌++◌, take, Option, None, Some, if◌then◌else◌}
+use Rattle.std.specs.Prelude.{◌≡◌, ◌⊎◌, ℕ, ◌^◌, ◌<◌, ◌≤◌, List, [], ◌∷◌, ◌++◌, take, Option, None, Some, if◌then◌else◌}
 use Rattle.std.specs.Option.{is_some}
 use Rattle.sqlite_disk.specs.declared.Disk.{Ghosts}
 use Rattle.td_commands.specs.declared.command.Stamped.{Stamped}
@@ -9,11 +9,13 @@ use Rattle.td_desk.specs.Weighing.{Carries}
 use Rattle.td_desk.specs.declared.fault.Fault.{Fault}
 use Rattle.td_desk.specs.declared.running.Outcome.{Outcome}
 use Rattle.td_desk.specs.declared.running.Outcome.TheVariants.{Failed, Said}
+use Rattle.td_journal.specs.Growth.{HasGrown}
 use Rattle.td_journal.specs.Journal.{IsDurable, IsTight, next_number, text_of}
 use Rattle.td_journal.specs.Journaled.{journaled, waiting, written}
 use Rattle.td_journal.specs.Texts.{IsNoted, is_change_at}
 use Rattle.td_journal.specs.declared.desk.JournaledDesk.{JournaledDesk}
 use Rattle.td_journal_laws.specs.Kept.{BeginsAt, IsKeptAt}
+use Rattle.td_journal_laws.specs.Laws.{AreTyped}
 use Rattle.td_journal_rows.specs.Requests.{IsTyped}
 use Rattle.td_journal_start.specs.Laws.{IsClean}
 use Rattle.td_journal_start.specs.Starts.{IsRefused, IsStarted}
@@ -128,3 +130,28 @@ NoCrashBetweenIsForeign {D} {F} view g =
     (begin : Content) (rows : List (Row (List ℕ))) (first number : ℕ) (old new : JournaledDesk D F g) (desk after : D) (file left : F)
     → IsAtRest view begin rows first old → LeavesOnly view old.desk (view.content old.desk) → IsUncarried view old new
     → IsLeftBy view g new desk file → IsClean view g after left → IsRefused view g desk file (ForeignRow number) after left → ⊥
+
+-- ---- after many commands, in whatever way they came: a stream, connections, the rows of a batch
+
+-- A desk at rest is at rest after them, too, with their rows behind those before.
+abbrev pub ARunIsAtRest : {D F : Type 0} → DeskView D → Ghosts F → Type 0
+ARunIsAtRest {D} {F} view g =
+    (begin : Content) (rows : List (Row (List ℕ))) (first : ℕ) (list : List Stamped) (old new : JournaledDesk D F g)
+    → IsAtRest view begin rows first old → AreTyped list → next_number new.journal ≤ 10 ^ 18 → HasGrown view list old new
+    → (more : List (Row (List ℕ))) × IsAtRest view begin (rows ++ more) first new
+
+-- So a crash behind them loses none of their rows, and the next start isn't refused for a row of another desk.
+abbrev pub ACrashAfterARunIsMadeGood : {D F : Type 0} → DeskView D → Ghosts F → Type 0
+ACrashAfterARunIsMadeGood {D} {F} view g =
+    (begin : Content) (rows : List (Row (List ℕ))) (first : ℕ) (list : List Stamped) (old new j : JournaledDesk D F g) (desk : D) (file : F)
+    → IsAtRest view begin rows first old → AreTyped list → next_number new.journal ≤ 10 ^ 18 → HasGrown view list old new
+    → LeavesOnly view new.desk (view.content new.desk) → IsLeftBy view g new desk file
+    → IsStarted view desk file j → IsClean view g j.desk j.journal.file
+    → (more : List (Row (List ℕ))) × IsKeptAt view begin (rows ++ more) first j
+
+abbrev pub NoCrashAfterARunIsForeign : {D F : Type 0} → DeskView D → Ghosts F → Type 0
+NoCrashAfterARunIsForeign {D} {F} view g =
+    (begin : Content) (rows : List (Row (List ℕ))) (first number : ℕ) (list : List Stamped) (old new : JournaledDesk D F g) (desk after : D) (file left : F)
+    → IsAtRest view begin rows first old → AreTyped list → next_number new.journal ≤ 10 ^ 18 → HasGrown view list old new
+    → LeavesOnly view new.desk (view.content new.desk) → IsLeftBy view g new desk file
+    → IsClean view g after left → IsRefused view g desk file (ForeignRow number) after left → ⊥

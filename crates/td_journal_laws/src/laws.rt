@@ -1,6 +1,7 @@
 //! What a journal's rows make, whatever a crash leaves of its desk: the contracts are laws, and the calls do nothing but call the
 //! laws below them.
-ghost use Rattle.td_journal_laws.specs.Crashes.{ACrashBetweenIsMadeGood, ACrashIsMadeGood, ARowFirstIsMadeGood, AnAnswerIsAtRest, NoCrashBetweenIsForeign, NoCrashIsForeign};
+ghost use Rattle.td_journal_laws.specs.Crashes.{ACrashAfterARunIsMadeGood, ACrashBetweenIsMadeGood, ACrashIsMadeGood, ARowFirstIsMadeGood};
+ghost use Rattle.td_journal_laws.specs.Crashes.{ARunIsAtRest, AnAnswerIsAtRest, NoCrashAfterARunIsForeign, NoCrashBetweenIsForeign, NoCrashIsForeign};
 ghost use Rattle.td_journal_laws.specs.Laws.{ARunIsWhole, AStartIsWhole, NoStartIsForeign, RowsAreDone};
 
 use sqlite_disk::Disk;
@@ -70,4 +71,15 @@ pub fn a_crash_between_is_made_good<D: Desk, F: Disk>()
 {
     a_start_is_whole::<D, F>();
     no_start_is_foreign::<D, F>();
+}
+
+/// A desk at rest is at rest after many commands, in whatever way they came; so a crash behind them costs none of their rows. That a
+/// stream, connections and the rows of a batch are such commands is said by td_journal.
+pub fn a_run_is_at_rest<D: Desk, F: Disk>()
+    ensures rest { ARunIsAtRest D.seen F.Disk }
+    ensures good { ACrashAfterARunIsMadeGood D.seen F.Disk }
+    ensures own { NoCrashAfterARunIsForeign D.seen F.Disk }
+{
+    a_run_is_whole::<D, F>();
+    a_crash_between_is_made_good::<D, F>();
 }

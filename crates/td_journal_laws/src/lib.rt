@@ -6,6 +6,6 @@ mod laws;
 
 pub use doing::a_command_is_done;
 pub use laws::{
-    a_crash_between_is_made_good, a_crash_is_made_good, a_run_is_whole, a_start_is_whole,
-    an_answer_is_at_rest, no_start_is_foreign, rows_are_done,
+    a_crash_between_is_made_good, a_crash_is_made_good, a_run_is_at_rest, a_run_is_whole,
+    a_start_is_whole, an_answer_is_at_rest, no_start_is_foreign, rows_are_done,
 };

@@ -1,9 +1,10 @@
 -- A row that was read, and the line that it was read of.
-use Rattle.std.proofs.Common.{◌≡◌, ℕ, ℤ, pos, negsuc, ◌^◌, ◌<◌, ◌≤◌, List, Option, None, Some, option_map, Ok, sym, ap, subst, ◌∙◌, arith}
+use Rattle.std.proofs.Common.{◌≡◌, true, ℕ, ℤ, pos, negsuc, ◌^◌, ◌<◌, ◌≤◌, List, Option, None, Some, option_map, Ok, sym, ap, subst, ◌∙◌, arith}
 use Rattle.std.proofs.lemmas.Bool.{and_parts, leb-true}
 use Rattle.std.proofs.lemmas.Option.{cond_some}
 use Rattle.std.specs.Prelude.{nat_le}
 use Rattle.td_base.specs.Days.{moment_of}
+use Rattle.td_commands.specs.Commands.{is_changing}
 use Rattle.td_commands.specs.declared.command.Command.{Command}
 use Rattle.td_commands.specs.declared.command.Stamped.{Stamped}
 use Rattle.td_journal_rows.specs.Requests.{request_method, request_path}
@@ -40,13 +41,21 @@ module _ (o : Option JournalRow) (row : JournalRow) (r : Numbered) (line : List 
       let seconds : row.at ≡ is.seconds = ap (λ (t : RowText). t.at) shown in
       subst (λ n. moment_of (pos n) ≡ Some n) (sym seconds) (ap moment_of (sym (moment_is r.row.stamped.at is.seconds is.moment)) ∙ is.moment)
 
-  -- its command is the row's, so the line is made anew
-  pub line_again : (command : Command) → command_of row.method.items row.path.items row.body.items ≡ Ok command → row_line (change_row row.number row.at command row.reply.items) ≡ line
-  line_again command found =
+  -- its command is the row's
+  pub command_is : (command : Command) → command_of row.method.items row.path.items row.body.items ≡ Ok command → command ≡ r.row.stamped.command
+  command_is command found =
       let one = ap (λ (m : List ℕ). command_of m row.path.items row.body.items) has_request.method in
       let two = ap (λ (p : List ℕ). command_of (request_method r.row.stamped.command) p row.body.items) has_request.path in
       let three = ap (λ (b : List ℕ). command_of (request_method r.row.stamped.command) (request_path r.row.stamped.command) b) has_request.body in
-      let same : command ≡ r.row.stamped.command = same_command (command_of row.method.items row.path.items row.body.items) command r.row.stamped.command found (one ∙ (two ∙ (three ∙ is.reads_back))) in
+      same_command (command_of row.method.items row.path.items row.body.items) command r.row.stamped.command found (one ∙ (two ∙ (three ∙ is.reads_back)))
+
+  -- so it is no view, and the line is made anew
+  pub no_view : (command : Command) → command_of row.method.items row.path.items row.body.items ≡ Ok command → is_changing command ≡ true
+  no_view command found = ap is_changing (command_is command found) ∙ is.changing
+
+  pub line_again : (command : Command) → command_of row.method.items row.path.items row.body.items ≡ Ok command → row_line (change_row row.number row.at command row.reply.items) ≡ line
+  line_again command found =
+      let same : command ≡ r.row.stamped.command = command_is command found in
       ap (λ (c : Command). row_line (change_row row.number row.at c row.reply.items)) same
       ∙ (ap row_line (changed same) ∙ sym is.line_is)
     where
@@ -66,9 +75,9 @@ moment_small (negsuc n) seconds is = cc
 -- a row that makes its line anew is the line's
 pub line_of_row : (o : Option JournalRow) (row : JournalRow) (stamped : Stamped) (line : List ℕ) → IsOneLine line → option_map row_shown o ≡ row_of_line line → o ≡ Some row
     → moment_of stamped.at ≡ Some row.at → command_of row.method.items row.path.items row.body.items ≡ Ok stamped.command
-    → row_line (change_row row.number row.at stamped.command row.reply.items) ≡ line
+    → is_changing stamped.command ≡ true → row_line (change_row row.number row.at stamped.command row.reply.items) ≡ line
     → IsLine (record { number = row.number; row = record { stamped = stamped; shown = row.reply.items } }) line
-line_of_row o row stamped line one read there moment command line_again =
+line_of_row o row stamped line one read there moment command changing line_again =
     let again = change_row row.number row.at stamped.command row.reply.items in
     let some : row_of_line line ≡ Some (row_shown row) = sym read ∙ ap (option_map row_shown) there in
     let is_row : IsRow again = row_back again one.front (line_again ∙ one.line_is) one.none (row_small line (row_shown row) some) (moment_small stamped.at row.at moment) in
@@ -82,4 +91,5 @@ line_of_row o row stamped line one read there moment command line_again =
       line_is = sym line_again;
       is_row = is_row;
       reads_back = sym three ∙ (sym two ∙ (sym one ∙ command));
+      changing = changing;
     }

@@ -1,6 +1,7 @@
 //! The row of a change, read of its line.
 ghost use Rattle.std.specs.Prelude.{◌≡◌, ◌≢◌, IfOk, IfSome, None, Ok, Some, pos};
 ghost use Rattle.td_base.specs.Days.{moment_of};
+ghost use Rattle.td_commands.specs.Commands.{is_changing};
 ghost use Rattle.td_commands.specs.declared.command.Command.{Command};
 ghost use Rattle.td_journal_rows.specs.Requests.{ReadsBack};
 ghost use Rattle.td_journal_lines.specs.Lines.{HasRequestOf, IsLine, Numbered};
@@ -28,7 +29,8 @@ pub struct ChangeRow {
     pub reply: Vec<u8>,
 }
 
-/// The row of a change that is exactly this line; `None`: there is no such row. `AllocError`: want of memory.
+/// The row of a change that is exactly this line; `None`: there is no such row, as where the command is a view. `AllocError`: want of
+/// memory.
 pub fn row_of(alloc: Global, line: &[u8]) -> Result<Option<ChangeRow>, AllocError>
     requires { IsOneLine line.now }
     ensures row { IfOk result (λ found. IfSome found (λ row. IsLine (numbered row) line.now)) }
@@ -40,6 +42,9 @@ pub fn row_of(alloc: Global, line: &[u8]) -> Result<Option<ChangeRow>, AllocErro
     let Some(stamped) = change_in(alloc, &row)? else {
         return Ok(None);
     };
+    if !changes(&stamped.command) {
+        return Ok(None);
+    }
     let again = row_of_change(alloc, row.number, row.at, &stamped.command, &row.reply)?;
     let again = write_row(alloc, &again)?;
     if again.as_slice() != line {
@@ -52,7 +57,33 @@ pub fn row_of(alloc: Global, line: &[u8]) -> Result<Option<ChangeRow>, AllocErro
     }))
 }
 
-// The change that a row tells; `None`: its moment is out of range, or its request is none that is read as a command.
+// Whether a command changes something where it is accepted: the others are views.
+fn changes(command: &Command) -> bool
+    ensures { result ≡ is_changing command.now }
+{
+    match command {
+        Command::Register { .. }
+        | Command::OpenGuarantee { .. }
+        | Command::Amend { .. }
+        | Command::Revoke { .. }
+        | Command::Ie015 { .. }
+        | Command::Ie014 { .. }
+        | Command::AddCode { .. }
+        | Command::RemoveCode { .. }
+        | Command::Ie029 { .. }
+        | Command::Ie007 { .. }
+        | Command::Ie018 { .. }
+        | Command::Ie045 { .. }
+        | Command::Ie140 { .. } => true,
+        Command::SeeHolder { .. }
+        | Command::SeeMovement { .. }
+        | Command::SeeMovements { .. }
+        | Command::SeeGuarantee { .. }
+        | Command::SeeGuarantees { .. } => false,
+    }
+}
+
+// The command that a row tells, at its moment; `None`: its moment is out of range, or its request is none that is read as a command.
 fn change_in(alloc: Global, row: &JournalRow) -> Result<Option<Stamped>, AllocError>
     ensures moment { IfOk result (λ found. IfSome found (λ s. moment_of s.at ≡ Some row.now.at)) }
     ensures command { IfOk result (λ found. IfSome found (λ s. command_of row.now.method.items row.now.path.items row.now.body.items ≡ Ok s.command)) }

@@ -20,7 +20,7 @@ use Rattle.td_store.specs.Opened.{MaySay}
 use Rattle.td_table_model.specs.declared.rule.Rule.{Rule}
 use Rattle.td_migrate.specs.declared.fault.MigrateFault.{MigrateFault}
 use Rattle.td_migrate.specs.declared.fault.MigrateFault.TheVariants.{Damaged, NoMemory, Store, UnknownVersion}
-use Rattle.td_migrate.specs.Grown.{AreGrown, HoldsVersion, IsGrown, LeavesEmpty}
+use Rattle.td_migrate.specs.Grown.{AreGrown, HoldsVersion, IsGrownFile, LeavesEmpty}
 use Rattle.td_migrate.specs.Upgraded.{AreUpgraded, IsDamagedAt, LeavesAllEmpty, LeavesWithFault, MayLeaveStep, MayLeaveUpgraded, TellsStep, TellsUpgrade, WasGrown, WasUpgraded}
 use Rattle.td_migrate.proofs.Second.{of_second, second_layout}
 
@@ -47,7 +47,7 @@ upgraded_from_second old new was =
     let l = was.0.0 in
     let is = was.0.1 in
     let c = was.0.2 in
-    let it : IsGrown l c old new.now = was.1 l is c was.0.3 in
+    let it : IsGrownFile l c old new.now = was.1 l is c was.0.3 in
     let desk : AreTreesOf c new.now.trees = desk_trees l is c old.trees new.now.trees it.trees in
     record {
       layout = l;
@@ -79,7 +79,7 @@ first_was old mid was =
     let is = was.0.1 in
     only_first (λ l. (c : Content) → HoldsVersion l c old → version_of l ≡ first_version → WasFirst old mid)
     (λ c held is.
-    let it : IsGrown Made1 c old mid = was.1 Made1 is c held in
+    let it : IsGrownFile Made1 c old mid = was.1 Made1 is c held in
     record { content = c; held = held; became = record { schema = it.schema; content = it.trees.content }; emptied = it.trees.left })
     l is was.0.2 was.0.3 is
 
@@ -101,7 +101,7 @@ module _ (old mid : Database) (was : WasFirst old mid) where
 
   pub upgraded_from_first : (new : State) → WasGrown version_with_amounts mid new.now → WasUpgraded old new
   upgraded_from_first new next =
-      let it : IsGrown Grown2 c mid new.now = next.1 Grown2 refl c was.became in
+      let it : IsGrownFile Grown2 c mid new.now = next.1 Grown2 refl c was.became in
       record {
         layout = Made1;
         content = c;

@@ -38,13 +38,13 @@ pub record AreGrown (l : Layout) (c : Content) (old new : Trees) : Type 0 where
   pub left : LeavesEmpty l old new
 
 -- so a file of the layout is now
-pub record IsGrown (l : Layout) (c : Content) (old new : Database) : Type 0 where
+pub record IsGrownFile (l : Layout) (c : Content) (old new : Database) : Type 0 where
   pub schema : new.schema ≡ schema_of (grown l)
   pub trees : AreGrown l c old.trees new.trees
 
 -- whatever content a file of that version held, it is now of the next version with that content; and a crash leaves such trees
 abbrev pub GrowsFrom : ℕ → Database → Database → Type 0
-GrowsFrom version old new = (l : Layout) → version_of l ≡ version → (c : Content) → HoldsVersion l c old → IsGrown l c old new
+GrowsFrom version old new = (l : Layout) → version_of l ≡ version → (c : Content) → HoldsVersion l c old → IsGrownFile l c old new
 
 abbrev pub MayLeaveGrown : ℕ → Database → Trees → Type 0
 MayLeaveGrown version old trees = (l : Layout) → version_of l ≡ version → (c : Content) → HoldsVersion l c old → AreGrown l c old.trees trees

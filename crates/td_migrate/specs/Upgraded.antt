@@ -4,7 +4,7 @@ use Rattle.sqlite_trees.specs.Tree.{Trees}
 use Rattle.sqlite.specs.Effect.{Database}
 use Rattle.sqlite.specs.State.{State}
 use Rattle.td_desk.specs.Content.{Content}
-use Rattle.td_table_model.specs.Tables.{first_version}
+use Rattle.td_table_model.specs.Tables.{first_version, version_with_amounts}
 use Rattle.td_table_model.specs.declared.rule.Rule.{Rule}
 use Rattle.td_schema.specs.Layouts.{grown, guarantees_tree, lines_tree, newest_version, schema_of, version_of}
 use Rattle.td_schema.specs.declared.layout.Layout.{Layout}
@@ -47,12 +47,12 @@ pub record IsDamagedAt (version : ℕ) (rule : Rule) (db : Database) : Type 0 wh
   pub first : IsFirstBrokenUntyped layout db.trees rule
 
 -- a file of that version held a content
-abbrev pub Held : ℕ → Database → Type 0
-Held version old = (l : Layout) × (version_of l ≡ version) × (c : Content) × HoldsVersion l c old
+abbrev pub HeldVersion : ℕ → Database → Type 0
+HeldVersion version old = (l : Layout) × (version_of l ≡ version) × (c : Content) × HoldsVersion l c old
 
 -- it did, and whatever content it held, it is of the next version now with the same
 abbrev pub WasGrown : ℕ → Database → Database → Type 0
-WasGrown version old new = Held version old × GrowsFrom version old new
+WasGrown version old new = HeldVersion version old × GrowsFrom version old new
 
 -- what came of a step from that version to the next
 abbrev pub TellsStep : ℕ → Database → State → Result (Unit {0}) MigrateFault → Type 0
@@ -64,7 +64,7 @@ TellsStep version old new (Err NoMemory) = Unit {0}
 
 -- and what a crash may leave beside what it could leave before: the file of the next version alone
 abbrev pub MayLeaveStep : ℕ → Database → Trees → Type 0
-MayLeaveStep version old trees = Held version old × MayLeaveGrown version old trees
+MayLeaveStep version old trees = HeldVersion version old × MayLeaveGrown version old trees
 
 -- The tables that the steps to the newest version leave have no row, and one that an earlier upgrade left is as it was.
 abbrev pub LeavesAllEmpty : Layout → Trees → Trees → Type 0
@@ -113,3 +113,19 @@ LeavesWithFault old new NoMemory = (new ≡ old) ⊎ WasGrown first_version old 
 abbrev pub MayLeaveUpgraded : Database → Trees → Type 0
 MayLeaveUpgraded old trees =
     (l : Layout) × (c : Content) × HeldEarlier l c old × (AreGrown l c old.trees trees ⊎ AreUpgraded l c old.trees trees)
+
+-- what a crash may leave at this moment is what is shown there, or what the step from that version makes of it
+abbrev pub LeavesStep : ℕ → Database → (Trees → Type 0) → Type 0
+LeavesStep version shown may_leave =
+    (trees : Trees) → may_leave trees → (trees ≡ shown.trees) ⊎ MayLeaveStep version shown trees
+
+-- What a crash may leave once an upgrade has ended, also where a fault has shut the connection. It is the file as it was, or of the next
+-- version; or, where the step from version 1 stood, the file of version 2, or of the newest: a version that was reached stays.
+abbrev pub LeavesReached : Database → (Trees → Type 0) → Type 0
+LeavesReached old may_leave =
+    ((version : ℕ) × LeavesStep version old may_leave)
+    ⊎ ((mid : Database) × WasGrown first_version old mid × LeavesStep version_with_amounts mid may_leave)
+
+-- what a crash may leave is what the connection shows
+abbrev pub LeavesShown : State → Type 0
+LeavesShown s = (trees : Trees) → s.may_leave trees → trees ≡ s.now.trees

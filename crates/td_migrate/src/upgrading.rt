@@ -5,7 +5,7 @@ ghost use Rattle.sqlite.specs.State.{HasCleanDisk, Survives};
 ghost use Rattle.typed_sql.specs.Outside.{CrashLeavesShown, Looks};
 ghost use Rattle.td_store.specs.Opened.{IsEarlier, IsOfEarlier, MaySay};
 ghost use Rattle.td_table_model.specs.Tables.{first_version, version_with_amounts};
-ghost use Rattle.td_migrate.specs.Upgraded.{LeavesWithFault, MayLeaveStep, MayLeaveUpgraded, TellsStep, TellsUpgrade, TellsVersion};
+ghost use Rattle.td_migrate.specs.Upgraded.{LeavesReached, LeavesShown, LeavesWithFault, MayLeaveStep, MayLeaveUpgraded, TellsStep, TellsUpgrade, TellsVersion};
 
 use crate::fault::{MigrateFault, fault_of, fault_of_error};
 use crate::growing::grow;
@@ -14,6 +14,7 @@ use sqlite_trees::store::Alter;
 use std::alloc::Global;
 use td_schema::{FIRST_VERSION, NEWEST_VERSION, VERSION_WITH_AMOUNTS};
 use td_store::{audit, file_version};
+use typed_sql::see_settled;
 
 /// The version of the tables in a file, from 1 to the newest, as the office's own row says it. `UnknownVersion`: there is no table
 /// `meta`, or it is the first and has no such row; `Store`: the tables are none of a store, or the database answered an error other
@@ -66,6 +67,8 @@ fn last_step<S: Alter>(alloc: Global, conn: &mut Connection<S>) -> Result<u32, M
     ensures left { HasCleanDisk (state S.Store conn.new) → IsTrue (state S.Store conn.new).is_open
         → IfErr result (LeavesWithFault (state S.Store conn.old).now (state S.Store conn.new).now) }
     ensures crash { Survives (state S.Store conn.old) (state S.Store conn.new) (MayLeaveUpgraded (state S.Store conn.old).now) }
+    ensures reached { HasCleanDisk (state S.Store conn.new) → LeavesShown (state S.Store conn.old)
+        → LeavesReached (state S.Store conn.old).now (state S.Store conn.new).may_leave }
 {
     step(alloc, conn, VERSION_WITH_AMOUNTS)?;
     Ok(NEWEST_VERSION)
@@ -84,8 +87,11 @@ fn two_steps<S: Alter>(alloc: Global, conn: &mut Connection<S>) -> Result<u32, M
     ensures left { HasCleanDisk (state S.Store conn.new) → IsTrue (state S.Store conn.new).is_open
         → IfErr result (LeavesWithFault (state S.Store conn.old).now (state S.Store conn.new).now) }
     ensures crash { Survives (state S.Store conn.old) (state S.Store conn.new) (MayLeaveUpgraded (state S.Store conn.old).now) }
+    ensures reached { HasCleanDisk (state S.Store conn.new) → LeavesShown (state S.Store conn.old)
+        → LeavesReached (state S.Store conn.old).now (state S.Store conn.new).may_leave }
 {
     step(alloc, conn, FIRST_VERSION)?;
+    see_settled(conn);
     step(alloc, conn, VERSION_WITH_AMOUNTS)?;
     Ok(NEWEST_VERSION)
 }
@@ -106,6 +112,8 @@ fn steps_from<S: Alter>(
     ensures left { HasCleanDisk (state S.Store conn.new) → IsTrue (state S.Store conn.new).is_open
         → IfErr result (LeavesWithFault (state S.Store conn.old).now (state S.Store conn.new).now) }
     ensures crash { Survives (state S.Store conn.old) (state S.Store conn.new) (MayLeaveUpgraded (state S.Store conn.old).now) }
+    ensures reached { HasCleanDisk (state S.Store conn.new) → LeavesShown (state S.Store conn.old)
+        → LeavesReached (state S.Store conn.old).now (state S.Store conn.new).may_leave }
 {
     if version < VERSION_WITH_AMOUNTS {
         return two_steps(alloc, conn);
@@ -124,6 +132,8 @@ fn go_on<S: Alter>(alloc: Global, conn: &mut Connection<S>) -> Result<u32, Migra
     ensures left { HasCleanDisk (state S.Store conn.new) → IsTrue (state S.Store conn.new).is_open
         → IfErr result (LeavesWithFault (state S.Store conn.old).now (state S.Store conn.new).now) }
     ensures crash { Survives (state S.Store conn.old) (state S.Store conn.new) (MayLeaveUpgraded (state S.Store conn.old).now) }
+    ensures reached { HasCleanDisk (state S.Store conn.new) → LeavesShown (state S.Store conn.old)
+        → LeavesReached (state S.Store conn.old).now (state S.Store conn.new).may_leave }
 {
     let found = version(alloc, conn)?;
     if found < NEWEST_VERSION {
@@ -138,7 +148,8 @@ fn go_on<S: Alter>(alloc: Global, conn: &mut Connection<S>) -> Result<u32, Migra
 /// are none of the version that the office's own row says, or the database answered an error other than want of memory; `NoMemory`:
 /// want of memory. With a fault the file is as it was found; or, with one of the last two, a file of version 1 may be of version 2 with
 /// the same content, where the first step was done and the second one wasn't. A crash during the call leaves what it could leave before,
-/// or the file of the next version, or of the newest, with the same content; after it exactly what the connection shows.
+/// or the file of the next version, or of the newest, with the same content; after it exactly what the connection shows. Where a fault
+/// has shut that, a crash leaves the last version that was reached, or the next one.
 pub fn upgrade<S: Alter>(alloc: Global, conn: &mut Connection<S>) -> Result<u32, MigrateFault>
     requires { conn.old.in_transaction ≡ false }
     ensures ended { conn.new.in_transaction ≡ false }
@@ -149,6 +160,8 @@ pub fn upgrade<S: Alter>(alloc: Global, conn: &mut Connection<S>) -> Result<u32,
     ensures left { HasCleanDisk (state S.Store conn.new) → IsTrue (state S.Store conn.new).is_open
         → IfErr result (LeavesWithFault (state S.Store conn.old).now (state S.Store conn.new).now) }
     ensures crash { Survives (state S.Store conn.old) (state S.Store conn.new) (MayLeaveUpgraded (state S.Store conn.old).now) }
+    ensures reached { HasCleanDisk (state S.Store conn.new) → LeavesShown (state S.Store conn.old)
+        → LeavesReached (state S.Store conn.old).now (state S.Store conn.new).may_leave }
     ensures settled { CrashLeavesShown (state S.Store conn.new) }
 {
     let result = go_on(alloc, conn);

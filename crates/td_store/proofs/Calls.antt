@@ -57,7 +57,7 @@ module _ {S : Type 0} (g : Ghosts S) (country : List ℕ) (change : Change) (old
       let was = clean_before clean in
       let d = decided_there country change a desk decided was may.0 in (
         content_after change d.0,
-        may.1 d.0 d.1,
+        (may.1 d.0 d.1).0,
         (may.0, ap (content_after change) (there_is country change a desk decided was may.0)),
       ))
 

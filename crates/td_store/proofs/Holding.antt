@@ -145,12 +145,12 @@ module _ (country : List ℕ) (change : Change) (a : State) (desk : IsDeskOf cou
     -- after the change the trees hold the content after it
     pub written : content_in b.now.trees ≡ content_after change (content_in a.now.trees)
     written =
-        content_held (content_after change decided_there.0) b (carries decided_there.0 decided_there.1) ∙ ap (content_after change) there_is
+        content_held (content_after change decided_there.0) b (carries decided_there.0 decided_there.1).0 ∙ ap (content_after change) there_is
 
     -- and it is a desk's
     pub desk_after : (d : Content) × HoldsContent d b × (d.country ≡ country)
     desk_after = (
       content_after change decided_there.0,
-      carries decided_there.0 decided_there.1,
+      (carries decided_there.0 decided_there.1).0,
       after_country change decided_there.0 ∙ decided_there.1.country,
     )

@@ -4,12 +4,14 @@ use Rattle.std.specs.Prelude.{filter}
 use Rattle.std.proofs.lemmas.List.Sorted.{IsPermutation-trans, IsPermutation-refl, IsPermutation-cons, IsPermutation-map, IsPermutation-append_right}
 use Rattle.sqlite_trees.proofs.ListLemmas.{IsPermutation-filter}
 use Rattle.sqlite.specs.State.{State}
+use Rattle.sqlite_trees.specs.Tree.{Trees}
 use Rattle.td_guarantee.specs.declared.guarantee.Guarantee.{Guarantee}
 use Rattle.td_movement.specs.declared.movement.Movement.{Movement}
 use Rattle.td_table_model.specs.Tables.{KeepAmounts, Keyed, Kept, LineCells, Tables}
 use Rattle.td_table_model.specs.Changes.{HaveSameRows}
 use Rattle.td_schema.specs.declared.layout.Layout.{Layout}
-use Rattle.td_store_rows.specs.StoreTables.{HasTables, TurnsTables, tables_in}
+use Rattle.td_schema.specs.declared.layout.Layout.TheVariants.{Made1, Made2, Grown2, Made3, Grown3From2, Grown3From1}
+use Rattle.td_store_rows.specs.StoreTables.{AreUnreadKept, HasTables, TurnsTables, tables_in}
 
 -- what turns tables with the same rows into tables with the same rows
 abbrev pub RespectsRows : (Tables → Tables) → Type 0
@@ -39,10 +41,27 @@ same_then t u v a b = record {
   lines = IsPermutation-trans _ _ _ a.lines b.lines;
 }
 
+-- what nobody reads is as it was where nothing was done, and where two did nothing to it
+unread_as_was : (l : Layout) (trees : Trees) → AreUnreadKept l trees trees
+unread_as_was Made1 trees = tt
+unread_as_was Made2 trees = tt
+unread_as_was Grown2 trees = refl
+unread_as_was Made3 trees = tt
+unread_as_was Grown3From2 trees = refl
+unread_as_was Grown3From1 trees = (refl, refl)
+
+unread_then : (l : Layout) (a b d : Trees) → AreUnreadKept l a b → AreUnreadKept l b d → AreUnreadKept l a d
+unread_then Made1 a b d one two = tt
+unread_then Made2 a b d one two = tt
+unread_then Grown2 a b d one two = two ∙ one
+unread_then Made3 a b d one two = tt
+unread_then Grown3From2 a b d one two = two ∙ one
+unread_then Grown3From1 a b d one two = (two.0 ∙ one.0, two.1 ∙ one.1)
+
 -- nothing was done
 pub turned_nothing : (f : Tables → Tables) → ((t : Tables) → HaveSameRows (f t) t) → (a : State) → TurnsTables f a a
 turned_nothing f same a l newest has typed =
-    record { same = same (tables_in l a.now.trees); office = refl; typed = typed; listed = λ was. was; schema = has }
+    record { same = same (tables_in l a.now.trees); office = refl; typed = typed; listed = λ was. was; schema = has; unread = unread_as_was l a.now.trees }
 
 -- two statements, in a file of one layout
 pub has_then : (l : Layout) (f g : Tables → Tables) → RespectsRows g → (a b d : State) → HasTables l f a b → HasTables l g b d
@@ -53,6 +72,7 @@ has_then l f g respects a b d one two = record {
   typed = two.typed;
   listed = λ was. two.listed (one.listed was);
   schema = two.schema;
+  unread = unread_then l a.now.trees b.now.trees d.now.trees one.unread two.unread;
 }
 
 -- the tables that they leave, said otherwise
@@ -64,6 +84,7 @@ has_as l f g old new same one = record {
   typed = one.typed;
   listed = one.listed;
   schema = one.schema;
+  unread = one.unread;
 }
 
 -- the same of each layout of the newest version

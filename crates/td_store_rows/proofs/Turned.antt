@@ -17,7 +17,7 @@ use Rattle.td_schema.specs.declared.layout.Layout.TheVariants.{Made1, Made2, Gro
 use Rattle.typed_sql.specs.Writing.{AreOthersKept, HaveIds, HasSchema}
 use Rattle.typed_sql.specs.Typed.{Typing, AreTyped, HasNow, IsTypedRow, Turns, row_of, typed_rows}
 use Rattle.td_store_rows.specs.Columns.{meta_typing, holder_typing, guarantee_typing, kept_typing, code_typing, movement_typing, line_typing}
-use Rattle.td_store_rows.specs.StoreTables.{AreAllTyped, AreStoreTrees, HasTables, tables_in, country_in}
+use Rattle.td_store_rows.specs.StoreTables.{AreAllTyped, AreStoreTrees, AreUnreadKept, HasTables, tables_in, country_in}
 use Rattle.td_store_rows.specs.StoreReads.{KeepsUse}
 
 -- a table whose tree is as it was has the same rows, typed as before
@@ -40,7 +40,16 @@ office_still old new is = ap (map (row_of meta_typing)) is
 pub listed_there : (l : Layout) (db : Database) → db.schema ≡ schema_of l → IsDatabase db → AreStoreTrees l db.trees
 listed_there l db has sound = subst (λ s. IsDatabase (record { schema = s; trees = db.trees })) has sound
 
--- the trees of guarantees and of lines are none of the other tables', and two
+-- this tree is none that nobody reads
+abbrev IsApart : Layout → ℕ → Type 0
+IsApart Made1 tree = Unit {0}
+IsApart Made2 tree = Unit {0}
+IsApart Grown2 tree = guarantees_tree Made1 ≢ tree
+IsApart Made3 tree = Unit {0}
+IsApart Grown3From2 tree = lines_tree Made2 ≢ tree
+IsApart Grown3From1 tree = (guarantees_tree Made1 ≢ tree) × (lines_tree Made1 ≢ tree)
+
+-- the trees of guarantees and of lines are none of the other tables', and two; and none of those that are read is one that isn't
 record StandsApart (l : Layout) : Type 0 where
   meta : guarantees_tree l ≢ 0
   holders : guarantees_tree l ≢ 1
@@ -51,14 +60,19 @@ record StandsApart (l : Layout) : Type 0 where
   lines_holders : lines_tree l ≢ 1
   lines_codes : lines_tree l ≢ 2
   lines_movements : lines_tree l ≢ 4
+  unread_holders : IsApart l 1
+  unread_codes : IsApart l 2
+  unread_movements : IsApart l 4
+  unread_guarantees : IsApart l (guarantees_tree l)
+  unread_lines : IsApart l (lines_tree l)
 
 apart : (l : Layout) → StandsApart l
-apart Made1 = record { meta = λ e. cc; holders = λ e. cc; codes = λ e. cc; movements = λ e. cc; lines = λ e. cc; lines_meta = λ e. cc; lines_holders = λ e. cc; lines_codes = λ e. cc; lines_movements = λ e. cc }
-apart Made2 = record { meta = λ e. cc; holders = λ e. cc; codes = λ e. cc; movements = λ e. cc; lines = λ e. cc; lines_meta = λ e. cc; lines_holders = λ e. cc; lines_codes = λ e. cc; lines_movements = λ e. cc }
-apart Grown2 = record { meta = λ e. cc; holders = λ e. cc; codes = λ e. cc; movements = λ e. cc; lines = λ e. cc; lines_meta = λ e. cc; lines_holders = λ e. cc; lines_codes = λ e. cc; lines_movements = λ e. cc }
-apart Made3 = record { meta = λ e. cc; holders = λ e. cc; codes = λ e. cc; movements = λ e. cc; lines = λ e. cc; lines_meta = λ e. cc; lines_holders = λ e. cc; lines_codes = λ e. cc; lines_movements = λ e. cc }
-apart Grown3From2 = record { meta = λ e. cc; holders = λ e. cc; codes = λ e. cc; movements = λ e. cc; lines = λ e. cc; lines_meta = λ e. cc; lines_holders = λ e. cc; lines_codes = λ e. cc; lines_movements = λ e. cc }
-apart Grown3From1 = record { meta = λ e. cc; holders = λ e. cc; codes = λ e. cc; movements = λ e. cc; lines = λ e. cc; lines_meta = λ e. cc; lines_holders = λ e. cc; lines_codes = λ e. cc; lines_movements = λ e. cc }
+apart Made1 = record { meta = λ e. cc; holders = λ e. cc; codes = λ e. cc; movements = λ e. cc; lines = λ e. cc; lines_meta = λ e. cc; lines_holders = λ e. cc; lines_codes = λ e. cc; lines_movements = λ e. cc; unread_holders = tt; unread_codes = tt; unread_movements = tt; unread_guarantees = tt; unread_lines = tt }
+apart Made2 = record { meta = λ e. cc; holders = λ e. cc; codes = λ e. cc; movements = λ e. cc; lines = λ e. cc; lines_meta = λ e. cc; lines_holders = λ e. cc; lines_codes = λ e. cc; lines_movements = λ e. cc; unread_holders = tt; unread_codes = tt; unread_movements = tt; unread_guarantees = tt; unread_lines = tt }
+apart Grown2 = record { meta = λ e. cc; holders = λ e. cc; codes = λ e. cc; movements = λ e. cc; lines = λ e. cc; lines_meta = λ e. cc; lines_holders = λ e. cc; lines_codes = λ e. cc; lines_movements = λ e. cc; unread_holders = λ e. cc; unread_codes = λ e. cc; unread_movements = λ e. cc; unread_guarantees = λ e. cc; unread_lines = λ e. cc }
+apart Made3 = record { meta = λ e. cc; holders = λ e. cc; codes = λ e. cc; movements = λ e. cc; lines = λ e. cc; lines_meta = λ e. cc; lines_holders = λ e. cc; lines_codes = λ e. cc; lines_movements = λ e. cc; unread_holders = tt; unread_codes = tt; unread_movements = tt; unread_guarantees = tt; unread_lines = tt }
+apart Grown3From2 = record { meta = λ e. cc; holders = λ e. cc; codes = λ e. cc; movements = λ e. cc; lines = λ e. cc; lines_meta = λ e. cc; lines_holders = λ e. cc; lines_codes = λ e. cc; lines_movements = λ e. cc; unread_holders = λ e. cc; unread_codes = λ e. cc; unread_movements = λ e. cc; unread_guarantees = λ e. cc; unread_lines = λ e. cc }
+apart Grown3From1 = record { meta = λ e. cc; holders = λ e. cc; codes = λ e. cc; movements = λ e. cc; lines = λ e. cc; lines_meta = λ e. cc; lines_holders = λ e. cc; lines_codes = λ e. cc; lines_movements = λ e. cc; unread_holders = (λ e. cc, λ e. cc); unread_codes = (λ e. cc, λ e. cc); unread_movements = (λ e. cc, λ e. cc); unread_guarantees = (λ e. cc, λ e. cc); unread_lines = (λ e. cc, λ e. cc) }
 
 -- which trees are not this one, and so are as they were
 record AreKept (l : Layout) (tree : ℕ) (old new : Trees) : Type 0 where
@@ -68,6 +82,7 @@ record AreKept (l : Layout) (tree : ℕ) (old new : Trees) : Type 0 where
   movements : 4 ≢ tree → new 4 ≡ old 4
   guarantees : guarantees_tree l ≢ tree → new (guarantees_tree l) ≡ old (guarantees_tree l)
   lines : lines_tree l ≢ tree → new (lines_tree l) ≡ old (lines_tree l)
+  unread : IsApart l tree → AreUnreadKept l old new
 
 kept : (l : Layout) (tree : ℕ) (old new : Trees) → AreOthersKept (schema_of l) tree old new → AreKept l tree old new
 kept Made1 tree old new others = record {
@@ -77,6 +92,7 @@ kept Made1 tree old new others = record {
   movements = others.1.1.1.0;
   guarantees = others.1.1.1.1.0;
   lines = others.1.1.1.1.1.0;
+  unread = λ _. tt;
 }
 kept Made2 tree old new others = record {
   meta = others.0;
@@ -85,6 +101,7 @@ kept Made2 tree old new others = record {
   movements = others.1.1.1.0;
   guarantees = others.1.1.1.1.0;
   lines = others.1.1.1.1.1.0;
+  unread = λ _. tt;
 }
 kept Grown2 tree old new others = record {
   meta = others.0;
@@ -93,6 +110,7 @@ kept Grown2 tree old new others = record {
   movements = others.1.1.1.0;
   guarantees = others.1.1.1.1.1.1.0;
   lines = others.1.1.1.1.1.0;
+  unread = others.1.1.1.1.0;
 }
 kept Made3 tree old new others = record {
   meta = others.0;
@@ -101,6 +119,7 @@ kept Made3 tree old new others = record {
   movements = others.1.1.1.0;
   guarantees = others.1.1.1.1.0;
   lines = others.1.1.1.1.1.0;
+  unread = λ _. tt;
 }
 kept Grown3From2 tree old new others = record {
   meta = others.0;
@@ -109,6 +128,7 @@ kept Grown3From2 tree old new others = record {
   movements = others.1.1.1.0;
   guarantees = others.1.1.1.1.0;
   lines = others.1.1.1.1.1.1.0;
+  unread = others.1.1.1.1.1.0;
 }
 kept Grown3From1 tree old new others = record {
   meta = others.0;
@@ -117,6 +137,7 @@ kept Grown3From1 tree old new others = record {
   movements = others.1.1.1.0;
   guarantees = others.1.1.1.1.1.1.0;
   lines = others.1.1.1.1.1.1.1.0;
+  unread = λ is. (others.1.1.1.1.0 is.0, others.1.1.1.1.1.0 is.1);
 }
 
 -- a table has these rows now, in any order, and they are typed
@@ -153,8 +174,8 @@ assembled : (l : Layout) (f : Tables → Tables) (old new : State)
     → Now code_typing (f (tables_in l old.now.trees)).codes new.now.trees
     → Now movement_typing (f (tables_in l old.now.trees)).movements new.now.trees
     → Now (line_typing l) (f (tables_in l old.now.trees)).lines new.now.trees
-    → new.now.schema ≡ schema_of l → IsDatabase new.now → HasTables l f old new
-assembled l f old new version country office meta holders guarantees kept codes movements lines schema sound = record {
+    → new.now.schema ≡ schema_of l → IsDatabase new.now → AreUnreadKept l old.now.trees new.now.trees → HasTables l f old new
+assembled l f old new version country office meta holders guarantees kept codes movements lines schema sound unread = record {
   same = record {
     version = sym version;
     country = ap country_in office ∙ sym country;
@@ -177,6 +198,7 @@ assembled l f old new version country office meta holders guarantees kept codes 
   office = office;
   listed = λ _. listed_there l new.now schema sound;
   schema = λ _. schema;
+  unread = unread;
 }
 
 module _ (l : Layout) (old new : State) (has : HasSchema old (schema_of l)) (typed : AreAllTyped l old.now.trees) where
@@ -199,7 +221,7 @@ module _ (l : Layout) (old new : State) (has : HasSchema old (schema_of l)) (typ
       (still code_typing a b typed.codes (rest.codes (λ e. cc)))
       (still movement_typing a b typed.movements (rest.movements (λ e. cc)))
       (still (line_typing l) a b typed.lines (rest.lines (apart l).lines_holders))
-      now.schema now.sound
+      now.schema now.sound (rest.unread (apart l).unread_holders)
 
   -- the guarantees: with the amounts in use, and so without them
   pub kept_now : (f : List (Keyed Kept) → List (Keyed Kept)) (g : List (Keyed Guarantee) → List (Keyed Guarantee))
@@ -221,7 +243,7 @@ module _ (l : Layout) (old new : State) (has : HasSchema old (schema_of l)) (typ
       (still code_typing a b typed.codes (rest.codes (λ e. (apart l).codes (sym e))))
       (still movement_typing a b typed.movements (rest.movements (λ e. (apart l).movements (sym e))))
       (still (line_typing l) a b typed.lines (rest.lines (λ e. (apart l).lines (sym e))))
-      now.schema now.sound
+      now.schema now.sound (rest.unread (apart l).unread_guarantees)
 
   pub kept_turned : KeepsUse l → (f : List (Keyed Kept) → List (Keyed Kept)) (g : List (Keyed Guarantee) → List (Keyed Guarantee))
       → ((ks : List (Keyed Kept)) → g (map without_amount ks) ≡ map without_amount (f ks)) → Turns (kept_typing l) (schema_of l) f old new
@@ -241,7 +263,7 @@ module _ (l : Layout) (old new : State) (has : HasSchema old (schema_of l)) (typ
       (record { same = now.same; typed = now.typed })
       (still movement_typing a b typed.movements (rest.movements (λ e. cc)))
       (still (line_typing l) a b typed.lines (rest.lines (apart l).lines_codes))
-      now.schema now.sound
+      now.schema now.sound (rest.unread (apart l).unread_codes)
 
   pub movements_turned : (f : List (Keyed Movement) → List (Keyed Movement)) → Turns movement_typing (schema_of l) f old new
       → HasTables l (λ t. record t { movements = f t.movements }) old new
@@ -256,7 +278,7 @@ module _ (l : Layout) (old new : State) (has : HasSchema old (schema_of l)) (typ
       (still code_typing a b typed.codes (rest.codes (λ e. cc)))
       (record { same = now.same; typed = now.typed })
       (still (line_typing l) a b typed.lines (rest.lines (apart l).lines_movements))
-      now.schema now.sound
+      now.schema now.sound (rest.unread (apart l).unread_movements)
 
   pub lines_turned : (f : List (Keyed LineCells) → List (Keyed LineCells)) → Turns (line_typing l) (schema_of l) f old new
       → HasTables l (λ t. record t { lines = f t.lines }) old new
@@ -271,4 +293,4 @@ module _ (l : Layout) (old new : State) (has : HasSchema old (schema_of l)) (typ
       (still code_typing a b typed.codes (rest.codes (λ e. (apart l).lines_codes (sym e))))
       (still movement_typing a b typed.movements (rest.movements (λ e. (apart l).lines_movements (sym e))))
       (record { same = now.same; typed = now.typed })
-      now.schema now.sound
+      now.schema now.sound (rest.unread (apart l).unread_lines)

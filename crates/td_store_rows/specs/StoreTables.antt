@@ -7,7 +7,8 @@ use Rattle.td_desk.specs.Content.{Content, IsSound}
 use Rattle.td_table_model.specs.Tables.{Tables, AreTablesOf}
 use Rattle.td_table_model.specs.Changes.{HaveSameRows}
 use Rattle.td_schema.specs.declared.layout.Layout.{Layout}
-use Rattle.td_schema.specs.Layouts.{IsNewest, newest_layout, newest_version, schema_of, version_of}
+use Rattle.td_schema.specs.declared.layout.Layout.TheVariants.{Made1, Made2, Grown2, Made3, Grown3From2, Grown3From1}
+use Rattle.td_schema.specs.Layouts.{IsNewest, guarantees_tree, lines_tree, newest_layout, newest_version, schema_of, version_of}
 use Rattle.typed_sql.specs.Typed.{AreTyped, typed_rows}
 use Rattle.typed_sql.specs.Writing.{HasSchema}
 use Rattle.td_store_rows.specs.Columns.{MetaRow, meta_row, meta_typing, holder_typing, guarantee_typing, kept_typing, code_typing, movement_typing, line_typing}
@@ -50,13 +51,24 @@ HasOfficeRow version country trees = typed_rows meta_typing trees ≡ meta_row v
 abbrev pub AreStoreTrees : Layout → Trees → Type 0
 AreStoreTrees l trees = IsDatabase (record { schema = schema_of l; trees = trees })
 
--- The tables are now what f makes of those that were there, their rows in any order; the office's own row is as it was.
+-- The tables that an upgrade left behind, which a file of this layout has and nobody reads, are as they were.
+abbrev pub AreUnreadKept : Layout → Trees → Trees → Type 0
+AreUnreadKept Made1 old new = Unit {0}
+AreUnreadKept Made2 old new = Unit {0}
+AreUnreadKept Grown2 old new = new (guarantees_tree Made1) ≡ old (guarantees_tree Made1)
+AreUnreadKept Made3 old new = Unit {0}
+AreUnreadKept Grown3From2 old new = new (lines_tree Made2) ≡ old (lines_tree Made2)
+AreUnreadKept Grown3From1 old new = (new (guarantees_tree Made1) ≡ old (guarantees_tree Made1)) × (new (lines_tree Made1) ≡ old (lines_tree Made1))
+
+-- The tables are now what f makes of those that were there, their rows in any order; the office's own row is as it was, and so are the
+-- tables that nobody reads.
 pub record HasTables (l : Layout) (f : Tables → Tables) (old new : State) : Type 0 where
   pub same : HaveSameRows (f (tables_in l old.now.trees)) (tables_in l new.now.trees)
   pub office : typed_rows meta_typing new.now.trees ≡ typed_rows meta_typing old.now.trees
   pub typed : AreAllTyped l new.now.trees
   pub listed : AreStoreTrees l old.now.trees → AreStoreTrees l new.now.trees
   pub schema : HasSchema new (schema_of l)
+  pub unread : AreUnreadKept l old.now.trees new.now.trees
 
 -- where the rows of a store's tables of the newest version were typed, they are now what f makes of them
 abbrev pub TurnsTables : (Tables → Tables) → State → State → Type 0

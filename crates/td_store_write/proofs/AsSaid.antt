@@ -32,6 +32,7 @@ has_as l f g old new same has = record {
   typed = has.typed;
   listed = has.listed;
   schema = has.schema;
+  unread = has.unread;
 }
 
 -- a row that is named by its key and its reference is named by its reference

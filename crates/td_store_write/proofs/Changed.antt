@@ -28,7 +28,7 @@ use Rattle.td_store_rows.specs.declared.lines.stored.StoredLine.{StoredLine}
 use Rattle.td_store_rows.specs.CodeTable.{TurnsCodes}
 use Rattle.td_store_rows.specs.MovementTable.{TurnsMovements}
 use Rattle.td_store_rows.specs.StoreReads.{OnlyReadNewest}
-use Rattle.td_store_rows.specs.StoreTables.{AreAllTyped, AreStoreTrees, HasTables, TurnsTables, tables_in}
+use Rattle.td_store_rows.specs.StoreTables.{AreAllTyped, AreStoreTrees, HasTables, TurnsTables, tables_in, AreUnreadKept}
 use Rattle.td_store_rows.proofs.Chained.{RespectsRows, append_respects, codes_respect, cons_respects, filter_respects, has_as, has_then, kept_respect, lines_respect, map_respects, movements_respect, turned_then}
 use Rattle.td_store_rows.proofs.StoreReads.{newest_keeps, newest_more_lines}
 use Rattle.td_store_rows.proofs.Turned.{codes_turned, holders_turned, kept_now, kept_turned, movements_turned}
@@ -104,6 +104,7 @@ seen_before l f a b d is has = record {
   typed = has.typed;
   listed = λ was. has.listed (subst (λ (db : Database). AreStoreTrees l db.trees) (sym is) was);
   schema = has.schema;
+  unread = subst (λ (db : Database). AreUnreadKept l db.trees d.now.trees) is has.unread;
 }
 
 pub moved_with_use : (country : List ℕ) (row : HolderRow) (status : NewStatus) (found : List StoredLine) (a b d e : State)

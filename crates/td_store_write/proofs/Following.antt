@@ -22,7 +22,7 @@ use Rattle.td_store_rows.specs.KeptTable.{MayChange}
 use Rattle.td_store_rows.specs.LineTable.{is_line_of, line_row_of}
 use Rattle.td_store_rows.specs.StoreTables.{tables_in}
 use Rattle.td_store_rows.specs.declared.lines.stored.StoredLine.{StoredLine}
-use Rattle.td_store_rows.proofs.Chained.{has_as, has_then, kept_respect, map_respects, same_rows}
+use Rattle.td_store_rows.proofs.Chained.{has_as, has_then, kept_respect, map_respects, same_rows, turned_nothing}
 use Rattle.td_store_rows.proofs.StoreReads.{newest_keeps}
 use Rattle.td_store_write.specs.InUse.{FitLines, MayFollow, TurnsFitting, amount_on, cents_at, change_at, changes_use, with_change, with_lines, is_of}
 
@@ -179,13 +179,8 @@ pub record HasFollowed (H : ℕ) (state : State) (lines all : List StoredLine) (
 
 -- nothing was done, where f leaves each row
 pub nothing_turned : (Fits : Tables → Type 0) (f : Keyed Kept → Keyed Kept) → ((k : Keyed Kept) → f k ≡ k) → (a : FileState) → TurnsFitting Fits (set_kept f) a a
-nothing_turned Fits f same a l newest has typed may = record {
-  same = same_as _ _ (sym (set_none f same (tables_in l a.now.trees)));
-  office = refl;
-  typed = typed;
-  listed = λ was. was;
-  schema = has;
-}
+nothing_turned Fits f same a l newest has typed may =
+    turned_nothing (set_kept f) (λ t. same_as _ _ (sym (set_none f same t))) a l newest has typed
 
 pub change_left : (state : State) → changes_use state ≡ false → (H n cents : ℕ) (k : Keyed Kept) → change_at state H n cents k ≡ k
 change_left state none H n cents k = by_test (has_serial H n k)

@@ -6,7 +6,7 @@ use Rattle.td_acts.specs.declared.rows.Change.{Change}
 use Rattle.td_acts.specs.declared.rows.Verdict.{Verdict}
 use Rattle.td_desk.specs.Content.{Content, content_after}
 use Rattle.td_desk.specs.Weighing.{IsDecision}
-use Rattle.td_store_rows.specs.StoreTables.{AreTreesOf, HoldsContent}
+use Rattle.td_store_rows.specs.StoreTables.{AreTreesOf, AreUnreadKept, HoldsContent}
 
 -- the connection holds this content, and the change is that of a decision on it, at an office of this country
 pub record IsDecidedOver (office : List ℕ) (made : Change) (s : State) (c : Content) : Type 0 where
@@ -16,12 +16,15 @@ pub record IsDecidedOver (office : List ℕ) (made : Change) (s : State) (c : Co
   pub change : verdict.change ≡ made
   pub decision : IsDecision c verdict
 
--- whatever content the change was decided on over, the connection now holds the content after it
+-- Whatever content the change was decided on over, the connection now holds the content after it; and the tables that nobody reads are
+-- as they were.
 abbrev pub CarriesChange : List ℕ → Change → State → State → Type 0
 CarriesChange country change old new =
-    (c : Content) → IsDecidedOver country change old c → HoldsContent (content_after change c) new
+    (c : Content) (over : IsDecidedOver country change old c) → HoldsContent (content_after change c) new
+    × AreUnreadKept over.holds.trees.layout old.now.trees new.now.trees
 
--- the connection was open, and these trees are a desk's of that content
+-- the connection was open, and these trees are a desk's of that content, with the same in the tables that nobody reads
 abbrev pub MayLeave : List ℕ → Change → State → Trees → Type 0
 MayLeave country change old trees =
-    IsTrue old.is_open × ((c : Content) → IsDecidedOver country change old c → AreTreesOf (content_after change c) trees)
+    IsTrue old.is_open × ((c : Content) (over : IsDecidedOver country change old c) → AreTreesOf (content_after change c) trees
+    × AreUnreadKept over.holds.trees.layout old.now.trees trees)

@@ -19,14 +19,15 @@ const TAIL: usize = 65_536;
 /// Lines of the longest declaration.
 const MOST_LINES: u32 = 99;
 
-/// Lines that are no rows, or none in the one form.
-const BAD: [&[u8]; 6] = [
+/// Lines that are no rows, or none in the one form, and that of a view.
+const BAD: [&[u8]; 7] = [
     b"\n",
     b"1,2,PUT,/a,,\n",
     b"01,1740819600,PUT,/office/holders/000001,\"{\"\"eori\"\":\"\"CH1234567\"\"}\",\n",
     b"1,1740819600,PUT,/office/holders/000001,\"{ \"\"eori\"\":\"\"CH1234567\"\"}\",\n",
     b"1,1740819600,PUT,/office/holders/000001?a,\"{\"\"eori\"\":\"\"CH1234567\"\"}\",\n",
     b"1,17408196,PUT,/office/holders/000001,\"{\"\"eori\"\":\"\"CH1234567\"\"}\",\n",
+    b"3,1740819600,GET,/holders/000001,,\"{\"\"eori\"\":\"\"CH1234567\"\",\"\"guarantees\"\":1,\"\"holder\"\":\"\"000001\"\",\"\"movements\"\":0}\"\n",
 ];
 
 /// A file with these bytes, synced.

@@ -5,7 +5,7 @@ use Rattle.sqlite.proofs.StateLemmas.{survives_weaker}
 use Rattle.td_table_model.specs.Tables.{version_with_amounts}
 use Rattle.td_store.specs.Opened.{IsEarlier}
 use Rattle.td_migrate.specs.Upgraded.{MayLeaveStep, MayLeaveUpgraded}
-use Rattle.td_migrate.proofs.Reached.{step_leaves}
+use Rattle.td_migrate.proofs.Reached.{reached_one, step_leaves}
 use Rattle.td_migrate.proofs.Stepping.{upgraded_from_second}
 use Rattle.td_migrate.proofs.upgrading.last_step.Goals as goal
 
@@ -31,3 +31,11 @@ returns-clause-crash g c =
     let d : State = state g.S.Store c.step.new.conn in
     survives_weaker o d (MayLeaveStep version_with_amounts o.now) (MayLeaveUpgraded o.now)
     (λ clean trees may. step_leaves version_with_amounts earlier o.now trees may) c.step.ensures.crash
+
+pub returns-in_err-step-clause-reached : goal.returns-in_err-step-clause-reached
+returns-in_err-step-clause-reached g c clean before =
+    reached_one version_with_amounts (state g.S.Store c.args.conn.now) (state g.S.Store c.step.new.conn) c.step.ensures.crash clean before
+
+pub returns-clause-reached : goal.returns-clause-reached
+returns-clause-reached g c clean before =
+    reached_one version_with_amounts (state g.S.Store c.args.conn.now) (state g.S.Store c.step.new.conn) c.step.ensures.crash clean before

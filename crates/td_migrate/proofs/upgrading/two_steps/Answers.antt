@@ -1,12 +1,14 @@
 use Rattle.std.proofs.Common.{arith, inr, refl, rules}
+use Rattle.std.specs.Prelude.{IsTrue}
 use Rattle.sqlite.specs.Held.{state}
 use Rattle.sqlite.specs.State.{HasCleanDisk, State, Survives}
 use Rattle.sqlite.proofs.StateLemmas.{survives_then, survives_weaker}
 use Rattle.td_table_model.specs.Tables.{first_version, version_with_amounts}
 use Rattle.td_store.specs.Opened.{IsEarlier}
+use Rattle.typed_sql.specs.Outside.{CrashLeavesShown}
 use Rattle.td_store_audit_rows.proofs.Raw.{content_keeps}
-use Rattle.td_migrate.specs.Upgraded.{MayLeaveStep, MayLeaveUpgraded, WasGrown}
-use Rattle.td_migrate.proofs.Reached.{step_leaves}
+use Rattle.td_migrate.specs.Upgraded.{LeavesReached, LeavesShown, MayLeaveStep, MayLeaveUpgraded, WasGrown}
+use Rattle.td_migrate.proofs.Reached.{reached_one, reached_two, step_leaves}
 use Rattle.td_migrate.proofs.Stepping.{first_was, says_second, second_fault, second_leaves, second_left, upgraded_from_first}
 use Rattle.td_migrate.proofs.upgrading.two_steps.Goals as goal
 
@@ -71,3 +73,29 @@ returns-in_err-step-2-clause-left g c clean is_open =
     let told = second_left o.now b.now (c.in_ok-step.ensures.told clean_b) content_keeps d c.in_err-step-2.field-0.0
     (c.in_err-step-2.ensures.told clean) (c.in_err-step-2.ensures.err clean is_open) in
     search (rules, told)
+
+pub returns-in_err-step-clause-reached : goal.returns-in_err-step-clause-reached
+returns-in_err-step-clause-reached g c clean before =
+    reached_one first_version (state g.S.Store c.args.conn.now) (state g.S.Store c.step.new.conn) c.step.ensures.crash clean before
+
+-- a crash leaves what the first step made, once that stands
+module _ (o b d : State) (was : HasCleanDisk b → WasGrown first_version o.now b.now) (is_open : HasCleanDisk b → IsTrue b.is_open)
+    (settled : CrashLeavesShown b) (crash : Survives b d (MayLeaveStep version_with_amounts b.now)) (clean : HasCleanDisk d) where
+  clean_b : HasCleanDisk b
+  clean_b = omega (arith, clean, crash.clean)
+
+  after_first : LeavesShown b
+  after_first trees may = (settled (is_open clean_b) trees).0 may
+
+  second_reached : LeavesReached o.now d.may_leave
+  second_reached = reached_two o b d (was clean_b) after_first crash clean
+
+pub returns-in_err-step-2-clause-reached : goal.returns-in_err-step-2-clause-reached
+returns-in_err-step-2-clause-reached g c clean before =
+    second_reached (state g.S.Store c.args.conn.now) (state g.S.Store c.step.new.conn) (state g.S.Store c.step-2.new.conn)
+    c.in_ok-step.ensures.told (λ clean_b. (c.in_ok-step.ensures.shown clean_b).1) c.see_settled.ensures.settled c.step-2.ensures.crash clean
+
+pub returns-clause-reached : goal.returns-clause-reached
+returns-clause-reached g c clean before =
+    second_reached (state g.S.Store c.args.conn.now) (state g.S.Store c.step.new.conn) (state g.S.Store c.step-2.new.conn)
+    c.in_ok-step.ensures.told (λ clean_b. (c.in_ok-step.ensures.shown clean_b).1) c.see_settled.ensures.settled c.step-2.ensures.crash clean
