@@ -14,7 +14,7 @@ use Rattle.http_wire.specs.Reading.{Finish, HasRead, ReadsOn, StopsAs, brought, 
 use Rattle.http_wire.specs.Replies.{HoldsOrSends, SendsBefore}
 use Rattle.http_wire.specs.Wire.{BeginsServed}
 use Rattle.http_wire.specs.ClosingReply.{SendsLast, ClosingReply, SendsAndParts}
-use Rattle.http_wire.specs.Stream.{replies_of, Ending, silence, refusal, to_head, no_memory, ending_bytes, IsEnding, MissesMemory, finish_at, is_whole, Sides, Run, WentOn, EndsAs}
+use Rattle.http_wire.specs.Stream.{replies_of, Ending, silence, refusal, to_head, no_memory, ending_bytes, IsEnding, MissesMemory, finish_at, is_all_written, Sides, Run, WentOn, EndsAs}
 use Rattle.http_wire.proofs.Needs.{called_for}
 use Rattle.http_wire.proofs.Readings.{HasRead-trans}
 use Rattle.http_wire.proofs.Ends.{cut_between}
@@ -34,14 +34,14 @@ finish : {R W C H : Type 0} {k : Words R W C H}
     → (end : StreamEnd) (reader : Counted R) (more : List ℕ) (fewer : ℕ) → (reads : ReadsOn k.remaining now.reader reader unread more left fewer (finish_at end))
     → (writer : Counted W) (handler : H) (ending : Ending) → IsEnding k.heads now.handler handler (unread ++ more) ending
     → MissesMemory ending (100000 - fewer) (unread ++ more)
-    → (tail : List ℕ) → Wrote k.contents now.writer writer tail (is_whole end) → (end ≢ WriteFault → tail ≡ ending_bytes ending)
+    → (tail : List ℕ) → Wrote k.contents now.writer writer tail (is_all_written end) → (end ≢ WriteFault → tail ≡ ending_bytes ending)
     → EndsAs k.remaining old (record { reader = reader; writer = writer; clock = now.clock; handler = handler }) (run_after s reads.read.pieces more fewer ending tail) end
     → IsServed k old (record { reader = reader; writer = writer; clock = now.clock; handler = handler }) end
 unfolding HasRead-trans
 finish {k = k} {old = old} {now = now} {unread = unread} s few end reader more fewer reads writer handler ending parts memory tail sent whole ends =
     let read = HasRead-trans _ _ _ _ _ _ _ _ _ _ s.read reads.read in
     let count = s.count in
-    let wrote = wrote_on k.contents old.writer now.writer writer (replies_of s.exchanges) tail (is_whole end) s.wrote sent in
+    let wrote = wrote_on k.contents old.writer now.writer writer (replies_of s.exchanges) tail (is_all_written end) s.wrote sent in
     record {
       run = run_after s reads.read.pieces more fewer ending tail;
       consumed = read.consumed;
@@ -49,7 +49,7 @@ finish {k = k} {old = old} {now = now} {unread = unread} s few end reader more f
       at_most = omega arith;
       chain = s.chain;
       ending = parts;
-      appended = wrote_appends k.contents old.writer writer (replies_of s.exchanges ++ tail) (is_whole end) wrote;
+      appended = wrote_appends k.contents old.writer writer (replies_of s.exchanges ++ tail) (is_all_written end) wrote;
       whole = λ other. ap (λ (b : List ℕ). replies_of s.exchanges ++ b) (whole other);
       counted = read.counted;
       reads_at_most = omega arith;
@@ -68,7 +68,7 @@ sent_last : {R W C H : Type 0} {k : Words R W C H}
     → (good end : StreamEnd) (reader : Counted R) (more : List ℕ) (fewer : ℕ) → (reads : ReadsOn k.remaining now.reader reader unread more left fewer (finish_at good))
     → (writer : Counted W) (handler : H) (ending : Ending) → IsEnding k.heads now.handler handler (unread ++ more) ending
     → MissesMemory ending (100000 - fewer) (unread ++ more)
-    → finish_at good ≡ brought → is_whole good ≡ true
+    → finish_at good ≡ brought → is_all_written good ≡ true
     → EndsAs k.remaining old (record { reader = reader; writer = writer; clock = now.clock; handler = handler }) (run_after s reads.read.pieces more fewer ending (ending_bytes ending)) good
     → SendsLast k.contents now.writer writer (ending_bytes ending) good end
     → IsServed k old (record { reader = reader; writer = writer; clock = now.clock; handler = handler }) end

@@ -120,16 +120,16 @@ finish_at Failed = brought
 finish_at WriteFault = brought
 
 -- whether all that was to be written was
-abbrev pub is_whole : StreamEnd → Bool
-is_whole Closed = true
-is_whole Cut = true
-is_whole ReadsSpent = true
-is_whole ReadFault = true
-is_whole Asked = true
-is_whole Served = true
-is_whole Refused = true
-is_whole Failed = true
-is_whole WriteFault = false
+abbrev pub is_all_written : StreamEnd → Bool
+is_all_written Closed = true
+is_all_written Cut = true
+is_all_written ReadsSpent = true
+is_all_written ReadFault = true
+is_all_written Asked = true
+is_all_written Served = true
+is_all_written Refused = true
+is_all_written Failed = true
+is_all_written WriteFault = false
 
 -- where memory is missed after the replies, it is for the buffer, before any read, or for a request that is served
 abbrev pub MissesMemory : Ending → ℕ → List ℕ → Type 0
@@ -255,6 +255,6 @@ pub record Serves {R W C H : Type 0} (remaining : R → Option (List ℕ)) (cont
   pub reads_are : run.reads ≡ count_of run.pieces (finish_at end)
   pub read : Reads remaining old.reader new.reader run.pieces (finish_at end)
   pub needed : IsCalledFor run.pieces run.rest
-  pub wrote : Wrote contents old.writer new.writer run.written (is_whole end)
+  pub wrote : Wrote contents old.writer new.writer run.written (is_all_written end)
   pub memory : MissesMemory run.ending run.reads run.rest
   pub ends : EndsAs remaining old new run end

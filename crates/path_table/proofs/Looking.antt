@@ -13,7 +13,7 @@ use Rattle.matchit.specs.Router.{RouteOf, route_from}
 use Rattle.matchit.specs.Rows.{RowsOf, comes_before}
 use Rattle.matchit.specs.Seek.{first}
 use Rattle.path_table.specs.Routers.{with_read, router_behind, router_for, IsBytes, IsFound, FindsRow}
-use Rattle.path_table.specs.Segments.{segments, is_some_text, is_named, segment_fits, fits}
+use Rattle.path_table.specs.Segments.{segments, is_some_text, is_part_name, segment_fits, fits}
 use Rattle.path_table.specs.Sound.{is_plain_segment, is_plain, can_share, are_apart, is_sound}
 use Rattle.path_table.proofs.Tokens.{token_fits, is_strict, param_count, token_parts}
 use Rattle.path_table.proofs.Seeking.{AllRows, SomeRow, all_weaker, found_fits, fits_found}
@@ -36,7 +36,7 @@ bytes_turned a b = by (bytes_eq a b) refl (bytes_eq b a) refl
     by false e false h = refl
 
 share : (a b s : List ℕ) → segment_fits a s ≡ true → segment_fits b s ≡ true → can_share a b ≡ true
-share a b s fits_a fits_b = by (is_named a) (is_named b) fits_a fits_b
+share a b s fits_a fits_b = by (is_part_name a) (is_part_name b) fits_a fits_b
   where
     by : (v w : Bool) → cond v (is_some_text s) (bytes_eq a s) ≡ true → cond w (is_some_text s) (bytes_eq b s) ≡ true → (v || (w || bytes_eq a b)) ≡ true
     by true w fits_a fits_b = refl

@@ -9,7 +9,7 @@ use Rattle.std.specs.List.{list_all, join_with_byte}
 use Rattle.matchit.specs.Rows.{param_token, catch_all_token}
 use Rattle.matchit.specs.Route.{Scan, scan, scan_start, parse_route, shape_error, outside, named, name_closed}
 use Rattle.matchit.specs.Seek.{slash}
-use Rattle.path_table.specs.Segments.{segments, is_named}
+use Rattle.path_table.specs.Segments.{segments, is_part_name}
 use Rattle.path_table.specs.Sound.{is_plain_character, is_closed, is_name, is_plain_segment}
 use Rattle.path_table.proofs.Tokens.{goes_on, is_strict, param_count}
 use Rattle.path_table.proofs.Patterns.{token_of, tokens, tokens_strict}
@@ -74,7 +74,7 @@ unfolding scan
 scan_opened b c p t names start all more opens is = rw (opens, is.open_brace, is.close_brace, is.star) refl
 
 -- a name
-scan_name : (s p t : List ℕ) (names : List (ℕ × ℕ)) (start : ℕ) (all : Bool) (more : List ℕ) → is_named s ≡ true → is_name s ≡ true
+scan_name : (s p t : List ℕ) (names : List (ℕ × ℕ)) (start : ℕ) (all : Bool) (more : List ℕ) → is_part_name s ≡ true → is_name s ≡ true
     → (text : List ℕ) × (from : ℕ) × (scan (scan_at p t names start all outside) (s ++ more) ≡ scan (scan_at p text names from false name_closed) more)
 scan_name [] p t names start all more opens closed = absurd (let never : false ≡ true = opens in search rules)
 scan_name (b ∷ []) p t names start all more opens closed = absurd (let never : false ≡ true = closed in search rules)
@@ -126,7 +126,7 @@ read_text s p t names start all plain =
       names = omega (arith, none);
     }
 
-read_name : (s p t : List ℕ) (names : List (ℕ × ℕ)) (start : ℕ) (all : Bool) → is_named s ≡ true → is_name s ≡ true → Reads (scan_at p t names start all outside) s (param_token ∷ [])
+read_name : (s p t : List ℕ) (names : List (ℕ × ℕ)) (start : ℕ) (all : Bool) → is_part_name s ≡ true → is_name s ≡ true → Reads (scan_at p t names start all outside) s (param_token ∷ [])
 read_name s p t names start all opens closed =
     let to = scan_name s p t names start all [] opens closed in
     record {
@@ -147,7 +147,7 @@ text_then s u rest p t names start all plain r =
       names = r.names ∙ ap (λ n. length names + n) (sym (text_count s (slash ∷ rest) plain));
     }
 
-name_then : (s u rest p t : List ℕ) (names : List (ℕ × ℕ)) (start : ℕ) (all : Bool) → is_named s ≡ true → is_name s ≡ true
+name_then : (s u rest p t : List ℕ) (names : List (ℕ × ℕ)) (start : ℕ) (all : Bool) → is_part_name s ≡ true → is_name s ≡ true
     → ((p t : List ℕ) (names : List (ℕ × ℕ)) (start : ℕ) (all : Bool) → Reads (scan_at p t names start all outside) u rest)
     → Reads (scan_at p t names start all outside) (s ++ slash ∷ u) (param_token ∷ slash ∷ rest)
 name_then s u rest p t names start all opens closed again =
@@ -163,16 +163,16 @@ name_then s u rest p t names start all opens closed again =
 read_segments : (ss : List (List ℕ)) (p t : List ℕ) (names : List (ℕ × ℕ)) (start : ℕ) (all : Bool) → list_all is_plain_segment ss ≡ true → 0 < length ss
     → Reads (scan_at p t names start all outside) (join_with_byte slash ss) (tokens ss)
 read_segments [] p t names start all plain some = absurd (omega (arith, some))
-read_segments (s ∷ []) p t names start all plain some = by (is_named s) refl (and_parts (is_plain_segment s) true plain).0
+read_segments (s ∷ []) p t names start all plain some = by (is_part_name s) refl (and_parts (is_plain_segment s) true plain).0
   where
-    by : (v : Bool) → is_named s ≡ v → cond v (is_name s) (list_all is_plain_character s) ≡ true → Reads (scan_at p t names start all outside) s (cond v (param_token ∷ []) s)
+    by : (v : Bool) → is_part_name s ≡ v → cond v (is_name s) (list_all is_plain_character s) ≡ true → Reads (scan_at p t names start all outside) s (cond v (param_token ∷ []) s)
     by true opens closed = read_name s p t names start all opens closed
     by false opens plain = read_text s p t names start all plain
 read_segments (s ∷ u ∷ ss) p t names start all plain some =
     let both = and_parts (is_plain_segment s) (list_all is_plain_segment (u ∷ ss)) plain in
-    by (is_named s) refl both.0 (λ p t names start all. read_segments (u ∷ ss) p t names start all both.1 (omega arith))
+    by (is_part_name s) refl both.0 (λ p t names start all. read_segments (u ∷ ss) p t names start all both.1 (omega arith))
   where
-    by : (v : Bool) → is_named s ≡ v → cond v (is_name s) (list_all is_plain_character s) ≡ true
+    by : (v : Bool) → is_part_name s ≡ v → cond v (is_name s) (list_all is_plain_character s) ≡ true
         → ((p t : List ℕ) (names : List (ℕ × ℕ)) (start : ℕ) (all : Bool) → Reads (scan_at p t names start all outside) (join_with_byte slash (u ∷ ss)) (tokens (u ∷ ss)))
         → Reads (scan_at p t names start all outside) (s ++ slash ∷ join_with_byte slash (u ∷ ss)) (cond v (param_token ∷ []) s ++ slash ∷ tokens (u ∷ ss))
     by true opens closed again = name_then s (join_with_byte slash (u ∷ ss)) (tokens (u ∷ ss)) p t names start all opens closed again

@@ -8,13 +8,13 @@ use Rattle.std.specs.Cmp.Lexicographic.{pointwise, bytes_decides}
 use Rattle.std.specs.List.{list_all, zip, onto_first}
 use Rattle.matchit.specs.Rows.{param_token}
 use Rattle.matchit.specs.Seek.{slash}
-use Rattle.path_table.specs.Segments.{segments, is_some_text, is_named, segment_fits}
+use Rattle.path_table.specs.Segments.{segments, is_some_text, is_part_name, segment_fits}
 use Rattle.path_table.specs.Sound.{is_plain_character, is_name, is_plain_segment}
 use Rattle.path_table.proofs.Tokens.{part, rest, is_none, begins, behind, token_fits, goes_on, is_strict, RestIs, at_end, at_slash, rest_is, part-rest, token_parts}
 
 -- the tokens of a segment, and of segments
 abbrev pub token_of : List ℕ → List ℕ
-token_of s = cond (is_named s) (param_token ∷ []) s
+token_of s = cond (is_part_name s) (param_token ∷ []) s
 
 abbrev pub tokens : List (List ℕ) → List ℕ
 tokens [] = []
@@ -97,7 +97,7 @@ text_fits (c ∷ s) t path plain goes =
 
 -- a segment's tokens fit a path where the segment fits its first part
 segment_tokens : (s t path : List ℕ) → is_plain_segment s ≡ true → goes_on t ≡ true → token_fits (token_of s ++ t) path ≡ (segment_fits s (part path) && token_fits t (rest path))
-segment_tokens s t path plain goes = by (is_named s) plain
+segment_tokens s t path plain goes = by (is_part_name s) plain
   where
     by : (v : Bool) → cond v (is_name s) (list_all is_plain_character s) ≡ true
         → token_fits (cond v (param_token ∷ []) s ++ t) path ≡ (cond v (is_some_text (part path)) (bytes_eq s (part path)) && token_fits t (rest path))
@@ -130,7 +130,7 @@ tokens_fit (s ∷ u ∷ ss) path plain some =
 
 -- the parts of segments
 abbrev pub segment_parts : List (List ℕ) → List (List ℕ) → List (List ℕ)
-segment_parts ss us = map (λ p. p.1) (filter (λ p. is_named p.0) (zip ss us))
+segment_parts ss us = map (λ p. p.1) (filter (λ p. is_part_name p.0) (zip ss us))
 
 -- text takes no part
 text_parts : (s t path : List ℕ) → list_all is_plain_character s ≡ true → bytes_eq s (part path) ≡ true → token_parts (s ++ t) path ≡ token_parts t (rest path)
@@ -148,8 +148,8 @@ text_parts s t path plain same =
 
 -- a segment takes a part where it names one
 segment_takes : (s t path : List ℕ) → is_plain_segment s ≡ true → segment_fits s (part path) ≡ true
-    → token_parts (token_of s ++ t) path ≡ cond (is_named s) (part path ∷ token_parts t (rest path)) (token_parts t (rest path))
-segment_takes s t path plain fits = by (is_named s) plain fits
+    → token_parts (token_of s ++ t) path ≡ cond (is_part_name s) (part path ∷ token_parts t (rest path)) (token_parts t (rest path))
+segment_takes s t path plain fits = by (is_part_name s) plain fits
   where
     by : (v : Bool) → cond v (is_name s) (list_all is_plain_character s) ≡ true → cond v (is_some_text (part path)) (bytes_eq s (part path)) ≡ true
         → token_parts (cond v (param_token ∷ []) s ++ t) path ≡ cond v (part path ∷ token_parts t (rest path)) (token_parts t (rest path))
@@ -161,7 +161,7 @@ tokens_take [] path plain fits = refl
 tokens_take (s ∷ []) path plain fits =
     let here = (and_parts (is_plain_segment s) true plain).0 in
     let first = (and_parts (segment_fits s (part path)) _ (rw (segments_are path) at fits)).0 in
-    rw (segments_are path, ← (append-nil (token_of s))) (segment_takes s [] path here first ∙ by (is_named s))
+    rw (segments_are path, ← (append-nil (token_of s))) (segment_takes s [] path here first ∙ by (is_part_name s))
   where
     by : (v : Bool) → cond v (part path ∷ []) [] ≡ map (λ (p : List ℕ × List ℕ). p.1) (cond v ((s, part path) ∷ []) [])
     by true = refl
@@ -171,7 +171,7 @@ tokens_take (s ∷ u ∷ ss) path plain fits =
     let parted = and_parts (segment_fits s (part path)) (pointwise segment_fits (u ∷ ss) (later (rest path))) (rw (segments_are path) at fits) in
     rw (segments_are path)
     (segment_takes s (slash ∷ tokens (u ∷ ss)) path both.0 parted.0
-    ∙ by (is_named s) (more_parts (λ path fits. tokens_take (u ∷ ss) path both.1 fits) (rest_is path) parted.1))
+    ∙ by (is_part_name s) (more_parts (λ path fits. tokens_take (u ∷ ss) path both.1 fits) (rest_is path) parted.1))
   where
     more_parts : ((path : List ℕ) → pointwise segment_fits (u ∷ ss) (segments path) ≡ true → token_parts (tokens (u ∷ ss)) path ≡ segment_parts (u ∷ ss) (segments path)) → RestIs path
         → pointwise segment_fits (u ∷ ss) (later (rest path)) ≡ true → token_parts (slash ∷ tokens (u ∷ ss)) (rest path) ≡ segment_parts (u ∷ ss) (later (rest path))
@@ -180,7 +180,7 @@ tokens_take (s ∷ u ∷ ss) path plain fits =
 
     by : (v : Bool) → token_parts (slash ∷ tokens (u ∷ ss)) (rest path) ≡ segment_parts (u ∷ ss) (later (rest path))
         → cond v (part path ∷ token_parts (slash ∷ tokens (u ∷ ss)) (rest path)) (token_parts (slash ∷ tokens (u ∷ ss)) (rest path))
-        ≡ map (λ (p : List ℕ × List ℕ). p.1) (cond v ((s, part path) ∷ filter (λ p. is_named p.0) (zip (u ∷ ss) (later (rest path)))) (filter (λ p. is_named p.0) (zip (u ∷ ss) (later (rest path)))))
+        ≡ map (λ (p : List ℕ × List ℕ). p.1) (cond v ((s, part path) ∷ filter (λ p. is_part_name p.0) (zip (u ∷ ss) (later (rest path)))) (filter (λ p. is_part_name p.0) (zip (u ∷ ss) (later (rest path)))))
     by true same = ap (λ parts. part path ∷ parts) same
     by false same = same
 
@@ -196,7 +196,7 @@ text_strict (c ∷ s) t plain strict =
     rw (byte, test) (text_strict s t both.1 strict)
 
 segment_strict : (s t : List ℕ) → is_plain_segment s ≡ true → goes_on t ≡ true → is_strict t ≡ true → is_strict (token_of s ++ t) ≡ true
-segment_strict s t plain goes strict = by (is_named s) plain
+segment_strict s t plain goes strict = by (is_part_name s) plain
   where
     by : (v : Bool) → cond v (is_name s) (list_all is_plain_character s) ≡ true → is_strict (cond v (param_token ∷ []) s ++ t) ≡ true
     by true plain = and_from _ _ goes strict

@@ -5,7 +5,7 @@ use Rattle.std.proofs.lemmas.Str.{IsUtf8-take, IsUtf8-drop, IsCharBoundary-befor
 use Rattle.std.specs.List.{AllByRecursion, zip}
 use Rattle.std.specs.Str.{IsUtf8}
 use Rattle.matchit.specs.Seek.{slash}
-use Rattle.path_table.specs.Segments.{segments, is_named, parts_of}
+use Rattle.path_table.specs.Segments.{segments, is_part_name, parts_of}
 use Rattle.path_table.proofs.Tokens.{part, rest, part-rest, RestIs, at_end, at_slash, rest_is}
 use Rattle.path_table.proofs.Patterns.{segments_are, segment_parts}
 
@@ -42,10 +42,10 @@ texts_within (suc n) path small text = texts_first path (λ more short is. texts
 kept_texts : (ss us : List (List ℕ)) → AllByRecursion IsUtf8 us → AllByRecursion IsUtf8 (segment_parts ss us)
 kept_texts [] us all = tt
 kept_texts (s ∷ ss) [] all = tt
-kept_texts (s ∷ ss) (u ∷ us) all = by (is_named s) (kept_texts ss us all.1)
+kept_texts (s ∷ ss) (u ∷ us) all = by (is_part_name s) (kept_texts ss us all.1)
   where
     by : (v : Bool) → AllByRecursion IsUtf8 (segment_parts ss us)
-        → AllByRecursion IsUtf8 (map (λ (p : List ℕ × List ℕ). p.1) (cond v ((s, u) ∷ filter (λ p. is_named p.0) (zip ss us)) (filter (λ p. is_named p.0) (zip ss us))))
+        → AllByRecursion IsUtf8 (map (λ (p : List ℕ × List ℕ). p.1) (cond v ((s, u) ∷ filter (λ p. is_part_name p.0) (zip ss us)) (filter (λ p. is_part_name p.0) (zip ss us))))
     by true more = (all.0, more)
     by false more = more
 

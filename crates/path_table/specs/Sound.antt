@@ -2,7 +2,7 @@
 use Rattle.std.specs.Prelude.{ℕ, Bool, false, not, ◌==◌, ◌&&◌, ◌||◌, nat_lt, nat_le, List, [], ◌∷◌, length, bytes_eq, if◌then◌else◌}
 use Rattle.std.specs.Cmp.Lexicographic.{pointwise}
 use Rattle.std.specs.List.{list_all}
-use Rattle.path_table.specs.Segments.{segments, is_named}
+use Rattle.path_table.specs.Segments.{segments, is_part_name}
 
 -- an ASCII character, and none of `*`, `/`, `{` and `}`
 abbrev pub is_plain_character : ℕ → Bool
@@ -22,7 +22,7 @@ is_name (c ∷ d ∷ rest) = is_plain_character d && is_closed rest
 
 -- a segment of a pattern is a name in braces, or else plain characters
 abbrev pub is_plain_segment : List ℕ → Bool
-is_plain_segment segment = if is_named segment then is_name segment else list_all is_plain_character segment
+is_plain_segment segment = if is_part_name segment then is_name segment else list_all is_plain_character segment
 
 -- a pattern is made of such segments, and is at most 1,000 bytes
 abbrev pub is_plain : List ℕ → Bool
@@ -30,7 +30,7 @@ is_plain pattern = nat_le (length pattern) 1000 && list_all is_plain_segment (se
 
 -- one segment of a path can fit both
 abbrev pub can_share : List ℕ → List ℕ → Bool
-can_share a b = is_named a || (is_named b || bytes_eq a b)
+can_share a b = is_part_name a || (is_part_name b || bytes_eq a b)
 
 -- one path can fit both patterns
 abbrev pub can_meet : List ℕ → List ℕ → Bool

@@ -15,9 +15,9 @@ use Rattle.td_movement.specs.declared.line.Line.{Line}
 use Rattle.td_movement.specs.declared.movement.Movement.{Movement}
 
 -- a value that there may be
-abbrev pub or_null : {X : Type 0} → (X → Data) → Option X → Data
-or_null shows None = null
-or_null shows (Some x) = shows x
+abbrev pub shown_or_null : {X : Type 0} → (X → Data) → Option X → Data
+shown_or_null shows None = null
+shown_or_null shows (Some x) = shows x
 
 -- values in their order
 abbrev pub array_of : {X : Type 0} → (X → Data) → List X → Data
@@ -31,11 +31,11 @@ free_on g used = g.reference - used
 
 -- a text that there may be
 abbrev pub text_data : Option (List ℕ) → Data
-text_data = or_null string
+text_data = shown_or_null string
 
 -- a day that there may be
 abbrev pub day_data : Option ℕ → Data
-day_data = or_null (λ day. string (day_text day))
+day_data = shown_or_null (λ day. string (day_text day))
 
 -- a line of a movement
 abbrev pub line_data : Line → Data

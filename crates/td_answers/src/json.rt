@@ -3,7 +3,7 @@ ghost use Rattle.std.specs.Fmt.{WritesOnOk};
 ghost use Rattle.std.specs.Prelude.{Some};
 ghost use Rattle.serde_json.specs.Data.{Data, boolean, number, string, unsigned};
 ghost use Rattle.serde_json.specs.Written.{compact_text};
-ghost use Rattle.td_answers.specs.Objects.{array_of, or_null};
+ghost use Rattle.td_answers.specs.Objects.{array_of, shown_or_null};
 ghost use Rattle.td_base.specs.Days.{day_text};
 ghost use Rattle.td_base.specs.Codes.{holder_text};
 ghost use Rattle.td_movement.specs.States.{state_name};
@@ -35,7 +35,7 @@ impl<T: ToJson> fmt::Display for Json<'_, T> {
 }
 
 impl<T: ToJson> ToJson for Option<T> {
-    ghost shown = { or_null T.shown };
+    ghost shown = { shown_or_null T.shown };
 
     fn write_json<W: fmt::Write>(&self, f: &mut fmt::Formatter<W>) -> fmt::Result {
         match self {

@@ -29,8 +29,8 @@ outcome_of (Err why) = outcome.Failed why
 
 -- How a row ended by the calls that it makes of a desk: as a command does, or for want of memory for its result row, at a desk
 -- that weighed it and did no more.
-abbrev pub IsCausedBy : {D : Type 0} → DeskView D → D → Stamped → Outcome → D → Type 0
-IsCausedBy view old s o new = IsOutcomeOf view old s o new ⊎ ((o ≡ outcome.Failed fault.NoMemory) × view.weighed old s None new)
+abbrev pub IsRowCausedBy : {D : Type 0} → DeskView D → D → Stamped → Outcome → D → Type 0
+IsRowCausedBy view old s o new = IsOutcomeOf view old s o new ⊎ ((o ≡ outcome.Failed fault.NoMemory) × view.weighed old s None new)
 
 -- One row was done at a desk, or failed: all that is promised of a command.
 pub record IsDone {D : Type 0} (view : DeskView D) (at : ℤ) (command : Command) (o : Outcome) (old new : D) : Type 0 where
@@ -46,7 +46,7 @@ pub record IsDone {D : Type 0} (view : DeskView D) (at : ℤ) (command : Command
   pub crash : view.is_clean new → LeavesAfter view old (at_moment at command) (is_failed o) new
   pub settled : view.is_clean new → IsSettled view new
   pub store : o ≡ outcome.Failed fault.Store → view.has_store
-  pub calls : IsCausedBy view old (at_moment at command) o new
+  pub calls : IsRowCausedBy view old (at_moment at command) o new
   pub proper : IsProper command
 
 -- the same of a row and its outcome

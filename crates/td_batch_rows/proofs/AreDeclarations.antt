@@ -6,12 +6,12 @@ use Rattle.td_base.specs.Codes.{holder_read, lrn_read, office_read}
 use Rattle.td_movement.specs.declared.line.Line.{Line}
 use Rattle.td_commands.specs.declared.command.Command.{Command}
 use Rattle.td_commands.specs.declared.command.Command.TheVariants as command
-use Rattle.td_batch_rows.specs.Declarations.{IsDeclaration, column, declaration_read, declaration_row, declarations_in, is_declarations_header, lines_read}
-use Rattle.td_batch_rows.specs.Rows.{Fields, Place, file_in, records_in, rows_from, text_at, then_rows}
+use Rattle.td_batch_rows.specs.Declarations.{IsDeclaration, then_column, declaration_read, declaration_row, declarations_in, is_declarations_header, lines_read}
+use Rattle.td_batch_rows.specs.Rows.{Fields, Place, file_in, records_in, rows_from, field_text, then_rows}
 
 -- what holds of each result of the columns behind one holds of the row
 by_column : {A : Type 0} (n : ℕ) (o : Option A) (next : A → Result Command ℕ) (c : Command)
-    → ((a : A) → next a ≡ Ok c → IsDeclaration c) → column n o next ≡ Ok c → IsDeclaration c
+    → ((a : A) → next a ≡ Ok c → IsDeclaration c) → then_column n o next ≡ Ok c → IsDeclaration c
 by_column n None next c each is = absurd (bad is)
   where
     bad : Err n ≡ Ok c → ⊥
@@ -20,13 +20,13 @@ by_column n (Some a) next c each is = each a is
 
 read_one : (holder lrn departure destination lines : List ℕ) (c : Command) → declaration_read holder lrn departure destination lines ≡ Ok c → IsDeclaration c
 read_one holder lrn departure destination lines c =
-    by_column 1 (holder_read holder) (λ h. column 2 (lrn_read lrn) (λ l. column 3 (office_read departure) (λ from. column 4 (office_read destination)
-    (λ to. column 5 (lines_read lines) (λ ls. Ok (command.Ie015 h l from to ls)))))) c
-    (λ h. by_column 2 (lrn_read lrn) (λ l. column 3 (office_read departure) (λ from. column 4 (office_read destination)
-    (λ to. column 5 (lines_read lines) (λ ls. Ok (command.Ie015 h l from to ls))))) c
-    (λ l. by_column 3 (office_read departure) (λ from. column 4 (office_read destination)
-    (λ to. column 5 (lines_read lines) (λ ls. Ok (command.Ie015 h l from to ls)))) c
-    (λ from. by_column 4 (office_read destination) (λ to. column 5 (lines_read lines) (λ ls. Ok (command.Ie015 h l from to ls))) c
+    by_column 1 (holder_read holder) (λ h. then_column 2 (lrn_read lrn) (λ l. then_column 3 (office_read departure) (λ from. then_column 4 (office_read destination)
+    (λ to. then_column 5 (lines_read lines) (λ ls. Ok (command.Ie015 h l from to ls)))))) c
+    (λ h. by_column 2 (lrn_read lrn) (λ l. then_column 3 (office_read departure) (λ from. then_column 4 (office_read destination)
+    (λ to. then_column 5 (lines_read lines) (λ ls. Ok (command.Ie015 h l from to ls))))) c
+    (λ l. by_column 3 (office_read departure) (λ from. then_column 4 (office_read destination)
+    (λ to. then_column 5 (lines_read lines) (λ ls. Ok (command.Ie015 h l from to ls)))) c
+    (λ from. by_column 4 (office_read destination) (λ to. then_column 5 (lines_read lines) (λ ls. Ok (command.Ie015 h l from to ls))) c
     (λ to. by_column 5 (lines_read lines) (λ ls. Ok (command.Ie015 h l from to ls)) c (λ ls is. declared h l from to ls is)))))
   where
     declared : (h : ℕ) (l from to : List ℕ) (ls : List (Line × List ℕ)) → ◌≡◌ {A = Result Command ℕ} (Ok (command.Ie015 h l from to ls)) (Ok c) → IsDeclaration c
@@ -35,8 +35,8 @@ read_one holder lrn departure destination lines c =
         subst IsDeclaration same tt
 
 one_row : (fields : Fields) (b : Bool) (c : Command)
-    → (if b then declaration_read (text_at fields 0) (text_at fields 1) (text_at fields 2) (text_at fields 3) (text_at fields 4) else Err 0) ≡ Ok c → IsDeclaration c
-one_row fields true c is = read_one (text_at fields 0) (text_at fields 1) (text_at fields 2) (text_at fields 3) (text_at fields 4) c is
+    → (if b then declaration_read (field_text fields 0) (field_text fields 1) (field_text fields 2) (field_text fields 3) (field_text fields 4) else Err 0) ≡ Ok c → IsDeclaration c
+one_row fields true c is = read_one (field_text fields 0) (field_text fields 1) (field_text fields 2) (field_text fields 3) (field_text fields 4) c is
 one_row fields false c is = absurd (bad is)
   where
     bad : ◌≡◌ {A = Result Command ℕ} (Err 0) (Ok c) → ⊥

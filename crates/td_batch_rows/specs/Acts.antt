@@ -9,7 +9,7 @@ use Rattle.td_commands.specs.declared.command.Command.{Command}
 use Rattle.td_commands.specs.declared.command.Command.TheVariants as command
 use Rattle.td_batch_rows.specs.declared.acts.Message.{Message}
 use Rattle.td_batch_rows.specs.declared.acts.Message.TheVariants.{Ie029, Ie007, Ie018, Ie045, Ie140}
-use Rattle.td_batch_rows.specs.Rows.{Fields, Place, text_at, file_in, records_in}
+use Rattle.td_batch_rows.specs.Rows.{Fields, Place, field_text, file_in, records_in}
 
 -- the message that a text names
 abbrev pub message_read : List ℕ → Option Message
@@ -50,13 +50,13 @@ act_read message mrn value = with_message (message_read message) mrn value
 -- the act of a row of three columns
 abbrev pub act_row : Fields → Result Command ℕ
 act_row fields =
-    if length fields == 3 then act_read (text_at fields 0) (text_at fields 1) (text_at fields 2) else Err 0
+    if length fields == 3 then act_read (field_text fields 0) (field_text fields 1) (field_text fields 2) else Err 0
 
 -- the header `message,mrn,value`
 abbrev pub is_acts_header : Fields → Bool
 is_acts_header fields =
-    (length fields == 3) && bytes_eq (text_at fields 0) (codes "message") && bytes_eq (text_at fields 1) (codes "mrn")
-    && bytes_eq (text_at fields 2) (codes "value")
+    (length fields == 3) && bytes_eq (field_text fields 0) (codes "message") && bytes_eq (field_text fields 1) (codes "mrn")
+    && bytes_eq (field_text fields 2) (codes "value")
 
 -- the acts of a file
 abbrev pub acts_in : List ℕ → Result (List Command) Place

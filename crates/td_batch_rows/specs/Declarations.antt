@@ -10,7 +10,7 @@ use Rattle.td_movement.specs.declared.line.Line.{Line}
 use Rattle.td_commands.specs.Lines.{lines_of}
 use Rattle.td_commands.specs.declared.command.Command.{Command}
 use Rattle.td_commands.specs.declared.command.Command.TheVariants as command
-use Rattle.td_batch_rows.specs.Rows.{Fields, Place, text_at, file_in, records_in}
+use Rattle.td_batch_rows.specs.Rows.{Fields, Place, field_text, file_in, records_in}
 
 -- the parts of a text, cut at each byte of this value
 abbrev pub parts_at : ℕ → List ℕ → List (List ℕ)
@@ -45,29 +45,29 @@ abbrev pub lines_read : List ℕ → Option (List (Line × List ℕ))
 lines_read text = option_and_then lines_of (each_line (parts_at 59 text))
 
 -- a column, before those after it: where it is bad, it is the first
-abbrev pub column : {A B : Type 0} → ℕ → Option A → (A → Result B ℕ) → Result B ℕ
-column n None next = Err n
-column n (Some a) next = next a
+abbrev pub then_column : {A B : Type 0} → ℕ → Option A → (A → Result B ℕ) → Result B ℕ
+then_column n None next = Err n
+then_column n (Some a) next = next a
 
 abbrev pub declaration_read : List ℕ → List ℕ → List ℕ → List ℕ → List ℕ → Result Command ℕ
 declaration_read holder lrn departure destination lines =
-    column 1 (holder_read holder) (λ holder. column 2 (lrn_read lrn) (λ lrn. column 3 (office_read departure) (λ departure.
-    column 4 (office_read destination) (λ destination. column 5 (lines_read lines) (λ lines.
+    then_column 1 (holder_read holder) (λ holder. then_column 2 (lrn_read lrn) (λ lrn. then_column 3 (office_read departure) (λ departure.
+    then_column 4 (office_read destination) (λ destination. then_column 5 (lines_read lines) (λ lines.
     Ok (command.Ie015 holder lrn departure destination lines))))))
 
 -- the declaration of a row of five columns
 abbrev pub declaration_row : Fields → Result Command ℕ
 declaration_row fields =
     if length fields == 5
-    then declaration_read (text_at fields 0) (text_at fields 1) (text_at fields 2) (text_at fields 3) (text_at fields 4)
+    then declaration_read (field_text fields 0) (field_text fields 1) (field_text fields 2) (field_text fields 3) (field_text fields 4)
     else Err 0
 
 -- the header `holder,lrn,departure,destination,lines`
 abbrev pub is_declarations_header : Fields → Bool
 is_declarations_header fields =
-    (length fields == 5) && bytes_eq (text_at fields 0) (codes "holder") && bytes_eq (text_at fields 1) (codes "lrn")
-    && bytes_eq (text_at fields 2) (codes "departure") && bytes_eq (text_at fields 3) (codes "destination")
-    && bytes_eq (text_at fields 4) (codes "lines")
+    (length fields == 5) && bytes_eq (field_text fields 0) (codes "holder") && bytes_eq (field_text fields 1) (codes "lrn")
+    && bytes_eq (field_text fields 2) (codes "departure") && bytes_eq (field_text fields 3) (codes "destination")
+    && bytes_eq (field_text fields 4) (codes "lines")
 
 -- the declarations of a file
 abbrev pub declarations_in : List ℕ → Result (List Command) Place

@@ -14,8 +14,8 @@ text_or_none None = []
 text_or_none (Some text) = text
 
 -- the text at a place of a row
-abbrev pub text_at : Fields → ℕ → List ℕ
-text_at fields place = text_or_none (field_at fields place)
+abbrev pub field_text : Fields → ℕ → List ℕ
+field_text fields place = text_or_none (field_at fields place)
 
 -- a row and a column in it
 abbrev pub Place : Type 0

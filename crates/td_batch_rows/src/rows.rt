@@ -1,7 +1,7 @@
 //! Rows of files: what reads a row, and the columns of a record.
 ghost use Rattle.std.specs.Prelude.{◌≡◌, ℕ, Bool, Result, IfOk};
 ghost use Rattle.csv.specs.Records.{fields_of};
-ghost use Rattle.td_batch_rows.specs.Rows.{Fields, text_at};
+ghost use Rattle.td_batch_rows.specs.Rows.{Fields, field_text};
 
 use csv::ByteRecord;
 use std::alloc::{AllocError, Global};
@@ -25,7 +25,7 @@ pub(crate) trait FileRow: Sized + Drop {
 
 /// The text of a column, counted from 0; of one that isn't there, no bytes.
 pub(crate) fn field(row: &ByteRecord, place: usize) -> &[u8]
-    ensures { result.now ≡ text_at (fields_of row.now) place }
+    ensures { result.now ≡ field_text (fields_of row.now) place }
 {
     match row.get(place) {
         Some(text) => text,

@@ -15,12 +15,12 @@ use Rattle.td_batch.specs.declared.running.BatchRun.{BatchRun}
 use Rattle.td_batch.specs.Runs.{has_refusal}
 use Rattle.td_words.specs.declared.words.BatchKind.{BatchKind}
 use Rattle.td_words.specs.declared.words.Records.{Records}
-use Rattle.td_jobs.specs.Batched.{HasDoneRows, rows_in}
+use Rattle.td_jobs.specs.Batched.{HasDoneRows, batch_rows_in}
 use Rattle.td_machine.specs.Machine.{Around, HasRead, IsNotRead}
 use Rattle.td_machine.specs.declared.machine.ReadError.{ReadError}
 use Rattle.td_machine.specs.Drive.{KnownDrive}
 use Rattle.td_cli.specs.Journaled.{WithJournal}
-use Rattle.td_cli.specs.Exits.{IsEnded, IsTold, of_file, of_rows, of_stop, of_read_error}
+use Rattle.td_cli.specs.Exits.{IsEnded, IsWrittenOut, of_file, of_rows, of_stop, of_read_error}
 use Rattle.td_cli.specs.declared.exits.Cause.TheVariants.{Of}
 use Rattle.td_cli.specs.declared.exits.Word.TheVariants as word
 
@@ -32,7 +32,7 @@ IsTextTold contents said text refused None out out_left errors errors_left statu
     (Appends (known_bytes contents out) (known_bytes contents out_left) text × (errors_left ≡ errors) × (status ≡ (if refused then 1 else 0)))
     ⊎ (IsCutShort contents out out_left text × IsEnded said (Some (Of word.Write)) errors errors_left status)
 IsTextTold contents said text refused (Some why) out out_left errors errors_left status =
-    IsTold contents out out_left text × IsEnded said (Some (of_stop why)) errors errors_left status
+    IsWrittenOut contents out out_left text × IsEnded said (Some (of_stop why)) errors errors_left status
 
 -- what a run left was told
 abbrev pub IsRunTold : {W E : Type 0} → (W → Option (List ℕ)) → (E → Option (List ℕ)) → BatchRun → Counted W → Counted W
@@ -65,9 +65,9 @@ abbrev pub AreRowsBatched : {M W E V S O T : Type 0} {disk : Ghosts S} {others :
     → KnownDrive V S → KnownDrive O T → List ℕ → Option ℤ → Records → Option (List ℕ) → BatchKind → List ℕ
     → Counted W → Counted W → Counted E → Counted E → FileHeld V disk → FileHeld V disk → FileHeld O others → FileHeld O others → M → M → ℕ → Type 0
 AreRowsBatched ticks contents said drive other_drive country at records journal which bytes out out_left errors errors_left before file other other_left machine machine_left status =
-    ((why : BatchFault) × Tells (rows_in which bytes) why × (machine_left ≡ machine)
+    ((why : BatchFault) × Tells (batch_rows_in which bytes) why × (machine_left ≡ machine)
     × (out_left ≡ out) × (file ≡ before) × (other_left ≡ other) × IsEnded said (Some (of_rows why)) errors errors_left status)
-    ⊎ ((commands : List Command) × (rows_in which bytes ≡ Ok commands)
+    ⊎ ((commands : List Command) × (batch_rows_in which bytes ≡ Ok commands)
     × IsBatchAtDesk ticks contents said drive other_drive country at records journal which commands out out_left errors errors_left before file other other_left machine machine_left status)
 
 -- The file of rows at this path was done. It couldn't be read: then nothing was printed, and no other file was opened. Or these

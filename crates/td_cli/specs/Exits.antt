@@ -56,35 +56,35 @@ abbrev pub word_line : Word → List ℕ
 word_line word = codes "transit-desk: " ++ (word_text word ++ codes "\n")
 
 -- the line of a cause
-abbrev pub line_of : Cause → List ℕ
-line_of (BadCsv row column) = codes "transit-desk: bad csv row " ++ (decimal row ++ (codes " column " ++ (decimal column ++ codes "\n")))
-line_of (NeedsMigration version) = codes "transit-desk: needs-migration " ++ (decimal version ++ codes "\n")
-line_of (HolderExists holder) = codes "transit-desk: holder-exists " ++ (holder_text holder ++ codes "\n")
-line_of (ForeignRow row) = codes "transit-desk: journal " ++ (decimal row ++ codes "\n")
-line_of (BadRow row) = codes "transit-desk: bad journal row " ++ (decimal row ++ codes "\n")
-line_of (Differs row) = codes "transit-desk: differs " ++ (decimal row ++ codes "\n")
-line_of (Of word) = word_line word
+abbrev pub cause_line : Cause → List ℕ
+cause_line (BadCsv row column) = codes "transit-desk: bad csv row " ++ (decimal row ++ (codes " column " ++ (decimal column ++ codes "\n")))
+cause_line (NeedsMigration version) = codes "transit-desk: needs-migration " ++ (decimal version ++ codes "\n")
+cause_line (HolderExists holder) = codes "transit-desk: holder-exists " ++ (holder_text holder ++ codes "\n")
+cause_line (ForeignRow row) = codes "transit-desk: journal " ++ (decimal row ++ codes "\n")
+cause_line (BadRow row) = codes "transit-desk: bad journal row " ++ (decimal row ++ codes "\n")
+cause_line (Differs row) = codes "transit-desk: differs " ++ (decimal row ++ codes "\n")
+cause_line (Of word) = word_line word
 
 -- the text was written, or as much of it as the writer took
-abbrev pub IsTold : {W : Type 0} → (W → Option (List ℕ)) → Counted W → Counted W → List ℕ → Type 0
-IsTold contents old new text =
+abbrev pub IsWrittenOut : {W : Type 0} → (W → Option (List ℕ)) → Counted W → Counted W → List ℕ → Type 0
+IsWrittenOut contents old new text =
     Appends (known_bytes contents old) (known_bytes contents new) text ⊎ IsCutShort contents old new text
 
 -- The line of a cause was told. In the place of one that has numbers it may be told that there was no memory for it.
 abbrev pub IsCauseTold : {E : Type 0} → (E → Option (List ℕ)) → Counted E → Counted E → Cause → Type 0
-IsCauseTold said errors errors_left (Of word) = IsTold said errors errors_left (word_line word)
+IsCauseTold said errors errors_left (Of word) = IsWrittenOut said errors errors_left (word_line word)
 IsCauseTold said errors errors_left (BadCsv row column) =
-    IsTold said errors errors_left (line_of (BadCsv row column)) ⊎ IsTold said errors errors_left (word_line NoMemory)
+    IsWrittenOut said errors errors_left (cause_line (BadCsv row column)) ⊎ IsWrittenOut said errors errors_left (word_line NoMemory)
 IsCauseTold said errors errors_left (NeedsMigration version) =
-    IsTold said errors errors_left (line_of (NeedsMigration version)) ⊎ IsTold said errors errors_left (word_line NoMemory)
+    IsWrittenOut said errors errors_left (cause_line (NeedsMigration version)) ⊎ IsWrittenOut said errors errors_left (word_line NoMemory)
 IsCauseTold said errors errors_left (HolderExists holder) =
-    IsTold said errors errors_left (line_of (HolderExists holder)) ⊎ IsTold said errors errors_left (word_line NoMemory)
+    IsWrittenOut said errors errors_left (cause_line (HolderExists holder)) ⊎ IsWrittenOut said errors errors_left (word_line NoMemory)
 IsCauseTold said errors errors_left (ForeignRow row) =
-    IsTold said errors errors_left (line_of (ForeignRow row)) ⊎ IsTold said errors errors_left (word_line NoMemory)
+    IsWrittenOut said errors errors_left (cause_line (ForeignRow row)) ⊎ IsWrittenOut said errors errors_left (word_line NoMemory)
 IsCauseTold said errors errors_left (BadRow row) =
-    IsTold said errors errors_left (line_of (BadRow row)) ⊎ IsTold said errors errors_left (word_line NoMemory)
+    IsWrittenOut said errors errors_left (cause_line (BadRow row)) ⊎ IsWrittenOut said errors errors_left (word_line NoMemory)
 IsCauseTold said errors errors_left (Differs row) =
-    IsTold said errors errors_left (line_of (Differs row)) ⊎ IsTold said errors errors_left (word_line NoMemory)
+    IsWrittenOut said errors errors_left (cause_line (Differs row)) ⊎ IsWrittenOut said errors errors_left (word_line NoMemory)
 
 -- A job ended well, with status 0 and no line; or by a cause, with status 1 and its line.
 abbrev pub IsEnded : {E : Type 0} → (E → Option (List ℕ)) → Option Cause → Counted E → Counted E → ℕ → Type 0

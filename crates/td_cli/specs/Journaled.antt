@@ -18,9 +18,9 @@ begun (Ok end) = Ok end
 begun (Err why) = Err (of_start why)
 
 -- and why there was no desk for it at all
-abbrev pub told : {End F : Type 0} → Result (Journaled End F) DeskFault → Result End DeskFault
-told (Ok ended) = begun ended.end
-told (Err why) = Err why
+abbrev pub begun_journaled : {End F : Type 0} → Result (Journaled End F) DeskFault → Result End DeskFault
+begun_journaled (Ok ended) = begun ended.end
+begun_journaled (Err why) = Err why
 
 -- what is kept of the journal's file: as the job left it; or as it was opened, where there was no desk
 abbrev pub kept : {End F : Type 0} → F → Result (Journaled End F) DeskFault → F
@@ -43,7 +43,7 @@ module _ {V S O T End : Type 0} {disk : Ghosts S} {others : Ghosts T} (drive : K
     pub drive_is : other_left.drive ≡ opened.drive
     pub connection : other_left.connection ≡ opened.connection
     pub unopened : other_left.unopened ≡ opened.unopened
-    pub end_is : end ≡ told ended
+    pub end_is : end ≡ begun_journaled ended
 
   -- What a job leaves whose desk keeps a journal in the file at this path. Where that file wasn't opened, the other wasn't either.
   abbrev pub HasKeptJournal : List ℕ → ((D : Type 0) → DeskView D → D → D → End → Type 0) → Type 0

@@ -24,10 +24,10 @@ use Rattle.td_cli.specs.AtDesk as desks
 use Rattle.td_cli.specs.Batched.{IsBatched}
 use Rattle.td_cli.specs.Journaled.{WithJournal}
 use Rattle.td_cli.specs.Migrated.{IsMigrated}
-use Rattle.td_cli.specs.Replayed.{IsReplayDone}
+use Rattle.td_cli.specs.Replayed.{IsJournalReplayed}
 use Rattle.td_cli.specs.Reported.{IsReportDone}
 use Rattle.td_cli.specs.Served.{IsServingDone}
-use Rattle.td_cli.specs.Exits.{IsEnded, IsTold, of_file, of_job, of_stream}
+use Rattle.td_cli.specs.Exits.{IsEnded, IsWrittenOut, of_file, of_job, of_stream}
 use Rattle.td_cli.specs.Statuses.{IsAnswered, IsPrinted}
 use Rattle.td_cli.specs.Transferred.{IsTransferred}
 use Rattle.td_cli.specs.declared.exits.Cause.TheVariants.{Of}
@@ -78,7 +78,7 @@ IsTaskDone around remaining contents said drive other_drive (Batch which csv pat
     × IsBatched around contents said drive other_drive country at (File path) (option_map string_bytes journal) which (string_bytes csv) writer writer_left errors errors_left before file other other_left machine machine_left status
 IsTaskDone around remaining contents said drive other_drive (Replay csv part records) country at reader reader_left writer writer_left errors errors_left before file other other_left machine machine_left status =
     (reader_left ≡ reader) × (other_left ≡ other)
-    × IsReplayDone around contents said drive country records (string_bytes csv) part writer writer_left errors errors_left before file machine machine_left status
+    × IsJournalReplayed around contents said drive country records (string_bytes csv) part writer writer_left errors errors_left before file machine machine_left status
 IsTaskDone around remaining contents said drive other_drive (Report kind path) country at reader reader_left writer writer_left errors errors_left before file other other_left machine machine_left status =
     (reader_left ≡ reader) × (machine_left ≡ machine) × (other_left ≡ other)
     × IsReportDone contents said drive country kind (File path) writer writer_left errors errors_left before file status
@@ -89,16 +89,16 @@ IsTaskDone around remaining contents said drive other_drive (Check path) country
 -- A job was done: a task at a desk of an office; or a file was brought to the newest version, or rows were put from one file into
 -- another, for which the input isn't read and nothing is asked of the machine. The other file is touched by the last, and by a task that
 -- keeps a journal.
-abbrev pub IsDone : {M L Reads Writes R W E V O S T : Type 0} {disk : Ghosts S} {others : Ghosts T} → Around M L Reads Writes
+abbrev pub IsJobDone : {M L Reads Writes R W E V O S T : Type 0} {disk : Ghosts S} {others : Ghosts T} → Around M L Reads Writes
     → (R → Option (List ℕ)) → (W → Option (List ℕ)) → (E → Option (List ℕ)) → KnownDrive V S → KnownDrive O T → Job → Counted R → Counted R
     → Counted W → Counted W → Counted E → Counted E → FileHeld V disk → FileHeld V disk → FileHeld O others → FileHeld O others
     → M → M → ℕ → Type 0
-IsDone around remaining contents said drive other_drive (AtDesk office task) reader reader_left writer writer_left errors errors_left before file other other_left machine machine_left status =
+IsJobDone around remaining contents said drive other_drive (AtDesk office task) reader reader_left writer writer_left errors errors_left before file other other_left machine machine_left status =
     IsTaskDone around remaining contents said drive other_drive task office.country office.at reader reader_left writer writer_left errors errors_left before file other other_left machine machine_left status
-IsDone around remaining contents said drive other_drive (Migrate path) reader reader_left writer writer_left errors errors_left before file other other_left machine machine_left status =
+IsJobDone around remaining contents said drive other_drive (Migrate path) reader reader_left writer writer_left errors errors_left before file other other_left machine machine_left status =
     (reader_left ≡ reader) × (machine_left ≡ machine) × (other_left ≡ other)
     × IsMigrated contents said drive (string_bytes path) writer writer_left errors errors_left before file status
-IsDone around remaining contents said drive other_drive (Transfer country what) reader reader_left writer writer_left errors errors_left before file other other_left machine machine_left status =
+IsJobDone around remaining contents said drive other_drive (Transfer country what) reader reader_left writer writer_left errors errors_left before file other other_left machine machine_left status =
     (reader_left ≡ reader) × (machine_left ≡ machine) × (writer_left ≡ writer)
     × IsTransferred said drive other_drive what country errors errors_left before file other other_left status
 
@@ -111,7 +111,7 @@ abbrev pub IsPerformed : {M L Reads Writes R W E V O S T : Type 0} {disk : Ghost
     → M → M → ℕ → Type 0
 IsPerformed around remaining contents said drive other_drive words reader reader_left writer writer_left errors errors_left before file other other_left machine machine_left status =
     ((job : Job) × AsksFor words job
-    × IsDone around remaining contents said drive other_drive job reader reader_left writer writer_left errors errors_left before file other other_left machine machine_left status)
+    × IsJobDone around remaining contents said drive other_drive job reader reader_left writer writer_left errors errors_left before file other other_left machine machine_left status)
     ⊎ ((no_job : NoJob) × IsNoJob words no_job × (reader_left ≡ reader) × (file ≡ before) × (other_left ≡ other) × (machine_left ≡ machine)
     × IsAnswered contents said writer writer_left errors errors_left no_job status)
 
@@ -120,4 +120,4 @@ abbrev pub IsUnread : {E : Type 0} → (E → Option (List ℕ)) → Error → C
 IsUnread said error errors errors_left status =
     ((error_kind error ≡ OutOfMemory) × IsEnded said (Some (Of NoMemory)) errors errors_left status)
     ⊎ ((error_kind error ≢ OutOfMemory) × (status ≡ 2)
-    × IsTold said errors errors_left (codes "error: the words of the command line aren't UTF-8 text\n"))
+    × IsWrittenOut said errors errors_left (codes "error: the words of the command line aren't UTF-8 text\n"))

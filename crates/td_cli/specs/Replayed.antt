@@ -14,12 +14,12 @@ use Rattle.td_machine.specs.Machine.{Around, HasRead, IsNotRead}
 use Rattle.td_machine.specs.declared.machine.ReadError.{ReadError}
 use Rattle.td_machine.specs.Drive.{KnownDrive}
 use Rattle.td_replay.specs.Numbers.{AreCounted, AreRising, IsFirstNot}
-use Rattle.td_replay.specs.Reading.{HasChanges, Tells}
+use Rattle.td_replay.specs.Reading.{HasChanges, TellsJournal}
 use Rattle.td_replay.specs.Replays.{IsReplayOf}
 use Rattle.td_replay.specs.declared.replaying.ReplayRun.{ReplayRun}
 use Rattle.td_words.specs.declared.words.Records.{Records}
 use Rattle.td_cli.specs.AtDesk.{AtDesk}
-use Rattle.td_cli.specs.Exits.{IsEnded, IsTold, of_file, of_journal, of_read_error, of_stop}
+use Rattle.td_cli.specs.Exits.{IsEnded, IsWrittenOut, of_file, of_journal, of_read_error, of_stop}
 use Rattle.td_cli.specs.declared.exits.Cause.{Cause}
 use Rattle.td_cli.specs.declared.exits.Cause.TheVariants.{Differs, ForeignRow, Of}
 use Rattle.td_cli.specs.declared.exits.Word.TheVariants as word
@@ -36,7 +36,7 @@ AreRowsOf part bytes rows = ((torn : ℕ) × HasChanges bytes rows torn) × AreI
 -- Why bytes aren't such rows: a line is none, or there was no memory; or a row isn't in order.
 abbrev pub IsUnreadFor : Bool → List ℕ → Cause → Type 0
 IsUnreadFor part bytes cause =
-    ((why : JournalFault) × Tells bytes why × (cause ≡ of_journal why))
+    ((why : JournalFault) × TellsJournal bytes why × (cause ≡ of_journal why))
     ⊎ ((rows : List Numbered) × (torn : ℕ) × (number : ℕ) × HasChanges bytes rows torn × IsFirstNot (AreInOrder part) rows number
     × (cause ≡ ForeignRow number))
 
@@ -45,7 +45,7 @@ IsUnreadFor part bytes cause =
 abbrev pub IsReplayText : {W E : Type 0} → (W → Option (List ℕ)) → (E → Option (List ℕ)) → List ℕ → Option Fault → Option ℕ
     → Counted W → Counted W → Counted E → Counted E → ℕ → Type 0
 IsReplayText contents said text (Some why) differs out out_left errors errors_left status =
-    IsTold contents out out_left text × IsEnded said (Some (of_stop why)) errors errors_left status
+    IsWrittenOut contents out out_left text × IsEnded said (Some (of_stop why)) errors errors_left status
 IsReplayText contents said text None differs out out_left errors errors_left status =
     (Appends (known_bytes contents out) (known_bytes contents out_left) text × IsEnded said (option_map Differs differs) errors errors_left status)
     ⊎ (IsCutShort contents out out_left text × IsEnded said (Some (Of word.Write)) errors errors_left status)
@@ -82,10 +82,10 @@ AreRowsReplayed contents said drive country records bytes part out out_left erro
 
 -- The journal in the file at this path was done again. It couldn't be read: then nothing was printed, and the desk's file wasn't opened.
 -- Or these are its bytes, and this came of them; and nothing more was asked of the machine.
-abbrev pub IsReplayDone : {M L Reads Writes W E V S : Type 0} {disk : Ghosts S} → Around M L Reads Writes → (W → Option (List ℕ)) → (E → Option (List ℕ))
+abbrev pub IsJournalReplayed : {M L Reads Writes W E V S : Type 0} {disk : Ghosts S} → Around M L Reads Writes → (W → Option (List ℕ)) → (E → Option (List ℕ))
     → KnownDrive V S → List ℕ → Records → List ℕ → Bool → Counted W → Counted W → Counted E → Counted E
     → FileHeld V disk → FileHeld V disk → M → M → ℕ → Type 0
-IsReplayDone around contents said drive country records csv part out out_left errors errors_left before file machine machine_left status =
+IsJournalReplayed around contents said drive country records csv part out out_left errors errors_left before file machine machine_left status =
     ((why : ReadError) × IsNotRead around.known csv machine machine_left why
     × (out_left ≡ out) × (file ≡ before) × IsEnded said (Some (of_read_error why)) errors errors_left status)
     ⊎ ((bytes : List ℕ) × HasRead around.known csv machine bytes machine_left

@@ -22,9 +22,9 @@ use Rattle.td_cli.specs.Exits.{IsEnded, of_job, of_report}
 use Rattle.td_cli.specs.declared.exits.Cause.{Cause}
 
 -- the text of a report on a content
-abbrev pub report_text : ReportKind → Content → List ℕ
-report_text (Overdue day) c = overdue_text day (movements_listed c)
-report_text Guarantees c = guarantees_text (guarantees_listed c)
+abbrev pub text_of_report : ReportKind → Content → List ℕ
+text_of_report (Overdue day) c = overdue_text day (movements_listed c)
+text_of_report Guarantees c = guarantees_text (guarantees_listed c)
 
 -- A desk that is seen so was reported on, and left as it was. What was written is the text of its content, or where a fault ended the
 -- report the beginning of that. `Write` comes only of a write of this report, which failed or took nothing and is the last one: whatever
@@ -33,7 +33,7 @@ pub record HasReported {D W : Type 0} (view : DeskView D) (opened left : D) (con
     (kind : ReportKind) (out out_left : Counted W) (end : Result (Unit {0}) ReportFault) : Type 0 where
   pub looked : HasLooked view (is_ok end) opened left
   pub written : view.is_clean left → view.is_live opened
-      → IsReported contents out out_left (report_text kind (view.content opened)) end
+      → IsReported contents out out_left (text_of_report kind (view.content opened)) end
   pub cause : end ≡ Err report.Write → (has_failed out_left ≡ true) × HasCalled (calls_of out) (calls_of out_left)
   pub chain : HasWritten contents out out_left end
 

@@ -6,7 +6,7 @@ use Rattle.counted_io.specs.Counted.{known_bytes}
 use Rattle.counted_io.specs.Chains.{IsCutShort}
 use Rattle.td_words.specs.declared.words.NoJob.{NoJob}
 use Rattle.td_words.specs.declared.words.NoJob.TheVariants.{Help, Wrong, NoMemory}
-use Rattle.td_cli.specs.Exits.{IsEnded, IsTold}
+use Rattle.td_cli.specs.Exits.{IsEnded, IsWrittenOut}
 use Rattle.td_cli.specs.declared.exits.Cause.TheVariants.{Of}
 use Rattle.td_cli.specs.declared.exits.Word.TheVariants as word
 
@@ -24,6 +24,6 @@ abbrev pub IsAnswered : {W E : Type 0} → (W → Option (List ℕ)) → (E → 
 IsAnswered contents said out out_left errors errors_left (Help text) status =
     IsPrinted contents said out out_left errors errors_left (string_bytes text) status
 IsAnswered contents said out out_left errors errors_left (Wrong text) status =
-    (status ≡ 2) × (out_left ≡ out) × IsTold said errors errors_left (string_bytes text)
+    (status ≡ 2) × (out_left ≡ out) × IsWrittenOut said errors errors_left (string_bytes text)
 IsAnswered contents said out out_left errors errors_left NoMemory status =
     (out_left ≡ out) × IsEnded said (Some (Of word.NoMemory)) errors errors_left status

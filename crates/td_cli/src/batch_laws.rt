@@ -12,7 +12,7 @@ ghost use Rattle.td_batch.specs.Runs.{IsBatchDone, IsRunOf, outcomes_of, tried};
 ghost use Rattle.td_files.specs.Found.{FileSeen, IsClean, over_file};
 ghost use Rattle.td_words.specs.declared.words.BatchKind.{BatchKind};
 ghost use Rattle.td_cli.specs.BatchLaws.{IsAnsweredAfterCrash, IsKeptBetweenRows, TellAlikeByRows, TriedRow, commands_tried, outcomes_tried};
-ghost use Rattle.td_jobs.specs.Batched.{HasDoneRows, header_of, line_of};
+ghost use Rattle.td_jobs.specs.Batched.{HasDoneRows, header_of, result_line};
 ghost use Rattle.td_jobs.specs.Desks.{BeginAlike, fresh_books};
 ghost use Rattle.td_cli.specs.Desks.{BeginsKept};
 ghost use Rattle.td_cli.specs.Runs.{GoesOnFrom, IsRun, OpensAfterCrash};
@@ -51,7 +51,7 @@ pub fn acknowledged_rows_are_kept_in_the_file<F: Disk>()
     ensures { (country : List ℕ) (image : Image) (which : BatchKind) (at : ℤ) (rows : List Command) (r : BatchRun)
         (opened left : FileSeen F.Disk) (first others : List TriedRow)
         → BeginsKept image country opened → IsClean left
-        → (one : IsBatchDone over_file (line_of which) (header_of which) at rows r opened left)
+        → (one : IsBatchDone over_file (result_line which) (header_of which) at rows r opened left)
         → zip (tried rows one.said r.stopped) (outcomes_of one.said r.stopped) ≡ first ++ others
         → IsKeptBetweenRows over_file country (fresh_books (over_file.content opened)) at first others opened left }
 {}
@@ -80,7 +80,7 @@ pub fn runs_over_one_file_lead_on<F: Disk>()
     ensures batch { (country : List ℕ) (image : Image) (which : BatchKind) (at : ℤ) (rows : List Command) (r : BatchRun)
         (opened left : FileSeen F.Disk)
         → BeginsKept image country opened → IsClean left → IsTrue (file_state left).is_open
-        → IsRunOf over_file (line_of which) (header_of which) at rows r opened left
+        → IsRunOf over_file (result_line which) (header_of which) at rows r opened left
         → IsLater (over_file.content opened) (over_file.content left) }
     ensures crash { (country : List ℕ) (image : Image) (at : ℤ) (opened left : FileSeen F.Disk) (first others : List TriedRow) (x : Content)
         → BeginsKept image country opened → IsClean left

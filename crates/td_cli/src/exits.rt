@@ -1,6 +1,6 @@
 //! How a job ends: well, with status 0 and no word, or by a cause, with status 1 and one line on standard error. Each cause is a row.
 ghost use Rattle.std.specs.Prelude.{◌≡◌, Some, IfOk, MatchResult, string_bytes};
-ghost use Rattle.td_cli.specs.Exits.{IsEnded, IsTold, line_of, of_file, of_follow, of_join, of_journal, of_report, of_rows, of_serving, of_standby, of_start, of_stop, of_stream, of_read_error, word_line};
+ghost use Rattle.td_cli.specs.Exits.{IsEnded, IsWrittenOut, cause_line, of_file, of_follow, of_join, of_journal, of_report, of_rows, of_serving, of_standby, of_start, of_stop, of_stream, of_read_error, word_line};
 ghost use Rattle.td_cli.specs.declared.exits.Cause.TheVariants.{BadCsv, BadRow, Differs, ForeignRow, HolderExists, NeedsMigration};
 ghost use Rattle.td_cli.specs.declared.exits.Word.TheVariants.{Damaged, NoMemory};
 
@@ -263,15 +263,15 @@ impl Word {
 
 // Tells a line, as much of it as is taken.
 fn tell<E: Write>(line: &str, errors: &mut Counted<E>)
-    ensures { IsTold E.contents errors.old errors.new line.now }
+    ensures { IsWrittenOut E.contents errors.old errors.new line.now }
 {
     let _told = write_whole(errors, line.as_bytes());
 }
 
 // Tells a line that was made, or that there was no memory for it.
 fn tell_made<E: Write>(line: Result<String, AllocError>, errors: &mut Counted<E>)
-    ensures { MatchResult line (λ line. IsTold E.contents errors.old errors.new (string_bytes line))
-        (λ why. IsTold E.contents errors.old errors.new (word_line NoMemory)) }
+    ensures { MatchResult line (λ line. IsWrittenOut E.contents errors.old errors.new (string_bytes line))
+        (λ why. IsWrittenOut E.contents errors.old errors.new (word_line NoMemory)) }
 {
     match line {
         Ok(line) => tell(&line, errors),
@@ -280,37 +280,37 @@ fn tell_made<E: Write>(line: Result<String, AllocError>, errors: &mut Counted<E>
 }
 
 fn bad_csv_line(alloc: Global, row: u64, column: u32) -> Result<String, AllocError>
-    ensures { IfOk result (λ line. string_bytes line ≡ line_of (BadCsv row column)) }
+    ensures { IfOk result (λ line. string_bytes line ≡ cause_line (BadCsv row column)) }
 {
     format!(in alloc; "transit-desk: bad csv row {row} column {column}\n")
 }
 
 fn needs_migration_line(alloc: Global, version: u32) -> Result<String, AllocError>
-    ensures { IfOk result (λ line. string_bytes line ≡ line_of (NeedsMigration version)) }
+    ensures { IfOk result (λ line. string_bytes line ≡ cause_line (NeedsMigration version)) }
 {
     format!(in alloc; "transit-desk: needs-migration {version}\n")
 }
 
 fn holder_exists_line(alloc: Global, holder: HolderNo) -> Result<String, AllocError>
-    ensures { IfOk result (λ line. string_bytes line ≡ line_of (HolderExists holder)) }
+    ensures { IfOk result (λ line. string_bytes line ≡ cause_line (HolderExists holder)) }
 {
     format!(in alloc; "transit-desk: holder-exists {holder}\n")
 }
 
 fn foreign_row_line(alloc: Global, row: u64) -> Result<String, AllocError>
-    ensures { IfOk result (λ line. string_bytes line ≡ line_of (ForeignRow row)) }
+    ensures { IfOk result (λ line. string_bytes line ≡ cause_line (ForeignRow row)) }
 {
     format!(in alloc; "transit-desk: journal {row}\n")
 }
 
 fn bad_row_line(alloc: Global, row: u64) -> Result<String, AllocError>
-    ensures { IfOk result (λ line. string_bytes line ≡ line_of (BadRow row)) }
+    ensures { IfOk result (λ line. string_bytes line ≡ cause_line (BadRow row)) }
 {
     format!(in alloc; "transit-desk: bad journal row {row}\n")
 }
 
 fn differs_line(alloc: Global, row: u64) -> Result<String, AllocError>
-    ensures { IfOk result (λ line. string_bytes line ≡ line_of (Differs row)) }
+    ensures { IfOk result (λ line. string_bytes line ≡ cause_line (Differs row)) }
 {
     format!(in alloc; "transit-desk: differs {row}\n")
 }

@@ -1,7 +1,7 @@
 //! The jobs of the program.
 ghost use Rattle.std.specs.Prelude.{◌≡◌, map, string_bytes};
 ghost use Rattle.td_cli.specs.Exits.{of_job, of_stream};
-ghost use Rattle.td_cli.specs.Performed.{IsDone, IsPerformed, IsTaskDone};
+ghost use Rattle.td_cli.specs.Performed.{IsJobDone, IsPerformed, IsTaskDone};
 ghost use Rattle.td_cli.specs.Statuses.{IsAnswered};
 
 use crate::batching::batch;
@@ -80,7 +80,7 @@ fn do_job<M: Machine, V: Drive, O: Drive, R: Read, W: Write, E: Write>(
     out: &mut Counted<W>,
     errors: &mut Counted<E>,
 ) -> u8
-    ensures { IsDone ⟦<M as Surroundings>⟧.around R.remaining W.contents E.contents V.known O.known job
+    ensures { IsJobDone ⟦<M as Surroundings>⟧.around R.remaining W.contents E.contents V.known O.known job
         input.old input.new out.old out.new errors.old errors.new
         file.old file.new other.old other.new machine.old machine.new result }
 {

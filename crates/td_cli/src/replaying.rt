@@ -1,7 +1,7 @@
 //! A journal, done again at a desk.
 ghost use Rattle.std.specs.Prelude.{◌≡◌, IfErr, IfOk, map};
 ghost use Rattle.td_journal_lines.specs.Rows.{numbered};
-ghost use Rattle.td_cli.specs.Replayed.{AreRowsOf, IsReplayAtDesk, IsReplayDone, IsReplayTold, IsUnreadFor};
+ghost use Rattle.td_cli.specs.Replayed.{AreRowsOf, IsReplayAtDesk, IsJournalReplayed, IsReplayTold, IsUnreadFor};
 
 use crate::at_desk::at_desk;
 use crate::exits::{Cause, DONE, Word, fault, of_file, of_journal, of_read_error, of_stop};
@@ -31,7 +31,7 @@ pub(crate) fn replay<M: Machine, V: Drive, R: Read, W: Write, E: Write>(
     errors: &mut Counted<E>,
 ) -> u8
     ensures unread { input.new ≡ input.old }
-    ensures done { IsReplayDone ⟦<M as Surroundings>⟧.around W.contents E.contents V.known office.country records.now csv.now part
+    ensures done { IsJournalReplayed ⟦<M as Surroundings>⟧.around W.contents E.contents V.known office.country records.now csv.now part
         out.old out.new errors.old errors.new file.old file.new machine.old machine.new result }
 {
     let bytes = match machine.read_file(alloc, csv) {

@@ -3,7 +3,7 @@ ghost use Rattle.std.specs.Prelude.{◌≡◌, is_ok, Err, true};
 ghost use Rattle.td_words.specs.declared.words.Records.TheVariants.{File};
 ghost use Rattle.td_cli.specs.AtDesk.{AtDesk};
 ghost use Rattle.td_cli.specs.Exits.{of_job};
-ghost use Rattle.td_cli.specs.Reported.{HasReported, IsReportDone, report_cause, report_text};
+ghost use Rattle.td_cli.specs.Reported.{HasReported, IsReportDone, report_cause, text_of_report};
 ghost use Rattle.counted_io.specs.Counted.{calls_of, has_failed, HasCalled};
 ghost use Rattle.td_report_pieces.specs.Written.{HasWritten, IsReported};
 ghost use Rattle.td_store.specs.Kept.{sql_view};
@@ -66,7 +66,7 @@ fn write_report<T: Alter, W: Write>(
 ) -> Result<(), ReportFault>
     ensures looked { HasLooked (sql_view T.Store) (is_ok result) desk.old desk.new }
     ensures written { (sql_view T.Store).is_clean desk.new → (sql_view T.Store).is_live desk.old
-        → IsReported W.contents out.old out.new (report_text kind ((sql_view T.Store).content desk.old)) result }
+        → IsReported W.contents out.old out.new (text_of_report kind ((sql_view T.Store).content desk.old)) result }
     ensures cause { result ≡ Err ReportFault.Write → (has_failed out.new ≡ true) × HasCalled (calls_of out.old) (calls_of out.new) }
     ensures chain { HasWritten W.contents out.old out.new result }
 {

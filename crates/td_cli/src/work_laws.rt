@@ -9,7 +9,7 @@ ghost use Rattle.td_batch.specs.declared.running.BatchRun.{BatchRun};
 ghost use Rattle.td_batch.specs.Runs.{IsRunOf};
 ghost use Rattle.td_files.specs.Found.{FileSeen, IsClean, over_file};
 ghost use Rattle.td_words.specs.declared.words.BatchKind.{BatchKind};
-ghost use Rattle.td_jobs.specs.Batched.{header_of, line_of};
+ghost use Rattle.td_jobs.specs.Batched.{header_of, result_line};
 ghost use Rattle.td_jobs.specs.Desks.{BeginAlike};
 ghost use Rattle.td_cli.specs.BatchLaws.{commands_tried, outcomes_tried};
 ghost use Rattle.td_cli.specs.Desks.{BeginsKept};
@@ -32,7 +32,7 @@ pub fn work_over_one_file_is_one_machines<F: Disk, OtherF: Disk>()
     ensures batch { (country : List ℕ) (image : Image) (which : BatchKind) (at : ℤ) (commands : List Command) (r : BatchRun)
         (opened left : FileSeen F.Disk)
         → BeginsKept image country opened → IsClean left → IsTrue (file_state left).is_open
-        → (ran : IsRunOf over_file (line_of which) (header_of which) at commands r opened left)
+        → (ran : IsRunOf over_file (result_line which) (header_of which) at commands r opened left)
         → IsWork country opened (rows (commands_tried at commands r ran) (outcomes_tried at commands r ran) ∷ []) left }
     ensures nothing { (country : List ℕ) (image : Image) (opened : FileSeen F.Disk)
         → BeginsKept image country opened → IsClean opened → IsWork country opened [] opened }

@@ -28,16 +28,16 @@ abbrev pub array_at : List ℕ → Data → Option Items
 array_at key value = option_and_then as_array (get key value)
 
 -- the one of these things whose name the text is
-abbrev pub named_by : {T : Type 0} → (T → List ℕ) → List T → List ℕ → Option T
-named_by name things text = find (λ thing. bytes_eq (name thing) text) things
+abbrev pub with_name : {T : Type 0} → (T → List ℕ) → List T → List ℕ → Option T
+with_name name things text = find (λ thing. bytes_eq (name thing) text) things
 
 -- the result of a control, by its code
 abbrev pub control_read : List ℕ → Option Control
-control_read text = named_by control_name (A1 ∷ A2 ∷ B1 ∷ []) text
+control_read text = with_name control_name (A1 ∷ A2 ∷ B1 ∷ []) text
 
 -- the ground of a write-off, by the word for it
 abbrev pub ground_read : List ℕ → Option Ground
-ground_read text = named_by ground_name (Results ∷ Proof ∷ []) text
+ground_read text = with_name ground_name (Results ∷ Proof ∷ []) text
 
 -- the line that a value says, and the access code beside it
 abbrev pub line_in : Data → Option (Line × List ℕ)

@@ -28,7 +28,7 @@ use Rattle.td_store.specs.declared.refused.OpenFault.TheVariants.{UnknownVersion
 use Rattle.td_migrate.specs.Upgraded.{LeavesReached, LeavesShown, LeavesWithFault, TellsUpgrade}
 use Rattle.td_migrate.specs.declared.fault.MigrateFault.{MigrateFault}
 use Rattle.td_files.specs.Upgraded.{ShowsUpgrade}
-use Rattle.td_files.specs.Found.{CommitsDesk, IsClean, IsFoundIn, IsRefusedFor, IsUnmadeFor, IsStoreOrMemory}
+use Rattle.td_files.specs.Found.{CommitsDesk, IsClean, IsFoundIn, IsOpeningRefused, IsUnmadeFor, IsStoreOrMemory}
 
 -- no fault is forgotten
 pub clean_before : (old new : State) (P : Trees → Type 0) → Survives old new P → HasCleanDisk new → HasCleanDisk old
@@ -96,7 +96,7 @@ module _ {D : Type 0} {g : disk.Ghosts D} where
       → (HasCleanDisk (file_state c) → (rule : Rule) → fault ≡ Damaged rule
       → (l : Layout) × (found.now.schema ≡ schema_of l) × AreDamaged country rule l found.now.trees)
       → (HasCleanDisk (file_state c) → IsTrue found.is_open → (x : Content) → HoldsContent x found → x.country ≡ country → IsStoreOrMemory fault)
-      → ((x : Content) → AreTreesOf x found.now.trees → HoldsContent x found) → IsClean c → IsRefusedFor image country fault c
+      → ((x : Content) → AreTreesOf x found.now.trees → HoldsContent x found) → IsClean c → IsOpeningRefused image country fault c
   refused_for image country found fault c is is_open before crash same settled unknown earlier other broken sound opens clean = record {
     left = record {
       db = found.now;

@@ -101,7 +101,7 @@ module _ {D : Type 0} {g : disk.Ghosts D} where
 
   -- What a file held was refused for this fault, which says what the tables are; unless it is the store's, or want of memory, they are
   -- no desk's of this country. The file is left as it was found.
-  pub record IsRefusedFor (image : Image) (country : List ℕ) (fault : OpenFault) (c : FileSeen g) : Type 0 where
+  pub record IsOpeningRefused (image : Image) (country : List ℕ) (fault : OpenFault) (c : FileSeen g) : Type 0 where
     pub left : ShowsFound image CommitsNothing c
     pub tells : TellsDatabase country left.db (Some fault)
     pub unsound : (x : Content) → AreTreesOf x left.db.trees → x.country ≡ country → IsStoreOrMemory fault
@@ -142,7 +142,7 @@ module _ {V D : Type 0} {g : disk.Ghosts D} where
   -- no desk was opened over the file at the path, for this fault
   abbrev pub HasNoDesk : KnownDrive V D → List ℕ → List ℕ → FileHeld V g → FileHeld V g → DeskFault → Type 0
   HasNoDesk known country path old new why =
-      IsUnopened known path false old new why ⊎ FoundAt known path false old new (λ image. IsHandedBack (IsRefusedFor image country) new why)
+      IsUnopened known path false old new why ⊎ FoundAt known path false old new (λ image. IsHandedBack (IsOpeningRefused image country) new why)
 
   -- none was made in it
   abbrev pub HasNoNewDesk : KnownDrive V D → List ℕ → List ℕ → FileHeld V g → FileHeld V g → DeskFault → Type 0

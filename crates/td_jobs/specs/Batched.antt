@@ -16,14 +16,14 @@ use Rattle.td_jobs.specs.declared.rows.Rows.{Rows}
 use Rattle.td_jobs.specs.declared.rows.Rows.TheVariants as rows
 
 -- the rows that bytes are, or the first bad row and column
-abbrev pub rows_in : BatchKind → List ℕ → Result (List Command) Place
-rows_in kind.Declarations bytes = declarations_in bytes
-rows_in kind.Acts bytes = acts_in bytes
+abbrev pub batch_rows_in : BatchKind → List ℕ → Result (List Command) Place
+batch_rows_in kind.Declarations bytes = declarations_in bytes
+batch_rows_in kind.Acts bytes = acts_in bytes
 
 -- a result row, and the header above it
-abbrev pub line_of : BatchKind → Command → Said → List ℕ
-line_of kind.Declarations = declaration_result
-line_of kind.Acts = act_result
+abbrev pub result_line : BatchKind → Command → Said → List ℕ
+result_line kind.Declarations = declaration_result
+result_line kind.Acts = act_result
 
 abbrev pub header_of : BatchKind → List ℕ
 header_of kind.Declarations = declarations_header
@@ -43,4 +43,4 @@ pub record HasDoneRows {D M : Type 0} (view : DeskView D) (opened left : D) (tic
     (which : BatchKind) (commands : List Command) (machine machine_left : M) (r : BatchRun) : Type 0 where
   pub moment : ℤ
   pub asked : IsMomentBy ticks at machine moment machine_left
-  pub ran : IsRunOf view (line_of which) (header_of which) moment commands r opened left
+  pub ran : IsRunOf view (result_line which) (header_of which) moment commands r opened left

@@ -44,13 +44,13 @@ IsMomentBy ticks (Some at) old now new = (now ≡ at) × (new ≡ old)
 IsMomentBy ticks None old now new = ticks old now new
 
 -- a clock that stands at a moment
-abbrev pub stands : FixedClock → ℤ → FixedClock → Type 0
-stands old at new = (at ≡ old.at) × (new ≡ old)
+abbrev pub is_fixed_at : FixedClock → ℤ → FixedClock → Type 0
+is_fixed_at old at new = (at ≡ old.at) × (new ≡ old)
 
 -- What a job does that asks at each request does so by this clock: one that stands at the moment that is given, beside the machine,
 -- which stays as it is; or else the machine's own.
 abbrev pub ByClock : {M : Type 0} → (M → ℤ → M → Type 0) → Option ℤ → M → M
     → ((C : Type 0) → (C → ℤ → C → Type 0) → C → C → Type 0) → Type 0
 ByClock ticks (Some at) old new did =
-    (new ≡ old) × ((left : FixedClock) × did FixedClock stands (record { at = at }) left)
+    (new ≡ old) × ((left : FixedClock) × did FixedClock is_fixed_at (record { at = at }) left)
 ByClock {M} ticks None old new did = did M ticks old new

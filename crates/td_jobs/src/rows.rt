@@ -2,7 +2,7 @@
 ghost use Rattle.std.specs.Prelude.{◌≡◌, Ok, IfErr, IfOk};
 ghost use Rattle.td_batch_rows.specs.Rows.{Tells};
 ghost use Rattle.td_batch.specs.Runs.{IsRunOf};
-ghost use Rattle.td_jobs.specs.Batched.{HasDoneRows, commands_of, header_of, kind_of, line_of, rows_in};
+ghost use Rattle.td_jobs.specs.Batched.{HasDoneRows, commands_of, header_of, kind_of, result_line, batch_rows_in};
 ghost use Rattle.td_jobs.specs.Desks.{IsMomentBy};
 
 use crate::job::DeskJob;
@@ -30,8 +30,8 @@ impl Rows {
     /// The rows of that kind that the bytes of a file are. An error: they aren't wholly rows, and it tells the first bad row
     /// and column; or there was no memory for the rows.
     pub fn read(alloc: Global, kind: BatchKind, bytes: &[u8]) -> Result<Rows, BatchFault>
-        ensures rows { IfOk result (λ rows. (kind_of rows ≡ kind) × (rows_in kind bytes.now ≡ Ok (commands_of rows))) }
-        ensures bad { IfErr result (Tells (rows_in kind bytes.now)) }
+        ensures rows { IfOk result (λ rows. (kind_of rows ≡ kind) × (batch_rows_in kind bytes.now ≡ Ok (commands_of rows))) }
+        ensures bad { IfErr result (Tells (batch_rows_in kind bytes.now)) }
     {
         match kind {
             BatchKind::Declarations => Ok(Rows::Declarations(read_declarations(alloc, bytes)?)),
@@ -40,7 +40,7 @@ impl Rows {
     }
 
     fn run<D: Desk>(&self, alloc: Global, desk: &mut D, at: i64) -> BatchRun
-        ensures { IsRunOf D.seen (line_of (kind_of self.now)) (header_of (kind_of self.now)) at (commands_of self.now)
+        ensures { IsRunOf D.seen (result_line (kind_of self.now)) (header_of (kind_of self.now)) at (commands_of self.now)
             result desk.old desk.new }
     {
         match self {

@@ -2,7 +2,7 @@
 use Rattle.std.proofs.Common.{◌≡◌, ℤ, List, [], ◌∷◌, None, Some, inl, inr, refl, sym, subst}
 use Rattle.std.specs.List.{FoldsTo}
 use Rattle.sqlite_disk.specs.declared.Disk.{Ghosts}
-use Rattle.td_batch.specs.Runs.{IsCausedBy, IsRowDone, at_moment}
+use Rattle.td_batch.specs.Runs.{IsRowCausedBy, IsRowDone, at_moment}
 use Rattle.td_batch.proofs.AgainAtDesk.{clean_back, live_back}
 use Rattle.td_commands.specs.declared.command.Command.{Command}
 use Rattle.td_desk.specs.Content.{IsSound}
@@ -26,7 +26,7 @@ module _ {D F : Type 0} (g : Ghosts F) (view : DeskView D) (at : ℤ) where
     abbrev Grown : Outcome → Type 0
     Grown o = HasGrown view (answered_rows at ((command, o) ∷ [])) old new × IsSound (view.content new.desk)
 
-    by_outcome : (o : Outcome) → IsCausedBy (journaled view) old (at_moment at command) o new
+    by_outcome : (o : Outcome) → IsRowCausedBy (journaled view) old (at_moment at command) o new
         → IsStep (Live old) (Live new) (view.content old.desk) (at_moment at command) o (view.content new.desk) → Grown o
     by_outcome (outcome.Said words) (inl (mid, weighed, carried)) step =
         let carries = (step.2 sound).1 in

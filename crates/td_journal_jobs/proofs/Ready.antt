@@ -9,12 +9,12 @@ use Rattle.td_journal.specs.Journaled.{journaled}
 use Rattle.td_journal.specs.declared.desk.JournaledDesk.{JournaledDesk}
 use Rattle.td_journal_lines.specs.Lines.{Numbered}
 use Rattle.td_journal_start.specs.Starts.{IsTaken}
-use Rattle.td_redo.specs.Endings.{Ends}
+use Rattle.td_redo.specs.Endings.{IsRedoneAs}
 use Rattle.td_redo.specs.declared.redoing.Redone.{Redone}
 use Rattle.td_redo.specs.declared.redoing.Redone.TheVariants.{Carried, Stands, Foreign}
 use Rattle.td_journal_jobs.specs.Journaling.{BeginsJournal}
 
-left_sound : (ending : Redone) (s : Stamped) (reply : List ℕ) (old new : Content) → IsSound old → Ends ending s reply old new → IsSound new
+left_sound : (ending : Redone) (s : Stamped) (reply : List ℕ) (old new : Content) → IsSound old → IsRedoneAs ending s reply old new → IsSound new
 left_sound Carried s reply old new sound ends = ends.1.sound
 left_sound Stands s reply old new sound ends = subst IsSound (sym ends.1) sound
 left_sound Foreign s reply old new sound ends = subst IsSound (sym ends.1) sound

@@ -5,7 +5,7 @@ use Rattle.td_desk.specs.View.{DeskView}
 use Rattle.td_journal.specs.Journal.{IsDurable, IsTight, is_open}
 use Rattle.td_journal.specs.Journaled.{journaled, waiting}
 use Rattle.td_journal.specs.declared.desk.JournaledDesk.{JournaledDesk}
-use Rattle.td_journal_start.specs.Starts.{IsRefused, IsStarted}
+use Rattle.td_journal_start.specs.Starts.{IsStartRefused, IsStarted}
 use Rattle.td_journal_start.specs.declared.refused.StartFault.{StartFault}
 use Rattle.td_journal_jobs.specs.declared.journaling.Journaled.{Journaled}
 
@@ -26,7 +26,7 @@ module _ {D F End : Type 0} (g : Ghosts F) (view : DeskView D) (opened left : D)
   HasJournaledTo (Ok end) =
       (begun : JournaledDesk D F g) × (stopped : JournaledDesk D F g) × BeginsJournal view opened file begun
       × did (JournaledDesk D F g) (journaled view) begun stopped end × (left ≡ stopped.desk) × (kept ≡ stopped.journal.file)
-  HasJournaledTo (Err why) = untouched × IsRefused view g opened file why left kept
+  HasJournaledTo (Err why) = untouched × IsStartRefused view g opened file why left kept
 
 abbrev pub HasJournaled : {D F End : Type 0} (g : Ghosts F) → DeskView D → D → D → F → ((E : Type 0) → DeskView E → E → E → End → Type 0) → Type 0
     → Journaled End F → Type 0

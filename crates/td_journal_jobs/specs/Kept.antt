@@ -9,7 +9,7 @@ use Rattle.td_batch.specs.declared.running.BatchRun.{BatchRun}
 use Rattle.td_commands.specs.declared.command.Command.{Command}
 use Rattle.td_desk.specs.Content.{IsSound}
 use Rattle.td_desk.specs.View.{DeskView}
-use Rattle.td_jobs.specs.Batched.{HasDoneRows, header_of, line_of}
+use Rattle.td_jobs.specs.Batched.{HasDoneRows, header_of, result_line}
 use Rattle.td_jobs.specs.Listening.{HasServed}
 use Rattle.td_jobs.specs.Piped.{IsPiped}
 use Rattle.td_journal.specs.Growth.{HasGrown, answered, answered_over, answered_rows}
@@ -44,6 +44,6 @@ abbrev pub BatchIsKept : {D F M : Type 0} (g : Ghosts F) → DeskView D → (M �
 BatchIsKept {D} {F} {M} g view ticks =
     (begun stopped : JournaledDesk D F g) (at : Option ℤ) (which : BatchKind) (commands : List Command) (machine machine_left : M) (r : BatchRun)
     → (rows : HasDoneRows (journaled view) begun stopped ticks at which commands machine machine_left r)
-    → (done : IsBatchDone (journaled view) (line_of which) (header_of which) rows.moment commands r begun stopped)
+    → (done : IsBatchDone (journaled view) (result_line which) (header_of which) rows.moment commands r begun stopped)
     → EndsWell view begun stopped
     → HasGrown view (answered_rows rows.moment (zip (tried commands done.said r.stopped) (outcomes_of done.said r.stopped))) begun stopped

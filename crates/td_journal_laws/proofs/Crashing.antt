@@ -16,7 +16,7 @@ use Rattle.td_journal.specs.declared.desk.JournaledDesk.{JournaledDesk}
 use Rattle.td_journal_rows.specs.Requests.{IsTyped}
 use Rattle.td_journal_rows.specs.Rows.{HasNoLineFeed}
 use Rattle.td_journal_start.specs.Laws.{IsClean}
-use Rattle.td_journal_start.specs.Starts.{IsRefused, IsStarted}
+use Rattle.td_journal_start.specs.Starts.{IsStartRefused, IsStarted}
 use Rattle.td_journal_start.specs.declared.refused.StartFault.TheVariants.{ForeignRow}
 use Rattle.td_journal_laws.specs.Crashes.{ACrashBetweenIsMadeGood, ACrashIsMadeGood, AreABeginning, ARowFirstIsMadeGood, IsAtRest, IsCarriedAt, IsLeftBy, IsMadeGood, IsRowFirst, IsUncarried, NoCrashBetweenIsForeign, NoCrashIsForeign, rows_for}
 use Rattle.td_journal_laws.specs.Kept.{IsKept, IsKeptAt, IsToBeStarted}
@@ -214,7 +214,7 @@ module _ {D F : Type 0} (view : DeskView D) (g : Ghosts F) (begin : Content) (ro
   started : AStartIsWhole view g → (rs : Rows) (j : JournaledDesk D F g) → Finds rs → IsStarted view desk file j → IsClean view g j.desk j.journal.file → IsKeptAt view begin rs first j
   started whole rs j (text, content, found) start clean = (whole begin content rs first text desk file j found start clean).0
 
-  not_refused : NoStartIsForeign view g → (rs : Rows) (number : ℕ) (after : D) (kept : F) → Finds rs → IsClean view g after kept → IsRefused view g desk file (ForeignRow number) after kept → ⊥
+  not_refused : NoStartIsForeign view g → (rs : Rows) (number : ℕ) (after : D) (kept : F) → Finds rs → IsClean view g after kept → IsStartRefused view g desk file (ForeignRow number) after kept → ⊥
   not_refused never rs number after kept (text, content, found) clean refused = never begin content rs first number text desk after file kept found clean refused
 
 module _ {D F : Type 0} (view : DeskView D) (g : Ghosts F) where

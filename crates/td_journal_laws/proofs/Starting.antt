@@ -12,7 +12,7 @@ use Rattle.td_journal_rows.proofs.RowsBack.{line_is, row_front}
 use Rattle.td_journal_start.specs.Laws.{IsClean, IsJournaled, NoRowIsForeign, StartIsWhole}
 use Rattle.td_journal_lines.specs.Lines.{IsLine, Numbered}
 use Rattle.td_journal_start.specs.Lines.{AreLines, IsJournal, IsLast, next_after}
-use Rattle.td_journal_start.specs.Starts.{IsRefused, IsStarted, IsTaken}
+use Rattle.td_journal_start.specs.Starts.{IsStartRefused, IsStarted, IsTaken}
 use Rattle.td_journal_start.specs.declared.refused.StartFault.TheVariants.{ForeignRow}
 use Rattle.td_journal_laws.specs.Kept.{IsKeptAt, IsToBeStarted, LacksTheLast}
 use Rattle.td_journal_laws.specs.Laws.{AStartIsWhole, NoStartIsForeign}
@@ -141,7 +141,7 @@ module _ {D F : Type 0} (view : DeskView D) (g : Ghosts F) (begin content : Cont
             all.2,
           )
 
-  pub not_foreign : NoRowIsForeign view g → (number : ℕ) (new : D) (left : F) → IsClean view g new left → IsRefused view g desk file (ForeignRow number) new left → ⊥
+  pub not_foreign : NoRowIsForeign view g → (number : ℕ) (new : D) (left : F) → IsClean view g new left → IsStartRefused view g desk file (ForeignRow number) new left → ⊥
   not_foreign never_so number new left clean refused = by either
     where
       by : (rows ≡ []) ⊎ IsWith → ⊥

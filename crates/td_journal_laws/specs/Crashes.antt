@@ -18,7 +18,7 @@ use Rattle.td_journal_laws.specs.Kept.{BeginsAt, IsKeptAt}
 use Rattle.td_journal_laws.specs.Laws.{AreTyped}
 use Rattle.td_journal_rows.specs.Requests.{IsTyped}
 use Rattle.td_journal_start.specs.Laws.{IsClean}
-use Rattle.td_journal_start.specs.Starts.{IsRefused, IsStarted}
+use Rattle.td_journal_start.specs.Starts.{IsStartRefused, IsStarted}
 use Rattle.td_journal_start.specs.declared.refused.StartFault.TheVariants.{ForeignRow}
 use Rattle.td_redo.specs.Crashes.{IsCommandAt}
 use Rattle.td_redo.specs.Redo.{Row, said_over}
@@ -115,7 +115,7 @@ NoCrashIsForeign {D} {F} view g =
     → IsAtRest view begin rows first old → IsTyped s.command → next_number old.journal < 10 ^ 18
     → IsCarriedAt view old s mid fault new → IsLeftBy view g new desk file
     → AreABeginning (text_of old.journal) (written (waiting mid)) (g.seen file)
-    → IsClean view g after left → IsRefused view g desk file (ForeignRow number) after left → ⊥
+    → IsClean view g after left → IsStartRefused view g desk file (ForeignRow number) after left → ⊥
 
 -- A crash before that, or between commands, costs nothing.
 abbrev pub ACrashBetweenIsMadeGood : {D F : Type 0} → DeskView D → Ghosts F → Type 0
@@ -129,7 +129,7 @@ abbrev pub NoCrashBetweenIsForeign : {D F : Type 0} → DeskView D → Ghosts F 
 NoCrashBetweenIsForeign {D} {F} view g =
     (begin : Content) (rows : List (Row (List ℕ))) (first number : ℕ) (old new : JournaledDesk D F g) (desk after : D) (file left : F)
     → IsAtRest view begin rows first old → LeavesOnly view old.desk (view.content old.desk) → IsUncarried view old new
-    → IsLeftBy view g new desk file → IsClean view g after left → IsRefused view g desk file (ForeignRow number) after left → ⊥
+    → IsLeftBy view g new desk file → IsClean view g after left → IsStartRefused view g desk file (ForeignRow number) after left → ⊥
 
 -- ---- after many commands, in whatever way they came: a stream, connections, the rows of a batch
 
@@ -154,4 +154,4 @@ NoCrashAfterARunIsForeign {D} {F} view g =
     (begin : Content) (rows : List (Row (List ℕ))) (first number : ℕ) (list : List Stamped) (old new : JournaledDesk D F g) (desk after : D) (file left : F)
     → IsAtRest view begin rows first old → AreTyped list → next_number new.journal ≤ 10 ^ 18 → HasGrown view list old new
     → LeavesOnly view new.desk (view.content new.desk) → IsLeftBy view g new desk file
-    → IsClean view g after left → IsRefused view g desk file (ForeignRow number) after left → ⊥
+    → IsClean view g after left → IsStartRefused view g desk file (ForeignRow number) after left → ⊥

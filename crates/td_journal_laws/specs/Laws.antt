@@ -11,7 +11,7 @@ use Rattle.td_journal.specs.declared.desk.JournaledDesk.{JournaledDesk}
 use Rattle.td_journal_laws.specs.Kept.{IsKept, IsKeptAt, IsToBeStarted}
 use Rattle.td_journal_rows.specs.Requests.{IsTyped}
 use Rattle.td_journal_start.specs.Laws.{IsClean}
-use Rattle.td_journal_start.specs.Starts.{IsRefused, IsStarted}
+use Rattle.td_journal_start.specs.Starts.{IsStartRefused, IsStarted}
 use Rattle.td_journal_start.specs.declared.refused.StartFault.TheVariants.{ForeignRow}
 use Rattle.td_redo.specs.Redo.{Row}
 
@@ -45,4 +45,4 @@ abbrev pub NoStartIsForeign : {D F : Type 0} → DeskView D → Ghosts F → Typ
 NoStartIsForeign {D} {F} view g =
     (begin content : Content) (rows : List (Row (List ℕ))) (first number : ℕ) (text : List ℕ) (desk new : D) (file left : F)
     → IsToBeStarted view g begin rows first text content desk file → IsClean view g new left
-    → IsRefused view g desk file (ForeignRow number) new left → ⊥
+    → IsStartRefused view g desk file (ForeignRow number) new left → ⊥

@@ -12,7 +12,7 @@ use Rattle.std.specs.Cmp.Lexicographic.{pointwise}
 use Rattle.std.specs.List.{AllByRecursion, list_all, position_or_len, zip}
 use Rattle.std.specs.Prelude.{◌&&◌, if◌then◌else◌, nat_le, nat_lt, not, ok_or}
 use Rattle.std.specs.Str.{is_utf8}
-use Rattle.path_table.specs.Segments.{is_named, segment_fits, segments}
+use Rattle.path_table.specs.Segments.{is_part_name, segment_fits, segments}
 use Rattle.ascii_text.specs.Digits.{IsMark}
 use Rattle.ascii_text.proofs.Decided.{all_decided, le_decided}
 use Rattle.td_base.specs.Codes.{IsHolderNumber, holder_text}
@@ -24,7 +24,7 @@ use Rattle.td_fields.specs.Faults.{◌>>=◌}
 use Rattle.td_fields.specs.declared.fault.WebFault.{WebFault}
 use Rattle.td_fields.specs.declared.fault.WebFault.TheVariants.{BadGrn, BadHolder, BadMrn, NoRoute, NoMethod}
 use Rattle.td_routes.specs.Bodies.{command_at, command_of}
-use Rattle.td_routes.specs.Routes.{TableRow, grn_part, holder_part, methods_with, mrn_part, path_of, route_of, route_with, row_with, table}
+use Rattle.td_routes.specs.Routes.{TableRow, grn_part, holder_in_part, methods_with, mrn_part, path_of, route_of, route_with, row_with, table}
 use Rattle.td_routes.specs.declared.table.Route.{Route}
 use Rattle.td_routes.specs.declared.table.Route.TheVariants as route
 use Rattle.td_journal_rows.specs.Requests.{request_method, request_path}
@@ -115,7 +115,7 @@ abbrev route_by : List (List ℕ) → List ℕ → Result Route WebFault
 route_by ss method =
     ok_or (option_map (λ (row : TableRow). row.path) (find (λ (row : TableRow). pointwise segment_fits (segments row.path) ss) table)) NoRoute >>= λ pattern.
     ok_or (row_with table pattern method) (NoMethod (methods_with table pattern)) >>= λ row.
-    route_with (map (λ p. p.1) (filter (λ p. is_named p.0) (zip (segments pattern) ss))) row.endpoint
+    route_with (map (λ p. p.1) (filter (λ p. is_part_name p.0) (zip (segments pattern) ss))) row.endpoint
 
 -- a path of such characters, which leads to a route
 pub record LeadsTo (method path : List ℕ) (r : Route) : Type 0 where
@@ -135,7 +135,7 @@ by_segments method s ss r here rest found =
 
 -- ---- parts that are read
 
-holder_then : {B : Type 0} (n : ℕ) (next : ℕ → Result B WebFault) → IsHolderNumber n → (holder_part (holder_text n) >>= next) ≡ next n
+holder_then : {B : Type 0} (n : ℕ) (next : ℕ → Result B WebFault) → IsHolderNumber n → (holder_in_part (holder_text n) >>= next) ≡ next n
 holder_then n next h = ap (λ (o : Option ℕ). ok_or o BadHolder >>= next) (holder_reads n h)
 
 grn_then : {B : Type 0} (text : List ℕ) (next : List ℕ → Result B WebFault) → IsGrn text → (grn_part text >>= next) ≡ next text
@@ -149,12 +149,12 @@ abbrev named : ℕ → List ℕ → Result (ℕ × List ℕ) WebFault
 named holder reference = Ok (holder, reference)
 
 holder_grn_then : (n : ℕ) (text : List ℕ) (made : ℕ → List ℕ → Route) → IsHolderNumber n → IsGrn text
-    → ((holder_part (holder_text n) >>= λ holder. grn_part text >>= λ grn. named holder grn) >>= λ both. Ok (made both.0 both.1)) ≡ Ok (made n text)
+    → ((holder_in_part (holder_text n) >>= λ holder. grn_part text >>= λ grn. named holder grn) >>= λ both. Ok (made both.0 both.1)) ≡ Ok (made n text)
 holder_grn_then n text made h g =
     ap (λ (r : Result (ℕ × List ℕ) WebFault). r >>= λ both. Ok (made both.0 both.1)) (holder_then n (λ holder. grn_part text >>= λ grn. named holder grn) h ∙ grn_then text (λ grn. named n grn) g)
 
 holder_mrn_then : (n : ℕ) (text : List ℕ) (made : ℕ → List ℕ → Route) → IsHolderNumber n → IsMrn text
-    → ((holder_part (holder_text n) >>= λ holder. mrn_part text >>= λ mrn. named holder mrn) >>= λ both. Ok (made both.0 both.1)) ≡ Ok (made n text)
+    → ((holder_in_part (holder_text n) >>= λ holder. mrn_part text >>= λ mrn. named holder mrn) >>= λ both. Ok (made both.0 both.1)) ≡ Ok (made n text)
 holder_mrn_then n text made h m =
     ap (λ (r : Result (ℕ × List ℕ) WebFault). r >>= λ both. Ok (made both.0 both.1)) (holder_then n (λ holder. mrn_part text >>= λ mrn. named holder mrn) h ∙ mrn_then text (λ mrn. named n mrn) m)
 

@@ -14,7 +14,7 @@ use Rattle.td_journal_lines.specs.Lines.{Numbered}
 use Rattle.td_journal_start.specs.Lines.{IsJournal, next_after, tail}
 use Rattle.td_journal_start.specs.Starts.{IsStarted, IsTaken}
 use Rattle.td_journal_start.proofs.Reading.{journal_once}
-use Rattle.td_redo.specs.Endings.{Ends}
+use Rattle.td_redo.specs.Endings.{IsRedoneAs}
 use Rattle.td_redo.specs.declared.redoing.Redone.{Redone}
 use Rattle.td_redo.specs.declared.redoing.Redone.TheVariants.{Carried, Stands, Foreign}
 use Rattle.td_redo.proofs.Endings.{redone_twice}
@@ -37,7 +37,7 @@ text_alone bytes text last j = record {
     by (inr all) = inr (let size : length bytes ≡ length text + length j.torn = ap length j.bytes_are ∙ length-append text j.torn in omega (arith, all, size))
 
 -- what a redo leaves is sound
-ends_sound : (ending : Redone) (s : Stamped) (reply : List ℕ) (old new : Content) → IsSound old → Ends ending s reply old new → IsSound new
+ends_sound : (ending : Redone) (s : Stamped) (reply : List ℕ) (old new : Content) → IsSound old → IsRedoneAs ending s reply old new → IsSound new
 ends_sound Carried s reply old new sound ends = ends.1.sound
 ends_sound Stands s reply old new sound ends = subst IsSound (sym ends.1) sound
 ends_sound Foreign s reply old new sound ends = subst IsSound (sym ends.1) sound
@@ -54,15 +54,15 @@ module _ {D F : Type 0} (view : DeskView D) (g : Ghosts F) (desk again : D) (fil
 
   -- the last row, asked again with this ending
   pub row_again : (last : Option Numbered) (r : Numbered) (ending : Redone) (new : Content) → IsTaken view desk last one.desk → last ≡ Some r
-      → (IsSound (view.content again) → Ends ending r.row.stamped r.row.shown (view.content again) new) → (new ≡ view.content one.desk) × (ending ≢ Foreign)
+      → (IsSound (view.content again) → IsRedoneAs ending r.row.stamped r.row.shown (view.content again) new) → (new ≡ view.content one.desk) × (ending ≢ Foreign)
   row_again None r ending new taken is ends = cc
   row_again (Some q) r ending new (first, other, asked) is ends =
       let same : q ≡ r = cc in
-      let ended : Ends first q.row.stamped q.row.shown (view.content desk) (view.content one.desk) = asked.ends clean.0 sound in
+      let ended : IsRedoneAs first q.row.stamped q.row.shown (view.content desk) (view.content one.desk) = asked.ends clean.0 sound in
       let sound_left : IsSound (view.content one.desk) = ends_sound first q.row.stamped q.row.shown (view.content desk) (view.content one.desk) sound ended in
-      let next : Ends ending r.row.stamped r.row.shown (view.content one.desk) new =
-      subst (λ (x : Content). Ends ending r.row.stamped r.row.shown x new) left.content (ends (subst IsSound (sym left.content) sound_left)) in
-      let again_q : Ends ending q.row.stamped q.row.shown (view.content one.desk) new = subst (λ (x : Numbered). Ends ending x.row.stamped x.row.shown (view.content one.desk) new) (sym same) next in
+      let next : IsRedoneAs ending r.row.stamped r.row.shown (view.content one.desk) new =
+      subst (λ (x : Content). IsRedoneAs ending r.row.stamped r.row.shown x new) left.content (ends (subst IsSound (sym left.content) sound_left)) in
+      let again_q : IsRedoneAs ending q.row.stamped q.row.shown (view.content one.desk) new = subst (λ (x : Numbered). IsRedoneAs ending x.row.stamped x.row.shown (view.content one.desk) new) (sym same) next in
       let both = redone_twice (view.content desk) (view.content one.desk) new q.row.stamped q.row.shown first ending sound asked.proper ended again_q in
       (both.0, λ foreign. other (both.1 foreign))
 

@@ -10,7 +10,7 @@ use Rattle.td_journal_start.specs.Begun.{IsUntaken}
 use Rattle.td_journal_lines.specs.Lines.{Numbered}
 use Rattle.td_journal_start.specs.Lines.{IsJournal}
 use Rattle.td_journal_start.specs.Rows.{last_seen}
-use Rattle.td_journal_start.specs.Starts.{IsAsFound, IsKept, IsRefused}
+use Rattle.td_journal_start.specs.Starts.{IsAsFound, IsKept, IsStartRefused}
 use Rattle.td_journal_start.specs.Tails.{IsFound}
 use Rattle.td_journal_start.specs.declared.refused.StartFault.{StartFault}
 use Rattle.td_journal_start.specs.declared.refused.StartFault.TheVariants.{BadJournal, ForeignRow, NoMemory, Store}
@@ -18,7 +18,7 @@ use Rattle.td_journal_start.specs.declared.tail.Found.{Found}
 
 -- a last row that isn't taken leaves the file
 pub refused_at : {D F : Type 0} (view : DeskView D) (g : Ghosts F) (desk new : D) (file left : F) (text : List ℕ) (last : Option Numbered) (why : StartFault) → IsAsFound g file left
-    → (IsTrue (g.is_clean left) → IsJournal (g.seen file) text last) → IsUntaken view desk last why new → IsRefused view g desk file why new left
+    → (IsTrue (g.is_clean left) → IsJournal (g.seen file) text last) → IsUntaken view desk last why new → IsStartRefused view g desk file why new left
 refused_at view g desk new file left text None why file_is found untaken = absurd untaken
 refused_at view g desk new file left text (Some r) BadJournal file_is found untaken = absurd untaken
 refused_at view g desk new file left text (Some r) (ForeignRow row) file_is found untaken =

@@ -13,7 +13,7 @@ use Rattle.td_journal_start.specs.Texts.{HasLast, IsWhole}
 use Rattle.td_journal_lines.proofs.Reading.{line_one}
 use Rattle.td_journal_start.proofs.Reading.{journal_last, same_last}
 use Rattle.td_journal_start.proofs.Splitting.{last_once, line_whole}
-use Rattle.td_redo.specs.Endings.{Ends}
+use Rattle.td_redo.specs.Endings.{IsRedoneAs}
 use Rattle.td_redo.specs.Redo.{AreDone, Row}
 use Rattle.td_redo.specs.Replies.{body_text}
 use Rattle.td_redo.specs.declared.redoing.Redone.{Redone}
@@ -86,11 +86,11 @@ module _ {D F : Type 0} (view : DeskView D) (g : Ghosts F) (begin before after :
   sound_at (inl same) = subst IsSound (sym same) (journals.sound_done (List ℕ) body_text begin before rows is.sound is.done)
   sound_at (inr same) = subst IsSound (sym same) is.last.carried.sound
 
-  pub ended : (r : Numbered) (ending : Redone) (new : Content) → r ≡ TheLast → (IsSound (view.content desk) → Ends ending r.row.stamped r.row.shown (view.content desk) new)
+  pub ended : (r : Numbered) (ending : Redone) (new : Content) → r ≡ TheLast → (IsSound (view.content desk) → IsRedoneAs ending r.row.stamped r.row.shown (view.content desk) new)
       → (new ≡ after) × AreDone body_text begin (rows ++ row ∷ []) new × (ending ≢ Foreign)
   ended r ending new same ends =
       journals.start_is_whole begin before after (view.content desk) new rows row ending is.sound is.done is.last is.holds
-      (subst (λ (x : Numbered). Ends ending x.row.stamped x.row.shown (view.content desk) new) same (ends (sound_at is.holds)))
+      (subst (λ (x : Numbered). IsRedoneAs ending x.row.stamped x.row.shown (view.content desk) new) same (ends (sound_at is.holds)))
 
   pub taken : (last : Option Numbered) (new : D) → last ≡ Some TheLast → view.is_clean new → IsTaken view desk last new
       → (view.content new ≡ after) × AreDone body_text begin (rows ++ row ∷ []) (view.content new)

@@ -8,7 +8,7 @@ use Rattle.td_journal.specs.declared.desk.JournaledDesk.{JournaledDesk}
 use Rattle.td_journal_rows.specs.Rows.{HasNoLineFeed}
 use Rattle.td_journal_lines.specs.Lines.{IsLine}
 use Rattle.td_journal_start.specs.Lines.{AreLines, tail}
-use Rattle.td_journal_start.specs.Starts.{IsRefused, IsStarted}
+use Rattle.td_journal_start.specs.Starts.{IsStartRefused, IsStarted}
 use Rattle.td_journal_start.specs.declared.refused.StartFault.TheVariants.{BadJournal, ForeignRow}
 use Rattle.td_redo.specs.Redo.{AreDone, IsDone, Row}
 use Rattle.td_redo.specs.Replies.{body_text}
@@ -38,8 +38,8 @@ NotRefusedAgain {D} {F} view g =
     (desk again new : D) (file found left : F) (one : JournaledDesk D F g) → IsSound (view.content desk)
     → IsStarted view desk file one → IsClean view g one.desk one.journal.file
     → IsLeft view one again found → IsClean view g new left
-    → (IsRefused view g again found BadJournal new left → ⊥)
-    × ((row : ℕ) → IsRefused view g again found (ForeignRow row) new left → ⊥)
+    → (IsStartRefused view g again found BadJournal new left → ⊥)
+    × ((row : ℕ) → IsStartRefused view g again found (ForeignRow row) new left → ⊥)
 
 -- A journal's rows, done one after the other, and the file in which they stand, with a torn row behind them, or nothing. The desk's
 -- content is that before the last row or that behind it.
@@ -67,7 +67,7 @@ abbrev pub NoRowIsForeign : {D F : Type 0} → DeskView D → Ghosts F → Type 
 NoRowIsForeign {D} {F} view g =
     (begin before after : Content) (rows : List (Row (List ℕ))) (row : Row (List ℕ)) (first : ℕ) (text torn : List ℕ) (desk new : D) (file left : F) (number : ℕ)
     → IsJournaled view g begin before after rows row first text torn desk file → IsClean view g new left
-    → IsRefused view g desk file (ForeignRow number) new left → ⊥
+    → IsStartRefused view g desk file (ForeignRow number) new left → ⊥
 
 -- Nor is the file none of a journal, where the last line and what is torn behind it are less than what is read of a file.
 abbrev pub JournalIsRead : {D F : Type 0} → DeskView D → Ghosts F → Type 0
@@ -75,4 +75,4 @@ JournalIsRead {D} {F} view g =
     (begin before after : Content) (rows : List (Row (List ℕ))) (row : Row (List ℕ)) (first : ℕ) (text torn : List ℕ) (desk new : D) (file left : F)
     → IsJournaled view g begin before after rows row first text torn desk file
     → ((line : List ℕ) → IsLine (record { number = first + length rows; row = row }) line → length line + length torn < tail)
-    → IsClean view g new left → IsRefused view g desk file BadJournal new left → ⊥
+    → IsClean view g new left → IsStartRefused view g desk file BadJournal new left → ⊥

@@ -13,7 +13,7 @@ use Rattle.td_journal_lines.specs.Lines.{Numbered}
 use Rattle.td_journal_start.specs.Lines.{IsJournal, IsNoJournal, next_after}
 use Rattle.td_journal_start.specs.declared.refused.StartFault.{StartFault}
 use Rattle.td_journal_start.specs.declared.refused.StartFault.TheVariants.{BadJournal, ForeignRow, NoMemory, Store}
-use Rattle.td_redo.specs.Endings.{Ends, IsRedoneBy}
+use Rattle.td_redo.specs.Endings.{IsRedoneAs, IsRedoneBy}
 use Rattle.td_redo.specs.Redo.{Row}
 use Rattle.td_redo.specs.declared.redoing.Redone.{Redone}
 use Rattle.td_redo.specs.declared.redoing.Redone.TheVariants.{Carried, Foreign}
@@ -25,13 +25,13 @@ pub record IsAsked {D : Type 0} (view : DeskView D) (old : D) (row : Row (List �
   pub live : view.is_clean new → view.is_live new → view.is_live old
   pub shown : view.is_clean new → OnOk result (view.is_live old × view.is_live new)
   pub ends : view.is_clean new → IsSound (view.content old)
-      → IfOk result (λ ending. Ends ending row.stamped row.shown (view.content old) (view.content new))
+      → IfOk result (λ ending. IsRedoneAs ending row.stamped row.shown (view.content old) (view.content new))
   pub err : view.is_clean new → view.is_live new → OnErr result (view.content new ≡ view.content old)
   pub memory : view.is_clean new → result ≡ Err fault.NoMemory → view.is_live new
   pub store : result ≡ Err fault.Store → view.has_store
   -- a crash leaves what it could leave before, or the content with the row's change
   pub crash : view.is_clean new → AddsAtMost view
-      (λ x. view.is_live old × (IsSound (view.content old) → Ends Carried row.stamped row.shown (view.content old) x)) old new
+      (λ x. view.is_live old × (IsSound (view.content old) → IsRedoneAs Carried row.stamped row.shown (view.content old) x)) old new
   pub settled : view.is_clean new → IsSettled view new
   pub calls : IsRedoneBy view old row.stamped result new
 
@@ -87,12 +87,12 @@ pub record IsUnasked {D F : Type 0} (g : Ghosts F) (desk : D) (file : F) (new : 
   pub file_is : IsAsFound g file left
 
 -- Why there was no start, and what is left of the desk and of the file.
-abbrev pub IsRefused : {D F : Type 0} → DeskView D → Ghosts F → D → F → StartFault → D → F → Type 0
-IsRefused view g desk file BadJournal new left = IsUnasked g desk file new left × (IsTrue (g.is_clean left) → IsNoJournal (g.seen file))
-IsRefused view g desk file (ForeignRow row) new left =
+abbrev pub IsStartRefused : {D F : Type 0} → DeskView D → Ghosts F → D → F → StartFault → D → F → Type 0
+IsStartRefused view g desk file BadJournal new left = IsUnasked g desk file new left × (IsTrue (g.is_clean left) → IsNoJournal (g.seen file))
+IsStartRefused view g desk file (ForeignRow row) new left =
     (r : Numbered) × (r.number ≡ row) × IsRefusedAt view g desk file r (Ok Foreign) new left
-IsRefused view g desk file NoMemory new left =
+IsStartRefused view g desk file NoMemory new left =
     IsUnasked g desk file new left ⊎ ((r : Numbered) × IsRefusedAt view g desk file r (Err fault.NoMemory) new left)
-IsRefused view g desk file Store new left =
+IsStartRefused view g desk file Store new left =
     (IsUnasked g desk file new left × HasFailed g file left)
     ⊎ (((r : Numbered) × IsRefusedAt view g desk file r (Err fault.Store) new left) ⊎ IsUncut view g desk file new left)

@@ -5,7 +5,7 @@ ghost use Rattle.td_journal.specs.Journal.{IsDurable, IsTight, is_open};
 ghost use Rattle.td_journal.specs.Journaled.{waiting};
 ghost use Rattle.td_journal_start.specs.Begun.{IsBegun, IsUntaken};
 ghost use Rattle.td_journal_start.specs.Rows.{last_seen};
-ghost use Rattle.td_journal_start.specs.Starts.{IsRefused, IsStarted, IsTaken};
+ghost use Rattle.td_journal_start.specs.Starts.{IsStartRefused, IsStarted, IsTaken};
 
 use crate::refused::{Refused, StartFault};
 use crate::tail::{Found, find_last};
@@ -30,7 +30,7 @@ pub fn start_journal<D: Desk, F: Disk>(
     ensures tight { IfOk result (λ j. IsTight j.journal) }
     ensures durable { IfOk result (λ j. IsDurable j.journal) }
     ensures waiting { IfOk result (λ j. waiting j ≡ None) }
-    ensures refused { IfErr result (λ r. IsRefused D.seen F.Disk desk file r.why r.desk r.file) }
+    ensures refused { IfErr result (λ r. IsStartRefused D.seen F.Disk desk file r.why r.desk r.file) }
 {
     match begin(alloc, &mut desk, &mut file) {
         Ok(found) => {
@@ -44,7 +44,7 @@ pub fn start_journal<D: Desk, F: Disk>(
 // Takes the last row at the desk, and cuts off what stands behind the text.
 fn begin<D: Desk, F: Disk>(alloc: Global, desk: &mut D, file: &mut F) -> Result<Found, StartFault>
     ensures begun { IfOk result (λ found. IsBegun D.seen F.Disk desk.old file.old found desk.new file.new) }
-    ensures refused { IfErr result (λ why. IsRefused D.seen F.Disk desk.old file.old why desk.new file.new) }
+    ensures refused { IfErr result (λ why. IsStartRefused D.seen F.Disk desk.old file.old why desk.new file.new) }
 {
     let Some(found) = find_last(alloc, file)? else {
         return Err(StartFault::BadJournal);

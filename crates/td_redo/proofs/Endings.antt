@@ -15,7 +15,7 @@ use Rattle.td_model.specs.Machine.{is_accepted, is_accepted_at, is_accepted_in}
 use Rattle.td_desk.specs.Content.{Content, content_after, IsSound}
 use Rattle.td_desk.specs.Weighing.{owner_account, Carries}
 use Rattle.td_desk.proofs.Carrying.{carries}
-use Rattle.td_redo.specs.Endings.{Ends, IsSaidAgain}
+use Rattle.td_redo.specs.Endings.{IsRedoneAs, IsSaidAgain}
 use Rattle.td_redo.specs.Laws.{EndsAsRedone, OneEnding, RedoneTwiceIsRedoneOnce, RowIsSaidAgain, RowThatIsDueIsCarried, RowThatStandsIsTold}
 use Rattle.td_redo.specs.Redo.{said_over, IsRedone}
 use Rattle.td_redo.specs.Replies.{body_text}
@@ -62,7 +62,7 @@ ends_as_redone s reply old new Foreign sound proper ends = not_carried s reply o
 
 -- what is told as a second time isn't foreign
 never_foreign : (ending : Redone) (s : Stamped) (reply : List ℕ) (old new : Content) → IsSaidAgain s.command reply (said_over old s)
-    → Ends ending s reply old new → ending ≢ Foreign
+    → IsRedoneAs ending s reply old new → ending ≢ Foreign
 never_foreign Carried s reply old new again ends = λ same. cc
 never_foreign Stands s reply old new again ends = λ same. cc
 never_foreign Foreign s reply old new again ends = λ same. ends.0.1 again
@@ -86,7 +86,7 @@ row_that_is_due_is_carried begin done new row Foreign last ends = absurd (ends.0
 
 -- only what was foreign is foreign the second time
 foreign_again : (old once twice : Content) (s : Stamped) (reply : List ℕ) (first second : Redone) → IsSound old → IsProper s.command
-    → Ends first s reply old once → Ends second s reply once twice → second ≡ Foreign → first ≡ Foreign
+    → IsRedoneAs first s reply old once → IsRedoneAs second s reply once twice → second ≡ Foreign → first ≡ Foreign
 foreign_again old once twice s reply Carried second sound proper one two same =
     absurd (never_foreign second s reply once twice (told_again old once s reply sound proper one.0.0 one.0.1 one.1) two same)
 foreign_again old once twice s reply Stands second sound proper one two same =
@@ -94,7 +94,7 @@ foreign_again old once twice s reply Stands second sound proper one two same =
 foreign_again old once twice s reply Foreign second sound proper one two same = refl
 
 -- what a redo leaves is sound
-pub sound_left : (ending : Redone) (s : Stamped) (reply : List ℕ) (old new : Content) → IsSound old → Ends ending s reply old new → IsSound new
+pub sound_left : (ending : Redone) (s : Stamped) (reply : List ℕ) (old new : Content) → IsSound old → IsRedoneAs ending s reply old new → IsSound new
 sound_left Carried s reply old new sound ends = ends.1.sound
 sound_left Stands s reply old new sound ends = subst IsSound (sym ends.1) sound
 sound_left Foreign s reply old new sound ends = subst IsSound (sym ends.1) sound

@@ -2,7 +2,7 @@
 use Rattle.std.proofs.Common.{◌≡◌, ◌≢◌, ◌⊎◌, ℕ, List, [], ◌∷◌, ◌++◌, refl, sym, ◌∙◌, subst, inl, inr}
 use Rattle.td_commands.specs.declared.said.Said.{Said}
 use Rattle.td_desk.specs.Content.{Content, IsSound}
-use Rattle.td_redo.specs.Endings.{Ends}
+use Rattle.td_redo.specs.Endings.{IsRedoneAs}
 use Rattle.td_redo.specs.Redo.{Row, IsDone, AreDone}
 use Rattle.td_redo.specs.Replies.{body_text}
 use Rattle.td_redo.specs.Laws.{JournalMakesOneContent, StartIsWhole, StartMayBeginAgain}
@@ -24,12 +24,12 @@ one_more X shown begin before after (r ∷ rows) row done last = (done.0, done.1
 
 -- the last row is redone over what the file holds
 redone_last : (before after file new : Content) (row : Row (List ℕ)) (ending : Redone) → IsSound before
-    → IsDone body_text before row after → (file ≡ before) ⊎ (file ≡ after) → Ends ending row.stamped row.shown file new → (ending ≢ Foreign) × (new ≡ after)
+    → IsDone body_text before row after → (file ≡ before) ⊎ (file ≡ after) → IsRedoneAs ending row.stamped row.shown file new → (ending ≢ Foreign) × (new ≡ after)
 redone_last before after file new row ending sound last (inl is) ends =
-    let due = row_that_is_due_is_carried before after new row ending last (subst (λ (c : Content). Ends ending row.stamped row.shown c new) is ends) in
+    let due = row_that_is_due_is_carried before after new row ending last (subst (λ (c : Content). IsRedoneAs ending row.stamped row.shown c new) is ends) in
     (λ foreign. (let both : Carried ≡ Foreign = sym due.0 ∙ foreign in cc), due.1)
 redone_last before after file new row ending sound last (inr is) ends =
-    row_that_stands_is_told before after new row ending sound last (subst (λ (c : Content). Ends ending row.stamped row.shown c new) is ends)
+    row_that_stands_is_told before after new row ending sound last (subst (λ (c : Content). IsRedoneAs ending row.stamped row.shown c new) is ends)
 
 pub start_is_whole : StartIsWhole
 start_is_whole begin before after file new rows row ending sound done last holds ends =

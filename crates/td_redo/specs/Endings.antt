@@ -57,11 +57,11 @@ IsSaidAgain command reply words = IsSecond command (body_text words ≡ reply) w
 
 -- Which ending it is, by what is said to the row's command and by whether that is an accepted change now; just one holds. An
 -- accepted change that is told as in the row is carried. Else the row stands where this is said again, and is foreign where not.
-abbrev pub IsEnding : Redone → Command → List ℕ → Bool → Said → Type 0
-IsEnding Carried command reply accepted words = (accepted ≡ true) × (body_text words ≡ reply)
-IsEnding Stands command reply accepted words =
+abbrev pub IsEndingFor : Redone → Command → List ℕ → Bool → Said → Type 0
+IsEndingFor Carried command reply accepted words = (accepted ≡ true) × (body_text words ≡ reply)
+IsEndingFor Stands command reply accepted words =
     (accepted ≡ true → body_text words ≢ reply) × IsSaidAgain command reply words
-IsEnding Foreign command reply accepted words =
+IsEndingFor Foreign command reply accepted words =
     (accepted ≡ true → body_text words ≢ reply) × (IsSaidAgain command reply words → ⊥)
 
 -- what each does to the content
@@ -71,9 +71,9 @@ IsLeft Stands old s new = new ≡ old
 IsLeft Foreign old s new = new ≡ old
 
 -- A row with this reply was redone over a content, ended so, and left that content.
-abbrev pub Ends : Redone → Stamped → List ℕ → Content → Content → Type 0
-Ends ending s reply old new =
-    IsEnding ending s.command reply (is_accepted (owner_account old s.command) s.at s.command) (said_over old s)
+abbrev pub IsRedoneAs : Redone → Stamped → List ℕ → Content → Content → Type 0
+IsRedoneAs ending s reply old new =
+    IsEndingFor ending s.command reply (is_accepted (owner_account old s.command) s.at s.command) (said_over old s)
     × IsLeft ending old s new
 
 -- The calls that a redo makes of a desk: the command is weighed; and only where it ends as carried, or where that

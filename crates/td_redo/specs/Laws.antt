@@ -16,7 +16,7 @@ use Rattle.td_desk.specs.Content.{Content, IsSound}
 use Rattle.td_desk.specs.View.{DeskView}
 use Rattle.td_desk.specs.Weighing.{Carries}
 use Rattle.td_redo.specs.Crashes.{IsCommandAt}
-use Rattle.td_redo.specs.Endings.{Ends, IsSaidAgain}
+use Rattle.td_redo.specs.Endings.{IsRedoneAs, IsSaidAgain}
 use Rattle.td_redo.specs.Redo.{account_done, said_over, opened_by, TellsOpenings, Row, IsDone, AreDone, IsRedone}
 use Rattle.td_redo.specs.Replies.{body_text}
 use Rattle.td_redo.specs.Second.{IsAnotherOpening}
@@ -75,33 +75,33 @@ RowIsSaidAgain =
 abbrev pub RowThatStandsIsTold : Type 0
 RowThatStandsIsTold =
     (begin done new : Content) (row : Row (List ℕ)) (ending : Redone) → IsSound begin → IsDone body_text begin row done
-    → Ends ending row.stamped row.shown done new → (ending ≢ Foreign) × (new ≡ done)
+    → IsRedoneAs ending row.stamped row.shown done new → (ending ≢ Foreign) × (new ≡ done)
 
 -- A row that can be done is carried.
 abbrev pub RowThatIsDueIsCarried : Type 0
 RowThatIsDueIsCarried =
     (begin done new : Content) (row : Row (List ℕ)) (ending : Redone) → IsDone body_text begin row done
-    → Ends ending row.stamped row.shown begin new → (ending ≡ Carried) × (new ≡ done)
+    → IsRedoneAs ending row.stamped row.shown begin new → (ending ≡ Carried) × (new ≡ done)
 
 -- A redo of what was redone does nothing, over any sound content and whatever reply the row has; and only what was
 -- foreign is told as foreign then.
 abbrev pub RedoneTwiceIsRedoneOnce : Type 0
 RedoneTwiceIsRedoneOnce =
     (old once twice : Content) (s : Stamped) (reply : List ℕ) (first second : Redone) → IsSound old → IsProper s.command
-    → Ends first s reply old once → Ends second s reply once twice
+    → IsRedoneAs first s reply old once → IsRedoneAs second s reply once twice
     → (twice ≡ once) × (second ≡ Foreign → first ≡ Foreign)
 
 -- A redo with its ending is a redo: the command is carried, or nothing is done.
 abbrev pub EndsAsRedone : Type 0
 EndsAsRedone =
     (s : Stamped) (reply : List ℕ) (old new : Content) (ending : Redone) → IsSound old → IsProper s.command
-    → Ends ending s reply old new → IsRedone body_text s reply old new
+    → IsRedoneAs ending s reply old new → IsRedone body_text s reply old new
 
 -- A redo over one content ends in one way.
 abbrev pub OneEnding : Type 0
 OneEnding =
     (s : Stamped) (reply : List ℕ) (old new other : Content) (one second : Redone)
-    → Ends one s reply old new → Ends second s reply old other → (one ≡ second) × (new ≡ other)
+    → IsRedoneAs one s reply old new → IsRedoneAs second s reply old other → (one ≡ second) × (new ≡ other)
 
 -- A start that redoes the journal's last row: whether the file holds what all rows did, or what all but the last did, it
 -- holds after it what all rows did, and the journal is that of the file. The row isn't told as foreign.
@@ -109,7 +109,7 @@ abbrev pub StartIsWhole : Type 0
 StartIsWhole =
     (begin before after file new : Content) (rows : List (Row (List ℕ))) (row : Row (List ℕ)) (ending : Redone)
     → IsSound begin → AreDone body_text begin rows before → IsDone body_text before row after
-    → (file ≡ before) ⊎ (file ≡ after) → Ends ending row.stamped row.shown file new
+    → (file ≡ before) ⊎ (file ≡ after) → IsRedoneAs ending row.stamped row.shown file new
     → (new ≡ after) × AreDone body_text begin (rows ++ row ∷ []) new × (ending ≢ Foreign)
 
 -- A start may stop on its way and begin again: what it left, and what it was about to leave, are the two contents with
@@ -117,7 +117,7 @@ StartIsWhole =
 abbrev pub StartMayBeginAgain : Type 0
 StartMayBeginAgain =
     (before after file left : Content) (row : Row (List ℕ)) → IsSound before → IsDone body_text before row after
-    → (file ≡ before) ⊎ (file ≡ after) → (left ≡ file) ⊎ Ends Carried row.stamped row.shown file left
+    → (file ≡ before) ⊎ (file ≡ after) → (left ≡ file) ⊎ IsRedoneAs Carried row.stamped row.shown file left
     → (left ≡ before) ⊎ (left ≡ after)
 
 -- The rows of a journal make one content of that with which it began: a desk may be rebuilt from them.
@@ -144,5 +144,5 @@ StartAfterCrashIsWhole {D} view =
     (begin file after end : Content) (rows : List (Row (List ℕ))) (row : Row (List ℕ)) (old new : D) (failed : Bool)
     (ending : Redone) → IsSound begin → AreDone body_text begin rows (view.content old)
     → IsDone body_text (view.content old) row after → IsCommandAt view old row.stamped failed new
-    → view.may_leave new file → Ends ending row.stamped row.shown file end
+    → view.may_leave new file → IsRedoneAs ending row.stamped row.shown file end
     → (end ≡ after) × AreDone body_text begin (rows ++ row ∷ []) end × (ending ≢ Foreign)

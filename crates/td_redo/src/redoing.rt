@@ -8,7 +8,7 @@ ghost use Rattle.td_answers.specs.Answers.{said_body};
 ghost use Rattle.td_desk.specs.Content.{IsSound};
 ghost use Rattle.td_desk.specs.View.{AddsAtMost, IsSettled};
 ghost use Rattle.td_desk.specs.declared.fault.Fault.{Fault};
-ghost use Rattle.td_redo.specs.Endings.{Ends, IsEnding, IsOpenedAgain, IsRedoneBy, IsSecond};
+ghost use Rattle.td_redo.specs.Endings.{IsRedoneAs, IsEndingFor, IsOpenedAgain, IsRedoneBy, IsSecond};
 ghost use Rattle.td_redo.specs.Replies.{body_text};
 
 use std::alloc::{AllocError, Global};
@@ -109,7 +109,7 @@ fn ending_of(
     decision: &Decision,
     reply: &[u8],
 ) -> Result<Redone, AllocError>
-    ensures { IfOk result (λ ending. IsEnding ending command.now reply.now (is_change decision.now.change)
+    ensures { IfOk result (λ ending. IsEndingFor ending command.now reply.now (is_change decision.now.change)
         decision.now.said) }
 {
     let body = body_of(alloc, decision.said())?;
@@ -137,7 +137,7 @@ pub fn redo_row<D: Desk>(
     ensures live { D.seen.is_clean desk.new → D.seen.is_live desk.new → D.seen.is_live desk.old }
     ensures shown { D.seen.is_clean desk.new → OnOk result (D.seen.is_live desk.old × D.seen.is_live desk.new) }
     ensures ends { D.seen.is_clean desk.new → IsSound (D.seen.content desk.old)
-        → IfOk result (λ ending. Ends ending stamped.now reply.now (D.seen.content desk.old) (D.seen.content desk.new)) }
+        → IfOk result (λ ending. IsRedoneAs ending stamped.now reply.now (D.seen.content desk.old) (D.seen.content desk.new)) }
     ensures err { D.seen.is_clean desk.new → D.seen.is_live desk.new
         → OnErr result (D.seen.content desk.new ≡ D.seen.content desk.old) }
     ensures store { result ≡ Err Fault.Store → D.seen.has_store }
@@ -145,7 +145,7 @@ pub fn redo_row<D: Desk>(
     ensures proper { IsProper stamped.now.command }
     ensures crash { D.seen.is_clean desk.new → AddsAtMost D.seen
         (λ x. D.seen.is_live desk.old × (IsSound (D.seen.content desk.old)
-        → Ends Redone.Carried stamped.now reply.now (D.seen.content desk.old) x)) desk.old desk.new }
+        → IsRedoneAs Redone.Carried stamped.now reply.now (D.seen.content desk.old) x)) desk.old desk.new }
     ensures settled { D.seen.is_clean desk.new → IsSettled D.seen desk.new }
     ensures calls { IsRedoneBy D.seen desk.old stamped.now result desk.new }
 {

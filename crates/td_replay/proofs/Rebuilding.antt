@@ -21,7 +21,7 @@ use Rattle.td_redo.specs.Redo.{AreDone, IsDone, Row, said_over}
 use Rattle.td_redo.specs.Replies.{body_text}
 use Rattle.td_replay.proofs.RowsDone.{words_said}
 use Rattle.td_replay.specs.Laws.{ChangedReplyIsTold, DeskIsRebuilt, IsReplayedOver, PartDiffersNowhere, replies_of, rows_of, rows_owned, with_reply}
-use Rattle.td_replay.specs.Replays.{AreEnded, IsEachDone, IsFirstDifference, IsPlain, IsReplayOf, IsSame, stamped_of, tried}
+use Rattle.td_replay.specs.Replays.{AreEnded, IsEachDone, IsFirstDifference, IsPlain, IsReplayOf, IsSame, stamped_of, tried_rows}
 use Rattle.td_replay.specs.declared.replaying.ReplayRun.{ReplayRun}
 
 -- ---- replies
@@ -78,7 +78,7 @@ module _ {D : Type 0} (view : DeskView D) where
           let ended : AreEnded rows done.said None done.outcomes = rw is.all at done.ended in
           let outcomes : done.outcomes ≡ words_said done.said = ended.0 in
           let number : length done.outcomes ≡ length rows = ap (λ (os : List Outcome). length os) outcomes ∙ (length-map done.said _ ∙ ended.1) in
-          let all : tried rows done.outcomes ≡ map stamped_of rows = ap (map stamped_of) (take_all (length done.outcomes) rows (omega (arith, number))) in
+          let all : tried_rows rows done.outcomes ≡ map stamped_of rows = ap (map stamped_of) (take_all (length done.outcomes) rows (omega (arith, number))) in
           let steps : FoldsTo (IsEachDone view) old (zip (map stamped_of rows) done.outcomes) new =
           subst (λ (l : List Stamped). FoldsTo (IsEachDone view) old (zip l done.outcomes) new) all done.steps in
           record {

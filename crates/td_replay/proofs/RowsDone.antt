@@ -14,7 +14,7 @@ use Rattle.td_desk.specs.View.{DeskView}
 use Rattle.td_desk.proofs.Calls.{one_outcome_more}
 use Rattle.td_desk.proofs.Turns.{run_on}
 use Rattle.td_journal_lines.specs.Lines.{Numbered}
-use Rattle.td_replay.specs.Replays.{IsDoneAt, IsEachDone, IsFirstDifference, IsPlain, IsPrivate, IsReplayDone, IsSame, IsStopped, IsTold, difference_with, replies_header, reply_line, reply_lines, stamped_of}
+use Rattle.td_replay.specs.Replays.{IsDoneAt, IsEachDone, IsFirstDifference, IsPlain, AreRowsPrivate, IsReplayDone, IsSame, IsStopped, IsTold, difference_with, replies_header, reply_line, reply_lines, stamped_of}
 use Rattle.td_replay.specs.declared.replaying.ReplayRun.{ReplayRun}
 
 pub zip_more : {X Y : Type 0} (xs : List X) (ys : List Y) (x : X) (y : Y) → length ys ≡ length xs → zip (xs ++ x ∷ []) (ys ++ y ∷ []) ≡ zip xs ys ++ (x, y) ∷ []
@@ -82,7 +82,7 @@ module _ {D : Type 0} (view : DeskView D) (rows : List Numbered) (old : D) where
     pub steps : FoldsTo (IsEachDone view) old (zip (map stamped_of (take i rows)) (words_said said)) new
     pub calls : AreOutcomesOf view old (map stamped_of (take i rows)) (words_said said) new
     pub plain : All IsPlain said
-    pub private : IsPrivate view (map stamped_of (take i rows)) (words_said said) old new
+    pub private : AreRowsPrivate view (map stamped_of (take i rows)) (words_said said) old new
 
   pub begun : (text : List ℕ) → text ≡ replies_header → HasDone 0 text None old
   unfolding reply_lines
@@ -124,7 +124,7 @@ module _ {D : Type 0} (view : DeskView D) (rows : List Numbered) (old : D) where
         rw list (one_outcome_more view old mid new (map stamped_of (take i rows)) (words_said was.said) (stamped_of r) o was.calls is.calls)
 
     pub private_more : (o : Outcome) → IsDoneAt view r.row.stamped o mid new
-        → IsPrivate view (map stamped_of (take (i + 1) rows)) (words_said was.said ++ o ∷ []) old new
+        → AreRowsPrivate view (map stamped_of (take (i + 1) rows)) (words_said was.said ++ o ∷ []) old new
     private_more o is = λ clean live sound books tied.
         let before = was.private (is.clean clean) live sound books tied in
         rw list

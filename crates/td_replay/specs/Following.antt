@@ -15,7 +15,7 @@ use Rattle.td_desk.specs.declared.running.Outcome.TheVariants as outcome
 use Rattle.td_journal_lines.specs.Lines.{AreLinesOf, IsLine, Numbered}
 use Rattle.td_journal_rows.specs.Rows.{HasNoLineFeed, IsOneLine}
 use Rattle.td_replay.specs.Numbers.{AreCounted}
-use Rattle.td_replay.specs.Replays.{IsDoneAt, IsEachDone, IsPrivate, IsSame, IsStopped, stamped_of}
+use Rattle.td_replay.specs.Replays.{IsDoneAt, IsEachDone, AreRowsPrivate, IsSame, IsStopped, stamped_of}
 use Rattle.td_replay.specs.declared.following.FollowFault.{FollowFault}
 use Rattle.td_replay.specs.declared.following.FollowFault.TheVariants.{BadRow, Misplaced, Differs, Unread, Failed}
 
@@ -116,7 +116,7 @@ RowFails view r old new Unread = ⊥
 pub record AreTried {D : Type 0} (view : DeskView D) (rows : List Numbered) (outcomes : List Outcome) (old new : D) : Type 0 where
   pub steps : FoldsTo (IsEachDone view) old (zip (map stamped_of rows) outcomes) new
   pub calls : AreOutcomesOf view old (map stamped_of rows) outcomes new
-  pub private : IsPrivate view (map stamped_of rows) outcomes old new
+  pub private : AreRowsPrivate view (map stamped_of rows) outcomes old new
 
 -- Rows were done in their order, and each was told what it has. A desk that is clean after them is live, if it was before.
 pub record AreToldAgain {D : Type 0} (view : DeskView D) (rows : List Numbered) (old new : D) : Type 0 where

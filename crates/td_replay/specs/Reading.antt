@@ -31,6 +31,6 @@ abbrev pub HasNone : List ℕ → Type 0
 HasNone bytes = (rows : List Numbered) (torn : ℕ) → HasChanges bytes rows torn → ⊥
 
 -- a fault that tells of what was read
-abbrev pub Tells : List ℕ → JournalFault → Type 0
-Tells bytes (BadRow row) = HasBadLine bytes row × HasNone bytes
-Tells bytes NoMemory = ⊤
+abbrev pub TellsJournal : List ℕ → JournalFault → Type 0
+TellsJournal bytes (BadRow row) = HasBadLine bytes row × HasNone bytes
+TellsJournal bytes NoMemory = ⊤

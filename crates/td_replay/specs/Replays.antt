@@ -81,30 +81,30 @@ pub record IsTold {D : Type 0} (view : DeskView D) (r : Numbered) (old new : D) 
   pub plain : IsPlain words
 
 -- the last outcome where a run was stopped: the command failed by this fault; or memory was missing for the line of one that was done
-abbrev pub IsLast : Fault → Outcome → Type 0
-IsLast why (outcome.Failed other) = other ≡ why
-IsLast why (outcome.Said words) = why ≡ fault.NoMemory
+abbrev pub IsLastOutcome : Fault → Outcome → Type 0
+IsLastOutcome why (outcome.Failed other) = other ≡ why
+IsLastOutcome why (outcome.Said words) = why ≡ fault.NoMemory
 
 -- a row at which a run was stopped
 pub record IsStopped {D : Type 0} (view : DeskView D) (r : Numbered) (why : Fault) (old new : D) : Type 0 where
   pub outcome_is : Outcome
   pub done : IsDoneAt view r.row.stamped outcome_is old new
-  pub last : IsLast why outcome_is
+  pub last : IsLastOutcome why outcome_is
 
 -- how the rows that were tried ended: those that are told by what was said, and where it was stopped one more
 abbrev pub AreEnded : List Numbered → List Said → Option Fault → List Outcome → Type 0
 AreEnded rows said None outcomes = (outcomes ≡ map (λ words. outcome.Said words) said) × (length said ≡ length rows)
 AreEnded rows said (Some why) outcomes =
-    (o : Outcome) × IsLast why o × (outcomes ≡ map (λ words. outcome.Said words) said ++ o ∷ []) × (length outcomes ≤ length rows)
+    (o : Outcome) × IsLastOutcome why o × (outcomes ≡ map (λ words. outcome.Said words) said ++ o ∷ []) × (length outcomes ≤ length rows)
 
 -- the commands of the rows that were tried
-abbrev pub tried : List Numbered → List Outcome → List Stamped
-tried rows outcomes = map stamped_of (take (length outcomes) rows)
+abbrev pub tried_rows : List Numbered → List Outcome → List Stamped
+tried_rows rows outcomes = map stamped_of (take (length outcomes) rows)
 
 -- To each holder at once, what is told is what the holder's own machine says to the commands that were tried. Where a fault shut the
 -- desk, this holds of the content up to then.
-abbrev pub IsPrivate : {D : Type 0} → DeskView D → List Stamped → List Outcome → D → D → Type 0
-IsPrivate view list outcomes old new =
+abbrev pub AreRowsPrivate : {D : Type 0} → DeskView D → List Stamped → List Outcome → D → D → Type 0
+AreRowsPrivate view list outcomes old new =
     view.is_clean new → view.is_live old → IsSound (view.content old) → (books : ℕ → Book) → IsTied (view.content old) books
     → (c : Content) × IsRun (view.content old).country books list outcomes c × (view.is_live new → view.content new ≡ c)
 
@@ -117,10 +117,10 @@ pub record IsReplayDone {D : Type 0} (view : DeskView D) (rows : List Numbered) 
   pub done : r.done ≡ length said
   pub differs : IsFirstDifference rows said r.differs
   pub ended : AreEnded rows said r.stopped outcomes
-  pub steps : FoldsTo (IsEachDone view) old (zip (tried rows outcomes) outcomes) new
-  pub calls : AreOutcomesOf view old (tried rows outcomes) outcomes new
+  pub steps : FoldsTo (IsEachDone view) old (zip (tried_rows rows outcomes) outcomes) new
+  pub calls : AreOutcomesOf view old (tried_rows rows outcomes) outcomes new
   pub plain : All IsPlain said
-  pub private : IsPrivate view (tried rows outcomes) outcomes old new
+  pub private : AreRowsPrivate view (tried_rows rows outcomes) outcomes old new
 
 -- nothing was done, for want of memory for the header
 pub record IsNotBegun {D : Type 0} (r : ReplayRun) (old new : D) : Type 0 where

@@ -1,7 +1,7 @@
 //! A journal's text, read as the rows of changes.
 ghost use Rattle.std.specs.Prelude.{IfErr, IfOk, map};
 ghost use Rattle.td_journal_lines.specs.Rows.{numbered};
-ghost use Rattle.td_replay.specs.Reading.{HasChanges, Tells};
+ghost use Rattle.td_replay.specs.Reading.{HasChanges, TellsJournal};
 
 use std::alloc::Global;
 use td_journal_lines::{ChangeRow, row_of};
@@ -20,7 +20,7 @@ pub struct Changes {
 /// is the row of no change, the first such line is told, and no row is given.
 pub fn read_changes(alloc: Global, bytes: &[u8]) -> Result<Changes, JournalFault>
     ensures rows { IfOk result (λ read. HasChanges bytes.now (map numbered read.rows.items) read.torn) }
-    ensures bad { IfErr result (Tells bytes.now) }
+    ensures bad { IfErr result (TellsJournal bytes.now) }
 {
     let mut rows = Vec::new(alloc);
     let mut rest = bytes;

@@ -11,7 +11,7 @@ use Rattle.td_movement.specs.declared.times.Overdue.{Overdue}
 use Rattle.td_movement.specs.declared.times.Overdue.TheVariants.{Arrival, Control}
 use Rattle.td_movement.specs.States.{state_name}
 use Rattle.td_movement.specs.Status.{overdue}
-use Rattle.td_report_pieces.specs.Layout.{line_of, report_text}
+use Rattle.td_report_pieces.specs.Layout.{report_line, report_text}
 use Rattle.td_store_rows.specs.declared.movements.stored.MovementDeadlines.{MovementDeadlines}
 
 -- spaces, where a text is short of so many places
@@ -43,15 +43,15 @@ overdue_fields day holder mrn state what =
 -- the line of a movement, if it is overdue
 abbrev pub overdue_line : ℕ → ℕ × Movement → Option (List ℕ)
 overdue_line day (holder, m) =
-    option_map (λ what. line_of (overdue_fields day holder m.mrn m.state what)) (overdue m.state m.limit m.arrival day)
+    option_map (λ what. report_line (overdue_fields day holder m.mrn m.state what)) (overdue m.state m.limit m.arrival day)
 
 -- the same line, by the movement's deadlines alone
 abbrev pub deadlines_line : ℕ → MovementDeadlines → Option (List ℕ)
 deadlines_line day m =
-    option_map (λ what. line_of (overdue_fields day m.holder m.mrn m.state what)) (overdue m.state m.limit m.arrival day)
+    option_map (λ what. report_line (overdue_fields day m.holder m.mrn m.state what)) (overdue m.state m.limit m.arrival day)
 
 abbrev pub overdue_header : ℕ → List ℕ
-overdue_header day = line_of (codes "OVERDUE" ∷ day_text day ∷ [])
+overdue_header day = report_line (codes "OVERDUE" ∷ day_text day ∷ [])
 
 -- the movements of these that are overdue on a day
 abbrev pub overdue_text : ℕ → List (ℕ × Movement) → List ℕ
@@ -74,10 +74,10 @@ guarantee_fields (holder, (g, used)) =
     ∷ end_text g.ends ∷ []
 
 abbrev pub guarantee_line : ℕ × (Guarantee × ℕ) → List ℕ
-guarantee_line row = line_of (guarantee_fields row)
+guarantee_line row = report_line (guarantee_fields row)
 
 abbrev pub guarantees_header : List ℕ
-guarantees_header = line_of (codes "GUARANTEES" ∷ [])
+guarantees_header = report_line (codes "GUARANTEES" ∷ [])
 
 -- these guarantees
 abbrev pub guarantees_text : List (ℕ × (Guarantee × ℕ)) → List ℕ

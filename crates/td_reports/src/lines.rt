@@ -1,6 +1,6 @@
 //! Lines of reports.
 ghost use Rattle.std.specs.Prelude.{◌≡◌, ◌-◌, [], ◌∷◌, ◌++◌, IfOk, IsSome, OnErr, OnOk, option_map, string_bytes};
-ghost use Rattle.td_report_pieces.specs.Layout.{line_of};
+ghost use Rattle.td_report_pieces.specs.Layout.{report_line};
 ghost use Rattle.td_reports.specs.Texts.{amount_text, deadlines_line, end_text, guarantee_line, overdue_fields};
 
 use ascii_text::last_digit;
@@ -25,7 +25,7 @@ fn line_of_overdue(
     what: Overdue,
 ) -> Result<String, AllocError>
     ensures { IfOk result (λ line. string_bytes line
-        ≡ line_of (overdue_fields day movement.now.holder movement.now.mrn movement.now.state what)) }
+        ≡ report_line (overdue_fields day movement.now.holder movement.now.mrn movement.now.state what)) }
 {
     let (kind, due) = match what {
         Overdue::Arrival(due) => ("arrival", due),

@@ -30,34 +30,34 @@ pub record TableRow : Type 0 where
   pub path : List ℕ
   pub endpoint : Endpoint
 
-abbrev pub row_of : Verb → List ℕ → Endpoint → TableRow
-row_of method path endpoint = record { method = method; path = path; endpoint = endpoint }
+abbrev pub table_row : Verb → List ℕ → Endpoint → TableRow
+table_row method path endpoint = record { method = method; path = path; endpoint = endpoint }
 
 -- a row of the code
 abbrev pub row_shown : Row → TableRow
-row_shown row = row_of row.method row.path.now row.endpoint
+row_shown row = table_row row.method row.path.now row.endpoint
 
 -- the rows, in the table's order
 abbrev pub table : List TableRow
 table =
-    row_of Put (codes "/office/holders/{h}") endpoint.Register
-    ∷ row_of Post (codes "/office/holders/{h}/guarantees") endpoint.OpenGuarantee
-    ∷ row_of Post (codes "/office/guarantees/{g}/amend") endpoint.Amend
-    ∷ row_of Post (codes "/office/guarantees/{g}/revoke") endpoint.Revoke
-    ∷ row_of Post (codes "/office/movements/{m}/ie029") endpoint.Ie029
-    ∷ row_of Post (codes "/office/movements/{m}/ie007") endpoint.Ie007
-    ∷ row_of Post (codes "/office/movements/{m}/ie018") endpoint.Ie018
-    ∷ row_of Post (codes "/office/movements/{m}/ie045") endpoint.Ie045
-    ∷ row_of Post (codes "/office/movements/{m}/ie140") endpoint.Ie140
-    ∷ row_of Get (codes "/holders/{h}") endpoint.SeeHolder
-    ∷ row_of Get (codes "/holders/{h}/guarantees") endpoint.SeeGuarantees
-    ∷ row_of Get (codes "/holders/{h}/guarantees/{g}") endpoint.SeeGuarantee
-    ∷ row_of Post (codes "/holders/{h}/guarantees/{g}/codes/add") endpoint.AddCode
-    ∷ row_of Post (codes "/holders/{h}/guarantees/{g}/codes/remove") endpoint.RemoveCode
-    ∷ row_of Get (codes "/holders/{h}/movements") endpoint.SeeMovements
-    ∷ row_of Post (codes "/holders/{h}/movements") endpoint.Ie015
-    ∷ row_of Get (codes "/holders/{h}/movements/{m}") endpoint.SeeMovement
-    ∷ row_of Post (codes "/holders/{h}/movements/{m}/ie014") endpoint.Ie014
+    table_row Put (codes "/office/holders/{h}") endpoint.Register
+    ∷ table_row Post (codes "/office/holders/{h}/guarantees") endpoint.OpenGuarantee
+    ∷ table_row Post (codes "/office/guarantees/{g}/amend") endpoint.Amend
+    ∷ table_row Post (codes "/office/guarantees/{g}/revoke") endpoint.Revoke
+    ∷ table_row Post (codes "/office/movements/{m}/ie029") endpoint.Ie029
+    ∷ table_row Post (codes "/office/movements/{m}/ie007") endpoint.Ie007
+    ∷ table_row Post (codes "/office/movements/{m}/ie018") endpoint.Ie018
+    ∷ table_row Post (codes "/office/movements/{m}/ie045") endpoint.Ie045
+    ∷ table_row Post (codes "/office/movements/{m}/ie140") endpoint.Ie140
+    ∷ table_row Get (codes "/holders/{h}") endpoint.SeeHolder
+    ∷ table_row Get (codes "/holders/{h}/guarantees") endpoint.SeeGuarantees
+    ∷ table_row Get (codes "/holders/{h}/guarantees/{g}") endpoint.SeeGuarantee
+    ∷ table_row Post (codes "/holders/{h}/guarantees/{g}/codes/add") endpoint.AddCode
+    ∷ table_row Post (codes "/holders/{h}/guarantees/{g}/codes/remove") endpoint.RemoveCode
+    ∷ table_row Get (codes "/holders/{h}/movements") endpoint.SeeMovements
+    ∷ table_row Post (codes "/holders/{h}/movements") endpoint.Ie015
+    ∷ table_row Get (codes "/holders/{h}/movements/{m}") endpoint.SeeMovement
+    ∷ table_row Post (codes "/holders/{h}/movements/{m}/ie014") endpoint.Ie014
     ∷ []
 
 -- the pattern that a path fits, of the first such row
@@ -85,8 +85,8 @@ abbrev pub part_at : ℕ → List (List ℕ) → List ℕ
 part_at place parts = unwrap_or (slice_get parts place) []
 
 -- a part that names a holder
-abbrev pub holder_part : List ℕ → Result ℕ WebFault
-holder_part part = ok_or (holder_read part) BadHolder
+abbrev pub holder_in_part : List ℕ → Result ℕ WebFault
+holder_in_part part = ok_or (holder_read part) BadHolder
 
 -- a part that names a movement
 abbrev pub mrn_part : List ℕ → Result (List ℕ) WebFault
@@ -98,7 +98,7 @@ grn_part part = if is_grn part then Ok part else Err (BadGrn (first_fault 17 par
 
 -- the parts of a path, by what they name, from left to right
 abbrev pub holder_of_parts : List (List ℕ) → Result ℕ WebFault
-holder_of_parts parts = holder_part (part_at 0 parts)
+holder_of_parts parts = holder_in_part (part_at 0 parts)
 
 abbrev pub grn_in : List (List ℕ) → Result (List ℕ) WebFault
 grn_in parts = grn_part (part_at 0 parts)
@@ -108,13 +108,13 @@ mrn_in parts = mrn_part (part_at 0 parts)
 
 abbrev pub holder_and_grn : List (List ℕ) → Result (ℕ × List ℕ) WebFault
 holder_and_grn parts =
-    holder_part (part_at 0 parts) >>= λ holder.
+    holder_in_part (part_at 0 parts) >>= λ holder.
     grn_part (part_at 1 parts) >>= λ grn.
     Ok (holder, grn)
 
 abbrev pub holder_and_mrn : List (List ℕ) → Result (ℕ × List ℕ) WebFault
 holder_and_mrn parts =
-    holder_part (part_at 0 parts) >>= λ holder.
+    holder_in_part (part_at 0 parts) >>= λ holder.
     mrn_part (part_at 1 parts) >>= λ mrn.
     Ok (holder, mrn)
 

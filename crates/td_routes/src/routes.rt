@@ -3,7 +3,7 @@ ghost use Rattle.std.specs.Prelude.{◌≡◌, [], Some, find, bytes_eq, unwrap_
 ghost use Rattle.std.specs.Option.{ForSome};
 ghost use Rattle.std.specs.Str.{IsUtf8};
 ghost use Rattle.td_fields.specs.Faults.{OrNoMemory};
-ghost use Rattle.td_routes.specs.Routes.{table, row_shown, pattern_in, row_with, methods_with, holder_part, mrn_part, grn_part, part_at, holder_of_parts, grn_in, mrn_in, holder_and_grn, holder_and_mrn, route_with, route_in, route_of, methods_of};
+ghost use Rattle.td_routes.specs.Routes.{table, row_shown, pattern_in, row_with, methods_with, holder_in_part, mrn_part, grn_part, part_at, holder_of_parts, grn_in, mrn_in, holder_and_grn, holder_and_mrn, route_with, route_in, route_of, methods_of};
 ghost use Rattle.td_fields.specs.declared.fault.WebFault.TheVariants.{NoMemory};
 
 use crate::table::{Endpoint, ROWS, Route, Row, Verb};
@@ -14,7 +14,7 @@ use td_base::{Grn, HolderNo, Mrn};
 use td_fields::{Allowed, WebFault};
 
 fn read_holder(part: &[u8]) -> Result<HolderNo, WebFault>
-    ensures { result ≡ holder_part part.now }
+    ensures { result ≡ holder_in_part part.now }
 {
     HolderNo::read(part).ok_or(WebFault::BadHolder)
 }

@@ -190,8 +190,8 @@ abbrev pub IsFlag : Text → List Row → Bool → Type 0
 IsFlag name rows there = (there ≡ true) ↔ (first_of name rows ≡ Some (codes "true"))
 
 -- the path of the journal, if one is kept
-abbrev pub IsJournal : {A : Type 0} → List Row → Option (String A) → Type 0
-IsJournal rows journal = option_map string_bytes journal ≡ first_of (codes "journal") rows
+abbrev pub IsJournalPath : {A : Type 0} → List Row → Option (String A) → Type 0
+IsJournalPath rows journal = option_map string_bytes journal ≡ first_of (codes "journal") rows
 
 -- The most seconds that a read of a connection waits, from 1 to 3,600; where the option isn't there, 2.
 abbrev pub IsIdleOf : Option Text → ℕ → Type 0
@@ -244,12 +244,12 @@ IsTransfer name rows (Join into from) =
 -- number of connections, perhaps an idle limit, and whether the rows of a journal come first, of `batch`, `acts` and `replay` the file with the rows, of `replay` whether they are
 -- a part, of `report` which it is, and of it and of `check` the file.
 abbrev pub IsTask : Text → List Row → Task → Type 0
-IsTask name rows (Pipe records journal) = (name ≡ codes "pipe") × AreRecords rows records × IsJournal rows journal
+IsTask name rows (Pipe records journal) = (name ≡ codes "pipe") × AreRecords rows records × IsJournalPath rows journal
 IsTask name rows (Serve listening records journal first) =
-    (name ≡ codes "serve") × IsListening rows listening × AreRecords rows records × IsJournal rows journal × IsFlag (codes "first") rows first
+    (name ≡ codes "serve") × IsListening rows listening × AreRecords rows records × IsJournalPath rows journal × IsFlag (codes "first") rows first
 IsTask name rows (Batch kind file db journal) =
     (name ≡ batch_name kind) × (first_of (codes "file") rows ≡ Some (string_bytes file))
-    × (first_of (codes "db") rows ≡ Some (string_bytes db)) × IsJournal rows journal
+    × (first_of (codes "db") rows ≡ Some (string_bytes db)) × IsJournalPath rows journal
 IsTask name rows (Replay file part records) =
     (name ≡ codes "replay") × (first_of (codes "file") rows ≡ Some (string_bytes file)) × IsFlag (codes "part") rows part × AreRecords rows records
 IsTask name rows (Report report path) =

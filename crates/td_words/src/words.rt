@@ -5,7 +5,7 @@ ghost use Rattle.clap.specs.Values.{kind_of};
 ghost use Rattle.clap.specs.Words.{first_of, found_of, rows_of};
 ghost use Rattle.td_words.specs.declared.words.HolderRange.{HolderRange};
 ghost use Rattle.td_words.specs.declared.words.NoJob.TheVariants.{NoMemory};
-ghost use Rattle.td_words.specs.Words.{AreRecords, AskForHelpOfHelp, AsksFor, IsCountryIn, IsDayOf, IsDecimal, IsFlag, IsIdleOf, IsJob, IsJournal, IsListening, IsMomentOf, IsNoJob, IsNoneSuch, IsNumberOf, IsOffice, IsRange, IsRangeOf, IsReport, IsTask, IsTold, IsTransfer, batch_name};
+ghost use Rattle.td_words.specs.Words.{AreRecords, AskForHelpOfHelp, AsksFor, IsCountryIn, IsDayOf, IsDecimal, IsFlag, IsIdleOf, IsJob, IsJournalPath, IsListening, IsMomentOf, IsNoJob, IsNoneSuch, IsNumberOf, IsOffice, IsRange, IsRangeOf, IsReport, IsTask, IsTold, IsTransfer, batch_name};
 
 use crate::options::{
     AT, CONNECTIONS, COUNTRY, DAY, DB, FILE, FIRST, HOLDERS, IDLE, INTO, JOURNAL, KIND, NEW, PART,
@@ -576,7 +576,7 @@ fn has_flag(matches: &ArgMatches<'_>, name: &str) -> bool
 
 // The path of the journal, if one is kept.
 fn journal_in(alloc: Global, matches: &ArgMatches<'_>) -> Result<Option<String>, NoJob>
-    ensures journal { IfOk result (IsJournal (rows_of (found_of matches.now))) }
+    ensures journal { IfOk result (IsJournalPath (rows_of (found_of matches.now))) }
     ensures memory { IfErr result (λ e. e ≡ NoMemory) }
 {
     match value_of(matches, JOURNAL) {

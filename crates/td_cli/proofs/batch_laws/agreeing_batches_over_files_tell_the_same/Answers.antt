@@ -2,7 +2,7 @@ use Rattle.std.proofs.Common.{ap}
 use Rattle.td_model.specs.Book.{fresh_book}
 use Rattle.td_desk.proofs.Agreeing.{heard_alike, told_alike}
 use Rattle.td_files.specs.Found.{over_file}
-use Rattle.td_jobs.specs.Batched.{header_of, line_of}
+use Rattle.td_jobs.specs.Batched.{header_of, result_line}
 use Rattle.td_cli.specs.BatchLaws.{commands_tried, outcomes_tried}
 use Rattle.td_jobs.specs.Desks.{fresh_books}
 use Rattle.td_cli.proofs.BatchesAlike.{from_opened}
@@ -10,8 +10,8 @@ use Rattle.td_cli.proofs.batch_laws.agreeing_batches_over_files_tell_the_same.Go
 
 pub returns : goal.returns
 returns g c = λ country H which other_which at other_at image other_image opened left other_opened other_left rows other_rows clock clock_left other_clock other_clock_left r other_r begins other_begins one other clean other_clean alike agree failed.
-    let run = from_opened (line_of which) (header_of which) image country one.moment rows r opened left begins clean one.ran in
-    let other_run = from_opened (line_of other_which) (header_of other_which) other_image country other.moment other_rows other_r other_opened other_left other_begins
+    let run = from_opened (result_line which) (header_of which) image country one.moment rows r opened left begins clean one.ran in
+    let other_run = from_opened (result_line other_which) (header_of other_which) other_image country other.moment other_rows other_r other_opened other_left other_begins
     other_clean other.ran in
     let list = commands_tried one.moment rows r one.ran in
     let outcomes = outcomes_tried one.moment rows r one.ran in

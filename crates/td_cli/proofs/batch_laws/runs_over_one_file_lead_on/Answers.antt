@@ -2,7 +2,7 @@ use Rattle.std.proofs.Common.{false, subst}
 use Rattle.td_files.specs.Found.{over_file}
 use Rattle.td_batch.specs.Laws.{IsLater}
 use Rattle.td_batch.proofs.AgainAtDesk.{clean_back}
-use Rattle.td_jobs.specs.Batched.{header_of, line_of}
+use Rattle.td_jobs.specs.Batched.{header_of, result_line}
 use Rattle.td_cli.proofs.Later.{as_late, batch_clean, later_by_batch, later_by_crash, later_by_streams, later_still, opened_after_crash}
 use Rattle.td_cli.proofs.Runs.{begun_country, begun_keeps, begun_live, begun_sound, found_left}
 use Rattle.td_cli.proofs.batch_laws.runs_over_one_file_lead_on.Goals as goal
@@ -12,8 +12,8 @@ returns-clause-streams g c = λ country opened left streams run. later_by_stream
 
 pub returns-clause-batch : goal.returns-clause-batch
 returns-clause-batch g c = λ country image which at rows r opened left begins clean live run.
-    let was = batch_clean (line_of which) (header_of which) at rows r opened left run clean in
-    later_by_batch (line_of which) (header_of which) at rows r opened left (begun_live false image country opened begins was)
+    let was = batch_clean (result_line which) (header_of which) at rows r opened left run clean in
+    later_by_batch (result_line which) (header_of which) at rows r opened left (begun_live false image country opened begins was)
     (begun_sound false image country opened begins was) clean live run
 
 pub returns-clause-crash : goal.returns-clause-crash

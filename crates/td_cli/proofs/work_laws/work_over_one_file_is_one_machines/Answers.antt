@@ -1,6 +1,6 @@
 use Rattle.std.proofs.Common.{false}
 use Rattle.td_files.specs.Found.{over_file}
-use Rattle.td_jobs.specs.Batched.{header_of, line_of}
+use Rattle.td_jobs.specs.Batched.{header_of, result_line}
 use Rattle.td_cli.proofs.Parts.{batch_work, none_told, streams_work, work_alike, work_joined}
 use Rattle.td_cli.proofs.Runs.{begun_country, begun_live, begun_sound}
 use Rattle.td_cli.proofs.work_laws.work_over_one_file_is_one_machines.Goals as goal
@@ -10,7 +10,7 @@ returns-clause-streams g c = λ country opened left streams run. streams_work co
 
 pub returns-clause-batch : goal.returns-clause-batch
 returns-clause-batch g c = λ country image which at commands r opened left begins clean live ran.
-    batch_work (line_of which) (header_of which) image country at commands r opened left begins clean live ran
+    batch_work (result_line which) (header_of which) image country at commands r opened left begins clean live ran
 
 pub returns-clause-nothing : goal.returns-clause-nothing
 returns-clause-nothing g c = λ country image opened begins clean.

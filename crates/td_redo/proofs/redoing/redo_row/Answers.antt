@@ -5,7 +5,7 @@ use Rattle.td_acts.specs.Changes.{is_change}
 use Rattle.td_desk.specs.Content.{IsSound}
 use Rattle.td_desk.specs.Weighing.{IsWeighed}
 use Rattle.td_desk.proofs.Leaving.{left_failed}
-use Rattle.td_redo.specs.Endings.{IsEnding}
+use Rattle.td_redo.specs.Endings.{IsEndingFor}
 use Rattle.td_redo.specs.declared.redoing.Redone.{Redone}
 use Rattle.td_redo.specs.declared.redoing.Redone.TheVariants.{Carried}
 use Rattle.td_redo.proofs.RedoneRow.{adds_row, is_something, row_left, row_weighed}
@@ -13,7 +13,7 @@ use Rattle.td_redo.proofs.redoing.redo_row.Goals as goal
 
 -- the decision leads to what the ending says
 abbrev LeadsTo : Stamped → List ℕ → Verdict → Redone → Type 0
-LeadsTo s reply v ending = IsEnding ending s.command reply (is_change v.change) v.said
+LeadsTo s reply v ending = IsEndingFor ending s.command reply (is_change v.change) v.said
 
 pub returns-in_err-_said-in-Carried-clause-crash : goal.returns-in_err-_said-in-Carried-clause-crash
 returns-in_err-_said-in-Carried-clause-crash g c = λ clean.

@@ -1,7 +1,7 @@
 use Rattle.std.proofs.Common.{refl, rules, subst, SFits, w64}
 use Rattle.std.proofs.lemmas.Int.{to_z-of_z}
 use Rattle.td_batch.specs.Runs.{IsRunOf}
-use Rattle.td_jobs.specs.Batched.{commands_of, header_of, kind_of, line_of}
+use Rattle.td_jobs.specs.Batched.{commands_of, header_of, kind_of, result_line}
 use Rattle.td_jobs.proofs.rows.RowsDeskJob.on.Goals as goal
 
 pub returns : goal.returns
@@ -14,7 +14,7 @@ returns g c = λ ready.
       record {
         moment = moment;
         asked = c.moment_by-moment.ensures;
-        ran = subst (λ at. IsRunOf g.D.Desk.seen (line_of (kind_of rows)) (header_of (kind_of rows)) at (commands_of rows)
+        ran = subst (λ at. IsRunOf g.D.Desk.seen (result_line (kind_of rows)) (header_of (kind_of rows)) at (commands_of rows)
             c.run-run.result c.args.desk c.run-run.new.desk) (to_z-of_z w64 moment fits)
             c.run-run.ensures;
       },
