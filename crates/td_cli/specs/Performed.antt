@@ -60,60 +60,83 @@ IsChecked contents said drive country records out out_left errors errors_left be
     × desks.AtDesk drive country records (λ D view opened left end. left ≡ opened) (Unit {0}) before file end
     × IsCheckTold contents said end out out_left errors errors_left status
 
--- A task was done, in this country and at this moment or by the machine's clock, and how it ended was told: one stream from the
--- input to the first writer; connections, for which the input is read only by a standby desk; a file of rows; a journal again; a report; or a file was tested. The file is
--- the one at the path that the task names, on its drive, and what a connection to it shows before the task and after it, if one is there.
--- The other is that of a journal. A report and a test ask nothing of the machine, and keep no journal.
-abbrev pub IsTaskDone : {M L Reads Writes R W E V S O T : Type 0} {disk : Ghosts S} {others : Ghosts T} → Around M L Reads Writes → (R → Option (List ℕ))
-    → (W → Option (List ℕ)) → (E → Option (List ℕ)) → KnownDrive V S → KnownDrive O T → Task → List ℕ → Option ℤ → Counted R → Counted R → Counted W → Counted W
-    → Counted E → Counted E → FileHeld V disk → FileHeld V disk → FileHeld O others → FileHeld O others → M → M → ℕ → Type 0
-IsTaskDone around remaining contents said drive other_drive (Pipe records journal) country at reader reader_left writer writer_left errors errors_left before file other other_left machine machine_left status =
-    (end : Result StreamEnd DeskFault)
-    × PipesAs around.ticks remaining contents drive other_drive country at records (option_map string_bytes journal) reader reader_left writer writer_left before file other other_left machine machine_left end
-    × IsEnded said (of_job of_stream end) errors errors_left status
-IsTaskDone around remaining contents said drive other_drive (Serve listening records journal first) country at reader reader_left writer writer_left errors errors_left before file other other_left machine machine_left status =
-    IsServingDone around remaining contents said drive other_drive first country at records (option_map string_bytes journal) listening reader reader_left writer writer_left errors errors_left before file other other_left machine machine_left status
-IsTaskDone around remaining contents said drive other_drive (Batch which csv path journal) country at reader reader_left writer writer_left errors errors_left before file other other_left machine machine_left status =
-    (reader_left ≡ reader)
-    × IsBatched around contents said drive other_drive country at (File path) (option_map string_bytes journal) which (string_bytes csv) writer writer_left errors errors_left before file other other_left machine machine_left status
-IsTaskDone around remaining contents said drive other_drive (Replay csv part records) country at reader reader_left writer writer_left errors errors_left before file other other_left machine machine_left status =
-    (reader_left ≡ reader) × (other_left ≡ other)
-    × IsJournalReplayed around contents said drive country records (string_bytes csv) part writer writer_left errors errors_left before file machine machine_left status
-IsTaskDone around remaining contents said drive other_drive (Report kind path) country at reader reader_left writer writer_left errors errors_left before file other other_left machine machine_left status =
-    (reader_left ≡ reader) × (machine_left ≡ machine) × (other_left ≡ other)
-    × IsReportDone contents said drive country kind (File path) writer writer_left errors errors_left before file status
-IsTaskDone around remaining contents said drive other_drive (Check path) country at reader reader_left writer writer_left errors errors_left before file other other_left machine machine_left status =
-    (reader_left ≡ reader) × (machine_left ≡ machine) × (other_left ≡ other)
-    × IsChecked contents said drive country (File path) writer writer_left errors errors_left before file status
+-- What the program is lent, by what is known of it: the machine, the input and both outputs, and the drives on which the files are opened
+-- that its words name, if they name one, or two.
+pub record Lent (M L Reads Writes R W E V S O T : Type 0) : Type 1 where
+  pub machine : Around M L Reads Writes
+  pub input : R → Option (List ℕ)
+  pub output : W → Option (List ℕ)
+  pub errors : E → Option (List ℕ)
+  pub file : KnownDrive V S
+  pub other : KnownDrive O T
 
--- A job was done: a task at a desk of an office; or a file was brought to the newest version, or rows were put from one file into
--- another, for which the input isn't read and nothing is asked of the machine. The other file is touched by the last, and by a task that
--- keeps a journal.
-abbrev pub IsJobDone : {M L Reads Writes R W E V O S T : Type 0} {disk : Ghosts S} {others : Ghosts T} → Around M L Reads Writes
-    → (R → Option (List ℕ)) → (W → Option (List ℕ)) → (E → Option (List ℕ)) → KnownDrive V S → KnownDrive O T → Job → Counted R → Counted R
-    → Counted W → Counted W → Counted E → Counted E → FileHeld V disk → FileHeld V disk → FileHeld O others → FileHeld O others
-    → M → M → ℕ → Type 0
-IsJobDone around remaining contents said drive other_drive (AtDesk office task) reader reader_left writer writer_left errors errors_left before file other other_left machine machine_left status =
-    IsTaskDone around remaining contents said drive other_drive task office.country office.at reader reader_left writer writer_left errors errors_left before file other other_left machine machine_left status
-IsJobDone around remaining contents said drive other_drive (Migrate path) reader reader_left writer writer_left errors errors_left before file other other_left machine machine_left status =
-    (reader_left ≡ reader) × (machine_left ≡ machine) × (other_left ≡ other)
-    × IsMigrated contents said drive (string_bytes path) writer writer_left errors errors_left before file status
-IsJobDone around remaining contents said drive other_drive (Transfer country what) reader reader_left writer writer_left errors errors_left before file other other_left machine machine_left status =
-    (reader_left ≡ reader) × (machine_left ≡ machine) × (writer_left ≡ writer)
-    × IsTransferred said drive other_drive what country errors errors_left before file other other_left status
+abbrev pub lent_by : {M L Reads Writes R W E V S O T : Type 0} → Around M L Reads Writes → (R → Option (List ℕ)) → (W → Option (List ℕ)) → (E → Option (List ℕ))
+    → KnownDrive V S → KnownDrive O T → Lent M L Reads Writes R W E V S O T
+lent_by machine input output errors file other =
+    record { machine = machine; input = input; output = output; errors = errors; file = file; other = other }
 
--- The words ask for a job, which was done in the machine. Or they were given none, for want of memory, or
--- since they ask for help, or for no task at all: then nothing was read, no file was opened, nothing was asked of the machine, and they
--- were answered. The drives are those on which the files are opened that the words name, if they name one, or two.
-abbrev pub IsPerformed : {M L Reads Writes R W E V O S T : Type 0} {disk : Ghosts S} {others : Ghosts T} → Around M L Reads Writes
-    → (R → Option (List ℕ)) → (W → Option (List ℕ)) → (E → Option (List ℕ)) → KnownDrive V S → KnownDrive O T → List (List ℕ) → Counted R → Counted R
-    → Counted W → Counted W → Counted E → Counted E → FileHeld V disk → FileHeld V disk → FileHeld O others → FileHeld O others
-    → M → M → ℕ → Type 0
-IsPerformed around remaining contents said drive other_drive words reader reader_left writer writer_left errors errors_left before file other other_left machine machine_left status =
-    ((job : Job) × AsksFor words job
-    × IsJobDone around remaining contents said drive other_drive job reader reader_left writer writer_left errors errors_left before file other other_left machine machine_left status)
-    ⊎ ((no_job : NoJob) × IsNoJob words no_job × (reader_left ≡ reader) × (file ≡ before) × (other_left ≡ other) × (machine_left ≡ machine)
-    × IsAnswered contents said writer writer_left errors errors_left no_job status)
+-- All of that at one moment. Of a file it has the drive, and the connection that was left to it, if there is one.
+pub record World (M R W E V O : Type 0) {S T : Type 0} (disk : Ghosts S) (others : Ghosts T) : Type 0 where
+  pub machine : M
+  pub input : Counted R
+  pub output : Counted W
+  pub errors : Counted E
+  pub file : FileHeld V disk
+  pub other : FileHeld O others
+
+abbrev pub world : {M R W E V O S T : Type 0} {disk : Ghosts S} {others : Ghosts T} → M → Counted R → Counted W → Counted E → FileHeld V disk → FileHeld O others
+    → World M R W E V O disk others
+world machine input output errors file other =
+    record { machine = machine; input = input; output = output; errors = errors; file = file; other = other }
+
+module _ {M L Reads Writes R W E V S O T : Type 0} {disk : Ghosts S} {others : Ghosts T} (lent : Lent M L Reads Writes R W E V S O T) where
+  -- A task was done, in this country and at this moment or by the machine's clock, and how it ended was told, with that status: one stream
+  -- from the input to the output; connections, for which the input is read only by a standby desk; a file of rows; a journal again; a
+  -- report; or a file was tested. The file is the one at the path that the task names, and the other that of a journal. A report and a
+  -- test ask nothing of the machine, and keep no journal.
+  abbrev pub IsTaskDone : Task → List ℕ → Option ℤ → World M R W E V O disk others → World M R W E V O disk others → ℕ → Type 0
+  IsTaskDone (Pipe records journal) country at old new status =
+      (end : Result StreamEnd DeskFault)
+      × PipesAs lent.machine.ticks lent.input lent.output lent.file lent.other country at records (option_map string_bytes journal)
+      old.input new.input old.output new.output old.file new.file old.other new.other old.machine new.machine end
+      × IsEnded lent.errors (of_job of_stream end) old.errors new.errors status
+  IsTaskDone (Serve listening records journal first) country at old new status =
+      IsServingDone lent.machine lent.input lent.output lent.errors lent.file lent.other first country at records (option_map string_bytes journal) listening
+      old.input new.input old.output new.output old.errors new.errors old.file new.file old.other new.other old.machine new.machine status
+  IsTaskDone (Batch which csv path journal) country at old new status =
+      (new.input ≡ old.input)
+      × IsBatched lent.machine lent.output lent.errors lent.file lent.other country at (File path) (option_map string_bytes journal) which (string_bytes csv)
+      old.output new.output old.errors new.errors old.file new.file old.other new.other old.machine new.machine status
+  IsTaskDone (Replay csv part records) country at old new status =
+      (new.input ≡ old.input) × (new.other ≡ old.other)
+      × IsJournalReplayed lent.machine lent.output lent.errors lent.file country records (string_bytes csv) part
+      old.output new.output old.errors new.errors old.file new.file old.machine new.machine status
+  IsTaskDone (Report kind path) country at old new status =
+      (new.input ≡ old.input) × (new.machine ≡ old.machine) × (new.other ≡ old.other)
+      × IsReportDone lent.output lent.errors lent.file country kind (File path) old.output new.output old.errors new.errors old.file new.file status
+  IsTaskDone (Check path) country at old new status =
+      (new.input ≡ old.input) × (new.machine ≡ old.machine) × (new.other ≡ old.other)
+      × IsChecked lent.output lent.errors lent.file country (File path) old.output new.output old.errors new.errors old.file new.file status
+
+  -- A job was done: a task at a desk of an office; or a file was brought to the newest version, or rows were put from one file into
+  -- another, for which the input isn't read and nothing is asked of the machine. The other file is touched by the last, and by a task
+  -- that keeps a journal.
+  abbrev pub IsJobDone : Job → World M R W E V O disk others → World M R W E V O disk others → ℕ → Type 0
+  IsJobDone (AtDesk office task) old new status = IsTaskDone task office.country office.at old new status
+  IsJobDone (Migrate path) old new status =
+      (new.input ≡ old.input) × (new.machine ≡ old.machine) × (new.other ≡ old.other)
+      × IsMigrated lent.output lent.errors lent.file (string_bytes path) old.output new.output old.errors new.errors old.file new.file status
+  IsJobDone (Transfer country what) old new status =
+      (new.input ≡ old.input) × (new.machine ≡ old.machine) × (new.output ≡ old.output)
+      × IsTransferred lent.errors lent.file lent.other what country old.errors new.errors old.file new.file old.other new.other status
+
+  -- The words ask for a job, which was done. Or they were given none, for want of memory, or since they ask for help, or for no task at
+  -- all: then nothing was read, no file was opened, nothing was asked of the machine, and they were answered.
+  abbrev pub IsPerformed : List (List ℕ) → World M R W E V O disk others → World M R W E V O disk others → ℕ → Type 0
+  IsPerformed words old new status =
+      ((job : Job) × AsksFor words job × IsJobDone job old new status)
+      ⊎ ((no_job : NoJob) × IsNoJob words no_job × (new.input ≡ old.input) × (new.file ≡ old.file) × (new.other ≡ old.other) × (new.machine ≡ old.machine)
+      × IsAnswered lent.output lent.errors old.output new.output old.errors new.errors no_job status)
 
 -- Words that couldn't be read: there was no memory for them, or they aren't text, and the error's kind says which.
 abbrev pub IsUnread : {E : Type 0} → (E → Option (List ℕ)) → Error → Counted E → Counted E → ℕ → Type 0

@@ -1,7 +1,7 @@
 //! The jobs of the program.
 ghost use Rattle.std.specs.Prelude.{◌≡◌, map, string_bytes};
 ghost use Rattle.td_cli.specs.Exits.{of_job, of_stream};
-ghost use Rattle.td_cli.specs.Performed.{IsJobDone, IsPerformed, IsTaskDone};
+ghost use Rattle.td_cli.specs.Performed.{IsJobDone, IsPerformed, IsTaskDone, lent_by, world};
 ghost use Rattle.td_cli.specs.Statuses.{IsAnswered};
 
 use crate::batching::batch;
@@ -35,9 +35,10 @@ pub fn perform<V: Drive, O: Drive, R: Read, W: Write, E: Write>(
     errors: &mut Counted<E>,
 ) -> u8
     ensures { (machine : _) × (machine_left : _)
-        × IsPerformed ⟦<HostMachine<'static> as Surroundings>⟧.around R.remaining W.contents E.contents V.known O.known
-        (map string_bytes words.now) input.old input.new out.old out.new errors.old errors.new
-        file.old file.new other.old other.new machine machine_left result }
+        × IsPerformed (lent_by ⟦<HostMachine<'static> as Surroundings>⟧.around R.remaining W.contents E.contents V.known O.known)
+        (map string_bytes words.now)
+        (world machine input.old out.old errors.old file.old other.old)
+        (world machine_left input.new out.new errors.new file.new other.new) result }
 {
     let machine = &mut HostMachine { rt };
     perform_on(rt.alloc(), machine, words, file, other, input, out, errors)
@@ -59,9 +60,10 @@ pub fn perform_on<M: Machine, V: Drive, O: Drive, R: Read, W: Write, E: Write>(
     out: &mut Counted<W>,
     errors: &mut Counted<E>,
 ) -> u8
-    ensures { IsPerformed ⟦<M as Surroundings>⟧.around R.remaining W.contents E.contents V.known O.known
-        (map string_bytes words.now) input.old input.new out.old out.new errors.old errors.new
-        file.old file.new other.old other.new machine.old machine.new result }
+    ensures { IsPerformed (lent_by ⟦<M as Surroundings>⟧.around R.remaining W.contents E.contents V.known O.known)
+        (map string_bytes words.now)
+        (world machine.old input.old out.old errors.old file.old other.old)
+        (world machine.new input.new out.new errors.new file.new other.new) result }
 {
     match read_words(alloc, words) {
         Ok(job) => do_job(alloc, machine, job, file, other, input, out, errors),
@@ -80,9 +82,10 @@ fn do_job<M: Machine, V: Drive, O: Drive, R: Read, W: Write, E: Write>(
     out: &mut Counted<W>,
     errors: &mut Counted<E>,
 ) -> u8
-    ensures { IsJobDone ⟦<M as Surroundings>⟧.around R.remaining W.contents E.contents V.known O.known job
-        input.old input.new out.old out.new errors.old errors.new
-        file.old file.new other.old other.new machine.old machine.new result }
+    ensures { IsJobDone (lent_by ⟦<M as Surroundings>⟧.around R.remaining W.contents E.contents V.known O.known)
+        job
+        (world machine.old input.old out.old errors.old file.old other.old)
+        (world machine.new input.new out.new errors.new file.new other.new) result }
 {
     match job {
         Job::AtDesk(office, task) => do_task(
@@ -105,9 +108,10 @@ fn do_task<M: Machine, V: Drive, O: Drive, R: Read, W: Write, E: Write>(
     out: &mut Counted<W>,
     errors: &mut Counted<E>,
 ) -> u8
-    ensures { IsTaskDone ⟦<M as Surroundings>⟧.around R.remaining W.contents E.contents V.known O.known task office.country office.at
-        input.old input.new out.old out.new errors.old errors.new
-        file.old file.new other.old other.new machine.old machine.new result }
+    ensures { IsTaskDone (lent_by ⟦<M as Surroundings>⟧.around R.remaining W.contents E.contents V.known O.known)
+        task office.country office.at
+        (world machine.old input.old out.old errors.old file.old other.old)
+        (world machine.new input.new out.new errors.new file.new other.new) result }
 {
     match task {
         Task::Serve {

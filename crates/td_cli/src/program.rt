@@ -1,6 +1,6 @@
 //! What a `main` calls: the words of the command line as the machine has them, and the program on them.
 ghost use Rattle.std.specs.Prelude.{◌≡◌, map, string_bytes, MatchResult};
-ghost use Rattle.td_cli.specs.Performed.{IsPerformed, IsUnread};
+ghost use Rattle.td_cli.specs.Performed.{IsPerformed, IsUnread, lent_by, world};
 
 use crate::jobs::perform;
 use crate::telling::unread_words;
@@ -31,9 +31,10 @@ pub fn run_program<V: Drive, O: Drive, R: Read, W: Write, E: Write>(
 ) -> u8
     ensures { MatchResult words
         (λ words. (machine : _) × (machine_left : _)
-        × IsPerformed ⟦<HostMachine<'static> as Surroundings>⟧.around R.remaining W.contents E.contents V.known O.known
-        (map string_bytes words.items) input.old input.new out.old out.new errors.old errors.new
-        file.old file.new other.old other.new machine machine_left result)
+        × IsPerformed (lent_by ⟦<HostMachine<'static> as Surroundings>⟧.around R.remaining W.contents E.contents V.known O.known)
+        (map string_bytes words.items)
+        (world machine input.old out.old errors.old file.old other.old)
+        (world machine_left input.new out.new errors.new file.new other.new) result)
         (λ error. (input.new ≡ input.old) × (out.new ≡ out.old) × (file.new ≡ file.old) × (other.new ≡ other.old)
         × IsUnread E.contents error errors.old errors.new result) }
 {
