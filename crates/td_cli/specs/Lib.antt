@@ -3,6 +3,7 @@ pub mod Statuses
 pub mod Desks
 pub mod AtDesk
 pub mod Journaled
+pub mod World
 pub mod Batched
 pub mod Replayed
 pub mod Migrated

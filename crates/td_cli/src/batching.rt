@@ -2,6 +2,7 @@
 ghost use Rattle.std.specs.Prelude.{◌≡◌, option_map, string_bytes};
 ghost use Rattle.td_jobs.specs.Batched.{commands_of, kind_of};
 ghost use Rattle.td_cli.specs.Batched.{IsBatchAtDesk, IsBatchTold, IsBatched, IsRunTold};
+ghost use Rattle.td_cli.specs.World.{lent_by};
 
 use crate::exits::{Cause, DONE, FAULT, Word, fault, of_file, of_read_error, of_rows, of_stop};
 use crate::journaling::with_journal;
@@ -31,8 +32,10 @@ pub(crate) fn batch<M: Machine, V: Drive, O: Drive, R: Read, W: Write, E: Write>
     errors: &mut Counted<E>,
 ) -> u8
     ensures unread { input.new ≡ input.old }
-    ensures done { IsBatched ⟦<M as Surroundings>⟧.around W.contents E.contents V.known O.known office.country office.at records.now
-        (option_map string_bytes journal.now) kind csv.now out.old out.new errors.old errors.new file.old file.new other.old other.new machine.old machine.new result }
+    ensures done { IsBatched (lent_by ⟦<M as Surroundings>⟧.around R.remaining W.contents E.contents V.known V.Disk.Disk O.known O.Disk.Disk)
+        office records.now (option_map string_bytes journal.now) kind csv.now
+        (record { machine = machine.old; input = input.old; output = out.old; errors = errors.old; file = file.old; other = other.old })
+        (record { machine = machine.new; input = input.new; output = out.new; errors = errors.new; file = file.new; other = other.new }) result }
 {
     let bytes = match machine.read_file(alloc, csv) {
         Ok(bytes) => bytes,
@@ -61,8 +64,10 @@ fn do_rows<M: Machine, V: Drive, O: Drive, R: Read, W: Write, E: Write>(
     errors: &mut Counted<E>,
 ) -> u8
     ensures unread { input.new ≡ input.old }
-    ensures done { IsBatchAtDesk M.ticks W.contents E.contents V.known O.known office.country office.at records.now (option_map string_bytes journal.now)
-        (kind_of rows) (commands_of rows) out.old out.new errors.old errors.new file.old file.new other.old other.new machine.old machine.new result }
+    ensures done { IsBatchAtDesk (lent_by ⟦<M as Surroundings>⟧.around R.remaining W.contents E.contents V.known V.Disk.Disk O.known O.Disk.Disk)
+        office records.now (option_map string_bytes journal.now) (kind_of rows) (commands_of rows)
+        (record { machine = machine.old; input = input.old; output = out.old; errors = errors.old; file = file.old; other = other.old })
+        (record { machine = machine.new; input = input.new; output = out.new; errors = errors.new; file = file.new; other = other.new }) result }
 {
     let end = with_journal(
         alloc, machine, office, records, journal, file, other, rows, input, out,

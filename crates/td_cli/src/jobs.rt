@@ -1,7 +1,8 @@
 //! The jobs of the program.
 ghost use Rattle.std.specs.Prelude.{◌≡◌, map, string_bytes};
 ghost use Rattle.td_cli.specs.Exits.{of_job, of_stream};
-ghost use Rattle.td_cli.specs.Performed.{IsJobDone, IsPerformed, IsTaskDone, lent_by, world};
+ghost use Rattle.td_cli.specs.Performed.{IsJobDone, IsPerformed, IsTaskDone};
+ghost use Rattle.td_cli.specs.World.{lent_by};
 ghost use Rattle.td_cli.specs.Statuses.{IsAnswered};
 
 use crate::batching::batch;
@@ -35,10 +36,10 @@ pub fn perform<V: Drive, O: Drive, R: Read, W: Write, E: Write>(
     errors: &mut Counted<E>,
 ) -> u8
     ensures { (machine : _) × (machine_left : _)
-        × IsPerformed (lent_by ⟦<HostMachine<'static> as Surroundings>⟧.around R.remaining W.contents E.contents V.known O.known)
+        × IsPerformed (lent_by ⟦<HostMachine<'static> as Surroundings>⟧.around R.remaining W.contents E.contents V.known V.Disk.Disk O.known O.Disk.Disk)
         (map string_bytes words.now)
-        (world machine input.old out.old errors.old file.old other.old)
-        (world machine_left input.new out.new errors.new file.new other.new) result }
+        (record { machine = machine; input = input.old; output = out.old; errors = errors.old; file = file.old; other = other.old })
+        (record { machine = machine_left; input = input.new; output = out.new; errors = errors.new; file = file.new; other = other.new }) result }
 {
     let machine = &mut HostMachine { rt };
     perform_on(rt.alloc(), machine, words, file, other, input, out, errors)
@@ -60,10 +61,10 @@ pub fn perform_on<M: Machine, V: Drive, O: Drive, R: Read, W: Write, E: Write>(
     out: &mut Counted<W>,
     errors: &mut Counted<E>,
 ) -> u8
-    ensures { IsPerformed (lent_by ⟦<M as Surroundings>⟧.around R.remaining W.contents E.contents V.known O.known)
+    ensures { IsPerformed (lent_by ⟦<M as Surroundings>⟧.around R.remaining W.contents E.contents V.known V.Disk.Disk O.known O.Disk.Disk)
         (map string_bytes words.now)
-        (world machine.old input.old out.old errors.old file.old other.old)
-        (world machine.new input.new out.new errors.new file.new other.new) result }
+        (record { machine = machine.old; input = input.old; output = out.old; errors = errors.old; file = file.old; other = other.old })
+        (record { machine = machine.new; input = input.new; output = out.new; errors = errors.new; file = file.new; other = other.new }) result }
 {
     match read_words(alloc, words) {
         Ok(job) => do_job(alloc, machine, job, file, other, input, out, errors),
@@ -82,10 +83,10 @@ fn do_job<M: Machine, V: Drive, O: Drive, R: Read, W: Write, E: Write>(
     out: &mut Counted<W>,
     errors: &mut Counted<E>,
 ) -> u8
-    ensures { IsJobDone (lent_by ⟦<M as Surroundings>⟧.around R.remaining W.contents E.contents V.known O.known)
+    ensures { IsJobDone (lent_by ⟦<M as Surroundings>⟧.around R.remaining W.contents E.contents V.known V.Disk.Disk O.known O.Disk.Disk)
         job
-        (world machine.old input.old out.old errors.old file.old other.old)
-        (world machine.new input.new out.new errors.new file.new other.new) result }
+        (record { machine = machine.old; input = input.old; output = out.old; errors = errors.old; file = file.old; other = other.old })
+        (record { machine = machine.new; input = input.new; output = out.new; errors = errors.new; file = file.new; other = other.new }) result }
 {
     match job {
         Job::AtDesk(office, task) => do_task(
@@ -108,10 +109,10 @@ fn do_task<M: Machine, V: Drive, O: Drive, R: Read, W: Write, E: Write>(
     out: &mut Counted<W>,
     errors: &mut Counted<E>,
 ) -> u8
-    ensures { IsTaskDone (lent_by ⟦<M as Surroundings>⟧.around R.remaining W.contents E.contents V.known O.known)
-        task office.country office.at
-        (world machine.old input.old out.old errors.old file.old other.old)
-        (world machine.new input.new out.new errors.new file.new other.new) result }
+    ensures { IsTaskDone (lent_by ⟦<M as Surroundings>⟧.around R.remaining W.contents E.contents V.known V.Disk.Disk O.known O.Disk.Disk)
+        office task
+        (record { machine = machine.old; input = input.old; output = out.old; errors = errors.old; file = file.old; other = other.old })
+        (record { machine = machine.new; input = input.new; output = out.new; errors = errors.new; file = file.new; other = other.new }) result }
 {
     match task {
         Task::Serve {

@@ -1,6 +1,7 @@
 //! What a `main` calls: the words of the command line as the machine has them, and the program on them.
 ghost use Rattle.std.specs.Prelude.{◌≡◌, map, string_bytes, MatchResult};
-ghost use Rattle.td_cli.specs.Performed.{IsPerformed, IsUnread, lent_by, world};
+ghost use Rattle.td_cli.specs.Performed.{IsPerformed, IsUnread};
+ghost use Rattle.td_cli.specs.World.{lent_by};
 
 use crate::jobs::perform;
 use crate::telling::unread_words;
@@ -31,10 +32,10 @@ pub fn run_program<V: Drive, O: Drive, R: Read, W: Write, E: Write>(
 ) -> u8
     ensures { MatchResult words
         (λ words. (machine : _) × (machine_left : _)
-        × IsPerformed (lent_by ⟦<HostMachine<'static> as Surroundings>⟧.around R.remaining W.contents E.contents V.known O.known)
+        × IsPerformed (lent_by ⟦<HostMachine<'static> as Surroundings>⟧.around R.remaining W.contents E.contents V.known V.Disk.Disk O.known O.Disk.Disk)
         (map string_bytes words.items)
-        (world machine input.old out.old errors.old file.old other.old)
-        (world machine_left input.new out.new errors.new file.new other.new) result)
+        (record { machine = machine; input = input.old; output = out.old; errors = errors.old; file = file.old; other = other.old })
+        (record { machine = machine_left; input = input.new; output = out.new; errors = errors.new; file = file.new; other = other.new }) result)
         (λ error. (input.new ≡ input.old) × (out.new ≡ out.old) × (file.new ≡ file.old) × (other.new ≡ other.old)
         × IsUnread E.contents error errors.old errors.new result) }
 {

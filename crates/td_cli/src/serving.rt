@@ -2,6 +2,7 @@
 ghost use Rattle.std.specs.Prelude.{◌≡◌, false, option_map, string_bytes, true};
 ghost use Rattle.td_cli.specs.Exits.{of_job, of_serving, of_standby};
 ghost use Rattle.td_cli.specs.Served.{IsServingDone};
+ghost use Rattle.td_cli.specs.World.{lent_by};
 
 use crate::exits::{Cause, exit, of_file, of_serving, of_standby};
 use crate::journaling::with_journal;
@@ -31,9 +32,10 @@ pub(crate) fn serve<M: Machine, V: Drive, O: Drive, R: Read, W: Write, E: Write>
     out: &mut Counted<W>,
     errors: &mut Counted<E>,
 ) -> u8
-    ensures { IsServingDone ⟦<M as Surroundings>⟧.around R.remaining W.contents E.contents V.known O.known first office.country office.at records.now
-        (option_map string_bytes journal.now) listening input.old input.new out.old out.new errors.old errors.new
-        file.old file.new other.old other.new machine.old machine.new result }
+    ensures { IsServingDone (lent_by ⟦<M as Surroundings>⟧.around R.remaining W.contents E.contents V.known V.Disk.Disk O.known O.Disk.Disk)
+        first office records.now (option_map string_bytes journal.now) listening
+        (record { machine = machine.old; input = input.old; output = out.old; errors = errors.old; file = file.old; other = other.old })
+        (record { machine = machine.new; input = input.new; output = out.new; errors = errors.new; file = file.new; other = other.new }) result }
 {
     if first {
         stand_by(
@@ -60,9 +62,10 @@ fn serve_at_once<M: Machine, V: Drive, O: Drive, R: Read, W: Write, E: Write>(
     out: &mut Counted<W>,
     errors: &mut Counted<E>,
 ) -> u8
-    ensures { IsServingDone ⟦<M as Surroundings>⟧.around R.remaining W.contents E.contents V.known O.known false office.country office.at records.now
-        (option_map string_bytes journal.now) listening input.old input.new out.old out.new errors.old errors.new
-        file.old file.new other.old other.new machine.old machine.new result }
+    ensures { IsServingDone (lent_by ⟦<M as Surroundings>⟧.around R.remaining W.contents E.contents V.known V.Disk.Disk O.known O.Disk.Disk)
+        false office records.now (option_map string_bytes journal.now) listening
+        (record { machine = machine.old; input = input.old; output = out.old; errors = errors.old; file = file.old; other = other.old })
+        (record { machine = machine.new; input = input.new; output = out.new; errors = errors.new; file = file.new; other = other.new }) result }
 {
     let end = with_journal(
         alloc, machine, office, records, journal, file, other, listening, input, out,
@@ -84,9 +87,10 @@ fn stand_by<M: Machine, V: Drive, O: Drive, R: Read, W: Write, E: Write>(
     out: &mut Counted<W>,
     errors: &mut Counted<E>,
 ) -> u8
-    ensures { IsServingDone ⟦<M as Surroundings>⟧.around R.remaining W.contents E.contents V.known O.known true office.country office.at records.now
-        (option_map string_bytes journal.now) listening input.old input.new out.old out.new errors.old errors.new
-        file.old file.new other.old other.new machine.old machine.new result }
+    ensures { IsServingDone (lent_by ⟦<M as Surroundings>⟧.around R.remaining W.contents E.contents V.known V.Disk.Disk O.known O.Disk.Disk)
+        true office records.now (option_map string_bytes journal.now) listening
+        (record { machine = machine.old; input = input.old; output = out.old; errors = errors.old; file = file.old; other = other.old })
+        (record { machine = machine.new; input = input.new; output = out.new; errors = errors.new; file = file.new; other = other.new }) result }
 {
     let job = Following { job: listening };
     let end = with_journal(

@@ -1,0 +1,47 @@
+-- What the program stands in.
+use Rattle.std.specs.Prelude.{Option, List, ℕ}
+use Rattle.counted_io.specs.declared.counted.Counted.{Counted}
+use Rattle.sqlite_disk.specs.declared.Disk.{Ghosts}
+use Rattle.td_files.specs.Found.{FileHeld}
+use Rattle.td_jobs.specs.Jobs.{IsUntouched}
+use Rattle.td_machine.specs.Drive.{KnownDrive}
+use Rattle.td_machine.specs.Machine.{Around}
+
+-- What the program is lent, by what is known of it: the machine, the input and both outputs, and the drives and disks of the files that its
+-- words name, if they name one, or two.
+pub record Lent (M L Reads Writes R W E V S O T : Type 0) : Type 1 where
+  pub machine : Around M L Reads Writes
+  pub input : R → Option (List ℕ)
+  pub output : W → Option (List ℕ)
+  pub errors : E → Option (List ℕ)
+  pub drive : KnownDrive V S
+  pub disk : Ghosts S
+  pub other_drive : KnownDrive O T
+  pub other_disk : Ghosts T
+
+abbrev pub lent_by : {M L Reads Writes R W E V S O T : Type 0} → Around M L Reads Writes → (R → Option (List ℕ)) → (W → Option (List ℕ)) → (E → Option (List ℕ))
+    → KnownDrive V S → Ghosts S → KnownDrive O T → Ghosts T → Lent M L Reads Writes R W E V S O T
+lent_by machine input output errors drive disk other_drive other_disk = record {
+  machine = machine;
+  input = input;
+  output = output;
+  errors = errors;
+  drive = drive;
+  disk = disk;
+  other_drive = other_drive;
+  other_disk = other_disk;
+}
+
+module _ {M L Reads Writes R W E V S O T : Type 0} (lent : Lent M L Reads Writes R W E V S O T) where
+  -- All of that at one moment. Of a file it has the drive, and the connection that was left to it, if there is one.
+  pub record World : Type 0 where
+    pub machine : M
+    pub input : Counted R
+    pub output : Counted W
+    pub errors : Counted E
+    pub file : FileHeld V lent.disk
+    pub other : FileHeld O lent.other_disk
+
+  -- nothing was read, printed or asked of the machine
+  abbrev pub IsIdle : World → World → Type 0
+  IsIdle old new = IsUntouched old.input new.input old.output new.output old.machine new.machine
