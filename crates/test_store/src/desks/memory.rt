@@ -1,25 +1,17 @@
-//! Want of memory in calls on a desk: what a call leaves that finds none, and that it is done where it is asked
-//! again. tests/memory runs these tests again and again, and refuses another request for memory in each run; with
-//! ample memory they show that the calls succeed.
+//! Want of memory in calls that no run of the program makes: on a desk in memory, and of a walk. What a call leaves that finds
+//! none, and that it is done where it is asked again. tests/memory runs these tests again and again, and refuses another
+//! request for memory in each run; with ample memory they show that the calls succeed. It shows the same of the built
+//! program: of a desk over a file, its making, opening, audit and upgrade, of streams, batches, acts and reports.
 use super::accepted::{START, accept, lodge, open, register};
-use super::migrations::{
-    first, rows_of as first_rows_of, second, second_rows_of, upgraded, version_of,
-};
-use super::opening::{opened, seen};
-use super::reports::busy;
-use super::rows::{rows_of, shown, tables};
+use super::made;
+use super::opening::seen;
 use super::stops::{batch, list};
-use super::{database, made};
-use crate::examples::{GRN, country, day, grn};
-use sqlite::{Connection, MemStore};
+use crate::examples::{GRN, country, grn};
+use sqlite::MemStore;
 use std::process::Abort;
-use td_base::Counted;
 use td_batch::{ActRow, BatchRun, read_acts, run_acts, run_declarations};
-use td_desk::{Desk, Fault, Outcome, PlainDesk, Stamped, do_one, run};
-use td_migrate::{MigrateFault, upgrade};
-use td_reports::{ReportFault, guarantees, overdue};
-use td_schema::Layout;
-use td_store::{OpenFault, Refused, SqlDesk, audit};
+use td_desk::{Fault, Outcome, PlainDesk, Stamped, do_one, run};
+use td_store::SqlDesk;
 
 /// So many bytes are asked for where the requests begin that tests/memory refuses, and where they end.
 const BEGIN: usize = 1_000_003;
@@ -32,154 +24,14 @@ fn mark(rt: &(impl AllocGlobal + Abort), bytes: usize) {
     assert!(rt; room.is_empty());
 }
 
-// The connection of a desk that was refused for want of memory.
-fn handed_back(rt: &impl Abort, refused: Refused<MemStore>) -> Connection<MemStore> {
-    assert!(rt; refused.fault == OpenFault::NoMemory);
-    assert!(rt; refused.connection.is_autocommit());
-    refused.connection
-}
-
-fn made_over(rt: &impl Abort, conn: Connection<MemStore>) -> SqlDesk<MemStore> {
-    assert!(rt; conn.is_autocommit());
-    let made = SqlDesk::create(conn, country(rt));
-    made.ok().expect(rt, "a desk")
-}
-
-#[test]
-fn making_a_desk(rt: HostRuntime) {
-    let (conn, country) = (database(&rt), country(&rt));
-    assert!(rt; conn.is_autocommit());
-    mark(&rt, BEGIN);
-    let made_desk = SqlDesk::create(conn, country);
-    mark(&rt, END);
-    let mut desk = match made_desk {
-        Ok(desk) => desk,
-        Err(refused) => made_over(&rt, handed_back(&rt, refused)),
-    };
-    assert_eq!(rt;
-        seen(&rt, &mut desk).as_str(),
-        seen(&rt, &mut made(&rt)).as_str()
-    );
-}
-
-#[test]
-fn opening_a_desk(rt: HostRuntime) {
-    let (conn, country) = (tables(&rt), country(&rt));
-    assert!(rt; conn.is_autocommit());
-    mark(&rt, BEGIN);
-    let opened_desk = SqlDesk::open(rt.alloc(), conn, country);
-    mark(&rt, END);
-    let mut desk = match opened_desk {
-        Ok(desk) => desk,
-        Err(refused) => opened(&rt, handed_back(&rt, refused)),
-    };
-    assert_eq!(rt;
-        seen(&rt, &mut desk).as_str(),
-        shown(&rt, tables(&rt)).as_str()
-    );
-}
-
-#[test]
-fn auditing_a_file(rt: HostRuntime) {
-    let mut conn = tables(&rt);
-    assert!(rt; conn.is_autocommit());
-    mark(&rt, BEGIN);
-    let audited = audit(rt.alloc(), &mut conn, 3);
-    mark(&rt, END);
-    assert!(rt; audited == Ok(()) || audited == Err(OpenFault::NoMemory));
-    assert!(rt; conn.is_autocommit());
-    assert!(rt; audit(rt.alloc(), &mut conn, 3) == Ok(()));
-    assert_eq!(rt;
-        rows_of(&rt, &mut conn).as_str(),
-        rows_of(&rt, &mut tables(&rt)).as_str()
-    );
-}
-
-// The file is one of version 1 as it was, or one of version 2 with the same rows.
-fn assert_left(rt: &(impl AllocGlobal + Abort), conn: &mut Connection<MemStore>) {
-    let found = version_of(rt, conn);
-    if found == Ok(2) {
-        assert_eq!(rt;
-            second_rows_of(rt, conn).as_str(),
-            second_rows_of(rt, &mut second(rt, Layout::Grown2)).as_str()
-        );
-        return;
-    }
-    assert!(rt; found == Ok(1));
-    assert_eq!(rt;
-        first_rows_of(rt, conn).as_str(),
-        first_rows_of(rt, &mut first(rt)).as_str()
-    );
-}
-
-#[test]
-fn upgrading_a_file(rt: HostRuntime) {
-    let mut conn = first(&rt);
-    assert!(rt; conn.is_autocommit());
-    mark(&rt, BEGIN);
-    let found = upgrade(rt.alloc(), &mut conn);
-    mark(&rt, END);
-    if found == Err(MigrateFault::NoMemory) {
-        assert_left(&rt, &mut conn);
-    } else {
-        assert!(rt; found == Ok(3));
-    }
-    assert!(rt; upgraded(&rt, &mut conn) == Ok(3));
-    assert_eq!(rt; shown(&rt, conn).as_str(), shown(&rt, tables(&rt)).as_str());
-}
-
-// A writer that has its room.
-fn paper(rt: &(impl AllocGlobal + Abort)) -> Counted<Vec<u8>> {
-    let room = Vec::with_capacity(rt.alloc(), 4096);
-    Counted::new(room.expect(rt, "memory"))
-}
-
-// A report that found no memory is a beginning of what is written where it is asked again.
-fn assert_written(
-    rt: &impl Abort,
-    end: Result<(), ReportFault>,
-    written: Counted<Vec<u8>>,
-    again: Counted<Vec<u8>>,
-) {
-    let (written, again) = (written.into_inner(), again.into_inner());
-    if end == Err(ReportFault::NoMemory) {
-        assert!(rt; again.starts_with(&written));
-    } else {
-        assert!(rt; end == Ok(()));
-        assert_eq!(rt; written.as_slice(), again.as_slice());
-    }
-}
-
-#[test]
-fn reporting_what_is_overdue(rt: HostRuntime) {
-    let (mut desk, on) = (busy(&rt), day(&rt, b"2025-03-20"));
-    let (mut written, mut again) = (paper(&rt), paper(&rt));
-    mark(&rt, BEGIN);
-    let end = overdue(rt.alloc(), &mut desk, on, &mut written);
-    mark(&rt, END);
-    assert!(rt; overdue(rt.alloc(), &mut desk, on, &mut again) == Ok(()));
-    assert_written(&rt, end, written, again);
-}
-
-#[test]
-fn reporting_guarantees(rt: HostRuntime) {
-    let mut desk = busy(&rt);
-    let (mut written, mut again) = (paper(&rt), paper(&rt));
-    mark(&rt, BEGIN);
-    let end = guarantees(rt.alloc(), &mut desk, &mut written);
-    mark(&rt, END);
-    assert!(rt; guarantees(rt.alloc(), &mut desk, &mut again) == Ok(()));
-    assert_written(&rt, end, written, again);
-}
-
 fn push_outcome(rt: &impl Abort, words: &mut String, outcome: &Outcome) {
     writeln!(words, "{outcome:?}").expect(rt, "memory");
 }
 
 // What is said to the list at that desk, without the commands that failed in these outcomes.
-fn said_without<D: Desk>(
+fn said_without(
     rt: &(impl AllocGlobal + Abort),
-    desk: &mut D,
+    desk: &mut PlainDesk,
     list: &[Stamped],
     outcomes: &[Outcome],
 ) -> String {
@@ -206,48 +58,35 @@ fn said_in(rt: &(impl AllocGlobal + Abort), outcomes: &[Outcome]) -> String {
 }
 
 // What is said to the whole list.
-fn said<D: Desk>(rt: &(impl AllocGlobal + Abort), desk: &mut D, list: &[Stamped]) -> String {
+fn said(rt: &(impl AllocGlobal + Abort), desk: &mut PlainDesk, list: &[Stamped]) -> String {
     let outcomes = run(rt.alloc(), desk, list).expect(rt, "memory");
     said_in(rt, &outcomes)
-}
-
-// A command that failed changed nothing, and so did a run that found no room: the other desk, which never missed
-// memory and is told the commands that didn't fail, says the same to them, and to the whole list after them.
-fn assert_run<D: Desk>(rt: &(impl AllocGlobal + Abort), mut desk: D, mut other: D) -> (D, D) {
-    let list = list(rt);
-    mark(rt, BEGIN);
-    let outcomes = run(rt.alloc(), &mut desk, &list);
-    mark(rt, END);
-    if let Ok(outcomes) = outcomes {
-        let due = said_without(rt, &mut other, &list, &outcomes);
-        assert_eq!(rt; said_in(rt, &outcomes).as_str(), due.as_str());
-    }
-    let due = said(rt, &mut other, &list);
-    assert_eq!(rt; said(rt, &mut desk, &list).as_str(), due.as_str());
-    (desk, other)
 }
 
 fn plain(rt: &(impl AllocGlobal + Abort)) -> PlainDesk {
     PlainDesk::new(rt.alloc(), country(rt)).expect(rt, "memory")
 }
 
+// A command that failed changed nothing, and so did a run that found no room: the other desk, which never missed
+// memory and is told the commands that didn't fail, says the same to them, and to the whole list after them.
 #[test]
 fn running_commands_in_memory(rt: HostRuntime) {
-    let (_desk, _other) = assert_run(&rt, plain(&rt), plain(&rt));
+    let (mut desk, mut other) = (plain(&rt), plain(&rt));
+    let list = list(&rt);
+    mark(&rt, BEGIN);
+    let outcomes = run(rt.alloc(), &mut desk, &list);
+    mark(&rt, END);
+    if let Ok(outcomes) = outcomes {
+        let due = said_without(&rt, &mut other, &list, &outcomes);
+        assert!(rt; said_in(&rt, &outcomes).as_str() == due.as_str());
+    }
+    let due = said(&rt, &mut other, &list);
+    assert!(rt; said(&rt, &mut desk, &list).as_str() == due.as_str());
 }
 
-#[test]
-fn running_commands_over_tables(rt: HostRuntime) {
-    let (mut desk, mut other) = assert_run(&rt, made(&rt), made(&rt));
-    assert_eq!(rt;
-        seen(&rt, &mut desk).as_str(),
-        seen(&rt, &mut other).as_str()
-    );
-}
-
-// The registration and the opening of a guarantee are done at the desk.
-fn with_guarantee<D: Desk>(rt: &(impl AllocGlobal + Abort), mut desk: D) -> D {
-    let list = list(rt);
+// A desk at which the registration and the opening of a guarantee are done.
+fn with_guarantee(rt: &(impl AllocGlobal + Abort)) -> PlainDesk {
+    let (mut desk, list) = (plain(rt), list(rt));
     for stamped in &list[..2] {
         let outcome = do_one(rt.alloc(), &mut desk, stamped);
         assert!(rt; matches!(outcome, Outcome::Said(_)));
@@ -269,33 +108,19 @@ fn assert_rows_done(rt: &impl Abort, found: &BatchRun, due: &BatchRun, rows: usi
 }
 
 // Declarations stop where memory is missed, and go on with the rest: as at a desk that never missed any.
-fn assert_declared<D: Desk>(rt: &(impl AllocGlobal + Abort), desk: D, other: D) -> (D, D) {
-    let (mut desk, mut other) = (with_guarantee(rt, desk), with_guarantee(rt, other));
-    let rows = batch(rt);
-    mark(rt, BEGIN);
-    let found = run_declarations(rt.alloc(), &mut desk, START, &rows);
-    mark(rt, END);
-    let (done, left) = rows.split_at(found.done.min(rows.len()));
-    let due = run_declarations(rt.alloc(), &mut other, START, done);
-    assert_rows_done(rt, &found, &due, rows.len());
-    let rest = run_declarations(rt.alloc(), &mut desk, START, left);
-    let due = run_declarations(rt.alloc(), &mut other, START, left);
-    assert_rows_done(rt, &rest, &due, left.len());
-    (desk, other)
-}
-
 #[test]
 fn declaring_in_memory(rt: HostRuntime) {
-    let (_desk, _other) = assert_declared(&rt, plain(&rt), plain(&rt));
-}
-
-#[test]
-fn declaring_over_tables(rt: HostRuntime) {
-    let (mut desk, mut other) = assert_declared(&rt, made(&rt), made(&rt));
-    assert_eq!(rt;
-        seen(&rt, &mut desk).as_str(),
-        seen(&rt, &mut other).as_str()
-    );
+    let (mut desk, mut other) = (with_guarantee(&rt), with_guarantee(&rt));
+    let rows = batch(&rt);
+    mark(&rt, BEGIN);
+    let found = run_declarations(rt.alloc(), &mut desk, START, &rows);
+    mark(&rt, END);
+    let (done, left) = rows.split_at(found.done.min(rows.len()));
+    let due = run_declarations(rt.alloc(), &mut other, START, done);
+    assert_rows_done(&rt, &found, &due, rows.len());
+    let rest = run_declarations(rt.alloc(), &mut desk, START, left);
+    let due = run_declarations(rt.alloc(), &mut other, START, left);
+    assert_rows_done(&rt, &rest, &due, left.len());
 }
 
 const ACTS: &[u8] =
@@ -307,41 +132,27 @@ fn acts(rt: &(impl AllocGlobal + Abort)) -> Vec<ActRow> {
 }
 
 // And two declarations.
-fn with_movements<D: Desk>(rt: &(impl AllocGlobal + Abort), desk: D) -> D {
-    let mut desk = with_guarantee(rt, desk);
+fn with_movements(rt: &(impl AllocGlobal + Abort)) -> PlainDesk {
+    let mut desk = with_guarantee(rt);
     let declared = run_declarations(rt.alloc(), &mut desk, START, &batch(rt));
     assert!(rt; declared.done == 2);
     desk
 }
 
 // The same of acts.
-fn assert_acted<D: Desk>(rt: &(impl AllocGlobal + Abort), desk: D, other: D) -> (D, D) {
-    let (mut desk, mut other) = (with_movements(rt, desk), with_movements(rt, other));
-    let rows = acts(rt);
-    mark(rt, BEGIN);
-    let found = run_acts(rt.alloc(), &mut desk, START, &rows);
-    mark(rt, END);
-    let (done, left) = rows.split_at(found.done.min(rows.len()));
-    let due = run_acts(rt.alloc(), &mut other, START, done);
-    assert_rows_done(rt, &found, &due, rows.len());
-    let rest = run_acts(rt.alloc(), &mut desk, START, left);
-    let due = run_acts(rt.alloc(), &mut other, START, left);
-    assert_rows_done(rt, &rest, &due, left.len());
-    (desk, other)
-}
-
 #[test]
 fn acting_in_memory(rt: HostRuntime) {
-    let (_desk, _other) = assert_acted(&rt, plain(&rt), plain(&rt));
-}
-
-#[test]
-fn acting_over_tables(rt: HostRuntime) {
-    let (mut desk, mut other) = assert_acted(&rt, made(&rt), made(&rt));
-    assert_eq!(rt;
-        seen(&rt, &mut desk).as_str(),
-        seen(&rt, &mut other).as_str()
-    );
+    let (mut desk, mut other) = (with_movements(&rt), with_movements(&rt));
+    let rows = acts(&rt);
+    mark(&rt, BEGIN);
+    let found = run_acts(rt.alloc(), &mut desk, START, &rows);
+    mark(&rt, END);
+    let (done, left) = rows.split_at(found.done.min(rows.len()));
+    let due = run_acts(rt.alloc(), &mut other, START, done);
+    assert_rows_done(&rt, &found, &due, rows.len());
+    let rest = run_acts(rt.alloc(), &mut desk, START, left);
+    let due = run_acts(rt.alloc(), &mut other, START, left);
+    assert_rows_done(&rt, &rest, &due, left.len());
 }
 
 /// So many movements have one line each.

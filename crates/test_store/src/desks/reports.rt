@@ -1,13 +1,13 @@
 //! Reports into a writer that fails, and how many writes a long one takes. (The rows of reports stand in the transcripts.)
 use super::accepted::{accept, lodge, open, register, release};
 use super::made;
-use crate::examples::{GRN, MRN, country, grn, holder, mrn};
+use crate::examples::{GRN, MRN, grn, mrn};
 use sqlite::MemStore;
 use std::alloc::Global;
 use std::io;
 use std::io::{ErrorKind, Write};
 use std::process::Abort;
-use td_base::{Counted, Grn, Mrn};
+use td_base::Counted;
 use td_reports::{ReportFault, guarantees};
 use td_store::SqlDesk;
 
@@ -63,25 +63,6 @@ fn released(rt: &(impl AllocGlobal + Abort)) -> SqlDesk<MemStore> {
     accept(rt, &mut desk, lodge(rt, 1, b"A1", grn(rt, GRN), 500_000));
     let released = release(rt, mrn(rt, MRN), b"2025-03-08");
     accept(rt, &mut desk, released);
-    desk
-}
-
-/// A desk of holders 1 and 2, of which the second came first: each has a movement that is released, and the first one more, and
-/// between these one that isn't.
-pub fn busy(rt: &(impl AllocGlobal + Abort)) -> SqlDesk<MemStore> {
-    let mut desk = made(rt);
-    let second = Grn::make(25, country(rt), holder(rt, 2), 1).expect(rt, "a GRN");
-    for (number, grn) in [(2, second), (1, grn(rt, GRN))] {
-        accept(rt, &mut desk, register(rt, number));
-        accept(rt, &mut desk, open(rt, number, 2_000_000, 30));
-        accept(rt, &mut desk, lodge(rt, number, b"A1", grn, 500_000));
-    }
-    accept(rt, &mut desk, lodge(rt, 1, b"A2", grn(rt, GRN), 1));
-    accept(rt, &mut desk, lodge(rt, 1, b"A3", grn(rt, GRN), 2));
-    for (number, serial) in [(1, 3), (2, 1), (1, 1)] {
-        let mrn = Mrn::make(25, country(rt), holder(rt, number), serial).expect(rt, "an MRN");
-        accept(rt, &mut desk, release(rt, mrn, b"2025-03-08"));
-    }
     desk
 }
 

@@ -1,6 +1,5 @@
-//! A desk of several holders by its rows, and all that is found in it.
+//! A desk of several holders by its rows, and what a query finds.
 use super::made;
-use super::opening::{opened, seen};
 use crate::examples::fill;
 use sqlite::{Alter, Connection, MemStore};
 use std::process::Abort;
@@ -16,15 +15,6 @@ const ROWS: [&str; 6] = [
     "INSERT INTO movements VALUES (1, 1, '25CH00000100000013', 'A1', 'CH001251', 'DE005600', 20148, 'released', 20155, NULL, NULL), (1, 2, '25CH00000100000021', 'A2', 'CH001251', 'DE005600', 20148, 'arrived', 20155, 20150, 'FR000100')",
     "INSERT INTO movements VALUES (1, 3, '25CH00000100000030', 'A3', 'CH001251', 'DE005600', 20148, 'accepted', NULL, NULL, NULL), (2, 1, '25CH00000200000019', 'A1', 'CH001251', 'DE005600', 20148, 'accepted', NULL, NULL, NULL)",
     "INSERT INTO lines3 VALUES (1, 1, 1, 1, 500000), (1, 1, 2, 2, 200000), (1, 2, 1, 1, 400000), (1, 3, 1, 1, 100001), (2, 1, 1, 1, 600000)",
-];
-
-const TABLES: [&str; 6] = [
-    "SELECT one, version, country FROM meta",
-    "SELECT holder, eori, last_at, grn_count, mrn_count FROM holders",
-    "SELECT holder, serial, grn, reference, cover, ends, used FROM guarantees2",
-    "SELECT holder, serial, code FROM codes",
-    "SELECT holder, serial, mrn, lrn, departure, destination, accepted, state, limit_day, arrival, actual FROM movements",
-    "SELECT holder, serial, no, guarantee, cents FROM lines3",
 ];
 
 /// A database with these rows.
@@ -43,18 +33,4 @@ pub fn push_rows<S: Alter>(
 ) {
     let rows = conn.query_all(query, &[]).expect(rt, "rows");
     write!(words, "{rows:?}\n").expect(rt, "memory");
-}
-
-/// All rows of the six tables, as a text.
-pub fn rows_of(rt: &(impl AllocGlobal + Abort), conn: &mut Connection<MemStore>) -> String {
-    let mut words = String::new(rt.alloc());
-    for query in &TABLES {
-        push_rows(rt, &mut words, conn, query);
-    }
-    words
-}
-
-/// All that a desk over the database shows of its holders.
-pub fn shown(rt: &(impl AllocGlobal + Abort), conn: Connection<MemStore>) -> String {
-    seen(rt, &mut opened(rt, conn))
 }
