@@ -3,15 +3,6 @@
 use std::fmt::Debug;
 use std::test::Fail;
 
-/// It holds, as these words say it.
-pub fn assert_that(holds: bool, words: &str) -> Result<(), Fail> {
-    if holds {
-        Ok(())
-    } else {
-        Err(Fail::new(format_args!("this does not hold: {words}")))
-    }
-}
-
 /// The same value.
 pub fn assert_equal<T: PartialEq + Debug>(came: &T, due: &T) -> Result<(), Fail> {
     if came == due {

@@ -1,5 +1,5 @@
 //! The laws at the types of the program and of the tests: there is nothing to run.
-use crate::helpers::devices::{Drip, Moments, Narrow};
+use crate::helpers::devices::Drip;
 use sqlite::{FileFrom, Unknown};
 use td_cli::{
     FixedClock, a_batch_cut_short_is_sent_again, acknowledged_connections_are_kept_in_the_file,
@@ -24,12 +24,12 @@ fn laws_hold_at_concrete_types() {
         FixedClock,
         PlainDesk,
         Drip<'_>,
-        Narrow,
-        Moments<'_>,
+        Vec<u8>,
+        FixedClock,
         PlainDesk,
     >();
     equal_requests_are_told_the_same::<PlainDesk, PlainDesk>();
-    agreeing_jobs_tell_the_same::<&[u8], Vec<u8>, FixedClock, Drip<'_>, Narrow, Moments<'_>>();
+    agreeing_jobs_tell_the_same::<&[u8], Vec<u8>, FixedClock, Drip<'_>, Vec<u8>, FixedClock>();
     agreeing_servings_tell_the_same::<MemoryMachine, FixedClock, MemoryMachine, MemoryMachine>();
     agreeing_jobs_over_files_tell_the_same::<
         &[u8],
@@ -37,8 +37,8 @@ fn laws_hold_at_concrete_types() {
         FixedClock,
         FileFrom<Unknown>,
         Drip<'_>,
-        Narrow,
-        Moments<'_>,
+        Vec<u8>,
+        FixedClock,
         FileFrom<Unknown>,
     >();
     agreeing_servings_over_files_tell_the_same::<

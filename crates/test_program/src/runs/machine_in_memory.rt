@@ -1,6 +1,5 @@
 //! Runs on a machine in memory, of whose files, clock and connections all is known: what is told to each client, the rows that are
 //! done, the moment of each, and the desk's files at their paths.
-use crate::helpers::exchanges::REGISTER;
 use crate::helpers::{Done, Due, assert_due, assert_equal, assert_text, words_of};
 use sqlite::Files;
 use sqlite_disk::{Disk, Memory};
@@ -10,6 +9,9 @@ use std::test::Fail;
 use td_base::Counted;
 use td_cli::{DeskFile, Drive, Machine, perform_on};
 use td_machine::{MemoryDrive, MemoryFile, MemoryIncoming, MemoryMachine};
+
+const REGISTER: &[u8] =
+    b"PUT /office/holders/000001 HTTP/1.1\r\nContent-Length: 20\r\n\r\n{\"eori\":\"CH1234567\"}";
 
 const OPEN: &[u8] =
     b"POST /office/holders/000001/guarantees HTTP/1.1\r\nContent-Length: 46\r\n\r\n{\"reference\":1000000,\"cover\":50,\"code\":\"AB12\"}";
