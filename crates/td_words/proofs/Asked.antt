@@ -15,7 +15,7 @@ use Rattle.td_words.specs.declared.words.ReportKind.{ReportKind}
 use Rattle.td_words.specs.declared.words.ReportKind.TheVariants.{Overdue, Guarantees}
 use Rattle.td_words.specs.declared.words.Transfer as transfer
 use Rattle.td_words.specs.declared.words.Transfer.TheVariants.{Extract, Join}
-use Rattle.td_words.specs.Words.{AreTaken, AskForNone, AsksFor, IsDayOf, IsJob, IsNoJob, IsNoneSuch, IsRangeOf, IsReportBy, IsTold, IsTransfer, program_app}
+use Rattle.td_words.specs.Words.{AreTaken, AskForNone, AsksFor, ShowsDay, IsJob, IsNoJob, IsNoneSuch, IsRange, IsReportBy, IsTold, IsTransfer, MayMean, Means, program_app}
 
 pub is_simple_program : is_simple_and_free program_app ≡ true
 is_simple_program = refl
@@ -43,13 +43,14 @@ module _ {X Y : Type 0} (P : X → Type 0) (Q : Y → Type 0) (part : (y : Y) �
   none_up (Err y) e is none = subst (IsNoneSuch Q) (sym is) (none_of e none)
 
 -- a report has a day, or may have
-pub day_of_report : (kind day : Option Text) (report : ReportKind) → IsReportBy kind day report → (on : Option ℕ) × IsDayOf day on
+pub day_of_report : (kind day : Option Text) (report : ReportKind) → IsReportBy kind day report → (on : Option ℕ) × MayMean ShowsDay day on
 day_of_report kind day (Overdue on) is = (Some on, is.1)
 day_of_report kind day Guarantees is = is.1
 
 -- an extract has a range of holders
-pub range_of_extract : (name : Text) (rows : List Row) → name ≡ codes "extract" → (what : transfer.Transfer) → IsTransfer name rows what
-    → (holders : HolderRange) × IsRangeOf (first_of (codes "holders") rows) holders
+pub range_of_extract : (name : Text) (rows : List Row) → name ≡ codes "extract" → (what : transfer.Transfer)
+    → IsTransfer name rows what
+    → (holders : HolderRange) × Means IsRange (first_of (codes "holders") rows) holders
 range_of_extract name rows named (Extract holders from into) is = (holders, is.1)
 range_of_extract name rows named (Join into from) is =
     absurd (let same : slice_index (codes "extract") 0 ≡ slice_index (codes "join") 0 = ap (λ t. slice_index t 0) (sym named ∙ is.0) in omega (arith, same))

@@ -1,3 +1,4 @@
 mod Asked
+mod Made
 mod Numbers
 mod OneJob

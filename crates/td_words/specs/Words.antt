@@ -1,8 +1,9 @@
 -- What the words of the command line ask for.
-use Rattle.std.specs.Prelude.{◌≡◌, ◌≢◌, ◌⊎◌, ◌↔◌, ℕ, Bool, ◌≤◌, ℤ, pos, List, [], ◌∷◌, length, All, codes, drop, slice_get, take, true, string_bytes, String, Option, None, Some, option_map, ⊤}
+use Rattle.std.specs.Prelude.{◌≡◌, ◌≢◌, ◌⊎◌, ◌↔◌, ℕ, Bool, ◌≤◌, ℤ, pos, List, [], ◌∷◌, ◌++◌, length, All, codes, drop, fold, slice_get, take, true, string_bytes, String, Option, None, Some, option_map, ⊤}
 use Rattle.std.specs.Char.{IsAsciiDigit}
 use Rattle.ascii_text.specs.Digits.{digits_value}
-use Rattle.clap.specs.Words.{App, IsAmong, Row, Rule, Text, fault_of, first_of, new_app, new_rule, subcommand_of, with_rule, with_subcommand}
+use Rattle.clap.specs.Simple.{new_shape}
+use Rattle.clap.specs.Words.{App, IsAmong, Row, Rule, Shape, Text, fault_of, first_of, new_app, new_rule, subcommand_of, with_subcommand}
 use Rattle.clap.specs.declared.builder.ArgAction.TheVariants.{Set, SetTrue}
 use Rattle.clap.specs.declared.error.kind.ErrorKind.{ErrorKind}
 use Rattle.clap.specs.declared.error.kind.ErrorKind.TheVariants.{DisplayHelp, DisplayVersion, OutOfMemory}
@@ -26,134 +27,58 @@ use Rattle.td_words.specs.declared.words.Task.TheVariants.{Serve, Pipe, Batch, R
 use Rattle.td_words.specs.declared.words.Transfer as transfer
 use Rattle.td_words.specs.declared.words.Transfer.TheVariants.{Extract, Join}
 
--- an option that takes one value
-abbrev pub option_rule : Text → Rule
-option_rule name = record (new_rule name) { long = Some name; action = Some Set; value_names = 1 }
+-- how clap takes an option: one with a value behind its name, which may be left out or is needed; a value alone, which is
+-- needed; and a flag, which has no value
+abbrev pub named : Text → Rule
+named name = record (new_rule name) { long = Some name; action = Some Set; value_names = 1 }
 
--- the same, without which the words are wrong
-abbrev pub required_rule : Text → Rule
-required_rule name = record (option_rule name) { required = true }
+abbrev pub needed : Text → Rule
+needed name = record (named name) { required = true }
 
--- the flag `--new`, which has no value
-abbrev pub new_file_rule : Rule
-new_file_rule =
-    record (new_rule (codes "new")) { long = Some (codes "new"); action = Some SetTrue }
+abbrev pub word : Text → Rule
+word name = record (new_rule name) { action = Some Set; value_names = 1; required = true }
 
--- the option that every command at a desk has: the country of the office
-abbrev pub with_country : App → App
-with_country app = with_rule app (required_rule (codes "country"))
+abbrev pub flag : Text → Rule
+flag name = record (new_rule name) { long = Some name; action = Some SetTrue }
 
--- and those of the commands that serve requests: where the records stand, and perhaps the moment of all requests and a journal
-abbrev pub with_office : App → App
-with_office app =
-    with_rule
-    (with_rule (with_rule (with_rule (with_country app) (option_rule (codes "db"))) new_file_rule)
-    (option_rule (codes "at")))
-    (option_rule (codes "journal"))
+-- a command of this name with these options
+abbrev pub command : Text → List Rule → Shape
+command name options = record (new_shape name) { rules = options }
 
--- the flag `--first`, by which a serving does the rows of a journal before its port is opened
-abbrev pub first_rule : Rule
-first_rule = record (new_rule (codes "first")) { long = Some (codes "first"); action = Some SetTrue }
+-- the options that the jobs with requests begin with, and those of the jobs with the rows of a file
+abbrev pub serving : List Rule
+serving = needed (codes "country") ∷ named (codes "db") ∷ flag (codes "new") ∷ named (codes "at") ∷ named (codes "journal") ∷ []
 
--- the commands of the program, and the program that has them
-abbrev pub serve_app : App
-serve_app =
-    with_rule
-    (with_rule
-    (with_rule
-    (with_rule (with_office (new_app (codes "serve"))) (required_rule (codes "port")))
-    (required_rule (codes "connections")))
-    (option_rule (codes "idle")))
-    first_rule
+abbrev pub in_rows : List Rule
+in_rows = needed (codes "country") ∷ needed (codes "db") ∷ needed (codes "file") ∷ named (codes "at") ∷ named (codes "journal") ∷ []
 
-abbrev pub pipe_app : App
-pipe_app = with_office (new_app (codes "pipe"))
+-- the commands of the program, each with its options
+abbrev pub commands : List Shape
+commands =
+    command (codes "serve")
+    (serving ++ needed (codes "port") ∷ needed (codes "connections") ∷ named (codes "idle") ∷ flag (codes "first") ∷ [])
+    ∷ command (codes "pipe") serving
+    ∷ command (codes "batch") in_rows
+    ∷ command (codes "acts") in_rows
+    ∷ command (codes "replay")
+    (needed (codes "country") ∷ named (codes "db") ∷ flag (codes "new") ∷ needed (codes "file") ∷ flag (codes "part") ∷ [])
+    ∷ command (codes "report") (needed (codes "country") ∷ word (codes "kind") ∷ needed (codes "db") ∷ named (codes "day") ∷ [])
+    ∷ command (codes "check") (needed (codes "country") ∷ needed (codes "db") ∷ [])
+    ∷ command (codes "migrate") (needed (codes "db") ∷ [])
+    ∷ command (codes "extract")
+    (needed (codes "country") ∷ needed (codes "db") ∷ needed (codes "holders") ∷ needed (codes "into") ∷ [])
+    ∷ command (codes "join") (needed (codes "country") ∷ needed (codes "db") ∷ needed (codes "with") ∷ [])
+    ∷ []
 
--- the two that do the rows of a file, each by its name
-abbrev pub batch_app : Text → App
-batch_app name =
-    with_rule
-    (with_rule
-    (with_rule
-    (with_rule (with_country (new_app name)) (required_rule (codes "db")))
-    (required_rule (codes "file")))
-    (option_rule (codes "at")))
-    (option_rule (codes "journal"))
-
-abbrev pub batch_name : BatchKind → Text
-batch_name Declarations = codes "batch"
-batch_name Acts = codes "acts"
-
--- the flag `--part`, and the command that does the rows of a journal again
-abbrev pub part_rule : Rule
-part_rule = record (new_rule (codes "part")) { long = Some (codes "part"); action = Some SetTrue }
-
-abbrev pub replay_app : App
-replay_app =
-    with_rule
-    (with_rule
-    (with_rule (with_rule (with_country (new_app (codes "replay"))) (option_rule (codes "db"))) new_file_rule)
-    (required_rule (codes "file")))
-    part_rule
-
--- the one that says which report by a word of its own
-abbrev pub kind_rule : Rule
-kind_rule = record (new_rule (codes "kind")) { action = Some Set; value_names = 1; required = true }
-
-abbrev pub report_app : App
-report_app =
-    with_rule
-    (with_rule
-    (with_rule (with_country (new_app (codes "report"))) kind_rule)
-    (required_rule (codes "db")))
-    (option_rule (codes "day"))
-
-abbrev pub check_app : App
-check_app = with_rule (with_country (new_app (codes "check"))) (required_rule (codes "db"))
-
--- the one that isn't done at a desk, and so has no office's options
-abbrev pub migrate_app : App
-migrate_app = with_rule (new_app (codes "migrate")) (required_rule (codes "db"))
-
--- those between two files: the one that copies the rows of some holders into a new one, and the one that puts all rows into another
-abbrev pub extract_app : App
-extract_app =
-    with_rule
-    (with_rule
-    (with_rule (with_country (new_app (codes "extract"))) (required_rule (codes "db")))
-    (required_rule (codes "holders")))
-    (required_rule (codes "into"))
-
-abbrev pub join_app : App
-join_app =
-    with_rule
-    (with_rule (with_country (new_app (codes "join"))) (required_rule (codes "db")))
-    (required_rule (codes "with"))
-
--- the program, which has a version, before its jobs are added
+-- the program, which has a version and wants one of its commands: before they are added, and with them
 abbrev pub bare_app : App
 bare_app =
     record (new_app (codes "transit-desk")) {
-      top = record (new_app (codes "transit-desk")).top { subcommand_required = true; has_version = true };
+      top = record (new_shape (codes "transit-desk")) { subcommand_required = true; has_version = true };
     }
 
 abbrev pub program_app : App
-program_app =
-    with_subcommand
-    (with_subcommand
-    (with_subcommand
-    (with_subcommand
-    (with_subcommand
-    (with_subcommand
-    (with_subcommand
-    (with_subcommand (with_subcommand (with_subcommand bare_app serve_app.top) pipe_app.top) (batch_app (codes "batch")).top)
-    (batch_app (codes "acts")).top)
-    replay_app.top)
-    report_app.top)
-    check_app.top)
-    migrate_app.top)
-    extract_app.top)
-    join_app.top
+program_app = fold with_subcommand bare_app commands
 
 -- A text of decimal digits, one or more and nothing else, that shows this number, and it is from the least to the greatest
 -- that there may be. So a sign, a blank, and no digit at all are no number.
@@ -164,19 +89,33 @@ pub record IsDecimal (least greatest : ℕ) (text : Text) (n : ℕ) : Type 0 whe
   pub low : least ≤ n
   pub high : n ≤ greatest
 
--- the number that an option has for its value; an option that isn't there has none
-abbrev pub IsNumberOf : ℕ → ℕ → Option Text → ℕ → Type 0
-IsNumberOf least greatest None n = ⊥
-IsNumberOf least greatest (Some text) n = IsDecimal least greatest text n
+-- What the value of an option means, by what the text of one means: an option that isn't there means nothing, or means
+-- that there is none, or means this in its place.
+abbrev pub Means : {X : Type 0} → (Text → X → Type 0) → Option Text → X → Type 0
+Means Is None x = ⊥
+Means Is (Some text) x = Is text x
 
--- The moment that an option has for its value, from 0 to the greatest number of an `i64`; an option that isn't there
--- says that there is none.
-abbrev pub IsMomentOf : Option Text → Option ℤ → Type 0
-IsMomentOf None at = at ≡ None
-IsMomentOf (Some text) at = (n : ℕ) × IsDecimal 0 9223372036854775807 text n × (at ≡ Some (pos n))
+abbrev pub MayMean : {X : Type 0} → (Text → X → Type 0) → Option Text → Option X → Type 0
+MayMean Is None x = x ≡ None
+MayMean {X} Is (Some text) x = (there : X) × Is text there × (x ≡ Some there)
 
--- Where the records stand, by the first values of `--db` and `--new`: clap gives `--new` the value "true" where it
--- is there, and "false" where it isn't. So `--new` with no `--db` says nothing.
+abbrev pub MeansOr : {X : Type 0} → X → (Text → X → Type 0) → Option Text → X → Type 0
+MeansOr usual Is None x = x ≡ usual
+MeansOr usual Is (Some text) x = Is text x
+
+-- the option of this name has this path for its value
+abbrev pub IsPath : {A : Type 0} → Text → List Row → String A → Type 0
+IsPath name rows path = first_of name rows ≡ Some (string_bytes path)
+
+-- the path of the journal, if one is kept
+abbrev pub IsJournalPath : {A : Type 0} → List Row → Option (String A) → Type 0
+IsJournalPath rows journal = option_map string_bytes journal ≡ first_of (codes "journal") rows
+
+-- The flag of this name is there or not, by its first value: clap gives it "true" where it is there, and "false" where it isn't.
+abbrev pub IsFlag : Text → List Row → Bool → Type 0
+IsFlag name rows there = (there ≡ true) ↔ (first_of name rows ≡ Some (codes "true"))
+
+-- where the records stand, by `--db` and by the flag `--new`; so `--new` with no `--db` says nothing
 abbrev pub AreRecordsBy : Records → Option Text → Option Text → Type 0
 AreRecordsBy Memory db new = (db ≡ None) × (new ≡ Some (codes "false"))
 AreRecordsBy (File path) db new = (db ≡ Some (string_bytes path)) × (new ≡ Some (codes "false"))
@@ -185,34 +124,20 @@ AreRecordsBy (NewFile path) db new = (db ≡ Some (string_bytes path)) × (new �
 abbrev pub AreRecords : List Row → Records → Type 0
 AreRecords rows records = AreRecordsBy records (first_of (codes "db") rows) (first_of (codes "new") rows)
 
--- The flag of this name is there or not, by its first value: clap gives it "true" where it is there, and "false" where it isn't.
-abbrev pub IsFlag : Text → List Row → Bool → Type 0
-IsFlag name rows there = (there ≡ true) ↔ (first_of name rows ≡ Some (codes "true"))
-
--- the path of the journal, if one is kept
-abbrev pub IsJournalPath : {A : Type 0} → List Row → Option (String A) → Type 0
-IsJournalPath rows journal = option_map string_bytes journal ≡ first_of (codes "journal") rows
-
--- The most seconds that a read of a connection waits, from 1 to 3,600; where the option isn't there, 2.
-abbrev pub IsIdleOf : Option Text → ℕ → Type 0
-IsIdleOf None n = n ≡ 2
-IsIdleOf (Some text) n = IsDecimal 1 3600 text n
-
--- the port that is listened on, how many connections are served, and how long a read of one waits
+-- the port that is listened on, how many connections are served, and the most seconds that a read of one waits: 2 if none are given
 pub record IsListening (rows : List Row) (listening : Listening) : Type 0 where
-  pub port : IsNumberOf 1 65535 (first_of (codes "port") rows) listening.port
-  pub connections : IsNumberOf 1 1000000 (first_of (codes "connections") rows) listening.connections
-  pub idle : IsIdleOf (first_of (codes "idle") rows) listening.idle
+  pub port : Means (IsDecimal 1 65535) (first_of (codes "port") rows) listening.port
+  pub connections : Means (IsDecimal 1 1000000) (first_of (codes "connections") rows) listening.connections
+  pub idle : MeansOr 2 (IsDecimal 1 3600) (first_of (codes "idle") rows) listening.idle
 
--- The day that an option has for its value, as 2025-03-01; an option that isn't there says that there is none.
-abbrev pub IsDayOf : Option Text → Option ℕ → Type 0
-IsDayOf None day = day ≡ None
-IsDayOf (Some text) day = (n : ℕ) × (day_read text ≡ Some n) × (day ≡ Some n)
+-- a text that shows a day, as 2025-03-01
+abbrev pub ShowsDay : Text → ℕ → Type 0
+ShowsDay text day = day_read text ≡ Some day
 
 -- Which report: of what is overdue on a day, or of guarantees. There a day may be given and has no meaning, but it is a day.
 abbrev pub IsReportBy : Option Text → Option Text → ReportKind → Type 0
-IsReportBy kind day (Overdue on) = (kind ≡ Some (codes "overdue")) × IsDayOf day (Some on)
-IsReportBy kind day Guarantees = (kind ≡ Some (codes "guarantees")) × ((any : Option ℕ) × IsDayOf day any)
+IsReportBy kind day (Overdue on) = (kind ≡ Some (codes "overdue")) × MayMean ShowsDay day (Some on)
+IsReportBy kind day Guarantees = (kind ≡ Some (codes "guarantees")) × ((any : Option ℕ) × MayMean ShowsDay day any)
 
 abbrev pub IsReport : List Row → ReportKind → Type 0
 IsReport rows report = IsReportBy (first_of (codes "kind") rows) (first_of (codes "day") rows) report
@@ -225,54 +150,51 @@ pub record IsRange (text : Text) (range : HolderRange) : Type 0 where
   pub last : holder_read (drop 7 text) ≡ Some range.last
   pub order : range.first ≤ range.last
 
--- the range that an option has for its value; an option that isn't there has none
-abbrev pub IsRangeOf : Option Text → HolderRange → Type 0
-IsRangeOf None range = ⊥
-IsRangeOf (Some text) range = IsRange text range
-
 -- What is done between two files, by this name: the holders whose rows are copied, the file with them and the new one; or the file that
 -- rows are put into, and the one that has them.
 abbrev pub IsTransfer : Text → List Row → transfer.Transfer → Type 0
 IsTransfer name rows (Extract holders from into) =
-    (name ≡ codes "extract") × IsRangeOf (first_of (codes "holders") rows) holders
-    × (first_of (codes "db") rows ≡ Some (string_bytes from)) × (first_of (codes "into") rows ≡ Some (string_bytes into))
+    (name ≡ codes "extract") × Means IsRange (first_of (codes "holders") rows) holders
+    × IsPath (codes "db") rows from × IsPath (codes "into") rows into
 IsTransfer name rows (Join into from) =
-    (name ≡ codes "join") × (first_of (codes "db") rows ≡ Some (string_bytes into))
-    × (first_of (codes "with") rows ≡ Some (string_bytes from))
+    (name ≡ codes "join") × IsPath (codes "db") rows into × IsPath (codes "with") rows from
 
--- The task of this name, with the values of its own options: where the records stand and perhaps a journal, of `serve` a port, a
--- number of connections, perhaps an idle limit, and whether the rows of a journal come first, of `batch`, `acts` and `replay` the file with the rows, of `replay` whether they are
--- a part, of `report` which it is, and of it and of `check` the file.
+abbrev pub batch_name : BatchKind → Text
+batch_name Declarations = codes "batch"
+batch_name Acts = codes "acts"
+
+-- the task of this name, with the values of its own options
 abbrev pub IsTask : Text → List Row → Task → Type 0
-IsTask name rows (Pipe records journal) = (name ≡ codes "pipe") × AreRecords rows records × IsJournalPath rows journal
 IsTask name rows (Serve listening records journal first) =
-    (name ≡ codes "serve") × IsListening rows listening × AreRecords rows records × IsJournalPath rows journal × IsFlag (codes "first") rows first
+    (name ≡ codes "serve") × IsListening rows listening × AreRecords rows records × IsJournalPath rows journal
+    × IsFlag (codes "first") rows first
+IsTask name rows (Pipe records journal) = (name ≡ codes "pipe") × AreRecords rows records × IsJournalPath rows journal
 IsTask name rows (Batch kind file db journal) =
-    (name ≡ batch_name kind) × (first_of (codes "file") rows ≡ Some (string_bytes file))
-    × (first_of (codes "db") rows ≡ Some (string_bytes db)) × IsJournalPath rows journal
+    (name ≡ batch_name kind) × IsPath (codes "file") rows file × IsPath (codes "db") rows db × IsJournalPath rows journal
 IsTask name rows (Replay file part records) =
-    (name ≡ codes "replay") × (first_of (codes "file") rows ≡ Some (string_bytes file)) × IsFlag (codes "part") rows part × AreRecords rows records
-IsTask name rows (Report report path) =
-    (name ≡ codes "report") × IsReport rows report × (first_of (codes "db") rows ≡ Some (string_bytes path))
-IsTask name rows (Check path) =
-    (name ≡ codes "check") × (first_of (codes "db") rows ≡ Some (string_bytes path))
+    (name ≡ codes "replay") × IsPath (codes "file") rows file × IsFlag (codes "part") rows part × AreRecords rows records
+IsTask name rows (Report report path) = (name ≡ codes "report") × IsReport rows report × IsPath (codes "db") rows path
+IsTask name rows (Check path) = (name ≡ codes "check") × IsPath (codes "db") rows path
 
 -- the country of the office, two capital letters
 pub record IsCountryIn (rows : List Row) (country : List ℕ) : Type 0 where
   pub named : first_of (codes "country") rows ≡ Some country
   pub form : IsCountry country
 
+-- a text that shows a moment, from 0 to the greatest number of an `i64`
+abbrev pub ShowsMoment : Text → ℤ → Type 0
+ShowsMoment text at = (n : ℕ) × IsDecimal 0 9223372036854775807 text n × (at ≡ pos n)
+
 -- the office of a desk: a country, and perhaps a moment
 pub record IsOffice (rows : List Row) (office : Office) : Type 0 where
   pub country : IsCountryIn rows office.country
-  pub at : IsMomentOf (first_of (codes "at") rows) office.at
+  pub at : MayMean ShowsMoment (first_of (codes "at") rows) office.at
 
 -- A command of this name with these options is this job: a task at a desk of an office, `migrate` of a file, or what is done between two
 -- files of a country's office.
 abbrev pub IsJob : Text → List Row → Job → Type 0
 IsJob name rows (AtDesk office task) = IsTask name rows task × IsOffice rows office
-IsJob name rows (Migrate path) =
-    (name ≡ codes "migrate") × (first_of (codes "db") rows ≡ Some (string_bytes path))
+IsJob name rows (Migrate path) = (name ≡ codes "migrate") × IsPath (codes "db") rows path
 IsJob name rows (Transfer country what) = IsTransfer name rows what × IsCountryIn rows country
 
 -- Words that clap takes: its own definitions find no fault in them. So each option is one of the command's, is there at

@@ -3,6 +3,7 @@
 
 mod laws;
 mod options;
+mod table;
 mod words;
 
 pub use laws::words_ask_for_one_job;

@@ -5,11 +5,13 @@ ghost use Rattle.clap.specs.Values.{kind_of};
 ghost use Rattle.clap.specs.Words.{first_of, found_of, rows_of};
 ghost use Rattle.td_words.specs.declared.words.HolderRange.{HolderRange};
 ghost use Rattle.td_words.specs.declared.words.NoJob.TheVariants.{NoMemory};
-ghost use Rattle.td_words.specs.Words.{AreRecords, AskForHelpOfHelp, AsksFor, IsCountryIn, IsDayOf, IsDecimal, IsFlag, IsIdleOf, IsJob, IsJournalPath, IsListening, IsMomentOf, IsNoJob, IsNoneSuch, IsNumberOf, IsOffice, IsRange, IsRangeOf, IsReport, IsTask, IsTold, IsTransfer, batch_name};
+ghost use Rattle.td_words.specs.Commands.{IsWithin, bounds_of};
+ghost use Rattle.td_words.specs.Words.{AreRecords, AskForHelpOfHelp, AsksFor, IsCountryIn, ShowsDay, IsDecimal, IsFlag, IsJob, IsJournalPath, IsListening, ShowsMoment, IsNoJob, IsNoneSuch, IsOffice, IsPath, IsRange, IsReport, IsTask, IsTold, IsTransfer, MayMean, Means, MeansOr, batch_name};
 
-use crate::options::{
-    AT, CONNECTIONS, COUNTRY, DAY, DB, FILE, FIRST, HOLDERS, IDLE, INTO, JOURNAL, KIND, NEW, PART,
-    PORT, WITH, program,
+use crate::options::{Usages, program};
+use crate::table::{
+    AT, COMMANDS, CONNECTIONS, COUNTRY, DAY, DB, FILE, FIRST, HOLDERS, IDLE, INTO, JOURNAL, KIND,
+    NEW, OptionRow, PART, PORT, WITH, Wanted,
 };
 use ascii_text::is_digits;
 use clap::ArgMatches;
@@ -153,73 +155,10 @@ impl From<AllocError> for NoJob {
     }
 }
 
-/// An option whose value is a number in decimal digits.
-#[derive(Clone, Copy)]
-struct NumberOption {
-    /// Its name, as `clap` has it.
-    name: &'static str,
-    /// How the option is shown.
-    shown: &'static str,
-    /// What its value must be.
-    wanted: &'static str,
-    /// The least number that it takes.
-    least: u64,
-    /// The greatest.
-    greatest: u64,
-}
-
-/// What is told of `--new` without a file, as `clap` tells of an option that isn't there.
-const NO_FILE: &str = "error: the following required arguments were not provided: --db <FILE>\n";
-
-/// What is told of a report on a day without the day.
-const NO_DAY: &str = "error: the following required arguments were not provided: --day <D>\n";
-
-/// How the option of the country is shown, and what its value must be.
-const COUNTRY_SHOWN: &str = "--country <CC>";
-
-const COUNTRY_WANTED: &str = "two capital letters";
-
-/// How the option of holders is shown, and what its value must be.
-const HOLDERS_SHOWN: &str = "--holders <FIRST-LAST>";
-
-const HOLDERS_WANTED: &str = "two numbers of holders, as 000001-000400";
-
-/// How long its value is, and where the sign between the two numbers stands.
+/// How long a range of holders is, and where the sign between the two numbers stands.
 const RANGE_SIZE: usize = 13;
 
 const HYPHEN: usize = 6;
-
-const AT_NUMBER: NumberOption = NumberOption {
-    name: AT,
-    shown: "--at <SECONDS>",
-    wanted: "a whole number of seconds from 0 to 9223372036854775807",
-    least: 0,
-    greatest: 9_223_372_036_854_775_807,
-};
-
-const PORT_NUMBER: NumberOption = NumberOption {
-    name: PORT,
-    shown: "--port <N>",
-    wanted: "a whole number from 1 to 65535",
-    least: 1,
-    greatest: 65_535,
-};
-
-const CONNECTIONS_NUMBER: NumberOption = NumberOption {
-    name: CONNECTIONS,
-    shown: "--connections <K>",
-    wanted: "a whole number from 1 to 1000000",
-    least: 1,
-    greatest: 1_000_000,
-};
-
-const IDLE_NUMBER: NumberOption = NumberOption {
-    name: IDLE,
-    shown: "--idle <SECONDS>",
-    wanted: "a whole number of seconds from 1 to 3600",
-    least: 1,
-    greatest: 3600,
-};
 
 /// The most seconds that a read of a connection waits where the words don't say.
 const USUAL_IDLE: u64 = 2;
@@ -231,23 +170,29 @@ pub fn read_words(alloc: Global, words: &[String]) -> Result<Job, NoJob>
     ensures job { IfOk result (AsksFor (map string_bytes words.now)) }
     ensures no_job { IfErr result (IsNoJob (map string_bytes words.now)) }
 {
-    match program(alloc)?.try_get_matches_from(words) {
+    let usages = Usages::new(alloc)?;
+    match program(alloc, &usages)?.try_get_matches_from(words) {
         Ok(matches) => match matches.subcommand() {
             Some((name, matches)) => job_of(alloc, name, matches),
             None => Err(NoJob::NoMemory),
         },
-        Err(error) => Err(no_job(alloc, &error, words)?),
+        Err(error) => Err(no_job(alloc, &usages, &error, words)?),
     }
 }
 
 // Why `clap` found no job in the words.
-fn no_job(alloc: Global, error: &clap::Error, words: &[String]) -> Result<NoJob, AllocError>
+fn no_job(
+    alloc: Global,
+    usages: &Usages,
+    error: &clap::Error,
+    words: &[String],
+) -> Result<NoJob, AllocError>
     ensures { IfOk result (IsTold (kind_of error.now) (map string_bytes words.now)) }
 {
     match error.kind() {
         ErrorKind::OutOfMemory => Err(AllocError),
         ErrorKind::InvalidSubcommand if asks_for_help_of_help(words) => Ok(NoJob::Help(program(
-            alloc,
+            alloc, usages,
         )?.render_help()?)),
         ErrorKind::DisplayHelp | ErrorKind::DisplayVersion => Ok(NoJob::Help(error.to_string(
             alloc,
@@ -281,56 +226,69 @@ fn what_was_wrong(
     words: &[String],
 ) -> Result<String, AllocError> {
     if let Some((option, value)) = negative_number(words) {
-        return wrong_value(alloc, value, option.shown, option.wanted);
+        return wrong_value(alloc, value, option);
     }
-    if let (ErrorKind::MissingRequiredArgument, Some((option, wanted, value))) = (
+    if let (ErrorKind::MissingRequiredArgument, Some((option, value))) = (
         error.kind(),
         value_refused(words),
     ) {
-        return wrong_value(alloc, value, option, wanted);
+        return wrong_value(alloc, value, option);
     }
     first_paragraph(alloc, &error.to_string(alloc)?)
 }
 
 // The first option that has a negative number behind it, and that number.
-fn negative_number(words: &[String]) -> Option<(NumberOption, &str)> {
+fn negative_number(words: &[String]) -> Option<(OptionRow, &str)> {
     for pair in words.windows(2) {
         let value = pair[1].as_str();
-        if let (true, Some(option)) = (is_negative(value), number_option(&pair[0])) {
+        if let Some(option) = option_named(&pair[0])
+            && option.bounds().is_some()
+            && is_negative(value)
+        {
             return Some((option, value));
         }
     }
     None
 }
 
-fn number_option(word: &str) -> Option<NumberOption> {
-    match word {
-        "--at" => Some(AT_NUMBER),
-        "--port" => Some(PORT_NUMBER),
-        "--connections" => Some(CONNECTIONS_NUMBER),
-        "--idle" => Some(IDLE_NUMBER),
-        _ => None,
-    }
-}
-
-// The first option that has a value behind it which it doesn't take: how the option is shown, what it takes, and the
-// value.
-fn value_refused(words: &[String]) -> Option<(&'static str, &'static str, &str)> {
+// The first option that has a value behind it which it doesn't take, and that value.
+fn value_refused(words: &[String]) -> Option<(OptionRow, &str)> {
     for pair in words.windows(2) {
         let value = pair[1].as_str();
-        if pair[0].as_str() == "--country" && Country::read(value.as_bytes()).is_none() {
-            return Some((COUNTRY_SHOWN, COUNTRY_WANTED, value));
+        if let Some(option) = option_named(&pair[0])
+            && !takes(option, value)
+        {
+            return Some((option, value));
         }
-        if pair[0].as_str() == "--holders" && range(value).is_none() {
-            return Some((HOLDERS_SHOWN, HOLDERS_WANTED, value));
-        }
-        if let Some(option) = number_option(&pair[0]) {
-            if decimal(value, option.least, option.greatest).is_none() {
-                return Some((option.shown, option.wanted, value));
+    }
+    None
+}
+
+// The option that a word names, of whichever command.
+fn option_named(word: &str) -> Option<OptionRow> {
+    let name = word.strip_prefix("--")?;
+    for command in COMMANDS {
+        for option in command.options {
+            if option.name == name {
+                return Some(*option);
             }
         }
     }
     None
+}
+
+// Whether the option takes this value. What a day and a report are is seen where they are read.
+fn takes(option: OptionRow, value: &str) -> bool {
+    match option.wanted() {
+        Wanted::Country => Country::read(value.as_bytes()).is_some(),
+        Wanted::Number(bounds) | Wanted::Seconds(bounds) => decimal(
+            value,
+            bounds.least,
+            bounds.greatest,
+        ).is_some(),
+        Wanted::Holders => range(value).is_some(),
+        Wanted::Text | Wanted::Day | Wanted::Report => true,
+    }
 }
 
 // A minus sign and digits.
@@ -478,50 +436,40 @@ fn report_in(alloc: Global, matches: &ArgMatches<'_>) -> Result<ReportKind, NoJo
     match value_of(matches, KIND) {
         Some("overdue") => match day_in(alloc, matches)? {
             Some(day) => Ok(ReportKind::Overdue(day)),
-            None => Err(NoJob::Wrong(String::from_str(alloc, NO_DAY)?)),
+            None => Err(NoJob::Wrong(missing(alloc, DAY)?)),
         },
         Some("guarantees") => {
             day_in(alloc, matches)?;
             Ok(ReportKind::Guarantees)
         }
-        Some(kind) => Err(NoJob::Wrong(wrong_value(
-            alloc,
-            kind,
-            "<KIND>",
-            "overdue or guarantees",
-        )?)),
+        Some(kind) => Err(NoJob::Wrong(wrong_value(alloc, kind, KIND)?)),
         None => Err(NoJob::NoMemory),
     }
 }
 
 // The day that is given, if one is.
 fn day_in(alloc: Global, matches: &ArgMatches<'_>) -> Result<Option<Day>, NoJob>
-    ensures day { IfOk result (IsDayOf (first_of (codes "day") (rows_of (found_of matches.now)))) }
-    ensures none { IfErr result (IsNoneSuch (IsDayOf (first_of (codes "day") (rows_of (found_of matches.now))))) }
+    ensures day { IfOk result (MayMean ShowsDay (first_of (codes "day") (rows_of (found_of matches.now)))) }
+    ensures none { IfErr result (IsNoneSuch (MayMean ShowsDay (first_of (codes "day") (rows_of (found_of matches.now))))) }
 {
     let Some(text) = value_of(matches, DAY) else {
         return Ok(None);
     };
     match Day::read(text.as_bytes()) {
         Some(day) => Ok(Some(day)),
-        None => Err(NoJob::Wrong(wrong_value(
-            alloc,
-            text,
-            "--day <D>",
-            "a day from 2000-01-01 to 2100-12-31, written so",
-        )?)),
+        None => Err(NoJob::Wrong(wrong_value(alloc, text, DAY)?)),
     }
 }
 
 // The holders whose rows are wanted.
 fn range_in(alloc: Global, matches: &ArgMatches<'_>) -> Result<HolderRange, NoJob>
-    ensures range { IfOk result (IsRangeOf (first_of (codes "holders") (rows_of (found_of matches.now)))) }
-    ensures none { IfErr result (IsNoneSuch (IsRangeOf (first_of (codes "holders") (rows_of (found_of matches.now))))) }
+    ensures range { IfOk result (Means IsRange (first_of (codes "holders") (rows_of (found_of matches.now)))) }
+    ensures none { IfErr result (IsNoneSuch (Means IsRange (first_of (codes "holders") (rows_of (found_of matches.now))))) }
 {
     let text = value_of(matches, HOLDERS).unwrap_or("");
     match range(text) {
         Some(range) => Ok(range),
-        None => Err(NoJob::Wrong(wrong_value(alloc, text, HOLDERS_SHOWN, HOLDERS_WANTED)?)),
+        None => Err(NoJob::Wrong(wrong_value(alloc, text, HOLDERS)?)),
     }
 }
 
@@ -551,27 +499,27 @@ fn records_in(alloc: Global, matches: &ArgMatches<'_>) -> Result<Records, NoJob>
         (None, Some("false")) => Ok(Records::Memory),
         (Some(path), Some("false")) => Ok(Records::File(String::from_str(alloc, path)?)),
         (Some(path), Some("true")) => Ok(Records::NewFile(String::from_str(alloc, path)?)),
-        (None, Some("true")) => Err(NoJob::Wrong(String::from_str(alloc, NO_FILE)?)),
+        (None, Some("true")) => Err(NoJob::Wrong(missing(alloc, DB)?)),
         _ => Err(NoJob::NoMemory),
     }
 }
 
-// The path that the option of that name has for its value.
-fn file_in(alloc: Global, matches: &ArgMatches<'_>, name: &str) -> Result<String, NoJob>
-    ensures file { IfOk result (λ path. first_of name.now (rows_of (found_of matches.now)) ≡ Some (string_bytes path)) }
+// The path that the option has for its value.
+fn file_in(alloc: Global, matches: &ArgMatches<'_>, option: OptionRow) -> Result<String, NoJob>
+    ensures file { IfOk result (IsPath option.name.now (rows_of (found_of matches.now))) }
     ensures memory { IfErr result (λ e. e ≡ NoMemory) }
 {
-    match value_of(matches, name) {
+    match value_of(matches, option) {
         Some(path) => Ok(String::from_str(alloc, path)?),
         None => Err(NoJob::NoMemory),
     }
 }
 
-// Whether the flag of that name is there. `clap` has "false" for one that isn't.
-fn has_flag(matches: &ArgMatches<'_>, name: &str) -> bool
-    ensures { IsFlag name.now (rows_of (found_of matches.now)) result }
+// Whether the flag is there. `clap` has "false" for one that isn't.
+fn has_flag(matches: &ArgMatches<'_>, flag: OptionRow) -> bool
+    ensures { IsFlag flag.name.now (rows_of (found_of matches.now)) result }
 {
-    value_of(matches, name) == Some("true")
+    value_of(matches, flag) == Some("true")
 }
 
 // The path of the journal, if one is kept.
@@ -590,8 +538,8 @@ fn listening_in(alloc: Global, matches: &ArgMatches<'_>) -> Result<Listening, No
     ensures listening { IfOk result (IsListening (rows_of (found_of matches.now))) }
     ensures none { IfErr result (IsNoneSuch (IsListening (rows_of (found_of matches.now)))) }
 {
-    let port = number_in(alloc, matches, PORT_NUMBER)?;
-    let connections = number_in(alloc, matches, CONNECTIONS_NUMBER)?;
+    let port = number_in(alloc, matches, PORT)?;
+    let connections = number_in(alloc, matches, CONNECTIONS)?;
     let idle = idle_in(alloc, matches)?;
     Ok(Listening {
         port: port as u16,
@@ -602,36 +550,39 @@ fn listening_in(alloc: Global, matches: &ArgMatches<'_>) -> Result<Listening, No
 
 // The most seconds that a read of a connection waits.
 fn idle_in(alloc: Global, matches: &ArgMatches<'_>) -> Result<u64, NoJob>
-    ensures idle { IfOk result (IsIdleOf (first_of (codes "idle") (rows_of (found_of matches.now)))) }
-    ensures none { IfErr result (IsNoneSuch (IsIdleOf (first_of (codes "idle") (rows_of (found_of matches.now))))) }
+    ensures idle { IfOk result (MeansOr 2 (IsDecimal 1 3600) (first_of (codes "idle") (rows_of (found_of matches.now)))) }
+    ensures none { IfErr result (IsNoneSuch (MeansOr 2 (IsDecimal 1 3600) (first_of (codes "idle") (rows_of (found_of matches.now))))) }
 {
     match value_of(matches, IDLE) {
-        Some(text) => number(alloc, text, IDLE_NUMBER),
+        Some(text) => number(alloc, text, IDLE),
         None => Ok(USUAL_IDLE),
     }
 }
 
 // The number that the option has for its value.
-fn number_in(alloc: Global, matches: &ArgMatches<'_>, option: NumberOption) -> Result<u64, NoJob>
-    ensures number { IfOk result (IsNumberOf option.least option.greatest
-        (first_of option.name.now (rows_of (found_of matches.now)))) }
-    ensures none { IfErr result (IsNoneSuch (IsNumberOf option.least option.greatest
-        (first_of option.name.now (rows_of (found_of matches.now))))) }
+fn number_in(alloc: Global, matches: &ArgMatches<'_>, option: OptionRow) -> Result<u64, NoJob>
+    ensures number { IfOk result (Means (IsWithin (bounds_of option)) (first_of option.name.now (rows_of (found_of matches.now)))) }
+    ensures none { IfErr result
+        (IsNoneSuch (Means (IsWithin (bounds_of option)) (first_of option.name.now (rows_of (found_of matches.now))))) }
 {
-    match value_of(matches, option.name) {
+    match value_of(matches, option) {
         Some(text) => number(alloc, text, option),
         None => Err(NoJob::NoMemory),
     }
 }
 
 // The number that a text is as the option takes it.
-fn number(alloc: Global, text: &str, option: NumberOption) -> Result<u64, NoJob>
-    ensures number { IfOk result (IsDecimal option.least option.greatest text.now) }
-    ensures none { IfErr result (IsNoneSuch (IsDecimal option.least option.greatest text.now)) }
+fn number(alloc: Global, text: &str, option: OptionRow) -> Result<u64, NoJob>
+    ensures number { IfOk result (IsWithin (bounds_of option) text.now) }
+    ensures none { IfErr result (IsNoneSuch (IsWithin (bounds_of option) text.now)) }
 {
-    match decimal(text, option.least, option.greatest) {
+    let number = match option.bounds() {
+        Some(bounds) => decimal(text, bounds.least, bounds.greatest),
+        None => None,
+    };
+    match number {
         Some(n) => Ok(n),
-        None => Err(NoJob::Wrong(wrong_value(alloc, text, option.shown, option.wanted)?)),
+        None => Err(NoJob::Wrong(wrong_value(alloc, text, option)?)),
     }
 }
 
@@ -642,25 +593,25 @@ fn country_in(alloc: Global, matches: &ArgMatches<'_>) -> Result<Country, NoJob>
     let text = value_of(matches, COUNTRY).unwrap_or("");
     match Country::read(text.as_bytes()) {
         Some(country) => Ok(country),
-        None => Err(NoJob::Wrong(wrong_value(alloc, text, COUNTRY_SHOWN, COUNTRY_WANTED)?)),
+        None => Err(NoJob::Wrong(wrong_value(alloc, text, COUNTRY)?)),
     }
 }
 
 fn moment_in(alloc: Global, matches: &ArgMatches<'_>) -> Result<Option<i64>, NoJob>
-    ensures moment { IfOk result (IsMomentOf (first_of (codes "at") (rows_of (found_of matches.now)))) }
-    ensures none { IfErr result (IsNoneSuch (IsMomentOf (first_of (codes "at") (rows_of (found_of matches.now))))) }
+    ensures moment { IfOk result (MayMean ShowsMoment (first_of (codes "at") (rows_of (found_of matches.now)))) }
+    ensures none { IfErr result (IsNoneSuch (MayMean ShowsMoment (first_of (codes "at") (rows_of (found_of matches.now))))) }
 {
     match value_of(matches, AT) {
-        Some(text) => Ok(Some(number(alloc, text, AT_NUMBER)? as i64)),
+        Some(text) => Ok(Some(number(alloc, text, AT)? as i64)),
         None => Ok(None),
     }
 }
 
-// The first value of the option of that name.
-fn value_of<'a>(matches: &ArgMatches<'a>, name: &str) -> Option<&'a str>
-    ensures { option_map (λ s. s.now) result ≡ first_of name.now (rows_of (found_of matches.now)) }
+// The first value of the option.
+fn value_of<'a>(matches: &ArgMatches<'a>, option: OptionRow) -> Option<&'a str>
+    ensures { option_map (λ s. s.now) result ≡ first_of option.name.now (rows_of (found_of matches.now)) }
 {
-    matches.get_str(name)
+    matches.get_str(option.name)
 }
 
 // The number that the digits write, from the least to the greatest: none for a text that has anything but digits.
@@ -676,15 +627,16 @@ fn decimal(text: &str, least: u64, greatest: u64) -> Option<u64>
     }
 }
 
-// What is told of a value that an option doesn't take, in one line.
-fn wrong_value(
-    alloc: Global,
-    value: &str,
-    option: &str,
-    wanted: &str,
-) -> Result<String, AllocError> {
+// What is told of a value that the option doesn't take, in one line.
+fn wrong_value(alloc: Global, value: &str, option: OptionRow) -> Result<String, AllocError> {
+    let wanted = option.wanted();
     let told = format!(in alloc;
         "error: invalid value '{value}' for '{option}': it must be {wanted}"
     )?;
     first_paragraph(alloc, &told)
+}
+
+// What is told of an option that has to stand beside others and doesn't, as `clap` tells of one that isn't there.
+fn missing(alloc: Global, option: OptionRow) -> Result<String, AllocError> {
+    format!(in alloc; "error: the following required arguments were not provided: {option}\n")
 }

@@ -4,4 +4,4 @@ use Rattle.clap.specs.Words.{found_of}
 use Rattle.td_words.proofs.words.value_of.Goals as goal
 
 pub returns : goal.returns
-returns c = c.get_str.ensures ∙ first_value-rows (found_of c.args.matches.now) c.args.name.now
+returns c = c.get_str.ensures ∙ first_value-rows (found_of c.args.matches.now) c.args.option.name.now
