@@ -73,18 +73,8 @@ IsWrittenOut contents old new text =
 -- The line of a cause was told. In the place of one that has numbers it may be told that there was no memory for it.
 abbrev pub IsCauseTold : {E : Type 0} → (E → Option (List ℕ)) → Counted E → Counted E → Cause → Type 0
 IsCauseTold said errors errors_left (Of word) = IsWrittenOut said errors errors_left (word_line word)
-IsCauseTold said errors errors_left (BadCsv row column) =
-    IsWrittenOut said errors errors_left (cause_line (BadCsv row column)) ⊎ IsWrittenOut said errors errors_left (word_line NoMemory)
-IsCauseTold said errors errors_left (NeedsMigration version) =
-    IsWrittenOut said errors errors_left (cause_line (NeedsMigration version)) ⊎ IsWrittenOut said errors errors_left (word_line NoMemory)
-IsCauseTold said errors errors_left (HolderExists holder) =
-    IsWrittenOut said errors errors_left (cause_line (HolderExists holder)) ⊎ IsWrittenOut said errors errors_left (word_line NoMemory)
-IsCauseTold said errors errors_left (ForeignRow row) =
-    IsWrittenOut said errors errors_left (cause_line (ForeignRow row)) ⊎ IsWrittenOut said errors errors_left (word_line NoMemory)
-IsCauseTold said errors errors_left (BadRow row) =
-    IsWrittenOut said errors errors_left (cause_line (BadRow row)) ⊎ IsWrittenOut said errors errors_left (word_line NoMemory)
-IsCauseTold said errors errors_left (Differs row) =
-    IsWrittenOut said errors errors_left (cause_line (Differs row)) ⊎ IsWrittenOut said errors errors_left (word_line NoMemory)
+IsCauseTold said errors errors_left cause =
+    IsWrittenOut said errors errors_left (cause_line cause) ⊎ IsWrittenOut said errors errors_left (word_line NoMemory)
 
 -- A job ended well, with status 0 and no line; or by a cause, with status 1 and its line.
 abbrev pub IsEnded : {E : Type 0} → (E → Option (List ℕ)) → Option Cause → Counted E → Counted E → ℕ → Type 0
