@@ -1,12 +1,11 @@
 //! Examples of the calls below the desk, of the desk, of requests, answers, streams and connections, and of the words,
-//! each worked by hand, where no transcript can show them. The crate has tests alone: for its tests a crate is proved
-//! again, whole, and these need none of their crates' private names.
+//! each worked by hand, where no transcript can show them. What a run of the program shows stands in the transcripts
+//! (tests/transcripts.d), which are data: each test and each helper here is proved. The crate has tests alone: for its
+//! tests a crate is proved again, whole, and these need none of their crates' private names.
 #![tactic(auto)]
 
 #[cfg(test)]
 mod answers;
-#[cfg(test)]
-mod commands;
 #[cfg(test)]
 mod connections;
 #[cfg(test)]

@@ -1,7 +1,4 @@
-//! Requests, and the commands that they are read as, with ample memory.
-mod acts;
+//! Requests that no transcript shows, with ample memory.
 mod asked;
-mod declarations;
 mod one_form;
-mod openings;
 mod reading;
