@@ -19,6 +19,17 @@ pub struct Due<'a> {
     pub errors: &'a [u8],
 }
 
+impl<'a> Due<'a> {
+    /// Of a job that is done: these replies, and no message.
+    pub fn replies(out: &'a [u8]) -> Due<'a> {
+        Due {
+            status: 0,
+            out,
+            errors: b"",
+        }
+    }
+}
+
 /// These words, as a program has them.
 pub fn words_of(alloc: Global, words: &[&str]) -> Result<Vec<String>, AllocError> {
     let mut owned = Vec::new(alloc);
