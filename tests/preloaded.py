@@ -22,7 +22,8 @@ def library(folder, name, text):
 
 # LLVM's text: the calls that read the standard input (0) and write the standard output (1). Those of other files are the kernel's. By the
 # environment a call moves READ_MOST or WRITE_MOST bytes at most, and all calls together READ_LEFT or WRITE_LEFT. Then a read is told the
-# end, and a write that it took nothing; or each fails by EIO, where READ_FAILS or WRITE_FAILS is 1.
+# end, and a write that it took nothing; or each fails by EIO, where READ_FAILS or WRITE_FAILS is 1. Of a connection READ_MOST bytes are
+# read by a call at most.
 DEVICES = f"""
 target triple = "{TARGET}"
 @read_most = internal constant [10 x i8] c"READ_MOST\\00"
@@ -114,5 +115,11 @@ limited:
 other:
   %put = call i64 (i64, ...) @syscall(i64 1, i32 %file, ptr %bytes, i64 %asked)
   ret i64 %put
+}}
+define i64 @recv(i32 %file, ptr %bytes, i64 %asked, i32 %how) {{
+  %most = load i64, ptr @input
+  %length = call i64 @llvm.umin.i64(i64 %asked, i64 %most)
+  %got = call i64 (i64, ...) @syscall(i64 45, i32 %file, ptr %bytes, i64 %length, i32 %how, ptr null, ptr null)
+  ret i64 %got
 }}
 """
