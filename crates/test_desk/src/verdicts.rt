@@ -64,7 +64,7 @@ fn are_spent(rt: &(impl AllocGlobal + Abort), loaded: &Loaded) -> bool {
 }
 
 /// How many movements the holder has had.
-const COUNTS: [u32; 3] = [1_000_000, 9_999_998, 9_999_999];
+const COUNTS: [u32; 4] = [999_999, 1_000_000, 9_999_998, 9_999_999];
 
 #[test]
 fn serials_are_spent(rt: HostRuntime) {
